@@ -1,0 +1,162 @@
+-- The laws of sets by membership: what `contains` answers at each word of `BitSet`.
+use Rattle.std.proofs.Common.{◌≡◌, ◌<◌, ◌≤◌, ◌≢◌, ℕ, suc, zero, ◌+◌, ◌-◌, Bool, true, false, cond, not, ◌&&◌, ◌||◌, List, [], ◌∷◌, Option, Some, None, refl, sym, ap, subst, true≢false, ◌∙◌, length, arith, inl, inr, ◌⊎◌}
+use Rattle.std.specs.Prelude.{◌==◌, nat_lt, is_some, IsTrue, ◌↔◌}
+use Rattle.std.specs.List.{list_any, list_all}
+use Rattle.std.specs.Ordering.{nat_cmp, eq_by_cmp}
+use Rattle.std.specs.Cmp.{nat_cmp_total, unsigned_tied, unsigned_Decides}
+use Rattle.std.specs.FinMap as map
+use Rattle.std.proofs.lemmas.Bool.{or_cases}
+use Rattle.std.proofs.lemmas.Bool.Decides.{nat_tests}
+use Rattle.std.specs.declared.cmp.Ordering.TheVariants.{Equal}
+use Rattle.enumset_repr.specs.BitSet.{BitSet, contains, rising, len, empty, insert, remove, retain, from_list, insert_each, union, intersection, difference, symmetric_difference, is_subset, below, low}
+
+-- ---- tests and options
+
+found_or : (b : Bool) (x : Option (Unit {0})) → is_some (cond b (Some tt) x) ≡ (b || is_some x)
+found_or true x = refl
+found_or false x = refl
+
+lost_or : (b : Bool) (x : Option (Unit {0})) → is_some (cond b None x) ≡ (not b && is_some x)
+lost_or true x = refl
+lost_or false x = refl
+
+kept_if : (b : Bool) (x : Option (Unit {0})) → is_some (cond b x None) ≡ (is_some x && b)
+kept_if true None = refl
+kept_if true (Some u) = refl
+kept_if false None = refl
+kept_if false (Some u) = refl
+
+marked : Bool → Option (Unit {0})
+marked b = cond b (Some tt) None
+
+mark_of : (x : Option (Unit {0})) → x ≡ marked (is_some x)
+unfolding marked
+mark_of None = refl
+mark_of (Some u) = refl
+
+pub or_swap : (a b c : Bool) → (a || (b || c)) ≡ (b || (a || c))
+or_swap true true c = refl
+or_swap true false c = refl
+or_swap false b c = refl
+
+or-false : (a : Bool) → a ≡ (a || false)
+or-false true = refl
+or-false false = refl
+
+-- two tests that pass together are one
+pub same_test : (a b : Bool) → (a ≡ true → b ≡ true) → (b ≡ true → a ≡ true) → a ≡ b
+same_test true b f g = sym (f refl)
+same_test false true f g = g refl
+same_test false false f g = refl
+
+-- ---- membership
+
+pub contains-empty : (q : ℕ) → contains empty q ≡ false
+unfolding contains empty
+contains-empty q = ap is_some (map.get-empty nat_cmp q)
+
+pub contains-insert : (s : BitSet) (b q : ℕ) → contains (insert s b) q ≡ ((q == b) || contains s q)
+unfolding contains insert
+contains-insert s b q = ap is_some (map.get-insert nat_cmp_total s b tt q) ∙ found_or _ _ ∙ ap (λ t. t || is_some (map.get s q)) (unsigned_tied q b)
+
+pub contains-remove : (s : BitSet) (b q : ℕ) → contains (remove s b) q ≡ (not (q == b) && contains s q)
+unfolding contains remove
+contains-remove s b q = ap is_some (map.get-remove nat_cmp_total s b q) ∙ lost_or _ _ ∙ ap (λ t. not t && is_some (map.get s q)) (unsigned_tied q b)
+
+alike : (p : ℕ → Bool) (q x : ℕ) → nat_cmp q x ≡ Equal → p x ≡ p q
+alike p q x e = ap p (sym (map.nat_cmp-IsAntisymmetric q x e))
+
+pub contains-retain : (s : BitSet) (p : ℕ → Bool) (q : ℕ) → contains (retain s p) q ≡ (contains s q && p q)
+unfolding contains retain
+contains-retain s p q = ap is_some (map.get-retain_keys s p q (alike p q)) ∙ kept_if (p q) (map.get s q)
+
+pub contains-rising : (s : BitSet) (q : ℕ) → contains s q ≡ list_any (λ b. q == b) (rising s)
+unfolding contains rising
+contains-rising s q = map.contains_key-keys s q ∙ ap (λ (f : ℕ → Bool). list_any f (map.keys s)) (λ i b. unsigned_tied q b i)
+
+contains-insert_each : (s : BitSet) (bs : List ℕ) (q : ℕ) → contains (insert_each s bs) q ≡ (contains s q || list_any (λ b. q == b) bs)
+unfolding insert_each
+contains-insert_each s [] q = or-false _
+contains-insert_each s (b ∷ bs) q = contains-insert _ b q ∙ ap (λ t. (q == b) || t) (contains-insert_each s bs q) ∙ or_swap (q == b) (contains s q) _
+
+pub contains-from_list : (bs : List ℕ) (q : ℕ) → contains (from_list bs) q ≡ list_any (λ b. q == b) bs
+unfolding from_list
+contains-from_list [] q = contains-empty q
+contains-from_list (b ∷ bs) q = contains-insert _ b q ∙ ap (λ t. (q == b) || t) (contains-from_list bs q)
+
+pub contains-union : (s t : BitSet) (q : ℕ) → contains (union s t) q ≡ (contains s q || contains t q)
+unfolding union
+contains-union s t q = contains-insert_each s (rising t) q ∙ ap (λ b. contains s q || b) (sym (contains-rising t q))
+
+pub contains-intersection : (s t : BitSet) (q : ℕ) → contains (intersection s t) q ≡ (contains s q && contains t q)
+unfolding intersection
+contains-intersection s t q = contains-retain s (contains t) q
+
+pub contains-difference : (s t : BitSet) (q : ℕ) → contains (difference s t) q ≡ (contains s q && not (contains t q))
+unfolding difference
+contains-difference s t q = contains-retain s (λ b. not (contains t b)) q
+
+pub contains-symmetric_difference : (s t : BitSet) (q : ℕ) → contains (symmetric_difference s t) q ≡ ((contains s q && not (contains t q)) || (contains t q && not (contains s q)))
+unfolding symmetric_difference
+contains-symmetric_difference s t q = contains-union _ _ q ∙ ap (λ b. b || contains (difference t s) q) (contains-difference s t q) ∙ ap (λ b. (contains s q && not (contains t q)) || b) (contains-difference t s q)
+
+one_more_below : (n q : ℕ) → ((q == n) || nat_lt q n) ≡ nat_lt q (suc n)
+one_more_below n q = grind (arith, nat_tests)
+
+pub contains-below : (n q : ℕ) → contains (below n) q ≡ nat_lt q n
+unfolding below
+contains-below zero q = contains-empty q ∙ grind (arith, nat_tests)
+contains-below (suc n) q = contains-insert _ n q ∙ ap (λ t. (q == n) || t) (contains-below n q) ∙ one_more_below n q
+
+pub contains-low : (s : BitSet) (n q : ℕ) → contains (low s n) q ≡ (contains s q && nat_lt q n)
+unfolding low
+contains-low s n q = contains-retain s (λ b. nat_lt b n) q
+
+-- ---- sets with the same members are one, and a subset by its members
+
+pub same_set : (s t : BitSet) → ((q : ℕ) → contains s q ≡ contains t q) → s ≡ t
+unfolding contains
+same_set s t is = map.same_map nat_cmp_total map.nat_cmp-IsAntisymmetric s t (λ q. mark_of _ ∙ ap marked (is q) ∙ sym (mark_of _))
+
+pub both : (a b : Bool) → (a && b) ≡ true → (a ≡ true) × (b ≡ true)
+both true b h = (refl, h)
+both false b h = absurd (true≢false (sym h))
+
+pub and_true : (a b : Bool) → a ≡ true → b ≡ true → (a && b) ≡ true
+and_true a b p q = ap (λ t. t && b) p ∙ q
+
+pub or_left : (a b : Bool) → a ≡ true → (a || b) ≡ true
+or_left a b p = ap (λ t. t || b) p
+
+pub or_right : (a b : Bool) → b ≡ true → (a || b) ≡ true
+or_right true b p = refl
+or_right false b p = p
+
+pub same_number : (a b : ℕ) → (a == b) ≡ true → a ≡ b
+same_number a b = (unsigned_Decides a b).0
+
+pub itself : (a : ℕ) → (a == a) ≡ true
+itself a = (unsigned_Decides a a).1 refl
+
+list_all-any : (p : ℕ → Bool) (bs : List ℕ) (q : ℕ) → list_all p bs ≡ true → list_any (λ b. q == b) bs ≡ true → p q ≡ true
+list_all-any p [] q all any = absurd (true≢false (sym any))
+list_all-any p (b ∷ bs) q all any =
+    elim (or_cases (q == b) _ any) [
+      | inl here ↦ ap p (same_number q b here) ∙ (both (p b) _ all).0
+      | inr later ↦ list_all-any p bs q (both (p b) _ all).1 later
+    ]
+
+list_all-each : (p : ℕ → Bool) (bs : List ℕ) → ((q : ℕ) → list_any (λ b. q == b) bs ≡ true → p q ≡ true) → list_all p bs ≡ true
+list_all-each p [] each = refl
+list_all-each p (b ∷ bs) each =
+    and_true (p b) _ (each b (or_left (b == b) _ (itself b))) (list_all-each p bs (λ q one. each q (or_right (q == b) _ one)))
+
+pub is_subset-contains : (s t : BitSet) → is_subset s t ≡ true → (q : ℕ) → contains s q ≡ true → contains t q ≡ true
+unfolding is_subset
+is_subset-contains s t sub q in_s = list_all-any (contains t) (rising s) q sub (sym (contains-rising s q) ∙ in_s)
+
+pub contains-is_subset : (s t : BitSet) → ((q : ℕ) → contains s q ≡ true → contains t q ≡ true) → is_subset s t ≡ true
+unfolding is_subset
+contains-is_subset s t each = list_all-each (contains t) (rising s) (λ q one. each q (contains-rising s q ∙ one))
+
+pub ruleset members = (contains-empty, contains-insert, contains-remove, contains-retain, contains-from_list, contains-union, contains-intersection, contains-difference, contains-symmetric_difference, contains-below, contains-low)

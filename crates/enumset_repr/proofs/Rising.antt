@@ -1,0 +1,171 @@
+-- The list of a set's members, each once, rising.
+--     RisesFrom      a list rises strictly, from a number on
+--     rising_is      a list that rises and has a set's members is `rising` of the set
+--     rising-..      `rising` of a set with a least or a greatest member
+--     len-..      what `len` answers
+use Rattle.std.proofs.Common.{◌≡◌, ◌<◌, ◌≤◌, ◌≢◌, ℕ, suc, zero, ◌+◌, ◌-◌, Bool, true, false, cond, not, ◌&&◌, ◌||◌, List, [], ◌∷◌, ◌++◌, refl, sym, ap, subst, ◌∙◌, length, arith, true≢false, T, map, inl, inr, ◌⊎◌}
+use Rattle.std.specs.Prelude.{◌==◌, nat_lt}
+use Rattle.std.specs.List.{list_any}
+use Rattle.std.specs.Ordering.{nat_cmp, is_lt}
+use Rattle.std.specs.declared.cmp.Ordering.TheVariants.{Less, Equal, Greater}
+use Rattle.std.proofs.Math.Bool.{and-true}
+use Rattle.std.proofs.Math.Nat.{le_refl}
+use Rattle.std.proofs.lemmas.List.{length-map}
+use Rattle.std.specs.Cmp.{nat_cmp_total}
+use Rattle.std.specs.FinMap as fin
+use Rattle.std.specs.FinMap.{is_sorted}
+use Rattle.std.proofs.lemmas.Bool.{ltb-true, lt-ltb, or_cases}
+use Rattle.std.proofs.lemmas.Bool.Decides.{nat_tests}
+use Rattle.enumset_repr.specs.BitSet.{BitSet, contains, rising, len, empty, insert, remove, is_subset, below}
+use Rattle.enumset_repr.proofs.Members.{members, same_set, same_test, same_number, itself, both, or_swap, or_left, or_right, contains-empty, contains-rising, contains-remove, contains-insert, contains-below, is_subset-contains}
+
+-- the list rises strictly, and its first is at least k
+abbrev pub RisesFrom : ℕ → List ℕ → Type 0
+RisesFrom k [] = Unit {0}
+RisesFrom k (x ∷ xs) = (k ≤ x) × RisesFrom (suc x) xs
+
+-- whether a number is in a list
+abbrev pub is_in : ℕ → List ℕ → Bool
+is_in q xs = list_any (λ b. q == b) xs
+
+is_lt-< : (a b : ℕ) → T (is_lt (nat_cmp a b)) → a < b
+is_lt-< a b h = elim (nat_lt a b) as (λ t. nat_lt a b ≡ t → T (is_lt (cond t Less (cond (a == b) Equal Greater))) → a < b) [
+    | true ↦ λ e _. ltb-true a b e
+    | false ↦ λ _. elim (a == b) as (λ t. T (is_lt (cond t Equal Greater)) → a < b) [ true ↦ λ no. absurd no | false ↦ λ no. absurd no ]
+  ] refl h
+
+T_first : (a b : Bool) → T (a && b) → T a
+T_first true b h = tt
+T_first false b h = h
+
+T_second : (a b : Bool) → T (a && b) → T b
+T_second true b h = h
+T_second false b h = absurd h
+
+keys-rise : (e : ℕ × Unit {0}) (es : List (ℕ × Unit {0})) → T (is_sorted nat_cmp (e ∷ es)) → RisesFrom (suc e.0) (map (λ e. e.0) es)
+keys-rise e [] h = tt
+keys-rise e (f ∷ fs) h = (is_lt-< e.0 f.0 (T_first _ _ (T_first _ _ h)), keys-rise f fs (T_second _ _ h))
+
+entries-rise : (es : List (ℕ × Unit {0})) → T (is_sorted nat_cmp es) → RisesFrom 0 (map (λ e. e.0) es)
+entries-rise [] h = tt
+entries-rise (e ∷ es) h = (omega arith, keys-rise e es h)
+
+pub rising-rises : (s : BitSet) → RisesFrom 0 (rising s)
+unfolding rising
+rising-rises s = entries-rise (fin.entries s) (fin.entries_sorted s)
+
+pub is_in-below : (k q : ℕ) (xs : List ℕ) → RisesFrom k xs → q < k → is_in q xs ≡ false
+is_in-below k q [] rises low = refl
+is_in-below k q (x ∷ xs) rises low =
+    let later : is_in q xs ≡ false = is_in-below (suc x) q xs rises.1 (omega (arith, rises.0)) in
+    let apart : (q == x) ≡ false = grind (arith, nat_tests, rises.0, low) in
+    rw apart later
+
+pub rises_higher : (j k : ℕ) (xs : List ℕ) → RisesFrom j xs → ((q : ℕ) → is_in q xs ≡ true → k ≤ q) → RisesFrom k xs
+rises_higher j k [] rises from = tt
+rises_higher j k (x ∷ xs) rises from = (from x (or_left (x == x) _ (itself x)), rises.1)
+
+-- a number that is in a list that rises from k is at least k
+pub is_in-from : (k q : ℕ) (xs : List ℕ) → RisesFrom k xs → is_in q xs ≡ true → k ≤ q
+is_in-from k q [] rises one = absurd (true≢false (sym one))
+is_in-from k q (x ∷ xs) rises one = elim (or_cases (q == x) _ one) [
+    | inl here ↦ omega (arith, rises.0, same_number q x here)
+    | inr later ↦ omega (arith, rises.0, is_in-from (suc x) q xs rises.1 later)
+  ]
+
+-- what is in the rest of a list that rises
+is_in-rest : (q x k : ℕ) (xs : List ℕ) → RisesFrom k (x ∷ xs) → is_in q xs ≡ (is_in q (x ∷ xs) && not (q == x))
+is_in-rest q x k xs rises = elim (q == x) as (λ t. (q == x) ≡ t → is_in q xs ≡ ((t || is_in q xs) && not t)) [
+    | true ↦ λ e. is_in-below (suc x) q xs rises.1 (omega (arith, same_number q x e))
+    | false ↦ λ e. sym (and-true (is_in q xs))
+  ] refl
+
+pub same_list : (k : ℕ) (xs ys : List ℕ) → RisesFrom k xs → RisesFrom k ys → ((q : ℕ) → is_in q xs ≡ is_in q ys) → xs ≡ ys
+same_list k [] [] p q same = refl
+same_list k [] (y ∷ ys) p q same = absurd (true≢false (sym (same y ∙ or_left (y == y) _ (itself y))))
+same_list k (x ∷ xs) [] p q same = absurd (true≢false (sym (sym (same x) ∙ or_left (x == x) _ (itself x))))
+same_list k (x ∷ xs) (y ∷ ys) p q same =
+    let from_y : y ≤ x = is_in-from y x (y ∷ ys) (le_refl y, q.1) (sym (same x) ∙ or_left (x == x) _ (itself x)) in
+    let from_x : x ≤ y = is_in-from x y (x ∷ xs) (le_refl x, p.1) (same y ∙ or_left (y == y) _ (itself y)) in
+    let head : x ≡ y = omega arith in
+    let rest : (r : ℕ) → is_in r xs ≡ is_in r ys = λ r. is_in-rest r x k xs p ∙ (λ i. same r i && not (r == head i)) ∙ sym (is_in-rest r y k ys q) in
+    (λ i. head i ∷ same_list (suc x) xs ys p.1 (subst (λ h. RisesFrom (suc h) ys) (sym head) q.1) rest i)
+
+-- a list that rises and has the members is the list of the members
+pub rising_is : (s : BitSet) (xs : List ℕ) → RisesFrom 0 xs → ((q : ℕ) → contains s q ≡ is_in q xs) → rising s ≡ xs
+rising_is s xs rises is = same_list 0 (rising s) xs (rising-rises s) rises (λ q. sym (contains-rising s q) ∙ is q)
+
+pub rising-empty : rising empty ≡ []
+rising-empty = rising_is empty [] tt contains-empty
+
+pub len-rising : (s : BitSet) → len s ≡ length (rising s)
+unfolding len rising
+len-rising s = fin.len-entries s ∙ sym (length-map (fin.entries s) (λ e. e.0))
+
+pub len-empty : len empty ≡ 0
+unfolding len empty
+len-empty = fin.len-empty nat_cmp (Unit {0})
+
+pub len-insert : (s : BitSet) (b : ℕ) → len (insert s b) ≡ cond (contains s b) (len s) (len s + 1)
+unfolding len insert contains
+len-insert s b = fin.len-insert nat_cmp_total s b tt
+
+pub len-remove : (s : BitSet) (b : ℕ) → len (remove s b) ≡ cond (contains s b) (len s - 1) (len s)
+unfolding len remove contains
+len-remove s b = fin.len-remove nat_cmp_total s b
+
+-- a set is what it was with a member put back
+back_in : (s : BitSet) (m q : ℕ) → contains s m ≡ true → contains s q ≡ ((q == m) || contains (remove s m) q)
+back_in s m q one = elim (q == m) as (λ t. (q == m) ≡ t → contains s q ≡ (t || contains (remove s m) q)) [
+    | true ↦ λ e. ap (contains s) (same_number q m e) ∙ one
+    | false ↦ λ e. sym (contains-remove s m q ∙ ap (λ t. not t && contains s q) e)
+  ] refl
+
+later_of : (s : BitSet) (m q : ℕ) → ((r : ℕ) → r < m → contains s r ≡ false) → (not (q == m) && contains s q) ≡ true → suc m ≤ q
+later_of s m q least h = elim (nat_lt q m) as (λ t. nat_lt q m ≡ t → suc m ≤ q) [
+    | true ↦ λ e. absurd (true≢false (sym (both (not (q == m)) _ h).1 ∙ least q (ltb-true q m e)))
+    | false ↦ λ e. grind (arith, nat_tests, e, (both (not (q == m)) _ h).0)
+  ] refl
+
+earlier_of : (s : BitSet) (m q : ℕ) → ((r : ℕ) → m < r → contains s r ≡ false) → (not (q == m) && contains s q) ≡ true → q < m
+earlier_of s m q greatest h = elim (nat_lt m q) as (λ t. nat_lt m q ≡ t → q < m) [
+    | true ↦ λ e. absurd (true≢false (sym (both (not (q == m)) _ h).1 ∙ greatest q (ltb-true m q e)))
+    | false ↦ λ e. grind (arith, nat_tests, e, (both (not (q == m)) _ h).0)
+  ] refl
+
+rises-push : (k m : ℕ) (xs : List ℕ) → k ≤ m → RisesFrom k xs → ((q : ℕ) → is_in q xs ≡ true → q < m) → RisesFrom k (xs ++ m ∷ [])
+rises-push k m [] within rises small = (within, tt)
+rises-push k m (x ∷ xs) within rises small = (rises.0, rises-push (suc x) m xs (small x (or_left (x == x) _ (itself x))) rises.1 (λ q one. small q (or_right (q == x) _ one)))
+
+is_in-push : (q m : ℕ) (xs : List ℕ) → is_in q (xs ++ m ∷ []) ≡ ((q == m) || is_in q xs)
+is_in-push q m [] = refl
+is_in-push q m (x ∷ xs) = ap (λ t. (q == x) || t) (is_in-push q m xs) ∙ or_swap (q == x) (q == m) (is_in q xs)
+
+-- the least member comes first, before those of the set without it
+pub rising-first : (s : BitSet) (m : ℕ) → contains s m ≡ true → ((q : ℕ) → q < m → contains s q ≡ false) → rising s ≡ m ∷ rising (remove s m)
+rising-first s m one least =
+    let later : (q : ℕ) → is_in q (rising (remove s m)) ≡ true → suc m ≤ q = λ q h. later_of s m q least (sym (contains-remove s m q) ∙ contains-rising (remove s m) q ∙ h) in
+    rising_is s _ (omega arith, rises_higher 0 (suc m) _ (rising-rises (remove s m)) later) (λ q. back_in s m q one ∙ ap (λ b. (q == m) || b) (contains-rising (remove s m) q))
+
+-- the greatest member comes last, after those of the set without it
+pub rising-last : (s : BitSet) (m : ℕ) → contains s m ≡ true → ((q : ℕ) → m < q → contains s q ≡ false) → rising s ≡ rising (remove s m) ++ m ∷ []
+rising-last s m one greatest =
+    let earlier : (q : ℕ) → is_in q (rising (remove s m)) ≡ true → q < m = λ q h. earlier_of s m q greatest (sym (contains-remove s m q) ∙ contains-rising (remove s m) q ∙ h) in
+    rising_is s _ (rises-push 0 m _ (omega arith) (rising-rises (remove s m)) earlier)
+    (λ q. back_in s m q one ∙ ap (λ b. (q == m) || b) (contains-rising (remove s m) q) ∙ sym (is_in-push q m _))
+
+-- a set whose list is empty has no member
+pub empty_of_rising : (s : BitSet) → rising s ≡ [] → s ≡ empty
+empty_of_rising s e = same_set s empty (λ q. contains-rising s q ∙ ap (is_in q) e ∙ sym (contains-empty q))
+
+length-rises : (k n : ℕ) (xs : List ℕ) → RisesFrom k xs → k ≤ n → ((q : ℕ) → is_in q xs ≡ true → q < n) → length xs + k ≤ n
+length-rises k n [] rises within small = omega (arith, within)
+length-rises k n (x ∷ xs) rises within small =
+    let first : x < n = small x (or_left (x == x) _ (itself x)) in
+    omega (arith, rises.0, first, length-rises (suc x) n xs rises.1 first (λ q one. small q (or_right (q == x) _ one)))
+
+-- a set of numbers below n has at most n members
+pub len-below : (s : BitSet) (n : ℕ) → is_subset s (below n) ≡ true → len s ≤ n
+len-below s n sub =
+    let small : (q : ℕ) → is_in q (rising s) ≡ true → q < n = λ q one. ltb-true q n (sym (contains-below n q) ∙ is_subset-contains s (below n) sub q (contains-rising s q ∙ one)) in
+    omega (arith, len-rising s, length-rises 0 n (rising s) (rising-rises s) (omega arith) small)

@@ -1,0 +1,4 @@
+//! Stores of bits.
+#![tactic(auto)]
+
+pub mod repr;

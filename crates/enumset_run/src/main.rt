@@ -1,0 +1,7 @@
+//! Runs lists of commands over sets of an enum's variants.
+#![tactic(auto)]
+
+mod command;
+mod reply;
+
+fn main() {}
