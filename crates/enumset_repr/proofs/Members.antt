@@ -5,10 +5,10 @@ use Rattle.std.specs.List.{list_any, list_all}
 use Rattle.std.specs.Ordering.{nat_cmp, eq_by_cmp}
 use Rattle.std.specs.Cmp.{nat_cmp_total, unsigned_tied, unsigned_Decides}
 use Rattle.std.specs.FinMap as map
-use Rattle.std.proofs.lemmas.Bool.{or_cases}
+use Rattle.std.proofs.lemmas.Bool.{or_cases, ltb-true}
 use Rattle.std.proofs.lemmas.Bool.Decides.{nat_tests}
 use Rattle.std.specs.declared.cmp.Ordering.TheVariants.{Equal}
-use Rattle.enumset_repr.specs.BitSet.{BitSet, contains, rising, len, empty, insert, remove, retain, from_list, insert_each, union, intersection, difference, symmetric_difference, is_subset, below, low}
+use Rattle.enumset_repr.specs.BitSet.{BitSet, contains, rising, len, empty, insert, remove, retain, from_list, insert_each, union, intersection, difference, symmetric_difference, is_subset, is_disjoint, is_same, below, low}
 
 -- ---- tests and options
 
@@ -151,6 +151,19 @@ list_all-each p [] each = refl
 list_all-each p (b ∷ bs) each =
     and_true (p b) _ (each b (or_left (b == b) _ (itself b))) (list_all-each p bs (λ q one. each q (or_right (q == b) _ one)))
 
+pub not_true : (b : Bool) → not b ≡ true → b ≡ false
+not_true true h = sym h
+not_true false h = refl
+
+not_false : (b : Bool) → not b ≡ false → b ≡ true
+not_false true h = refl
+not_false false h = sym h
+
+-- what is false wherever the first test passes
+none_of : (a b : Bool) → (a ≡ true → b ≡ false) → (a && b) ≡ false
+none_of true b h = h refl
+none_of false b h = refl
+
 pub is_subset-contains : (s t : BitSet) → is_subset s t ≡ true → (q : ℕ) → contains s q ≡ true → contains t q ≡ true
 unfolding is_subset
 is_subset-contains s t sub q in_s = list_all-any (contains t) (rising s) q sub (sym (contains-rising s q) ∙ in_s)
@@ -158,5 +171,75 @@ is_subset-contains s t sub q in_s = list_all-any (contains t) (rising s) q sub (
 pub contains-is_subset : (s t : BitSet) → ((q : ℕ) → contains s q ≡ true → contains t q ≡ true) → is_subset s t ≡ true
 unfolding is_subset
 contains-is_subset s t each = list_all-each (contains t) (rising s) (λ q one. each q (contains-rising s q ∙ one))
+
+pub is_subset-itself : (s : BitSet) → is_subset s s ≡ true
+is_subset-itself s = contains-is_subset s s (λ q h. h)
+
+pub is_disjoint-contains : (s t : BitSet) → is_disjoint s t ≡ true → (q : ℕ) → contains s q ≡ true → contains t q ≡ false
+unfolding is_disjoint
+is_disjoint-contains s t apart q in_s = not_true _ (list_all-any (λ b. not (contains t b)) (rising s) q apart (sym (contains-rising s q) ∙ in_s))
+
+pub contains-is_disjoint : (s t : BitSet) → ((q : ℕ) → contains s q ≡ true → contains t q ≡ false) → is_disjoint s t ≡ true
+unfolding is_disjoint
+contains-is_disjoint s t each = list_all-each (λ b. not (contains t b)) (rising s) (λ q one. ap not (each q (contains-rising s q ∙ one)))
+
+-- sets that have no common member are those whose intersection is empty
+pub is_disjoint_iff : (s t : BitSet) → (is_disjoint s t ≡ true) ↔ (intersection s t ≡ empty)
+is_disjoint_iff s t = (
+    λ apart. same_set _ _ (λ q. contains-intersection s t q ∙ none_of (contains s q) _ (is_disjoint-contains s t apart q) ∙ sym (contains-empty q)),
+    λ none. contains-is_disjoint s t (λ q in_s. sym (ap (λ b. b && contains t q) in_s) ∙ sym (contains-intersection s t q) ∙ ap (λ u. contains u q) none ∙ contains-empty q)
+  )
+
+-- each member of s is one of t where nothing of s is outside t
+pub is_subset_iff : (s t : BitSet) → (is_subset s t ≡ true) ↔ (difference s t ≡ empty)
+is_subset_iff s t = (
+    λ sub. same_set _ _ (λ q. contains-difference s t q ∙ none_of (contains s q) _ (λ in_s. ap not (is_subset-contains s t sub q in_s)) ∙ sym (contains-empty q)),
+    λ none. contains-is_subset s t (λ q in_s. not_false _ (sym (ap (λ b. b && not (contains t q)) in_s) ∙ sym (contains-difference s t q) ∙ ap (λ u. contains u q) none ∙ contains-empty q))
+  )
+
+-- sets are one exactly if they have the same members
+pub is_same_iff : (s t : BitSet) → (is_same s t ≡ true) ↔ (s ≡ t)
+unfolding is_same
+is_same_iff s t = (
+    λ same. same_set s t (λ q. same_test _ _ (is_subset-contains s t (both _ _ same).0 q) (is_subset-contains t s (both _ _ same).1 q)),
+    λ e. and_true _ _ (subst (λ u. is_subset s u ≡ true) e (is_subset-itself s)) (subst (λ u. is_subset u s ≡ true) e (is_subset-itself s))
+  )
+
+-- ---- subsets of one set
+
+module _ (v : BitSet) where
+  pub empty-is_subset : is_subset empty v ≡ true
+  empty-is_subset = contains-is_subset empty v (λ q h. absurd (true≢false (sym h ∙ contains-empty q)))
+
+  pub insert-is_subset : (s : BitSet) (b : ℕ) → is_subset s v ≡ true → contains v b ≡ true → is_subset (insert s b) v ≡ true
+  insert-is_subset s b sub in_v = contains-is_subset _ v (λ q h. elim (or_cases _ _ (sym (contains-insert s b q) ∙ h)) [
+      | inl here ↦ ap (contains v) (same_number q b here) ∙ in_v
+      | inr there ↦ is_subset-contains s v sub q there
+    ])
+
+  pub remove-is_subset : (s : BitSet) (b : ℕ) → is_subset s v ≡ true → is_subset (remove s b) v ≡ true
+  remove-is_subset s b sub = contains-is_subset _ v (λ q h. is_subset-contains s v sub q (both _ _ (sym (contains-remove s b q) ∙ h)).1)
+
+  pub union-is_subset : (s t : BitSet) → is_subset s v ≡ true → is_subset t v ≡ true → is_subset (union s t) v ≡ true
+  union-is_subset s t sub also = contains-is_subset _ v (λ q h. elim (or_cases _ _ (sym (contains-union s t q) ∙ h)) [
+      | inl here ↦ is_subset-contains s v sub q here
+      | inr there ↦ is_subset-contains t v also q there
+    ])
+
+  pub intersection-is_subset : (s t : BitSet) → is_subset s v ≡ true → is_subset (intersection s t) v ≡ true
+  intersection-is_subset s t sub = contains-is_subset _ v (λ q h. is_subset-contains s v sub q (both _ _ (sym (contains-intersection s t q) ∙ h)).0)
+
+  pub difference-is_subset : (s t : BitSet) → is_subset s v ≡ true → is_subset (difference s t) v ≡ true
+  difference-is_subset s t sub = contains-is_subset _ v (λ q h. is_subset-contains s v sub q (both _ _ (sym (contains-difference s t q) ∙ h)).0)
+
+  pub symmetric_difference-is_subset : (s t : BitSet) → is_subset s v ≡ true → is_subset t v ≡ true → is_subset (symmetric_difference s t) v ≡ true
+  unfolding symmetric_difference
+  symmetric_difference-is_subset s t sub also = union-is_subset _ _ (difference-is_subset s t sub) (difference-is_subset t s also)
+
+-- a member of a set of numbers below n is below n
+pub member_below : (s : BitSet) (n b : ℕ) → is_subset s (below n) ≡ true → contains s b ≡ true → b < n
+member_below s n b sub in_s = ltb-true b n (sym (contains-below n b) ∙ is_subset-contains s (below n) sub b in_s)
+
+pub ruleset subsets = (empty-is_subset, insert-is_subset, remove-is_subset, union-is_subset, intersection-is_subset, difference-is_subset, symmetric_difference-is_subset, is_subset-itself)
 
 pub ruleset members = (contains-empty, contains-insert, contains-remove, contains-retain, contains-from_list, contains-union, contains-intersection, contains-difference, contains-symmetric_difference, contains-below, contains-low)

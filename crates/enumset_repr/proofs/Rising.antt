@@ -16,17 +16,13 @@ use Rattle.std.specs.FinMap as fin
 use Rattle.std.specs.FinMap.{is_sorted}
 use Rattle.std.proofs.lemmas.Bool.{ltb-true, lt-ltb, or_cases}
 use Rattle.std.proofs.lemmas.Bool.Decides.{nat_tests}
-use Rattle.enumset_repr.specs.BitSet.{BitSet, contains, rising, len, empty, insert, remove, is_subset, below}
+use Rattle.enumset_repr.specs.BitSet.{is_in, BitSet, contains, rising, len, empty, insert, remove, is_subset, below}
 use Rattle.enumset_repr.proofs.Members.{members, same_set, same_test, same_number, itself, both, or_swap, or_left, or_right, contains-empty, contains-rising, contains-remove, contains-insert, contains-below, is_subset-contains}
 
 -- the list rises strictly, and its first is at least k
 abbrev pub RisesFrom : ℕ → List ℕ → Type 0
 RisesFrom k [] = Unit {0}
 RisesFrom k (x ∷ xs) = (k ≤ x) × RisesFrom (suc x) xs
-
--- whether a number is in a list
-abbrev pub is_in : ℕ → List ℕ → Bool
-is_in q xs = list_any (λ b. q == b) xs
 
 is_lt-< : (a b : ℕ) → T (is_lt (nat_cmp a b)) → a < b
 is_lt-< a b h = elim (nat_lt a b) as (λ t. nat_lt a b ≡ t → T (is_lt (cond t Less (cond (a == b) Equal Greater))) → a < b) [

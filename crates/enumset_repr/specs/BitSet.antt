@@ -1,18 +1,24 @@
 -- A finite set of bit numbers: what a store, an `EnumSet` and a register of a run mean.
+--     is_in      whether a number is in a list
 --     BitSet, coded_set      the sets;  their code, for a model's `Value`
 --     contains, rising, len      whether a number is a member;  the members, each once, rising;  how many they are
 --     empty, insert, remove, retain, union, intersection, difference, symmetric_difference      as Rust's `BTreeSet`
---     is_subset, is_disjoint      whether each member of the one is, none is, a member of the other
+--     only      the set of one number
+--     is_subset, is_disjoint, is_same      whether each member of the one is a member of the other;  none is;  they have the same members
 --     below, low      the numbers below one;  the members below one
 --     from_list      the set of a list's numbers
---     contains-.., len-..      what `contains` and `len` answer
---     same_set      two sets with the same members are one
+-- `proofs/Members.antt` and `proofs/Rising.antt` have the laws of these words: what `contains` answers at
+-- each, that two sets with the same members are one, and what `len` and `rising` are.
 use Rattle.std.specs.Prelude.{◌≡◌, ℕ, suc, zero, ◌+◌, ◌-◌, Bool, true, false, not, ◌&&◌, ◌||◌, ◌==◌, nat_lt, List, [], ◌∷◌, is_some, nat_eq, if◌then◌else◌, Some, None}
 use Rattle.std.specs.List.{list_any, list_all}
 use Rattle.std.specs.Ordering.{nat_cmp}
 use Rattle.std.specs.FinMap as map
 use Rattle.std.specs.Coded.{Coded, coded_ℕ}
 use base.Stored.{coded_unit}
+
+-- whether a number is in a list
+abbrev pub is_in : ℕ → List ℕ → Bool
+is_in q bs = list_any (λ b. q == b) bs
 
 -- the sets: maps from their members to nothing
 abbrev pub BitSet : Type 0
@@ -36,6 +42,9 @@ empty = map.empty
 
 unfoldable pub insert : BitSet → ℕ → BitSet
 insert s b = map.insert s b tt
+
+abbrev pub only : ℕ → BitSet
+only b = insert empty b
 
 unfoldable pub remove : BitSet → ℕ → BitSet
 remove s b = map.remove s b
@@ -69,6 +78,14 @@ symmetric_difference s t = union (difference s t) (difference t s)
 -- whether each member of s is one of t
 unfoldable pub is_subset : BitSet → BitSet → Bool
 is_subset s t = list_all (contains t) (rising s)
+
+-- whether no member of s is one of t
+unfoldable pub is_disjoint : BitSet → BitSet → Bool
+is_disjoint s t = list_all (λ b. not (contains t b)) (rising s)
+
+-- whether they have the same members
+unfoldable pub is_same : BitSet → BitSet → Bool
+is_same s t = is_subset s t && is_subset t s
 
 -- the numbers below n
 unfoldable pub below : ℕ → BitSet

@@ -1,2 +1,3 @@
 pub mod BitSet
 pub mod Number
+pub mod Words

@@ -1,0 +1,102 @@
+-- The laws of an element type, from the one test of its variants' bits.
+use Rattle.std.proofs.Common.{◌≡◌, ◌<◌, ◌≤◌, ◌≢◌, ℕ, suc, zero, ◌+◌, ◌-◌, Bool, true, false, cond, not, ◌&&◌, ◌||◌, List, [], ◌∷◌, refl, sym, ap, subst, ◌∙◌, length, get_or, arith, true≢false, max, inl, inr, ◌⊎◌, ◌↔◌, IsTrue}
+use Rattle.std.specs.Prelude.{◌==◌, nat_lt}
+use denote.Enum.Declared.{Declared, rowss, tag_of}
+use denote.Enum.Enum.{tag_below}
+use denote.Enum.Bare.{Bare, tag_one, sameb, same_true, true_same}
+use Rattle.std.proofs.lemmas.Bool.{or_cases, cases_lt}
+use Rattle.enumset_repr.specs.BitSet.{BitSet, is_in, contains, from_list, rising, len, insert, empty}
+use Rattle.enumset_repr.proofs.Members.{same_number, itself, both, or_left, or_right, contains-from_list, contains-rising}
+use Rattle.enumset_repr.proofs.Rising.{len-empty, len-insert, rising-rises, RisesFrom, is_in-from, rising_is}
+use Rattle.enumset_sets.specs.Elements.{bit_of, one_past_last, one_past_greatest, IsElementType, is_distinct, one_past_all, is_lawful}
+
+is_in-get_or : (bs : List ℕ) (i : ℕ) → i < length bs → is_in (get_or bs i 0) bs ≡ true
+is_in-get_or [] i small = absurd (omega (arith, small))
+is_in-get_or (b ∷ bs) zero small = or_left _ _ (itself b)
+is_in-get_or (b ∷ bs) (suc i) small = or_right (get_or bs i 0 == b) _ (is_in-get_or bs i (omega (arith, small)))
+
+apart_from_all : (b : ℕ) (bs : List ℕ) (i : ℕ) → is_in b bs ≡ false → i < length bs → b ≡ get_or bs i 0 → ⊥
+apart_from_all b bs i out small same = true≢false (sym (ap (λ x. is_in x bs) same ∙ is_in-get_or bs i small) ∙ out)
+
+not_true : (b : Bool) → not b ≡ true → b ≡ false
+not_true true h = sym h
+not_true false h = refl
+
+distinct_places : (bs : List ℕ) → is_distinct bs ≡ true → (i j : ℕ) → i < length bs → j < length bs → get_or bs i 0 ≡ get_or bs j 0 → i ≡ j
+distinct_places [] apart i j p q same = absurd (omega (arith, p))
+distinct_places (b ∷ bs) apart zero zero p q same = refl
+distinct_places (b ∷ bs) apart zero (suc j) p q same = absurd (apart_from_all b bs j (not_true _ (both _ _ apart).0) (omega (arith, q)) same)
+distinct_places (b ∷ bs) apart (suc i) zero p q same = absurd (apart_from_all b bs i (not_true _ (both _ _ apart).0) (omega (arith, p)) (sym same))
+distinct_places (b ∷ bs) apart (suc i) (suc j) p q same = ap suc (distinct_places bs (both _ _ apart).1 i j (omega (arith, p)) (omega (arith, q)) same)
+
+len-from_list : (bs : List ℕ) → is_distinct bs ≡ true → len (from_list bs) ≡ length bs
+unfolding from_list
+len-from_list [] apart = len-empty
+len-from_list (b ∷ bs) apart =
+    let absent : contains (from_list bs) b ≡ false = contains-from_list bs b ∙ not_true _ (both _ _ apart).0 in
+    len-insert (from_list bs) b ∙ ap (λ t. cond t (len (from_list bs)) (len (from_list bs) + 1)) absent ∙ omega (arith, len-from_list bs (both _ _ apart).1)
+
+-- ---- one past the greatest
+
+is_in-one_past : (q : ℕ) (bs : List ℕ) → is_in q bs ≡ true → q < one_past_all bs
+is_in-one_past q [] one = absurd (true≢false (sym one))
+is_in-one_past q (b ∷ bs) one = elim (or_cases (q == b) _ one) [
+    | inl here ↦ omega (arith, same_number q b here)
+    | inr later ↦ omega (arith, is_in-one_past q bs later)
+  ]
+
+-- what reaches the number is in the list
+one_past_is_in : (bs : List ℕ) (n : ℕ) → one_past_all bs ≡ suc n → is_in n bs ≡ true
+one_past_is_in [] n e = absurd (omega (arith, e))
+one_past_is_in (b ∷ bs) n e = elim (cases_lt (suc b) (one_past_all bs)) [
+    | inl less ↦ or_right (n == b) _ (one_past_is_in bs n (omega (arith, e, less)))
+    | inr most ↦ or_left (n == b) _ (let same : n ≡ b = omega (arith, e, most) in ap (λ x. x == b) same ∙ itself b)
+  ]
+
+-- two lists with the same numbers reach as far
+same_reach : (xs bs : List ℕ) → ((q : ℕ) → is_in q xs ≡ is_in q bs) → one_past_all xs ≤ one_past_all bs
+same_reach xs bs same = reach_of (one_past_all xs) refl where
+  reach_of : (n : ℕ) → one_past_all xs ≡ n → one_past_all xs ≤ one_past_all bs
+  reach_of zero e = omega (arith, e)
+  reach_of (suc n) e = omega (arith, e, is_in-one_past n bs (sym (same n) ∙ one_past_is_in xs n e))
+
+-- the last of a list that rises is its greatest
+one_past_last-all : (k : ℕ) (bs : List ℕ) → RisesFrom k bs → one_past_last bs ≡ one_past_all bs
+one_past_last-all k [] rises = refl
+one_past_last-all k (b ∷ []) rises = omega arith
+one_past_last-all k (b ∷ c ∷ bs) rises =
+    one_past_last-all (suc b) (c ∷ bs) rises.1 ∙ omega (arith, rises.1.0)
+
+one_past_greatest-from_list : (bs : List ℕ) → one_past_greatest (from_list bs) ≡ one_past_all bs
+one_past_greatest-from_list bs =
+    let same : (q : ℕ) → is_in q (rising (from_list bs)) ≡ is_in q bs = λ q. sym (contains-rising (from_list bs) q) ∙ contains-from_list bs q in
+    one_past_last-all 0 (rising (from_list bs)) (rising-rises (from_list bs))
+    ∙ omega (arith, same_reach _ bs same, same_reach bs _ (λ q. sym (same q)))
+
+-- ---- the laws
+
+module _ (D : Declared) (bare : Bare D.parts) (bits : List ℕ) (variants : length bits ≡ length (rowss D.parts)) (apart : is_distinct bits ≡ true) where
+  tag_within : (v : D.D) → tag_of D v < length bits
+  tag_within v = omega (arith, variants, tag_below (rowss D.parts) (D.to v))
+
+  bit_of-is_in : (v : D.D) → is_in (bit_of D bits v) bits ≡ true
+  bit_of-is_in v = is_in-get_or bits (tag_of D v) (tag_within v)
+
+  bit_of-tells : (v w : D.D) → bit_of D bits v ≡ bit_of D bits w → v ≡ w
+  bit_of-tells v w same = tag_one D bare v w (distinct_places bits apart (tag_of D v) (tag_of D w) (tag_within v) (tag_within w) same)
+
+-- One test that computes proves the laws of an enum without fields: `D` is its type as the check declares it.
+pub lawful : (D : Declared) → Bare D.parts → (bits : List ℕ) (all : BitSet) (width count : ℕ) → all ≡ from_list bits → is_lawful (length (rowss D.parts)) bits width count ≡ true → IsElementType (bit_of D bits) (sameb D) bits all width count
+lawful D bare bits all width count valid test =
+    let variants : length bits ≡ length (rowss D.parts) = same_number _ _ (both _ _ test).0 in
+    let rest : (is_distinct bits && ((one_past_all bits == width) && (length bits == count))) ≡ true = (both _ _ test).1 in
+    let apart : is_distinct bits ≡ true = (both _ _ rest).0 in
+    let numbers : ((one_past_all bits == width) && (length bits == count)) ≡ true = (both _ _ rest).1 in
+    record {
+      valid = valid;
+      bit_is_valid = λ v. ap (λ s. contains s (bit_of D bits v)) valid ∙ contains-from_list bits _ ∙ bit_of-is_in D bare bits variants apart v;
+      bit_tells = bit_of-tells D bare bits variants apart;
+      eq_tells = λ v w. (λ e. ap (bit_of D bits) (same_true D bare v w e), λ e. true_same D v w (bit_of-tells D bare bits variants apart v w e));
+      width_is = sym (same_number _ _ (both _ _ numbers).0) ∙ sym (one_past_greatest-from_list bits) ∙ ap one_past_greatest (sym valid);
+      count_is = sym (same_number _ _ (both _ _ numbers).1) ∙ sym (len-from_list bits apart) ∙ ap len (sym valid);
+    }

@@ -1,0 +1,51 @@
+-- What an element type proves of its values and their bits.
+--     bit_of      a value's bit, from the bits of the variants in the order of their declaration
+--     one_past_greatest      one past the greatest member, 0 of the empty set
+--     IsElementType      the laws of an element type
+--     is_lawful      the test, of the bits of the variants, by which the laws are proved
+use Rattle.std.specs.Prelude.{◌≡◌, ◌↔◌, ◌==◌, ℕ, suc, ◌+◌, Bool, true, not, ◌&&◌, List, [], ◌∷◌, length, max, fold, slice_index, IsTrue}
+use denote.Enum.Declared.{Declared, rowss, tag_of}
+use Rattle.enumset_repr.specs.BitSet.{BitSet, is_in, contains, from_list, rising, len}
+
+-- the bit of a value, from the bits of its enum's variants in the order of their declaration
+abbrev pub bit_of : (D : Declared) → List ℕ → D.D → ℕ
+bit_of D bits v = slice_index bits (tag_of D v)
+
+-- one past the last of a list, 0 of the empty one
+abbrev pub one_past_last : List ℕ → ℕ
+one_past_last [] = 0
+one_past_last (b ∷ []) = suc b
+one_past_last (b ∷ c ∷ bs) = one_past_last (c ∷ bs)
+
+abbrev pub one_past_greatest : BitSet → ℕ
+one_past_greatest s = one_past_last (rising s)
+
+-- The laws of an element type, whose values have these bits, whose variants have the bits of the list,
+-- and whose constants mean `all`, `width` and `count`.
+pub record IsElementType {T : Type 0} (bit : T → ℕ) (eq : T → T → Bool) (bits : List ℕ) (all : BitSet) (width count : ℕ) : Type 0 where
+  -- the valid bits are those of the variants
+  pub valid : all ≡ from_list bits
+  -- each value's bit is valid
+  pub bit_is_valid : (v : T) → IsTrue (contains all (bit v))
+  -- two values have the same bit exactly if they are one value, and then `==` says so
+  pub bit_tells : (v w : T) → bit v ≡ bit w → v ≡ w
+  pub eq_tells : (v w : T) → IsTrue (eq v w) ↔ (bit v ≡ bit w)
+  -- the width is one past the greatest valid bit, the count that of the valid bits
+  pub width_is : width ≡ one_past_greatest all
+  pub count_is : count ≡ len all
+
+-- ---- the test
+
+-- whether no number stands twice
+abbrev pub is_distinct : List ℕ → Bool
+is_distinct [] = true
+is_distinct (b ∷ bs) = not (is_in b bs) && is_distinct bs
+
+-- one past the greatest number of a list
+abbrev pub one_past_all : List ℕ → ℕ
+one_past_all [] = 0
+one_past_all (b ∷ bs) = max (suc b) (one_past_all bs)
+
+-- the bits are those of this many variants, no two the same, and these are their width and their count
+abbrev pub is_lawful : ℕ → List ℕ → ℕ → ℕ → Bool
+is_lawful variants bits width count = (length bits == variants) && (is_distinct bits && ((one_past_all bits == width) && (length bits == count)))

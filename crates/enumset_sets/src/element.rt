@@ -1,0 +1,45 @@
+//! The trait of element types.
+
+ghost use Rattle.std.specs.Prelude.{◌≡◌, ℕ, List, IsTrue};
+ghost use Rattle.enumset_repr.specs.BitSet.{is_in};
+ghost use Rattle.enumset_sets.specs.Elements.{IsElementType};
+
+use enumset_repr::repr::EnumSetTypeRepr;
+
+/// An enum whose variants are the elements of an `EnumSet`: each has a bit of its own in a store.
+pub trait EnumSetType: Copy + Eq {
+    /// The store of its sets.
+    type Repr: EnumSetTypeRepr;
+
+    // A value's bit.
+    ghost bit: { Self → ℕ };
+
+    // The bits of the variants, in the order of their declaration.
+    ghost bits: { List ℕ };
+
+    ghost ALL_BITS: { Self.Repr };
+
+    /// The store value of all variants: its members are the valid bits.
+    const ALL_BITS: Self::Repr;
+
+    ghost BIT_WIDTH: { ℕ };
+
+    /// One past the greatest valid bit, and 0 where there is none.
+    const BIT_WIDTH: u32;
+
+    ghost VARIANT_COUNT: { ℕ };
+
+    /// How many valid bits there are.
+    const VARIANT_COUNT: u32;
+
+    /// The value's bit.
+    fn enum_into_u32(self) -> u32
+        ensures { result ≡ bit self };
+
+    /// The value whose bit it is. The bit must be valid: one of those of the variants.
+    fn enum_from_u32(val: u32) -> Self
+        requires { IsTrue (is_in val bits) }
+        ensures { bit result ≡ val };
+
+    ghost lawful: { IsElementType bit Self.PartialEq.eq bits (Self.Repr.members ALL_BITS) BIT_WIDTH VARIANT_COUNT };
+}
