@@ -146,7 +146,7 @@ list_all-any p (b ∷ bs) q all any =
       | inr later ↦ list_all-any p bs q (both (p b) _ all).1 later
     ]
 
-list_all-each : (p : ℕ → Bool) (bs : List ℕ) → ((q : ℕ) → list_any (λ b. q == b) bs ≡ true → p q ≡ true) → list_all p bs ≡ true
+pub list_all-each : (p : ℕ → Bool) (bs : List ℕ) → ((q : ℕ) → list_any (λ b. q == b) bs ≡ true → p q ≡ true) → list_all p bs ≡ true
 list_all-each p [] each = refl
 list_all-each p (b ∷ bs) each =
     and_true (p b) _ (each b (or_left (b == b) _ (itself b))) (list_all-each p bs (λ q one. each q (or_right (q == b) _ one)))
@@ -158,6 +158,10 @@ not_true false h = refl
 not_false : (b : Bool) → not b ≡ false → b ≡ true
 not_false true h = refl
 not_false false h = sym h
+
+not_so : (b : Bool) → (b ≡ true → ⊥) → b ≡ false
+not_so true h = absurd (h refl)
+not_so false h = refl
 
 -- what is false wherever the first test passes
 none_of : (a b : Bool) → (a ≡ true → b ≡ false) → (a && b) ≡ false
@@ -239,6 +243,17 @@ module _ (v : BitSet) where
 -- a member of a set of numbers below n is below n
 pub member_below : (s : BitSet) (n b : ℕ) → is_subset s (below n) ≡ true → contains s b ≡ true → b < n
 member_below s n b sub in_s = ltb-true b n (sym (contains-below n b) ∙ is_subset-contains s (below n) sub b in_s)
+
+-- a number past a bound of the members is no member
+pub contains-past : (s : BitSet) (n b : ℕ) → is_subset s (below n) ≡ true → n ≤ b → contains s b ≡ false
+contains-past s n b sub past = not_so (contains s b) (λ in_s. omega (arith, past, member_below s n b sub in_s))
+
+pub not_below : (b n : ℕ) → n ≤ b → nat_lt b n ≡ false
+not_below b n past = not_so (nat_lt b n) (λ h. omega (arith, past, ltb-true b n h))
+
+-- two tests that pass for the same reason are one
+pub test_of_iff : {P : Type 0} (a b : Bool) → (a ≡ true) ↔ P → (b ≡ true) ↔ P → a ≡ b
+test_of_iff a b p q = same_test a b (λ h. q.1 (p.0 h)) (λ h. p.1 (q.0 h))
 
 pub ruleset subsets = (empty-is_subset, insert-is_subset, remove-is_subset, union-is_subset, intersection-is_subset, difference-is_subset, symmetric_difference-is_subset, is_subset-itself)
 

@@ -5,10 +5,10 @@ use denote.Enum.Declared.{Declared, rowss, tag_of}
 use denote.Enum.Enum.{tag_below}
 use denote.Enum.Bare.{Bare, tag_one, sameb, same_true, true_same}
 use Rattle.std.proofs.lemmas.Bool.{or_cases, cases_lt}
-use Rattle.enumset_repr.specs.BitSet.{BitSet, is_in, contains, from_list, rising, len, insert, empty}
-use Rattle.enumset_repr.proofs.Members.{same_number, itself, both, or_left, or_right, contains-from_list, contains-rising}
+use Rattle.enumset_repr.specs.BitSet.{BitSet, is_in, contains, from_list, rising, len, insert, empty, is_subset}
+use Rattle.enumset_repr.proofs.Members.{same_number, itself, both, or_left, or_right, contains-from_list, contains-rising, list_all-each, is_subset-contains}
 use Rattle.enumset_repr.proofs.Rising.{len-empty, len-insert, rising-rises, RisesFrom, is_in-from, rising_is}
-use Rattle.enumset_sets.specs.Elements.{bit_of, one_past_last, one_past_greatest, IsElementType, is_distinct, one_past_all, is_lawful}
+use Rattle.enumset_sets.specs.Elements.{bit_of, one_past_last, one_past_greatest, IsElementType, is_distinct, one_past_all, is_lawful, AreBitsOf}
 
 is_in-get_or : (bs : List ℕ) (i : ℕ) → i < length bs → is_in (get_or bs i 0) bs ≡ true
 is_in-get_or [] i small = absurd (omega (arith, small))
@@ -100,3 +100,8 @@ lawful D bare bits all width count valid test =
       width_is = sym (same_number _ _ (both _ _ numbers).0) ∙ sym (one_past_greatest-from_list bits) ∙ ap one_past_greatest (sym valid);
       count_is = sym (same_number _ _ (both _ _ numbers).1) ∙ sym (len-from_list bits apart) ∙ ap len (sym valid);
     }
+
+-- the members of a set of valid bits are bits of variants
+pub AreBitsOf-rising : (bits : List ℕ) (all s : BitSet) → all ≡ from_list bits → is_subset s all ≡ true → AreBitsOf bits (rising s)
+AreBitsOf-rising bits all s valid sub =
+    list_all-each (λ b. is_in b bits) (rising s) (λ q one. sym (contains-from_list bits q) ∙ sym (ap (λ t. contains t q) valid) ∙ is_subset-contains s all sub q (contains-rising s q ∙ one))

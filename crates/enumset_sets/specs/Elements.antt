@@ -2,8 +2,10 @@
 --     bit_of      a value's bit, from the bits of the variants in the order of their declaration
 --     one_past_greatest      one past the greatest member, 0 of the empty set
 --     IsElementType      the laws of an element type
+--     AreBitsOf      each number of a list is one of the variants' bits
 --     is_lawful      the test, of the bits of the variants, by which the laws are proved
 use Rattle.std.specs.Prelude.{◌≡◌, ◌↔◌, ◌==◌, ℕ, suc, ◌+◌, Bool, true, not, ◌&&◌, List, [], ◌∷◌, length, max, fold, slice_index, IsTrue}
+use Rattle.std.specs.List.{list_all}
 use denote.Enum.Declared.{Declared, rowss, tag_of}
 use Rattle.enumset_repr.specs.BitSet.{BitSet, is_in, contains, from_list, rising, len}
 
@@ -33,6 +35,10 @@ pub record IsElementType {T : Type 0} (bit : T → ℕ) (eq : T → T → Bool) 
   -- the width is one past the greatest valid bit, the count that of the valid bits
   pub width_is : width ≡ one_past_greatest all
   pub count_is : count ≡ len all
+
+-- each number of a list is one of these bits
+abbrev pub AreBitsOf : List ℕ → List ℕ → Type 0
+AreBitsOf bits bs = IsTrue (list_all (λ b. is_in b bits) bs)
 
 -- ---- the test
 

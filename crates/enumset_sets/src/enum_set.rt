@@ -1,22 +1,29 @@
 //! The set of elements.
 
-ghost use Rattle.std.specs.Prelude.{◌≡◌, ℕ, IsTrue, not};
+ghost use Rattle.std.specs.Prelude.{◌≡◌, ◌<◌, ◌↔◌, IsTrue, not};
 ghost use Rattle.enumset_repr.specs.BitSet as set;
+ghost use Rattle.enumset_sets.specs.Elements.{one_past_greatest};
 
 use crate::element::EnumSetType;
+use crate::enum_set_iter::EnumSetIter;
+use crate::store::{intersection_of, symmetric_difference_of, union_of, are_same};
 use enumset_repr::repr::EnumSetTypeRepr;
 use std::alloc::AllocError;
+use std::fmt;
 use std::marker::{Model, PhantomData};
 
-/// A set of elements.
+/// A set of elements, of the size of its store.
+///
+/// It mirrors `EnumSet` of Rust's `enumset`. The parameter `R` is always the store of `T`: write
+/// `EnumSet<T>`.
 pub struct EnumSet<T: EnumSetType, R: EnumSetTypeRepr = <T as EnumSetType>::Repr> {
     repr: R,
     of: PhantomData<T>,
 }
 
 impl<T: EnumSetType, R: EnumSetTypeRepr> Model for EnumSet<T, R> {
-    ghost use Rattle.std.specs.Prelude.{◌≡◌, IsTrue};
-    ghost use Rattle.enumset_repr.specs.BitSet.{BitSet, coded_set, is_subset};
+    ghost use Rattle.enumset_repr.specs.BitSet.{BitSet, coded_set};
+    ghost use Rattle.enumset_sets.specs.Held.{IsHeld};
 
     ghost Value = { BitSet };
 
@@ -24,15 +31,19 @@ impl<T: EnumSetType, R: EnumSetTypeRepr> Model for EnumSet<T, R> {
 
     ghost view = { λ s. R.members s.repr };
 
-    ghost invariant = { λ s. IsTrue (is_subset (R.members s.repr) (T.Repr.members T.ALL_BITS)) × (R.of_members (R.members s.repr) ≡ s.repr) × R.is_value s.repr };
+    ghost invariant = { λ s. IsHeld R.members R.of_members R.is_value (T.Repr.members T.ALL_BITS) s.repr };
 
     ghost inverse = { λ s. record { repr = R.of_members s; of = record {} } };
 
-    ghost inverse_ok = { λ a h i. record { repr = h.1 i; of = a.of } };
+    ghost inverse_ok = { λ a h i. record { repr = h.inverse i; of = a.of } };
 }
 
 impl<T: EnumSetType, R: EnumSetTypeRepr> Clone for EnumSet<T, R> {
+    ghost use Rattle.std.specs.Prelude.{⊤};
+
     ghost is_clone = { λ s t. s ≡ t };
+
+    ghost is_infallible = { λ _. ⊤ };
 
     fn clone(&self) -> Result<EnumSet<T, R>, AllocError> {
         Ok(EnumSet {
@@ -44,15 +55,143 @@ impl<T: EnumSetType, R: EnumSetTypeRepr> Clone for EnumSet<T, R> {
 
 impl<T: EnumSetType, R: EnumSetTypeRepr> Copy for EnumSet<T, R> {}
 
+impl<T: EnumSetType> PartialEq for EnumSet<T> {
+    ghost use Rattle.enumset_repr.specs.BitSet.{is_same};
+    ghost use Rattle.enumset_repr.proofs.Equality.{is_same-IsPartialEquivalence};
+
+    ghost eq = { is_same };
+
+    ghost laws = { is_same-IsPartialEquivalence };
+
+    fn eq(&self, other: &EnumSet<T>) -> bool {
+        are_same(self.repr, other.repr)
+    }
+}
+
+impl<T: EnumSetType> Eq for EnumSet<T> {
+    ghost use Rattle.enumset_repr.proofs.Equality.{is_same-IsEquivalence};
+
+    ghost laws = { is_same-IsEquivalence };
+}
+
+impl<T: EnumSetType> Default for EnumSet<T> {
+    ghost use Rattle.std.specs.Prelude.{◌≡◌};
+    ghost use Rattle.enumset_repr.specs.BitSet.{empty};
+
+    ghost is_default = { λ s. s ≡ empty };
+
+    fn default() -> EnumSet<T> {
+        Self::new()
+    }
+}
+
+/// `EnumSet(`, the elements' `{:?}` texts along their bits, joined by ` | `, and `)`.
+impl<T: EnumSetType + fmt::Debug> fmt::Debug for EnumSet<T> {
+    fn fmt<W: fmt::Write>(&self, f: &mut fmt::Formatter<W>) -> fmt::Result {
+        f.write_str("EnumSet(")?;
+        let mut is_first = true;
+        for element in self.iter() {
+            if !is_first {
+                f.write_str(" | ")?;
+            }
+            is_first = false;
+            element.fmt(f)?;
+        }
+        f.write_str(")")
+    }
+}
+
+// The store value of all variants, which is one of its type.
+fn valid_repr<T: EnumSetType>() -> T::Repr
+    ensures value { result ≡ T.ALL_BITS }
+    ensures is_value { T.Repr.is_value result }
+{
+    let all = T::ALL_BITS;
+    all.known();
+    all
+}
+
+// A value's bit, which is below the width of its store.
+fn bit_of_value<T: EnumSetType>(value: T) -> u32
+    ensures bit { result ≡ T.bit value }
+    ensures valid { IsTrue (set.contains (T.Repr.members T.ALL_BITS) result) }
+    ensures within { result < T.Repr.WIDTH }
+{
+    let _all = valid_repr::<T>();
+    value.enum_into_u32()
+}
+
+#[tactic(auto, using(enumset_repr::proofs::Members::subsets))]
 impl<T: EnumSetType> EnumSet<T> {
+    // The set that a store value means.
+    fn of_repr(repr: T::Repr) -> EnumSet<T>
+        requires { IsTrue (set.is_subset (T.Repr.members repr) (T.Repr.members T.ALL_BITS)) }
+        ensures { result ≡ T.Repr.members repr }
+    {
+        repr.known();
+        EnumSet {
+            repr,
+            of: PhantomData,
+        }
+    }
+
     /// The empty set.
     pub fn new() -> EnumSet<T>
         ensures { result ≡ set.empty }
     {
-        EnumSet {
-            repr: T::Repr::EMPTY,
-            of: PhantomData,
-        }
+        Self::of_repr(T::Repr::EMPTY)
+    }
+
+    /// The empty set, as [`new`](EnumSet::new).
+    pub fn empty() -> EnumSet<T>
+        ensures { result ≡ set.empty }
+    {
+        Self::new()
+    }
+
+    /// The set of all variants.
+    pub fn all() -> EnumSet<T>
+        ensures { result ≡ T.Repr.members T.ALL_BITS }
+    {
+        Self::of_repr(T::ALL_BITS)
+    }
+
+    /// The set of one element.
+    pub fn only(t: T) -> EnumSet<T>
+        ensures { result ≡ set.only (T.bit t) }
+    {
+        let mut repr = T::Repr::EMPTY;
+        repr.add_bit(bit_of_value(t));
+        Self::of_repr(repr)
+    }
+
+    /// One past the greatest valid bit, and 0 where there is none.
+    pub fn bit_width() -> u32
+        ensures { result ≡ one_past_greatest (T.Repr.members T.ALL_BITS) }
+    {
+        T::BIT_WIDTH
+    }
+
+    /// How many valid bits there are: as many as variants.
+    pub fn variant_count() -> u32
+        ensures { result ≡ set.len (T.Repr.members T.ALL_BITS) }
+    {
+        T::VARIANT_COUNT
+    }
+
+    /// The element's bit.
+    pub fn bit_index(t: T) -> u32
+        ensures { result ≡ T.bit t }
+    {
+        t.enum_into_u32()
+    }
+
+    /// Whether a bit is valid: one of a variant. It is not at and past the store's width.
+    pub fn is_bit_valid(bit: u32) -> bool
+        ensures { result ≡ set.contains (T.Repr.members T.ALL_BITS) bit }
+    {
+        let all = valid_repr::<T>();
+        bit < T::Repr::WIDTH && all.has_bit(bit)
     }
 
     /// How many members there are.
@@ -62,20 +201,141 @@ impl<T: EnumSetType> EnumSet<T> {
         self.repr.count_ones() as usize
     }
 
-    /// Whether the value is a member.
+    /// Whether there is no member.
+    pub fn is_empty(&self) -> bool
+        ensures { IsTrue result ↔ (self.now ≡ set.empty) }
+    {
+        self.repr.is_empty()
+    }
+
+    /// Takes out all members.
+    pub fn clear(&mut self)
+        ensures { self.new ≡ set.empty }
+    {
+        *self = Self::new();
+    }
+
+    /// Whether the element is a member.
     pub fn contains(&self, value: T) -> bool
         ensures { result ≡ set.contains self.now (T.bit value) }
     {
-        self.repr.has_bit(value.enum_into_u32())
+        self.repr.has_bit(bit_of_value(value))
     }
 
-    /// Makes the value a member, and says whether it was absent.
+    /// Makes the element a member, and says whether it was absent.
     pub fn insert(&mut self, value: T) -> bool
         ensures inserted { self.new ≡ set.insert self.old (T.bit value) }
         ensures was_absent { result ≡ not (set.contains self.old (T.bit value)) }
     {
         let is_absent = !self.contains(value);
-        self.repr.add_bit(value.enum_into_u32());
+        let mut repr = self.repr;
+        repr.add_bit(bit_of_value(value));
+        *self = Self::of_repr(repr);
         is_absent
+    }
+
+    /// Takes the element out, and says whether it was present.
+    pub fn remove(&mut self, value: T) -> bool
+        ensures removed { self.new ≡ set.remove self.old (T.bit value) }
+        ensures was_present { result ≡ set.contains self.old (T.bit value) }
+    {
+        let is_present = self.contains(value);
+        let mut repr = self.repr;
+        repr.remove_bit(bit_of_value(value));
+        *self = Self::of_repr(repr);
+        is_present
+    }
+
+    /// Whether no element is a member of both.
+    pub fn is_disjoint(&self, other: EnumSet<T>) -> bool
+        ensures { result ≡ set.is_disjoint self.now other }
+    {
+        intersection_of(self.repr, other.repr).is_empty()
+    }
+
+    /// Whether each member of the other is one of this.
+    pub fn is_superset(&self, other: EnumSet<T>) -> bool
+        ensures { result ≡ set.is_subset other self.now }
+    {
+        other.repr.and_not(self.repr).is_empty()
+    }
+
+    /// Whether each member of this is one of the other.
+    pub fn is_subset(&self, other: EnumSet<T>) -> bool
+        ensures { result ≡ set.is_subset self.now other }
+    {
+        self.repr.and_not(other.repr).is_empty()
+    }
+
+    /// The members of either.
+    pub fn union(&self, other: EnumSet<T>) -> EnumSet<T>
+        ensures { result ≡ set.union self.now other }
+    {
+        Self::of_repr(union_of(self.repr, other.repr))
+    }
+
+    /// The members of both.
+    pub fn intersection(&self, other: EnumSet<T>) -> EnumSet<T>
+        ensures { result ≡ set.intersection self.now other }
+    {
+        Self::of_repr(intersection_of(self.repr, other.repr))
+    }
+
+    /// The members of this that are not in the other.
+    pub fn difference(&self, other: EnumSet<T>) -> EnumSet<T>
+        ensures { result ≡ set.difference self.now other }
+    {
+        Self::of_repr(self.repr.and_not(other.repr))
+    }
+
+    /// The members of just one of the two.
+    pub fn symmetric_difference(&self, other: EnumSet<T>) -> EnumSet<T>
+        ensures { result ≡ set.symmetric_difference self.now other }
+    {
+        Self::of_repr(symmetric_difference_of(self.repr, other.repr))
+    }
+
+    /// The members of just one of the two, under an older name.
+    #[deprecated = "Use `symmetric_difference` instead."]
+    pub fn symmetrical_difference(&self, other: EnumSet<T>) -> EnumSet<T>
+        ensures { result ≡ set.symmetric_difference self.now other }
+    {
+        self.symmetric_difference(other)
+    }
+
+    /// The valid bits that are not in the set, as elements.
+    pub fn complement(&self) -> EnumSet<T>
+        ensures { result ≡ set.difference (T.Repr.members T.ALL_BITS) self.now }
+    {
+        Self::of_repr(T::ALL_BITS.and_not(self.repr))
+    }
+
+    /// Makes each member of the other a member of this.
+    pub fn insert_all(&mut self, other: EnumSet<T>)
+        ensures { self.new ≡ set.union self.old other }
+    {
+        *self = self.union(other);
+    }
+
+    /// Takes each member of the other out of this.
+    pub fn remove_all(&mut self, other: EnumSet<T>)
+        ensures { self.new ≡ set.difference self.old other }
+    {
+        *self = self.difference(other);
+    }
+
+    /// The elements, along their bits, each once, rising, from both ends. The iterator keeps the set as
+    /// it is now.
+    pub fn iter(&self) -> EnumSetIter<T>
+        ensures { result ≡ set.rising self.now }
+    {
+        EnumSetIter::over(self.repr)
+    }
+
+    /// Whether the set has this element and no other.
+    pub fn eq_element(&self, value: T) -> bool
+        ensures { result ≡ set.is_same self.now (set.only (T.bit value)) }
+    {
+        are_same(self.repr, Self::only(value).repr)
     }
 }

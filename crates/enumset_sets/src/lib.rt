@@ -1,5 +1,10 @@
-//! Sets of an enum's variants, over any store of bits.
+//! Sets of an enum's variants, kept as the bits of a store.
+//!
+//! [`EnumSet`] is proved once, over every [`EnumSetType`] and every store of `enumset_repr`: it names no
+//! store. Contracts see a set as the finite set of its members' bit numbers.
 #![tactic(auto)]
 
 pub mod element;
 pub mod enum_set;
+pub mod enum_set_iter;
+mod store;

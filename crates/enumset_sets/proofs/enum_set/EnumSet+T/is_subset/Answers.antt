@@ -1,0 +1,6 @@
+use Rattle.enumset_repr.proofs.Members.{is_subset_iff, test_of_iff}
+use Rattle.enumset_sets.proofs.enum_set.EnumSet+T.is_subset.Goals as goal
+
+pub returns : goal.returns
+returns g c =
+    test_of_iff _ _ (rw (← c.self.view_is, ← c.other.view_is, ← c.and_not.ensures) c.is_empty.ensures) (is_subset_iff _ _)
