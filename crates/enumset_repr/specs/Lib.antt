@@ -1,3 +1,4 @@
 pub mod BitSet
 pub mod Number
 pub mod Words
+pub mod Laws

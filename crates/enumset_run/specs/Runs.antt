@@ -3,8 +3,9 @@
 --     refusal      why a command is refused, if it is
 --     after, reply_of      the state that a command leaves, and the reply to it
 --     replies      the replies to a list of commands, from the start
-use Rattle.std.specs.Prelude.{◌≡◌, ℕ, Bool, true, false, not, ◌&&◌, nat_lt, List, [], ◌∷◌, length, slice_set, Option, Some, None, if◌then◌else◌}
+use Rattle.std.specs.Prelude.{◌≡◌, ℕ, Bool, true, false, not, ◌&&◌, nat_lt, List, [], ◌∷◌, length, slice_set, Option, Some, None, Result, Ok, Err, refl, if◌then◌else◌}
 use Rattle.std.specs.List.{slice_index_or}
+use Rattle.std.specs.Coded.{Coded, code_by, coded×, coded_list, coded_ℕ}
 use Rattle.enumset_repr.specs.BitSet as set
 use Rattle.enumset_repr.specs.BitSet.{BitSet}
 use Rattle.enumset_run.specs.declared.command.Command.{Command}
@@ -18,6 +19,10 @@ use Rattle.enumset_run.specs.declared.reply.Refusal.TheVariants.{NoRegister, Not
 pub record State : Type 0 where
   pub sets : List BitSet
   pub lists : List (List ℕ)
+
+-- a state is stored as the pair of its fields
+abbrev pub coded_state : Coded State
+coded_state = code_by (List BitSet × List (List ℕ)) (coded× (coded_list set.coded_set) (coded_list (coded_list coded_ℕ))) (λ s. (s.sets, s.lists)) (λ p. record { sets = p.0; lists = p.1 }) (λ _. refl)
 
 -- four sets and two lists, all empty
 abbrev pub start : State
@@ -113,6 +118,11 @@ outcome valid s c = outcome_unless (refusal valid c) valid s c
 abbrev pub replies_from : BitSet → State → List Command → List Reply
 replies_from valid s [] = []
 replies_from valid s (c ∷ cs) = (outcome valid s c).reply ∷ replies_from valid (outcome valid s c).state cs
+
+-- a step's answer, as a reply
+abbrev pub reply_or_refused : Result Reply Refusal → Reply
+reply_or_refused (Ok reply) = reply
+reply_or_refused (Err refused) = Refused refused
 
 abbrev pub replies : BitSet → List Command → List Reply
 replies valid cs = replies_from valid start cs

@@ -2,6 +2,7 @@
 #![tactic(auto)]
 
 mod command;
+mod machine;
 mod reply;
 
 fn main() {}

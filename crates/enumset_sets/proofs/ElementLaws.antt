@@ -6,8 +6,8 @@ use denote.Enum.Enum.{tag_below}
 use denote.Enum.Bare.{Bare, tag_one, sameb, same_true, true_same}
 use Rattle.std.proofs.lemmas.Bool.{or_cases, cases_lt}
 use Rattle.enumset_repr.specs.BitSet.{BitSet, is_in, contains, from_list, rising, len, insert, empty, is_subset}
-use Rattle.enumset_repr.proofs.Members.{same_number, itself, both, or_left, or_right, contains-from_list, contains-rising, list_all-each, is_subset-contains}
-use Rattle.enumset_repr.proofs.Rising.{len-empty, len-insert, rising-rises, RisesFrom, is_in-from, rising_is}
+use Rattle.enumset_repr.specs.Laws.Members.{same_number, itself, both, or_left, or_right, contains-from_list, contains-rising, list_all-each, is_subset-contains}
+use Rattle.enumset_repr.specs.Laws.Rising.{len-empty, len-insert, rising-rises, RisesFrom, is_in-from, rising_is}
 use Rattle.enumset_sets.specs.Elements.{bit_of, one_past_last, one_past_greatest, IsElementType, is_distinct, one_past_all, is_lawful, AreBitsOf}
 
 is_in-get_or : (bs : List ℕ) (i : ℕ) → i < length bs → is_in (get_or bs i 0) bs ≡ true

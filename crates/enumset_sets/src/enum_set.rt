@@ -57,7 +57,7 @@ impl<T: EnumSetType, R: EnumSetTypeRepr> Copy for EnumSet<T, R> {}
 
 impl<T: EnumSetType> PartialEq for EnumSet<T> {
     ghost use Rattle.enumset_repr.specs.BitSet.{is_same};
-    ghost use Rattle.enumset_repr.proofs.Equality.{is_same-IsPartialEquivalence};
+    ghost use Rattle.enumset_repr.specs.Laws.Equality.{is_same-IsPartialEquivalence};
 
     ghost eq = { is_same };
 
@@ -69,7 +69,7 @@ impl<T: EnumSetType> PartialEq for EnumSet<T> {
 }
 
 impl<T: EnumSetType> Eq for EnumSet<T> {
-    ghost use Rattle.enumset_repr.proofs.Equality.{is_same-IsEquivalence};
+    ghost use Rattle.enumset_repr.specs.Laws.Equality.{is_same-IsEquivalence};
 
     ghost laws = { is_same-IsEquivalence };
 }
@@ -121,7 +121,7 @@ fn bit_of_value<T: EnumSetType>(value: T) -> u32
     value.enum_into_u32()
 }
 
-#[tactic(auto, using(enumset_repr::proofs::Members::subsets))]
+#[tactic(auto, using(enumset_repr::specs::Laws::Members::subsets))]
 impl<T: EnumSetType> EnumSet<T> {
     // The set that a store value means.
     fn of_repr(repr: T::Repr) -> EnumSet<T>

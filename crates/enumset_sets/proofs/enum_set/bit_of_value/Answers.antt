@@ -1,4 +1,4 @@
-use Rattle.enumset_repr.proofs.Members.{member_below}
+use Rattle.enumset_repr.specs.Laws.Members.{member_below}
 use Rattle.enumset_sets.proofs.enum_set.bit_of_value.Goals as goal
 
 pub returns-clause-within : goal.returns-clause-within

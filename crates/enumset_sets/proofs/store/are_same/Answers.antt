@@ -1,4 +1,4 @@
-use Rattle.enumset_repr.proofs.Members.{is_same_iff, test_of_iff}
+use Rattle.enumset_repr.specs.Laws.Members.{is_same_iff, test_of_iff}
 use Rattle.enumset_sets.proofs.store.are_same.Goals as goal
 
 pub returns : goal.returns

@@ -1,5 +1,5 @@
 use Rattle.std.proofs.Common.{sym, ◌∙◌, arith}
-use Rattle.enumset_repr.proofs.Members.{contains-past, not_below}
+use Rattle.enumset_repr.specs.Laws.Members.{contains-past, not_below}
 use Rattle.enumset_sets.proofs.enum_set.EnumSet+T.is_bit_valid.Goals as goal
 
 pub returns-else-bit-WIDTH : goal.returns-else-bit-WIDTH

@@ -1,4 +1,4 @@
-use Rattle.enumset_repr.proofs.Members.{is_disjoint_iff, test_of_iff}
+use Rattle.enumset_repr.specs.Laws.Members.{is_disjoint_iff, test_of_iff}
 use Rattle.enumset_sets.proofs.enum_set.EnumSet+T.is_disjoint.Goals as goal
 
 pub returns : goal.returns

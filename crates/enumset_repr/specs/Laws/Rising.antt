@@ -17,7 +17,7 @@ use Rattle.std.specs.FinMap.{is_sorted}
 use Rattle.std.proofs.lemmas.Bool.{ltb-true, lt-ltb, or_cases}
 use Rattle.std.proofs.lemmas.Bool.Decides.{nat_tests}
 use Rattle.enumset_repr.specs.BitSet.{is_in, BitSet, contains, rising, len, empty, insert, remove, is_subset, below}
-use Rattle.enumset_repr.proofs.Members.{members, same_set, same_test, same_number, itself, both, or_swap, or_left, or_right, contains-empty, contains-rising, contains-remove, contains-insert, contains-below, is_subset-contains}
+use Rattle.enumset_repr.specs.Laws.Members.{members, same_set, same_test, same_number, itself, both, or_swap, or_left, or_right, contains-empty, contains-rising, contains-remove, contains-insert, contains-below, is_subset-contains}
 
 -- the list rises strictly, and its first is at least k
 abbrev pub RisesFrom : ℕ → List ℕ → Type 0

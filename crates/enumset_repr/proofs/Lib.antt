@@ -1,3 +1,0 @@
-pub mod Members
-pub mod Rising
-pub mod Equality

@@ -1,0 +1,484 @@
+-- The set of a number, and what the operations on numbers do to it. Each law is over the width or the place.
+--     contains-bits, bits-.., len-bits      the set of a number, and of what an operator answers
+--     bits-number, number-bits      a set and its number
+--     least-bits, greatest-bits      `trailing_zeros` and `leading_zeros`
+--     numbers_8, .., numbers_128      the laws at a width, for `using`
+use Rattle.std.proofs.Common.{◌≡◌, ◌<◌, ◌≤◌, ℕ, suc, zero, ◌+◌, ◌-◌, ◌*◌, ◌/◌, ◌%◌, ◌^◌, min, max, Bool, true, false, not, ◌&&◌, ◌||◌, List, [], ◌∷◌, refl, sym, ap, ◌∙◌, length, arith, inl, inr, ◌⊎◌, true≢false, pow-suc, pow_mono, mul_assoc, mul_comm, suc-mul, pow-add, one-mul, zero-mul}
+use Rattle.std.proofs.Math.Bool.{and-true}
+use Rattle.std.specs.Prelude.{◌==◌, nat_lt, sum_by}
+use Rattle.std.specs.Int.{bit_at, bit_not, trailing_zeros, leading_zeros, Width, w8, w16, w32, w64, w128}
+use Rattle.std.specs.Int.RustNames.{bit_and, bit_or, bit_xor, count_ones}
+use Rattle.std.specs.Int.Count.{ones_cat, leading_top}
+use mir.Val.{bits as width_bits}
+use Rattle.std.proofs.lemmas.Bool.{cases_lt, lt-ltb, ltb-true}
+use Rattle.std.proofs.lemmas.Bool.Decides.{nat_tests}
+use Rattle.std.proofs.lemmas.List.Sums.{sum_by-cons}
+use Rattle.std.proofs.lemmas.Nat.{pow_pos, le-div, div_below, pow_below, one_shl, and_mask, shr-shr, shr_split, mod_below}
+use Rattle.std.proofs.lemmas.Nat.Bits.{and_pow, bit_at_and, bit_at_or, bit_at_xor, bit_at_not, bit_at-pow_same, bit_at-pow_other, bit_at-zero, bit_at_above, bit_at-lt, bit_at_cat_low, bit_at_cat_high, bit_at-trailing_zeros, same_from_bits}
+use Rattle.enumset_repr.specs.BitSet.{is_in, BitSet, contains, rising, len, empty, insert, remove, union, intersection, difference, symmetric_difference, is_subset, below, low}
+use Rattle.enumset_repr.specs.Number.{number, bits}
+use Rattle.enumset_repr.specs.Laws.Members.{same_set, same_number, itself, or_left, or_right, contains-empty, contains-rising, contains-retain, contains-remove, contains-insert, contains-union, contains-intersection, contains-difference, contains-symmetric_difference, contains-below, contains-low, is_subset-contains, contains-is_subset}
+use Rattle.enumset_repr.specs.Laws.Rising.{RisesFrom, rising-rises, rising-empty, is_in-below, len-rising}
+
+-- ---- the members of a number's set
+
+lt_pow : (n : ℕ) → n < 2 ^ n
+lt_pow zero = omega arith
+lt_pow (suc n) = omega (arith, lt_pow n, pow-suc 2 n)
+
+and_false : (p q : Bool) → q ≡ false → (p && q) ≡ q
+and_false true q e = refl
+and_false false q e = sym e
+
+-- a number's set bits are below it
+within_itself : (n b : ℕ) → (nat_lt b n && (bit_at n b == 1)) ≡ (bit_at n b == 1)
+within_itself n b = elim (cases_lt b n) [
+  | inl under ↦ ap (λ t. t && (bit_at n b == 1)) (lt-ltb b n under)
+  | inr over ↦ and_false (nat_lt b n) (bit_at n b == 1) (ap (λ d. d == 1) (bit_at_above n b b (omega (arith, lt_pow b)) (omega arith)))
+]
+
+pub contains-bits : (n b : ℕ) → contains (bits n) b ≡ (bit_at n b == 1)
+unfolding bits
+contains-bits n b = contains-retain (below n) _ b ∙ ap (λ t. t && (bit_at n b == 1)) (contains-below n b) ∙ within_itself n b
+
+-- a set with a number's bits is the number's
+bits_is : (n : ℕ) (s : BitSet) → ((q : ℕ) → (bit_at n q == 1) ≡ contains s q) → bits n ≡ s
+bits_is n s is = same_set (bits n) s (λ q. contains-bits n q ∙ is q)
+
+-- a bit past the width is not set
+not_past : (n w q : ℕ) → n < 2 ^ w → contains (bits n) q ≡ true → q < w
+not_past n w q fits one = elim (cases_lt q w) [
+  | inl under ↦ under
+  | inr over ↦ absurd (true≢false (sym one ∙ contains-bits n q ∙ ap (λ d. d == 1) (bit_at_above n w q fits over)))
+]
+
+-- no member of a number's set is past its width
+pub bits-within : (n w : ℕ) → n < 2 ^ w → is_subset (bits n) (below w) ≡ true
+bits-within n w fits = contains-is_subset (bits n) (below w) (λ q one. contains-below w q ∙ lt-ltb q w (not_past n w q fits one))
+
+-- ---- the sum of the powers of two at a list's numbers
+
+worth : List ℕ → ℕ
+worth xs = sum_by (λ b. 2 ^ b) xs
+
+worth-cons : (x : ℕ) (xs : List ℕ) → worth (x ∷ xs) ≡ worth xs + 2 ^ x
+unfolding worth
+worth-cons x xs = omega (arith, sum_by-cons (λ (b : ℕ). 2 ^ b) x xs)
+
+worth-below : (k w : ℕ) (xs : List ℕ) → RisesFrom k xs → k ≤ w → ((q : ℕ) → is_in q xs ≡ true → q < w) → worth xs + 2 ^ k ≤ 2 ^ w
+unfolding worth
+worth-below k w [] rises within small = omega (arith, pow_mono within)
+worth-below k w (x ∷ xs) rises within small =
+    let first : x < w = small x (or_left (x == x) _ (itself x)) in
+    let rest = worth-below (suc x) w xs rises.1 first (λ q one. small q (or_right (q == x) _ one)) in
+    omega (arith, worth-cons x xs, rest, pow-suc 2 x, pow_mono rises.0)
+
+odd_times : (a p : ℕ) → a * (p * 2) + p ≡ suc (a * 2) * p
+odd_times a p = omega (arith, suc-mul (a * 2) p, mul_assoc a 2 p, ap (λ n. a * n) (mul_comm p 2))
+
+pow_split : (k x : ℕ) → k ≤ x → 2 ^ x ≡ 2 ^ (x - k) * 2 ^ k
+pow_split k x from = let e : x ≡ x - k + k = omega arith in ap (λ j. 2 ^ j) e ∙ pow-add 2 (x - k) k
+
+or_none : (p q : Bool) → q ≡ false → p ≡ (p || q)
+or_none true q e = refl
+or_none false q e = sym e
+
+ones-zero : count_ones 0 ≡ 0
+unfolding count_ones
+ones-zero = refl
+
+ones-one : count_ones 1 ≡ 1
+unfolding count_ones
+ones-one = refl
+
+ones-pow : (k : ℕ) → count_ones (2 ^ k) ≡ 1
+ones-pow k = let e : 2 ^ k ≡ 1 * 2 ^ k + 0 = omega arith in ap count_ones e ∙ ones_cat k 1 0 (pow_pos k) ∙ ap (λ n. n + count_ones 0) ones-one ∙ ap (λ n. 1 + n) ones-zero
+
+-- the worth of a list that rises from k is a multiple of 2 ^ k
+worth-multiple : (k : ℕ) (xs : List ℕ) → RisesFrom k xs → (a : ℕ) × (worth xs ≡ a * 2 ^ k)
+unfolding worth
+worth-multiple k [] rises = (0, omega arith)
+worth-multiple k (x ∷ xs) rises =
+    let rest = worth-multiple (suc x) xs rises.1 in (
+      suc (rest.0 * 2) * 2 ^ (x - k),
+      worth-cons x xs ∙ ap (λ n. n + 2 ^ x) (rest.1 ∙ ap (λ n. rest.0 * n) (pow-suc 2 x)) ∙ odd_times rest.0 (2 ^ x)
+          ∙ ap (λ n. suc (rest.0 * 2) * n) (pow_split k x rises.0) ∙ sym (mul_assoc (suc (rest.0 * 2)) (2 ^ (x - k)) (2 ^ k)),
+    )
+
+-- the first of a list that rises is the lowest place, and the rest is a multiple past it
+worth-parts : (k x : ℕ) (xs : List ℕ) → RisesFrom k (x ∷ xs) → (a : ℕ) × (worth xs ≡ a * 2 ^ suc x + 0) × (worth (x ∷ xs) ≡ a * 2 ^ suc x + 2 ^ x)
+worth-parts k x xs rises =
+    let rest = worth-multiple (suc x) xs rises.1 in
+    (rest.0, omega (arith, rest.1), worth-cons x xs ∙ ap (λ n. n + 2 ^ x) rest.1)
+
+pow_bit : (k q : ℕ) → (bit_at (2 ^ k) q == 1) ≡ (q == k)
+pow_bit k q = elim (q == k) as (λ t. (q == k) ≡ t → (bit_at (2 ^ k) q == 1) ≡ t) [
+  | true ↦ λ e. ap (λ p. bit_at (2 ^ k) p == 1) (same_number q k e) ∙ ap (λ d. d == 1) (bit_at-pow_same k)
+  | false ↦ λ e. ap (λ d. d == 1) (bit_at-pow_other k q (λ same. true≢false (sym (itself k) ∙ ap (λ p. p == k) (sym same) ∙ e)))
+] refl
+
+-- the bits of a list's worth are its numbers
+worth-bit : (k : ℕ) (xs : List ℕ) → RisesFrom k xs → (q : ℕ) → (bit_at (worth xs) q == 1) ≡ is_in q xs
+unfolding worth
+worth-bit k [] rises q = ap (λ d. d == 1) (bit_at-zero q)
+worth-bit k (x ∷ xs) rises q =
+    let parts = worth-parts k x xs rises in elim (cases_lt q (suc x)) [
+      | inl under ↦
+          ap (λ n. bit_at n q == 1) parts.2 ∙ ap (λ d. d == 1) (bit_at_cat_low parts.0 (suc x) (2 ^ x) q under) ∙ pow_bit x q
+          ∙ or_none (q == x) (is_in q xs) (is_in-below (suc x) q xs rises.1 under)
+      | inr over ↦
+          let apart : (q == x) ≡ false = grind (arith, nat_tests, over) in
+          ap (λ n. bit_at n q == 1) parts.2
+          ∙ ap (λ d. d == 1) (bit_at_cat_high parts.0 (suc x) (2 ^ x) q (pow_below x (suc x) (omega arith)) over ∙ sym (bit_at_cat_high parts.0 (suc x) 0 q (pow_pos (suc x)) over))
+          ∙ ap (λ n. bit_at n q == 1) (sym parts.1) ∙ worth-bit (suc x) xs rises.1 q ∙ ap (λ t. t || is_in q xs) (sym apart)
+    ]
+
+-- how many digits of a list's worth are set
+worth-ones : (k : ℕ) (xs : List ℕ) → RisesFrom k xs → count_ones (worth xs) ≡ length xs
+unfolding worth count_ones
+worth-ones k [] rises = refl
+worth-ones k (x ∷ xs) rises =
+    let parts = worth-parts k x xs rises in
+    let all = ap count_ones parts.2 ∙ ones_cat (suc x) parts.0 (2 ^ x) (pow_below x (suc x) (omega arith)) in
+    let rest = sym (ap count_ones parts.1 ∙ ones_cat (suc x) parts.0 0 (pow_pos (suc x))) ∙ worth-ones (suc x) xs rises.1 in
+    omega (arith, all, rest, ones-pow x, ones-zero)
+
+pub number-within : (s : BitSet) (w : ℕ) → is_subset s (below w) ≡ true → number s < 2 ^ w
+unfolding number worth
+number-within s w sub =
+    let small : (q : ℕ) → is_in q (rising s) ≡ true → q < w = λ q one. ltb-true q w (sym (contains-below w q) ∙ is_subset-contains s (below w) sub q (contains-rising s q ∙ one)) in
+    omega (arith, worth-below 0 w (rising s) (rising-rises s) (omega arith) small)
+
+-- ---- the operations
+
+digit_and : (a b : ℕ) → a < 2 → b < 2 → (min a b == 1) ≡ ((a == 1) && (b == 1))
+digit_and a b p q = grind (arith, nat_tests)
+
+digit_or : (a b : ℕ) → a < 2 → b < 2 → (max a b == 1) ≡ ((a == 1) || (b == 1))
+digit_or a b p q = grind (arith, nat_tests)
+
+digit_xor : (a b : ℕ) → a < 2 → b < 2 → ((a + b) % 2 == 1) ≡ (((a == 1) && not (b == 1)) || ((b == 1) && not (a == 1)))
+digit_xor a b p q = grind (arith, nat_tests)
+
+digit_not : (b : ℕ) → b < 2 → (1 - b == 1) ≡ not (b == 1)
+digit_not b q = grind (arith, nat_tests)
+
+digit_is : (a b : ℕ) → a < 2 → b < 2 → (a == 1) ≡ (b == 1) → a ≡ b
+digit_is a b p q same = grind (arith, nat_tests)
+
+or_comm : (p q : Bool) → (p || q) ≡ (q || p)
+or_comm true true = refl
+or_comm true false = refl
+or_comm false true = refl
+or_comm false false = refl
+
+and_comm : (p q : Bool) → (p && q) ≡ (q && p)
+and_comm true true = refl
+and_comm true false = refl
+and_comm false true = refl
+and_comm false false = refl
+
+pub bits-zero : bits 0 ≡ empty
+bits-zero = bits_is 0 empty (λ q. ap (λ d. d == 1) (bit_at-zero q) ∙ sym (contains-empty q))
+
+pub bits-and : (a b : ℕ) → bits (bit_and a b) ≡ intersection (bits a) (bits b)
+bits-and a b = bits_is _ _ (λ q. ap (λ d. d == 1) (bit_at_and a b q) ∙ digit_and _ _ (bit_at-lt a q) (bit_at-lt b q) ∙ (λ i. sym (contains-bits a q) i && sym (contains-bits b q) i) ∙ sym (contains-intersection (bits a) (bits b) q))
+
+pub bits-or : (a b : ℕ) → bits (bit_or a b) ≡ union (bits a) (bits b)
+bits-or a b = bits_is _ _ (λ q. ap (λ d. d == 1) (bit_at_or a b q) ∙ digit_or _ _ (bit_at-lt a q) (bit_at-lt b q) ∙ (λ i. sym (contains-bits a q) i || sym (contains-bits b q) i) ∙ sym (contains-union (bits a) (bits b) q))
+
+pub bits-xor : (a b : ℕ) → bits (bit_xor a b) ≡ symmetric_difference (bits a) (bits b)
+bits-xor a b = bits_is _ _
+    (λ q. ap (λ d. d == 1) (bit_at_xor a b q) ∙ digit_xor _ _ (bit_at-lt a q) (bit_at-lt b q)
+    ∙ (λ i. (sym (contains-bits a q) i && not (sym (contains-bits b q) i)) || (sym (contains-bits b q) i && not (sym (contains-bits a q) i)))
+    ∙ sym (contains-symmetric_difference (bits a) (bits b) q))
+
+-- `!n` at a width
+pub bits-not : (w : Width) (n : ℕ) → n < 2 ^ width_bits w → bits (bit_not w n) ≡ difference (below (width_bits w)) (bits n)
+bits-not w n fits = bits_is _ _ (λ q. by q (cases_lt q (width_bits w)) ∙ (λ i. sym (contains-below (width_bits w) q) i && not (sym (contains-bits n q) i)) ∙ sym (contains-difference (below (width_bits w)) (bits n) q))
+  where
+    by : (q : ℕ) → (q < width_bits w) ⊎ (width_bits w ≤ q) → (bit_at (bit_not w n) q == 1) ≡ (nat_lt q (width_bits w) && not (bit_at n q == 1))
+    by q (inl under) = ap (λ d. d == 1) (bit_at_not w n q fits under) ∙ digit_not _ (bit_at-lt n q) ∙ ap (λ t. t && not (bit_at n q == 1)) (sym (lt-ltb q (width_bits w) under))
+    by q (inr over) =
+        let none : bit_at (bit_not w n) q ≡ 0 = bit_at_above (bit_not w n) (width_bits w) q (omega (arith, pow_pos (width_bits w))) over in
+        let past : nat_lt q (width_bits w) ≡ false = grind (arith, nat_tests, over) in
+        ap (λ d. d == 1) none ∙ ap (λ t. t && not (bit_at n q == 1)) (sym past)
+
+-- ---- a set and its number
+
+pub bits-number : (s : BitSet) → bits (number s) ≡ s
+unfolding number worth
+bits-number s = bits_is (number s) s (λ q. worth-bit 0 (rising s) (rising-rises s) q ∙ sym (contains-rising s q))
+
+pub number-bits : (n : ℕ) → number (bits n) ≡ n
+number-bits n = same_from_bits (number (bits n)) n (λ q. digit_is _ _ (bit_at-lt (number (bits n)) q) (bit_at-lt n q) (sym (contains-bits (number (bits n)) q) ∙ ap (λ s. contains s q) (bits-number (bits n)) ∙ contains-bits n q))
+
+number-empty : number empty ≡ 0
+unfolding number
+number-empty = ap (sum_by (λ b. 2 ^ b)) rising-empty
+
+pub bits_empty : (n : ℕ) → bits n ≡ empty → n ≡ 0
+bits_empty n none = sym (number-bits n) ∙ ap number none ∙ number-empty
+
+-- `n.count_ones()`
+pub len-bits : (n : ℕ) → len (bits n) ≡ count_ones n
+unfolding number worth
+len-bits n = len-rising (bits n) ∙ sym (worth-ones 0 (rising (bits n)) (rising-rises (bits n))) ∙ ap count_ones (number-bits n)
+
+-- ---- `a & !b`, and one bit
+
+absent_past : (a b c : Bool) → (a ≡ true → b ≡ true) → (a && (b && c)) ≡ (a && c)
+absent_past true b c h = ap (λ t. t && c) (h refl)
+absent_past false b c h = refl
+
+pub bits-and_not : (w : Width) (a b : ℕ) → a < 2 ^ width_bits w → b < 2 ^ width_bits w → bits (bit_and a (bit_not w b)) ≡ difference (bits a) (bits b)
+bits-and_not w a b fits_a fits_b =
+    bits-and a (bit_not w b) ∙ ap (intersection (bits a)) (bits-not w b fits_b)
+    ∙ same_set _ _
+    (λ q. contains-intersection (bits a) _ q
+    ∙ ap (λ t. contains (bits a) q && t) (contains-difference (below (width_bits w)) (bits b) q ∙ ap (λ t. t && not (contains (bits b) q)) (contains-below (width_bits w) q))
+    ∙ absent_past (contains (bits a) q) (nat_lt q (width_bits w)) (not (contains (bits b) q)) (λ one. lt-ltb q (width_bits w) (not_past a (width_bits w) q fits_a one))
+    ∙ sym (contains-difference (bits a) (bits b) q))
+
+contains-pow : (k q : ℕ) → contains (bits (2 ^ k)) q ≡ (q == k)
+contains-pow k q = contains-bits (2 ^ k) q ∙ pow_bit k q
+
+pub bits-set : (w : Width) (n k : ℕ) → n < 2 ^ width_bits w → k < width_bits w → bits (bit_or n (1 * 2 ^ k % 2 ^ width_bits w)) ≡ insert (bits n) k
+bits-set w n k fits within =
+    ap (λ m. bits (bit_or n m)) (one_shl k (width_bits w) within) ∙ bits-or n (2 ^ k)
+    ∙ same_set _ _ (λ q. contains-union (bits n) (bits (2 ^ k)) q ∙ ap (λ t. contains (bits n) q || t) (contains-pow k q) ∙ or_comm (contains (bits n) q) (q == k) ∙ sym (contains-insert (bits n) k q))
+
+pub bits-clear : (w : Width) (n k : ℕ) → n < 2 ^ width_bits w → k < width_bits w → bits (bit_and n (bit_not w (1 * 2 ^ k % 2 ^ width_bits w))) ≡ remove (bits n) k
+bits-clear w n k fits within =
+    ap (λ m. bits (bit_and n (bit_not w m))) (one_shl k (width_bits w) within) ∙ bits-and_not w n (2 ^ k) fits (pow_below k (width_bits w) within)
+    ∙ same_set _ _
+    (λ q. contains-difference (bits n) (bits (2 ^ k)) q ∙ ap (λ t. contains (bits n) q && not t) (contains-pow k q) ∙ and_comm (contains (bits n) q) (not (q == k)) ∙ sym (contains-remove (bits n) k q))
+
+digit_test : (d p : ℕ) → d < 2 → 0 < p → (d == 1) ≡ not (d * p == 0)
+digit_test zero p small some = ap (λ m. not (m == 0)) (sym (zero-mul p))
+digit_test (suc zero) p small some = grind (arith, nat_tests, one-mul p)
+digit_test (suc (suc d)) p small some = absurd (omega arith)
+
+pub bits-test : (w : Width) (n k : ℕ) → k < width_bits w → contains (bits n) k ≡ not (bit_and n (1 * 2 ^ k % 2 ^ width_bits w) == 0)
+bits-test w n k within =
+    contains-bits n k ∙ digit_test (bit_at n k) (2 ^ k) (bit_at-lt n k) (pow_pos k)
+    ∙ ap (λ m. not (m == 0)) (sym (and_pow n k)) ∙ ap (λ m. not (bit_and n m == 0)) (sym (one_shl k (width_bits w) within))
+
+-- ---- the least and the greatest
+
+-- `n.trailing_zeros()` is the least member, `WIDTH - 1 - n.leading_zeros()` the greatest
+pub least-bits : (w : Width) (n : ℕ) → 0 < n → n < 2 ^ width_bits w → (contains (bits n) (trailing_zeros w n) ≡ true) × ((q : ℕ) → q < trailing_zeros w n → contains (bits n) q ≡ false)
+least-bits w n some fits =
+    let lowest = bit_at-trailing_zeros w n some fits in
+    (contains-bits n _ ∙ ap (λ d. d == 1) lowest.1, λ q under. contains-bits n q ∙ ap (λ d. d == 1) (lowest.2 q under))
+
+top_bit : (n j : ℕ) → 2 ^ j ≤ n → n < 2 ^ suc j → bit_at n j ≡ 1
+top_bit n j from fits = omega (arith, le-div 1 n (2 ^ j) (pow_pos j) (omega (arith, from)), div_below n (2 ^ j) 2 (pow_pos j) (omega (arith, fits, pow-suc 2 j)))
+
+pub greatest-bits : (w : Width) (n : ℕ) → 0 < n → n < 2 ^ width_bits w → (leading_zeros w n < width_bits w) × (contains (bits n) (width_bits w - 1 - leading_zeros w n) ≡ true) × ((q : ℕ) → width_bits w - 1 - leading_zeros w n < q → contains (bits n) q ≡ false)
+greatest-bits w n some fits =
+    let top = leading_top (width_bits w) n some fits in
+    let place : width_bits w - 1 - leading_zeros w n ≡ top.0 = omega (arith, top.1) in (
+      omega (arith, top.1),
+      ap (contains (bits n)) place ∙ contains-bits n top.0 ∙ ap (λ d. d == 1) (top_bit n top.0 top.2 top.3),
+      λ q over. contains-bits n q ∙ ap (λ d. d == 1) (bit_at_above n (suc top.0) q top.3 (omega (arith, place, over))),
+    )
+
+-- ---- the low bits, and those from a place on
+
+-- `n % 2 ^ k`
+pub bits-low : (n k : ℕ) → bits (n % 2 ^ k) ≡ low (bits n) k
+bits-low n k = bits_is _ _ (λ q. by q (cases_lt q k) ∙ ap (λ t. t && nat_lt q k) (sym (contains-bits n q)) ∙ sym (contains-low (bits n) k q))
+  where
+    by : (q : ℕ) → (q < k) ⊎ (k ≤ q) → (bit_at (n % 2 ^ k) q == 1) ≡ ((bit_at n q == 1) && nat_lt q k)
+    by q (inl under) =
+        ap (λ d. d == 1) (sym (ap (λ m. bit_at m q) (sym (shr_split n k)) ∙ bit_at_cat_low (n / 2 ^ k) k (n % 2 ^ k) q under))
+        ∙ sym (and-true (bit_at n q == 1)) ∙ ap (λ t. (bit_at n q == 1) && t) (sym (lt-ltb q k under))
+    by q (inr over) =
+        let past : nat_lt q k ≡ false = grind (arith, nat_tests, over) in
+        ap (λ d. d == 1) (bit_at_above (n % 2 ^ k) k q (mod_below n (2 ^ k) (pow_pos k)) over) ∙ sym (and_false (bit_at n q == 1) false refl) ∙ ap (λ t. (bit_at n q == 1) && t) (sym past)
+
+-- n / 2 ^ k has the bits from k on, moved down
+pub contains-bits-shifted : (n k b : ℕ) → contains (bits (n / 2 ^ k)) b ≡ contains (bits n) (k + b)
+contains-bits-shifted n k b = contains-bits (n / 2 ^ k) b ∙ ap (λ m. m % 2 == 1) (shr-shr n k b) ∙ sym (contains-bits n (k + b))
+
+-- `n & ((1 << k) - 1)`
+pub bits-low_mask : (w : Width) (n k : ℕ) → k < width_bits w → bits (bit_and n (1 * 2 ^ k % 2 ^ width_bits w - 1)) ≡ low (bits n) k
+bits-low_mask w n k within = ap (λ m. bits (bit_and n (m - 1))) (one_shl k (width_bits w) within) ∙ ap bits (and_mask n k) ∙ bits-low n k
+
+-- ---- the laws that speak of a width, at each width, for a tactic, which reads no width off a numeral
+
+abbrev NotLaw : Width → Type 0
+NotLaw w = (n : ℕ) → n < 2 ^ width_bits w → bits (bit_not w n) ≡ difference (below (width_bits w)) (bits n)
+
+abbrev AndNotLaw : Width → Type 0
+AndNotLaw w = (a b : ℕ) → a < 2 ^ width_bits w → b < 2 ^ width_bits w → bits (bit_and a (bit_not w b)) ≡ difference (bits a) (bits b)
+
+abbrev SetLaw : Width → Type 0
+SetLaw w = (n k : ℕ) → n < 2 ^ width_bits w → k < width_bits w → bits (bit_or n (1 * 2 ^ k % 2 ^ width_bits w)) ≡ insert (bits n) k
+
+abbrev ClearLaw : Width → Type 0
+ClearLaw w = (n k : ℕ) → n < 2 ^ width_bits w → k < width_bits w → bits (bit_and n (bit_not w (1 * 2 ^ k % 2 ^ width_bits w))) ≡ remove (bits n) k
+
+abbrev TestLaw : Width → Type 0
+TestLaw w = (n k : ℕ) → k < width_bits w → contains (bits n) k ≡ not (bit_and n (1 * 2 ^ k % 2 ^ width_bits w) == 0)
+
+abbrev LeastLaw : Width → Type 0
+LeastLaw w = (n : ℕ) → 0 < n → n < 2 ^ width_bits w → contains (bits n) (trailing_zeros w n) ≡ true
+
+abbrev BeforeLaw : Width → Type 0
+BeforeLaw w = (n : ℕ) → 0 < n → n < 2 ^ width_bits w → (q : ℕ) → q < trailing_zeros w n → contains (bits n) q ≡ false
+
+abbrev GreatestLaw : Width → Type 0
+GreatestLaw w = (n : ℕ) → 0 < n → n < 2 ^ width_bits w → (leading_zeros w n < width_bits w) × (contains (bits n) (width_bits w - 1 - leading_zeros w n) ≡ true) × ((q : ℕ) → width_bits w - 1 - leading_zeros w n < q → contains (bits n) q ≡ false)
+
+abbrev MaskLaw : Width → Type 0
+MaskLaw w = (n k : ℕ) → k < width_bits w → bits (bit_and n (1 * 2 ^ k % 2 ^ width_bits w - 1)) ≡ low (bits n) k
+
+pub bits-not_8 : NotLaw w8
+bits-not_8 = bits-not w8
+
+pub bits-and_not_8 : AndNotLaw w8
+bits-and_not_8 = bits-and_not w8
+
+pub bits-set_8 : SetLaw w8
+bits-set_8 = bits-set w8
+
+pub bits-clear_8 : ClearLaw w8
+bits-clear_8 = bits-clear w8
+
+pub bits-test_8 : TestLaw w8
+bits-test_8 = bits-test w8
+
+pub least-bits_8 : LeastLaw w8
+least-bits_8 n some fits = (least-bits w8 n some fits).0
+
+pub before_least-bits_8 : BeforeLaw w8
+before_least-bits_8 n some fits = (least-bits w8 n some fits).1
+
+pub greatest-bits_8 : GreatestLaw w8
+greatest-bits_8 = greatest-bits w8
+
+pub bits-low_mask_8 : MaskLaw w8
+bits-low_mask_8 = bits-low_mask w8
+
+pub bits-not_16 : NotLaw w16
+bits-not_16 = bits-not w16
+
+pub bits-and_not_16 : AndNotLaw w16
+bits-and_not_16 = bits-and_not w16
+
+pub bits-set_16 : SetLaw w16
+bits-set_16 = bits-set w16
+
+pub bits-clear_16 : ClearLaw w16
+bits-clear_16 = bits-clear w16
+
+pub bits-test_16 : TestLaw w16
+bits-test_16 = bits-test w16
+
+pub least-bits_16 : LeastLaw w16
+least-bits_16 n some fits = (least-bits w16 n some fits).0
+
+pub before_least-bits_16 : BeforeLaw w16
+before_least-bits_16 n some fits = (least-bits w16 n some fits).1
+
+pub greatest-bits_16 : GreatestLaw w16
+greatest-bits_16 = greatest-bits w16
+
+pub bits-low_mask_16 : MaskLaw w16
+bits-low_mask_16 = bits-low_mask w16
+
+pub bits-not_32 : NotLaw w32
+bits-not_32 = bits-not w32
+
+pub bits-and_not_32 : AndNotLaw w32
+bits-and_not_32 = bits-and_not w32
+
+pub bits-set_32 : SetLaw w32
+bits-set_32 = bits-set w32
+
+pub bits-clear_32 : ClearLaw w32
+bits-clear_32 = bits-clear w32
+
+pub bits-test_32 : TestLaw w32
+bits-test_32 = bits-test w32
+
+pub least-bits_32 : LeastLaw w32
+least-bits_32 n some fits = (least-bits w32 n some fits).0
+
+pub before_least-bits_32 : BeforeLaw w32
+before_least-bits_32 n some fits = (least-bits w32 n some fits).1
+
+pub greatest-bits_32 : GreatestLaw w32
+greatest-bits_32 = greatest-bits w32
+
+pub bits-low_mask_32 : MaskLaw w32
+bits-low_mask_32 = bits-low_mask w32
+
+pub bits-not_64 : NotLaw w64
+bits-not_64 = bits-not w64
+
+pub bits-and_not_64 : AndNotLaw w64
+bits-and_not_64 = bits-and_not w64
+
+pub bits-set_64 : SetLaw w64
+bits-set_64 = bits-set w64
+
+pub bits-clear_64 : ClearLaw w64
+bits-clear_64 = bits-clear w64
+
+pub bits-test_64 : TestLaw w64
+bits-test_64 = bits-test w64
+
+pub least-bits_64 : LeastLaw w64
+least-bits_64 n some fits = (least-bits w64 n some fits).0
+
+pub before_least-bits_64 : BeforeLaw w64
+before_least-bits_64 n some fits = (least-bits w64 n some fits).1
+
+pub greatest-bits_64 : GreatestLaw w64
+greatest-bits_64 = greatest-bits w64
+
+pub bits-low_mask_64 : MaskLaw w64
+bits-low_mask_64 = bits-low_mask w64
+
+pub bits-not_128 : NotLaw w128
+bits-not_128 = bits-not w128
+
+pub bits-and_not_128 : AndNotLaw w128
+bits-and_not_128 = bits-and_not w128
+
+pub bits-set_128 : SetLaw w128
+bits-set_128 = bits-set w128
+
+pub bits-clear_128 : ClearLaw w128
+bits-clear_128 = bits-clear w128
+
+pub bits-test_128 : TestLaw w128
+bits-test_128 = bits-test w128
+
+pub least-bits_128 : LeastLaw w128
+least-bits_128 n some fits = (least-bits w128 n some fits).0
+
+pub before_least-bits_128 : BeforeLaw w128
+before_least-bits_128 n some fits = (least-bits w128 n some fits).1
+
+pub greatest-bits_128 : GreatestLaw w128
+greatest-bits_128 = greatest-bits w128
+
+pub bits-low_mask_128 : MaskLaw w128
+bits-low_mask_128 = bits-low_mask w128
+
+-- What a function on numbers of a width wants: `#[tactic(auto, using(crate::proofs::Numbers::numbers_64))]`. `on_numbers` has the laws that speak of no width.
+pub ruleset on_numbers = (bits-and, bits-or, bits-xor, len-bits, bits-low, contains-bits-shifted, bits-zero, bits_empty)
+
+pub ruleset numbers_8 = (on_numbers, bits-not_8, bits-and_not_8, bits-set_8, bits-clear_8, bits-test_8, least-bits_8, before_least-bits_8, greatest-bits_8, bits-low_mask_8)
+
+pub ruleset numbers_16 = (on_numbers, bits-not_16, bits-and_not_16, bits-set_16, bits-clear_16, bits-test_16, least-bits_16, before_least-bits_16, greatest-bits_16, bits-low_mask_16)
+
+pub ruleset numbers_32 = (on_numbers, bits-not_32, bits-and_not_32, bits-set_32, bits-clear_32, bits-test_32, least-bits_32, before_least-bits_32, greatest-bits_32, bits-low_mask_32)
+
+pub ruleset numbers_64 = (on_numbers, bits-not_64, bits-and_not_64, bits-set_64, bits-clear_64, bits-test_64, least-bits_64, before_least-bits_64, greatest-bits_64, bits-low_mask_64)
+
+pub ruleset numbers_128 = (on_numbers, bits-not_128, bits-and_not_128, bits-set_128, bits-clear_128, bits-test_128, least-bits_128, before_least-bits_128, greatest-bits_128, bits-low_mask_128)
