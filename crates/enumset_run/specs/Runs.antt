@@ -25,8 +25,14 @@ abbrev pub coded_state : Coded State
 coded_state = code_by (List BitSet × List (List ℕ)) (coded× (coded_list set.coded_set) (coded_list (coded_list coded_ℕ))) (λ s. (s.sets, s.lists)) (λ p. record { sets = p.0; lists = p.1 }) (λ _. refl)
 
 -- four sets and two lists, all empty
+abbrev pub no_sets : List BitSet
+no_sets = set.empty ∷ set.empty ∷ set.empty ∷ set.empty ∷ []
+
+abbrev pub no_lists : List (List ℕ)
+no_lists = [] ∷ [] ∷ []
+
 abbrev pub start : State
-start = record { sets = set.empty ∷ set.empty ∷ set.empty ∷ set.empty ∷ []; lists = [] ∷ [] ∷ [] }
+start = record { sets = no_sets; lists = no_lists }
 
 abbrev pub set_at : State → ℕ → BitSet
 set_at s r = slice_index_or s.sets r set.empty
@@ -71,10 +77,15 @@ names_bits valid (Left i) = true
 abbrev pub refusal : BitSet → Command → Option Refusal
 refusal valid c = if not (names_registers c) then Some NoRegister else if not (names_bits valid c) then Some NotABit else None
 
--- the first of a list, as a reply
-abbrev pub first_bit : List ℕ → Reply
-first_bit [] = Absent
-first_bit (b ∷ bs) = Bit b
+-- the first of a list
+abbrev pub first_of : List ℕ → Option ℕ
+first_of [] = None
+first_of (b ∷ bs) = Some b
+
+-- what a step replies
+abbrev pub bit_or_absent : Option ℕ → Reply
+bit_or_absent None = Absent
+bit_or_absent (Some b) = Bit b
 
 -- a list without its first
 abbrev pub without_first : List ℕ → List ℕ
@@ -88,7 +99,7 @@ reply_of s (Contains r bit) = Truth (set.contains (set_at s r) bit)
 reply_of s (Len r) = Count (set.len (set_at s r))
 reply_of s (Complement to a) = Done
 reply_of s (Iter i r) = Done
-reply_of s (Next i) = first_bit (list_at s i)
+reply_of s (Next i) = bit_or_absent (first_of (list_at s i))
 reply_of s (Left i) = Count (length (list_at s i))
 
 -- the state that such a command leaves

@@ -1,14 +1,14 @@
 //! The machine that carries out commands.
 
-ghost use Rattle.std.specs.Prelude.{◌≡◌, ◌<◌, ◌↔◌, IsTrue, IfOk, IsOk, MatchResult, length, nat_lt, false};
+ghost use Rattle.std.specs.Prelude.{◌≡◌, ◌<◌, ◌↔◌, IsTrue, IfOk, IsOk, OnErr, MatchResult, length, nat_lt, true, false, slice_set, slice_index_or};
 ghost use Rattle.enumset_repr.specs.BitSet as set;
 
 use crate::command::Command;
+use crate::registers::{IteratorRegisters, SetRegisters};
 use crate::reply::{Refusal, Reply};
 use enumset_repr::repr::EnumSetTypeRepr;
 use enumset_sets::element::EnumSetType;
 use enumset_sets::enum_set::EnumSet;
-use enumset_sets::enum_set_iter::EnumSetIter;
 use std::alloc::{AllocError, Global};
 use std::marker::Model;
 
@@ -17,12 +17,11 @@ use std::marker::Model;
 /// Contracts see the sets of bit numbers, and the lists of what the iterators have still to give.
 #[derive(Drop)]
 pub struct Machine<T: EnumSetType> {
-    sets: [EnumSet<T>; 4],
-    iterators: [EnumSetIter<T>; 2],
+    sets: SetRegisters<T>,
+    iterators: IteratorRegisters<T>,
 }
 
 impl<T: EnumSetType> Model for Machine<T> {
-    ghost use Rattle.std.specs.Prelude.{◌≡◌, length};
     ghost use Rattle.enumset_run.specs.Runs.{State, coded_state};
 
     ghost Value = { State };
@@ -30,8 +29,6 @@ impl<T: EnumSetType> Model for Machine<T> {
     ghost coded = { coded_state };
 
     ghost view = { λ m. record { sets = m.sets; lists = m.iterators } };
-
-    ghost invariant = { λ m. (length m.sets ≡ 4) × (length m.iterators ≡ 2) };
 }
 
 impl<T: EnumSetType> Machine<T> {
@@ -42,59 +39,92 @@ impl<T: EnumSetType> Machine<T> {
     pub fn new() -> Machine<T>
         ensures { result ≡ start }
     {
-        let empty = EnumSet::new();
         Machine {
-            sets: [empty; 4],
-            iterators: [empty.iter(), empty.iter()],
+            sets: SetRegisters::new(),
+            iterators: IteratorRegisters::new(),
+        }
+    }
+
+    /// Carries out one command. No command here takes memory.
+    pub fn step(&mut self, alloc: Global, command: &Command) -> Result<Reply, AllocError>
+        ensures succeeds { IsOk result }
+        ensures step { IfOk result (λ reply. outcome (T.Repr.members T.ALL_BITS) self.old command.now
+            ≡ record { reply = reply; state = self.new }) }
+        ensures err { OnErr result (self.new ≡ self.old) }
+    {
+        let _ = alloc;
+        Ok(match self.carry_out(command) {
+            Ok(reply) => reply,
+            Err(refusal) => Reply::Refused(refusal),
+        })
+    }
+
+    fn carry_out(&mut self, command: &Command) -> Result<Reply, Refusal>
+        ensures { outcome (T.Repr.members T.ALL_BITS) self.old command.now
+            ≡ record { reply = reply_or_refused result; state = self.new } }
+    {
+        match *command {
+            Command::Insert { r, bit } => self.insert(r, bit),
+            Command::Contains { r, bit } => self.contains(r, bit),
+            Command::Len { r } => self.len(r),
+            Command::Complement { to, a } => self.complement(to, a),
+            Command::Iter { i, r } => self.iter(i, r),
+            Command::Next { i } => self.next(i),
+            Command::Left { i } => self.left(i),
         }
     }
 
     fn insert(&mut self, r: u8, bit: u32) -> Result<Reply, Refusal>
         ensures { outcome (T.Repr.members T.ALL_BITS) self.old (Insert r bit) ≡ record { reply = reply_or_refused result; state = self.new } }
     {
-        let r = set_register(r)?;
-        let element = element_of::<T>(bit)?;
-        Ok(Reply::Truth(self.sets[r].insert(element)))
+        let mut elements = self.sets.get(r)?;
+        let is_new = elements.insert(element_of(bit)?);
+        self.sets.put(r, elements)?;
+        Ok(Reply::Truth(is_new))
     }
 
     fn contains(&self, r: u8, bit: u32) -> Result<Reply, Refusal>
         ensures { outcome (T.Repr.members T.ALL_BITS) self.now (Contains r bit) ≡ record { reply = reply_or_refused result; state = self.now } }
     {
-        let r = set_register(r)?;
-        let element = element_of::<T>(bit)?;
-        Ok(Reply::Truth(self.sets[r].contains(element)))
+        let elements = self.sets.get(r)?;
+        Ok(Reply::Truth(elements.contains(element_of(bit)?)))
+    }
+
+    fn len(&self, r: u8) -> Result<Reply, Refusal>
+        ensures { outcome (T.Repr.members T.ALL_BITS) self.now (Len r) ≡ record { reply = reply_or_refused result; state = self.now } }
+    {
+        Ok(Reply::Count(self.sets.get(r)?.len() as u64))
+    }
+
+    fn complement(&mut self, to: u8, a: u8) -> Result<Reply, Refusal>
+        ensures { outcome (T.Repr.members T.ALL_BITS) self.old (Complement to a) ≡ record { reply = reply_or_refused result; state = self.new } }
+    {
+        let elements = self.sets.get(a)?;
+        self.sets.put(to, elements.complement())?;
+        Ok(Reply::Done)
+    }
+
+    fn iter(&mut self, i: u8, r: u8) -> Result<Reply, Refusal>
+        ensures { outcome (T.Repr.members T.ALL_BITS) self.old (Iter i r) ≡ record { reply = reply_or_refused result; state = self.new } }
+    {
+        let elements = self.sets.get(r)?;
+        self.iterators.put(i, elements.iter())?;
+        Ok(Reply::Done)
     }
 
     fn next(&mut self, i: u8) -> Result<Reply, Refusal>
         ensures { outcome (T.Repr.members T.ALL_BITS) self.old (Next i) ≡ record { reply = reply_or_refused result; state = self.new } }
     {
-        let i = iterator_register(i)?;
-        Ok(match self.iterators[i].next() {
+        Ok(match self.iterators.next(i)? {
             Some(element) => Reply::Bit(element.enum_into_u32()),
             None => Reply::Absent,
         })
     }
-}
 
-// The place of a set register.
-fn set_register(r: u8) -> Result<usize, Refusal>
-    ensures { MatchResult result (λ place. (place ≡ r) × (r < 4)) (λ refused. (refused ≡ Refusal.NoRegister) × (nat_lt r 4 ≡ false)) }
-{
-    if r < 4 {
-        Ok(r as usize)
-    } else {
-        Err(Refusal::NoRegister)
-    }
-}
-
-// The place of an iterator register.
-fn iterator_register(i: u8) -> Result<usize, Refusal>
-    ensures { MatchResult result (λ place. (place ≡ i) × (i < 2)) (λ refused. (refused ≡ Refusal.NoRegister) × (nat_lt i 2 ≡ false)) }
-{
-    if i < 2 {
-        Ok(i as usize)
-    } else {
-        Err(Refusal::NoRegister)
+    fn left(&self, i: u8) -> Result<Reply, Refusal>
+        ensures { outcome (T.Repr.members T.ALL_BITS) self.now (Left i) ≡ record { reply = reply_or_refused result; state = self.now } }
+    {
+        Ok(Reply::Count(self.iterators.left(i)? as u64))
     }
 }
 

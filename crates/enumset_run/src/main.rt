@@ -3,6 +3,8 @@
 
 mod command;
 mod machine;
+mod registers;
 mod reply;
+mod runs;
 
 fn main() {}

@@ -105,3 +105,7 @@ lawful D bare bits all width count valid test =
 pub AreBitsOf-rising : (bits : List ℕ) (all s : BitSet) → all ≡ from_list bits → is_subset s all ≡ true → AreBitsOf bits (rising s)
 AreBitsOf-rising bits all s valid sub =
     list_all-each (λ b. is_in b bits) (rising s) (λ q one. sym (contains-from_list bits q) ∙ sym (ap (λ t. contains t q) valid) ∙ is_subset-contains s all sub q (contains-rising s q ∙ one))
+
+-- a valid bit is the bit of a variant
+pub valid-is_in : (bits : List ℕ) (all : BitSet) (b : ℕ) → all ≡ from_list bits → contains all b ≡ true → is_in b bits ≡ true
+valid-is_in bits all b valid in_all = sym (contains-from_list bits b) ∙ sym (ap (λ s. contains s b) valid) ∙ in_all

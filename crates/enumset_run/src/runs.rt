@@ -1,0 +1,24 @@
+//! Runs of commands.
+
+ghost use Rattle.std.specs.Prelude.{◌≡◌, IfOk};
+
+use crate::command::Command;
+use crate::machine::Machine;
+use crate::reply::Reply;
+use enumset_sets::element::EnumSetType;
+use std::alloc::{AllocError, Global};
+
+ghost use Rattle.enumset_run.specs.Runs.{replies};
+
+/// Carries out commands in order by the steps of a new machine: one reply a command, as finite sets of
+/// bit numbers answer. The only error is want of memory for the replies.
+pub fn run<T: EnumSetType>(alloc: Global, commands: &[Command]) -> Result<Vec<Reply>, AllocError>
+    ensures { IfOk result (λ answers. answers.items ≡ replies (T.Repr.members T.ALL_BITS) commands.now) }
+{
+    let mut machine = Machine::<T>::new();
+    let mut replies = Vec::new(alloc);
+    for command in commands {
+        replies.push(machine.step(alloc, command)?)?;
+    }
+    Ok(replies)
+}
