@@ -4,6 +4,7 @@
 --     contains, rising, len      whether a number is a member;  the members, each once, rising;  how many they are
 --     empty, insert, remove, retain, union, intersection, difference, symmetric_difference      as Rust's `BTreeSet`
 --     only      the set of one number
+--     is_empty      whether there is no member
 --     is_subset, is_disjoint, is_same      whether each member of the one is a member of the other;  none is;  they have the same members
 --     below, low      the numbers below one;  the members below one
 --     from_list      the set of a list's numbers
@@ -78,6 +79,10 @@ symmetric_difference s t = union (difference s t) (difference t s)
 -- whether each member of s is one of t
 unfoldable pub is_subset : BitSet → BitSet → Bool
 is_subset s t = list_all (contains t) (rising s)
+
+-- whether there is no member
+unfoldable pub is_empty : BitSet → Bool
+is_empty s = len s == 0
 
 -- whether no member of s is one of t
 unfoldable pub is_disjoint : BitSet → BitSet → Bool

@@ -2,22 +2,56 @@
 
 /// One command of a run over four set registers, 0 to 3, and two iterator registers, 0 and 1.
 ///
-/// The fields `to`, `a` and `r` name set registers, `i` an iterator register, and `bit` is the
+/// The fields `to`, `a`, `b` and `r` name set registers, `i` an iterator register, and `bit` is the
 /// number of a bit.
 #[derive(Clone, Copy, Debug, PartialEq, Eq)]
 pub enum Command {
+    /// `new r`: empties a set.
+    New { r: u8 },
+    /// `all r`: makes a set the set of all valid bits.
+    All { r: u8 },
+    /// `only r bit`: makes a set the set of one bit.
+    Only { r: u8, bit: u32 },
     /// `insert r bit`: puts the bit into a set, and replies whether it was absent.
     Insert { r: u8, bit: u32 },
+    /// `remove r bit`: takes the bit out of a set, and replies whether it was present.
+    Remove { r: u8, bit: u32 },
     /// `contains r bit`: replies whether the bit is a member.
     Contains { r: u8, bit: u32 },
+    /// `clear r`: takes all members out of a set.
+    Clear { r: u8 },
     /// `len r`: replies how many members a set has.
     Len { r: u8 },
+    /// `empty r`: replies whether a set has no member.
+    IsEmpty { r: u8 },
+    /// `union to a b`: puts the members of either into `to`.
+    Union { to: u8, a: u8, b: u8 },
+    /// `intersection to a b`: puts the members of both into `to`.
+    Intersection { to: u8, a: u8, b: u8 },
+    /// `difference to a b`: puts the members of `a` that are not in `b` into `to`.
+    Difference { to: u8, a: u8, b: u8 },
+    /// `symmetric to a b`: puts the members of just one of the two into `to`.
+    SymmetricDifference { to: u8, a: u8, b: u8 },
     /// `complement to a`: puts the valid bits that are not in `a` into `to`.
     Complement { to: u8, a: u8 },
+    /// `insert_all r a`: makes each member of `a` a member of `r`.
+    InsertAll { r: u8, a: u8 },
+    /// `remove_all r a`: takes each member of `a` out of `r`.
+    RemoveAll { r: u8, a: u8 },
+    /// `disjoint a b`: replies whether the two have no common member.
+    Disjoint { a: u8, b: u8 },
+    /// `superset a b`: replies whether each member of `b` is one of `a`.
+    Superset { a: u8, b: u8 },
+    /// `subset a b`: replies whether each member of `a` is one of `b`.
+    Subset { a: u8, b: u8 },
+    /// `equal a b`: replies whether the two have the same members.
+    Equal { a: u8, b: u8 },
     /// `iter i r`: puts an iterator over the members that `r` has now into `i`.
     Iter { i: u8, r: u8 },
     /// `next i`: one step from the front.
     Next { i: u8 },
+    /// `next_back i`: one step from the back.
+    NextBack { i: u8 },
     /// `left i`: replies how many items an iterator has still to give.
     Left { i: u8 },
 }

@@ -2,7 +2,7 @@
 
 ghost use Rattle.std.specs.Prelude.{◌≡◌, MatchResult, nat_lt, true, false, slice_set, slice_index_or, [], length};
 ghost use Rattle.enumset_repr.specs.BitSet as set;
-ghost use Rattle.enumset_run.specs.Runs.{first_of, without_first};
+ghost use Rattle.enumset_run.specs.Runs.{first_of, last_of, without_first, without_last};
 
 use crate::reply::Refusal;
 use enumset_sets::element::EnumSetType;
@@ -147,6 +147,22 @@ impl<T: EnumSetType> IteratorRegisters<T> {
         match i {
             0 => Ok(self.zero.next()),
             1 => Ok(self.one.next()),
+            _ => Err(Refusal::NoRegister),
+        }
+    }
+
+    #[tactic(auto, using(crate::proofs::Lists::lasts))]
+    /// One step from the back of the iterator in a register, if there is one.
+    pub fn next_back(&mut self, i: u8) -> Result<Option<T>, Refusal>
+        ensures { MatchResult result
+            (λ given. (nat_lt i 2 ≡ true)
+                × (option_map T.bit given ≡ last_of (slice_index_or self.old i []))
+                × (self.new ≡ slice_set self.old i (without_last (slice_index_or self.old i []))))
+            (λ refused. (nat_lt i 2 ≡ false) × (refused ≡ Refusal.NoRegister) × (self.new ≡ self.old)) }
+    {
+        match i {
+            0 => Ok(self.zero.next_back()),
+            1 => Ok(self.one.next_back()),
             _ => Err(Refusal::NoRegister),
         }
     }

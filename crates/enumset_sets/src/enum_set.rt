@@ -203,7 +203,7 @@ impl<T: EnumSetType> EnumSet<T> {
 
     /// Whether there is no member.
     pub fn is_empty(&self) -> bool
-        ensures { IsTrue result ↔ (self.now ≡ set.empty) }
+        ensures { result ≡ set.is_empty self.now }
     {
         self.repr.is_empty()
     }

@@ -3,7 +3,7 @@
 --     rising_is      a list that rises and has a set's members is `rising` of the set
 --     rising-..      `rising` of a set with a least or a greatest member
 --     len-..      what `len` answers
-use Rattle.std.proofs.Common.{◌≡◌, ◌<◌, ◌≤◌, ◌≢◌, ℕ, suc, zero, ◌+◌, ◌-◌, Bool, true, false, cond, not, ◌&&◌, ◌||◌, List, [], ◌∷◌, ◌++◌, refl, sym, ap, subst, ◌∙◌, length, arith, true≢false, T, map, inl, inr, ◌⊎◌}
+use Rattle.std.proofs.Common.{◌≡◌, ◌<◌, ◌≤◌, ◌≢◌, ℕ, suc, zero, ◌+◌, ◌-◌, Bool, true, false, cond, not, ◌&&◌, ◌||◌, List, [], ◌∷◌, ◌++◌, refl, sym, ap, subst, ◌∙◌, length, arith, true≢false, T, map, inl, inr, ◌⊎◌, ◌↔◌}
 use Rattle.std.specs.Prelude.{◌==◌, nat_lt}
 use Rattle.std.specs.List.{list_any}
 use Rattle.std.specs.Ordering.{nat_cmp, is_lt}
@@ -16,7 +16,7 @@ use Rattle.std.specs.FinMap as fin
 use Rattle.std.specs.FinMap.{is_sorted}
 use Rattle.std.proofs.lemmas.Bool.{ltb-true, lt-ltb, or_cases}
 use Rattle.std.proofs.lemmas.Bool.Decides.{nat_tests}
-use Rattle.enumset_repr.specs.BitSet.{is_in, BitSet, contains, rising, len, empty, insert, remove, is_subset, below}
+use Rattle.enumset_repr.specs.BitSet.{is_in, BitSet, contains, rising, len, is_empty, empty, insert, remove, is_subset, below}
 use Rattle.enumset_repr.specs.Laws.Members.{members, same_set, same_test, same_number, itself, both, or_swap, or_left, or_right, contains-empty, contains-rising, contains-remove, contains-insert, contains-below, is_subset-contains}
 
 -- the list rises strictly, and its first is at least k
@@ -150,6 +150,10 @@ rising-last s m one greatest =
     rising_is s _ (rises-push 0 m _ (omega arith) (rising-rises (remove s m)) earlier)
     (λ q. back_in s m q one ∙ ap (λ b. (q == m) || b) (contains-rising (remove s m) q) ∙ sym (is_in-push q m _))
 
+empty_of_len : (s : BitSet) → len s ≡ 0 → s ≡ empty
+unfolding len empty
+empty_of_len s e = fin.empty_of_len s e
+
 -- a set whose list is empty has no member
 pub empty_of_rising : (s : BitSet) → rising s ≡ [] → s ≡ empty
 empty_of_rising s e = same_set s empty (λ q. contains-rising s q ∙ ap (is_in q) e ∙ sym (contains-empty q))
@@ -165,3 +169,11 @@ pub len-below : (s : BitSet) (n : ℕ) → is_subset s (below n) ≡ true → le
 len-below s n sub =
     let small : (q : ℕ) → is_in q (rising s) ≡ true → q < n = λ q one. ltb-true q n (sym (contains-below n q) ∙ is_subset-contains s (below n) sub q (contains-rising s q ∙ one)) in
     omega (arith, len-rising s, length-rises 0 n (rising s) (rising-rises s) (omega arith) small)
+
+-- a set has no member exactly if it is the empty one
+pub is_empty_iff : (s : BitSet) → (is_empty s ≡ true) ↔ (s ≡ empty)
+unfolding is_empty
+is_empty_iff s = (
+    λ none. empty_of_len s (same_number (len s) 0 none),
+    λ e. ap (λ n. n == 0) (ap len e ∙ len-empty)
+  )
