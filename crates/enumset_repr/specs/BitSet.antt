@@ -8,9 +8,9 @@
 --     is_subset, is_disjoint, is_same      whether each member of the one is a member of the other;  none is;  they have the same members
 --     below, low      the numbers below one;  the members below one
 --     from_list      the set of a list's numbers
--- `proofs/Members.antt` and `proofs/Rising.antt` have the laws of these words: what `contains` answers at
+-- `Laws/Members.antt` and `Laws/Rising.antt` have the laws of these words: what `contains` answers at
 -- each, that two sets with the same members are one, and what `len` and `rising` are.
-use Rattle.std.specs.Prelude.{◌≡◌, ℕ, suc, zero, ◌+◌, ◌-◌, Bool, true, false, not, ◌&&◌, ◌||◌, ◌==◌, nat_lt, List, [], ◌∷◌, is_some, nat_eq, if◌then◌else◌, Some, None}
+use Rattle.std.specs.Prelude.{ℕ, suc, zero, Bool, not, ◌&&◌, ◌==◌, nat_lt, List, [], ◌∷◌}
 use Rattle.std.specs.List.{list_any, list_all}
 use Rattle.std.specs.Ordering.{nat_cmp}
 use Rattle.std.specs.FinMap as map

@@ -4,7 +4,13 @@
 --     Rising      the list of the members, and `len`
 --     Equality      `is_same` is an equivalence
 --     Numbers      sets and numbers, over every width
+--     Ends      the least and the greatest member
+--     Words      words of 64 bits
+--     Integers      the laws of an integer as a store
 pub mod Members
 pub mod Rising
 pub mod Equality
 pub mod Numbers
+pub mod Ends
+pub mod Words
+pub mod Integers

@@ -1,4 +1,5 @@
 pub mod BitSet
 pub mod Number
 pub mod Words
+pub mod Ends
 pub mod Laws

@@ -1,7 +1,7 @@
 -- Sets and the numbers that stand for them.
 --     number      the sum of 2 ^ b over the members b
 --     bits      the set whose number it is: the places of the ones, written in base two
-use Rattle.std.specs.Prelude.{◌≡◌, ℕ, ◌+◌, ◌^◌, ◌==◌, sum_by}
+use Rattle.std.specs.Prelude.{ℕ, ◌^◌, ◌==◌, sum_by}
 use Rattle.std.specs.Int.{bit_at}
 use Rattle.enumset_repr.specs.BitSet.{BitSet, below, retain, rising}
 

@@ -1,14 +1,14 @@
 -- The laws of sets by membership: what `contains` answers at each word of `BitSet`.
-use Rattle.std.proofs.Common.{◌≡◌, ◌<◌, ◌≤◌, ◌≢◌, ℕ, suc, zero, ◌+◌, ◌-◌, Bool, true, false, cond, not, ◌&&◌, ◌||◌, List, [], ◌∷◌, Option, Some, None, refl, sym, ap, subst, true≢false, ◌∙◌, length, arith, inl, inr, ◌⊎◌}
-use Rattle.std.specs.Prelude.{◌==◌, nat_lt, is_some, IsTrue, ◌↔◌}
+use Rattle.std.proofs.Common.{◌≡◌, ◌<◌, ◌≤◌, ℕ, suc, zero, Bool, true, false, cond, not, ◌&&◌, ◌||◌, List, [], ◌∷◌, Option, Some, None, refl, sym, ap, subst, true≢false, ◌∙◌, arith, inl, inr}
+use Rattle.std.specs.Prelude.{◌==◌, nat_lt, is_some, ◌↔◌}
 use Rattle.std.specs.List.{list_any, list_all}
-use Rattle.std.specs.Ordering.{nat_cmp, eq_by_cmp}
+use Rattle.std.specs.Ordering.{nat_cmp}
 use Rattle.std.specs.Cmp.{nat_cmp_total, unsigned_tied, unsigned_Decides}
 use Rattle.std.specs.FinMap as map
 use Rattle.std.proofs.lemmas.Bool.{or_cases, ltb-true}
 use Rattle.std.proofs.lemmas.Bool.Decides.{nat_tests}
 use Rattle.std.specs.declared.cmp.Ordering.TheVariants.{Equal}
-use Rattle.enumset_repr.specs.BitSet.{BitSet, contains, rising, len, empty, insert, remove, retain, from_list, insert_each, union, intersection, difference, symmetric_difference, is_subset, is_disjoint, is_same, below, low}
+use Rattle.enumset_repr.specs.BitSet.{BitSet, contains, rising, empty, insert, remove, retain, from_list, insert_each, union, intersection, difference, symmetric_difference, is_subset, is_disjoint, is_same, below, low}
 
 -- ---- tests and options
 
@@ -159,12 +159,12 @@ not_false : (b : Bool) → not b ≡ false → b ≡ true
 not_false true h = refl
 not_false false h = sym h
 
-not_so : (b : Bool) → (b ≡ true → ⊥) → b ≡ false
+pub not_so : (b : Bool) → (b ≡ true → ⊥) → b ≡ false
 not_so true h = absurd (h refl)
 not_so false h = refl
 
 -- what is false wherever the first test passes
-none_of : (a b : Bool) → (a ≡ true → b ≡ false) → (a && b) ≡ false
+pub none_of : (a b : Bool) → (a ≡ true → b ≡ false) → (a && b) ≡ false
 none_of true b h = h refl
 none_of false b h = refl
 
@@ -190,24 +190,24 @@ contains-is_disjoint s t each = list_all-each (λ b. not (contains t b)) (rising
 -- sets that have no common member are those whose intersection is empty
 pub is_disjoint_iff : (s t : BitSet) → (is_disjoint s t ≡ true) ↔ (intersection s t ≡ empty)
 is_disjoint_iff s t = (
-    λ apart. same_set _ _ (λ q. contains-intersection s t q ∙ none_of (contains s q) _ (is_disjoint-contains s t apart q) ∙ sym (contains-empty q)),
-    λ none. contains-is_disjoint s t (λ q in_s. sym (ap (λ b. b && contains t q) in_s) ∙ sym (contains-intersection s t q) ∙ ap (λ u. contains u q) none ∙ contains-empty q)
-  )
+  λ apart. same_set _ _ (λ q. contains-intersection s t q ∙ none_of (contains s q) _ (is_disjoint-contains s t apart q) ∙ sym (contains-empty q)),
+  λ none. contains-is_disjoint s t (λ q in_s. sym (ap (λ b. b && contains t q) in_s) ∙ sym (contains-intersection s t q) ∙ ap (λ u. contains u q) none ∙ contains-empty q),
+)
 
 -- each member of s is one of t where nothing of s is outside t
 pub is_subset_iff : (s t : BitSet) → (is_subset s t ≡ true) ↔ (difference s t ≡ empty)
 is_subset_iff s t = (
-    λ sub. same_set _ _ (λ q. contains-difference s t q ∙ none_of (contains s q) _ (λ in_s. ap not (is_subset-contains s t sub q in_s)) ∙ sym (contains-empty q)),
-    λ none. contains-is_subset s t (λ q in_s. not_false _ (sym (ap (λ b. b && not (contains t q)) in_s) ∙ sym (contains-difference s t q) ∙ ap (λ u. contains u q) none ∙ contains-empty q))
-  )
+  λ sub. same_set _ _ (λ q. contains-difference s t q ∙ none_of (contains s q) _ (λ in_s. ap not (is_subset-contains s t sub q in_s)) ∙ sym (contains-empty q)),
+  λ none. contains-is_subset s t (λ q in_s. not_false _ (sym (ap (λ b. b && not (contains t q)) in_s) ∙ sym (contains-difference s t q) ∙ ap (λ u. contains u q) none ∙ contains-empty q)),
+)
 
 -- sets are one exactly if they have the same members
 pub is_same_iff : (s t : BitSet) → (is_same s t ≡ true) ↔ (s ≡ t)
 unfolding is_same
 is_same_iff s t = (
-    λ same. same_set s t (λ q. same_test _ _ (is_subset-contains s t (both _ _ same).0 q) (is_subset-contains t s (both _ _ same).1 q)),
-    λ e. and_true _ _ (subst (λ u. is_subset s u ≡ true) e (is_subset-itself s)) (subst (λ u. is_subset u s ≡ true) e (is_subset-itself s))
-  )
+  λ same. same_set s t (λ q. same_test _ _ (is_subset-contains s t (both _ _ same).0 q) (is_subset-contains t s (both _ _ same).1 q)),
+  λ e. and_true _ _ (subst (λ u. is_subset s u ≡ true) e (is_subset-itself s)) (subst (λ u. is_subset u s ≡ true) e (is_subset-itself s)),
+)
 
 -- ---- subsets of one set
 
@@ -217,18 +217,18 @@ module _ (v : BitSet) where
 
   pub insert-is_subset : (s : BitSet) (b : ℕ) → is_subset s v ≡ true → contains v b ≡ true → is_subset (insert s b) v ≡ true
   insert-is_subset s b sub in_v = contains-is_subset _ v (λ q h. elim (or_cases _ _ (sym (contains-insert s b q) ∙ h)) [
-      | inl here ↦ ap (contains v) (same_number q b here) ∙ in_v
-      | inr there ↦ is_subset-contains s v sub q there
-    ])
+    | inl here ↦ ap (contains v) (same_number q b here) ∙ in_v
+    | inr there ↦ is_subset-contains s v sub q there
+  ])
 
   pub remove-is_subset : (s : BitSet) (b : ℕ) → is_subset s v ≡ true → is_subset (remove s b) v ≡ true
   remove-is_subset s b sub = contains-is_subset _ v (λ q h. is_subset-contains s v sub q (both _ _ (sym (contains-remove s b q) ∙ h)).1)
 
   pub union-is_subset : (s t : BitSet) → is_subset s v ≡ true → is_subset t v ≡ true → is_subset (union s t) v ≡ true
   union-is_subset s t sub also = contains-is_subset _ v (λ q h. elim (or_cases _ _ (sym (contains-union s t q) ∙ h)) [
-      | inl here ↦ is_subset-contains s v sub q here
-      | inr there ↦ is_subset-contains t v also q there
-    ])
+    | inl here ↦ is_subset-contains s v sub q here
+    | inr there ↦ is_subset-contains t v also q there
+  ])
 
   pub intersection-is_subset : (s t : BitSet) → is_subset s v ≡ true → is_subset (intersection s t) v ≡ true
   intersection-is_subset s t sub = contains-is_subset _ v (λ q h. is_subset-contains s v sub q (both _ _ (sym (contains-intersection s t q) ∙ h)).0)

@@ -470,7 +470,7 @@ greatest-bits_128 = greatest-bits w128
 pub bits-low_mask_128 : MaskLaw w128
 bits-low_mask_128 = bits-low_mask w128
 
--- What a function on numbers of a width wants: `#[tactic(auto, using(crate::proofs::Numbers::numbers_64))]`. `on_numbers` has the laws that speak of no width.
+-- What a function on numbers of a width wants: `#[tactic(auto, using(crate::specs::Laws::Numbers::numbers_64))]`. `on_numbers` has the laws that speak of no width.
 pub ruleset on_numbers = (bits-and, bits-or, bits-xor, len-bits, bits-low, contains-bits-shifted, bits-zero, bits_empty)
 
 pub ruleset numbers_8 = (on_numbers, bits-not_8, bits-and_not_8, bits-set_8, bits-clear_8, bits-test_8, least-bits_8, before_least-bits_8, greatest-bits_8, bits-low_mask_8)

@@ -3,9 +3,8 @@
 --     rising_is      a list that rises and has a set's members is `rising` of the set
 --     rising-..      `rising` of a set with a least or a greatest member
 --     len-..      what `len` answers
-use Rattle.std.proofs.Common.{◌≡◌, ◌<◌, ◌≤◌, ◌≢◌, ℕ, suc, zero, ◌+◌, ◌-◌, Bool, true, false, cond, not, ◌&&◌, ◌||◌, List, [], ◌∷◌, ◌++◌, refl, sym, ap, subst, ◌∙◌, length, arith, true≢false, T, map, inl, inr, ◌⊎◌, ◌↔◌}
+use Rattle.std.proofs.Common.{◌≡◌, ◌<◌, ◌≤◌, ℕ, suc, ◌+◌, ◌-◌, Bool, true, false, cond, not, ◌&&◌, ◌||◌, List, [], ◌∷◌, ◌++◌, refl, sym, ap, subst, ◌∙◌, length, arith, true≢false, T, map, inl, inr, ◌↔◌}
 use Rattle.std.specs.Prelude.{◌==◌, nat_lt}
-use Rattle.std.specs.List.{list_any}
 use Rattle.std.specs.Ordering.{nat_cmp, is_lt}
 use Rattle.std.specs.declared.cmp.Ordering.TheVariants.{Less, Equal, Greater}
 use Rattle.std.proofs.Math.Bool.{and-true}
@@ -14,10 +13,10 @@ use Rattle.std.proofs.lemmas.List.{length-map}
 use Rattle.std.specs.Cmp.{nat_cmp_total}
 use Rattle.std.specs.FinMap as fin
 use Rattle.std.specs.FinMap.{is_sorted}
-use Rattle.std.proofs.lemmas.Bool.{ltb-true, lt-ltb, or_cases}
+use Rattle.std.proofs.lemmas.Bool.{ltb-true, or_cases}
 use Rattle.std.proofs.lemmas.Bool.Decides.{nat_tests}
 use Rattle.enumset_repr.specs.BitSet.{is_in, BitSet, contains, rising, len, is_empty, empty, insert, remove, is_subset, below}
-use Rattle.enumset_repr.specs.Laws.Members.{members, same_set, same_test, same_number, itself, both, or_swap, or_left, or_right, contains-empty, contains-rising, contains-remove, contains-insert, contains-below, is_subset-contains}
+use Rattle.enumset_repr.specs.Laws.Members.{same_set, same_number, itself, both, or_swap, or_left, or_right, contains-empty, contains-rising, contains-remove, contains-below, is_subset-contains}
 
 -- the list rises strictly, and its first is at least k
 abbrev pub RisesFrom : ℕ → List ℕ → Type 0
@@ -26,9 +25,9 @@ RisesFrom k (x ∷ xs) = (k ≤ x) × RisesFrom (suc x) xs
 
 is_lt-< : (a b : ℕ) → T (is_lt (nat_cmp a b)) → a < b
 is_lt-< a b h = elim (nat_lt a b) as (λ t. nat_lt a b ≡ t → T (is_lt (cond t Less (cond (a == b) Equal Greater))) → a < b) [
-    | true ↦ λ e _. ltb-true a b e
-    | false ↦ λ _. elim (a == b) as (λ t. T (is_lt (cond t Equal Greater)) → a < b) [ true ↦ λ no. absurd no | false ↦ λ no. absurd no ]
-  ] refl h
+  | true ↦ λ e _. ltb-true a b e
+  | false ↦ λ _. elim (a == b) as (λ t. T (is_lt (cond t Equal Greater)) → a < b) [ true ↦ λ no. absurd no | false ↦ λ no. absurd no ]
+] refl h
 
 T_first : (a b : Bool) → T (a && b) → T a
 T_first true b h = tt
@@ -65,16 +64,16 @@ rises_higher j k (x ∷ xs) rises from = (from x (or_left (x == x) _ (itself x))
 pub is_in-from : (k q : ℕ) (xs : List ℕ) → RisesFrom k xs → is_in q xs ≡ true → k ≤ q
 is_in-from k q [] rises one = absurd (true≢false (sym one))
 is_in-from k q (x ∷ xs) rises one = elim (or_cases (q == x) _ one) [
-    | inl here ↦ omega (arith, rises.0, same_number q x here)
-    | inr later ↦ omega (arith, rises.0, is_in-from (suc x) q xs rises.1 later)
-  ]
+  | inl here ↦ omega (arith, rises.0, same_number q x here)
+  | inr later ↦ omega (arith, rises.0, is_in-from (suc x) q xs rises.1 later)
+]
 
 -- what is in the rest of a list that rises
 is_in-rest : (q x k : ℕ) (xs : List ℕ) → RisesFrom k (x ∷ xs) → is_in q xs ≡ (is_in q (x ∷ xs) && not (q == x))
 is_in-rest q x k xs rises = elim (q == x) as (λ t. (q == x) ≡ t → is_in q xs ≡ ((t || is_in q xs) && not t)) [
-    | true ↦ λ e. is_in-below (suc x) q xs rises.1 (omega (arith, same_number q x e))
-    | false ↦ λ e. sym (and-true (is_in q xs))
-  ] refl
+  | true ↦ λ e. is_in-below (suc x) q xs rises.1 (omega (arith, same_number q x e))
+  | false ↦ λ e. sym (and-true (is_in q xs))
+] refl
 
 pub same_list : (k : ℕ) (xs ys : List ℕ) → RisesFrom k xs → RisesFrom k ys → ((q : ℕ) → is_in q xs ≡ is_in q ys) → xs ≡ ys
 same_list k [] [] p q same = refl
@@ -113,21 +112,21 @@ len-remove s b = fin.len-remove nat_cmp_total s b
 -- a set is what it was with a member put back
 back_in : (s : BitSet) (m q : ℕ) → contains s m ≡ true → contains s q ≡ ((q == m) || contains (remove s m) q)
 back_in s m q one = elim (q == m) as (λ t. (q == m) ≡ t → contains s q ≡ (t || contains (remove s m) q)) [
-    | true ↦ λ e. ap (contains s) (same_number q m e) ∙ one
-    | false ↦ λ e. sym (contains-remove s m q ∙ ap (λ t. not t && contains s q) e)
-  ] refl
+  | true ↦ λ e. ap (contains s) (same_number q m e) ∙ one
+  | false ↦ λ e. sym (contains-remove s m q ∙ ap (λ t. not t && contains s q) e)
+] refl
 
 later_of : (s : BitSet) (m q : ℕ) → ((r : ℕ) → r < m → contains s r ≡ false) → (not (q == m) && contains s q) ≡ true → suc m ≤ q
 later_of s m q least h = elim (nat_lt q m) as (λ t. nat_lt q m ≡ t → suc m ≤ q) [
-    | true ↦ λ e. absurd (true≢false (sym (both (not (q == m)) _ h).1 ∙ least q (ltb-true q m e)))
-    | false ↦ λ e. grind (arith, nat_tests, e, (both (not (q == m)) _ h).0)
-  ] refl
+  | true ↦ λ e. absurd (true≢false (sym (both (not (q == m)) _ h).1 ∙ least q (ltb-true q m e)))
+  | false ↦ λ e. grind (arith, nat_tests, e, (both (not (q == m)) _ h).0)
+] refl
 
 earlier_of : (s : BitSet) (m q : ℕ) → ((r : ℕ) → m < r → contains s r ≡ false) → (not (q == m) && contains s q) ≡ true → q < m
 earlier_of s m q greatest h = elim (nat_lt m q) as (λ t. nat_lt m q ≡ t → q < m) [
-    | true ↦ λ e. absurd (true≢false (sym (both (not (q == m)) _ h).1 ∙ greatest q (ltb-true m q e)))
-    | false ↦ λ e. grind (arith, nat_tests, e, (both (not (q == m)) _ h).0)
-  ] refl
+  | true ↦ λ e. absurd (true≢false (sym (both (not (q == m)) _ h).1 ∙ greatest q (ltb-true m q e)))
+  | false ↦ λ e. grind (arith, nat_tests, e, (both (not (q == m)) _ h).0)
+] refl
 
 rises-push : (k m : ℕ) (xs : List ℕ) → k ≤ m → RisesFrom k xs → ((q : ℕ) → is_in q xs ≡ true → q < m) → RisesFrom k (xs ++ m ∷ [])
 rises-push k m [] within rises small = (within, tt)

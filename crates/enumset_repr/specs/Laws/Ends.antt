@@ -1,0 +1,204 @@
+-- The least and the greatest member.
+--     least-is, greatest-is      the member that has none before it, or none past it
+--     least-empty, greatest-empty      the empty set has neither
+--     rising-least, rising-greatest      the least comes first, and the greatest last
+--     least-member, greatest-member      each is a member
+--     trailing-least, leading-greatest      what `trailing_zeros` and `leading_zeros` count, at each width
+use Rattle.std.proofs.Common.{◌≡◌, ◌<◌, ◌≤◌, ℕ, suc, zero, ◌+◌, ◌-◌, ◌^◌, true, false, List, [], ◌∷◌, ◌++◌, Option, Some, None, refl, sym, ap, subst, ◌∙◌, arith, true≢false, inl, inr, length, length-append}
+use Rattle.std.specs.Prelude.{◌==◌, MatchOption}
+use Rattle.std.specs.Int.{trailing_zeros, leading_zeros, Width, w8, w16, w32, w64, w128}
+use Rattle.std.specs.Int.Count.{trailing_of_zero, leading_of_zero}
+use mir.Val.{bits as width_bits}
+use Rattle.std.specs.List.{slice_get, last_or}
+use Rattle.std.proofs.lemmas.Bool.{or_cases}
+use Rattle.enumset_repr.specs.BitSet.{is_in, BitSet, contains, rising, empty, remove}
+use Rattle.enumset_repr.specs.Ends.{least, greatest}
+use Rattle.enumset_repr.specs.Laws.Members.{same_number, itself, or_left, or_right, contains-rising, not_so, member_below}
+use Rattle.enumset_repr.specs.Laws.Rising.{len-rising, RisesFrom, rising-rises, rising-empty, is_in-from, is_in-below, rising-first, rising-last, empty_of_rising}
+use Rattle.enumset_repr.specs.Number.{bits}
+use Rattle.enumset_repr.specs.Laws.Numbers.{bits-zero, bits-within, least-bits, greatest-bits}
+
+-- ---- the ends of a list that rises
+
+last_or-push : (o : Option ℕ) (xs : List ℕ) (m : ℕ) → last_or o (xs ++ m ∷ []) ≡ Some m
+last_or-push o [] m = refl
+last_or-push o (x ∷ xs) m = last_or-push (Some x) xs m
+
+same_item : (a b : ℕ) → Some a ≡ Some b → a ≡ b
+same_item a b e = cc
+
+no_item : (a : ℕ) → None ≡ Some a → ⊥
+no_item a e = cc
+
+last_or-is_in : (x : ℕ) (xs : List ℕ) (m : ℕ) → last_or (Some x) xs ≡ Some m → is_in m (x ∷ xs) ≡ true
+last_or-is_in x [] m last = or_left (m == x) false (ap (λ k. k == x) (sym (same_item x m last)) ∙ itself x)
+last_or-is_in x (y ∷ ys) m last = or_right (m == x) _ (last_or-is_in y ys m last)
+
+last_or-from : (k x : ℕ) (xs : List ℕ) (m q : ℕ) → RisesFrom k (x ∷ xs) → last_or (Some x) xs ≡ Some m → is_in q (x ∷ xs) ≡ true → q ≤ m
+last_or-from k x [] m q rises last one = elim (or_cases (q == x) false one) [
+  | inl here ↦ omega (arith, same_number q x here, same_item x m last)
+  | inr never ↦ absurd (true≢false (sym never))
+]
+last_or-from k x (y ∷ ys) m q rises last one = elim (or_cases (q == x) _ one) [
+  | inl here ↦
+      let above : y ≤ m = last_or-from (suc x) y ys m y rises.1 last (or_left (y == y) _ (itself y)) in
+      omega (arith, same_number q x here, rises.1.0, above)
+  | inr later ↦ last_or-from (suc x) y ys m q rises.1 last later
+]
+
+-- ---- the least
+
+pub least-is : (s : BitSet) (m : ℕ) → contains s m ≡ true → ((q : ℕ) → q < m → contains s q ≡ false) → least s ≡ Some m
+unfolding least
+least-is s m one none = ap (λ xs. slice_get xs 0) (rising-first s m one none)
+
+pub least-empty : least empty ≡ None
+unfolding least
+least-empty = ap (λ xs. slice_get xs 0) rising-empty
+
+-- what a list with a first item is
+first_item : (xs : List ℕ) (m : ℕ) → slice_get xs 0 ≡ Some m → (ys : List ℕ) × (xs ≡ m ∷ ys)
+first_item [] m first = absurd (no_item m first)
+first_item (x ∷ xs) m first = (xs, ap (λ y. y ∷ xs) (same_item x m first))
+
+-- a list with no first item is empty
+no_first : (xs : List ℕ) → slice_get xs 0 ≡ None → xs ≡ []
+no_first [] none = refl
+no_first (x ∷ xs) none = absurd (no_item x (sym none))
+
+least_facts : (s : BitSet) (m : ℕ) → least s ≡ Some m → (contains s m ≡ true) × ((q : ℕ) → q < m → contains s q ≡ false)
+unfolding least
+least_facts s m first =
+    let parts = first_item (rising s) m first in
+    let rises : RisesFrom 0 (m ∷ parts.0) = subst (RisesFrom 0) parts.1 (rising-rises s) in
+    let above : RisesFrom m (m ∷ parts.0) = (omega arith, rises.1) in (
+      contains-rising s m ∙ ap (is_in m) parts.1 ∙ or_left (m == m) _ (itself m),
+      λ q under. contains-rising s q ∙ ap (is_in q) parts.1 ∙ is_in-below m q (m ∷ parts.0) above under,
+    )
+
+pub least-member : (s : BitSet) (m : ℕ) → least s ≡ Some m → contains s m ≡ true
+least-member s m first = (least_facts s m first).0
+
+-- the least member comes first
+pub rising-least : (s : BitSet) (m : ℕ) → least s ≡ Some m → rising s ≡ m ∷ rising (remove s m)
+rising-least s m first = let facts = least_facts s m first in rising-first s m facts.0 facts.1
+
+pub rising-no_least : (s : BitSet) → least s ≡ None → rising s ≡ []
+unfolding least
+rising-no_least s none = no_first (rising s) none
+
+-- ---- the greatest
+
+pub greatest-is : (s : BitSet) (m : ℕ) → contains s m ≡ true → ((q : ℕ) → m < q → contains s q ≡ false) → greatest s ≡ Some m
+unfolding greatest
+greatest-is s m one none = ap (last_or None) (rising-last s m one none) ∙ last_or-push None (rising (remove s m)) m
+
+pub greatest-empty : greatest empty ≡ None
+unfolding greatest
+greatest-empty = ap (last_or None) rising-empty
+
+last_facts : (k : ℕ) (xs : List ℕ) (m : ℕ) → RisesFrom k xs → last_or None xs ≡ Some m → (is_in m xs ≡ true) × ((q : ℕ) → is_in q xs ≡ true → q ≤ m)
+last_facts k [] m rises last = absurd (no_item m last)
+last_facts k (x ∷ xs) m rises last = (last_or-is_in x xs m last, λ q one. last_or-from k x xs m q rises last one)
+
+greatest_facts : (s : BitSet) (m : ℕ) → greatest s ≡ Some m → (contains s m ≡ true) × ((q : ℕ) → m < q → contains s q ≡ false)
+unfolding greatest
+greatest_facts s m last =
+    let facts = last_facts 0 (rising s) m (rising-rises s) last in (
+      contains-rising s m ∙ facts.0,
+      λ q over. not_so (contains s q) (λ one. let near : q ≤ m = facts.1 q (sym (contains-rising s q) ∙ one) in omega arith),
+    )
+
+pub greatest-member : (s : BitSet) (m : ℕ) → greatest s ≡ Some m → contains s m ≡ true
+greatest-member s m last = (greatest_facts s m last).0
+
+-- the greatest member comes last
+pub rising-greatest : (s : BitSet) (m : ℕ) → greatest s ≡ Some m → rising s ≡ rising (remove s m) ++ m ∷ []
+rising-greatest s m last = let facts = greatest_facts s m last in rising-last s m facts.0 facts.1
+
+-- one fewer is left without the greatest
+pub fewer-greatest : (s : BitSet) (m : ℕ) → greatest s ≡ Some m → length (rising (remove s m)) < length (rising s)
+fewer-greatest s m last = omega (arith, ap length (rising-greatest s m last), length-append (rising (remove s m)) (m ∷ []))
+
+some_last : (x : ℕ) (xs : List ℕ) → last_or (Some x) xs ≡ None → ⊥
+some_last x [] none = no_item x (sym none)
+some_last x (y ∷ ys) none = some_last y ys none
+
+no_last : (xs : List ℕ) → last_or None xs ≡ None → xs ≡ []
+no_last [] none = refl
+no_last (x ∷ xs) none = absurd (some_last x xs none)
+
+pub rising-no_greatest : (s : BitSet) → greatest s ≡ None → rising s ≡ []
+unfolding greatest
+rising-no_greatest s none = no_last (rising s) none
+
+-- ---- the ends of a number's set
+
+abbrev TrailingLaw : Width → Type 0
+TrailingLaw w = (n : ℕ) → n < 2 ^ width_bits w → MatchOption (least (bits n)) (trailing_zeros w n ≡ width_bits w) (λ m. (trailing_zeros w n ≡ m) × (m < width_bits w))
+
+abbrev LeadingLaw : Width → Type 0
+LeadingLaw w = (n : ℕ) → n < 2 ^ width_bits w → MatchOption (greatest (bits n)) (leading_zeros w n ≡ width_bits w) (λ m. leading_zeros w n + m + 1 ≡ width_bits w)
+
+-- `n.trailing_zeros()` is the least member, or the width where there is none
+pub trailing-least : (w : Width) → TrailingLaw w
+trailing-least w zero fits =
+    let none : least (bits 0) ≡ None = ap least bits-zero ∙ least-empty in
+    subst (λ o. MatchOption o (trailing_zeros w 0 ≡ width_bits w) (λ m. (trailing_zeros w 0 ≡ m) × (m < width_bits w))) (sym none) (trailing_of_zero (width_bits w))
+trailing-least w (suc n) fits =
+    let facts = least-bits w (suc n) (omega arith) fits in
+    let some : least (bits (suc n)) ≡ Some (trailing_zeros w (suc n)) = least-is _ _ facts.0 facts.1 in
+    subst (λ o. MatchOption o (trailing_zeros w (suc n) ≡ width_bits w) (λ m. (trailing_zeros w (suc n) ≡ m) × (m < width_bits w))) (sym some)
+    (refl, member_below (bits (suc n)) (width_bits w) _ (bits-within (suc n) (width_bits w) fits) facts.0)
+
+-- `n.leading_zeros()` is how many bits are above the greatest member, or the width where there is none
+pub leading-greatest : (w : Width) → LeadingLaw w
+leading-greatest w zero fits =
+    let none : greatest (bits 0) ≡ None = ap greatest bits-zero ∙ greatest-empty in
+    subst (λ o. MatchOption o (leading_zeros w 0 ≡ width_bits w) (λ m. leading_zeros w 0 + m + 1 ≡ width_bits w)) (sym none) (leading_of_zero (width_bits w))
+leading-greatest w (suc n) fits =
+    let facts = greatest-bits w (suc n) (omega arith) fits in
+    let some : greatest (bits (suc n)) ≡ Some (width_bits w - 1 - leading_zeros w (suc n)) = greatest-is _ _ facts.1 facts.2 in
+    subst (λ o. MatchOption o (leading_zeros w (suc n) ≡ width_bits w) (λ m. leading_zeros w (suc n) + m + 1 ≡ width_bits w)) (sym some) (omega (arith, facts.0))
+
+pub trailing-least_8 : TrailingLaw w8
+trailing-least_8 = trailing-least w8
+
+pub leading-greatest_8 : LeadingLaw w8
+leading-greatest_8 = leading-greatest w8
+
+pub trailing-least_16 : TrailingLaw w16
+trailing-least_16 = trailing-least w16
+
+pub leading-greatest_16 : LeadingLaw w16
+leading-greatest_16 = leading-greatest w16
+
+pub trailing-least_32 : TrailingLaw w32
+trailing-least_32 = trailing-least w32
+
+pub leading-greatest_32 : LeadingLaw w32
+leading-greatest_32 = leading-greatest w32
+
+pub trailing-least_64 : TrailingLaw w64
+trailing-least_64 = trailing-least w64
+
+pub leading-greatest_64 : LeadingLaw w64
+leading-greatest_64 = leading-greatest w64
+
+pub trailing-least_128 : TrailingLaw w128
+trailing-least_128 = trailing-least w128
+
+pub leading-greatest_128 : LeadingLaw w128
+leading-greatest_128 = leading-greatest w128
+
+pub ruleset ends_8 = (trailing-least_8, leading-greatest_8)
+
+pub ruleset ends_16 = (trailing-least_16, leading-greatest_16)
+
+pub ruleset ends_32 = (trailing-least_32, leading-greatest_32)
+
+pub ruleset ends_64 = (trailing-least_64, leading-greatest_64)
+
+pub ruleset ends_128 = (trailing-least_128, leading-greatest_128)
+
+pub ruleset at_the_ends = (rising-least, rising-no_least, rising-greatest, rising-no_greatest, fewer-greatest, len-rising)

@@ -1,0 +1,203 @@
+-- Words of 64 bits: what `word`, `raised` and `with_word` are, over every width and place.
+--     contains-raised, contains-with_word      their members
+--     contains-bits-word      the members of a word, as a number's set
+--     word-bits, word-within, same_words      a word of a number;  a word is below 2 ^ 64;  a set is known by its words
+--     bits-shifted_up      the set of `n << k`
+--     bits-put_low, bits-put_word      the set of a number one word of which was replaced
+use Rattle.std.proofs.Common.{◌≡◌, ◌<◌, ◌≤◌, ℕ, suc, ◌+◌, ◌-◌, ◌*◌, ◌/◌, ◌%◌, ◌^◌, Bool, true, false, not, ◌&&◌, ◌||◌, List, [], ◌∷◌, refl, sym, ap, subst, ◌∙◌, arith, inl, inr, ◌⊎◌, map, cond}
+use Rattle.std.specs.Prelude.{◌==◌, nat_lt, nat_le, sum_by, filter}
+use Rattle.std.specs.Int.{bit_at, bit_not, Width}
+use Rattle.std.specs.Int.RustNames.{bit_and, bit_or}
+use mir.Val.{bits as width_bits}
+use Rattle.std.proofs.Math.Bool.{and-true}
+use Rattle.std.proofs.lemmas.Bool.{cases_lt, lt-ltb}
+use Rattle.std.proofs.lemmas.Bool.Decides.{nat_tests}
+use Rattle.std.proofs.lemmas.List.Sums.{sum_by-cons}
+use Rattle.std.proofs.lemmas.Nat.{pow_pos, mod_below}
+use Rattle.std.proofs.lemmas.Nat.Bits.{bit_at_ones, bit_at_ones_above, bit_at_cat_low, bit_at_cat_high, bit_at-zero}
+use Rattle.enumset_repr.specs.BitSet.{is_in, BitSet, contains, rising, from_list, union, difference, low, below, is_subset}
+use Rattle.enumset_repr.specs.Number.{number, bits}
+use Rattle.enumset_repr.specs.Words.{is_in_word, word, raised, with_word}
+use Rattle.enumset_repr.specs.Laws.Members.{same_set, both, contains-rising, contains-retain, contains-from_list, contains-union, contains-difference, contains-below, contains-low, contains-is_subset, not_below, none_of, member_below}
+use Rattle.enumset_repr.specs.Laws.Rising.{RisesFrom, rising-rises, rising_is}
+use Rattle.enumset_repr.specs.Laws.Numbers.{contains-bits, bits-number, number-bits, number-within, bits-within, bits-low, bits-or, bits-and_not, contains-bits-shifted}
+
+-- ---- a set moved up
+
+raised_test : (k q b : ℕ) → (q == k + b) ≡ (nat_le k q && (q - k == b))
+raised_test k q b = grind (arith, nat_tests)
+
+and_or : (a b c : Bool) → ((a && b) || (a && c)) ≡ (a && (b || c))
+and_or true b c = refl
+and_or false b c = refl
+
+and_none : (a : Bool) → false ≡ (a && false)
+and_none true = refl
+and_none false = refl
+
+is_in-raised : (k q : ℕ) (bs : List ℕ) → is_in q (map (λ b. k + b) bs) ≡ (nat_le k q && is_in (q - k) bs)
+is_in-raised k q [] = and_none (nat_le k q)
+is_in-raised k q (b ∷ bs) =
+    (λ i. raised_test k q b i || is_in-raised k q bs i) ∙ and_or (nat_le k q) (q - k == b) (is_in (q - k) bs)
+
+pub contains-raised : (s : BitSet) (k q : ℕ) → contains (raised s k) q ≡ (nat_le k q && contains s (q - k))
+unfolding raised
+contains-raised s k q = contains-from_list _ q ∙ is_in-raised k q (rising s) ∙ ap (λ t. nat_le k q && t) (sym (contains-rising s (q - k)))
+
+pub contains-with_word : (s : BitSet) (width w n q : ℕ) → contains (with_word s width w n) q ≡ ((contains s q && not (is_in_word w q)) || ((nat_le (64 * w) q && contains (bits n) (q - 64 * w)) && nat_lt q width))
+unfolding with_word
+contains-with_word s width w n q =
+    contains-union _ _ q
+    ∙ (λ i. contains-retain s (λ b. not (is_in_word w b)) q i || (contains-low (raised (bits n) (64 * w)) width q ∙ ap (λ t. t && nat_lt q width) (contains-raised (bits n) (64 * w) q)) i)
+
+-- ---- the numbers of a word
+
+-- the members of a word, counted from its lowest bit
+cut : ℕ → List ℕ → List ℕ
+cut w xs = map (λ b. b - 64 * w) (filter (is_in_word w) xs)
+
+rises_lower : (j k : ℕ) (xs : List ℕ) → j ≤ k → RisesFrom k xs → RisesFrom j xs
+rises_lower j k [] less rises = tt
+rises_lower j k (x ∷ xs) less rises = (omega (arith, rises.0), rises.1)
+
+in_word_from : (w b : ℕ) → is_in_word w b ≡ true → 64 * w ≤ b
+in_word_from w b one = grind (arith, nat_tests)
+
+cut-rises : (w k : ℕ) (xs : List ℕ) → RisesFrom k xs → RisesFrom (k - 64 * w) (cut w xs)
+unfolding cut
+cut-rises w k [] rises = tt
+cut-rises w k (x ∷ xs) rises =
+    let rest : RisesFrom (suc x - 64 * w) (cut w xs) = cut-rises w (suc x) xs rises.1 in
+    elim (is_in_word w x) as (λ t. is_in_word w x ≡ t → RisesFrom (k - 64 * w) (map (λ b. b - 64 * w) (cond t (x ∷ filter (is_in_word w) xs) (filter (is_in_word w) xs)))) [
+      | true ↦ λ e. (omega (arith, rises.0), rises_lower (suc (x - 64 * w)) (suc x - 64 * w) _ (omega (arith, in_word_from w x e)) rest)
+      | false ↦ λ e. rises_lower (k - 64 * w) (suc x - 64 * w) _ (omega (arith, rises.0)) rest
+    ] refl
+
+cut_yes : (w q x : ℕ) → is_in_word w x ≡ true → (q == x - 64 * w) ≡ ((64 * w + q == x) && nat_lt q 64)
+cut_yes w q x one = grind (arith, nat_tests)
+
+cut_no : (w q x : ℕ) → is_in_word w x ≡ false → ((64 * w + q == x) && nat_lt q 64) ≡ false
+cut_no w q x none = grind (arith, nat_tests)
+
+or_and : (a b c : Bool) → ((a && c) || (b && c)) ≡ ((a || b) && c)
+or_and true true true = refl
+or_and true true false = refl
+or_and true false c = or-false c
+  where
+    or-false : (c : Bool) → (c || false) ≡ c
+    or-false true = refl
+    or-false false = refl
+or_and false b c = refl
+
+is_in-cut : (w q : ℕ) (xs : List ℕ) → is_in q (cut w xs) ≡ (is_in (64 * w + q) xs && nat_lt q 64)
+unfolding cut
+is_in-cut w q [] = refl
+is_in-cut w q (x ∷ xs) =
+    elim (is_in_word w x) as (λ t. is_in_word w x ≡ t → is_in q (map (λ b. b - 64 * w) (cond t (x ∷ filter (is_in_word w) xs) (filter (is_in_word w) xs))) ≡ (is_in (64 * w + q) (x ∷ xs) && nat_lt q 64)) [
+      | true ↦ λ e. (λ i. cut_yes w q x e i || is_in-cut w q xs i) ∙ or_and (64 * w + q == x) (is_in (64 * w + q) xs) (nat_lt q 64)
+      | false ↦ λ e. is_in-cut w q xs ∙ ap (λ t. t || (is_in (64 * w + q) xs && nat_lt q 64)) (sym (cut_no w q x e)) ∙ or_and (64 * w + q == x) (is_in (64 * w + q) xs) (nat_lt q 64)
+    ] refl
+
+sum_by-map : (f g : ℕ → ℕ) (xs : List ℕ) → sum_by f (map g xs) ≡ sum_by (λ x. f (g x)) xs
+sum_by-map f g [] = refl
+sum_by-map f g (x ∷ xs) = sum_by-cons f (g x) (map g xs) ∙ ap (λ n. f (g x) + n) (sum_by-map f g xs) ∙ sym (sum_by-cons (λ y. f (g y)) x xs)
+
+-- a word is the number of the members cut out
+word-number : (s : BitSet) (w : ℕ) → word s w ≡ number (from_list (cut w (rising s)))
+unfolding word number cut
+word-number s w =
+    let list : rising (from_list (cut w (rising s))) ≡ cut w (rising s) = rising_is _ _ (rises_lower 0 (0 - 64 * w) _ (omega arith) (cut-rises w 0 (rising s) (rising-rises s))) (λ q. contains-from_list _ q) in
+    sym (sum_by-map (λ b. 2 ^ b) (λ b. b - 64 * w) (filter (is_in_word w) (rising s))) ∙ ap (sum_by (λ b. 2 ^ b)) (sym list)
+
+pub contains-bits-word : (s : BitSet) (w q : ℕ) → contains (bits (word s w)) q ≡ (contains s (64 * w + q) && nat_lt q 64)
+contains-bits-word s w q =
+    ap (λ n. contains (bits n) q) (word-number s w) ∙ ap (λ t. contains t q) (bits-number _) ∙ contains-from_list _ q
+    ∙ is_in-cut w q (rising s) ∙ ap (λ t. t && nat_lt q 64) (sym (contains-rising s (64 * w + q)))
+
+-- a number with a set's bits is the set's
+number_is : (n m : ℕ) → ((q : ℕ) → contains (bits n) q ≡ contains (bits m) q) → n ≡ m
+number_is n m is = sym (number-bits n) ∙ ap number (same_set _ _ is) ∙ number-bits m
+
+pub word-bits : (n w : ℕ) → word (bits n) w ≡ n / 2 ^ (64 * w) % 2 ^ 64
+word-bits n w = number_is _ _ (λ q.
+    contains-bits-word (bits n) w q ∙ ap (λ t. t && nat_lt q 64) (sym (contains-bits-shifted n (64 * w) q))
+    ∙ sym (contains-low (bits (n / 2 ^ (64 * w))) 64 q) ∙ ap (λ t. contains t q) (sym (bits-low (n / 2 ^ (64 * w)) 64)))
+
+pub word-within : (s : BitSet) (w : ℕ) → word s w < 2 ^ 64
+word-within s w =
+    let sub : is_subset (bits (word s w)) (below 64) ≡ true = contains-is_subset _ _ (λ q one. contains-below 64 q ∙ (both (contains s (64 * w + q)) _ (sym (contains-bits-word s w q) ∙ one)).1) in
+    subst (λ n. n < 2 ^ 64) (number-bits (word s w)) (number-within (bits (word s w)) 64 sub)
+
+word_test : (s : BitSet) (q : ℕ) → contains (bits (word s (q / 64))) (q % 64) ≡ contains s q
+word_test s q =
+    let place : 64 * (q / 64) + q % 64 ≡ q = omega arith in
+    contains-bits-word s (q / 64) (q % 64) ∙ ap (λ b. contains s b && nat_lt (q % 64) 64) place
+    ∙ ap (λ t. contains s q && t) (lt-ltb (q % 64) 64 (omega arith)) ∙ and-true (contains s q)
+
+pub same_words : (s t : BitSet) → ((w : ℕ) → word s w ≡ word t w) → s ≡ t
+same_words s t same = same_set s t (λ q. sym (word_test s q) ∙ ap (λ n. contains (bits n) (q % 64)) (same (q / 64)) ∙ word_test t q)
+
+-- ---- one word replaced
+
+-- `n << k` at a width: the bits of n moved up, of which those past the width are lost
+pub bits-shifted_up : (width n k : ℕ) → bits (n * 2 ^ k % 2 ^ width) ≡ low (raised (bits n) k) width
+bits-shifted_up width n k = bits-low (n * 2 ^ k) width ∙ ap (λ s. low s width) (same_set _ _ (λ q. by q (cases_lt q k) ∙ sym (contains-raised (bits n) k q)))
+  where
+    by : (q : ℕ) → (q < k) ⊎ (k ≤ q) → contains (bits (n * 2 ^ k)) q ≡ (nat_le k q && contains (bits n) (q - k))
+    by q (inl under) =
+        let cat : n * 2 ^ k ≡ n * 2 ^ k + 0 = omega arith in
+        let before : nat_le k q ≡ false = grind (arith, nat_tests, under) in
+        contains-bits (n * 2 ^ k) q ∙ ap (λ m. bit_at m q == 1) cat ∙ ap (λ d. d == 1) (bit_at_cat_low n k 0 q under ∙ bit_at-zero q)
+        ∙ ap (λ t. t && contains (bits n) (q - k)) (sym before)
+    by q (inr over) =
+        let cat : n * 2 ^ k ≡ n * 2 ^ k + 0 = omega arith in
+        let from : nat_le k q ≡ true = grind (arith, nat_tests, over) in
+        contains-bits (n * 2 ^ k) q ∙ ap (λ m. bit_at m q == 1) cat ∙ ap (λ d. d == 1) (bit_at_cat_high n k 0 q (pow_pos k) over)
+        ∙ sym (contains-bits n (q - k)) ∙ ap (λ t. t && contains (bits n) (q - k)) (sym from)
+
+contains-ones : (q : ℕ) → contains (bits 18446744073709551615) q ≡ nat_lt q 64
+contains-ones q = contains-bits _ q ∙ elim (cases_lt q 64) [
+  | inl under ↦ ap (λ d. d == 1) (bit_at_ones 64 q under) ∙ sym (lt-ltb q 64 under)
+  | inr over ↦ ap (λ d. d == 1) (bit_at_ones_above 64 q over) ∙ sym (not_below q 64 over)
+]
+
+-- where a place below the width is set, it is in the mask of a word exactly if it is in the word
+mask_test : (i q width : ℕ) → q < width → ((nat_le (64 * i) q && nat_lt (q - 64 * i) 64) && nat_lt q width) ≡ is_in_word i q
+mask_test i q width within = grind (arith, nat_tests)
+
+contains-mask : (width i q : ℕ) → contains (bits (18446744073709551615 * 2 ^ (64 * i) % 2 ^ width)) q ≡ ((nat_le (64 * i) q && nat_lt (q - 64 * i) 64) && nat_lt q width)
+contains-mask width i q =
+    ap (λ s. contains s q) (bits-shifted_up width 18446744073709551615 (64 * i)) ∙ contains-low _ width q
+    ∙ ap (λ t. t && nat_lt q width) (contains-raised _ (64 * i) q ∙ ap (λ t. nat_le (64 * i) q && t) (contains-ones (q - 64 * i)))
+
+kept_outside : (c m o : Bool) → (c ≡ true → m ≡ o) → (c && not m) ≡ (c && not o)
+kept_outside true m o same = ap not (same refl)
+kept_outside false m o same = refl
+
+-- any word, at a width: `n & !(u64::MAX << k) | x << k`, where k is 64 times the place
+pub bits-put_word : (w : Width) (n x i : ℕ) → n < 2 ^ width_bits w → bits (bit_or (bit_and n (bit_not w (18446744073709551615 * 2 ^ (64 * i) % 2 ^ width_bits w))) (x * 2 ^ (64 * i) % 2 ^ width_bits w)) ≡ with_word (bits n) (width_bits w) i x
+bits-put_word w n x i fits =
+    bits-or _ _
+    ∙ (λ j. union (bits-and_not w n (18446744073709551615 * 2 ^ (64 * i) % 2 ^ width_bits w) fits (mod_below _ (2 ^ width_bits w) (pow_pos (width_bits w))) j) (bits-shifted_up (width_bits w) x (64 * i) j))
+    ∙ same_set _ _ (λ q. contains-union _ _ q ∙ (λ j. outside q j || placed q j) ∙ sym (contains-with_word (bits n) (width_bits w) i x q))
+  where
+    outside : (q : ℕ) → contains (difference (bits n) (bits (18446744073709551615 * 2 ^ (64 * i) % 2 ^ width_bits w))) q ≡ (contains (bits n) q && not (is_in_word i q))
+    outside q = contains-difference (bits n) _ q ∙ kept_outside (contains (bits n) q) _ _ (λ one.
+        contains-mask (width_bits w) i q ∙ mask_test i q (width_bits w) (member_below (bits n) (width_bits w) q (bits-within n (width_bits w) fits) one))
+
+    placed : (q : ℕ) → contains (low (raised (bits x) (64 * i)) (width_bits w)) q ≡ ((nat_le (64 * i) q && contains (bits x) (q - 64 * i)) && nat_lt q (width_bits w))
+    placed q = contains-low _ (width_bits w) q ∙ ap (λ t. t && nat_lt q (width_bits w)) (contains-raised (bits x) (64 * i) q)
+
+-- the lowest word, at a width of no more than 64 bits
+pub bits-put_low : (width n x : ℕ) → width ≤ 64 → n < 2 ^ width → bits (x % 2 ^ width) ≡ with_word (bits n) width 0 x
+bits-put_low width n x narrow fits = bits-low x width ∙ same_set _ _ (λ q. contains-low (bits x) width q ∙ lowest q ∙ sym (contains-with_word (bits n) width 0 x q))
+  where
+    all_low : (q : ℕ) → q < width → not (is_in_word 0 q) ≡ false
+    all_low q under = grind (arith, nat_tests, narrow, under)
+
+    lowest : (q : ℕ) → (contains (bits x) q && nat_lt q width) ≡ ((contains (bits n) q && not (is_in_word 0 q)) || ((nat_le (64 * 0) q && contains (bits x) (q - 64 * 0)) && nat_lt q width))
+    lowest q =
+        let from : nat_le 0 q ≡ true = grind (arith, nat_tests) in
+        let same : q - 0 ≡ q = omega arith in
+        let none : (contains (bits n) q && not (is_in_word 0 q)) ≡ false = none_of (contains (bits n) q) _ (λ one. all_low q (member_below (bits n) width q (bits-within n width fits) one)) in
+        (λ j. (sym from j && contains (bits x) (sym same j)) && nat_lt q width) ∙ ap (λ t. t || ((nat_le 0 q && contains (bits x) (q - 0)) && nat_lt q width)) (sym none)

@@ -1,0 +1,81 @@
+use super::*;
+use std::process::Abort;
+use std::test::Fail;
+
+// Takes the bits from the front and the back in turn, in this order, and then finds nothing.
+fn take_in_turn<T: Primitive>(rt: &impl Abort, set: T, order: &[u32]) {
+    let mut iter = PrimitiveIter(set);
+    for (i, bit) in order.iter().enumerate() {
+        let left = order.len() - i;
+        assert_eq!(rt; iter.size_hint(), (left, Some(left)));
+        assert_eq!(rt; iter.len(), left);
+        let taken = if i % 2 == 0 {
+            iter.next()
+        } else {
+            iter.next_back()
+        };
+        assert_eq!(rt; taken, Some(*bit), "at {i}");
+    }
+    assert_eq!(rt; iter.size_hint(), (0, Some(0)));
+    assert_eq!(rt; iter.next(), None);
+    assert_eq!(rt; iter.next_back(), None);
+}
+
+// Takes each bit below the width from one end and then from the other.
+fn take_all<T: Primitive>(rt: &impl Abort, full: T, width: u32) {
+    let mut front = PrimitiveIter(full);
+    let mut back = front;
+    for bit in 0..width {
+        assert_eq!(rt; front.next(), Some(bit));
+        assert_eq!(rt; back.next_back(), Some(width - 1 - bit));
+    }
+    assert_eq!(rt; front.next(), None);
+    assert_eq!(rt; back.next_back(), None);
+}
+
+#[test]
+fn no_bit_one_bit_and_both_ends(rt: HostRuntime) {
+    let none = [];
+    take_in_turn(&rt, 0u8, &none);
+    take_in_turn(&rt, 0u16, &none);
+    take_in_turn(&rt, 0u32, &none);
+    take_in_turn(&rt, 0u64, &none);
+    take_in_turn(&rt, 0u128, &none);
+    take_in_turn(&rt, 1u8, &[0]);
+    take_in_turn(&rt, 1u16, &[0]);
+    take_in_turn(&rt, 1u32, &[0]);
+    take_in_turn(&rt, 1u64, &[0]);
+    take_in_turn(&rt, 1u128, &[0]);
+    take_in_turn(&rt, 0x80u8, &[7]);
+    take_in_turn(&rt, 0x8000u16, &[15]);
+    take_in_turn(&rt, 0x8000_0000u32, &[31]);
+    take_in_turn(&rt, 0x8000_0000_0000_0000u64, &[63]);
+    take_in_turn(&rt, 0x8000_0000_0000_0000_0000_0000_0000_0000u128, &[127]);
+    take_in_turn(&rt, 0xa5u8, &[0, 7, 2, 5]);
+    take_in_turn(&rt, 0x8421u16, &[0, 15, 5, 10]);
+    take_in_turn(&rt, 0x8001_8001u32, &[0, 31, 15, 16]);
+    take_in_turn(&rt, 0x8000_0001_8000_0001u64, &[0, 63, 31, 32]);
+    take_in_turn(&rt, 0x8000_0000_0000_0001_8000_0000_0000_0001u128, &[0, 127, 63, 64]);
+}
+
+#[test]
+fn every_bit(rt: HostRuntime) {
+    take_all(&rt, u8::MAX, 8);
+    take_all(&rt, u16::MAX, 16);
+    take_all(&rt, u32::MAX, 32);
+    take_all(&rt, u64::MAX, 64);
+    take_all(&rt, u128::MAX, 128);
+}
+
+#[test]
+fn copies_walk_apart(rt: HostRuntime) -> Result<(), Fail> {
+    let mut iter = PrimitiveIter(0b1010u8);
+    let mut copy = iter.clone()?;
+    assert_eq!(rt; copy.next(), Some(1));
+    assert_eq!(rt; copy.next(), Some(3));
+    assert_eq!(rt; iter.next_back(), Some(3));
+    assert_eq!(rt; iter.len(), 1);
+    let text = format!(in rt.alloc(); "{iter:?}")?;
+    assert_eq!(rt; text.as_str(), "PrimitiveIter(2)");
+    Ok(())
+}
