@@ -6,6 +6,7 @@
 --     Numbers      sets and numbers, over every width
 --     Ends      the least and the greatest member
 --     Words      words of 64 bits
+--     Listed      the set of a number whose bits are listed
 --     Integers      the laws of an integer as a store
 pub mod Members
 pub mod Rising
@@ -14,3 +15,4 @@ pub mod Numbers
 pub mod Ends
 pub mod Words
 pub mod Integers
+pub mod Listed

@@ -2,9 +2,11 @@
 #![tactic(auto)]
 
 mod command;
+mod letters;
 mod machine;
 mod registers;
 mod reply;
 mod runs;
+mod sparse;
 
 fn main() {}

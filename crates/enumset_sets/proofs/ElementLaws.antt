@@ -6,9 +6,10 @@ use denote.Enum.Enum.{tag_below}
 use denote.Enum.Bare.{Bare, tag_one, sameb, same_true, true_same}
 use Rattle.std.proofs.lemmas.Bool.{or_cases, cases_lt}
 use Rattle.enumset_repr.specs.BitSet.{BitSet, is_in, contains, from_list, rising, len, insert, empty, is_subset}
+use Rattle.enumset_repr.specs.Number.{is_distinct}
 use Rattle.enumset_repr.specs.Laws.Members.{same_number, itself, both, or_left, or_right, contains-from_list, contains-rising, list_all-each, is_subset-contains}
 use Rattle.enumset_repr.specs.Laws.Rising.{len-empty, len-insert, rising-rises, RisesFrom, is_in-from, rising_is}
-use Rattle.enumset_sets.specs.Elements.{bit_of, one_past_last, one_past_greatest, IsElementType, is_distinct, one_past_all, is_lawful, AreBitsOf}
+use Rattle.enumset_sets.specs.Elements.{bit_of, one_past_last, one_past_greatest, IsElementType, one_past_all, is_lawful, AreBitsOf}
 
 is_in-get_or : (bs : List ℕ) (i : ℕ) → i < length bs → is_in (get_or bs i 0) bs ≡ true
 is_in-get_or [] i small = absurd (omega (arith, small))
@@ -86,8 +87,8 @@ module _ (D : Declared) (bare : Bare D.parts) (bits : List ℕ) (variants : leng
   bit_of-tells v w same = tag_one D bare v w (distinct_places bits apart (tag_of D v) (tag_of D w) (tag_within v) (tag_within w) same)
 
 -- One test that computes proves the laws of an enum without fields: `D` is its type as the check declares it.
-pub lawful : (D : Declared) → Bare D.parts → (bits : List ℕ) (all : BitSet) (width count : ℕ) → all ≡ from_list bits → is_lawful (length (rowss D.parts)) bits width count ≡ true → IsElementType (bit_of D bits) (sameb D) bits all width count
-lawful D bare bits all width count valid test =
+pub lawful : {bits : List ℕ} {all : BitSet} {width count : ℕ} (D : Declared) → Bare D.parts → all ≡ from_list bits → is_lawful (length (rowss D.parts)) bits width count ≡ true → IsElementType (bit_of D bits) (sameb D) bits all width count
+lawful {bits} {all} {width} {count} D bare valid test =
     let variants : length bits ≡ length (rowss D.parts) = same_number _ _ (both _ _ test).0 in
     let rest : (is_distinct bits && ((one_past_all bits == width) && (length bits == count))) ≡ true = (both _ _ test).1 in
     let apart : is_distinct bits ≡ true = (both _ _ rest).0 in

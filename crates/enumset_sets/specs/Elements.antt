@@ -8,6 +8,7 @@ use Rattle.std.specs.Prelude.{◌≡◌, ◌↔◌, ◌==◌, ℕ, suc, ◌+◌,
 use Rattle.std.specs.List.{list_all}
 use denote.Enum.Declared.{Declared, rowss, tag_of}
 use Rattle.enumset_repr.specs.BitSet.{BitSet, is_in, contains, from_list, rising, len}
+use Rattle.enumset_repr.specs.Number.{is_distinct}
 
 -- the bit of a value, from the bits of its enum's variants in the order of their declaration
 abbrev pub bit_of : (D : Declared) → List ℕ → D.D → ℕ
@@ -41,11 +42,6 @@ abbrev pub AreBitsOf : List ℕ → List ℕ → Type 0
 AreBitsOf bits bs = IsTrue (list_all (λ b. is_in b bits) bs)
 
 -- ---- the test
-
--- whether no number stands twice
-abbrev pub is_distinct : List ℕ → Bool
-is_distinct [] = true
-is_distinct (b ∷ bs) = not (is_in b bs) && is_distinct bs
 
 -- one past the greatest number of a list
 abbrev pub one_past_all : List ℕ → ℕ
