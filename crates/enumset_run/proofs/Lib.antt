@@ -1,1 +1,6 @@
 pub mod Lists
+pub mod Lines
+pub mod Words
+pub mod Fields
+pub mod Commands
+pub mod Tables

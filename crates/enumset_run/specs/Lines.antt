@@ -1,16 +1,16 @@
 -- The commands that the lines of an input stand for.
 --     lines_of      the lines: a line feed ends one, and a carriage return right before it is left away
 --     words_of      the words of a line, which spaces part
---     field      the number that a field writes
+--     field, register, bit      the number that a field writes, if it fits
 --     command_of      the command that the words of a line write
 --     lines      the commands of an input, or the number of the first line that is no command
-use Rattle.std.specs.Prelude.{◌≡◌, ◌==◌, ℕ, ◌+◌, ◌-◌, ◌*◌, ◌^◌, Bool, true, false, not, ◌&&◌, nat_lt, nat_eq, List, [], ◌∷◌, length, filter, codes, Option, Some, None, Result, Ok, Err, if◌then◌else◌}
+use Rattle.std.specs.Prelude.{◌==◌, ℕ, ◌+◌, ◌-◌, ◌*◌, ◌^◌, Bool, true, false, not, ◌&&◌, nat_lt, List, [], ◌∷◌, filter, Option, Some, None, option_and_then, Result, Ok, Err, if◌then◌else◌}
 use Rattle.std.specs.List.{slice_split}
 use Rattle.std.specs.Str.{all_ascii_digits}
 use Rattle.std.specs.Str.Lines as text
-use Rattle.std.specs.Cmp.Lexicographic.{pointwise}
+use Rattle.std.specs.Option.{option_or}
 use Rattle.enumset_run.specs.declared.command.Command.{Command}
-use Rattle.enumset_run.specs.declared.command.Command.TheVariants.{Insert, Contains, Len, Complement, Iter, Next, Left}
+use Rattle.enumset_run.specs.Tables.{one_register, two_registers, three_registers, register_and_bit}
 
 -- A line feed ends a line. A carriage return right before it is left away, and a last line without a
 -- line feed counts unless it is empty. std's `lines` says just this.
@@ -42,34 +42,28 @@ register word = field (2 ^ 8) word
 abbrev pub bit : List ℕ → Option ℕ
 bit word = field (2 ^ 32) word
 
-abbrev pub is_name : List ℕ → List ℕ → Bool
-is_name word name = pointwise nat_eq word name
+-- a command over one field, if the field is there, over two and over three
+abbrev pub with_one : (ℕ → Option Command) → Option ℕ → Option Command
+with_one command x = option_and_then command x
 
--- a command of one field, and of two
-abbrev pub with_one : (ℕ → Command) → Option ℕ → Option Command
-with_one make (Some x) = Some (make x)
-with_one make None = None
+abbrev pub with_two : (ℕ → ℕ → Option Command) → Option ℕ → Option ℕ → Option Command
+with_two command x y = option_and_then (λ a. with_one (command a) y) x
 
-abbrev pub with_two : (ℕ → ℕ → Command) → Option ℕ → Option ℕ → Option Command
-with_two make (Some x) y = with_one (make x) y
-with_two make None y = None
+abbrev pub with_three : (ℕ → ℕ → ℕ → Option Command) → Option ℕ → Option ℕ → Option ℕ → Option Command
+with_three command x y z = option_and_then (λ a. with_two (command a) y z) x
 
--- the commands of one field
+-- the command that a name and one field write
 abbrev pub one_field : List ℕ → List ℕ → Option Command
-one_field name x =
-    if is_name name (codes "len") then with_one Len (register x)
-    else if is_name name (codes "next") then with_one Next (register x)
-    else if is_name name (codes "left") then with_one Left (register x)
-    else None
+one_field name x = with_one (one_register name) (register x)
 
--- the commands of two fields
+-- the command that a name and two fields write: over a register and a bit, or else over two registers
 abbrev pub two_fields : List ℕ → List ℕ → List ℕ → Option Command
 two_fields name x y =
-    if is_name name (codes "insert") then with_two Insert (register x) (bit y)
-    else if is_name name (codes "contains") then with_two Contains (register x) (bit y)
-    else if is_name name (codes "complement") then with_two Complement (register x) (register y)
-    else if is_name name (codes "iter") then with_two Iter (register x) (register y)
-    else None
+    option_or (with_two (register_and_bit name) (register x) (bit y)) (with_two (two_registers name) (register x) (register y))
+
+-- the command that a name and three fields write
+abbrev pub three_fields : List ℕ → List ℕ → List ℕ → List ℕ → Option Command
+three_fields name x y z = with_three (three_registers name) (register x) (register y) (register z)
 
 -- the command that the words of a line write: its name, and exactly its fields
 abbrev pub command_of : List (List ℕ) → Option Command
@@ -77,7 +71,8 @@ command_of [] = None
 command_of (name ∷ []) = None
 command_of (name ∷ x ∷ []) = one_field name x
 command_of (name ∷ x ∷ y ∷ []) = two_fields name x y
-command_of (name ∷ x ∷ y ∷ z ∷ more) = None
+command_of (name ∷ x ∷ y ∷ z ∷ []) = three_fields name x y z
+command_of (name ∷ w ∷ x ∷ y ∷ z ∷ more) = None
 
 -- a command, before those of the lines after it
 abbrev pub before : Option Command → ℕ → Result (List Command) ℕ → Result (List Command) ℕ

@@ -1,4 +1,5 @@
 //! The replies of a run.
+use std::fmt;
 
 /// The answer to one command.
 #[derive(Clone, Copy, Debug, PartialEq, Eq)]
@@ -24,4 +25,36 @@ pub enum Refusal {
     NoRegister,
     /// It names a bit that is not valid.
     NotABit,
+}
+
+impl fmt::Display for Reply {
+    ghost use Rattle.std.specs.Prelude.{Some};
+    ghost use Rattle.enumset_run.specs.Texts.{text_of};
+
+    ghost output = { λ reply. Some (text_of reply) };
+
+    fn fmt<W: fmt::Write>(&self, f: &mut fmt::Formatter<W>) -> fmt::Result {
+        match self {
+            Reply::Done => write!(f, "ok"),
+            Reply::Truth(truth) => write!(f, "{truth}"),
+            Reply::Count(count) => write!(f, "{count}"),
+            Reply::Bit(bit) => write!(f, "bit {bit}"),
+            Reply::Absent => write!(f, "none"),
+            Reply::Refused(refusal) => write!(f, "{refusal}"),
+        }
+    }
+}
+
+impl fmt::Display for Refusal {
+    ghost use Rattle.std.specs.Prelude.{Some};
+    ghost use Rattle.enumset_run.specs.Texts.{refusal_text};
+
+    ghost output = { λ refusal. Some (refusal_text refusal) };
+
+    fn fmt<W: fmt::Write>(&self, f: &mut fmt::Formatter<W>) -> fmt::Result {
+        match self {
+            Refusal::NoRegister => write!(f, "K1 no register"),
+            Refusal::NotABit => write!(f, "K2 not a bit"),
+        }
+    }
 }

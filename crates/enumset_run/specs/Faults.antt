@@ -1,0 +1,24 @@
+-- The texts and exit statuses of the program's faults.
+use Rattle.std.specs.Prelude.{ℕ, List, codes}
+use Rattle.enumset_run.specs.Texts.{fault_text}
+use Rattle.enumset_run.specs.declared.text_fault.TextFault.{TextFault}
+use Rattle.enumset_run.specs.declared.text_fault.TextFault.TheVariants.{TooLong, BadLine, OutOfMemory}
+use Rattle.enumset_run.specs.declared.fault.ProgramFault.{ProgramFault}
+use Rattle.enumset_run.specs.declared.fault.ProgramFault.TheVariants.{OneArgument, UnknownType, Text, Reading, Writing}
+
+abbrev pub program_fault_text : ProgramFault → List ℕ
+program_fault_text OneArgument = codes "one argument: the name of a type"
+program_fault_text UnknownType = codes "unknown type"
+program_fault_text (Text fault) = fault_text fault
+program_fault_text Reading = codes "reading failed"
+program_fault_text Writing = codes "writing failed"
+
+-- 2 where the request is at fault, 3 for want of memory, 1 where standard input or output failed
+abbrev pub status_of : ProgramFault → ℕ
+status_of OneArgument = 2
+status_of UnknownType = 2
+status_of (Text TooLong) = 2
+status_of (Text (BadLine n)) = 2
+status_of (Text OutOfMemory) = 3
+status_of Reading = 1
+status_of Writing = 1

@@ -1,0 +1,53 @@
+//! The command that a name and its fields write.
+ghost use Rattle.std.specs.Prelude.{◌≡◌, ◌∷◌};
+ghost use Rattle.enumset_run.specs.Lines.{command_of, one_field, two_fields, three_fields};
+
+use super::fields::{read_bit, read_register};
+use super::tables::{one_register, register_and_bit, three_registers, two_registers};
+use super::words::Words;
+use crate::command::Command;
+
+/// The command of this name whose fields are the words left.
+pub fn read_command(name: &[u8], mut words: Words) -> Option<Command>
+    ensures { result ≡ command_of (name.now ∷ words.entry) }
+{
+    let first = words.next()?;
+    let Some(second) = words.next() else {
+        return one_field(name, first);
+    };
+    let Some(third) = words.next() else {
+        return two_fields(name, first, second);
+    };
+    match words.next() {
+        None => three_fields(name, first, second, third),
+        Some(_) => None,
+    }
+}
+
+fn one_field(name: &[u8], x: &[u8]) -> Option<Command>
+    ensures { result ≡ one_field name.now x.now }
+{
+    one_register(name, read_register(x)?)
+}
+
+#[tactic(auto, using(crate::proofs::Fields::limits))]
+fn two_fields(name: &[u8], x: &[u8], y: &[u8]) -> Option<Command>
+    ensures { result ≡ two_fields name.now x.now y.now }
+{
+    let first = read_register(x)?;
+    match register_and_bit(name, first, read_bit(y)?) {
+        Some(command) => Some(command),
+        None => two_registers(name, first, read_register(y)?),
+    }
+}
+
+fn three_fields(name: &[u8], x: &[u8], y: &[u8], z: &[u8]) -> Option<Command>
+    ensures { result ≡ three_fields name.now x.now y.now z.now }
+{
+    three_registers(
+        name,
+        read_register(x)?,
+        read_register(y)?,
+        read_register(z)?,
+    )
+}

@@ -1,0 +1,35 @@
+//! The worked types by their names, and the answer to an input over each.
+
+ghost use Rattle.std.specs.Prelude.{◌≡◌, ◌⊎◌, IfOk, IfErr, Ok, Err};
+ghost use Rattle.enumset_run.specs.Kinds.{worked_of, valid_bits_of};
+ghost use Rattle.enumset_run.specs.Answers.{answer_to};
+
+use crate::letters::Letters;
+use crate::serve::serve_text;
+use crate::text_fault::TextFault;
+use crate::sparse::Sparse;
+use crate::worked::Worked;
+use std::alloc::Global;
+
+/// The type of this name, byte by byte.
+pub fn worked(name: &str) -> Option<Worked>
+    ensures { result ≡ worked_of name.now }
+{
+    match name {
+        "letters" => Some(Worked::Letters),
+        "sparse" => Some(Worked::Sparse),
+        _ => None,
+    }
+}
+
+/// The text of the replies to the commands of an input, over the type of that kind.
+pub fn serve_worked(alloc: Global, kind: Worked, input: &[u8]) -> Result<Vec<u8>, TextFault>
+    ensures answer { IfOk result (λ out. answer_to (valid_bits_of kind) input.now ≡ Ok out.items) }
+    ensures fault { IfErr result (λ fault. (answer_to (valid_bits_of kind) input.now ≡ Err fault) ⊎ (fault ≡ TextFault.OutOfMemory)) }
+    ensures too_long { answer_to (valid_bits_of kind) input.now ≡ Err TextFault.TooLong → result ≡ Err TextFault.TooLong }
+{
+    match kind {
+        Worked::Letters => serve_text::<Letters>(alloc, input),
+        Worked::Sparse => serve_text::<Sparse>(alloc, input),
+    }
+}

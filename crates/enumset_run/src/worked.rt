@@ -1,0 +1,10 @@
+//! The worked types.
+
+/// A type whose sets the program runs commands over.
+#[derive(Clone, Copy, Debug, PartialEq, Eq)]
+pub enum Worked {
+    /// `letters`: bits 0 to 6, in a `u8`.
+    Letters,
+    /// `sparse`: bits 10, 20, 30 and 127, in a `u128`.
+    Sparse,
+}
