@@ -5,6 +5,5 @@ pub mod on_u16;
 pub mod on_u32;
 pub mod on_u64;
 pub mod on_u8;
-
 #[cfg(test)]
 mod tests;

@@ -1,9 +1,9 @@
 -- The answer to an input: the text of the replies to the commands of its lines, or why there is none.
-use Rattle.std.specs.Prelude.{◌≡◌, ◌⊎◌, ℕ, ◌^◌, Bool, nat_lt, List, length, Result, Ok, Err, IfOk, IfErr, if◌then◌else◌}
+use Rattle.std.specs.Prelude.{ℕ, nat_lt, List, length, Result, Ok, Err, if◌then◌else◌}
 use Rattle.enumset_repr.specs.BitSet.{BitSet}
 use Rattle.enumset_run.specs.declared.command.Command.{Command}
 use Rattle.enumset_run.specs.declared.text_fault.TextFault.{TextFault}
-use Rattle.enumset_run.specs.declared.text_fault.TextFault.TheVariants.{TooLong, BadLine, OutOfMemory}
+use Rattle.enumset_run.specs.declared.text_fault.TextFault.TheVariants.{TooLong, BadLine}
 use Rattle.enumset_run.specs.Runs.{replies}
 use Rattle.enumset_run.specs.Lines.{lines}
 use Rattle.enumset_run.specs.Texts.{text}

@@ -1,7 +1,6 @@
 -- The texts and exit statuses of the program's faults.
 use Rattle.std.specs.Prelude.{ℕ, List, codes}
 use Rattle.enumset_run.specs.Texts.{fault_text}
-use Rattle.enumset_run.specs.declared.text_fault.TextFault.{TextFault}
 use Rattle.enumset_run.specs.declared.text_fault.TextFault.TheVariants.{TooLong, BadLine, OutOfMemory}
 use Rattle.enumset_run.specs.declared.fault.ProgramFault.{ProgramFault}
 use Rattle.enumset_run.specs.declared.fault.ProgramFault.TheVariants.{OneArgument, UnknownType, Text, Reading, Writing}

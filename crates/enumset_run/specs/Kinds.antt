@@ -10,9 +10,9 @@ use Rattle.enumset_run.specs.declared.worked.Worked.TheVariants.{Letters, Sparse
 abbrev pub worked_of : List ℕ → Option Worked
 worked_of name =
     lookup (bytes_eq name) (
-      (codes "letters", Letters)
-      ∷ (codes "sparse", Sparse)
-      ∷ []
+    (codes "letters", Letters)
+    ∷ (codes "sparse", Sparse)
+    ∷ []
     )
 
 abbrev pub valid_bits_of : Worked → BitSet

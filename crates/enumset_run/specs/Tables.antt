@@ -9,47 +9,47 @@ use Rattle.enumset_run.specs.declared.command.Command.TheVariants.{New, All, Cle
 abbrev pub one_register : List ℕ → ℕ → Option Command
 one_register name r =
     lookup (bytes_eq name) (
-      (codes "new", New r)
-      ∷ (codes "all", All r)
-      ∷ (codes "clear", Clear r)
-      ∷ (codes "len", Len r)
-      ∷ (codes "empty", IsEmpty r)
-      ∷ (codes "next", Next r)
-      ∷ (codes "next_back", NextBack r)
-      ∷ (codes "left", Left r)
-      ∷ []
+    (codes "new", New r)
+    ∷ (codes "all", All r)
+    ∷ (codes "clear", Clear r)
+    ∷ (codes "len", Len r)
+    ∷ (codes "empty", IsEmpty r)
+    ∷ (codes "next", Next r)
+    ∷ (codes "next_back", NextBack r)
+    ∷ (codes "left", Left r)
+    ∷ []
     )
 
 abbrev pub two_registers : List ℕ → ℕ → ℕ → Option Command
 two_registers name x y =
     lookup (bytes_eq name) (
-      (codes "complement", Complement x y)
-      ∷ (codes "insert_all", InsertAll x y)
-      ∷ (codes "remove_all", RemoveAll x y)
-      ∷ (codes "disjoint", Disjoint x y)
-      ∷ (codes "superset", Superset x y)
-      ∷ (codes "subset", Subset x y)
-      ∷ (codes "equal", Equal x y)
-      ∷ (codes "iter", Iter x y)
-      ∷ []
+    (codes "complement", Complement x y)
+    ∷ (codes "insert_all", InsertAll x y)
+    ∷ (codes "remove_all", RemoveAll x y)
+    ∷ (codes "disjoint", Disjoint x y)
+    ∷ (codes "superset", Superset x y)
+    ∷ (codes "subset", Subset x y)
+    ∷ (codes "equal", Equal x y)
+    ∷ (codes "iter", Iter x y)
+    ∷ []
     )
 
 abbrev pub three_registers : List ℕ → ℕ → ℕ → ℕ → Option Command
 three_registers name to a b =
     lookup (bytes_eq name) (
-      (codes "union", Union to a b)
-      ∷ (codes "intersection", Intersection to a b)
-      ∷ (codes "difference", Difference to a b)
-      ∷ (codes "symmetric", SymmetricDifference to a b)
-      ∷ []
+    (codes "union", Union to a b)
+    ∷ (codes "intersection", Intersection to a b)
+    ∷ (codes "difference", Difference to a b)
+    ∷ (codes "symmetric", SymmetricDifference to a b)
+    ∷ []
     )
 
 abbrev pub register_and_bit : List ℕ → ℕ → ℕ → Option Command
 register_and_bit name r bit =
     lookup (bytes_eq name) (
-      (codes "only", Only r bit)
-      ∷ (codes "insert", Insert r bit)
-      ∷ (codes "remove", Remove r bit)
-      ∷ (codes "contains", Contains r bit)
-      ∷ []
+    (codes "only", Only r bit)
+    ∷ (codes "insert", Insert r bit)
+    ∷ (codes "remove", Remove r bit)
+    ∷ (codes "contains", Contains r bit)
+    ∷ []
     )

@@ -6,8 +6,8 @@ ghost use Rattle.enumset_run.specs.Answers.{answer_to};
 
 use crate::letters::Letters;
 use crate::serve::serve_text;
-use crate::text_fault::TextFault;
 use crate::sparse::Sparse;
+use crate::text_fault::TextFault;
 use crate::worked::Worked;
 use std::alloc::Global;
 

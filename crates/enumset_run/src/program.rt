@@ -59,5 +59,7 @@ fn write_output(rt: &HostRuntime, output: &[u8]) -> Result<(), ProgramFault> {
     if output.is_empty() {
         return Ok(());
     }
-    io::writer(rt).write_all(output).map_err(|_| ProgramFault::Writing)
+    io::writer(rt)
+        .write_all(output)
+        .map_err(|_| ProgramFault::Writing)
 }

@@ -140,8 +140,8 @@ impl<T: EnumSetType> IteratorRegisters<T> {
     pub fn next(&mut self, i: u8) -> Result<Option<T>, Refusal>
         ensures { MatchResult result
             (λ given. (nat_lt i 2 ≡ true)
-                × (option_map T.bit given ≡ first_of (slice_index_or self.old i []))
-                × (self.new ≡ slice_set self.old i (without_first (slice_index_or self.old i []))))
+            × (option_map T.bit given ≡ first_of (slice_index_or self.old i []))
+            × (self.new ≡ slice_set self.old i (without_first (slice_index_or self.old i []))))
             (λ refused. (nat_lt i 2 ≡ false) × (refused ≡ Refusal.NoRegister) × (self.new ≡ self.old)) }
     {
         match i {
@@ -156,8 +156,8 @@ impl<T: EnumSetType> IteratorRegisters<T> {
     pub fn next_back(&mut self, i: u8) -> Result<Option<T>, Refusal>
         ensures { MatchResult result
             (λ given. (nat_lt i 2 ≡ true)
-                × (option_map T.bit given ≡ last_of (slice_index_or self.old i []))
-                × (self.new ≡ slice_set self.old i (without_last (slice_index_or self.old i []))))
+            × (option_map T.bit given ≡ last_of (slice_index_or self.old i []))
+            × (self.new ≡ slice_set self.old i (without_last (slice_index_or self.old i []))))
             (λ refused. (nat_lt i 2 ≡ false) × (refused ≡ Refusal.NoRegister) × (self.new ≡ self.old)) }
     {
         match i {

@@ -1,14 +1,13 @@
 //! Runs of commands.
 
 ghost use Rattle.std.specs.Prelude.{◌≡◌, IfOk};
+ghost use Rattle.enumset_run.specs.Runs.{replies};
 
 use crate::command::Command;
 use crate::machine::Machine;
 use crate::reply::Reply;
 use enumset_sets::element::EnumSetType;
 use std::alloc::{AllocError, Global};
-
-ghost use Rattle.enumset_run.specs.Runs.{replies};
 
 /// Carries out commands in order by the steps of a new machine: one reply a command, as finite sets of
 /// bit numbers answer. The only error is want of memory for the replies.

@@ -1,14 +1,14 @@
 -- The laws of an element type, from the one test of its variants' bits.
-use Rattle.std.proofs.Common.{◌≡◌, ◌<◌, ◌≤◌, ◌≢◌, ℕ, suc, zero, ◌+◌, ◌-◌, Bool, true, false, cond, not, ◌&&◌, ◌||◌, List, [], ◌∷◌, refl, sym, ap, subst, ◌∙◌, length, get_or, arith, true≢false, max, inl, inr, ◌⊎◌, ◌↔◌, IsTrue}
-use Rattle.std.specs.Prelude.{◌==◌, nat_lt}
+use Rattle.std.proofs.Common.{◌≡◌, ◌<◌, ◌≤◌, ℕ, suc, zero, ◌+◌, Bool, true, false, cond, not, ◌&&◌, List, [], ◌∷◌, refl, sym, ap, ◌∙◌, length, get_or, arith, true≢false, inl, inr}
+use Rattle.std.specs.Prelude.{◌==◌}
 use denote.Enum.Declared.{Declared, rowss, tag_of}
 use denote.Enum.Enum.{tag_below}
 use denote.Enum.Bare.{Bare, tag_one, sameb, same_true, true_same}
 use Rattle.std.proofs.lemmas.Bool.{or_cases, cases_lt}
-use Rattle.enumset_repr.specs.BitSet.{BitSet, is_in, contains, from_list, rising, len, insert, empty, is_subset}
+use Rattle.enumset_repr.specs.BitSet.{BitSet, is_in, contains, from_list, rising, len, is_subset}
 use Rattle.enumset_repr.specs.Number.{is_distinct}
 use Rattle.enumset_repr.specs.Laws.Members.{same_number, itself, both, or_left, or_right, contains-from_list, contains-rising, list_all-each, is_subset-contains}
-use Rattle.enumset_repr.specs.Laws.Rising.{len-empty, len-insert, rising-rises, RisesFrom, is_in-from, rising_is}
+use Rattle.enumset_repr.specs.Laws.Rising.{len-empty, len-insert, rising-rises, RisesFrom}
 use Rattle.enumset_sets.specs.Elements.{bit_of, one_past_last, one_past_greatest, IsElementType, one_past_all, is_lawful, AreBitsOf}
 
 is_in-get_or : (bs : List ℕ) (i : ℕ) → i < length bs → is_in (get_or bs i 0) bs ≡ true
@@ -42,17 +42,17 @@ len-from_list (b ∷ bs) apart =
 is_in-one_past : (q : ℕ) (bs : List ℕ) → is_in q bs ≡ true → q < one_past_all bs
 is_in-one_past q [] one = absurd (true≢false (sym one))
 is_in-one_past q (b ∷ bs) one = elim (or_cases (q == b) _ one) [
-    | inl here ↦ omega (arith, same_number q b here)
-    | inr later ↦ omega (arith, is_in-one_past q bs later)
-  ]
+  | inl here ↦ omega (arith, same_number q b here)
+  | inr later ↦ omega (arith, is_in-one_past q bs later)
+]
 
 -- what reaches the number is in the list
 one_past_is_in : (bs : List ℕ) (n : ℕ) → one_past_all bs ≡ suc n → is_in n bs ≡ true
 one_past_is_in [] n e = absurd (omega (arith, e))
 one_past_is_in (b ∷ bs) n e = elim (cases_lt (suc b) (one_past_all bs)) [
-    | inl less ↦ or_right (n == b) _ (one_past_is_in bs n (omega (arith, e, less)))
-    | inr most ↦ or_left (n == b) _ (let same : n ≡ b = omega (arith, e, most) in ap (λ x. x == b) same ∙ itself b)
-  ]
+  | inl less ↦ or_right (n == b) _ (one_past_is_in bs n (omega (arith, e, less)))
+  | inr most ↦ or_left (n == b) _ (let same : n ≡ b = omega (arith, e, most) in ap (λ x. x == b) same ∙ itself b)
+]
 
 -- two lists with the same numbers reach as far
 same_reach : (xs bs : List ℕ) → ((q : ℕ) → is_in q xs ≡ is_in q bs) → one_past_all xs ≤ one_past_all bs

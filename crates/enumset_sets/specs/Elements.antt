@@ -4,9 +4,9 @@
 --     IsElementType      the laws of an element type
 --     AreBitsOf      each number of a list is one of the variants' bits
 --     is_lawful      the test, of the bits of the variants, by which the laws are proved
-use Rattle.std.specs.Prelude.{◌≡◌, ◌↔◌, ◌==◌, ℕ, suc, ◌+◌, Bool, true, not, ◌&&◌, List, [], ◌∷◌, length, max, fold, slice_index, IsTrue}
+use Rattle.std.specs.Prelude.{◌≡◌, ◌↔◌, ◌==◌, ℕ, suc, Bool, ◌&&◌, List, [], ◌∷◌, length, max, slice_index, IsTrue}
 use Rattle.std.specs.List.{list_all}
-use denote.Enum.Declared.{Declared, rowss, tag_of}
+use denote.Enum.Declared.{Declared, tag_of}
 use Rattle.enumset_repr.specs.BitSet.{BitSet, is_in, contains, from_list, rising, len}
 use Rattle.enumset_repr.specs.Number.{is_distinct}
 

@@ -1,12 +1,12 @@
 -- A number whose bits are listed: one test of the list says which set the number stands for.
-use Rattle.std.proofs.Common.{◌≡◌, ◌<◌, ◌≤◌, ℕ, suc, ◌+◌, ◌^◌, Bool, true, false, cond, not, true≢false, ◌&&◌, ◌||◌, List, [], ◌∷◌, refl, sym, ap, ◌∙◌, arith, sum_by}
+use Rattle.std.proofs.Common.{◌≡◌, ◌≤◌, ℕ, suc, ◌+◌, ◌^◌, Bool, true, false, cond, true≢false, ◌||◌, List, [], ◌∷◌, refl, sym, ap, ◌∙◌, arith, sum_by}
 use Rattle.std.specs.Prelude.{◌==◌, nat_lt}
 use Rattle.std.proofs.lemmas.Bool.{ltb-true}
 use Rattle.std.proofs.lemmas.List.Sums.{sum_by-cons}
 use Rattle.std.proofs.lemmas.Bool.Decides.{nat_tests}
 use Rattle.enumset_repr.specs.BitSet.{is_in, BitSet, contains, rising, insert, from_list}
 use Rattle.enumset_repr.specs.Number.{number, bits, is_distinct, lists_bits}
-use Rattle.enumset_repr.specs.Laws.Members.{same_number, itself, both, not_true, or_swap, contains-insert, contains-rising, contains-from_list}
+use Rattle.enumset_repr.specs.Laws.Members.{same_number, both, not_true, or_swap, contains-insert, contains-rising, contains-from_list}
 use Rattle.enumset_repr.specs.Laws.Rising.{RisesFrom, rising-rises, rising-empty, rising_is}
 use Rattle.enumset_repr.specs.Laws.Numbers.{bits-number}
 
@@ -19,9 +19,9 @@ is_in-put : (q b : ℕ) (xs : List ℕ) → is_in q (put b xs) ≡ ((q == b) || 
 unfolding put
 is_in-put q b [] = refl
 is_in-put q b (x ∷ xs) = elim (nat_lt b x) as (λ t. is_in q (cond t (b ∷ x ∷ xs) (x ∷ put b xs)) ≡ ((q == b) || ((q == x) || is_in q xs))) [
-    | true ↦ refl
-    | false ↦ ap (λ t. (q == x) || t) (is_in-put q b xs) ∙ or_swap (q == x) (q == b) (is_in q xs)
-  ]
+  | true ↦ refl
+  | false ↦ ap (λ t. (q == x) || t) (is_in-put q b xs) ∙ or_swap (q == x) (q == b) (is_in q xs)
+]
 
 neither : (a b : Bool) → (a || b) ≡ false → (a ≡ false) × (b ≡ false)
 neither true b h = absurd (true≢false h)
@@ -31,17 +31,17 @@ rises-put : (k b : ℕ) (xs : List ℕ) → k ≤ b → RisesFrom k xs → is_in
 unfolding put
 rises-put k b [] low rises out = (low, tt)
 rises-put k b (x ∷ xs) low rises out = elim (nat_lt b x) as (λ t. nat_lt b x ≡ t → RisesFrom k (cond t (b ∷ x ∷ xs) (x ∷ put b xs))) [
-    | true ↦ λ e. (low, (ltb-true b x e, rises.1))
-    | false ↦ λ e. (rises.0, rises-put (suc x) b xs (grind (arith, nat_tests, e, (neither (b == x) _ out).0)) rises.1 (neither (b == x) _ out).1)
-  ] refl
+  | true ↦ λ e. (low, (ltb-true b x e, rises.1))
+  | false ↦ λ e. (rises.0, rises-put (suc x) b xs (grind (arith, nat_tests, e, (neither (b == x) _ out).0)) rises.1 (neither (b == x) _ out).1)
+] refl
 
 sum_by-put : (b : ℕ) (xs : List ℕ) → sum_by (λ c. 2 ^ c) (put b xs) ≡ 2 ^ b + sum_by (λ c. 2 ^ c) xs
 unfolding put
 sum_by-put b [] = omega arith
 sum_by-put b (x ∷ xs) = elim (nat_lt b x) as (λ t. sum_by (λ c. 2 ^ c) (cond t (b ∷ x ∷ xs) (x ∷ put b xs)) ≡ 2 ^ b + sum_by (λ c. 2 ^ c) (x ∷ xs)) [
-    | true ↦ omega (arith, sum_by-cons (λ c. 2 ^ c) b (x ∷ xs))
-    | false ↦ omega (arith, sum_by-put b xs, sum_by-cons (λ c. 2 ^ c) x (put b xs), sum_by-cons (λ c. 2 ^ c) x xs)
-  ]
+  | true ↦ omega (arith, sum_by-cons (λ c. 2 ^ c) b (x ∷ xs))
+  | false ↦ omega (arith, sum_by-put b xs, sum_by-cons (λ c. 2 ^ c) x (put b xs), sum_by-cons (λ c. 2 ^ c) x xs)
+]
 
 -- a number that is new adds its power
 number-insert : (s : BitSet) (b : ℕ) → contains s b ≡ false → number (insert s b) ≡ 2 ^ b + number s
@@ -49,7 +49,7 @@ unfolding number
 number-insert s b new =
     let out : is_in b (rising s) ≡ false = sym (contains-rising s b) ∙ new in
     let list : rising (insert s b) ≡ put b (rising s) =
-      rising_is (insert s b) _ (rises-put 0 b _ (omega arith) (rising-rises s) out) (λ q. contains-insert s b q ∙ ap (λ t. (q == b) || t) (contains-rising s q) ∙ sym (is_in-put q b (rising s))) in
+    rising_is (insert s b) _ (rises-put 0 b _ (omega arith) (rising-rises s) out) (λ q. contains-insert s b q ∙ ap (λ t. (q == b) || t) (contains-rising s q) ∙ sym (is_in-put q b (rising s))) in
     ap (sum_by (λ c. 2 ^ c)) list ∙ sum_by-put b (rising s)
 
 number-from_list : (bs : List ℕ) → is_distinct bs ≡ true → number (from_list bs) ≡ sum_by (λ b. 2 ^ b) bs

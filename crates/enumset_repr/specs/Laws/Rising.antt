@@ -173,6 +173,6 @@ len-below s n sub =
 pub is_empty_iff : (s : BitSet) → (is_empty s ≡ true) ↔ (s ≡ empty)
 unfolding is_empty
 is_empty_iff s = (
-    λ none. empty_of_len s (same_number (len s) 0 none),
-    λ e. ap (λ n. n == 0) (ap len e ∙ len-empty)
-  )
+  λ none. empty_of_len s (same_number (len s) 0 none),
+  λ e. ap (λ n. n == 0) (ap len e ∙ len-empty),
+)

@@ -5,8 +5,8 @@ ghost use Rattle.enumset_repr.specs.BitSet as set;
 
 use crate::machine::Machine;
 use crate::reply::{Refusal, Reply};
-use enumset_sets::element::EnumSetType;
 use enumset_repr::repr::EnumSetTypeRepr;
+use enumset_sets::element::EnumSetType;
 
 impl<T: EnumSetType> Machine<T> {
     ghost use Rattle.enumset_run.specs.Runs.{outcome, reply_or_refused};

@@ -1,4 +1,4 @@
-use Rattle.std.proofs.Common.{refl, ap, sym, ◌∷◌, []}
+use Rattle.std.proofs.Common.{refl, ◌∷◌, []}
 use Rattle.enumset_repr.specs.Laws.Listed.{bits_listed}
 use Rattle.enumset_run.proofs.kinds.serve_worked.Goals as goal
 
