@@ -5,8 +5,9 @@
 //! - [`integers`]: `u8`, `u16`, `u32`, `u64` and `u128` as stores.
 //! - [`primitive`] and [`primitive_iter`]: the iterator over the bits of an integer, from both ends.
 //!
-//! A contract speaks of sets of `specs/BitSet.antt` alone. `specs/Number.antt` says which set a number
-//! means, and `specs/Words.antt` what a set's words of 64 bits are.
+//! A contract speaks of the finite sets of `specs/BitSet.antt`. `specs/Number.antt` says which set a
+//! number means, `specs/Words.antt` what a set's words of 64 bits are, and `specs/Ends.antt` what its
+//! least and its greatest member are. `specs/Laws` has the proved laws of these words.
 #![tactic(auto)]
 
 pub mod integers;

@@ -10,7 +10,8 @@ use std::alloc::AllocError;
 
 /// The numbers of the bits that are set in an integer, each once, rising, from both ends.
 ///
-/// It mirrors `PrimitiveIter` of Rust's `enumset`.
+/// `size_hint` and `len` are exact, and a clone has the same numbers left. It mirrors `PrimitiveIter` of
+/// Rust's `enumset`.
 #[derive(Copy, Debug)]
 pub struct PrimitiveIter<T: Primitive>(pub T);
 
@@ -34,12 +35,12 @@ impl<T: Primitive> Iterator for PrimitiveIter<T> {
 
     /// The least bit that is left.
     fn next(&mut self) -> Option<u32> {
-        let bit = self.0.trailing_zeros();
-        if bit == T::BITS {
+        let least = self.0.trailing_zeros();
+        if least == T::BITS {
             return None;
         }
-        self.0 = self.0.without(bit);
-        Some(bit)
+        self.0 = self.0.without(least);
+        Some(least)
     }
 
     /// Exactly how many bits are left.
@@ -61,9 +62,9 @@ impl<T: Primitive> DoubleEndedIterator for PrimitiveIter<T> {
         if above == T::BITS {
             return None;
         }
-        let bit = T::BITS - 1 - above;
-        self.0 = self.0.without(bit);
-        Some(bit)
+        let greatest = T::BITS - 1 - above;
+        self.0 = self.0.without(greatest);
+        Some(greatest)
     }
 }
 

@@ -28,7 +28,7 @@ impl Primitive for u128 {
     }
 
     fn ones(&self) -> u32 {
-        self.count_ones()
+        (*self).count_ones()
     }
 
     fn without(&self, bit: u32) -> u128 {
@@ -67,7 +67,7 @@ impl EnumSetTypeRepr for u128 {
     }
 
     fn count_ones(&self) -> u32 {
-        (*self).count_ones()
+        self.ones()
     }
 
     fn add_bit(&mut self, bit: u32) {

@@ -28,7 +28,7 @@ impl Primitive for u16 {
     }
 
     fn ones(&self) -> u32 {
-        self.count_ones()
+        (*self).count_ones()
     }
 
     fn without(&self, bit: u32) -> u16 {
@@ -67,7 +67,7 @@ impl EnumSetTypeRepr for u16 {
     }
 
     fn count_ones(&self) -> u32 {
-        (*self).count_ones()
+        self.ones()
     }
 
     fn add_bit(&mut self, bit: u32) {
@@ -103,6 +103,7 @@ impl EnumSetTypeRepr for u16 {
     }
 
     fn put_word(&mut self, _i: usize, w: u64) {
+        // Read, so that the proof knows that the old value fits.
         let _old = *self;
         *self = (w & u16::MAX as u64) as u16;
     }

@@ -72,7 +72,7 @@ fn every_bit(rt: HostRuntime) {
 }
 
 #[test]
-fn copies_walk_apart(rt: HostRuntime) -> Result<(), Fail> {
+fn copies_are_apart(rt: HostRuntime) -> Result<(), Fail> {
     let mut iter = PrimitiveIter(0b1010u8);
     let mut copy = iter.clone()?;
     assert_eq!(rt; copy.next(), Some(1));
