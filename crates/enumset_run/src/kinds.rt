@@ -8,6 +8,7 @@ use crate::letters::Letters;
 use crate::serve::serve_text;
 use crate::sparse::Sparse;
 use crate::text_fault::TextFault;
+use crate::wide::Wide;
 use crate::worked::Worked;
 use std::alloc::Global;
 
@@ -18,6 +19,7 @@ pub fn worked(name: &str) -> Option<Worked>
     match name {
         "letters" => Some(Worked::Letters),
         "sparse" => Some(Worked::Sparse),
+        "wide" => Some(Worked::Wide),
         _ => None,
     }
 }
@@ -31,5 +33,6 @@ pub fn serve_worked(alloc: Global, kind: Worked, input: &[u8]) -> Result<Vec<u8>
     match kind {
         Worked::Letters => serve_text::<Letters>(alloc, input),
         Worked::Sparse => serve_text::<Sparse>(alloc, input),
+        Worked::Wide => serve_text::<Wide>(alloc, input),
     }
 }

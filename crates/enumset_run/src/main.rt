@@ -18,6 +18,7 @@ mod serve;
 mod sparse;
 mod text_fault;
 mod transcript;
+mod wide;
 mod worked;
 
 use std::process::ExitCode;

@@ -7,4 +7,6 @@ pub enum Worked {
     Letters,
     /// `sparse`: bits 10, 20, 30 and 127, in a `u128`.
     Sparse,
+    /// `wide`: bits 3, 64 and 130, in three words.
+    Wide,
 }

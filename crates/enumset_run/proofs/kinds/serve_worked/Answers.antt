@@ -1,5 +1,6 @@
 use Rattle.std.proofs.Common.{refl, ◌∷◌, []}
 use Rattle.enumset_repr.specs.Laws.Listed.{bits_listed}
+use Rattle.enumset_array.specs.Laws.Listed.{words_listed}
 use Rattle.enumset_run.proofs.kinds.serve_worked.Goals as goal
 
 pub returns-in-Letters-clause-answer : goal.returns-in-Letters-clause-answer
@@ -9,3 +10,7 @@ returns-in-Letters-clause-answer c =
 pub returns-in-Sparse-clause-answer : goal.returns-in-Sparse-clause-answer
 returns-in-Sparse-clause-answer c =
     rw (c.in-Sparse.is, ← bits_listed (10 ∷ 20 ∷ 30 ∷ 127 ∷ []) 170141183460469231731687303716958897152 refl) c.serve_text-in-Sparse.ensures.answer
+
+pub returns-in-Wide-clause-answer : goal.returns-in-Wide-clause-answer
+returns-in-Wide-clause-answer c =
+    rw (c.in-Wide.is, ← words_listed (3 ∷ 64 ∷ 130 ∷ []) (8 ∷ 1 ∷ 4 ∷ []) refl) c.serve_text-in-Wide.ensures.answer

@@ -1,0 +1,145 @@
+-- The laws of steps from either end: one step by its list, and one end more.
+use Rattle.std.proofs.Common.{◌≡◌, ◌<◌, ◌≤◌, ℕ, suc, ◌+◌, ◌-◌, Bool, true, false, not, ◌&&◌, ◌||◌, List, [], ◌∷◌, ◌++◌, Option, Some, None, length, take, get_or, add-one, take-suc, is_some, MatchOption, if◌then◌else◌, refl, sym, ap, ◌∙◌, subst, arith, length-append, append-nil, inl, inr, IfSome, IfNone, Contains}
+use Rattle.std.specs.Prelude.{◌==◌, slice_get, filter_map}
+use Rattle.std.proofs.Math.Seq.{take-append_seam}
+use Rattle.std.proofs.lemmas.List.Elements.{filter_map-append, Contains-push_cases}
+use Rattle.enumset_repr.specs.BitSet.{BitSet, contains, is_in, remove, difference, from_list, rising}
+use Rattle.enumset_repr.specs.Laws.Members.{same_set, contains-difference, contains-from_list, contains-remove}
+use Rattle.enumset_repr.specs.Laws.Rising.{empty_of_rising}
+use Rattle.enumset_array.proofs.Taken.{is_in_last}
+use Rattle.enumset_array.specs.declared.walk.End.{End}
+use Rattle.enumset_array.specs.declared.walk.End.TheVariants.{Front, Back}
+use Rattle.enumset_array.specs.Cursors.{Covers}
+use Rattle.std.proofs.lemmas.List.{get_or_past}
+use Rattle.enumset_array.specs.Ends.{answer, after, answers, left, given}
+
+-- ---- one step
+
+slice_get_last : (ys : List ℕ) (x : ℕ) → slice_get (ys ++ x ∷ []) (length ys) ≡ Some x
+slice_get_last [] x = refl
+slice_get_last (y ∷ ys) x = slice_get_last ys x
+
+one_less : (ys : List ℕ) (x : ℕ) → length (ys ++ x ∷ []) - 1 ≡ length ys
+one_less ys x = omega (arith, length-append ys (x ∷ []))
+
+pub back_step : (xs : List ℕ) (r : Option ℕ) (ys : List ℕ) → MatchOption r ((xs ≡ []) × (ys ≡ [])) (λ x. xs ≡ ys ++ x ∷ []) → (r ≡ answer Back xs) × (ys ≡ after Back xs)
+back_step xs None ys step = (sym (ap (answer Back) step.0), step.1 ∙ sym (ap (after Back) step.0))
+back_step xs (Some x) ys step = (
+  sym (ap (answer Back) step ∙ ap (slice_get (ys ++ x ∷ [])) (one_less ys x) ∙ slice_get_last ys x),
+  sym (ap (after Back) step ∙ ap (λ n. take n (ys ++ x ∷ [])) (one_less ys x) ∙ take-append_seam ys (x ∷ [])),
+)
+
+-- ---- one end more
+
+pub answers-push : (xs : List ℕ) (es : List End) (e : End) → answers xs (es ++ e ∷ []) ≡ answers xs es ++ answer e (left xs es) ∷ []
+unfolding answers left
+answers-push xs [] e = refl
+answers-push xs (f ∷ fs) e = ap (λ rs. answer f xs ∷ rs) (answers-push (after f xs) fs e)
+
+pub left-push : (xs : List ℕ) (es : List End) (e : End) → left xs (es ++ e ∷ []) ≡ after e (left xs es)
+unfolding left
+left-push xs [] e = refl
+left-push xs (f ∷ fs) e = left-push (after f xs) fs e
+
+pub given-push_some : (rs : List (Option ℕ)) (b : ℕ) → given (rs ++ Some b ∷ []) ≡ given rs ++ b ∷ []
+unfolding given
+given-push_some rs b = filter_map-append (λ (r : Option ℕ). r) rs (Some b ∷ [])
+
+pub given-push_none : (rs : List (Option ℕ)) → given (rs ++ None ∷ []) ≡ given rs
+unfolding given
+given-push_none rs = filter_map-append (λ (r : Option ℕ). r) rs (None ∷ []) ∙ append-nil (filter_map (λ r. r) rs)
+
+pub length-given-push : (rs : List (Option ℕ)) (r : Option ℕ) → length (given (rs ++ r ∷ [])) ≡ length (given rs) + (if is_some r then 1 else 0)
+length-given-push rs None = ap length (given-push_none rs) ∙ omega arith
+length-given-push rs (Some b) = ap length (given-push_some rs b) ∙ length-append (given rs) (b ∷ [])
+
+pub length-given : (rs : List (Option ℕ)) → length (given rs) ≤ length rs
+unfolding given
+length-given [] = omega arith
+length-given (None ∷ rs) = omega (arith, length-given rs)
+length-given (Some b ∷ rs) = omega (arith, length-given rs)
+
+pub length-answers : (xs : List ℕ) (es : List End) → length (answers xs es) ≡ length es
+unfolding answers
+length-answers xs [] = refl
+length-answers xs (e ∷ es) = ap suc (length-answers (after e xs) es)
+
+-- ---- the set without the items given
+
+not_or : (a b c : Bool) → (a && not (b || c)) ≡ (not b && (a && not c))
+not_or true true c = refl
+not_or true false c = refl
+not_or false true c = refl
+not_or false false c = refl
+
+and-true : (a : Bool) → (a && true) ≡ a
+and-true true = refl
+and-true false = refl
+
+pub difference-none : (s : BitSet) → s ≡ difference s (from_list (given []))
+unfolding given
+difference-none s = same_set s _ (λ q. sym (contains-difference s _ q ∙ ap (λ c. contains s q && not c) (contains-from_list [] q) ∙ and-true (contains s q)))
+
+difference-push : (s : BitSet) (bs : List ℕ) (b : ℕ) → remove (difference s (from_list bs)) b ≡ difference s (from_list (bs ++ b ∷ []))
+difference-push s bs b = same_set _ _ (λ q.
+    contains-remove (difference s (from_list bs)) b q
+    ∙ ap (λ c. not (q == b) && c) (contains-difference s (from_list bs) q ∙ ap (λ c. contains s q && not c) (contains-from_list bs q))
+    ∙ sym (not_or (contains s q) (q == b) (is_in q bs))
+    ∙ ap (λ c. contains s q && not c) (sym (is_in_last q b bs) ∙ sym (contains-from_list (bs ++ b ∷ []) q))
+    ∙ sym (contains-difference s (from_list (bs ++ b ∷ [])) q))
+
+-- the set after a step that gave r
+pub difference-step : (s t u : BitSet) (rs : List (Option ℕ)) (r : Option ℕ) → t ≡ difference s (from_list (given rs)) → MatchOption r (u ≡ t) (λ b. u ≡ remove t b) → u ≡ difference s (from_list (given (rs ++ r ∷ [])))
+difference-step s t u rs None e step = step ∙ e ∙ ap (λ bs. difference s (from_list bs)) (sym (given-push_none rs))
+difference-step s t u rs (Some b) e step =
+    step ∙ ap (λ v. remove v b) e ∙ difference-push s (given rs) b ∙ ap (λ bs. difference s (from_list bs)) (sym (given-push_some rs b))
+
+-- what becomes of the set at a step that gave r
+pub set-step : (P : ℕ → Type 0) (s t : BitSet) (r : Option ℕ) → MatchOption r ((rising s ≡ []) × (rising t ≡ [])) P → IfSome r (λ b. t ≡ remove s b) → MatchOption r (t ≡ s) (λ b. t ≡ remove s b)
+set-step P s t None step taken = empty_of_rising t step.1 ∙ sym (empty_of_rising s step.0)
+set-step P s t (Some b) step taken = taken
+
+-- once None was among the answers, the cursors have met
+pub none-push : (rs : List (Option ℕ)) (r : Option ℕ) (P Q : Type 0) → (Contains rs None → P) → (P → r ≡ None) → IfNone r Q → Contains (rs ++ r ∷ []) None → Q
+none-push rs r P Q before stays met has = elim (Contains-push_cases rs r None has) [
+  | inl earlier ↦ subst (λ o. IfNone o Q) (stays (before earlier)) met
+  | inr now ↦ subst (λ o. IfNone o Q) now met
+]
+
+-- ---- no end
+
+pub no_answers : (xs : List ℕ) → answers xs [] ≡ []
+unfolding answers
+no_answers xs = refl
+
+pub none_left_out : (xs : List ℕ) → left xs [] ≡ xs
+unfolding left
+none_left_out xs = refl
+
+pub none_given : length (given []) ≡ 0
+unfolding given
+none_given = refl
+
+pub none_in_no_answers : (rs : List (Option ℕ)) → rs ≡ [] → Contains rs None → ⊥
+none_in_no_answers rs e has = let short : length rs ≡ 0 = ap length e in absurd (omega (arith, has.1))
+
+pub covers_all : (ws : List ℕ) → Covers ws (record { front = 0; back = length ws })
+covers_all ws = record {
+  within = omega arith;
+  before = λ i h. absurd (omega (arith, h));
+  past = λ i h. get_or_past ws i 0 h;
+}
+
+-- ---- one end of a list of ends after another
+
+one_more : (es : List End) (i : ℕ) → i < length es → take (i + 1) es ≡ take i es ++ get_or es i Front ∷ []
+one_more es i h = ap (λ n. take n es) (add-one i) ∙ take-suc es i Front h
+
+pub answers_next : (xs : List ℕ) (es : List End) (i : ℕ) (rs vs : List (Option ℕ)) (r : Option ℕ) (ys : List ℕ) → i < length es → rs ≡ answers xs (take i es) → ys ≡ left xs (take i es)
+    → r ≡ answer (get_or es i Front) ys → vs ≡ rs ++ r ∷ [] → vs ≡ answers xs (take (i + 1) es)
+answers_next xs es i rs vs r ys h items rest item pushed =
+    pushed ∙ (λ k. items k ++ (item ∙ ap (answer (get_or es i Front)) rest) k ∷ []) ∙ sym (answers-push xs (take i es) (get_or es i Front)) ∙ ap (answers xs) (sym (one_more es i h))
+
+pub left_next : (xs : List ℕ) (es : List End) (i : ℕ) (ys zs : List ℕ) → i < length es → ys ≡ left xs (take i es) → zs ≡ after (get_or es i Front) ys → zs ≡ left xs (take (i + 1) es)
+left_next xs es i ys zs h rest step =
+    step ∙ ap (after (get_or es i Front)) rest ∙ sym (left-push xs (take i es) (get_or es i Front)) ∙ ap (left xs) (sym (one_more es i h))

@@ -1,0 +1,112 @@
+-- A set whose least or greatest member was taken out, by the lists of the members.
+use Rattle.std.proofs.Common.{◌≡◌, ◌<◌, ◌≤◌, ℕ, suc, ◌+◌, ◌^◌, ◌*◌, ◌/◌, ◌%◌, Bool, true, false, not, ◌&&◌, ◌||◌, List, [], ◌∷◌, ◌++◌, refl, sym, ap, ◌∙◌, subst, arith, true≢false, pow_pos, mod-lt}
+use Rattle.std.specs.Prelude.{◌==◌, nat_lt}
+use Rattle.std.specs.Int.{bit_at}
+use Rattle.std.proofs.Math.Nat.{div-add-mod}
+use Rattle.std.proofs.lemmas.Nat.Bits.{bit_at_above, bit_at_cat_low, bit_at-lt, same_from_bits}
+use Rattle.std.proofs.lemmas.Bool.Decides.{nat_tests}
+use Rattle.enumset_repr.specs.BitSet.{BitSet, is_in, contains, rising, remove}
+use Rattle.enumset_repr.specs.Number.{bits}
+use Rattle.enumset_repr.specs.Laws.Members.{same_set, same_number, itself, or_left, or_right, or_swap, contains-remove, contains-rising}
+use Rattle.enumset_repr.specs.Laws.Rising.{RisesFrom, rising-rises, is_in-below}
+use Rattle.enumset_repr.specs.Laws.Numbers.{contains-bits}
+use Rattle.enumset_array.specs.Laws.Bits.{contains-bits_above}
+
+-- what was there is the one taken out and what is left; the one isn't left
+pub record IsTaken (s : BitSet) (b : ℕ) (t : BitSet) : Type 0 where
+  pub was : (q : ℕ) → contains s q ≡ ((q == b) || contains t q)
+  pub gone : contains t b ≡ false
+
+taken_test : (q b : ℕ) (x : Bool) → ((q == b) ≡ true → x ≡ false) → x ≡ (not (q == b) && ((q == b) || x))
+taken_test q b x h = elim (q == b) as (λ t. (t ≡ true → x ≡ false) → x ≡ (not t && (t || x))) [
+  | true ↦ λ k. k refl
+  | false ↦ λ k. refl
+] h
+
+pub rest_of_taken : (s t : BitSet) (b : ℕ) → IsTaken s b t → t ≡ remove s b
+rest_of_taken s t b taken = same_set t (remove s b) (λ q.
+    taken_test q b (contains t q) (λ e. ap (contains t) (same_number q b e) ∙ taken.gone)
+    ∙ ap (λ c. not (q == b) && c) (sym (taken.was q)) ∙ sym (contains-remove s b q))
+
+pub was_there : (s t : BitSet) (b : ℕ) → IsTaken s b t → contains s b ≡ true
+was_there s t b taken = taken.was b ∙ or_left (b == b) _ (itself b)
+
+-- ---- the least
+
+module _ (s t : BitSet) (b : ℕ) (first : rising s ≡ b ∷ rising t) where
+  rises_first : RisesFrom 0 (b ∷ rising t)
+  rises_first = subst (RisesFrom 0) first (rising-rises s)
+
+  pub first_was : (q : ℕ) → contains s q ≡ ((q == b) || contains t q)
+  first_was q = contains-rising s q ∙ ap (is_in q) first ∙ ap (λ c. (q == b) || c) (sym (contains-rising t q))
+
+  pub first_none_lower : (q : ℕ) → q ≤ b → contains t q ≡ false
+  first_none_lower q h = contains-rising t q ∙ is_in-below (suc b) q (rising t) rises_first.1 (omega (arith, h))
+
+  pub taken_first : IsTaken s b t
+  taken_first = record { was = first_was; gone = first_none_lower b (omega arith) }
+
+  pub first_is_least : (q : ℕ) → q < b → contains s q ≡ false
+  first_is_least q h = let apart : (q == b) ≡ false = grind (arith, nat_tests, h) in
+      first_was q ∙ (λ i. apart i || first_none_lower q (omega (arith, h)) i)
+
+-- ---- the greatest
+
+pub is_in_last : (q b : ℕ) (xs : List ℕ) → is_in q (xs ++ b ∷ []) ≡ ((q == b) || is_in q xs)
+is_in_last q b [] = refl
+is_in_last q b (x ∷ xs) = ap (λ c. (q == x) || c) (is_in_last q b xs) ∙ or_swap (q == x) (q == b) (is_in q xs)
+
+past_last : (k q b : ℕ) (xs : List ℕ) → RisesFrom k (xs ++ b ∷ []) → b ≤ q → (k ≤ b) × (is_in q xs ≡ false)
+past_last k q b [] rises h = (rises.0, refl)
+past_last k q b (x ∷ xs) rises h =
+    let later = past_last (suc x) q b xs rises.1 h in
+    let apart : (q == x) ≡ false = grind (arith, nat_tests, h, later.0) in
+    (omega (arith, rises.0, later.0), λ i. apart i || later.1 i)
+
+module _ (s t : BitSet) (b : ℕ) (last : rising s ≡ rising t ++ b ∷ []) where
+  rises_last : RisesFrom 0 (rising t ++ b ∷ [])
+  rises_last = subst (RisesFrom 0) last (rising-rises s)
+
+  pub last_was : (q : ℕ) → contains s q ≡ ((q == b) || contains t q)
+  last_was q = contains-rising s q ∙ ap (is_in q) last ∙ is_in_last q b (rising t) ∙ ap (λ c. (q == b) || c) (sym (contains-rising t q))
+
+  pub last_none_higher : (q : ℕ) → b ≤ q → contains t q ≡ false
+  last_none_higher q h = contains-rising t q ∙ (past_last 0 q b (rising t) rises_last h).1
+
+  pub taken_last : IsTaken s b t
+  taken_last = record { was = last_was; gone = last_none_higher b (omega arith) }
+
+  pub last_is_greatest : (q : ℕ) → b < q → contains s q ≡ false
+  last_is_greatest q h = let apart : (q == b) ≡ false = grind (arith, nat_tests, h) in
+      last_was q ∙ (λ i. apart i || last_none_higher q (omega (arith, h)) i)
+
+-- ---- a number that has no bit from k on is below 2 ^ k
+
+no_bit : (d : ℕ) → d < 2 → (d == 1) ≡ false → d ≡ 0
+no_bit d small not_one = grind (arith, nat_tests)
+
+pub few_bits : (n k : ℕ) → ((b : ℕ) → k ≤ b → contains (bits n) b ≡ false) → n < 2 ^ k
+few_bits n k none =
+    let low : ℕ = n % 2 ^ k in
+    let small : low < 2 ^ k = mod-lt n (pow_pos k) in
+    let parts : n / 2 ^ k * 2 ^ k + low ≡ n = omega (arith, div-add-mod n (2 ^ k)) in
+    let same : n ≡ low = same_from_bits n low (λ b. elim (nat_lt b k) as (λ t. nat_lt b k ≡ t → bit_at n b ≡ bit_at low b) [
+      | true ↦ λ e. let in_low : b < k = grind (arith, nat_tests, e) in
+          ap (λ m. bit_at m b) (sym parts) ∙ bit_at_cat_low (n / 2 ^ k) k low b in_low
+      | false ↦ λ e. let past : k ≤ b = grind (arith, nat_tests, e) in
+          no_bit (bit_at n b) (bit_at-lt n b) (sym (contains-bits n b) ∙ none b past) ∙ sym (bit_at_above low k b small past)
+    ] refl) in
+    subst (λ m. m < 2 ^ k) (sym same) small
+
+-- what is left of a word of k bits is a word of k bits
+pub taken_small : (n m k b : ℕ) → n < 2 ^ k → IsTaken (bits n) b (bits m) → m < 2 ^ k
+taken_small n m k b small taken = few_bits m k (λ q past. elim (contains (bits m) q) as (λ t. contains (bits m) q ≡ t → contains (bits m) q ≡ false) [
+  | true ↦ λ e. absurd (true≢false (sym (taken.was q ∙ or_right (q == b) _ e) ∙ contains-bits_above n k q small past))
+  | false ↦ λ e. e
+] refl)
+
+pub taken_below : (n m k b : ℕ) → n < 2 ^ k → IsTaken (bits n) b (bits m) → b < k
+taken_below n m k b small taken = elim (nat_lt b k) as (λ t. nat_lt b k ≡ t → b < k) [
+  | true ↦ λ e. grind (arith, nat_tests, e)
+  | false ↦ λ e. absurd (true≢false (sym (was_there _ _ b taken) ∙ contains-bits_above n k b small (grind (arith, nat_tests, e))))
+] refl

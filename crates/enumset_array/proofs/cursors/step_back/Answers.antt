@@ -1,0 +1,28 @@
+use Rattle.std.proofs.Common.{◌≡◌, ◌+◌, ◌-◌, ◌*◌, ◌<◌, [], length, sym, ap, ◌∙◌, arith}
+use Rattle.enumset_repr.specs.BitSet.{rising, remove}
+use Rattle.enumset_array.specs.WordList.{bits_of}
+use Rattle.enumset_array.proofs.WordLists.{step_last, step_last_set, none_left}
+use Rattle.enumset_array.proofs.cursors.step_back.Goals as goal
+
+pub overflow_add-result : goal.overflow_add-result
+overflow_add-result g c =
+    let within : c.loop-cursors.cursors-inside.back - 1 < length (g.R.Row.words c.loop-cursors.row) = omega (arith, c.loop-cursors.invariant.covers.within) in
+    let small : c.in-Some.b < 64 = (step_last_set _ _ _ _ c.in-Some.ensures.are_words.fit within c.in-Some.ensures.others c.in-Some.ensures.taken).0 in
+    omega (arith, c.in-Some.ensures.are_words.limit)
+
+pub returns-in-Some-clause-item : goal.returns-in-Some-clause-item
+returns-in-Some-clause-item g c =
+    let within : c.loop-cursors.cursors-inside.back - 1 < length (g.R.Row.words c.loop-cursors.row) = omega (arith, c.loop-cursors.invariant.covers.within) in
+    ap (λ ws. rising (bits_of ws)) (sym c.loop-cursors.invariant.same)
+    ∙ step_last _ _ _ _ c.in-Some.ensures.are_words.fit within c.in-Some.ensures.others (λ j past. c.loop-cursors.invariant.covers.past j (omega arith)) c.in-Some.ensures.taken
+
+pub returns-in-Some-clause-set : goal.returns-in-Some-clause-set
+returns-in-Some-clause-set g c =
+    let within : c.loop-cursors.cursors-inside.back - 1 < length (g.R.Row.words c.loop-cursors.row) = omega (arith, c.loop-cursors.invariant.covers.within) in
+    (step_last_set _ _ _ _ c.in-Some.ensures.are_words.fit within c.in-Some.ensures.others c.in-Some.ensures.taken).1
+    ∙ ap (λ ws. remove (bits_of ws) (64 * (c.loop-cursors.cursors-inside.back - 1) + c.in-Some.b)) c.loop-cursors.invariant.same
+
+pub returns-clause-item : goal.returns-clause-item
+returns-clause-item g c =
+    let none : rising (bits_of (g.R.Row.words c.loop-cursors.row)) ≡ [] = none_left _ _ c.loop-cursors.invariant.covers c.loop-cursors-test.false in
+    (ap (λ ws. rising (bits_of ws)) (sym c.loop-cursors.invariant.same) ∙ none, none)

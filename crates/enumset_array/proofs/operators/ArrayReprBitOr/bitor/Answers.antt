@@ -1,0 +1,20 @@
+use Rattle.std.proofs.Common.{rules, bit_and, bit_or}
+use Rattle.std.specs.Prelude.{bit_xor}
+use Rattle.std.proofs.lemmas.Grind.{common_steps}
+use Rattle.enumset_array.specs.Stored.{IsStore}
+use Rattle.enumset_array.proofs.Wordwise.{IsMade, or_store, or_set}
+use Rattle.enumset_array.proofs.operators.ArrayReprBitOr.bitor.Goals as goal
+
+pub invariant_of-result : goal.invariant_of-result
+invariant_of-result g c =
+    let first : IsStore g.row.N c.self.inside.0 = record { long = search rules; fit = search rules; past = c.self.invariant } in
+    let second : IsStore g.row.N c.other.inside.0 = record { long = search rules; fit = search rules; past = c.other.invariant } in
+    let made : IsMade bit_or g.row.N c.self.inside.0 c.other.inside.0 c.loop-i.words = record { first = first; second = second; long = c.loop-i.invariant.long; done = search rules; rest = search rules } in
+    or_store _ _ _ _ made
+
+pub returns : goal.returns
+returns g c =
+    let first : IsStore g.row.N c.self.inside.0 = record { long = search rules; fit = search rules; past = c.self.invariant } in
+    let second : IsStore g.row.N c.other.inside.0 = record { long = search rules; fit = search rules; past = c.other.invariant } in
+    let made : IsMade bit_or g.row.N c.self.inside.0 c.other.inside.0 c.loop-i.words = record { first = first; second = second; long = c.loop-i.invariant.long; done = search rules; rest = search rules } in
+    rw (← c.self.view_is, ← c.other.view_is) (or_set _ _ _ _ made)

@@ -1,0 +1,63 @@
+-- Words whose bits are listed: one test of the list says which set the words stand for.
+--     lists_words      whether a list names the bits of a list of words, each once
+--     words_listed      then the words stand for the set of the list
+use Rattle.std.proofs.Common.{◌≡◌, ◌≤◌, ◌<◌, ℕ, suc, ◌+◌, ◌-◌, Bool, true, false, cond, not, true≢false, ◌&&◌, ◌||◌, List, [], ◌∷◌, refl, sym, ap, ◌∙◌, arith}
+use Rattle.std.specs.Prelude.{◌==◌, nat_lt, nat_le}
+use Rattle.std.proofs.lemmas.Bool.Decides.{nat_tests}
+use Rattle.enumset_repr.specs.BitSet.{is_in, BitSet, contains, from_list, union, empty}
+use Rattle.enumset_repr.specs.Number.{bits, lists_bits}
+use Rattle.enumset_repr.specs.Words.{raised}
+use Rattle.enumset_repr.specs.Laws.Members.{both, same_set, contains-union, contains-from_list, contains-empty, or_swap}
+use Rattle.enumset_repr.specs.Laws.Words.{contains-raised}
+use Rattle.enumset_repr.specs.Laws.Listed.{bits_listed}
+use Rattle.enumset_array.specs.WordList.{bits_of}
+
+-- the numbers below 64, and those from 64 on, each 64 lower
+abbrev pub in_first_word : List ℕ → List ℕ
+in_first_word [] = []
+in_first_word (b ∷ bs) = cond (nat_lt b 64) (b ∷ in_first_word bs) (in_first_word bs)
+
+abbrev pub in_later_words : List ℕ → List ℕ
+in_later_words [] = []
+in_later_words (b ∷ bs) = cond (nat_lt b 64) (in_later_words bs) ((b - 64) ∷ in_later_words bs)
+
+-- whether a list names the bits of words, each once
+abbrev pub lists_words : List ℕ → List ℕ → Bool
+lists_words [] [] = true
+lists_words (b ∷ bs) [] = false
+lists_words bs (n ∷ ns) = lists_bits (in_first_word bs) n && lists_words (in_later_words bs) ns
+
+-- a number is in the list exactly if it is in one of the two parts
+in_parts : (bs : List ℕ) (q : ℕ) → (is_in q (in_first_word bs) || (nat_le 64 q && is_in (q - 64) (in_later_words bs))) ≡ is_in q bs
+in_parts [] q = none (nat_le 64 q) where
+  none : (a : Bool) → (false || (a && false)) ≡ false
+  none true = refl
+  none false = refl
+in_parts (b ∷ bs) q = elim (nat_lt b 64) as (λ t. nat_lt b 64 ≡ t → (is_in q (cond t (b ∷ in_first_word bs) (in_first_word bs)) || (nat_le 64 q && is_in (q - 64) (cond t (in_later_words bs) ((b - 64) ∷ in_later_words bs)))) ≡ ((q == b) || is_in q bs)) [
+    | true ↦ λ e. in_first (q == b) (is_in q (in_first_word bs)) _ ∙ ap (λ t. (q == b) || t) (in_parts bs q)
+    | false ↦ λ e. in_later (is_in q (in_first_word bs)) (nat_le 64 q) ((q - 64) == (b - 64)) (q == b) (is_in (q - 64) (in_later_words bs)) (grind (arith, nat_tests, e)) ∙ ap (λ t. (q == b) || t) (in_parts bs q)
+  ] refl where
+  in_first : (a x y : Bool) → ((a || x) || y) ≡ (a || (x || y))
+  in_first true x y = refl
+  in_first false x y = refl
+  moved : (x c d y : Bool) → (x || (c && (d || y))) ≡ ((c && d) || (x || (c && y)))
+  moved true true true y = refl
+  moved true true false y = refl
+  moved true false d y = refl
+  moved false true d y = refl
+  moved false false d y = refl
+  in_later : (x c d a y : Bool) → (c && d) ≡ a → (x || (c && (d || y))) ≡ (a || (x || (c && y)))
+  in_later x c d a y e = moved x c d y ∙ ap (λ t. t || (x || (c && y))) e
+
+pub words_listed : (bs ns : List ℕ) → lists_words bs ns ≡ true → bits_of ns ≡ from_list bs
+unfolding bits_of
+words_listed [] [] test = same_set _ _ (λ q. contains-empty q ∙ sym (contains-from_list [] q))
+words_listed (b ∷ bs) [] test = absurd (true≢false (sym test))
+words_listed bs (n ∷ ns) test =
+    let first : bits n ≡ from_list (in_first_word bs) = bits_listed (in_first_word bs) n (both _ _ test).0 in
+    let later : bits_of ns ≡ from_list (in_later_words bs) = words_listed (in_later_words bs) ns (both _ _ test).1 in
+    same_set _ _ (λ q.
+      contains-union (bits n) (raised (bits_of ns) 64) q
+      ∙ (λ i. contains (first i) q || contains-raised (later i) 64 q i)
+      ∙ (λ i. contains-from_list (in_first_word bs) q i || (nat_le 64 q && contains-from_list (in_later_words bs) (q - 64) i))
+      ∙ in_parts bs q ∙ sym (contains-from_list bs q))

@@ -1,0 +1,120 @@
+//! The iterator over many words.
+
+ghost use Rattle.std.specs.Prelude.{◌≡◌, ◌+◌, length, is_some, if◌then◌else◌, IfNone, IfSome, None, ⊤};
+ghost use Rattle.std.specs.Iterator.{YieldsFirst, YieldsLast, item_count, at_most, UpTo, MakesProgress};
+ghost use Rattle.std.specs.Iterator.SizeHint.{IsExactHint, IsWithinCount};
+ghost use Rattle.enumset_repr.specs.BitSet.{rising};
+ghost use Rattle.enumset_array.specs.Stored.{in_use, set_of};
+
+use crate::array_repr::ArrayRepr;
+use crate::cursors::{Cursors, step_back, step_front};
+use crate::row::Row;
+use crate::rows::Words;
+use std::alloc::AllocError;
+use std::marker::Model;
+
+/// The members of a store of words, each once, rising, from both ends.
+///
+/// It mirrors `ArrayIter` of Rust's `enumset`. Contracts see what it has still to give, how often its
+/// words were asked and how many words are between its cursors.
+#[derive(Drop, Debug)]
+pub struct ArrayIter<const N: usize> {
+    row: Words<N>,
+    cursors: Cursors,
+}
+
+impl<const N: usize> Model for ArrayIter<N> {
+    ghost use Rattle.enumset_array.specs.Steps.{Steps};
+    ghost use Rattle.enumset_array.specs.Cursors.{span, Covers};
+    ghost use Rattle.enumset_array.specs.WordList.{items_of};
+
+    ghost Value = { Steps };
+
+    ghost view = { λ i. record { items = items_of i.row.words; asks = i.row.asks; span = span i.cursors } };
+
+    ghost invariant = { λ i. Covers i.row.words i.cursors };
+}
+
+impl<const N: usize> ArrayIter<N> {
+    /// The iterator over the members of a store.
+    pub(crate) fn over(repr: ArrayRepr<N>) -> Self
+        ensures items { result.items ≡ rising (set_of N repr.entry) }
+        ensures asks { result.asks ≡ 0 }
+        ensures span { result.span ≡ in_use N }
+    {
+        let row = Words::new(repr);
+        let cursors = Cursors::over(row.word_count());
+        ArrayIter { row, cursors }
+    }
+
+    /// An iterator with the same items, count of asks and cursors.
+    pub(crate) fn same(&self) -> Self
+        ensures { result ≡ self.now }
+    {
+        ArrayIter {
+            row: self.row.same(),
+            cursors: self.cursors,
+        }
+    }
+
+    /// How many items are left. It is no step.
+    pub(crate) fn left(&self) -> usize
+        ensures { result ≡ length self.now.items }
+    {
+        self.row.left()
+    }
+}
+
+impl<const N: usize> Iterator for ArrayIter<N> {
+    type Item = u32;
+
+    ghost next_gives = { YieldsFirst (λ i. i.items) };
+
+    ghost remaining = { item_count (λ i. i.items) };
+
+    /// The least item that is left.
+    fn next(&mut self) -> Option<u32>
+        ensures steps { YieldsFirst (λ i. i.items) self.old result self.new }
+        ensures goes { MakesProgress (λ _. ⊤) (item_count (λ i. i.items)) self.old result self.new }
+        ensures asks { self.new.asks + self.new.span ≡ self.old.asks + self.old.span + (if is_some result then 1 else 0) }
+        ensures none { IfNone result (self.new.span ≡ 0) }
+        ensures equal { self.old.span ≡ 0 → (result ≡ None) × (self.new.asks ≡ self.old.asks) }
+    {
+        step_front(&mut self.row, &mut self.cursors)
+    }
+
+    /// Exactly how many items are left.
+    fn size_hint(&self) -> (usize, Option<usize>)
+        ensures lower { IsWithinCount result.0 (at_most (length self.now.items)) }
+        ensures upper { IfSome result.1 (UpTo (at_most (length self.now.items))) }
+        ensures exact { IsExactHint result (length self.now.items) }
+    {
+        let left = self.left();
+        (left, Some(left))
+    }
+}
+
+impl<const N: usize> DoubleEndedIterator for ArrayIter<N> {
+    ghost next_back_gives = { YieldsLast (λ i. i.items) };
+
+    /// The greatest item that is left.
+    fn next_back(&mut self) -> Option<u32>
+        ensures steps { YieldsLast (λ i. i.items) self.old result self.new }
+        ensures goes { MakesProgress (λ _. ⊤) (item_count (λ i. i.items)) self.old result self.new }
+        ensures asks { self.new.asks + self.new.span ≡ self.old.asks + self.old.span + (if is_some result then 1 else 0) }
+        ensures none { IfNone result (self.new.span ≡ 0) }
+        ensures equal { self.old.span ≡ 0 → (result ≡ None) × (self.new.asks ≡ self.old.asks) }
+    {
+        step_back(&mut self.row, &mut self.cursors)
+    }
+}
+
+impl<const N: usize> Clone for ArrayIter<N> {
+    ghost is_clone = { λ it copy. copy ≡ it };
+
+    ghost is_infallible = { λ _. ⊤ };
+
+    fn clone(&self) -> Result<Self, AllocError> {
+        Ok(self.same())
+    }
+}

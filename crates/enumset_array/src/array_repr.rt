@@ -1,0 +1,179 @@
+//! The store of many words.
+
+ghost use Rattle.std.specs.Prelude.{◌≡◌, ◌≤◌, ◌*◌, ◌==◌, length, replicate, sum_by, refl};
+ghost use Rattle.std.specs.List.{list_all};
+ghost use Rattle.enumset_repr.specs.BitSet.{rising, len};
+ghost use Rattle.enumset_repr.specs.Number.{bits};
+ghost use Rattle.enumset_array.specs.Stored.{in_use, set_of, words as words_of_set, IsStore};
+ghost use Rattle.enumset_array.specs.Laws.Stored.{set_of_none, within, inverse, width_words, equal};
+
+use crate::array_iter::ArrayIter;
+use enumset_repr::EnumSetTypeRepr;
+use std::marker::Model;
+
+/// A store of `N` words of 64 bits, the lowest first: bit `n` is bit `n % 64` of word `n / 64`.
+///
+/// It mirrors `ArrayRepr` of Rust's `enumset`. Its words past the first [`LEN`](ArrayRepr::LEN) are 0,
+/// which whoever builds a value shows. That says nothing for `N` up to 67108863.
+#[derive(Clone, Copy, Debug, PartialEq, Eq)]
+pub struct ArrayRepr<const N: usize>(pub [u64; N]);
+
+impl<const N: usize> Model for ArrayRepr<N> {
+    ghost use Rattle.std.specs.Prelude.{ℕ, List, IsTrue};
+    ghost use Rattle.enumset_array.specs.Stored.{is_empty_past};
+
+    ghost Value = { List ℕ };
+
+    ghost view = { λ r. r.0 };
+
+    ghost invariant = { λ r. IsTrue (is_empty_past N r.0) };
+
+    ghost inverse = { λ ws. record { 0 = ws } };
+}
+
+impl<const N: usize> ArrayRepr<N> {
+    /// How many words are in use: `N`, for `N` up to 67108863.
+    pub const LEN: usize = N % 67108864;
+}
+
+impl<const N: usize> EnumSetTypeRepr for ArrayRepr<N> {
+    ghost members = { set_of N };
+
+    ghost of_members = { λ s. words_of_set s N };
+
+    ghost is_value = { IsStore N };
+
+    ghost PREFERRED_ARRAY_LEN = { in_use N };
+
+    const PREFERRED_ARRAY_LEN: usize = N % 67108864;
+
+    ghost WIDTH = { 64 * in_use N };
+
+    const WIDTH: u32 = 64 * (N % 67108864) as u32;
+
+    ghost EMPTY = { replicate N 0 };
+
+    const EMPTY: Self = ArrayRepr([0; N]);
+
+    type Iter = ArrayIter<N>;
+
+    ghost rest = { λ i. i.items };
+
+    fn known(self) {
+        let _words = &self.0;
+    }
+
+    fn is_empty(&self) -> bool {
+        self.known();
+        are_empty(&self.0)
+    }
+
+    fn count_ones(&self) -> u32 {
+        self.known();
+        ones_of(&self.0[..N % 67108864])
+    }
+
+    fn add_bit(&mut self, bit: u32) {
+        self.0[(bit / 64) as usize] |= 1 << (bit % 64);
+    }
+
+    fn remove_bit(&mut self, bit: u32) {
+        self.0[(bit / 64) as usize] &= !(1 << (bit % 64));
+    }
+
+    fn has_bit(&self, bit: u32) -> bool {
+        self.known();
+        self.0[(bit / 64) as usize] & (1 << (bit % 64)) != 0
+    }
+
+    fn and_not(&self, other: ArrayRepr<N>) -> ArrayRepr<N> {
+        self.known();
+        let mut words = self.0;
+        for i in 0..N {
+            words[i] &= !other.0[i];
+        }
+        ArrayRepr(words)
+    }
+
+    fn iter(self) -> ArrayIter<N>
+        ensures rest { result.items ≡ rising (set_of N self.entry) }
+        ensures asks { result.asks ≡ 0 }
+        ensures span { result.span ≡ in_use N }
+    {
+        ArrayIter::over(self)
+    }
+
+    fn items_left(iter: &ArrayIter<N>) -> usize {
+        iter.left()
+    }
+
+    fn same_iter(iter: &ArrayIter<N>) -> ArrayIter<N>
+        ensures { result ≡ iter.now }
+    {
+        iter.same()
+    }
+
+    fn word(&self, i: usize) -> u64 {
+        self.known();
+        self.0[i]
+    }
+
+    fn put_word(&mut self, i: usize, w: u64) {
+        self.0[i] = w;
+    }
+
+    ghost empty_is = { set_of_none N };
+
+    ghost within = { within N };
+
+    ghost inverse = { inverse N };
+
+    ghost words = { width_words N };
+
+    ghost eq_is = { equal N };
+
+    ghost can_bitand = { λ _ _. tt };
+
+    ghost can_bitor = { λ _ _. tt };
+
+    ghost can_bitxor = { λ _ _. tt };
+
+    ghost can_not = { λ _. tt };
+
+    ghost bitand_is = { λ _ _ _ _ _ is. is };
+
+    ghost bitor_is = { λ _ _ _ _ _ is. is };
+
+    ghost bitxor_is = { λ _ _ _ _ _ is. is };
+
+    ghost not_is = { λ _ _ _ is. is };
+
+    ghost can_step = { λ _. tt };
+
+    ghost can_step_back = { λ _. tt };
+
+    ghost steps = { λ _ _ _ step. step };
+
+    ghost steps_back = { λ _ _ _ step. step };
+
+    ghost left = { λ _. refl };
+}
+
+// Whether all words are 0.
+fn are_empty(words: &[u64]) -> bool
+    ensures { result ≡ list_all (λ w. w == 0) words.now }
+{
+    words.iter().all(|word| *word == 0)
+}
+
+// How many bits are set in words.
+fn ones_of(words: &[u64]) -> u32
+    requires { length words.now ≤ 67108863 }
+    ensures { result ≡ sum_by (λ w. len (bits w)) words.now }
+{
+    let mut ones = 0;
+    for word in words {
+        ones += word.count_ones();
+    }
+    ones
+}

@@ -1,0 +1,74 @@
+//! A count that takes no bytes.
+
+ghost use Rattle.std.specs.Prelude.{◌≡◌, ℕ, ◌+◌};
+
+use std::fmt::{Debug, Error, Formatter, Write};
+use std::marker::{Model, PhantomData};
+
+/// How many asks were made.
+///
+/// It takes no bytes at run time and has no greatest value. Contracts see it as the number.
+#[derive(Drop)]
+pub(crate) struct Asks {
+    marker: PhantomData<()>,
+    pub ghost count: { ℕ },
+}
+
+impl Model for Asks {
+    ghost use Rattle.std.specs.Prelude.{ℕ};
+    ghost use base.Fml.{ftrue};
+
+    ghost Value = { ℕ };
+
+    ghost view = { λ a. a.count };
+
+    ghost also_owns = { λ _. ftrue };
+}
+
+impl Asks {
+    // The one maker: the count that its caller's proof picks.
+    fn counted() -> Asks
+        ghost n: { ℕ }
+        ensures { result ≡ n }
+    {
+        Asks {
+            marker: PhantomData,
+        }
+    }
+
+    // A count that its caller's proof picks from another.
+    fn counted_from(other: &Asks) -> Asks
+        ghost n: { ℕ }
+        ensures { result ≡ n }
+    {
+        Asks::counted()
+    }
+
+    /// No ask.
+    pub(crate) fn new() -> Asks
+        ensures { result ≡ 0 }
+    {
+        Asks::counted()
+    }
+
+    /// One ask more.
+    pub(crate) fn raise(&mut self)
+        ensures { self.new ≡ self.old + 1 }
+    {
+        let more = Asks::counted_from(self);
+        *self = more;
+    }
+
+    /// The same count.
+    pub(crate) fn same(&self) -> Asks
+        ensures { result ≡ self.now }
+    {
+        Asks::counted_from(self)
+    }
+}
+
+impl Debug for Asks {
+    fn fmt<W: Write>(&self, f: &mut Formatter<W>) -> Result<(), Error> {
+        f.write_str("Asks")
+    }
+}

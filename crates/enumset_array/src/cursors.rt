@@ -1,0 +1,86 @@
+//! Two cursors over the words of a row, and the steps that they take.
+
+ghost use Rattle.std.specs.Prelude.{◌≡◌, ◌+◌, length, is_some, if◌then◌else◌, IfSome, IfNone, None};
+ghost use Rattle.std.specs.Iterator.{YieldsFirst, YieldsLast};
+ghost use Rattle.enumset_repr.specs.BitSet.{remove};
+ghost use Rattle.enumset_array.specs.Cursors.{span, Covers};
+ghost use Rattle.enumset_array.specs.WordList.{bits_of, items_of};
+
+use crate::row::Row;
+use std::marker::Model;
+
+/// Two places in a row of words: those from the front cursor up to the back one, which is one past,
+/// are the words that may still have bits.
+#[derive(Clone, Copy, Debug)]
+pub struct Cursors {
+    front: usize,
+    back: usize,
+}
+
+impl Model for Cursors {
+    ghost use Rattle.std.specs.Prelude.{◌≤◌};
+    ghost use Rattle.enumset_array.specs.Cursors.{Reach};
+
+    ghost Value = { Reach };
+
+    ghost view = { λ c. record { front = c.front; back = c.back } };
+
+    ghost invariant = { λ c. c.front ≤ c.back };
+
+    ghost inverse = { λ r. record { front = r.front; back = r.back } };
+}
+
+impl Cursors {
+    /// The cursors over the first `n` words.
+    pub fn over(n: usize) -> Cursors
+        ensures { result ≡ record { front = 0; back = n } }
+    {
+        Cursors { front: 0, back: n }
+    }
+}
+
+/// The least of the row's bits, which is taken out, or `None` if there is none.
+///
+/// Each ask moves the front cursor on, but for the one that finds the bit.
+pub fn step_front<R: Row>(row: &mut R, cursors: &mut Cursors) -> Option<u32>
+    requires { Covers (R.words row.old) cursors.old }
+    ensures item { YieldsFirst items_of (R.words row.old) result (R.words row.new) }
+    ensures set { IfSome result (λ b. bits_of (R.words row.new) ≡ remove (bits_of (R.words row.old)) b) }
+    ensures asks { R.asks row.new + span cursors.new ≡ R.asks row.old + span cursors.old + (if is_some result then 1 else 0) }
+    ensures covers { Covers (R.words row.new) cursors.new }
+    ensures len { length (R.words row.new) ≡ length (R.words row.old) }
+    ensures none { IfNone result (cursors.new.front ≡ cursors.new.back) }
+    ensures equal { cursors.old.front ≡ cursors.old.back → (result ≡ None) × (R.asks row.new ≡ R.asks row.old) }
+{
+    while cursors.front < cursors.back {
+        let front = cursors.front;
+        match row.ask_front(front) {
+            Some(b) => return Some(64 * front as u32 + b),
+            None => cursors.front += 1,
+        }
+    }
+    None
+}
+
+/// The greatest of the row's bits, which is taken out, or `None` if there is none.
+///
+/// Each ask moves the back cursor on, but for the one that finds the bit.
+pub fn step_back<R: Row>(row: &mut R, cursors: &mut Cursors) -> Option<u32>
+    requires { Covers (R.words row.old) cursors.old }
+    ensures item { YieldsLast items_of (R.words row.old) result (R.words row.new) }
+    ensures set { IfSome result (λ b. bits_of (R.words row.new) ≡ remove (bits_of (R.words row.old)) b) }
+    ensures asks { R.asks row.new + span cursors.new ≡ R.asks row.old + span cursors.old + (if is_some result then 1 else 0) }
+    ensures covers { Covers (R.words row.new) cursors.new }
+    ensures len { length (R.words row.new) ≡ length (R.words row.old) }
+    ensures none { IfNone result (cursors.new.front ≡ cursors.new.back) }
+    ensures equal { cursors.old.front ≡ cursors.old.back → (result ≡ None) × (R.asks row.new ≡ R.asks row.old) }
+{
+    while cursors.front < cursors.back {
+        let last = cursors.back - 1;
+        match row.ask_back(last) {
+            Some(b) => return Some(64 * last as u32 + b),
+            None => cursors.back = last,
+        }
+    }
+    None
+}

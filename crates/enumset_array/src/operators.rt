@@ -1,0 +1,68 @@
+//! The operators of the store of many words.
+
+ghost use Rattle.std.specs.Prelude.{◌≡◌, ◌*◌};
+ghost use Rattle.enumset_repr.specs.BitSet as set;
+ghost use Rattle.enumset_array.specs.Stored.{in_use, set_of};
+
+use crate::array_repr::ArrayRepr;
+use std::ops::{BitAnd, BitOr, BitXor, Not};
+
+impl<const N: usize> BitAnd for ArrayRepr<N> {
+    type Output = ArrayRepr<N>;
+
+    ghost bitand_gives = { λ a b r. set_of N r ≡ set.intersection (set_of N a) (set_of N b) };
+
+    /// The members of both.
+    fn bitand(self, other: ArrayRepr<N>) -> ArrayRepr<N> {
+        let mut words = self.0;
+        for i in 0..N {
+            words[i] &= other.0[i];
+        }
+        ArrayRepr(words)
+    }
+}
+
+impl<const N: usize> BitOr for ArrayRepr<N> {
+    type Output = ArrayRepr<N>;
+
+    ghost bitor_gives = { λ a b r. set_of N r ≡ set.union (set_of N a) (set_of N b) };
+
+    /// The members of either.
+    fn bitor(self, other: ArrayRepr<N>) -> ArrayRepr<N> {
+        let mut words = self.0;
+        for i in 0..N {
+            words[i] |= other.0[i];
+        }
+        ArrayRepr(words)
+    }
+}
+
+impl<const N: usize> BitXor for ArrayRepr<N> {
+    type Output = ArrayRepr<N>;
+
+    ghost bitxor_gives = { λ a b r. set_of N r ≡ set.symmetric_difference (set_of N a) (set_of N b) };
+
+    /// The members of just one.
+    fn bitxor(self, other: ArrayRepr<N>) -> ArrayRepr<N> {
+        let mut words = self.0;
+        for i in 0..N {
+            words[i] ^= other.0[i];
+        }
+        ArrayRepr(words)
+    }
+}
+
+impl<const N: usize> Not for ArrayRepr<N> {
+    type Output = ArrayRepr<N>;
+
+    ghost not_gives = { λ a r. set_of N r ≡ set.difference (set.below (64 * in_use N)) (set_of N a) };
+
+    /// The numbers below the width that are no members.
+    fn not(self) -> ArrayRepr<N> {
+        let mut words = self.0;
+        for i in 0..N % 67108864 {
+            words[i] = !words[i];
+        }
+        ArrayRepr(words)
+    }
+}

@@ -1,0 +1,3 @@
+mod iterators;
+mod stores;
+mod walks;

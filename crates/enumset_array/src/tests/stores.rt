@@ -1,0 +1,141 @@
+use crate::ArrayRepr;
+use enumset_repr::EnumSetTypeRepr;
+use std::process::Abort;
+
+// The store with these bits.
+fn store_of<R: EnumSetTypeRepr>(rt: &impl Abort, bits: &[u32]) -> R {
+    let mut set = R::EMPTY;
+    for bit in bits {
+        assert!(rt; *bit < R::WIDTH);
+        set.add_bit(*bit);
+    }
+    set
+}
+
+// The calls that ask for one bit, or for how many there are.
+fn exercise_bits<R: EnumSetTypeRepr>(rt: &impl Abort, bits: &[u32]) {
+    let full: R = store_of(rt, bits);
+    let mut set = full;
+    set.known();
+    assert_eq!(rt; set.is_empty(), bits.is_empty());
+    assert_eq!(rt; set.count_ones() as usize, bits.len());
+    for bit in bits {
+        assert!(rt; *bit < R::WIDTH);
+        assert!(rt; set.has_bit(*bit));
+        set.remove_bit(*bit);
+        assert!(rt; !set.has_bit(*bit));
+    }
+    assert!(rt; set.is_empty());
+    assert_eq!(rt; set, R::EMPTY);
+}
+
+// The iterator from either end, and one with the same items left.
+fn exercise_iter<R: EnumSetTypeRepr>(rt: &impl Abort, bits: &[u32]) {
+    let set: R = store_of(rt, bits);
+    let mut front = set.iter();
+    let mut back = R::same_iter(&front);
+    assert_eq!(rt; R::items_left(&front), bits.len());
+    for bit in bits {
+        assert_eq!(rt; front.next(), Some(*bit));
+    }
+    for bit in bits.iter().rev() {
+        assert_eq!(rt; back.next_back(), Some(*bit));
+    }
+    assert_eq!(rt; R::items_left(&front), 0);
+    assert_eq!(rt; R::items_left(&back), 0);
+    assert_eq!(rt; front.next(), None);
+    assert_eq!(rt; back.next_back(), None);
+}
+
+// The operators, with the set of every other bit.
+fn exercise_operators<R: EnumSetTypeRepr>(rt: &impl Abort, bits: &[u32], others: &[u32]) {
+    let set: R = store_of(rt, bits);
+    let other: R = store_of(rt, others);
+    assert_eq!(rt; !set, other);
+    assert_eq!(rt; set & other, R::EMPTY);
+    assert_eq!(rt; set | other, !R::EMPTY);
+    assert_eq!(rt; set ^ other, !R::EMPTY);
+    assert_eq!(rt; set ^ set, R::EMPTY);
+    assert_eq!(rt; set & set, set);
+    assert_eq!(rt; set.and_not(other), set);
+    assert_eq!(rt; set.and_not(set), R::EMPTY);
+}
+
+// The words, read and put into the empty set.
+fn exercise_words<R: EnumSetTypeRepr>(rt: &impl Abort, bits: &[u32], words: &[u64]) {
+    let set: R = store_of(rt, bits);
+    let mut built = R::EMPTY;
+    assert_eq!(rt; R::PREFERRED_ARRAY_LEN, words.len());
+    for (i, word) in words.iter().enumerate() {
+        assert!(rt; i < R::PREFERRED_ARRAY_LEN);
+        assert_eq!(rt; set.word(i), *word);
+        built.put_word(i, *word);
+    }
+    assert_eq!(rt; built, set);
+}
+
+// Every call of a store, at the set of `bits`: `others` are the other bits below its width, and
+// `words` its words.
+fn exercise<R: EnumSetTypeRepr>(rt: &impl Abort, bits: &[u32], others: &[u32], words: &[u64]) {
+    exercise_bits::<R>(rt, bits);
+    exercise_iter::<R>(rt, bits);
+    exercise_operators::<R>(rt, bits, others);
+    exercise_words::<R>(rt, bits, words);
+}
+
+#[test]
+fn no_words(rt: HostRuntime) {
+    let none = [];
+    let no_words = [];
+    assert_eq!(rt; <ArrayRepr<0> as EnumSetTypeRepr>::WIDTH, 0);
+    exercise::<ArrayRepr<0>>(&rt, &none, &none, &no_words);
+}
+
+#[test]
+fn one_word(rt: HostRuntime) {
+    let low = [
+        0, 1, 2, 3, 4, 5, 6, 7, 8, 9, 10, 11, 12, 13, 14, 15, 16, 17, 18, 19, 20, 21, 22, 23, 24,
+        25, 26, 27, 28, 29, 30, 31,
+    ];
+    let high = [
+        32, 33, 34, 35, 36, 37, 38, 39, 40, 41, 42, 43, 44, 45, 46, 47, 48, 49, 50, 51, 52, 53, 54,
+        55, 56, 57, 58, 59, 60, 61, 62, 63,
+    ];
+    assert_eq!(rt; <ArrayRepr<1> as EnumSetTypeRepr>::WIDTH, 64);
+    exercise::<ArrayRepr<1>>(&rt, &low, &high, &[0xffff_ffff]);
+    exercise::<ArrayRepr<1>>(&rt, &high, &low, &[0xffff_ffff_0000_0000]);
+}
+
+#[test]
+fn three_words(rt: HostRuntime) {
+    let bits = [0, 3, 63, 64, 130, 191];
+    let words = [0x8000_0000_0000_0009, 1, 0x8000_0000_0000_0004];
+    assert_eq!(rt; <ArrayRepr<3> as EnumSetTypeRepr>::WIDTH, 192);
+    exercise_bits::<ArrayRepr<3>>(&rt, &bits);
+    exercise_iter::<ArrayRepr<3>>(&rt, &bits);
+    exercise_words::<ArrayRepr<3>>(&rt, &bits, &words);
+    let set = ArrayRepr(words);
+    let rest = ArrayRepr([0x7fff_ffff_ffff_fff6, !1, 0x7fff_ffff_ffff_fffb]);
+    assert_eq!(rt; !set, rest);
+    assert_eq!(rt; (!set).count_ones(), 186);
+    assert_eq!(rt; set | ArrayRepr([2, 2, 2]), ArrayRepr([0x8000_0000_0000_000b, 3, 0x8000_0000_0000_0006]));
+    assert_eq!(rt; set & ArrayRepr([1, 1, 1]), ArrayRepr([1, 1, 0]));
+    assert_eq!(rt; set ^ ArrayRepr([8, 1, 4]), ArrayRepr([0x8000_0000_0000_0001, 0, 0x8000_0000_0000_0000]));
+    assert_eq!(rt; set.and_not(ArrayRepr([8, 1, 4])), ArrayRepr([0x8000_0000_0000_0001, 0, 0x8000_0000_0000_0000]));
+}
+
+#[test]
+fn words_in_use(rt: HostRuntime) {
+    assert_eq!(rt; ArrayRepr::<0>::LEN, 0);
+    assert_eq!(rt; ArrayRepr::<3>::LEN, 3);
+    assert_eq!(rt; ArrayRepr::<67108863>::LEN, 67108863);
+    assert_eq!(rt; ArrayRepr::<67108864>::LEN, 0);
+    assert_eq!(rt; ArrayRepr::<67108866>::LEN, 2);
+}
+
+#[test]
+fn equal_exactly_if_the_words_are(rt: HostRuntime) {
+    assert_eq!(rt; ArrayRepr([8, 1]), ArrayRepr([8, 1]));
+    assert_ne!(rt; ArrayRepr([8, 1]), ArrayRepr([8, 0]));
+    assert_ne!(rt; ArrayRepr([1, 8]), ArrayRepr([8, 1]));
+}
