@@ -1,12 +1,11 @@
 -- The items of a list of words, word by word, and how many they are.
-use Rattle.std.proofs.Common.{◌≡◌, ◌<◌, ◌≤◌, ℕ, suc, zero, ◌+◌, ◌-◌, ◌*◌, ◌^◌, Bool, true, false, ◌||◌, List, [], ◌∷◌, ◌++◌, map, length, refl, sym, ap, ◌∙◌, subst, arith, true≢false, length-append}
+use Rattle.std.proofs.Common.{◌≡◌, ◌<◌, ◌≤◌, ℕ, suc, ◌+◌, ◌^◌, true, false, ◌||◌, List, [], ◌∷◌, ◌++◌, map, length, refl, sym, ap, ◌∙◌, subst, arith, true≢false, length-append}
 use Rattle.std.specs.Prelude.{◌==◌, nat_lt, slice_index, sum_by}
-use Rattle.std.specs.List.{list_any}
 use Rattle.std.proofs.lemmas.List.{length-map}
 use Rattle.std.proofs.lemmas.List.Sums.{sum_by-cons}
 use Rattle.std.proofs.lemmas.List.Folds.{list_any-append}
 use Rattle.std.proofs.lemmas.Bool.Decides.{nat_tests}
-use Rattle.enumset_repr.specs.BitSet.{BitSet, is_in, contains, rising, len, empty}
+use Rattle.enumset_repr.specs.BitSet.{is_in, rising, len, empty}
 use Rattle.enumset_repr.specs.Number.{bits}
 use Rattle.enumset_repr.specs.Words.{raised}
 use Rattle.enumset_repr.specs.Laws.Members.{contains-union, contains-from_list, contains-rising, itself, or_left, or_right}
@@ -29,14 +28,14 @@ pub items-cons : (n : ℕ) (ns : List ℕ) → n < 2 ^ 64 → items_of (n ∷ ns
 unfolding bits_of raised
 items-cons n ns small =
     let low : (q : ℕ) → is_in q (rising (bits n)) ≡ true → q < 64 = λ q one. elim (nat_lt q 64) as (λ t. nat_lt q 64 ≡ t → q < 64) [
-        | true ↦ λ e. grind (arith, nat_tests, e)
-        | false ↦ λ e. absurd (true≢false (sym (contains-rising (bits n) q ∙ one) ∙ contains-bits_above n 64 q small (grind (arith, nat_tests, e))))
-      ] refl in
+      | true ↦ λ e. grind (arith, nat_tests, e)
+      | false ↦ λ e. absurd (true≢false (sym (contains-rising (bits n) q ∙ one) ∙ contains-bits_above n 64 q small (grind (arith, nat_tests, e))))
+    ] refl in
     rising_is (bits_of (n ∷ ns)) _
     (rises-append 0 64 (rising (bits n)) _ (omega arith) (rising-rises (bits n)) low (subst (λ j. RisesFrom j (map (λ b. 64 + b) (items_of ns))) (omega arith) (rises-raised 0 (items_of ns) (rising-rises (bits_of ns)))))
     (λ q. contains-union (bits n) (raised (bits_of ns) 64) q
-      ∙ (λ i. contains-rising (bits n) q i || contains-from_list (map (λ b. 64 + b) (rising (bits_of ns))) q i)
-      ∙ sym (list_any-append (λ b. q == b) (rising (bits n)) (map (λ b. 64 + b) (items_of ns))))
+    ∙ (λ i. contains-rising (bits n) q i || contains-from_list (map (λ b. 64 + b) (rising (bits_of ns))) q i)
+    ∙ sym (list_any-append (λ b. q == b) (rising (bits n)) (map (λ b. 64 + b) (items_of ns))))
 
 bits_of_none : bits_of [] ≡ empty
 unfolding bits_of

@@ -1,5 +1,5 @@
 -- A store one word of which was replaced.
-use Rattle.std.proofs.Common.{◌≡◌, ◌≢◌, ◌<◌, ◌≤◌, ◌⊎◌, inl, inr, ℕ, ◌*◌, ◌+◌, ◌-◌, ◌/◌, ◌%◌, ◌^◌, Bool, true, false, not, ◌&&◌, ◌||◌, List, length, set, bit_and, bit_or, refl, sym, ap, ◌∙◌, subst, arith, w64, length-set}
+use Rattle.std.proofs.Common.{◌≡◌, ◌≢◌, ◌<◌, ◌≤◌, ◌⊎◌, inl, inr, ℕ, ◌*◌, ◌+◌, ◌-◌, ◌/◌, ◌%◌, ◌^◌, Bool, true, false, not, ◌&&◌, ◌||◌, List, set, bit_and, bit_or, refl, sym, ap, ◌∙◌, subst, arith, w64, length-set}
 use Rattle.std.specs.Prelude.{◌==◌, slice_index, IsTrue, nat_lt, nat_le}
 use Rattle.std.specs.List.{list_all}
 use Rattle.std.specs.Int.{bit_not}
@@ -19,7 +19,7 @@ use Rattle.enumset_repr.specs.Laws.Words.{contains-with_word}
 use Rattle.enumset_array.specs.Stored.{in_use, set_of, is_empty_past, IsStore}
 use Rattle.enumset_array.specs.Laws.Bits.{contains-bits_above}
 use Rattle.enumset_array.specs.Laws.Stored.{contains-set_of, set_is}
-use Rattle.enumset_array.specs.Laws.WordSets.{at_word, same_place}
+use Rattle.enumset_array.specs.Laws.WordSets.{at_word}
 
 pub set_past : (n : ℕ) (ws : List ℕ) (i x : ℕ) → i < in_use n → IsTrue (is_empty_past n ws) → IsTrue (is_empty_past n (set ws i x))
 set_past n ws i x low past = ap (list_all (λ w. w == 0)) (drop-set-lt (in_use n) ws i x low) ∙ past
@@ -71,8 +71,8 @@ small_bit k = omega arith
 insert_at : (n : ℕ) (ws : List ℕ) (i k : ℕ) → IsStore n ws → i < in_use n → k < 64 → set_of n (set ws i (bit_or (slice_index ws i) (bit_of k))) ≡ insert (set_of n ws) (64 * i + k)
 insert_at n ws i k store low small = set_at n ws i _ store low (or_lt 64 _ _ (store.fit i) (small_bit k)) (insert (set_of n ws) (64 * i + k))
     (λ b under.
-      ap (λ s. contains s b) (bits-set w64 (slice_index ws i) k (store.fit i) small) ∙ contains-insert _ k b
-      ∙ (λ j. sym (same_bit i b k) j || sym (contains-set_of n ws i b store under) j) ∙ sym (contains-insert _ (64 * i + k) (64 * i + b)))
+    ap (λ s. contains s b) (bits-set w64 (slice_index ws i) k (store.fit i) small) ∙ contains-insert _ k b
+    ∙ (λ j. sym (same_bit i b k) j || sym (contains-set_of n ws i b store under) j) ∙ sym (contains-insert _ (64 * i + k) (64 * i + b)))
     (λ w b apart under. sym (contains-insert _ (64 * i + k) (64 * w + b) ∙ ap (λ t. t || contains (set_of n ws) (64 * w + b)) (other_word i w b k apart under small)))
 
 pub insert_bit : (n : ℕ) (ws : List ℕ) (bit : ℕ) → IsStore n ws → bit < 64 * in_use n
@@ -82,8 +82,8 @@ insert_bit n ws bit store below = insert_at n ws (bit / 64) (bit % 64) store (om
 remove_at : (n : ℕ) (ws : List ℕ) (i k : ℕ) → IsStore n ws → i < in_use n → k < 64 → set_of n (set ws i (bit_and (slice_index ws i) (bit_not w64 (bit_of k)))) ≡ remove (set_of n ws) (64 * i + k)
 remove_at n ws i k store low small = set_at n ws i _ store low (and_lt 64 _ _ (store.fit i) (ones_sub-lt 64 (bit_of k))) (remove (set_of n ws) (64 * i + k))
     (λ b under.
-      ap (λ s. contains s b) (bits-clear w64 (slice_index ws i) k (store.fit i) small) ∙ contains-remove _ k b
-      ∙ (λ j. not (sym (same_bit i b k) j) && sym (contains-set_of n ws i b store under) j) ∙ sym (contains-remove _ (64 * i + k) (64 * i + b)))
+    ap (λ s. contains s b) (bits-clear w64 (slice_index ws i) k (store.fit i) small) ∙ contains-remove _ k b
+    ∙ (λ j. not (sym (same_bit i b k) j) && sym (contains-set_of n ws i b store under) j) ∙ sym (contains-remove _ (64 * i + k) (64 * i + b)))
     (λ w b apart under. sym (contains-remove _ (64 * i + k) (64 * w + b) ∙ ap (λ t. not t && contains (set_of n ws) (64 * w + b)) (other_word i w b k apart under small)))
 
 pub remove_bit : (n : ℕ) (ws : List ℕ) (bit : ℕ) → IsStore n ws → bit < 64 * in_use n
@@ -119,6 +119,7 @@ in_other i w b width m s apart small fits =
     none : (w < i) ⊎ (i ≤ w) → (nat_le (64 * i) (64 * w + b) && contains (bits m) (64 * w + b - 64 * i)) ≡ false
     none (inl before) = let under : nat_le (64 * i) (64 * w + b) ≡ false = grind (arith, nat_tests, small, before) in ap (λ t. t && contains (bits m) (64 * w + b - 64 * i)) under
     none (inr from) = ap (λ t. nat_le (64 * i) (64 * w + b) && t) (contains-bits_above m 64 _ fits (omega (arith, apart, from))) ∙ and-false _
+
     plain : (s : Bool) → ((s && true) || false) ≡ s
     plain true = refl
     plain false = refl
@@ -126,8 +127,8 @@ in_other i w b width m s apart small fits =
 pub put_word : (n : ℕ) (ws : List ℕ) (i x : ℕ) → IsStore n ws → i < in_use n → x < 2 ^ 64 → set_of n (set ws i x) ≡ with_word (set_of n ws) (64 * in_use n) i x
 put_word n ws i x store low fits = set_at n ws i x store low fits (with_word (set_of n ws) (64 * in_use n) i x)
     (λ b under.
-      let at : 64 * i + b - 64 * i ≡ b = omega arith in
-      in_this i b (64 * in_use n) (contains (set_of n ws) (64 * i + b)) under (omega (arith, low, under)) (contains (bits x) b)
-      ∙ (λ j. (contains (set_of n ws) (64 * i + b) && not (is_in_word i (64 * i + b))) || ((nat_le (64 * i) (64 * i + b) && contains (bits x) (sym at j)) && nat_lt (64 * i + b) (64 * in_use n)))
-      ∙ sym (contains-with_word _ _ i x (64 * i + b)))
+    let at : 64 * i + b - 64 * i ≡ b = omega arith in
+    in_this i b (64 * in_use n) (contains (set_of n ws) (64 * i + b)) under (omega (arith, low, under)) (contains (bits x) b)
+    ∙ (λ j. (contains (set_of n ws) (64 * i + b) && not (is_in_word i (64 * i + b))) || ((nat_le (64 * i) (64 * i + b) && contains (bits x) (sym at j)) && nat_lt (64 * i + b) (64 * in_use n)))
+    ∙ sym (contains-with_word _ _ i x (64 * i + b)))
     (λ w b apart under. in_other i w b (64 * in_use n) x _ apart under fits ∙ sym (contains-with_word _ _ i x (64 * w + b)))

@@ -1,10 +1,10 @@
 -- The words of a row of iterators over words.
-use Rattle.std.proofs.Common.{◌≡◌, ◌<◌, ◌≤◌, ◌≢◌, ℕ, ◌*◌, ◌+◌, ◌-◌, ◌%◌, ◌^◌, List, [], ◌∷◌, ◌++◌, map, length, take, set, get_or, min, refl, sym, ap, ◌∙◌, subst, arith, true, false, add-one, zero-add}
-use Rattle.std.specs.Prelude.{◌==◌, slice_index, sum_by, Option, Some, None, IfNone, IfSome, MatchOption, count_ones}
+use Rattle.std.proofs.Common.{◌≡◌, ◌<◌, ◌≤◌, ◌≢◌, ℕ, ◌+◌, ◌^◌, List, [], ◌∷◌, ◌++◌, map, length, take, set, get_or, refl, sym, ap, ◌∙◌, subst, arith, true, false, add-one, zero-add}
+use Rattle.std.specs.Prelude.{◌==◌, slice_index, sum_by, Option, Some, None, IfNone, IfSome, MatchOption}
 use Rattle.std.proofs.Math.Seq.{take-set-lt, take-suc}
 use Rattle.std.proofs.lemmas.List.Sums.{sum_by-append}
 use Rattle.std.proofs.lemmas.Bool.Decides.{nat_tests}
-use Rattle.std.proofs.lemmas.Grind.{common_steps, same_number_lists}
+use Rattle.std.proofs.lemmas.Grind.{same_number_lists}
 use Rattle.std.proofs.lemmas.List.{map-set, length-take, length-map, get_or-map, get_or-take, get_or-set_same, get_or-set_other, set-get_or}
 use Rattle.enumset_repr.specs.declared.primitive_iter.PrimitiveIter.{PrimitiveIter}
 use Rattle.enumset_repr.specs.BitSet.{rising, len}

@@ -1,17 +1,14 @@
 -- The laws of the set of a list of words, and what it is after a bit was taken out of a word.
-use Rattle.std.proofs.Common.{◌≡◌, ◌<◌, ◌≤◌, ◌≢◌, ℕ, suc, zero, ◌+◌, ◌-◌, ◌*◌, ◌/◌, ◌%◌, ◌^◌, Bool, true, false, ◌&&◌, ◌||◌, List, [], ◌∷◌, ◌++◌, length, set, refl, sym, ap, ◌∙◌, subst, arith, mod-lt, length-set, lit<}
-use Rattle.std.proofs.Math.Nat.{div-add-mod}
+use Rattle.std.proofs.Common.{◌≡◌, ◌<◌, ◌≤◌, ◌≢◌, ℕ, ◌+◌, ◌*◌, ◌^◌, true, false, ◌&&◌, ◌||◌, List, [], ◌∷◌, ◌++◌, length, set, refl, sym, ap, ◌∙◌, subst, arith, length-set, lit<}
 use Rattle.std.proofs.lemmas.List.{get_or-set_other}
 use Rattle.std.specs.Prelude.{◌==◌, nat_lt, slice_index}
 use Rattle.std.proofs.lemmas.Bool.Decides.{nat_tests}
 use Rattle.enumset_repr.specs.BitSet.{contains, rising, remove, empty}
 use Rattle.enumset_repr.specs.Number.{bits}
-use Rattle.enumset_repr.specs.Words.{raised}
-use Rattle.enumset_repr.specs.Laws.Members.{same_set, contains-union, contains-empty}
+use Rattle.enumset_repr.specs.Laws.Members.{same_set, contains-empty}
 use Rattle.enumset_repr.specs.Laws.Rising.{rising-first, rising-last, rising-empty}
 use Rattle.enumset_array.specs.Cursors.{Reach, Covers}
 use Rattle.enumset_array.specs.WordList.{bits_of}
-use Rattle.enumset_repr.specs.Laws.Numbers.{bits-zero}
 use Rattle.enumset_array.specs.Laws.WordSets.{contains-bits_of, by_word, contains-zero, same_place}
 use Rattle.enumset_array.proofs.Taken.{IsTaken, rest_of_taken, was_there, taken_first, first_is_least, taken_last, last_is_greatest, taken_small, taken_below}
 

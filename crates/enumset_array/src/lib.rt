@@ -19,10 +19,9 @@ mod operators;
 pub mod row;
 mod rows;
 pub mod shown_row;
-pub mod walk;
-
 #[cfg(test)]
 mod tests;
+pub mod walk;
 
 pub use array_iter::ArrayIter;
 pub use array_repr::ArrayRepr;

@@ -1,6 +1,6 @@
 //! A row that can show how often it was asked.
 
-ghost use Rattle.std.specs.Prelude.{◌≡◌, ◌-◌, ◌^◌, min};
+ghost use Rattle.std.specs.Prelude.{◌≡◌, ◌+◌, ◌-◌, ◌^◌, min};
 ghost use Rattle.enumset_array.specs.Stored.{used};
 
 use crate::array_repr::ArrayRepr;
@@ -57,12 +57,19 @@ impl<const N: usize> Row for ShownRow<N> {
     }
 
     fn ask_front(&mut self, i: usize) -> Option<u32> {
-        self.shown = self.shown.saturating_add(1);
+        self.shown = one_more(self.shown);
         self.row.ask_front(i)
     }
 
     fn ask_back(&mut self, i: usize) -> Option<u32> {
-        self.shown = self.shown.saturating_add(1);
+        self.shown = one_more(self.shown);
         self.row.ask_back(i)
     }
+}
+
+// The number that shows one ask more.
+fn one_more(shown: u64) -> u64
+    ensures { result ≡ min (shown + 1) (2 ^ 64 - 1) }
+{
+    shown.saturating_add(1)
 }

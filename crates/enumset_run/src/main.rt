@@ -16,8 +16,12 @@ mod reply;
 mod runs;
 mod serve;
 mod sparse;
+#[cfg(test)]
+mod tests;
 mod text_fault;
 mod transcript;
+#[cfg(test)]
+mod vectors;
 mod wide;
 mod worked;
 

@@ -86,9 +86,10 @@ module _ (D : Declared) (bare : Bare D.parts) (bits : List ℕ) (variants : leng
   bit_of-tells : (v w : D.D) → bit_of D bits v ≡ bit_of D bits w → v ≡ w
   bit_of-tells v w same = tag_one D bare v w (distinct_places bits apart (tag_of D v) (tag_of D w) (tag_within v) (tag_within w) same)
 
--- One test that computes proves the laws of an enum without fields: `D` is its type as the check declares it.
-pub lawful : {bits : List ℕ} {all : BitSet} {width count : ℕ} (D : Declared) → Bare D.parts → all ≡ from_list bits → is_lawful (length (rowss D.parts)) bits width count ≡ true → IsElementType (bit_of D bits) (sameb D) bits all width count
-lawful {bits} {all} {width} {count} D bare valid test =
+-- One test that computes proves the laws of an enum without fields: `D` is its type as the check declares it, and
+-- its `==` answers as a comparison of the variants does.
+pub lawful_by : {bits : List ℕ} {all : BitSet} {width count : ℕ} (D : Declared) (eq : D.D → D.D → Bool) → ((v w : D.D) → eq v w ≡ sameb D v w) → Bare D.parts → all ≡ from_list bits → is_lawful (length (rowss D.parts)) bits width count ≡ true → IsElementType (bit_of D bits) eq bits all width count
+lawful_by {bits} {all} {width} {count} D eq compares bare valid test =
     let variants : length bits ≡ length (rowss D.parts) = same_number _ _ (both _ _ test).0 in
     let rest : (is_distinct bits && ((one_past_all bits == width) && (length bits == count))) ≡ true = (both _ _ test).1 in
     let apart : is_distinct bits ≡ true = (both _ _ rest).0 in
@@ -97,16 +98,31 @@ lawful {bits} {all} {width} {count} D bare valid test =
       valid = valid;
       bit_is_valid = λ v. ap (λ s. contains s (bit_of D bits v)) valid ∙ contains-from_list bits _ ∙ bit_of-is_in D bare bits variants apart v;
       bit_tells = bit_of-tells D bare bits variants apart;
-      eq_tells = λ v w. (λ e. ap (bit_of D bits) (same_true D bare v w e), λ e. true_same D v w (bit_of-tells D bare bits variants apart v w e));
+      eq_tells = λ v w. (λ e. ap (bit_of D bits) (same_true D bare v w (sym (compares v w) ∙ e)), λ e. compares v w ∙ true_same D v w (bit_of-tells D bare bits variants apart v w e));
       width_is = sym (same_number _ _ (both _ _ numbers).0) ∙ sym (one_past_greatest-from_list bits) ∙ ap one_past_greatest (sym valid);
       count_is = sym (same_number _ _ (both _ _ numbers).1) ∙ sym (len-from_list bits apart) ∙ ap len (sym valid);
     }
+
+-- The laws of an enum of two variants or more, or of none, whose `==` is derived.
+pub lawful : {bits : List ℕ} {all : BitSet} {width count : ℕ} (D : Declared) → Bare D.parts → all ≡ from_list bits → is_lawful (length (rowss D.parts)) bits width count ≡ true → IsElementType (bit_of D bits) (sameb D) bits all width count
+lawful D bare valid test = lawful_by D (sameb D) (λ v w. refl) bare valid test
+
+-- The laws of an enum of one variant, whose derived `==` compares nothing.
+pub lawful_single : {b : ℕ} {all : BitSet} {width count : ℕ} (D : Declared) → Bare D.parts → all ≡ from_list (b ∷ []) → is_lawful (length (rowss D.parts)) (b ∷ []) width count ≡ true → IsElementType (bit_of D (b ∷ [])) (λ _ _. true) (b ∷ []) all width count
+lawful_single D bare valid test =
+    let one : 1 ≡ length (rowss D.parts) = same_number _ _ (both _ _ test).0 in
+    let same : (v w : D.D) → v ≡ w = λ v w. tag_one D bare v w (omega (arith, one, tag_below (rowss D.parts) (D.to v), tag_below (rowss D.parts) (D.to w))) in
+    lawful_by D (λ _ _. true) (λ v w. sym (true_same D v w (same v w))) bare valid test
 
 -- the members of a set of valid bits are bits of variants
 pub AreBitsOf-rising : (bits : List ℕ) (all s : BitSet) → all ≡ from_list bits → is_subset s all ≡ true → AreBitsOf bits (rising s)
 AreBitsOf-rising bits all s valid sub =
     list_all-each (λ b. is_in b bits) (rising s) (λ q one. sym (contains-from_list bits q) ∙ sym (ap (λ t. contains t q) valid) ∙ is_subset-contains s all sub q (contains-rising s q ∙ one))
 
+-- the valid bits are the bits of the variants
+pub contains-is_in : (bits : List ℕ) (all : BitSet) (b : ℕ) → all ≡ from_list bits → contains all b ≡ is_in b bits
+contains-is_in bits all b valid = ap (λ s. contains s b) valid ∙ contains-from_list bits b
+
 -- a valid bit is the bit of a variant
 pub valid-is_in : (bits : List ℕ) (all : BitSet) (b : ℕ) → all ≡ from_list bits → contains all b ≡ true → is_in b bits ≡ true
-valid-is_in bits all b valid in_all = sym (contains-from_list bits b) ∙ sym (ap (λ s. contains s b) valid) ∙ in_all
+valid-is_in bits all b valid in_all = sym (contains-is_in bits all b valid) ∙ in_all

@@ -14,7 +14,7 @@ pub trait EnumSetType: Copy + Eq {
     // A value's bit.
     ghost bit: { Self → ℕ };
 
-    // The bits of the variants, in the order of their declaration.
+    // The valid bits, one for each variant. Where `bit` is `bit_of`, in the order of their declaration.
     ghost bits: { List ℕ };
 
     ghost ALL_BITS: { Self.Repr };

@@ -1,6 +1,6 @@
 //! The set of elements.
 
-ghost use Rattle.std.specs.Prelude.{◌≡◌, ◌<◌, ◌↔◌, IsTrue, not};
+ghost use Rattle.std.specs.Prelude.{◌≡◌, ◌<◌, ◌≤◌, ◌↔◌, IsTrue, false, not};
 ghost use Rattle.enumset_repr.specs.BitSet as set;
 ghost use Rattle.enumset_sets.specs.Elements.{one_past_greatest};
 
@@ -12,7 +12,7 @@ use std::alloc::AllocError;
 use std::fmt;
 use std::marker::{Model, PhantomData};
 
-/// A set of elements, of the size of its store.
+/// A set of elements, kept as a value of its store.
 ///
 /// It mirrors `EnumSet` of Rust's `enumset`. The parameter `R` is always the store of `T`: write
 /// `EnumSet<T>`.
@@ -81,7 +81,7 @@ impl<T: EnumSetType> Default for EnumSet<T> {
     ghost is_default = { λ s. s ≡ empty };
 
     fn default() -> EnumSet<T> {
-        Self::new()
+        EnumSet::new()
     }
 }
 
@@ -179,24 +179,29 @@ impl<T: EnumSetType> EnumSet<T> {
         T::VARIANT_COUNT
     }
 
-    /// The element's bit.
+    /// The element's bit. It is valid, and below the store's width.
     pub fn bit_index(t: T) -> u32
-        ensures { result ≡ T.bit t }
+        ensures bit { result ≡ T.bit t }
+        ensures valid { IsTrue (set.contains (T.Repr.members T.ALL_BITS) result) }
+        ensures within { result < T.Repr.WIDTH }
     {
-        t.enum_into_u32()
+        bit_of_value(t)
     }
 
     /// Whether a bit is valid: one of a variant. It is not at and past the store's width.
     pub fn is_bit_valid(bit: u32) -> bool
-        ensures { result ≡ set.contains (T.Repr.members T.ALL_BITS) bit }
+        ensures valid { result ≡ set.contains (T.Repr.members T.ALL_BITS) bit }
+        ensures of_a_variant { result ≡ set.is_in bit T.bits }
+        ensures past { T.Repr.WIDTH ≤ bit → result ≡ false }
     {
         let all = valid_repr::<T>();
         bit < T::Repr::WIDTH && all.has_bit(bit)
     }
 
-    /// How many members there are.
+    /// How many members there are. Each is a valid bit.
     pub fn len(&self) -> usize
-        ensures { result ≡ set.len self.now }
+        ensures members { result ≡ set.len self.now }
+        ensures valid { IsTrue (set.is_subset self.now (T.Repr.members T.ALL_BITS)) }
     {
         self.repr.count_ones() as usize
     }
@@ -303,9 +308,11 @@ impl<T: EnumSetType> EnumSet<T> {
         self.symmetric_difference(other)
     }
 
-    /// The valid bits that are not in the set, as elements.
+    /// The valid bits that are not in the set, as elements. The complement of that is this set, whose
+    /// members are valid bits.
     pub fn complement(&self) -> EnumSet<T>
-        ensures { result ≡ set.difference (T.Repr.members T.ALL_BITS) self.now }
+        ensures rest { result ≡ set.difference (T.Repr.members T.ALL_BITS) self.now }
+        ensures valid { IsTrue (set.is_subset self.now (T.Repr.members T.ALL_BITS)) }
     {
         Self::of_repr(T::ALL_BITS.and_not(self.repr))
     }
@@ -327,7 +334,8 @@ impl<T: EnumSetType> EnumSet<T> {
     /// The elements, along their bits, each once, rising, from both ends. The iterator keeps the set as
     /// it is now.
     pub fn iter(&self) -> EnumSetIter<T>
-        ensures { result ≡ set.rising self.now }
+        ensures rising { result ≡ set.rising self.now }
+        ensures valid { IsTrue (set.is_subset self.now (T.Repr.members T.ALL_BITS)) }
     {
         EnumSetIter::over(self.repr)
     }

@@ -1,7 +1,6 @@
 //! The iterator over a set's elements.
 
 ghost use Rattle.std.specs.Prelude.{◌≡◌, length, IsTrue};
-ghost use Rattle.std.specs.Iterator.SizeHint.{IsExactHint};
 ghost use Rattle.enumset_repr.specs.BitSet as set;
 
 use crate::element::EnumSetType;
@@ -80,7 +79,8 @@ impl<T: EnumSetType> Iterator for EnumSetIter<T> {
     }
 
     fn size_hint(&self) -> (usize, Option<usize>)
-        ensures { IsExactHint result (length self.now) }
+        ensures lower { result.0 ≡ length self.now }
+        ensures upper { result.1 ≡ Some (length self.now) }
     {
         let left = T::Repr::items_left(&self.iter);
         (left, Some(left))

@@ -8,3 +8,7 @@ pub mod element;
 pub mod enum_set;
 pub mod enum_set_iter;
 mod store;
+
+pub use element::EnumSetType;
+pub use enum_set::EnumSet;
+pub use enum_set_iter::EnumSetIter;

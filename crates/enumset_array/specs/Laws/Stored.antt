@@ -8,25 +8,23 @@
 --     equal      stores are equal exactly if their sets are
 --     empty_iff      the set is empty exactly if all words are
 --     width_words      as many words as the width takes
-use Rattle.std.proofs.Common.{◌≡◌, ◌<◌, ◌≤◌, ◌⊎◌, inl, inr, ℕ, zero, suc, ◌+◌, ◌-◌, ◌*◌, ◌/◌, ◌%◌, ◌^◌, Bool, true, false, ◌&&◌, List, [], ◌∷◌, length, map, take, drop, refl, sym, ap, ◌∙◌, subst, arith, ◌↔◌, true≢false, lit<}
+use Rattle.std.proofs.Common.{◌≡◌, ◌<◌, ◌≤◌, ◌⊎◌, inl, inr, ℕ, zero, suc, ◌+◌, ◌-◌, ◌*◌, ◌/◌, ◌^◌, true, ◌&&◌, List, [], ◌∷◌, take, drop, refl, sym, ap, ◌∙◌, subst, arith, ◌↔◌, true≢false, lit<}
 use Rattle.std.specs.Prelude.{◌==◌, IsTrue, nat_eq, nat_lt, slice_index, replicate, sum_by, filter}
-use Rattle.std.specs.List.{list_all, range_with_len}
+use Rattle.std.specs.List.{list_all}
 use Rattle.std.specs.Cmp.Lexicographic.{pointwise, same_text}
 use Rattle.std.proofs.lemmas.Bool.{cases_lt, lt-ltb}
 use Rattle.std.proofs.Math.Bool.{and-true, and-false}
 use Rattle.std.proofs.lemmas.Cmp.{nat_list_eq_equiv}
-use Rattle.std.proofs.lemmas.Bool.Decides.{nat_tests}
-use Rattle.std.proofs.lemmas.Grind.{common_steps, same_number_lists}
-use Rattle.std.proofs.lemmas.List.{get_or-take, get_or-drop, get_or-replicate, length-replicate, drop-replicate}
+use Rattle.std.proofs.lemmas.Grind.{same_number_lists}
+use Rattle.std.proofs.lemmas.List.{get_or-take, get_or-drop, length-replicate, drop-replicate}
 use Rattle.std.proofs.lemmas.List.FromFn.{get_or-map-range_with_len, length-map-range_with_len}
 use Rattle.enumset_repr.specs.BitSet.{BitSet, contains, empty, below, is_subset}
 use Rattle.enumset_repr.specs.Number.{bits, number}
 use Rattle.enumset_repr.specs.Words.{word, is_in_word}
 use Rattle.enumset_repr.specs.Laws.Rising.{rising-empty}
 use Rattle.enumset_repr.specs.Laws.Members.{same_set, same_number, both, and_true, not_below, contains-empty, contains-below, contains-is_subset}
-use Rattle.enumset_repr.specs.Laws.Numbers.{number-bits, bits-zero}
+use Rattle.enumset_repr.specs.Laws.Numbers.{number-bits}
 use Rattle.enumset_repr.specs.Laws.Words.{contains-bits-word}
-use Rattle.enumset_array.specs.WordList.{bits_of}
 use Rattle.enumset_array.specs.Stored.{in_use, used, set_of, words, is_empty_past, IsStore}
 use Rattle.enumset_array.specs.Laws.Bits.{contains-bits_above}
 use Rattle.enumset_array.specs.Laws.WordSets.{contains-bits_of, by_word, contains-zero}

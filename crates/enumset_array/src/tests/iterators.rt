@@ -6,8 +6,7 @@ use std::test::Fail;
 const ENDS: u64 = 0x8000_0000_0000_0001;
 
 // Takes the bits from the front and the back in turn, in this order, and then finds nothing.
-fn take_in_turn<const N: usize>(rt: &impl Abort, set: ArrayRepr<N>, order: &[u32]) {
-    let mut iter = set.iter();
+fn take_in_turn<const N: usize>(rt: &impl Abort, mut iter: ArrayIter<N>, order: &[u32]) {
     for (i, bit) in order.iter().enumerate() {
         let left = order.len() - i;
         assert_eq!(rt; iter.size_hint(), (left, Some(left)));
@@ -31,34 +30,34 @@ fn assert_none_left<const N: usize>(rt: &impl Abort, iter: &mut ArrayIter<N>) {
 #[test]
 fn no_words(rt: HostRuntime) {
     let none = [];
-    take_in_turn(&rt, ArrayRepr::<0>([]), &none);
+    take_in_turn(&rt, ArrayRepr::<0>([]).iter(), &none);
 }
 
 #[test]
 fn one_word(rt: HostRuntime) {
     let none = [];
-    take_in_turn(&rt, ArrayRepr([0]), &none);
-    take_in_turn(&rt, ArrayRepr([ENDS]), &[0, 63]);
-    take_in_turn(&rt, ArrayRepr([7]), &[0, 2, 1]);
+    take_in_turn(&rt, ArrayRepr([0]).iter(), &none);
+    take_in_turn(&rt, ArrayRepr([ENDS]).iter(), &[0, 63]);
+    take_in_turn(&rt, ArrayRepr([7]).iter(), &[0, 2, 1]);
 }
 
 #[test]
 fn two_words(rt: HostRuntime) {
-    take_in_turn(&rt, ArrayRepr([ENDS, ENDS]), &[0, 127, 63, 64]);
-    take_in_turn(&rt, ArrayRepr([0, ENDS]), &[64, 127]);
-    take_in_turn(&rt, ArrayRepr([ENDS, 0]), &[0, 63]);
+    take_in_turn(&rt, ArrayRepr([ENDS, ENDS]).iter(), &[0, 127, 63, 64]);
+    take_in_turn(&rt, ArrayRepr([0, ENDS]).iter(), &[64, 127]);
+    take_in_turn(&rt, ArrayRepr([ENDS, 0]).iter(), &[0, 63]);
 }
 
 #[test]
 fn five_words(rt: HostRuntime) {
     let none = [];
-    take_in_turn(&rt, ArrayRepr([0; 5]), &none);
+    take_in_turn(&rt, ArrayRepr([0; 5]).iter(), &none);
     take_in_turn(
         &rt,
-        ArrayRepr([ENDS, 1, 0, 0, ENDS]),
+        ArrayRepr([ENDS, 1, 0, 0, ENDS]).iter(),
         &[0, 319, 63, 256, 64],
     );
-    take_in_turn(&rt, ArrayRepr([0, 0, 4, 0, 0]), &[130]);
+    take_in_turn(&rt, ArrayRepr([0, 0, 4, 0, 0]).iter(), &[130]);
 }
 
 #[test]

@@ -1,5 +1,4 @@
 use Rattle.std.proofs.Common.{rules}
-use Rattle.std.proofs.lemmas.Grind.{common_steps}
 use Rattle.enumset_array.specs.Stored.{IsStore}
 use Rattle.enumset_array.proofs.Wordwise.{IsMade, and_not, and_not_store, and_not_set}
 use Rattle.enumset_array.proofs.array_repr.ArrayReprEnumSetTypeRepr.and_not.Goals as goal

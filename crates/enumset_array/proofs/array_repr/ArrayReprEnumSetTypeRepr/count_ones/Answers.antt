@@ -1,4 +1,4 @@
-use Rattle.std.proofs.Common.{rules, sym, ◌∙◌}
+use Rattle.std.proofs.Common.{sym, ◌∙◌}
 use Rattle.enumset_array.specs.Stored.{IsStore}
 use Rattle.enumset_array.specs.Laws.Stored.{used_fit}
 use Rattle.enumset_repr.specs.Laws.Rising.{len-rising}

@@ -1,4 +1,3 @@
-use Rattle.std.proofs.Common.{rules}
 use Rattle.enumset_array.specs.Stored.{IsStore}
 use Rattle.enumset_array.proofs.Places.{test_bit}
 use Rattle.enumset_array.proofs.array_repr.ArrayReprEnumSetTypeRepr.has_bit.Goals as goal

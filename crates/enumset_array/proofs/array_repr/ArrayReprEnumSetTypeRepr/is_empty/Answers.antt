@@ -1,4 +1,4 @@
-use Rattle.std.proofs.Common.{rules, sym, ◌∙◌}
+use Rattle.std.proofs.Common.{sym, ◌∙◌}
 use Rattle.enumset_array.specs.Stored.{IsStore}
 use Rattle.enumset_array.specs.Laws.Stored.{empty_iff, each_zero, all_zero}
 use Rattle.enumset_array.proofs.array_repr.ArrayReprEnumSetTypeRepr.is_empty.Goals as goal

@@ -1,4 +1,4 @@
-use Rattle.std.proofs.Common.{rules, sym}
+use Rattle.std.proofs.Common.{sym}
 use Rattle.enumset_array.specs.Stored.{IsStore}
 use Rattle.enumset_array.specs.Laws.Stored.{word_is}
 use Rattle.enumset_array.proofs.array_repr.ArrayReprEnumSetTypeRepr.word.Goals as goal

@@ -1,6 +1,4 @@
-use Rattle.std.proofs.Common.{rules, bit_and, bit_or}
-use Rattle.std.specs.Prelude.{bit_xor}
-use Rattle.std.proofs.lemmas.Grind.{common_steps}
+use Rattle.std.proofs.Common.{rules, bit_or}
 use Rattle.enumset_array.specs.Stored.{IsStore}
 use Rattle.enumset_array.proofs.Wordwise.{IsMade, or_store, or_set}
 use Rattle.enumset_array.proofs.operators.ArrayReprBitOr.bitor.Goals as goal

@@ -1,5 +1,5 @@
-use Rattle.std.proofs.Common.{◌≡◌, ◌≤◌, ◌<◌, ℕ, bit_and, bit_or, length}
-use Rattle.std.specs.Prelude.{slice_index, bit_xor}
+use Rattle.std.proofs.Common.{◌≡◌, ◌≤◌, ◌<◌, ℕ, bit_or, length}
+use Rattle.std.specs.Prelude.{slice_index}
 use Rattle.enumset_array.proofs.operators.ArrayReprBitOr.bitor.Given as goal
 
 -- the words before i are done, and the others are as they were

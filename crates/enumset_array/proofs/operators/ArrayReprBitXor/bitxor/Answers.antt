@@ -1,6 +1,5 @@
-use Rattle.std.proofs.Common.{rules, bit_and, bit_or}
+use Rattle.std.proofs.Common.{rules}
 use Rattle.std.specs.Prelude.{bit_xor}
-use Rattle.std.proofs.lemmas.Grind.{common_steps}
 use Rattle.enumset_array.specs.Stored.{IsStore}
 use Rattle.enumset_array.proofs.Wordwise.{IsMade, xor_store, xor_set}
 use Rattle.enumset_array.proofs.operators.ArrayReprBitXor.bitxor.Goals as goal

@@ -1,4 +1,4 @@
-use Rattle.std.proofs.Common.{◌≡◌, ◌≤◌, ◌<◌, ℕ, bit_and, bit_or, length}
+use Rattle.std.proofs.Common.{◌≡◌, ◌≤◌, ◌<◌, ℕ, length}
 use Rattle.std.specs.Prelude.{slice_index, bit_xor}
 use Rattle.enumset_array.proofs.operators.ArrayReprBitXor.bitxor.Given as goal
 

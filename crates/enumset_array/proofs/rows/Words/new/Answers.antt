@@ -1,7 +1,6 @@
-use Rattle.std.proofs.Common.{◌≡◌, ◌<◌, ℕ, length, arith, sym, ap, ◌∙◌, length-set}
-use Rattle.enumset_array.specs.Counted.{Counted}
+use Rattle.std.proofs.Common.{◌≡◌, arith, sym, ◌∙◌, length-set}
 use Rattle.enumset_array.specs.Stored.{used}
-use Rattle.enumset_array.proofs.RowWords.{numbers, filled, filled_more, store_words}
+use Rattle.enumset_array.proofs.RowWords.{numbers, filled, filled_more}
 use Rattle.enumset_array.proofs.rows.Words.new.Goals as goal
 
 pub loop-i-preserved : goal.loop-i-preserved

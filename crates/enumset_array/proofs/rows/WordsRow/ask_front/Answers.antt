@@ -1,4 +1,4 @@
-use Rattle.std.proofs.Common.{◌≡◌, ap, ◌∷◌, ◌++◌, [], ◌<◌, length}
+use Rattle.std.proofs.Common.{◌≡◌, ap, ◌∷◌, ◌<◌, length}
 use Rattle.enumset_array.specs.Counted.{Counted}
 use Rattle.enumset_array.specs.Stored.{used}
 use Rattle.enumset_array.proofs.RowWords.{numbers, row_empty, row_taken, row_others, front_words}

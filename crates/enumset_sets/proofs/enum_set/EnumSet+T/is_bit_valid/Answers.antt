@@ -1,8 +1,20 @@
 use Rattle.std.proofs.Common.{sym, ◌∙◌, arith}
 use Rattle.enumset_repr.specs.Laws.Members.{contains-past, not_below}
+use Rattle.enumset_sets.proofs.ElementLaws.{contains-is_in}
 use Rattle.enumset_sets.proofs.enum_set.EnumSet+T.is_bit_valid.Goals as goal
 
-pub returns-else-bit-WIDTH : goal.returns-else-bit-WIDTH
-returns-else-bit-WIDTH g c =
+pub returns-else-bit-WIDTH-clause-valid : goal.returns-else-bit-WIDTH-clause-valid
+returns-else-bit-WIDTH-clause-valid g c =
     not_below _ _ c.if-bit-WIDTH.false
     ∙ sym (contains-past _ _ _ (g.met.T.Repr.EnumSetTypeRepr.within g.T.EnumSetType.ALL_BITS (rw (← c.valid_repr-all.ensures.value) c.valid_repr-all.ensures.is_value)) (omega (arith, c.if-bit-WIDTH.false, c.WIDTH.ensures)))
+
+pub returns-else-bit-WIDTH-clause-past : goal.returns-else-bit-WIDTH-clause-past
+returns-else-bit-WIDTH-clause-past g c past = not_below _ _ c.if-bit-WIDTH.false
+
+pub returns-else-bit-WIDTH-clause-of_a_variant : goal.returns-else-bit-WIDTH-clause-of_a_variant
+returns-else-bit-WIDTH-clause-of_a_variant g c =
+    returns-else-bit-WIDTH-clause-valid g c ∙ contains-is_in _ _ _ g.met.T.EnumSetType.lawful.valid
+
+pub returns-then-bit-WIDTH-clause-of_a_variant : goal.returns-then-bit-WIDTH-clause-of_a_variant
+returns-then-bit-WIDTH-clause-of_a_variant g c =
+    rw (c.has_bit.ensures, c.valid_repr-all.ensures.value) (contains-is_in _ _ _ g.met.T.EnumSetType.lawful.valid)
