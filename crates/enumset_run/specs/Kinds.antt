@@ -12,7 +12,7 @@ worked_of name =
     lookup (bytes_eq name) (
     (codes "letters", Letters)
     ∷ (codes "sparse", Sparse)
-      ∷ (codes "wide", Wide)
+    ∷ (codes "wide", Wide)
     ∷ []
     )
 

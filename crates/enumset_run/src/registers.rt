@@ -151,8 +151,8 @@ impl<T: EnumSetType> IteratorRegisters<T> {
         }
     }
 
-    #[tactic(auto, using(crate::proofs::Lists::lasts))]
     /// One step from the back of the iterator in a register, if there is one.
+    #[tactic(auto, using(crate::proofs::Lists::lasts))]
     pub fn next_back(&mut self, i: u8) -> Result<Option<T>, Refusal>
         ensures { MatchResult result
             (λ given. (nat_lt i 2 ≡ true)

@@ -64,7 +64,10 @@ fn each_type_has_its_own_bits(rt: HostRuntime) -> Result<(), Fail> {
             "true\nK2 not a bit\nK2 not a bit\nK2 not a bit\n",
         ),
         (Worked::Sparse, "K2 not a bit\ntrue\ntrue\nK2 not a bit\n"),
-        (Worked::Wide, "K2 not a bit\nK2 not a bit\nK2 not a bit\nK2 not a bit\n"),
+        (
+            Worked::Wide,
+            "K2 not a bit\nK2 not a bit\nK2 not a bit\nK2 not a bit\n",
+        ),
     ] {
         let answer = serve_worked(rt.alloc(), kind, input.as_bytes())?;
         assert_eq!(rt; answer.as_slice(), output.as_bytes(), "{kind:?}");
