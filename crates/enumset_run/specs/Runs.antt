@@ -241,10 +241,5 @@ abbrev pub replies_from : BitSet → State → List Command → List Reply
 replies_from valid s [] = []
 replies_from valid s (c ∷ cs) = (outcome valid s c).reply ∷ replies_from valid (outcome valid s c).state cs
 
--- a step's answer, as a reply
-abbrev pub reply_or_refused : Result Reply Refusal → Reply
-reply_or_refused (Ok reply) = reply
-reply_or_refused (Err refused) = Refused refused
-
 abbrev pub replies : BitSet → List Command → List Reply
 replies valid cs = replies_from valid start cs

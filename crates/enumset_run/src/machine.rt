@@ -1,12 +1,12 @@
 //! The machine that carries out commands.
 
-ghost use Rattle.std.specs.Prelude.{◌≡◌, ◌↔◌, IsTrue, IfOk, IsOk, OnErr, MatchResult, false};
-ghost use Rattle.enumset_repr.specs.BitSet as set;
+ghost use Rattle.std.specs.Prelude.{◌≡◌, IfOk, IsOk, OnErr, true};
 
 mod algebra;
 mod comparisons;
 mod elements;
 mod iterators;
+mod refusals;
 mod whole_sets;
 
 use crate::command::Command;
@@ -36,7 +36,8 @@ impl<T: EnumSetType> Model for Machine<T> {
 }
 
 impl<T: EnumSetType> Machine<T> {
-    ghost use Rattle.enumset_run.specs.Runs.{start, outcome, reply_or_refused};
+    ghost use Rattle.enumset_sets.specs.Elements.{AreBitsOf};
+    ghost use Rattle.enumset_run.specs.Runs.{start, outcome, names_registers, bits_named, reply_of, after};
 
     /// A machine whose registers are empty.
     pub fn new() -> Machine<T>
@@ -56,15 +57,20 @@ impl<T: EnumSetType> Machine<T> {
         ensures err { OnErr result (self.new ≡ self.old) }
     {
         let _ = alloc;
-        Ok(match self.carry_out(command) {
-            Ok(reply) => reply,
-            Err(refusal) => Reply::Refused(refusal),
-        })
+        if !refusals::names_registers(command) {
+            return Ok(Reply::Refused(Refusal::NoRegister));
+        }
+        if !refusals::names_bits::<T>(command) {
+            return Ok(Reply::Refused(Refusal::NotABit));
+        }
+        Ok(self.carry_out(command))
     }
 
-    fn carry_out(&mut self, command: &Command) -> Result<Reply, Refusal>
-        ensures { outcome (T.Repr.members T.ALL_BITS) self.old command.now
-            ≡ record { reply = reply_or_refused result; state = self.new } }
+    fn carry_out(&mut self, command: &Command) -> Reply
+        requires registers { names_registers command.now ≡ true }
+        requires bits { AreBitsOf T.bits (bits_named command.now) }
+        ensures reply { result ≡ reply_of self.old command.now }
+        ensures state { self.new ≡ after (T.Repr.members T.ALL_BITS) self.old command.now }
     {
         match *command {
             Command::New { r } => self.make_new(r),

@@ -1,10 +1,10 @@
 //! The registers of a machine.
 
-ghost use Rattle.std.specs.Prelude.{◌≡◌, MatchResult, nat_lt, true, false, slice_set, slice_index_or, [], length};
+ghost use Rattle.std.specs.Prelude.{◌≡◌, true, slice_set, slice_index_or, [], length};
 ghost use Rattle.enumset_repr.specs.BitSet as set;
+ghost use Rattle.enumset_run.specs.Runs as model;
 ghost use Rattle.enumset_run.specs.Runs.{first_of, last_of, without_first, without_last};
 
-use crate::reply::Refusal;
 use enumset_sets::element::EnumSetType;
 use enumset_sets::enum_set::EnumSet;
 use enumset_sets::enum_set_iter::EnumSetIter;
@@ -56,37 +56,39 @@ impl<T: EnumSetType> SetRegisters<T> {
         }
     }
 
-    /// The set in a register, if there is one.
-    pub fn get(&self, r: u8) -> Result<EnumSet<T>, Refusal>
-        ensures { MatchResult result
-            (λ found. (nat_lt r 4 ≡ true) × (found ≡ slice_index_or self.now r set.empty))
-            (λ refused. (nat_lt r 4 ≡ false) × (refused ≡ Refusal.NoRegister)) }
+    /// The set in a register.
+    pub fn get(&self, r: u8) -> EnumSet<T>
+        requires { model.is_set_register r ≡ true }
+        ensures { result ≡ slice_index_or self.now r set.empty }
     {
         let found = match r {
             0 => &self.zero,
             1 => &self.one,
             2 => &self.two,
-            3 => &self.three,
-            _ => return Err(Refusal::NoRegister),
+            _ => &self.three,
         };
-        Ok(found.clone().unwrap())
+        found.clone().unwrap()
     }
 
-    /// Puts a set into a register, if there is one.
-    pub fn put(&mut self, r: u8, new: EnumSet<T>) -> Result<(), Refusal>
-        ensures { MatchResult result
-            (λ _. (nat_lt r 4 ≡ true) × (self.new ≡ slice_set self.old r new))
-            (λ refused. (nat_lt r 4 ≡ false) × (refused ≡ Refusal.NoRegister) × (self.new ≡ self.old)) }
+    /// Puts a set into a register.
+    pub fn put(&mut self, r: u8, elements: EnumSet<T>)
+        requires { model.is_set_register r ≡ true }
+        ensures { self.new ≡ slice_set self.old r elements }
     {
         match r {
-            0 => self.zero = new,
-            1 => self.one = new,
-            2 => self.two = new,
-            3 => self.three = new,
-            _ => return Err(Refusal::NoRegister),
+            0 => self.zero = elements,
+            1 => self.one = elements,
+            2 => self.two = elements,
+            _ => self.three = elements,
         }
-        Ok(())
     }
+}
+
+/// Whether there is a set register of this number.
+pub fn is_set_register(r: u8) -> bool
+    ensures { result ≡ model.is_set_register r }
+{
+    r < 4
 }
 
 /// Two iterators, in registers 0 and 1.
@@ -122,61 +124,57 @@ impl<T: EnumSetType> IteratorRegisters<T> {
         }
     }
 
-    /// Puts an iterator into a register, if there is one.
-    pub fn put(&mut self, i: u8, new: EnumSetIter<T>) -> Result<(), Refusal>
-        ensures { MatchResult result
-            (λ _. (nat_lt i 2 ≡ true) × (self.new ≡ slice_set self.old i new))
-            (λ refused. (nat_lt i 2 ≡ false) × (refused ≡ Refusal.NoRegister) × (self.new ≡ self.old)) }
+    /// Puts an iterator into a register.
+    pub fn put(&mut self, i: u8, items: EnumSetIter<T>)
+        requires { model.is_iterator_register i ≡ true }
+        ensures { self.new ≡ slice_set self.old i items }
     {
         match i {
-            0 => self.zero = new,
-            1 => self.one = new,
-            _ => return Err(Refusal::NoRegister),
-        }
-        Ok(())
-    }
-
-    /// One step from the front of the iterator in a register, if there is one.
-    pub fn next(&mut self, i: u8) -> Result<Option<T>, Refusal>
-        ensures { MatchResult result
-            (λ given. (nat_lt i 2 ≡ true)
-            × (option_map T.bit given ≡ first_of (slice_index_or self.old i []))
-            × (self.new ≡ slice_set self.old i (without_first (slice_index_or self.old i []))))
-            (λ refused. (nat_lt i 2 ≡ false) × (refused ≡ Refusal.NoRegister) × (self.new ≡ self.old)) }
-    {
-        match i {
-            0 => Ok(self.zero.next()),
-            1 => Ok(self.one.next()),
-            _ => Err(Refusal::NoRegister),
+            0 => self.zero = items,
+            _ => self.one = items,
         }
     }
 
-    /// One step from the back of the iterator in a register, if there is one.
+    /// One step from the front of the iterator in a register.
+    pub fn next(&mut self, i: u8) -> Option<T>
+        requires { model.is_iterator_register i ≡ true }
+        ensures given { option_map T.bit result ≡ first_of (slice_index_or self.old i []) }
+        ensures left { self.new ≡ slice_set self.old i (without_first (slice_index_or self.old i [])) }
+    {
+        match i {
+            0 => self.zero.next(),
+            _ => self.one.next(),
+        }
+    }
+
+    /// One step from the back of the iterator in a register.
     #[tactic(auto, using(crate::proofs::Lists::lasts))]
-    pub fn next_back(&mut self, i: u8) -> Result<Option<T>, Refusal>
-        ensures { MatchResult result
-            (λ given. (nat_lt i 2 ≡ true)
-            × (option_map T.bit given ≡ last_of (slice_index_or self.old i []))
-            × (self.new ≡ slice_set self.old i (without_last (slice_index_or self.old i []))))
-            (λ refused. (nat_lt i 2 ≡ false) × (refused ≡ Refusal.NoRegister) × (self.new ≡ self.old)) }
+    pub fn next_back(&mut self, i: u8) -> Option<T>
+        requires { model.is_iterator_register i ≡ true }
+        ensures given { option_map T.bit result ≡ last_of (slice_index_or self.old i []) }
+        ensures left { self.new ≡ slice_set self.old i (without_last (slice_index_or self.old i [])) }
     {
         match i {
-            0 => Ok(self.zero.next_back()),
-            1 => Ok(self.one.next_back()),
-            _ => Err(Refusal::NoRegister),
+            0 => self.zero.next_back(),
+            _ => self.one.next_back(),
         }
     }
 
-    /// How many items the iterator in a register has still to give, if there is one.
-    pub fn left(&self, i: u8) -> Result<usize, Refusal>
-        ensures { MatchResult result
-            (λ left. (nat_lt i 2 ≡ true) × (left ≡ length (slice_index_or self.now i [])))
-            (λ refused. (nat_lt i 2 ≡ false) × (refused ≡ Refusal.NoRegister)) }
+    /// How many items the iterator in a register has still to give.
+    pub fn left(&self, i: u8) -> usize
+        requires { model.is_iterator_register i ≡ true }
+        ensures { result ≡ length (slice_index_or self.now i []) }
     {
         match i {
-            0 => Ok(self.zero.len()),
-            1 => Ok(self.one.len()),
-            _ => Err(Refusal::NoRegister),
+            0 => self.zero.len(),
+            _ => self.one.len(),
         }
     }
+}
+
+/// Whether there is an iterator register of this number.
+pub fn is_iterator_register(i: u8) -> bool
+    ensures { result ≡ model.is_iterator_register i }
+{
+    i < 2
 }

@@ -1,65 +1,57 @@
 // Commands on one element.
 
-ghost use Rattle.std.specs.Prelude.{◌≡◌, IsTrue, MatchResult, false};
-ghost use Rattle.enumset_repr.specs.BitSet as set;
+ghost use Rattle.std.specs.Prelude.{◌≡◌, IsTrue, true};
+ghost use Rattle.enumset_repr.specs.BitSet.{is_in};
 
 use crate::machine::Machine;
-use crate::reply::{Refusal, Reply};
+use crate::reply::Reply;
 use enumset_repr::repr::EnumSetTypeRepr;
 use enumset_sets::element::EnumSetType;
 use enumset_sets::enum_set::EnumSet;
 
 impl<T: EnumSetType> Machine<T> {
-    ghost use Rattle.enumset_run.specs.Runs.{outcome, reply_or_refused};
+    ghost use Rattle.enumset_run.specs.Runs.{names_registers, reply_of, after};
     ghost use Rattle.enumset_run.specs.declared.command.Command.TheVariants.{Only, Insert, Remove, Contains};
 
-    pub(super) fn make_only(&mut self, r: u8, bit: u32) -> Result<Reply, Refusal>
-        ensures { outcome (T.Repr.members T.ALL_BITS) self.old (Only r bit)
-            ≡ record { reply = reply_or_refused result; state = self.new } }
+    pub(super) fn make_only(&mut self, r: u8, bit: u32) -> Reply
+        requires registers { names_registers (Only r bit) ≡ true }
+        requires bits { IsTrue (is_in bit T.bits) }
+        ensures reply { result ≡ reply_of self.old (Only r bit) }
+        ensures state { self.new ≡ after (T.Repr.members T.ALL_BITS) self.old (Only r bit) }
     {
-        self.sets.get(r)?;
-        self.sets.put(r, EnumSet::only(element_of(bit)?))?;
-        Ok(Reply::Done)
+        self.sets.put(r, EnumSet::only(T::enum_from_u32(bit)));
+        Reply::Done
     }
 
-    pub(super) fn insert(&mut self, r: u8, bit: u32) -> Result<Reply, Refusal>
-        ensures { outcome (T.Repr.members T.ALL_BITS) self.old (Insert r bit)
-            ≡ record { reply = reply_or_refused result; state = self.new } }
+    pub(super) fn insert(&mut self, r: u8, bit: u32) -> Reply
+        requires registers { names_registers (Insert r bit) ≡ true }
+        requires bits { IsTrue (is_in bit T.bits) }
+        ensures reply { result ≡ reply_of self.old (Insert r bit) }
+        ensures state { self.new ≡ after (T.Repr.members T.ALL_BITS) self.old (Insert r bit) }
     {
-        let mut elements = self.sets.get(r)?;
-        let is_new = elements.insert(element_of(bit)?);
-        self.sets.put(r, elements)?;
-        Ok(Reply::Truth(is_new))
+        let mut elements = self.sets.get(r);
+        let is_new = elements.insert(T::enum_from_u32(bit));
+        self.sets.put(r, elements);
+        Reply::Truth(is_new)
     }
 
-    pub(super) fn remove(&mut self, r: u8, bit: u32) -> Result<Reply, Refusal>
-        ensures { outcome (T.Repr.members T.ALL_BITS) self.old (Remove r bit)
-            ≡ record { reply = reply_or_refused result; state = self.new } }
+    pub(super) fn remove(&mut self, r: u8, bit: u32) -> Reply
+        requires registers { names_registers (Remove r bit) ≡ true }
+        requires bits { IsTrue (is_in bit T.bits) }
+        ensures reply { result ≡ reply_of self.old (Remove r bit) }
+        ensures state { self.new ≡ after (T.Repr.members T.ALL_BITS) self.old (Remove r bit) }
     {
-        let mut elements = self.sets.get(r)?;
-        let was_present = elements.remove(element_of(bit)?);
-        self.sets.put(r, elements)?;
-        Ok(Reply::Truth(was_present))
+        let mut elements = self.sets.get(r);
+        let was_present = elements.remove(T::enum_from_u32(bit));
+        self.sets.put(r, elements);
+        Reply::Truth(was_present)
     }
 
-    pub(super) fn contains(&self, r: u8, bit: u32) -> Result<Reply, Refusal>
-        ensures { outcome (T.Repr.members T.ALL_BITS) self.now (Contains r bit)
-            ≡ record { reply = reply_or_refused result; state = self.now } }
+    pub(super) fn contains(&self, r: u8, bit: u32) -> Reply
+        requires registers { names_registers (Contains r bit) ≡ true }
+        requires bits { IsTrue (is_in bit T.bits) }
+        ensures { result ≡ reply_of self.now (Contains r bit) }
     {
-        let elements = self.sets.get(r)?;
-        Ok(Reply::Truth(elements.contains(element_of(bit)?)))
-    }
-}
-
-// The element of a bit, if the bit is valid.
-fn element_of<T: EnumSetType>(bit: u32) -> Result<T, Refusal>
-    ensures { MatchResult result
-        (λ element. (T.bit element ≡ bit) × IsTrue (set.contains (T.Repr.members T.ALL_BITS) bit))
-        (λ refused. (refused ≡ Refusal.NotABit) × (set.contains (T.Repr.members T.ALL_BITS) bit ≡ false)) }
-{
-    if EnumSet::<T>::is_bit_valid(bit) {
-        Ok(T::enum_from_u32(bit))
-    } else {
-        Err(Refusal::NotABit)
+        Reply::Truth(self.sets.get(r).contains(T::enum_from_u32(bit)))
     }
 }
