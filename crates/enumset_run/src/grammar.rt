@@ -6,8 +6,6 @@ mod commands;
 mod fields;
 mod lines;
 mod tables;
-#[cfg(test)]
-mod tests;
 mod words;
 
 use crate::command::Command;

@@ -11,7 +11,7 @@ use std::test::Fail;
 fn replies_as_the_rust_crate_does(rt: HostRuntime) -> Result<(), Fail> {
     for (row, (kind, input, output)) in transcripts().iter().enumerate() {
         let answer = serve_worked(rt.alloc(), *kind, input.as_bytes())?;
-        assert_eq!(rt; answer.as_slice(), output.as_bytes(), "row {row}");
+        assert!(rt; answer.as_slice() == output.as_bytes(), "row {row}");
     }
     Ok(())
 }

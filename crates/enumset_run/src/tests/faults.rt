@@ -30,8 +30,8 @@ fn each_fault_has_its_text_and_status(rt: HostRuntime) -> Result<(), Fail> {
         (ProgramFault::Reading, "reading failed", 1),
         (ProgramFault::Writing, "writing failed", 1),
     ] {
-        assert_eq!(rt; format!(in rt.alloc(); "{fault}")?.as_str(), text);
-        assert_eq!(rt; fault.status(), status, "{text}");
+        assert!(rt; format!(in rt.alloc(); "{fault}")?.as_str() == text, "{text}");
+        assert!(rt; fault.status() == status, "{text}");
     }
     Ok(())
 }
@@ -43,7 +43,7 @@ fn a_fault_of_the_text_has_the_same_text(rt: HostRuntime) -> Result<(), Fail> {
         (TextFault::BadLine(12), "line 12: not a command"),
         (TextFault::OutOfMemory, "out of memory"),
     ] {
-        assert_eq!(rt; format!(in rt.alloc(); "{fault}")?.as_str(), text);
+        assert!(rt; format!(in rt.alloc(); "{fault}")?.as_str() == text, "{text}");
     }
     Ok(())
 }

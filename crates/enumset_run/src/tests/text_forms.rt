@@ -6,53 +6,62 @@ use std::test::Fail;
 #[test]
 fn lines_and_words_may_be_spaced(rt: HostRuntime) -> Result<(), Fail> {
     for input in [
-        b"insert 0 6\n".as_slice(),
-        b"insert 000 00000000000000000000006\n",
-        b"insert   0  6\n",
-        b"  insert 0 6   \n",
-        b"insert 0 6\r\n",
-        b"insert 0 6 \r\n",
-        b"insert 0 6",
-        b"\n\n  \n\r\ninsert 0 6\n\n",
+        "insert 0 6\n",
+        "insert 000 00000000000000000000006\n",
+        "insert   0  6\n",
+        "  insert 0 6   \n",
+        "insert 0 6\r\n",
+        "insert 0 6 \r\n",
+        "insert 0 6",
+        "\n\n  \n \r\n\r\ninsert 0 6\n\n",
     ] {
-        let answer = serve_worked(rt.alloc(), Worked::Letters, input)?;
-        assert_eq!(rt; answer.as_slice(), b"true\n".as_slice(), "{input:?}");
+        let answer = serve_worked(rt.alloc(), Worked::Letters, input.as_bytes())?;
+        assert!(rt; answer.as_slice() == b"true\n".as_slice(), "{input}");
     }
     Ok(())
 }
 
 #[test]
 fn other_lines_are_no_commands(rt: HostRuntime) {
-    for input in [
-        b"insert 0 6\r".as_slice(),
-        b"insert 0 6\r\r\n",
-        b"insert 256 6\n",
-        b"insert 0 4294967296\n",
-        b"insert 0\n",
-        b"insert 0 6 6\n",
-        b"INSERT 0 6\n",
-        b"insert 0\t6\n",
-        b"insert 0 6\t\n",
-        b"insert 0 \xff\n",
-        b"insert 0 six\n",
+    let lines = "insert 256 6|insert 0 4294967296|insert 0 99999999999999999999999|insert 0\
+        |insert 0 6 6|len|len 0 0|0 len|INSERT 0 6|Insert 0 6|insert0 6|inser 0 6|insert\t0 6\
+        |insert 0 6\t|insert 0 +6|insert 0 -6|insert 0 6x|insert 0 six|insert 0 6\r|insert 0 6\r\r\n\
+        |insert 0 6\r \n|\r|insert 0 é";
+    for line in lines.split('|') {
+        let fault = serve_worked(rt.alloc(), Worked::Letters, line.as_bytes()).err();
+        assert!(rt; fault == Some(TextFault::BadLine(1)), "{line}");
+    }
+    let fault = serve_worked(rt.alloc(), Worked::Letters, b"insert 0 \xff\n").err();
+    assert!(rt; fault == Some(TextFault::BadLine(1)));
+}
+
+#[test]
+fn the_first_other_line_is_named(rt: HostRuntime) {
+    for (line, input) in [
+        (3, "len 0\n\ninsert 0\n"),
+        (4, "len 0\n\n \r\nlen\nleft\n"),
+        (2, "\nlen"),
+        (1, "len\nlen 0\nlen\n"),
+        // there is no command `compare`
+        (
+            22,
+            "clear 1\ninsert 1 10\ninsert 1 127\nclear 2\ninsert 2 20\ninsert 2 30\ninsert 2 10\ninsert 2 127\ndifference 3 1 2\nremove_all 1 2\nremove 0 30\nclear 3\ninsert 3 30\niter 0 3\nnext 0\nnext 0\nleft 0\nnew 1\nonly 1 2147483647\ninsert 255 2147483647\nsubset 0 255\ncompare 1 1\nclear 0\n",
+        ),
     ] {
-        let answer = serve_worked(rt.alloc(), Worked::Letters, input);
-        assert_eq!(rt; answer.err(), Some(TextFault::BadLine(1)), "{input:?}");
+        let fault = serve_worked(rt.alloc(), Worked::Letters, input.as_bytes()).err();
+        assert!(rt; fault == Some(TextFault::BadLine(line)), "{input}");
     }
 }
 
 #[test]
 fn an_input_has_at_most_a_mebibyte(rt: HostRuntime) -> Result<(), Fail> {
     let longest = vec![in rt.alloc(); b'\n'; 1_048_576]?;
-    assert_eq!(rt;
-        serve_worked(rt.alloc(), Worked::Letters, &longest)?.len(),
-        0
-    );
+    assert!(rt; serve_worked(rt.alloc(), Worked::Letters, &longest)?.is_empty());
     // the length is tested before the lines
     for byte in [b'\n', b'x'] {
         let too_long = vec![in rt.alloc(); byte; 1_048_577]?;
-        let answer = serve_worked(rt.alloc(), Worked::Letters, &too_long);
-        assert_eq!(rt; answer.err(), Some(TextFault::TooLong), "{byte}");
+        let fault = serve_worked(rt.alloc(), Worked::Letters, &too_long).err();
+        assert!(rt; fault == Some(TextFault::TooLong), "{byte}");
     }
     Ok(())
 }
