@@ -30,7 +30,10 @@ fn each_fault_has_its_text_and_status(rt: HostRuntime) -> Result<(), Fail> {
         (ProgramFault::Reading, "reading failed", 1),
         (ProgramFault::Writing, "writing failed", 1),
     ] {
-        assert!(rt; format!(in rt.alloc(); "{fault}")?.as_str() == text, "{text}");
+        assert!(rt;
+            format!(in rt.alloc(); "{fault}")?.as_str() == text,
+            "{text}"
+        );
         assert!(rt; fault.status() == status, "{text}");
     }
     Ok(())
@@ -43,7 +46,10 @@ fn a_fault_of_the_text_has_the_same_text(rt: HostRuntime) -> Result<(), Fail> {
         (TextFault::BadLine(12), "line 12: not a command"),
         (TextFault::OutOfMemory, "out of memory"),
     ] {
-        assert!(rt; format!(in rt.alloc(); "{fault}")?.as_str() == text, "{text}");
+        assert!(rt;
+            format!(in rt.alloc(); "{fault}")?.as_str() == text,
+            "{text}"
+        );
     }
     Ok(())
 }
