@@ -1,18 +1,18 @@
 //! The machine that carries out commands.
 
-ghost use Rattle.std.specs.Prelude.{◌≡◌, IfOk, IsOk, OnErr, true};
+ghost use Rattle.std.specs.Prelude.{◌≡◌, IfOk, IsOk, OnErr, option_map, true};
+ghost use Rattle.enumset_run.specs.Runs.{bit_or_absent};
 
-mod algebra;
-mod comparisons;
-mod elements;
-mod iterators;
+mod changes;
 mod refusals;
-mod whole_sets;
+mod registers;
 
 use crate::command::Command;
-use crate::registers::{IteratorRegisters, SetRegisters};
 use crate::reply::{Refusal, Reply};
+use enumset_repr::repr::EnumSetTypeRepr;
 use enumset_sets::element::EnumSetType;
+use enumset_sets::enum_set::EnumSet;
+use registers::{IteratorRegisters, SetRegisters};
 use std::alloc::{AllocError, Global};
 use std::marker::Model;
 
@@ -73,30 +73,47 @@ impl<T: EnumSetType> Machine<T> {
         ensures state { self.new ≡ after (T.Repr.members T.ALL_BITS) self.old command.now }
     {
         match *command {
-            Command::New { r } => self.make_new(r),
-            Command::All { r } => self.make_all(r),
-            Command::Only { r, bit } => self.make_only(r, bit),
-            Command::Insert { r, bit } => self.insert(r, bit),
-            Command::Remove { r, bit } => self.remove(r, bit),
-            Command::Contains { r, bit } => self.contains(r, bit),
+            Command::New { r } => self.put(r, EnumSet::new()),
+            Command::All { r } => self.put(r, EnumSet::all()),
+            Command::Only { r, bit } => self.put(r, EnumSet::only(T::enum_from_u32(bit))),
+            Command::Insert { r, bit } => self.insert(r, T::enum_from_u32(bit)),
+            Command::Remove { r, bit } => self.remove(r, T::enum_from_u32(bit)),
+            Command::Contains { r, bit } => Reply::Truth(
+                self.get(r).contains(T::enum_from_u32(bit)),
+            ),
             Command::Clear { r } => self.clear(r),
-            Command::Len { r } => self.len(r),
-            Command::IsEmpty { r } => self.is_empty(r),
-            Command::Union { to, a, b } => self.union(to, a, b),
-            Command::Intersection { to, a, b } => self.intersection(to, a, b),
-            Command::Difference { to, a, b } => self.difference(to, a, b),
-            Command::SymmetricDifference { to, a, b } => self.symmetric_difference(to, a, b),
-            Command::Complement { to, a } => self.complement(to, a),
-            Command::InsertAll { r, a } => self.insert_all(r, a),
-            Command::RemoveAll { r, a } => self.remove_all(r, a),
-            Command::Disjoint { a, b } => self.is_disjoint(a, b),
-            Command::Superset { a, b } => self.is_superset(a, b),
-            Command::Subset { a, b } => self.is_subset(a, b),
-            Command::Equal { a, b } => self.is_equal(a, b),
-            Command::Iter { i, r } => self.iter(i, r),
-            Command::Next { i } => self.next(i),
-            Command::NextBack { i } => self.next_back(i),
-            Command::Left { i } => self.left(i),
+            Command::Len { r } => Reply::Count(self.get(r).len() as u64),
+            Command::IsEmpty { r } => Reply::Truth(self.get(r).is_empty()),
+            Command::Union { to, a, b } => self.put(to, self.get(a).union(self.get(b))),
+            Command::Intersection { to, a, b } => self.put(
+                to,
+                self.get(a).intersection(self.get(b)),
+            ),
+            Command::Difference { to, a, b } => self.put(to, self.get(a).difference(self.get(b))),
+            Command::SymmetricDifference { to, a, b } => {
+                self.put(to, self.get(a).symmetric_difference(self.get(b)))
+            }
+            Command::Complement { to, a } => self.put(to, self.get(a).complement()),
+            Command::InsertAll { r, a } => self.insert_all(r, self.get(a)),
+            Command::RemoveAll { r, a } => self.remove_all(r, self.get(a)),
+            Command::Disjoint { a, b } => Reply::Truth(self.get(a).is_disjoint(self.get(b))),
+            Command::Superset { a, b } => Reply::Truth(self.get(a).is_superset(self.get(b))),
+            Command::Subset { a, b } => Reply::Truth(self.get(a).is_subset(self.get(b))),
+            Command::Equal { a, b } => Reply::Truth(self.get(a) == self.get(b)),
+            Command::Iter { i, r } => self.put_iterator(i, self.get(r).iter()),
+            Command::Next { i } => given(self.iterators.next(i)),
+            Command::NextBack { i } => given(self.iterators.next_back(i)),
+            Command::Left { i } => Reply::Count(self.iterators.left(i) as u64),
         }
+    }
+}
+
+// The reply to a step of an iterator.
+fn given<T: EnumSetType>(element: Option<T>) -> Reply
+    ensures { result ≡ bit_or_absent (option_map T.bit element) }
+{
+    match element {
+        Some(element) => Reply::Bit(element.enum_into_u32()),
+        None => Reply::Absent,
     }
 }

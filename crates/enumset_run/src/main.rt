@@ -11,7 +11,6 @@ mod kinds;
 mod letters;
 mod machine;
 mod program;
-mod registers;
 mod reply;
 mod runs;
 mod serve;

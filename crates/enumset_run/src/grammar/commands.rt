@@ -8,7 +8,7 @@ use super::words::Words;
 use crate::command::Command;
 
 /// The command of this name whose fields are the words left.
-pub fn read_command(name: &[u8], mut words: Words) -> Option<Command>
+pub(super) fn read_command(name: &[u8], mut words: Words) -> Option<Command>
     ensures { result ≡ command_of (name.now ∷ words.entry) }
 {
     let first = words.next()?;

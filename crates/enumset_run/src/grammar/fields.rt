@@ -3,7 +3,7 @@ ghost use Rattle.std.specs.Prelude.{◌≡◌};
 ghost use Rattle.enumset_run.specs.Lines.{register, bit};
 
 /// The number that a word of decimal digits writes, if it is a `u8`.
-pub fn read_register(word: &[u8]) -> Option<u8>
+pub(super) fn read_register(word: &[u8]) -> Option<u8>
     ensures { result ≡ register word.now }
 {
     u8::try_from(read_bit(word)?).ok()
@@ -11,7 +11,7 @@ pub fn read_register(word: &[u8]) -> Option<u8>
 
 /// The number that a word of decimal digits writes, if it is a `u32`.
 #[tactic(auto, using(crate::proofs::Fields::field_steps))]
-pub fn read_bit(word: &[u8]) -> Option<u32>
+pub(super) fn read_bit(word: &[u8]) -> Option<u32>
     ensures { result ≡ bit word.now }
 {
     if word.is_empty() {

@@ -7,7 +7,7 @@ use std::marker::Model;
 
 /// The lines of a text that are still to come, each without the line feed that ends it.
 #[derive(Drop)]
-pub struct Lines<'a> {
+pub(super) struct Lines<'a> {
     rest: &'a [u8],
 }
 
@@ -24,7 +24,7 @@ impl<'a> Lines<'a> {
     ghost use Rattle.enumset_run.specs.Lines.{lines_of};
 
     /// The lines of a text.
-    pub fn new(text: &'a [u8]) -> Lines<'a>
+    pub(super) fn new(text: &'a [u8]) -> Lines<'a>
         ensures { result ≡ lines_of text.now }
     {
         Lines { rest: text }

@@ -7,7 +7,7 @@ ghost use Rattle.enumset_run.specs.Tables.{one_register, register_and_bit, three
 use crate::command::Command;
 
 /// The command of this name over one register.
-pub fn one_register(name: &[u8], r: u8) -> Option<Command>
+pub(super) fn one_register(name: &[u8], r: u8) -> Option<Command>
     ensures { result ≡ one_register name.now r }
 {
     named(
@@ -26,7 +26,7 @@ pub fn one_register(name: &[u8], r: u8) -> Option<Command>
 }
 
 /// The command of this name over two registers.
-pub fn two_registers(name: &[u8], x: u8, y: u8) -> Option<Command>
+pub(super) fn two_registers(name: &[u8], x: u8, y: u8) -> Option<Command>
     ensures { result ≡ two_registers name.now x y }
 {
     named(
@@ -45,7 +45,7 @@ pub fn two_registers(name: &[u8], x: u8, y: u8) -> Option<Command>
 }
 
 /// The command of this name over three registers.
-pub fn three_registers(name: &[u8], to: u8, a: u8, b: u8) -> Option<Command>
+pub(super) fn three_registers(name: &[u8], to: u8, a: u8, b: u8) -> Option<Command>
     ensures { result ≡ three_registers name.now to a b }
 {
     named(
@@ -60,7 +60,7 @@ pub fn three_registers(name: &[u8], to: u8, a: u8, b: u8) -> Option<Command>
 }
 
 /// The command of this name over a register and a bit.
-pub fn register_and_bit(name: &[u8], r: u8, bit: u32) -> Option<Command>
+pub(super) fn register_and_bit(name: &[u8], r: u8, bit: u32) -> Option<Command>
     ensures { result ≡ register_and_bit name.now r bit }
 {
     named(

@@ -6,7 +6,7 @@ use std::marker::Model;
 
 /// The words of a line that are still to come.
 #[derive(Drop)]
-pub struct Words<'a> {
+pub(super) struct Words<'a> {
     rest: &'a [u8],
 }
 
@@ -23,7 +23,7 @@ impl<'a> Words<'a> {
     ghost use Rattle.enumset_run.specs.Lines.{words_of};
 
     /// The words of a line, which spaces part.
-    pub fn new(line: &'a [u8]) -> Words<'a>
+    pub(super) fn new(line: &'a [u8]) -> Words<'a>
         ensures { result ≡ words_of line.now }
     {
         Words { rest: line }

@@ -5,8 +5,8 @@ ghost use Rattle.std.specs.List.{list_all};
 ghost use Rattle.enumset_repr.specs.BitSet.{is_in};
 ghost use Rattle.enumset_run.specs.Runs as model;
 
+use super::registers::{is_iterator_register, is_set_register};
 use crate::command::Command;
-use crate::registers::{is_iterator_register, is_set_register};
 use enumset_sets::element::EnumSetType;
 use enumset_sets::enum_set::EnumSet;
 

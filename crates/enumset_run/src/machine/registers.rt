@@ -1,4 +1,4 @@
-//! The registers of a machine.
+// The registers of a machine.
 
 ghost use Rattle.std.specs.Prelude.{◌≡◌, true, slice_set, slice_index_or, [], length};
 ghost use Rattle.enumset_repr.specs.BitSet as set;
@@ -10,8 +10,8 @@ use enumset_sets::enum_set::EnumSet;
 use enumset_sets::enum_set_iter::EnumSetIter;
 use std::marker::Model;
 
-/// Four sets, in registers 0 to 3.
-pub struct SetRegisters<T: EnumSetType> {
+// Four sets, in registers 0 to 3.
+pub(super) struct SetRegisters<T: EnumSetType> {
     zero: EnumSet<T>,
     one: EnumSet<T>,
     two: EnumSet<T>,
@@ -44,8 +44,8 @@ impl<T: EnumSetType> Drop for SetRegisters<T> {
 impl<T: EnumSetType> SetRegisters<T> {
     ghost use Rattle.enumset_run.specs.Runs.{no_sets};
 
-    /// Four empty sets.
-    pub fn new() -> SetRegisters<T>
+    // Four empty sets.
+    pub(super) fn new() -> SetRegisters<T>
         ensures { result ≡ no_sets }
     {
         SetRegisters {
@@ -56,8 +56,8 @@ impl<T: EnumSetType> SetRegisters<T> {
         }
     }
 
-    /// The set in a register.
-    pub fn get(&self, r: u8) -> EnumSet<T>
+    // The set in a register.
+    pub(super) fn get(&self, r: u8) -> EnumSet<T>
         requires { model.is_set_register r ≡ true }
         ensures { result ≡ slice_index_or self.now r set.empty }
     {
@@ -70,8 +70,8 @@ impl<T: EnumSetType> SetRegisters<T> {
         found.clone().unwrap()
     }
 
-    /// Puts a set into a register.
-    pub fn put(&mut self, r: u8, elements: EnumSet<T>)
+    // Puts a set into a register.
+    pub(super) fn put(&mut self, r: u8, elements: EnumSet<T>)
         requires { model.is_set_register r ≡ true }
         ensures { self.new ≡ slice_set self.old r elements }
     {
@@ -84,16 +84,16 @@ impl<T: EnumSetType> SetRegisters<T> {
     }
 }
 
-/// Whether there is a set register of this number.
-pub fn is_set_register(r: u8) -> bool
+// Whether there is a set register of this number.
+pub(super) fn is_set_register(r: u8) -> bool
     ensures { result ≡ model.is_set_register r }
 {
     r < 4
 }
 
-/// Two iterators, in registers 0 and 1.
+// Two iterators, in registers 0 and 1.
 #[derive(Drop)]
-pub struct IteratorRegisters<T: EnumSetType> {
+pub(super) struct IteratorRegisters<T: EnumSetType> {
     zero: EnumSetIter<T>,
     one: EnumSetIter<T>,
 }
@@ -113,8 +113,8 @@ impl<T: EnumSetType> IteratorRegisters<T> {
     ghost use Rattle.std.specs.Prelude.{option_map};
     ghost use Rattle.enumset_run.specs.Runs.{no_lists};
 
-    /// Two iterators with nothing to give.
-    pub fn new() -> IteratorRegisters<T>
+    // Two iterators with nothing to give.
+    pub(super) fn new() -> IteratorRegisters<T>
         ensures { result ≡ no_lists }
     {
         let empty = EnumSet::<T>::new();
@@ -124,8 +124,8 @@ impl<T: EnumSetType> IteratorRegisters<T> {
         }
     }
 
-    /// Puts an iterator into a register.
-    pub fn put(&mut self, i: u8, items: EnumSetIter<T>)
+    // Puts an iterator into a register.
+    pub(super) fn put(&mut self, i: u8, items: EnumSetIter<T>)
         requires { model.is_iterator_register i ≡ true }
         ensures { self.new ≡ slice_set self.old i items }
     {
@@ -135,8 +135,8 @@ impl<T: EnumSetType> IteratorRegisters<T> {
         }
     }
 
-    /// One step from the front of the iterator in a register.
-    pub fn next(&mut self, i: u8) -> Option<T>
+    // One step from the front of the iterator in a register.
+    pub(super) fn next(&mut self, i: u8) -> Option<T>
         requires { model.is_iterator_register i ≡ true }
         ensures given { option_map T.bit result ≡ first_of (slice_index_or self.old i []) }
         ensures left { self.new ≡ slice_set self.old i (without_first (slice_index_or self.old i [])) }
@@ -147,9 +147,9 @@ impl<T: EnumSetType> IteratorRegisters<T> {
         }
     }
 
-    /// One step from the back of the iterator in a register.
+    // One step from the back of the iterator in a register.
     #[tactic(auto, using(crate::proofs::Lists::lasts))]
-    pub fn next_back(&mut self, i: u8) -> Option<T>
+    pub(super) fn next_back(&mut self, i: u8) -> Option<T>
         requires { model.is_iterator_register i ≡ true }
         ensures given { option_map T.bit result ≡ last_of (slice_index_or self.old i []) }
         ensures left { self.new ≡ slice_set self.old i (without_last (slice_index_or self.old i [])) }
@@ -160,8 +160,8 @@ impl<T: EnumSetType> IteratorRegisters<T> {
         }
     }
 
-    /// How many items the iterator in a register has still to give.
-    pub fn left(&self, i: u8) -> usize
+    // How many items the iterator in a register has still to give.
+    pub(super) fn left(&self, i: u8) -> usize
         requires { model.is_iterator_register i ≡ true }
         ensures { result ≡ length (slice_index_or self.now i []) }
     {
@@ -172,8 +172,8 @@ impl<T: EnumSetType> IteratorRegisters<T> {
     }
 }
 
-/// Whether there is an iterator register of this number.
-pub fn is_iterator_register(i: u8) -> bool
+// Whether there is an iterator register of this number.
+pub(super) fn is_iterator_register(i: u8) -> bool
     ensures { result ≡ model.is_iterator_register i }
 {
     i < 2
