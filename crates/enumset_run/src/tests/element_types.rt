@@ -5,13 +5,7 @@ use crate::sparse::Sparse;
 use crate::wide::Wide;
 use enumset_sets::element::EnumSetType;
 use enumset_sets::enum_set::EnumSet;
-use std::alloc::{AllocError, Global};
-use std::fmt::{Debug, Display};
 use std::test::Fail;
-
-fn has_sizes<T: EnumSetType>(width: u32, count: u32) -> bool {
-    EnumSet::<T>::bit_width() == width && EnumSet::<T>::variant_count() == count
-}
 
 fn starts_empty<T: EnumSetType>() -> bool {
     EnumSet::<T>::empty().is_empty() && EnumSet::<T>::default().is_empty()
@@ -44,39 +38,46 @@ fn answers<T: EnumSetType>(a: T, b: T) -> bool {
 
 #[test]
 fn each_call_at_letters(rt: HostRuntime) {
-    assert!(rt; has_sizes::<Letters>(7, 7));
+    assert!(rt; EnumSet::<Letters>::bit_width() == 7);
+    assert!(rt; EnumSet::<Letters>::variant_count() == 7);
     assert!(rt; EnumSet::bit_index(Letters::D) == 3);
     assert!(rt; answers(Letters::A, Letters::G));
 }
 
 #[test]
 fn each_call_at_sparse(rt: HostRuntime) {
-    assert!(rt; has_sizes::<Sparse>(128, 4));
+    assert!(rt; EnumSet::<Sparse>::bit_width() == 128);
+    assert!(rt; EnumSet::<Sparse>::variant_count() == 4);
     assert!(rt; EnumSet::bit_index(Sparse::D) == 127);
     assert!(rt; answers(Sparse::B, Sparse::D));
 }
 
 #[test]
 fn each_call_at_wide(rt: HostRuntime) {
-    assert!(rt; has_sizes::<Wide>(131, 3));
+    assert!(rt; EnumSet::<Wide>::bit_width() == 131);
+    assert!(rt; EnumSet::<Wide>::variant_count() == 3);
     assert!(rt; EnumSet::bit_index(Wide::Q) == 64);
     assert!(rt; answers(Wide::P, Wide::R));
 }
 
-fn text<T: EnumSetType + Debug + Display>(alloc: Global, a: T, b: T) -> Result<String, AllocError> {
-    let both = EnumSet::only(b).union(EnumSet::only(a));
-    format!(in alloc; "{a} {b:?} {both:?}")
-}
-
 #[test]
 fn texts_name_the_elements(rt: HostRuntime) -> Result<(), Fail> {
-    let letters = text(rt.alloc(), Letters::A, Letters::C)?;
-    assert!(rt; letters.as_str() == "A C EnumSet(A | C)");
-    let sparse = text(rt.alloc(), Sparse::B, Sparse::D)?;
-    assert!(rt; sparse.as_str() == "B D EnumSet(B | D)");
-    let wide = text(rt.alloc(), Wide::P, Wide::R)?;
-    assert!(rt; wide.as_str() == "P R EnumSet(P | R)");
-    let none = EnumSet::<Letters>::new();
-    assert!(rt; format!(in rt.alloc(); "{none:?}")?.as_str() == "EnumSet()");
+    let mut text = String::new(rt.alloc());
+    let letters = EnumSet::only(Letters::C).union(EnumSet::only(Letters::A));
+    writeln!(text, "{} {:?} {letters:?}", Letters::A, Letters::G)?;
+    let sparse = EnumSet::only(Sparse::D).union(EnumSet::only(Sparse::B));
+    writeln!(text, "{} {:?} {sparse:?}", Sparse::A, Sparse::D)?;
+    let wide = EnumSet::only(Wide::P).union(EnumSet::only(Wide::R));
+    writeln!(text, "{} {:?} {wide:?}", Wide::P, Wide::Q)?;
+    writeln!(text, "{:?}", EnumSet::<Letters>::new())?;
+    assert!(rt;
+        text.as_str()
+            == "\
+A G EnumSet(A | C)
+A D EnumSet(B | D)
+P Q EnumSet(P | R)
+EnumSet()
+"
+    );
     Ok(())
 }

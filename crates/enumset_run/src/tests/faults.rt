@@ -4,52 +4,32 @@ use std::test::Fail;
 
 #[test]
 fn each_fault_has_its_text_and_status(rt: HostRuntime) -> Result<(), Fail> {
-    for (fault, text, status) in [
-        (
-            ProgramFault::OneArgument,
-            "one argument: the name of a type",
-            2,
-        ),
-        (ProgramFault::UnknownType, "unknown type", 2),
-        (ProgramFault::Text(TextFault::TooLong), "input too long", 2),
-        (
-            ProgramFault::from(TextFault::BadLine(3)),
-            "line 3: not a command",
-            2,
-        ),
-        (
-            ProgramFault::Text(TextFault::BadLine(18446744073709551615)),
-            "line 18446744073709551615: not a command",
-            2,
-        ),
-        (
-            ProgramFault::Text(TextFault::OutOfMemory),
-            "out of memory",
-            3,
-        ),
-        (ProgramFault::Reading, "reading failed", 1),
-        (ProgramFault::Writing, "writing failed", 1),
-    ] {
-        assert!(rt;
-            format!(in rt.alloc(); "{fault}")?.as_str() == text,
-            "{text}"
-        );
-        assert!(rt; fault.status() == status, "{text}");
+    let faults = [
+        ProgramFault::OneArgument,
+        ProgramFault::UnknownType,
+        ProgramFault::Text(TextFault::TooLong),
+        ProgramFault::Text(TextFault::BadLine(3)),
+        ProgramFault::Text(TextFault::BadLine(18446744073709551615)),
+        ProgramFault::Text(TextFault::OutOfMemory),
+        ProgramFault::Reading,
+        ProgramFault::Writing,
+    ];
+    let mut text = String::new(rt.alloc());
+    for fault in &faults {
+        writeln!(text, "{} {fault}", fault.status())?;
     }
-    Ok(())
-}
-
-#[test]
-fn a_fault_of_the_text_has_the_same_text(rt: HostRuntime) -> Result<(), Fail> {
-    for (fault, text) in [
-        (TextFault::TooLong, "input too long"),
-        (TextFault::BadLine(12), "line 12: not a command"),
-        (TextFault::OutOfMemory, "out of memory"),
-    ] {
-        assert!(rt;
-            format!(in rt.alloc(); "{fault}")?.as_str() == text,
-            "{text}"
-        );
-    }
+    assert!(rt;
+        text.as_str()
+            == "\
+2 one argument: the name of a type
+2 unknown type
+2 input too long
+2 line 3: not a command
+2 line 18446744073709551615: not a command
+3 out of memory
+1 reading failed
+1 writing failed
+"
+    );
     Ok(())
 }
