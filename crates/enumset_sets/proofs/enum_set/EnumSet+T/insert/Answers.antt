@@ -1,0 +1,14 @@
+use Rattle.std.proofs.Common.{refl, ap, not}
+use Rattle.enumset_repr.specs.Laws.Members.{insert-is_subset}
+use Rattle.enumset_sets.proofs.enum_set.EnumSet+T.insert.Goals as goal
+
+pub of_repr-requires : goal.of_repr-requires
+of_repr-requires g c =
+    rw c.add_bit.ensures (insert-is_subset _ _ _ c.self.invariant.valid_only c.bit_of_value.ensures.valid)
+
+pub returns : goal.returns
+returns g c =
+    record {
+        inserted = rw (c.self-2.view_is, c.of_repr.ensures, c.add_bit.ensures, c.bit_of_value.ensures.bit, c.self.view_is) refl;
+        was_absent = ap not c.contains-is_absent.ensures
+    }

@@ -1,0 +1,13 @@
+use Rattle.std.proofs.Common.{refl}
+use Rattle.enumset_repr.specs.Laws.Members.{remove-is_subset}
+use Rattle.enumset_sets.proofs.enum_set.EnumSet+T.remove.Goals as goal
+
+pub of_repr-requires : goal.of_repr-requires
+of_repr-requires g c = rw c.remove_bit.ensures (remove-is_subset _ _ _ c.self.invariant.valid_only)
+
+pub returns : goal.returns
+returns g c =
+    record {
+        removed = rw (c.self-2.view_is, c.of_repr.ensures, c.remove_bit.ensures, c.bit_of_value.ensures.bit, c.self.view_is) refl;
+        was_present = c.contains-is_present.ensures
+    }
