@@ -9,6 +9,6 @@ of_repr-requires g c =
 pub returns : goal.returns
 returns g c =
     record {
-        rest = rw (c.of_repr.ensures, c.and_not.ensures, c.ALL_BITS.ensures, c.self.view_is) refl;
-        valid = rw (← c.self.view_is) c.self.invariant.valid_only
+      rest = rw (c.of_repr.ensures, c.and_not.ensures, c.ALL_BITS.ensures, c.self.view_is) refl;
+      valid = rw (← c.self.view_is) c.self.invariant.valid_only;
     }

@@ -9,6 +9,6 @@ of_repr-requires g c =
 pub returns : goal.returns
 returns g c =
     record {
-        inserted = rw (c.self-2.view_is, c.of_repr.ensures, c.add_bit.ensures, c.bit_of_value.ensures.bit, c.self.view_is) refl;
-        was_absent = ap not c.contains-is_absent.ensures
+      inserted = rw (c.self-2.view_is, c.of_repr.ensures, c.add_bit.ensures, c.bit_of_value.ensures.bit, c.self.view_is) refl;
+      was_absent = ap not c.contains-is_absent.ensures;
     }

@@ -8,6 +8,6 @@ of_repr-requires g c = rw c.remove_bit.ensures (remove-is_subset _ _ _ c.self.in
 pub returns : goal.returns
 returns g c =
     record {
-        removed = rw (c.self-2.view_is, c.of_repr.ensures, c.remove_bit.ensures, c.bit_of_value.ensures.bit, c.self.view_is) refl;
-        was_present = c.contains-is_present.ensures
+      removed = rw (c.self-2.view_is, c.of_repr.ensures, c.remove_bit.ensures, c.bit_of_value.ensures.bit, c.self.view_is) refl;
+      was_present = c.contains-is_present.ensures;
     }
