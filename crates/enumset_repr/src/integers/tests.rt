@@ -21,69 +21,69 @@ struct Want {
 
 // The calls on one set: {0, 3, WIDTH - 1}, and then without 3.
 fn exercise_bits<R: EnumSetTypeRepr>(rt: &impl Abort, want: &Want) {
-    assert_eq!(rt; R::WIDTH, want.width);
-    assert_eq!(rt; R::PREFERRED_ARRAY_LEN, want.words);
+    assert!(rt; R::WIDTH == want.width);
+    assert!(rt; R::PREFERRED_ARRAY_LEN == want.words);
     assert!(rt; 3 < R::WIDTH);
     let last = want.width - 1;
     assert!(rt; R::EMPTY.is_empty());
     let mut set: R = store_of(rt, &[0, 3, last]);
     set.known();
     assert!(rt; !set.is_empty());
-    assert_eq!(rt; set.count_ones(), 3);
+    assert!(rt; set.count_ones() == 3);
     for (bit, member) in [(0, true), (1, false), (3, true), (last, true)] {
         assert!(rt; bit < R::WIDTH);
-        assert_eq!(rt; set.has_bit(bit), member, "bit {bit}");
+        assert!(rt; set.has_bit(bit) == member, "bit {bit}");
     }
     set.remove_bit(3);
-    assert_eq!(rt; set, store_of(rt, &[0, last]));
+    assert!(rt; set == store_of(rt, &[0, last]));
 }
 
 // The iterator over {0, 3, WIDTH - 1}, from both ends, and one with the same items left.
 fn exercise_iter<R: EnumSetTypeRepr>(rt: &impl Abort, want: &Want) {
-    assert_eq!(rt; R::WIDTH, want.width);
+    assert!(rt; R::WIDTH == want.width);
     assert!(rt; 3 < R::WIDTH);
     let last = want.width - 1;
     let set: R = store_of(rt, &[0, 3, last]);
     let mut iter = set.iter();
-    assert_eq!(rt; R::items_left(&iter), 3);
-    assert_eq!(rt; iter.next(), Some(0));
+    assert!(rt; R::items_left(&iter) == 3);
+    assert!(rt; iter.next() == Some(0));
     let mut same = R::same_iter(&iter);
-    assert_eq!(rt; iter.next_back(), Some(last));
-    assert_eq!(rt; iter.next_back(), Some(3));
-    assert_eq!(rt; iter.next(), None);
-    assert_eq!(rt; R::items_left(&iter), 0);
-    assert_eq!(rt; R::items_left(&same), 2);
-    assert_eq!(rt; same.next(), Some(3));
+    assert!(rt; iter.next_back() == Some(last));
+    assert!(rt; iter.next_back() == Some(3));
+    assert!(rt; iter.next().is_none());
+    assert!(rt; R::items_left(&iter) == 0);
+    assert!(rt; R::items_left(&same) == 2);
+    assert!(rt; same.next() == Some(3));
 }
 
 // The operators on {0, 3} and {3, WIDTH - 1}.
 fn exercise_operators<R: EnumSetTypeRepr>(rt: &impl Abort, want: &Want) {
-    assert_eq!(rt; R::WIDTH, want.width);
+    assert!(rt; R::WIDTH == want.width);
     assert!(rt; 3 < R::WIDTH);
     let last = want.width - 1;
     let a: R = store_of(rt, &[0, 3]);
     let b: R = store_of(rt, &[3, last]);
-    assert_eq!(rt; a & b, store_of(rt, &[3]));
-    assert_eq!(rt; a | b, store_of(rt, &[0, 3, last]));
-    assert_eq!(rt; a ^ b, store_of(rt, &[0, last]));
-    assert_eq!(rt; a.and_not(b), store_of(rt, &[0]));
-    assert_eq!(rt; (!a).count_ones(), want.width - 2);
+    assert!(rt; a & b == store_of(rt, &[3]));
+    assert!(rt; a | b == store_of(rt, &[0, 3, last]));
+    assert!(rt; a ^ b == store_of(rt, &[0, last]));
+    assert!(rt; a.and_not(b) == store_of(rt, &[0]));
+    assert!(rt; (!a).count_ones() == want.width - 2);
     assert!(rt; (!a).has_bit(last));
     assert!(rt; !(!a).has_bit(3));
 }
 
 // The last word of {0, 3, WIDTH - 1}, and that word full.
 fn exercise_words<R: EnumSetTypeRepr>(rt: &impl Abort, want: &Want) {
-    assert_eq!(rt; R::WIDTH, want.width);
-    assert_eq!(rt; R::PREFERRED_ARRAY_LEN, want.words);
+    assert!(rt; R::WIDTH == want.width);
+    assert!(rt; R::PREFERRED_ARRAY_LEN == want.words);
     assert!(rt; 3 < R::WIDTH);
     assert!(rt; 0 < want.words);
     let place = want.words - 1;
     let mut set: R = store_of(rt, &[0, 3, want.width - 1]);
-    assert_eq!(rt; set.word(place), want.last_word);
+    assert!(rt; set.word(place) == want.last_word);
     set = R::EMPTY;
     set.put_word(place, u64::MAX);
-    assert_eq!(rt; set.count_ones(), want.bits_of_last_word);
+    assert!(rt; set.count_ones() == want.bits_of_last_word);
 }
 
 fn exercise<R: EnumSetTypeRepr>(rt: &impl Abort, want: &Want) {
@@ -145,30 +145,30 @@ fn each_call_at_each_integer(rt: HostRuntime) {
 #[test]
 fn both_ends_of_a_byte(rt: HostRuntime) {
     let mut iter = 129u8.iter();
-    assert_eq!(rt; iter.size_hint(), (2, Some(2)));
-    assert_eq!(rt; iter.next_back(), Some(7));
-    assert_eq!(rt; iter.size_hint(), (1, Some(1)));
-    assert_eq!(rt; iter.next(), Some(0));
-    assert_eq!(rt; iter.size_hint(), (0, Some(0)));
-    assert_eq!(rt; iter.next(), None);
+    assert!(rt; iter.size_hint() == (2, Some(2)));
+    assert!(rt; iter.next_back() == Some(7));
+    assert!(rt; iter.size_hint() == (1, Some(1)));
+    assert!(rt; iter.next() == Some(0));
+    assert!(rt; iter.size_hint() == (0, Some(0)));
+    assert!(rt; iter.next().is_none());
 }
 
 #[test]
 fn words_are_read_and_replaced(rt: HostRuntime) {
     let mut wide: u128 = store_of(&rt, &[64, 127]);
-    assert_eq!(rt; wide.word(0), 0);
-    assert_eq!(rt; wide.word(1), 9223372036854775809);
+    assert!(rt; wide.word(0) == 0);
+    assert!(rt; wide.word(1) == 9223372036854775809);
     wide.put_word(1, 2);
-    assert_eq!(rt; wide, store_of(&rt, &[65]));
+    assert!(rt; wide == store_of(&rt, &[65]));
     wide.put_word(0, 5);
-    assert_eq!(rt; wide, store_of(&rt, &[0, 2, 65]));
+    assert!(rt; wide == store_of(&rt, &[0, 2, 65]));
     // bit 8 is dropped
     let mut narrow: u8 = store_of(&rt, &[0]);
     narrow.put_word(0, 384);
-    assert_eq!(rt; narrow, store_of(&rt, &[7]));
+    assert!(rt; narrow == store_of(&rt, &[7]));
 }
 
 #[test]
 fn an_index_has_64_bits(rt: HostRuntime) {
-    assert_eq!(rt; usize::BITS, 64);
+    assert!(rt; usize::BITS == 64);
 }

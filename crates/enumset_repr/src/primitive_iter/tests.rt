@@ -7,18 +7,18 @@ fn take_in_turn<T: Primitive>(rt: &impl Abort, set: T, order: &[u32]) {
     let mut iter = PrimitiveIter(set);
     for (i, bit) in order.iter().enumerate() {
         let left = order.len() - i;
-        assert_eq!(rt; iter.size_hint(), (left, Some(left)));
-        assert_eq!(rt; iter.len(), left);
+        assert!(rt; iter.size_hint() == (left, Some(left)));
+        assert!(rt; iter.len() == left);
         let taken = if i % 2 == 0 {
             iter.next()
         } else {
             iter.next_back()
         };
-        assert_eq!(rt; taken, Some(*bit), "at {i}");
+        assert!(rt; taken == Some(*bit));
     }
-    assert_eq!(rt; iter.size_hint(), (0, Some(0)));
-    assert_eq!(rt; iter.next(), None);
-    assert_eq!(rt; iter.next_back(), None);
+    assert!(rt; iter.size_hint() == (0, Some(0)));
+    assert!(rt; iter.next().is_none());
+    assert!(rt; iter.next_back().is_none());
 }
 
 // Takes each bit below the width from one end and then from the other.
@@ -26,11 +26,11 @@ fn take_all<T: Primitive>(rt: &impl Abort, full: T, width: u32) {
     let mut front = PrimitiveIter(full);
     let mut back = front;
     for bit in 0..width {
-        assert_eq!(rt; front.next(), Some(bit));
-        assert_eq!(rt; back.next_back(), Some(width - 1 - bit));
+        assert!(rt; front.next() == Some(bit));
+        assert!(rt; back.next_back() == Some(width - 1 - bit));
     }
-    assert_eq!(rt; front.next(), None);
-    assert_eq!(rt; back.next_back(), None);
+    assert!(rt; front.next().is_none());
+    assert!(rt; back.next_back().is_none());
 }
 
 #[test]
@@ -75,11 +75,11 @@ fn every_bit(rt: HostRuntime) {
 fn copies_are_apart(rt: HostRuntime) -> Result<(), Fail> {
     let mut iter = PrimitiveIter(0b1010u8);
     let mut copy = iter.clone()?;
-    assert_eq!(rt; copy.next(), Some(1));
-    assert_eq!(rt; copy.next(), Some(3));
-    assert_eq!(rt; iter.next_back(), Some(3));
-    assert_eq!(rt; iter.len(), 1);
+    assert!(rt; copy.next() == Some(1));
+    assert!(rt; copy.next() == Some(3));
+    assert!(rt; iter.next_back() == Some(3));
+    assert!(rt; iter.len() == 1);
     let text = format!(in rt.alloc(); "{iter:?}")?;
-    assert_eq!(rt; text.as_str(), "PrimitiveIter(2)");
+    assert!(rt; text.as_str() == "PrimitiveIter(2)");
     Ok(())
 }
