@@ -3,7 +3,6 @@ use crate::cursors::{Cursors, step_back, step_front};
 use crate::row::Row;
 use crate::shown_row::ShownRow;
 use crate::walk::{End, walk};
-use std::alloc::{AllocError, Global};
 use std::test::Fail;
 
 const ENDS: u64 = 0x8000_0000_0000_0001;
@@ -17,40 +16,60 @@ const ALTERNATING: [End; 6] = [
     End::Back,
 ];
 
-// Whether a walk over these words gives these answers, with this many asks.
-fn gives<const N: usize>(
-    alloc: Global,
-    words: [u64; N],
-    ends: &[End],
-    answers: &[Option<u32>],
-    shown: u64,
-) -> Result<bool, AllocError> {
-    let mut row = ShownRow::new(ArrayRepr(words));
-    let given = walk(alloc, &mut row, ends)?;
-    Ok(given.as_slice() == answers && row.shown() == shown)
+#[test]
+fn walks_from_both_ends(rt: HostRuntime) -> Result<(), Fail> {
+    let mut row = ShownRow::new(ArrayRepr([8, 1, 4]));
+    let ends = [End::Front, End::Back, End::Front, End::Back, End::Front];
+    let answers = walk(rt.alloc(), &mut row, &ends)?;
+    assert!(rt; answers.as_slice() == [Some(3), Some(130), Some(64), None, None].as_slice());
+    assert!(rt; row.shown() == 6);
+    Ok(())
 }
 
 #[test]
-fn walks_from_both_ends(rt: HostRuntime) -> Result<(), Fail> {
-    let alloc = rt.alloc();
-    let answers = [Some(3), Some(130), Some(64), None, None];
-    assert!(rt; gives(alloc, [8, 1, 4], &ALTERNATING[..5], &answers, 6)?);
-    assert!(rt; gives(alloc, [], &ALTERNATING[..2], &[None, None], 0)?);
-    let answers = [Some(0), Some(63), None, None, None, None];
-    assert!(rt; gives(alloc, [ENDS], &ALTERNATING, &answers, 3)?);
-    let answers = [Some(0), Some(127), Some(63), Some(64), None, None];
-    assert!(rt; gives(alloc, [ENDS, ENDS], &ALTERNATING, &answers, 6)?);
-    let answers = [Some(64), Some(319), None, None, None, None];
-    assert!(rt; gives(alloc, [0, 1, 0, 0, 1 << 63], &ALTERNATING, &answers, 7)?);
+fn walks_no_words(rt: HostRuntime) -> Result<(), Fail> {
+    let mut row = ShownRow::<0>::new(ArrayRepr([]));
+    let answers = walk(rt.alloc(), &mut row, &[End::Front, End::Back])?;
+    assert!(rt; answers.as_slice() == [None, None].as_slice());
+    assert!(rt; row.shown() == 0);
+    Ok(())
+}
+
+#[test]
+fn walks_one_word(rt: HostRuntime) -> Result<(), Fail> {
+    let mut row = ShownRow::new(ArrayRepr([ENDS]));
+    let answers = walk(rt.alloc(), &mut row, &ALTERNATING)?;
+    assert!(rt; answers.as_slice() == [Some(0), Some(63), None, None, None, None].as_slice());
+    assert!(rt; row.shown() == 3);
+    Ok(())
+}
+
+#[test]
+fn walks_two_words(rt: HostRuntime) -> Result<(), Fail> {
+    let mut row = ShownRow::new(ArrayRepr([ENDS, ENDS]));
+    let answers = walk(rt.alloc(), &mut row, &ALTERNATING)?;
+    let given = [Some(0), Some(127), Some(63), Some(64), None, None];
+    assert!(rt; answers.as_slice() == given.as_slice());
+    assert!(rt; row.shown() == 6);
+    Ok(())
+}
+
+#[test]
+fn walks_over_empty_words(rt: HostRuntime) -> Result<(), Fail> {
+    let mut row = ShownRow::new(ArrayRepr([0, 1, 0, 0, 1 << 63]));
+    let answers = walk(rt.alloc(), &mut row, &ALTERNATING)?;
+    assert!(rt; answers.as_slice() == [Some(64), Some(319), None, None, None, None].as_slice());
+    assert!(rt; row.shown() == 7);
     Ok(())
 }
 
 #[test]
 fn walks_of_fewer_ends_leave_the_rest(rt: HostRuntime) -> Result<(), Fail> {
     let mut row = ShownRow::new(ArrayRepr([6, 5]));
-    let answers = walk(rt.alloc(), &mut row, &ALTERNATING[..2])?;
+    let answers = walk(rt.alloc(), &mut row, &[End::Front, End::Back])?;
     assert!(rt; answers.as_slice() == [Some(1), Some(66)].as_slice());
-    assert!(rt; row.shown() == 2 && row.word_count() == 2);
+    assert!(rt; row.shown() == 2);
+    assert!(rt; row.word_count() == 2);
     assert!(rt; row.ask_back(0) == Some(2));
     assert!(rt; row.ask_front(0).is_none());
     assert!(rt; row.ask_front(1) == Some(0));
