@@ -7,21 +7,25 @@ use enumset_sets::element::EnumSetType;
 use enumset_sets::enum_set::EnumSet;
 use std::test::Fail;
 
+fn two_of<T: EnumSetType>(a: T, b: T) -> EnumSet<T> {
+    EnumSet::only(a).union(EnumSet::only(b))
+}
+
 fn starts_empty<T: EnumSetType>() -> bool {
     EnumSet::<T>::empty().is_empty() && EnumSet::<T>::default().is_empty()
 }
 
-fn tells_a_set_of_one<T: EnumSetType>(a: T, both: EnumSet<T>) -> bool {
-    EnumSet::only(a).eq_element(a) && !both.eq_element(a)
+fn tells_a_set_of_one<T: EnumSetType>(a: T, b: T) -> bool {
+    EnumSet::only(a).eq_element(a) && !two_of(a, b).eq_element(a)
 }
 
-fn has_the_older_name<T: EnumSetType>(a: T, b: T, both: EnumSet<T>) -> bool {
-    both.symmetrical_difference(EnumSet::only(a)) == EnumSet::only(b)
+fn has_the_older_name<T: EnumSetType>(a: T, b: T) -> bool {
+    two_of(a, b).symmetrical_difference(EnumSet::only(a)) == EnumSet::only(b)
 }
 
 // A clone and the iterator that it was made of have the same items left.
-fn clones_its_place<T: EnumSetType>(b: T, both: EnumSet<T>) -> bool {
-    let mut iter = both.iter();
+fn clones_its_place<T: EnumSetType>(a: T, b: T) -> bool {
+    let mut iter = two_of(a, b).iter();
     iter.next();
     let mut same = iter.clone().unwrap();
     same.next_back() == Some(b) && iter.size_hint() == (1, Some(1))
@@ -29,11 +33,10 @@ fn clones_its_place<T: EnumSetType>(b: T, both: EnumSet<T>) -> bool {
 
 // Of two elements in the order of their bits.
 fn answers<T: EnumSetType>(a: T, b: T) -> bool {
-    let both = EnumSet::only(a).union(EnumSet::only(b));
     starts_empty::<T>()
-        && tells_a_set_of_one(a, both)
-        && has_the_older_name(a, b, both)
-        && clones_its_place(b, both)
+        && tells_a_set_of_one(a, b)
+        && has_the_older_name(a, b)
+        && clones_its_place(a, b)
 }
 
 #[test]
@@ -63,11 +66,11 @@ fn each_call_at_wide(rt: HostRuntime) {
 #[test]
 fn texts_name_the_elements(rt: HostRuntime) -> Result<(), Fail> {
     let mut text = String::new(rt.alloc());
-    let letters = EnumSet::only(Letters::C).union(EnumSet::only(Letters::A));
+    let letters = two_of(Letters::C, Letters::A);
     writeln!(text, "{} {:?} {letters:?}", Letters::A, Letters::G)?;
-    let sparse = EnumSet::only(Sparse::D).union(EnumSet::only(Sparse::B));
+    let sparse = two_of(Sparse::D, Sparse::B);
     writeln!(text, "{} {:?} {sparse:?}", Sparse::A, Sparse::D)?;
-    let wide = EnumSet::only(Wide::P).union(EnumSet::only(Wide::R));
+    let wide = two_of(Wide::P, Wide::R);
     writeln!(text, "{} {:?} {wide:?}", Wide::P, Wide::Q)?;
     writeln!(text, "{:?}", EnumSet::<Letters>::new())?;
     assert!(rt;
