@@ -4,7 +4,7 @@
 --     refusal      why a command is refused, if it is
 --     after, reply_of      the state that a command leaves, and the reply to it
 --     replies      the replies to a list of commands, from the start
-use Rattle.std.specs.Prelude.{ℕ, Bool, not, ◌&&◌, nat_lt, List, [], ◌∷◌, length, slice_set, Option, Some, None, Result, Ok, Err, refl, if◌then◌else◌}
+use Rattle.std.specs.Prelude.{ℕ, Bool, not, ◌&&◌, nat_lt, List, [], ◌∷◌, length, slice_set, Option, Some, None, refl, if◌then◌else◌}
 use Rattle.std.specs.List.{slice_index_or, list_all}
 use Rattle.std.specs.Coded.{Coded, code_by, coded×, coded_list, coded_ℕ}
 use Rattle.enumset_repr.specs.BitSet as set

@@ -1,13 +1,13 @@
 -- Words whose bits are listed: one test of the list says which set the words stand for.
 --     lists_words      whether a list names the bits of a list of words, each once
 --     words_listed      then the words stand for the set of the list
-use Rattle.std.proofs.Common.{◌≡◌, ◌≤◌, ◌<◌, ℕ, suc, ◌+◌, ◌-◌, Bool, true, false, cond, not, true≢false, ◌&&◌, ◌||◌, List, [], ◌∷◌, refl, sym, ap, ◌∙◌, arith}
+use Rattle.std.proofs.Common.{◌≡◌, ℕ, ◌-◌, Bool, true, false, cond, true≢false, ◌&&◌, ◌||◌, List, [], ◌∷◌, refl, sym, ap, ◌∙◌, arith}
 use Rattle.std.specs.Prelude.{◌==◌, nat_lt, nat_le}
 use Rattle.std.proofs.lemmas.Bool.Decides.{nat_tests}
-use Rattle.enumset_repr.specs.BitSet.{is_in, BitSet, contains, from_list, union, empty}
+use Rattle.enumset_repr.specs.BitSet.{is_in, contains, from_list}
 use Rattle.enumset_repr.specs.Number.{bits, lists_bits}
 use Rattle.enumset_repr.specs.Words.{raised}
-use Rattle.enumset_repr.specs.Laws.Members.{both, same_set, contains-union, contains-from_list, contains-empty, or_swap}
+use Rattle.enumset_repr.specs.Laws.Members.{both, same_set, contains-union, contains-from_list, contains-empty}
 use Rattle.enumset_repr.specs.Laws.Words.{contains-raised}
 use Rattle.enumset_repr.specs.Laws.Listed.{bits_listed}
 use Rattle.enumset_array.specs.WordList.{bits_of}

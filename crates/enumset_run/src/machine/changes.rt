@@ -7,7 +7,6 @@ ghost use Rattle.enumset_run.specs.declared.reply.Reply.TheVariants.{Done, Truth
 
 use crate::machine::Machine;
 use crate::reply::Reply;
-use enumset_repr::repr::EnumSetTypeRepr;
 use enumset_sets::element::EnumSetType;
 use enumset_sets::enum_set::EnumSet;
 use enumset_sets::enum_set_iter::EnumSetIter;
