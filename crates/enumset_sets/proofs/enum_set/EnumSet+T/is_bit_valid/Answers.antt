@@ -1,4 +1,4 @@
-use Rattle.std.proofs.Common.{sym, ◌∙◌, arith}
+use Rattle.std.proofs.Common.{refl, sym, ◌∙◌, arith}
 use Rattle.enumset_repr.specs.Laws.Members.{contains-past, not_below}
 use Rattle.enumset_sets.proofs.ElementLaws.{contains-is_in}
 use Rattle.enumset_sets.proofs.enum_set.EnumSet+T.is_bit_valid.Goals as goal
@@ -18,3 +18,10 @@ returns-else-bit-WIDTH-clause-of_a_variant g c =
 pub returns-then-bit-WIDTH-clause-of_a_variant : goal.returns-then-bit-WIDTH-clause-of_a_variant
 returns-then-bit-WIDTH-clause-of_a_variant g c =
     rw (c.has_bit.ensures, c.valid_repr-all.ensures.value) (contains-is_in _ _ _ g.met.T.EnumSetType.lawful.valid)
+
+pub returns-then-bit-WIDTH-clause-valid : goal.returns-then-bit-WIDTH-clause-valid
+returns-then-bit-WIDTH-clause-valid g c = rw (c.has_bit.ensures, c.valid_repr-all.ensures.value) refl
+
+pub returns-then-bit-WIDTH-clause-past : goal.returns-then-bit-WIDTH-clause-past
+returns-then-bit-WIDTH-clause-past g c past =
+    absurd (omega (arith, past, c.if-bit-WIDTH.true, c.WIDTH.ensures))
