@@ -4,7 +4,7 @@ pub over-requires : goal.over-requires
 over-requires g c = c.self.invariant.valid_only
 
 pub returns : goal.returns
-returns g c = 
+returns g c =
     record {
       rising = rw (← c.self.view_is) c.over.ensures;
       valid = rw (← c.self.view_is) c.self.invariant.valid_only;

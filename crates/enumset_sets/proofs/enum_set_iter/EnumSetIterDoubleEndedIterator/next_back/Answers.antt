@@ -1,20 +1,5 @@
-use Rattle.std.proofs.Common.{refl, ap, arith, length, length-append}
-use Rattle.std.proofs.lemmas.List.Folds.{list_all-append}
-use Rattle.enumset_repr.specs.Laws.Members.{both}
+use Rattle.std.proofs.Common.{ap, arith, length, length-append}
 use Rattle.enumset_sets.proofs.enum_set_iter.EnumSetIterDoubleEndedIterator.next_back.Goals as goal
-
-pub enum_from_u32-requires : goal.enum_from_u32-requires
-enum_from_u32-requires g c =
-    let last = g.met.T.Repr.EnumSetTypeRepr.steps_back _ _ _ c.in_ok-bit.ensures.steps in
-    (both _ _ (both _ _ (simp list_all-append at (rw last at c.self.invariant))).1).0
-
-pub invariant_of-self : goal.invariant_of-self
-invariant_of-self g c = rw (g.met.T.Repr.EnumSetTypeRepr.steps_back _ _ _ c.in_err-bit.ensures.steps).1 refl
-
-pub invariant_of-self-2 : goal.invariant_of-self-2
-invariant_of-self-2 g c =
-    let last = g.met.T.Repr.EnumSetTypeRepr.steps_back _ _ _ c.in_ok-bit.ensures.steps in
-    (both _ _ (simp list_all-append at (rw last at c.self.invariant))).0
 
 pub returns-clause-steps : goal.returns-clause-steps
 returns-clause-steps g c =

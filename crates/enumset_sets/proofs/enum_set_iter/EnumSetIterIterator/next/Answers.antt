@@ -1,19 +1,5 @@
-use Rattle.std.proofs.Common.{refl, ap, arith, length}
-use Rattle.enumset_repr.specs.Laws.Members.{both}
+use Rattle.std.proofs.Common.{ap, arith, length}
 use Rattle.enumset_sets.proofs.enum_set_iter.EnumSetIterIterator.next.Goals as goal
-
-pub enum_from_u32-requires : goal.enum_from_u32-requires
-enum_from_u32-requires g c =
-    let first = g.met.T.Repr.EnumSetTypeRepr.steps _ _ _ c.in_ok-bit.ensures.steps in
-    (both _ _ (rw first at c.self.invariant)).0
-
-pub invariant_of-self : goal.invariant_of-self
-invariant_of-self g c = rw (g.met.T.Repr.EnumSetTypeRepr.steps _ _ _ c.in_err-bit.ensures.steps).1 refl
-
-pub invariant_of-self-2 : goal.invariant_of-self-2
-invariant_of-self-2 g c =
-    let first = g.met.T.Repr.EnumSetTypeRepr.steps _ _ _ c.in_ok-bit.ensures.steps in
-    (both _ _ (rw first at c.self.invariant)).1
 
 pub returns-clause-steps : goal.returns-clause-steps
 returns-clause-steps g c =
