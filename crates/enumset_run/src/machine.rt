@@ -12,7 +12,7 @@ use crate::reply::{Refusal, Reply};
 use enumset_repr::repr::EnumSetTypeRepr;
 use enumset_sets::element::EnumSetType;
 use enumset_sets::enum_set::EnumSet;
-use registers::{IteratorRegisters, SetRegisters};
+use registers::{IteratorRegisters, Registers};
 use std::alloc::{AllocError, Global};
 use std::marker::Model;
 
@@ -21,7 +21,7 @@ use std::marker::Model;
 /// Contracts see the sets of bit numbers, and the lists of what the iterators have still to give.
 #[derive(Drop)]
 pub struct Machine<T: EnumSetType> {
-    sets: SetRegisters<T>,
+    sets: Registers<EnumSet<T>>,
     iterators: IteratorRegisters<T>,
 }
 
@@ -44,7 +44,7 @@ impl<T: EnumSetType> Machine<T> {
         ensures { result ≡ start }
     {
         Machine {
-            sets: SetRegisters::new(),
+            sets: Registers::of(EnumSet::new()),
             iterators: IteratorRegisters::new(),
         }
     }
