@@ -50,6 +50,7 @@ impl<T: EnumSetType> Machine<T> {
     }
 
     /// Carries out one command. No command here takes memory.
+    #[tactic(auto, unfolding(crate::specs::Runs::outcome))]
     pub fn step(&mut self, alloc: Global, command: &Command) -> Result<Reply, AllocError>
         ensures succeeds { IsOk result }
         ensures step { IfOk result (λ reply. outcome (T.Repr.members T.ALL_BITS) self.old command.now

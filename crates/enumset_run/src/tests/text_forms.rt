@@ -14,7 +14,8 @@ fn bad_line(alloc: Global, input: &[u8]) -> Option<u64> {
 
 #[test]
 fn lines_and_words_may_be_spaced(rt: HostRuntime) -> Result<(), Fail> {
-    let inputs = "insert 0 6\n|insert 000 00000000000000000000006\n|insert   0  6\n|  insert 0 6   \n\
+    let inputs =
+        "insert 0 6\n|insert 000 00000000000000000000006\n|insert   0  6\n|  insert 0 6   \n\
         |insert 0 6\r\n|insert 0 6 \r\n|insert 0 6|\n\n  \n \r\n\r\ninsert 0 6\n\n";
     for input in inputs.split('|') {
         let answer = serve_worked(rt.alloc(), Worked::Letters, input.as_bytes())?;
@@ -41,7 +42,8 @@ fn other_lines_are_no_commands(rt: HostRuntime) {
     assert!(rt; bad_line(rt.alloc(), b"len 0\n\n \r\nlen\nleft\n") == Some(4));
     assert!(rt; bad_line(rt.alloc(), b"\nlen") == Some(2));
     // there is no command `compare`
-    let compares = b"clear 1\ninsert 1 10\ninsert 1 127\nclear 2\ninsert 2 20\ninsert 2 30\ninsert 2 10\ninsert 2 127\ndifference 3 1 2\nremove_all 1 2\nremove 0 30\nclear 3\ninsert 3 30\niter 0 3\nnext 0\nnext 0\nleft 0\nnew 1\nonly 1 2147483647\ninsert 255 2147483647\nsubset 0 255\ncompare 1 1\nclear 0\n";
+    let compares =
+        b"clear 1\ninsert 1 10\ninsert 1 127\nclear 2\ninsert 2 20\ninsert 2 30\ninsert 2 10\ninsert 2 127\ndifference 3 1 2\nremove_all 1 2\nremove 0 30\nclear 3\ninsert 3 30\niter 0 3\nnext 0\nnext 0\nleft 0\nnew 1\nonly 1 2147483647\ninsert 255 2147483647\nsubset 0 255\ncompare 1 1\nclear 0\n";
     assert!(rt; bad_line(rt.alloc(), compares) == Some(22));
 }
 
