@@ -4,3 +4,4 @@ pub mod Words
 pub mod Fields
 pub mod Commands
 pub mod Tables
+pub mod Replies

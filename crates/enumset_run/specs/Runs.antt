@@ -233,7 +233,7 @@ abbrev pub outcome_unless : Option Refusal → BitSet → State → Command → 
 outcome_unless (Some refused) valid s c = record { reply = Refused refused; state = s }
 outcome_unless None valid s c = record { reply = reply_of s c; state = after valid s c }
 
-abbrev pub outcome : BitSet → State → Command → Outcome
+unfoldable pub outcome : BitSet → State → Command → Outcome
 outcome valid s c = outcome_unless (refusal valid c) valid s c
 
 -- the replies to each command in turn, from a state

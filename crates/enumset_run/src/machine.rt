@@ -12,7 +12,7 @@ use crate::reply::{Refusal, Reply};
 use enumset_repr::repr::EnumSetTypeRepr;
 use enumset_sets::element::EnumSetType;
 use enumset_sets::enum_set::EnumSet;
-use registers::{IteratorRegisters, SetRegisters};
+use registers::{IteratorRegisters, Registers};
 use std::alloc::{AllocError, Global};
 use std::marker::Model;
 
@@ -21,7 +21,7 @@ use std::marker::Model;
 /// Contracts see the sets of bit numbers, and the lists of what the iterators have still to give.
 #[derive(Drop)]
 pub struct Machine<T: EnumSetType> {
-    sets: SetRegisters<T>,
+    sets: Registers<EnumSet<T>>,
     iterators: IteratorRegisters<T>,
 }
 
@@ -44,12 +44,13 @@ impl<T: EnumSetType> Machine<T> {
         ensures { result ≡ start }
     {
         Machine {
-            sets: SetRegisters::new(),
+            sets: Registers::of(EnumSet::new()),
             iterators: IteratorRegisters::new(),
         }
     }
 
     /// Carries out one command. No command here takes memory.
+    #[tactic(auto, unfolding(crate::specs::Runs::outcome))]
     pub fn step(&mut self, alloc: Global, command: &Command) -> Result<Reply, AllocError>
         ensures succeeds { IsOk result }
         ensures step { IfOk result (λ reply. outcome (T.Repr.members T.ALL_BITS) self.old command.now

@@ -1,26 +1,11 @@
 //! The replies of the Rust crate to lists of commands.
-//!
-//! Each row is a worked type, an input and its output. They were recorded by a driver over `enumset`
-//! 1.1.15 that reads the same commands; one of its lines, over the order of sets, is left out.
 
-use crate::kinds::serve_worked;
-use crate::worked::Worked;
-use std::test::Fail;
-
-#[test]
-fn replies_as_the_rust_crate_does(rt: HostRuntime) -> Result<(), Fail> {
-    for (row, (kind, input, output)) in transcripts().iter().enumerate() {
-        let answer = serve_worked(rt.alloc(), *kind, input.as_bytes())?;
-        assert!(rt; answer.as_slice() == output.as_bytes(), "row {row}");
-    }
-    Ok(())
-}
-
-fn transcripts() -> [(Worked, &'static str, &'static str); 24] {
-    [
-        (
-            Worked::Letters,
-            "\
+/// Each run, after a line of two hyphens, is the name of a worked type, a line for each command, a line of
+/// two equals signs, and a line for each reply. They were recorded by a driver over `enumset` 1.1.15 that
+/// reads the same commands; one of its lines, over the order of sets, is left out.
+pub(crate) const RUNS: &str = "\
+--
+letters
 insert 0 0
 insert 3 2
 insert 3 3
@@ -78,8 +63,7 @@ insert 0 0
 insert 2 6
 insert 2 0
 iter 0 0
-",
-            "\
+==
 true
 true
 true
@@ -137,11 +121,8 @@ false
 true
 true
 ok
-",
-        ),
-        (
-            Worked::Letters,
-            "\
+--
+letters
 iter 0 0
 iter 0 0
 left 0
@@ -162,8 +143,7 @@ left 1
 contains 1 5
 insert 2 6
 insert 2 0
-",
-            "\
+==
 ok
 ok
 0
@@ -184,11 +164,8 @@ none
 true
 true
 false
-",
-        ),
-        (
-            Worked::Letters,
-            "\
+--
+letters
 insert 3 5
 insert 3 0
 insert 3 4
@@ -244,8 +221,7 @@ complement 0 0
 insert 1 6
 insert 4 4294967295
 iter 3 4
-",
-            "\
+==
 true
 true
 true
@@ -301,11 +277,8 @@ ok
 false
 K1 no register
 K1 no register
-",
-        ),
-        (
-            Worked::Letters,
-            "\
+--
+letters
 iter 255 5
 insert 5 67
 iter 255 0
@@ -334,8 +307,7 @@ left 1
 next 3
 complement 0 5
 contains 5 65
-",
-            "\
+==
 K1 no register
 K1 no register
 K1 no register
@@ -364,11 +336,8 @@ ok
 K1 no register
 K1 no register
 K1 no register
-",
-        ),
-        (
-            Worked::Letters,
-            "\
+--
+letters
 insert 1 5
 insert 1 2
 insert 1 5
@@ -429,8 +398,7 @@ insert 0 4
 insert 0 2
 insert 3 3
 insert 3 2
-",
-            "\
+==
 true
 true
 false
@@ -491,11 +459,8 @@ false
 false
 false
 false
-",
-        ),
-        (
-            Worked::Letters,
-            "\
+--
+letters
 complement 0 1
 contains 2 4
 left 0
@@ -538,8 +503,7 @@ left 1
 insert 3 1
 complement 1 0
 next 1
-",
-            "\
+==
 ok
 false
 0
@@ -582,11 +546,8 @@ ok
 false
 ok
 none
-",
-        ),
-        (
-            Worked::Letters,
-            "\
+--
+letters
 clear 1
 clear 0
 difference 1 1 0
@@ -636,8 +597,7 @@ iter 0 0
 next 0
 next 0
 next_back 0
-",
-            "\
+==
 ok
 ok
 ok
@@ -687,11 +647,8 @@ ok
 bit 0
 bit 1
 none
-",
-        ),
-        (
-            Worked::Letters,
-            "\
+--
+letters
 symmetric 0 1 0
 contains 0 1
 equal 2 2
@@ -712,8 +669,7 @@ iter 0 3
 left 0
 next 0
 next_back 0
-",
-            "\
+==
 ok
 false
 true
@@ -734,11 +690,8 @@ ok
 0
 none
 none
-",
-        ),
-        (
-            Worked::Letters,
-            "\
+--
+letters
 union 1 2 3
 clear 2
 insert 2 2
@@ -796,8 +749,7 @@ contains 4 26
 difference 2 2 2
 clear 3
 insert 3 5
-",
-            "\
+==
 ok
 ok
 true
@@ -855,11 +807,8 @@ K1 no register
 ok
 ok
 true
-",
-        ),
-        (
-            Worked::Letters,
-            "\
+--
+letters
 len 2
 union 2 1 0
 contains 4 4294967295
@@ -907,8 +856,7 @@ insert 1 255
 clear 3
 insert 3 3
 insert 3 4
-",
-            "\
+==
 0
 ok
 K1 no register
@@ -956,11 +904,8 @@ K2 not a bit
 ok
 true
 true
-",
-        ),
-        (
-            Worked::Letters,
-            "\
+--
+letters
 clear 2
 insert 0 1
 remove 1 6
@@ -998,8 +943,7 @@ iter 1 3
 next_back 0
 remove 3 6
 insert 0 5
-",
-            "\
+==
 ok
 true
 false
@@ -1037,11 +981,8 @@ ok
 none
 false
 true
-",
-        ),
-        (
-            Worked::Letters,
-            "\
+--
+letters
 insert 3 5
 clear 0
 insert 0 5
@@ -1075,8 +1016,7 @@ insert 2 65536
 remove 2 4
 remove 2 4
 insert 2 1
-",
-            "\
+==
 true
 ok
 true
@@ -1110,11 +1050,8 @@ K2 not a bit
 false
 false
 true
-",
-        ),
-        (
-            Worked::Sparse,
-            "\
+--
+sparse
 clear 1
 insert 1 10
 insert 1 127
@@ -1159,8 +1096,7 @@ insert 0 127
 clear 1
 insert 1 20
 insert 1 10
-",
-            "\
+==
 ok
 true
 true
@@ -1205,11 +1141,8 @@ true
 ok
 true
 true
-",
-        ),
-        (
-            Worked::Sparse,
-            "\
+--
+sparse
 subset 1 0
 clear 0
 insert 0 127
@@ -1238,8 +1171,7 @@ symmetric 2 1 0
 clear 2
 clear 2
 insert 2 127
-",
-            "\
+==
 true
 ok
 true
@@ -1268,11 +1200,8 @@ ok
 ok
 ok
 true
-",
-        ),
-        (
-            Worked::Sparse,
-            "\
+--
+sparse
 len 0
 union 1 1 8
 empty 4
@@ -1315,8 +1244,7 @@ next 0
 next_back 0
 next_back 0
 next_back 0
-",
-            "\
+==
 0
 K1 no register
 K1 no register
@@ -1359,11 +1287,8 @@ bit 20
 none
 none
 none
-",
-        ),
-        (
-            Worked::Sparse,
-            "\
+--
+sparse
 insert_all 1 2
 insert 1 15
 subset 1 1
@@ -1404,8 +1329,7 @@ len 3
 next_back 1
 remove 0 4294967295
 remove 0 127
-",
-            "\
+==
 ok
 K2 not a bit
 true
@@ -1446,11 +1370,8 @@ ok
 bit 127
 K2 not a bit
 true
-",
-        ),
-        (
-            Worked::Sparse,
-            "\
+--
+sparse
 remove 2 21
 remove 2 20
 remove 2 20
@@ -1502,8 +1423,7 @@ equal 2 1
 iter 1 2
 all 2
 next_back 1
-",
-            "\
+==
 K2 not a bit
 false
 false
@@ -1555,11 +1475,8 @@ false
 ok
 ok
 bit 127
-",
-        ),
-        (
-            Worked::Sparse,
-            "\
+--
+sparse
 clear 1
 clear 3
 insert 3 127
@@ -1581,8 +1498,7 @@ all 0
 clear 3
 clear 1
 insert 1 10
-",
-            "\
+==
 ok
 ok
 true
@@ -1604,11 +1520,8 @@ ok
 ok
 ok
 true
-",
-        ),
-        (
-            Worked::Wide,
-            "\
+--
+wide
 only 0 4294967295
 complement 2 2
 all 3
@@ -1664,8 +1577,7 @@ insert 3 130
 disjoint 0 3
 superset 0 3
 difference 2 2 0
-",
-            "\
+==
 K2 not a bit
 ok
 ok
@@ -1721,11 +1633,8 @@ true
 false
 true
 ok
-",
-        ),
-        (
-            Worked::Wide,
-            "\
+--
+wide
 next 0
 remove 0 64
 disjoint 3 5
@@ -1763,8 +1672,7 @@ clear 0
 insert 0 64
 clear 1
 insert 1 64
-",
-            "\
+==
 none
 false
 K1 no register
@@ -1802,11 +1710,8 @@ ok
 true
 ok
 true
-",
-        ),
-        (
-            Worked::Wide,
-            "\
+--
+wide
 symmetric 2 3 2
 remove_all 1 2
 empty 4
@@ -1835,8 +1740,7 @@ insert 2 64
 remove 2 193
 superset 0 0
 next_back 1
-",
-            "\
+==
 ok
 ok
 K1 no register
@@ -1865,11 +1769,8 @@ true
 K2 not a bit
 true
 none
-",
-        ),
-        (
-            Worked::Wide,
-            "\
+--
+wide
 empty 3
 remove 3 130
 insert 3 130
@@ -1924,8 +1825,7 @@ insert 0 130
 remove 0 3
 insert 0 64
 remove 2 63
-",
-            "\
+==
 true
 false
 true
@@ -1980,11 +1880,8 @@ false
 true
 false
 K2 not a bit
-",
-        ),
-        (
-            Worked::Wide,
-            "\
+--
+wide
 clear 0
 insert 0 3
 insert 0 64
@@ -2044,8 +1941,7 @@ insert 3 64
 insert 3 3
 clear 0
 insert 0 3
-",
-            "\
+==
 ok
 true
 true
@@ -2105,11 +2001,8 @@ true
 true
 ok
 true
-",
-        ),
-        (
-            Worked::Wide,
-            "\
+--
+wide
 insert 3 130
 insert 3 130
 insert 3 130
@@ -2133,8 +2026,7 @@ insert 3 64
 insert 3 3
 insert 3 130
 clear 2
-",
-            "\
+==
 true
 false
 false
@@ -2158,7 +2050,4 @@ true
 true
 true
 ok
-",
-        ),
-    ]
-}
+";

@@ -1,7 +1,6 @@
 // The registers of a machine.
 
 ghost use Rattle.std.specs.Prelude.{◌≡◌, true, slice_set, slice_index_or, [], length};
-ghost use Rattle.enumset_repr.specs.BitSet as set;
 ghost use Rattle.enumset_run.specs.Runs as model;
 ghost use Rattle.enumset_run.specs.Runs.{first_of, last_of, without_first, without_last};
 
@@ -10,76 +9,64 @@ use enumset_sets::enum_set::EnumSet;
 use enumset_sets::enum_set_iter::EnumSetIter;
 use std::marker::Model;
 
-// Four sets, in registers 0 to 3.
-pub(super) struct SetRegisters<T: EnumSetType> {
-    zero: EnumSet<T>,
-    one: EnumSet<T>,
-    two: EnumSet<T>,
-    three: EnumSet<T>,
+// Four values, in registers 0 to 3.
+#[derive(Drop)]
+pub(super) struct Registers<X> {
+    zero: X,
+    one: X,
+    two: X,
+    three: X,
 }
 
-impl<T: EnumSetType> Model for SetRegisters<T> {
+impl<X> Model for Registers<X> {
     ghost use Rattle.std.specs.Prelude.{List, [], ◌∷◌};
     ghost use Rattle.std.specs.Coded.{coded_list};
-    ghost use Rattle.enumset_repr.specs.BitSet.{BitSet, coded_set};
 
-    ghost Value = { List BitSet };
+    ghost Value = { List X };
 
-    ghost coded = { coded_list coded_set };
+    ghost coded = { coded_list X.code };
 
     ghost view = { λ s. s.zero ∷ s.one ∷ s.two ∷ s.three ∷ [] };
 }
 
-impl<T: EnumSetType> Drop for SetRegisters<T> {
-    fn drop(self) {
-        let SetRegisters {
-            zero: _zero,
-            one: _one,
-            two: _two,
-            three: _three,
-        } = self;
-    }
-}
+impl<X: Copy> Registers<X> {
+    ghost use Rattle.std.specs.Prelude.{[], ◌∷◌};
 
-impl<T: EnumSetType> SetRegisters<T> {
-    ghost use Rattle.enumset_run.specs.Runs.{no_sets};
-
-    // Four empty sets.
-    pub(super) fn new() -> SetRegisters<T>
-        ensures { result ≡ no_sets }
+    // The same value in each register.
+    pub(super) fn of(value: X) -> Registers<X>
+        ensures { result ≡ value ∷ value ∷ value ∷ value ∷ [] }
     {
-        SetRegisters {
-            zero: EnumSet::new(),
-            one: EnumSet::new(),
-            two: EnumSet::new(),
-            three: EnumSet::new(),
+        Registers {
+            zero: value,
+            one: value,
+            two: value,
+            three: value,
         }
     }
 
-    // The set in a register.
-    pub(super) fn get(&self, r: u8) -> EnumSet<T>
+    // The value in a register.
+    pub(super) fn get(&self, r: u8) -> X
         requires { model.is_set_register r ≡ true }
-        ensures { result ≡ slice_index_or self.now r set.empty }
-    {
-        let found = match r {
-            0 => &self.zero,
-            1 => &self.one,
-            2 => &self.two,
-            _ => &self.three,
-        };
-        found.clone().unwrap()
-    }
-
-    // Puts a set into a register.
-    pub(super) fn put(&mut self, r: u8, elements: EnumSet<T>)
-        requires { model.is_set_register r ≡ true }
-        ensures { self.new ≡ slice_set self.old r elements }
+        ensures { (x : X) → result ≡ slice_index_or self.now r x }
     {
         match r {
-            0 => self.zero = elements,
-            1 => self.one = elements,
-            2 => self.two = elements,
-            _ => self.three = elements,
+            0 => self.zero,
+            1 => self.one,
+            2 => self.two,
+            _ => self.three,
+        }
+    }
+
+    // Puts a value into a register.
+    pub(super) fn put(&mut self, r: u8, value: X)
+        requires { model.is_set_register r ≡ true }
+        ensures { self.new ≡ slice_set self.old r value }
+    {
+        match r {
+            0 => self.zero = value,
+            1 => self.one = value,
+            2 => self.two = value,
+            _ => self.three = value,
         }
     }
 }

@@ -5,6 +5,8 @@ use crate::sparse::Sparse;
 use crate::wide::Wide;
 use enumset_sets::element::EnumSetType;
 use enumset_sets::enum_set::EnumSet;
+use std::alloc::AllocError;
+use std::fmt;
 use std::test::Fail;
 
 fn two_of<T: EnumSetType>(a: T, b: T) -> EnumSet<T> {
@@ -40,45 +42,43 @@ fn answers<T: EnumSetType>(a: T, b: T) -> bool {
 }
 
 #[test]
-fn each_call_at_letters(rt: HostRuntime) {
+fn each_call_answers(rt: HostRuntime) {
     assert!(rt; EnumSet::<Letters>::bit_width() == 7);
     assert!(rt; EnumSet::<Letters>::variant_count() == 7);
     assert!(rt; EnumSet::bit_index(Letters::D) == 3);
     assert!(rt; answers(Letters::A, Letters::G));
-}
-
-#[test]
-fn each_call_at_sparse(rt: HostRuntime) {
     assert!(rt; EnumSet::<Sparse>::bit_width() == 128);
     assert!(rt; EnumSet::<Sparse>::variant_count() == 4);
     assert!(rt; EnumSet::bit_index(Sparse::D) == 127);
     assert!(rt; answers(Sparse::B, Sparse::D));
-}
-
-#[test]
-fn each_call_at_wide(rt: HostRuntime) {
     assert!(rt; EnumSet::<Wide>::bit_width() == 131);
     assert!(rt; EnumSet::<Wide>::variant_count() == 3);
     assert!(rt; EnumSet::bit_index(Wide::Q) == 64);
     assert!(rt; answers(Wide::P, Wide::R));
 }
 
+// A line of the elements' texts and that of their set.
+fn write_texts<T: EnumSetType + fmt::Display + fmt::Debug>(
+    text: &mut String,
+    a: T,
+    b: T,
+) -> Result<(), AllocError> {
+    writeln!(text, "{a} {b:?} {:?}", two_of(a, b))
+}
+
 #[test]
 fn texts_name_the_elements(rt: HostRuntime) -> Result<(), Fail> {
     let mut text = String::new(rt.alloc());
-    let letters = two_of(Letters::C, Letters::A);
-    writeln!(text, "{} {:?} {letters:?}", Letters::A, Letters::G)?;
-    let sparse = two_of(Sparse::D, Sparse::B);
-    writeln!(text, "{} {:?} {sparse:?}", Sparse::A, Sparse::D)?;
-    let wide = two_of(Wide::P, Wide::R);
-    writeln!(text, "{} {:?} {wide:?}", Wide::P, Wide::Q)?;
+    write_texts(&mut text, Letters::C, Letters::A)?;
+    write_texts(&mut text, Sparse::D, Sparse::B)?;
+    write_texts(&mut text, Wide::P, Wide::R)?;
     writeln!(text, "{:?}", EnumSet::<Letters>::new())?;
     assert!(rt;
         text.as_str()
             == "\
-A G EnumSet(A | C)
-A D EnumSet(B | D)
-P Q EnumSet(P | R)
+C A EnumSet(A | C)
+D B EnumSet(B | D)
+P R EnumSet(P | R)
 EnumSet()
 "
     );

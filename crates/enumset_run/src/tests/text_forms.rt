@@ -1,23 +1,28 @@
 use crate::kinds::serve_worked;
 use crate::text_fault::TextFault;
 use crate::worked::Worked;
+use std::alloc::Global;
 use std::test::Fail;
+
+// The line at which an input is refused.
+fn bad_line(alloc: Global, input: &[u8]) -> Option<u64> {
+    match serve_worked(alloc, Worked::Letters, input) {
+        Err(TextFault::BadLine(line)) => Some(line),
+        _ => None,
+    }
+}
 
 #[test]
 fn lines_and_words_may_be_spaced(rt: HostRuntime) -> Result<(), Fail> {
-    for input in [
-        "insert 0 6\n",
-        "insert 000 00000000000000000000006\n",
-        "insert   0  6\n",
-        "  insert 0 6   \n",
-        "insert 0 6\r\n",
-        "insert 0 6 \r\n",
-        "insert 0 6",
-        "\n\n  \n \r\n\r\ninsert 0 6\n\n",
-    ] {
+    let inputs =
+        "insert 0 6\n|insert 000 00000000000000000000006\n|insert   0  6\n|  insert 0 6   \n\
+        |insert 0 6\r\n|insert 0 6 \r\n|insert 0 6|\n\n  \n \r\n\r\ninsert 0 6\n\n";
+    for input in inputs.split('|') {
         let answer = serve_worked(rt.alloc(), Worked::Letters, input.as_bytes())?;
         assert!(rt; answer.as_slice() == b"true\n".as_slice(), "{input}");
     }
+    let no_command = serve_worked(rt.alloc(), Worked::Letters, b" \r\n  \n")?;
+    assert!(rt; no_command.is_empty());
     Ok(())
 }
 
@@ -26,31 +31,20 @@ fn other_lines_are_no_commands(rt: HostRuntime) {
     let lines = "insert 256 6|insert 0 4294967296|insert 0 99999999999999999999999|insert 0\
         |insert 0 6 6|len|len 0 0|0 len|INSERT 0 6|Insert 0 6|insert0 6|inser 0 6|insert\t0 6\
         |insert 0 6\t|insert 0 +6|insert 0 -6|insert 0 6x|insert 0 six|insert 0 6\r|insert 0 6\r\r\n\
-        |insert 0 6\r \n|\r|insert 0 é";
+        |insert 0 6\r \n|\r|insert 0 é|\
+        len\nlen 0\nlen\n";
     for line in lines.split('|') {
-        let fault = serve_worked(rt.alloc(), Worked::Letters, line.as_bytes()).err();
-        assert!(rt; fault == Some(TextFault::BadLine(1)), "{line}");
+        assert!(rt; bad_line(rt.alloc(), line.as_bytes()) == Some(1), "{line}");
     }
-    let fault = serve_worked(rt.alloc(), Worked::Letters, b"insert 0 \xff\n").err();
-    assert!(rt; fault == Some(TextFault::BadLine(1)));
-}
-
-#[test]
-fn the_first_other_line_is_named(rt: HostRuntime) {
-    for (line, input) in [
-        (3, "len 0\n\ninsert 0\n"),
-        (4, "len 0\n\n \r\nlen\nleft\n"),
-        (2, "\nlen"),
-        (1, "len\nlen 0\nlen\n"),
-        // there is no command `compare`
-        (
-            22,
-            "clear 1\ninsert 1 10\ninsert 1 127\nclear 2\ninsert 2 20\ninsert 2 30\ninsert 2 10\ninsert 2 127\ndifference 3 1 2\nremove_all 1 2\nremove 0 30\nclear 3\ninsert 3 30\niter 0 3\nnext 0\nnext 0\nleft 0\nnew 1\nonly 1 2147483647\ninsert 255 2147483647\nsubset 0 255\ncompare 1 1\nclear 0\n",
-        ),
-    ] {
-        let fault = serve_worked(rt.alloc(), Worked::Letters, input.as_bytes()).err();
-        assert!(rt; fault == Some(TextFault::BadLine(line)), "{input}");
-    }
+    assert!(rt; bad_line(rt.alloc(), b"insert 0 \xff\n") == Some(1));
+    // the first such line is named
+    assert!(rt; bad_line(rt.alloc(), b"len 0\n\ninsert 0\n") == Some(3));
+    assert!(rt; bad_line(rt.alloc(), b"len 0\n\n \r\nlen\nleft\n") == Some(4));
+    assert!(rt; bad_line(rt.alloc(), b"\nlen") == Some(2));
+    // there is no command `compare`
+    let compares =
+        b"clear 1\ninsert 1 10\ninsert 1 127\nclear 2\ninsert 2 20\ninsert 2 30\ninsert 2 10\ninsert 2 127\ndifference 3 1 2\nremove_all 1 2\nremove 0 30\nclear 3\ninsert 3 30\niter 0 3\nnext 0\nnext 0\nleft 0\nnew 1\nonly 1 2147483647\ninsert 255 2147483647\nsubset 0 255\ncompare 1 1\nclear 0\n";
+    assert!(rt; bad_line(rt.alloc(), compares) == Some(22));
 }
 
 #[test]

@@ -1,0 +1,10 @@
+-- The replies after one more command.
+use Rattle.std.proofs.Common.{◌≡◌, ℕ, ◌+◌, ◌<◌, List, [], ◌∷◌, ◌++◌, length, get_or, drop, refl, append_assoc, drop-cons, add-one}
+use Rattle.enumset_repr.specs.BitSet.{BitSet}
+use Rattle.enumset_run.specs.declared.command.Command.{Command}
+use Rattle.enumset_run.specs.declared.reply.Reply.{Reply}
+use Rattle.enumset_run.specs.Runs.{State, outcome, replies_from}
+
+pub replies-next : (valid : BitSet) (s t : State) (reply : Reply) (done : List Reply) (commands : List Command) (i : ℕ) (d : Command) → i < length commands → outcome valid s (get_or commands i d) ≡ record { reply = reply; state = t } → (done ++ reply ∷ []) ++ replies_from valid t (drop (i + 1) commands) ≡ done ++ replies_from valid s (drop i commands)
+replies-next valid s t reply done commands i d within h =
+    rw (append_assoc done (reply ∷ []) (replies_from valid t (drop (i + 1) commands)), add-one, drop-cons commands i d within, h) refl
