@@ -22,6 +22,10 @@ slice_get_last (y ∷ ys) x = slice_get_last ys x
 one_less : (ys : List ℕ) (x : ℕ) → length (ys ++ x ∷ []) - 1 ≡ length ys
 one_less ys x = omega (arith, length-append ys (x ∷ []))
 
+pub front_step : (xs : List ℕ) (r : Option ℕ) (ys : List ℕ) → MatchOption r ((xs ≡ []) × (ys ≡ [])) (λ x. xs ≡ x ∷ ys) → (r ≡ answer Front xs) × (ys ≡ after Front xs)
+front_step xs None ys step = (sym (ap (answer Front) step.0), step.1 ∙ sym (ap (after Front) step.0))
+front_step xs (Some x) ys step = (sym (ap (answer Front) step), sym (ap (after Front) step))
+
 pub back_step : (xs : List ℕ) (r : Option ℕ) (ys : List ℕ) → MatchOption r ((xs ≡ []) × (ys ≡ [])) (λ x. xs ≡ ys ++ x ∷ []) → (r ≡ answer Back xs) × (ys ≡ after Back xs)
 back_step xs None ys step = (sym (ap (answer Back) step.0), step.1 ∙ sym (ap (after Back) step.0))
 back_step xs (Some x) ys step = (

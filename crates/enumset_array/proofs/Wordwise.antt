@@ -1,11 +1,13 @@
 -- A store whose words are made of those of other stores, word by word.
-use Rattle.std.proofs.Common.{◌≡◌, ◌<◌, ◌≤◌, ◌⊎◌, inl, inr, ℕ, ◌*◌, ◌+◌, ◌^◌, Bool, not, ◌&&◌, ◌||◌, List, length, bit_and, bit_or, refl, sym, ap, ◌∙◌, subst, arith, w64}
-use Rattle.std.specs.Prelude.{slice_index, bit_xor, IsTrue}
+use Rattle.std.proofs.Common.{◌≡◌, ◌≢◌, ◌<◌, ◌≤◌, ◌⊎◌, inl, inr, ℕ, ◌*◌, ◌+◌, ◌^◌, Bool, true, false, not, ◌&&◌, ◌||◌, List, length, set, bit_and, bit_or, refl, sym, ap, ◌∙◌, subst, arith, w64}
+use Rattle.std.specs.Prelude.{◌==◌, slice_index, bit_xor, IsTrue}
 use Rattle.std.specs.Int.{bit_not}
 use Rattle.std.specs.Int.Bits.{and_lt}
 use Rattle.std.proofs.lemmas.Nat.{or_lt, xor_lt}
 use Rattle.std.proofs.Math.Pow.{ones_sub-lt}
 use Rattle.std.proofs.lemmas.Bool.{cases_lt, lt-ltb}
+use Rattle.std.proofs.lemmas.Bool.Decides.{nat_tests}
+use Rattle.std.proofs.lemmas.List.{get_or-set_same, get_or-set_other}
 use Rattle.enumset_repr.specs.BitSet.{BitSet, contains, below, intersection, union, difference, symmetric_difference}
 use Rattle.enumset_repr.specs.Number.{bits}
 use Rattle.enumset_repr.specs.Laws.Members.{contains-intersection, contains-union, contains-difference, contains-symmetric_difference, contains-below, not_below}
@@ -125,3 +127,18 @@ turned_set n a r turned = set_is n r _ (turned_store n a r turned) (λ w q small
     at w q small (inr past) =
         contains-zero _ q (turned.rest w past ∙ past_is n a w turned.first.past past)
         ∙ sym (contains-difference _ _ (64 * w + q) ∙ ap (λ t. t && not (contains (set_of n a) (64 * w + q))) (contains-below (64 * in_use n) (64 * w + q) ∙ not_below _ _ (omega (arith, past))))
+
+-- ---- one word more is made
+
+pub one_done : (op : ℕ → ℕ → ℕ) (a b r : List ℕ) (i : ℕ) → i < length r → ((k : ℕ) → k < i → slice_index r k ≡ op (slice_index a k) (slice_index b k)) → ((k : ℕ) → i ≤ k → slice_index r k ≡ slice_index a k)
+    → (k : ℕ) → k < i + 1 → slice_index (set r i (op (slice_index r i) (slice_index b i))) k ≡ op (slice_index a k) (slice_index b k)
+one_done op a b r i low done rest k under =
+    let made : List ℕ = set r i (op (slice_index r i) (slice_index b i)) in
+    elim (k == i) as (λ t. (k == i) ≡ t → slice_index made k ≡ op (slice_index a k) (slice_index b k)) [
+      | true ↦ λ e. let here : i ≡ k = grind (arith, nat_tests, e) in
+          subst (λ j. slice_index made j ≡ op (slice_index a j) (slice_index b j)) here (get_or-set_same r i _ 0 low ∙ ap (λ x. op x (slice_index b i)) (rest i (omega arith)))
+      | false ↦ λ e. let apart : k ≢ i = grind (arith, nat_tests, e) in get_or-set_other r i k _ 0 apart ∙ done k (omega arith)
+    ] refl
+
+pub one_rest : (a r : List ℕ) (i x : ℕ) → ((k : ℕ) → i ≤ k → slice_index r k ≡ slice_index a k) → (k : ℕ) → i + 1 ≤ k → slice_index (set r i x) k ≡ slice_index a k
+one_rest a r i x rest k past = let apart : k ≢ i = omega arith in get_or-set_other r i k x 0 apart ∙ rest k (omega arith)

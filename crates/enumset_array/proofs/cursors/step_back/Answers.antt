@@ -1,6 +1,7 @@
 use Rattle.std.proofs.Common.{◌≡◌, ◌+◌, ◌-◌, ◌*◌, ◌<◌, [], length, sym, ap, ◌∙◌, arith}
 use Rattle.enumset_repr.specs.BitSet.{rising, remove}
 use Rattle.enumset_array.specs.WordList.{bits_of}
+use Rattle.enumset_array.proofs.Progress.{one_ask}
 use Rattle.enumset_array.proofs.WordLists.{step_last, step_last_set, none_left}
 use Rattle.enumset_array.proofs.cursors.step_back.Goals as goal
 
@@ -26,3 +27,9 @@ pub returns-clause-item : goal.returns-clause-item
 returns-clause-item g c =
     let none : rising (bits_of (g.R.Row.words c.loop-cursors.row)) ≡ [] = none_left _ _ c.loop-cursors.invariant.covers c.loop-cursors-test.false in
     (ap (λ ws. rising (bits_of ws)) (sym c.loop-cursors.invariant.same) ∙ none, none)
+
+pub returns-in-Some-clause-asks : goal.returns-in-Some-clause-asks
+returns-in-Some-clause-asks g c = rw (← c.cursors.view_is) (one_ask _ _ _ _ c.in-Some.ensures.counted c.loop-cursors.invariant.asks)
+
+pub returns-clause-none : goal.returns-clause-none
+returns-clause-none g c = omega arith

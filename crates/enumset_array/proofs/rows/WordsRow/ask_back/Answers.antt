@@ -27,3 +27,6 @@ returns-clause-others g c =
     let same : used g.row.N (numbers c.self.inside.words) ≡ c.args.self.now.words = ap (λ (v : Counted). v.words) c.self.view_is in
     let low : c.args.i < length (used g.row.N (numbers c.self.inside.words)) = rw same c.requires in
     rw (← same) (row_others _ _ _ c.next_back-bit.new.self c.next_back-bit.new.self low)
+
+pub returns-clause-counted : goal.returns-clause-counted
+returns-clause-counted g c = rw (← c.self.view_is) c.raise.ensures
