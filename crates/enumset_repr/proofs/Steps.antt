@@ -1,7 +1,6 @@
 -- A step from either end of the bits of an integer.
-use Rattle.std.proofs.Common.{◌≡◌, ◌≢◌, ◌<◌, ℕ, ◌+◌, ◌-◌, List, [], ◌∷◌, ◌++◌, Option, Some, None, length, length-append, refl, sym, ap, subst, arith, rules}
-use Rattle.std.specs.Prelude.{MatchOption, ⊤}
-use Rattle.std.specs.Iterator.{YieldsFirst, YieldsLast, item_count, MakesProgress}
+use Rattle.std.proofs.Common.{◌≡◌, ◌≢◌, ◌<◌, ℕ, ◌+◌, ◌-◌, [], ◌∷◌, ◌++◌, Option, Some, None, refl, sym, subst, arith}
+use Rattle.std.specs.Prelude.{MatchOption}
 use Rattle.enumset_repr.specs.BitSet.{BitSet, rising, remove}
 use Rattle.enumset_repr.specs.Ends.{least, greatest}
 use Rattle.enumset_repr.specs.Laws.Ends.{rising-least, rising-greatest}
@@ -23,11 +22,3 @@ last_step s r b found apart = at (greatest s) refl found
     at (Some m) e h =
         let place : m ≡ b - 1 - r = omega arith in
         subst (λ k. rising s ≡ rising (remove s k) ++ k ∷ []) place (rising-greatest s m e)
-
-pub first_goes : {S : Type 0} (rest : S → List ℕ) (s : S) (r : Option ℕ) (t : S) → YieldsFirst rest s r t → MakesProgress (λ _. ⊤) (item_count rest) s r t
-first_goes rest s None t e = search rules
-first_goes rest s (Some x) t e = let fewer : length (rest t) < length (rest s) = omega (arith, ap length e) in search rules
-
-pub last_goes : {S : Type 0} (rest : S → List ℕ) (s : S) (r : Option ℕ) (t : S) → YieldsLast rest s r t → MakesProgress (λ _. ⊤) (item_count rest) s r t
-last_goes rest s None t e = search rules
-last_goes rest s (Some x) t e = let fewer : length (rest t) < length (rest s) = omega (arith, ap length e, length-append (rest t) (x ∷ [])) in search rules

@@ -7,12 +7,14 @@
 --     Ends      the least and the greatest member
 --     Words      words of 64 bits
 --     Listed      the set of a number whose bits are listed
+--     Steps      a step of an iterator lowers how many items are left
 --     Integers      the laws of an integer as a store
 pub mod Members
 pub mod Rising
 pub mod Equality
 pub mod Numbers
 pub mod Ends
+pub mod Steps
 pub mod Words
 pub mod Integers
 pub mod Listed

@@ -1,4 +1,4 @@
-use Rattle.enumset_array.proofs.Progress.{last_goes}
+use Rattle.enumset_repr.specs.Laws.Steps.{last_goes}
 use Rattle.enumset_array.proofs.array_iter.ArrayIterDoubleEndedIterator.next_back.Goals as goal
 
 pub invariant_of-self : goal.invariant_of-self

@@ -1,4 +1,4 @@
-use Rattle.enumset_array.proofs.Progress.{first_goes}
+use Rattle.enumset_repr.specs.Laws.Steps.{first_goes}
 use Rattle.enumset_array.proofs.array_iter.ArrayIterIterator.next.Goals as goal
 
 pub invariant_of-self : goal.invariant_of-self

@@ -1,6 +1,7 @@
 use Rattle.std.proofs.Common.{[], ◌∷◌, ◌++◌, ◌-◌, sym, ap, ◌∙◌}
 use Rattle.enumset_repr.specs.BitSet.{rising, remove}
-use Rattle.enumset_repr.proofs.Steps.{last_step, last_goes}
+use Rattle.enumset_repr.specs.Laws.Steps.{last_goes}
+use Rattle.enumset_repr.proofs.Steps.{last_step}
 use Rattle.enumset_repr.proofs.primitive_iter.PrimitiveIterDoubleEndedIterator.next_back.Goals as goal
 
 pub returns-clause-steps : goal.returns-clause-steps

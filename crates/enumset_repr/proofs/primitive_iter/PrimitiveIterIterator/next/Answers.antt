@@ -1,6 +1,7 @@
 use Rattle.std.proofs.Common.{◌∷◌, sym, ap, ◌∙◌}
 use Rattle.enumset_repr.specs.BitSet.{rising}
-use Rattle.enumset_repr.proofs.Steps.{first_step, first_goes}
+use Rattle.enumset_repr.specs.Laws.Steps.{first_goes}
+use Rattle.enumset_repr.proofs.Steps.{first_step}
 use Rattle.enumset_repr.proofs.primitive_iter.PrimitiveIterIterator.next.Goals as goal
 
 pub returns-clause-steps : goal.returns-clause-steps
