@@ -1,5 +1,5 @@
 -- A step of an iterator that shows the list of what is left: fewer items are left where it gave one.
-use Rattle.std.proofs.Common.{◌++◌, ℕ, List, [], ◌∷◌, length, length-append, ap, arith}
+use Rattle.std.proofs.Common.{ℕ, List, [], ◌∷◌, length, length-append, ap, arith}
 use Rattle.std.specs.Prelude.{Option, Some, None, ⊤}
 use Rattle.std.specs.Iterator.{YieldsFirst, YieldsLast, item_count, MakesProgress}
 
