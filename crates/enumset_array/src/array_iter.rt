@@ -1,8 +1,7 @@
 //! The iterator over many words.
 
-ghost use Rattle.std.specs.Prelude.{◌≡◌, ◌+◌, length, is_some, if◌then◌else◌, IfNone, IfSome, None, ⊤};
-ghost use Rattle.std.specs.Iterator.{YieldsFirst, YieldsLast, item_count, at_most, UpTo, MakesProgress};
-ghost use Rattle.std.specs.Iterator.SizeHint.{IsExactHint, IsWithinCount};
+ghost use Rattle.std.specs.Prelude.{◌≡◌, ◌+◌, length, is_some, if◌then◌else◌, IfNone, None, Some, ⊤};
+ghost use Rattle.std.specs.Iterator.{YieldsFirst, YieldsLast, item_count, MakesProgress};
 ghost use Rattle.enumset_repr.specs.BitSet.{rising};
 ghost use Rattle.enumset_array.specs.Stored.{in_use, set_of};
 
@@ -72,7 +71,8 @@ impl<const N: usize> Iterator for ArrayIter<N> {
 
     ghost remaining = { item_count (λ i. i.items) };
 
-    /// The least item that is left.
+    /// The least item that is left, which is taken out, or `None` if there is none. It is one step of
+    /// [`step_front`].
     fn next(&mut self) -> Option<u32>
         ensures steps { YieldsFirst (λ i. i.items) self.old result self.new }
         ensures goes { MakesProgress (λ _. ⊤) (item_count (λ i. i.items)) self.old result self.new }
@@ -85,9 +85,8 @@ impl<const N: usize> Iterator for ArrayIter<N> {
 
     /// Exactly how many items are left.
     fn size_hint(&self) -> (usize, Option<usize>)
-        ensures lower { IsWithinCount result.0 (at_most (length self.now.items)) }
-        ensures upper { IfSome result.1 (UpTo (at_most (length self.now.items))) }
-        ensures exact { IsExactHint result (length self.now.items) }
+        ensures lower { result.0 ≡ length self.now.items }
+        ensures upper { result.1 ≡ Some (length self.now.items) }
     {
         let left = self.left();
         (left, Some(left))
@@ -97,7 +96,8 @@ impl<const N: usize> Iterator for ArrayIter<N> {
 impl<const N: usize> DoubleEndedIterator for ArrayIter<N> {
     ghost next_back_gives = { YieldsLast (λ i. i.items) };
 
-    /// The greatest item that is left.
+    /// The greatest item that is left, which is taken out, or `None` if there is none. It is one step of
+    /// [`step_back`].
     fn next_back(&mut self) -> Option<u32>
         ensures steps { YieldsLast (λ i. i.items) self.old result self.new }
         ensures goes { MakesProgress (λ _. ⊤) (item_count (λ i. i.items)) self.old result self.new }

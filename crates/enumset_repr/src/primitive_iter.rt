@@ -1,8 +1,7 @@
 //! The iterator over the bits of an integer.
 
-ghost use Rattle.std.specs.Prelude.{◌≡◌, length, ⊤};
+ghost use Rattle.std.specs.Prelude.{◌≡◌, length, Some, ⊤};
 ghost use Rattle.std.specs.Iterator.{YieldsFirst, YieldsLast, item_count};
-ghost use Rattle.std.specs.Iterator.SizeHint.{IsExactHint};
 ghost use Rattle.enumset_repr.specs.BitSet.{rising};
 
 use crate::primitive::Primitive;
@@ -33,7 +32,7 @@ impl<T: Primitive> Iterator for PrimitiveIter<T> {
 
     ghost remaining = { item_count (λ i. rising (T.set_of i.0)) };
 
-    /// The least bit that is left.
+    /// The least bit that is left, which is taken out, or `None` if there is none.
     fn next(&mut self) -> Option<u32> {
         let least = self.0.trailing_zeros();
         if least == T::BITS {
@@ -45,7 +44,8 @@ impl<T: Primitive> Iterator for PrimitiveIter<T> {
 
     /// Exactly how many bits are left.
     fn size_hint(&self) -> (usize, Option<usize>)
-        ensures { IsExactHint result (length (rising (T.set_of self.now.0))) }
+        ensures lower { result.0 ≡ length (rising (T.set_of self.now.0)) }
+        ensures upper { result.1 ≡ Some (length (rising (T.set_of self.now.0))) }
     {
         let left = self.len();
         (left, Some(left))
@@ -56,7 +56,7 @@ impl<T: Primitive> Iterator for PrimitiveIter<T> {
 impl<T: Primitive> DoubleEndedIterator for PrimitiveIter<T> {
     ghost next_back_gives = { YieldsLast (λ i. rising (T.set_of i.0)) };
 
-    /// The greatest bit that is left.
+    /// The greatest bit that is left, which is taken out, or `None` if there is none.
     fn next_back(&mut self) -> Option<u32> {
         let above = self.0.leading_zeros();
         if above == T::BITS {
