@@ -6,7 +6,8 @@ use Rattle.std.proofs.lemmas.List.Elements.{filter_map-append, Contains-push_cas
 use Rattle.enumset_repr.specs.BitSet.{BitSet, contains, is_in, remove, difference, from_list, rising}
 use Rattle.enumset_repr.specs.Laws.Members.{same_set, contains-difference, contains-from_list, contains-remove}
 use Rattle.enumset_repr.specs.Laws.Rising.{empty_of_rising}
-use Rattle.enumset_array.proofs.Taken.{is_in_last}
+use Rattle.enumset_repr.specs.Laws.Rising.{is_in-push}
+use Rattle.std.proofs.Math.Bool.{and-true}
 use Rattle.enumset_array.specs.declared.walk.End.{End}
 use Rattle.enumset_array.specs.declared.walk.End.TheVariants.{Front, Back}
 use Rattle.enumset_array.specs.Cursors.{Covers}
@@ -76,10 +77,6 @@ not_or true false c = refl
 not_or false true c = refl
 not_or false false c = refl
 
-and-true : (a : Bool) → (a && true) ≡ a
-and-true true = refl
-and-true false = refl
-
 pub difference-none : (s : BitSet) → s ≡ difference s (from_list (given []))
 unfolding given
 difference-none s = same_set s _ (λ q. sym (contains-difference s _ q ∙ ap (λ c. contains s q && not c) (contains-from_list [] q) ∙ and-true (contains s q)))
@@ -89,7 +86,7 @@ difference-push s bs b = same_set _ _ (λ q.
     contains-remove (difference s (from_list bs)) b q
     ∙ ap (λ c. not (q == b) && c) (contains-difference s (from_list bs) q ∙ ap (λ c. contains s q && not c) (contains-from_list bs q))
     ∙ sym (not_or (contains s q) (q == b) (is_in q bs))
-    ∙ ap (λ c. contains s q && not c) (sym (is_in_last q b bs) ∙ sym (contains-from_list (bs ++ b ∷ []) q))
+    ∙ ap (λ c. contains s q && not c) (sym (is_in-push q b bs) ∙ sym (contains-from_list (bs ++ b ∷ []) q))
     ∙ sym (contains-difference s (from_list (bs ++ b ∷ [])) q))
 
 -- the set after a step that gave r

@@ -24,7 +24,7 @@ use Rattle.enumset_array.specs.Laws.WordSets.{at_word}
 pub set_past : (n : ℕ) (ws : List ℕ) (i x : ℕ) → i < in_use n → IsTrue (is_empty_past n ws) → IsTrue (is_empty_past n (set ws i x))
 set_past n ws i x low past = ap (list_all (λ w. w == 0)) (drop-set-lt (in_use n) ws i x low) ∙ past
 
-in_use-le : (n : ℕ) → in_use n ≤ n
+pub in_use-le : (n : ℕ) → in_use n ≤ n
 in_use-le n = omega arith
 
 module _ (n : ℕ) (ws : List ℕ) (i x : ℕ) (store : IsStore n ws) (low : i < in_use n) (fits : x < 2 ^ 64) where

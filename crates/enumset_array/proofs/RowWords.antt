@@ -11,9 +11,8 @@ use Rattle.enumset_repr.specs.BitSet.{rising, len}
 use Rattle.enumset_repr.specs.Number.{bits}
 use Rattle.enumset_repr.specs.Laws.Rising.{empty_of_rising, len-below}
 use Rattle.enumset_repr.specs.Laws.Numbers.{bits_empty, bits-within}
-use Rattle.enumset_array.specs.Stored.{in_use, used, IsStore}
+use Rattle.enumset_array.specs.Stored.{in_use, used}
 use Rattle.enumset_array.specs.WordList.{AreWords}
-use Rattle.enumset_array.specs.Laws.Stored.{used_fit}
 use Rattle.enumset_array.proofs.Taken.{IsTaken, taken_first, taken_last}
 use Rattle.enumset_array.proofs.WordLists.{taken_fit}
 
@@ -29,9 +28,6 @@ few x small = len-below (bits x) 64 (bits-within x 64 small)
 
 used_limit : (n : ℕ) (ws : List ℕ) → length (used n ws) ≤ 67108863
 used_limit n ws = omega (arith, length-take (in_use n) ws)
-
-pub store_words : (n : ℕ) (ws : List ℕ) → IsStore n ws → AreWords (used n ws)
-store_words n ws store = record { limit = used_limit n ws; fit = used_fit n ws store }
 
 -- ---- one word replaced
 

@@ -1,15 +1,13 @@
 -- A set whose least or greatest member was taken out, by the lists of the members.
-use Rattle.std.proofs.Common.{◌≡◌, ◌<◌, ◌≤◌, ℕ, suc, ◌+◌, ◌^◌, ◌*◌, ◌/◌, ◌%◌, Bool, true, false, not, ◌&&◌, ◌||◌, List, [], ◌∷◌, ◌++◌, refl, sym, ap, ◌∙◌, subst, arith, true≢false, pow_pos, mod-lt}
+use Rattle.std.proofs.Common.{◌≡◌, ◌<◌, ◌≤◌, ℕ, suc, ◌^◌, Bool, true, false, not, ◌&&◌, ◌||◌, List, [], ◌∷◌, ◌++◌, refl, sym, ap, ◌∙◌, subst, arith, true≢false, inl, inr}
 use Rattle.std.specs.Prelude.{◌==◌, nat_lt}
-use Rattle.std.specs.Int.{bit_at}
-use Rattle.std.proofs.Math.Nat.{div-add-mod}
-use Rattle.std.proofs.lemmas.Nat.Bits.{bit_at_above, bit_at_cat_low, bit_at-lt, same_from_bits}
+use Rattle.std.proofs.lemmas.Bool.{cases_lt, lt-ltb}
 use Rattle.std.proofs.lemmas.Bool.Decides.{nat_tests}
-use Rattle.enumset_repr.specs.BitSet.{BitSet, is_in, contains, rising, remove}
+use Rattle.enumset_repr.specs.BitSet.{BitSet, is_in, contains, rising, remove, below}
 use Rattle.enumset_repr.specs.Number.{bits}
-use Rattle.enumset_repr.specs.Laws.Members.{same_set, same_number, itself, or_left, or_right, or_swap, contains-remove, contains-rising}
-use Rattle.enumset_repr.specs.Laws.Rising.{RisesFrom, rising-rises, is_in-below}
-use Rattle.enumset_repr.specs.Laws.Numbers.{contains-bits}
+use Rattle.enumset_repr.specs.Laws.Members.{same_set, same_number, itself, or_left, or_right, contains-remove, contains-rising, contains-below, contains-is_subset}
+use Rattle.enumset_repr.specs.Laws.Rising.{RisesFrom, rising-rises, is_in-below, is_in-push}
+use Rattle.enumset_repr.specs.Laws.Numbers.{number-bits, number-within}
 use Rattle.enumset_array.specs.Laws.Bits.{contains-bits_above}
 
 -- what was there is the one taken out and what is left; the one isn't left
@@ -52,10 +50,6 @@ module _ (s t : BitSet) (b : ℕ) (first : rising s ≡ b ∷ rising t) where
 
 -- ---- the greatest
 
-pub is_in_last : (q b : ℕ) (xs : List ℕ) → is_in q (xs ++ b ∷ []) ≡ ((q == b) || is_in q xs)
-is_in_last q b [] = refl
-is_in_last q b (x ∷ xs) = ap (λ c. (q == x) || c) (is_in_last q b xs) ∙ or_swap (q == x) (q == b) (is_in q xs)
-
 past_last : (k q b : ℕ) (xs : List ℕ) → RisesFrom k (xs ++ b ∷ []) → b ≤ q → (k ≤ b) × (is_in q xs ≡ false)
 past_last k q b [] rises h = (rises.0, refl)
 past_last k q b (x ∷ xs) rises h =
@@ -68,7 +62,7 @@ module _ (s t : BitSet) (b : ℕ) (last : rising s ≡ rising t ++ b ∷ []) whe
   rises_last = subst (RisesFrom 0) last (rising-rises s)
 
   pub last_was : (q : ℕ) → contains s q ≡ ((q == b) || contains t q)
-  last_was q = contains-rising s q ∙ ap (is_in q) last ∙ is_in_last q b (rising t) ∙ ap (λ c. (q == b) || c) (sym (contains-rising t q))
+  last_was q = contains-rising s q ∙ ap (is_in q) last ∙ is_in-push q b (rising t) ∙ ap (λ c. (q == b) || c) (sym (contains-rising t q))
 
   pub last_none_higher : (q : ℕ) → b ≤ q → contains t q ≡ false
   last_none_higher q h = contains-rising t q ∙ (past_last 0 q b (rising t) rises_last h).1
@@ -82,21 +76,12 @@ module _ (s t : BitSet) (b : ℕ) (last : rising s ≡ rising t ++ b ∷ []) whe
 
 -- ---- a number that has no bit from k on is below 2 ^ k
 
-no_bit : (d : ℕ) → d < 2 → (d == 1) ≡ false → d ≡ 0
-no_bit d small not_one = grind (arith, nat_tests)
-
 pub few_bits : (n k : ℕ) → ((b : ℕ) → k ≤ b → contains (bits n) b ≡ false) → n < 2 ^ k
-few_bits n k none =
-    let low : ℕ = n % 2 ^ k in
-    let small : low < 2 ^ k = mod-lt n (pow_pos k) in
-    let parts : n / 2 ^ k * 2 ^ k + low ≡ n = omega (arith, div-add-mod n (2 ^ k)) in
-    let same : n ≡ low = same_from_bits n low (λ b. elim (nat_lt b k) as (λ t. nat_lt b k ≡ t → bit_at n b ≡ bit_at low b) [
-      | true ↦ λ e. let in_low : b < k = grind (arith, nat_tests, e) in
-          ap (λ m. bit_at m b) (sym parts) ∙ bit_at_cat_low (n / 2 ^ k) k low b in_low
-      | false ↦ λ e. let past : k ≤ b = grind (arith, nat_tests, e) in
-          no_bit (bit_at n b) (bit_at-lt n b) (sym (contains-bits n b) ∙ none b past) ∙ sym (bit_at_above low k b small past)
-    ] refl) in
-    subst (λ m. m < 2 ^ k) (sym same) small
+few_bits n k none = subst (λ m. m < 2 ^ k) (number-bits n) (number-within (bits n) k (contains-is_subset (bits n) (below k) (λ q one.
+    contains-below k q ∙ elim (cases_lt q k) [
+      | inl under ↦ lt-ltb q k under
+      | inr past ↦ absurd (true≢false (sym one ∙ none q past))
+    ])))
 
 -- what is left of a word of k bits is a word of k bits
 pub taken_small : (n m k b : ℕ) → n < 2 ^ k → IsTaken (bits n) b (bits m) → m < 2 ^ k

@@ -1,5 +1,5 @@
 -- The laws of the set of a list of words, and what it is after a bit was taken out of a word.
-use Rattle.std.proofs.Common.{◌≡◌, ◌<◌, ◌≤◌, ◌≢◌, ℕ, ◌+◌, ◌*◌, ◌^◌, true, false, ◌&&◌, ◌||◌, List, [], ◌∷◌, ◌++◌, length, set, refl, sym, ap, ◌∙◌, subst, arith, length-set, lit<}
+use Rattle.std.proofs.Common.{◌≡◌, ◌<◌, ◌≤◌, ◌≢◌, ℕ, ◌+◌, ◌*◌, ◌^◌, true, false, ◌&&◌, ◌||◌, List, [], ◌∷◌, ◌++◌, length, set, refl, sym, ap, ◌∙◌, subst, arith, lit<}
 use Rattle.std.proofs.lemmas.List.{get_or-set_other}
 use Rattle.std.specs.Prelude.{◌==◌, nat_lt, slice_index}
 use Rattle.std.proofs.lemmas.Bool.Decides.{nat_tests}
@@ -49,9 +49,6 @@ module _ (ws vs : List ℕ) (i b : ℕ) (fit : (j : ℕ) → slice_index ws j < 
     was = by_word (λ q. contains (bits_of ws) q ≡ ((q == (64 * i + b)) || contains (bits_of vs) q)) taken_at;
     gone = contains-bits_of vs i b taken_fit low_bit ∙ taken.gone;
   }
-
-  pub taken_length : length vs ≡ length ws
-  taken_length = ap length others ∙ length-set ws i (slice_index vs i)
 
 -- the least bit of the first word that has one is the least of all
 pub step_first : (ws vs : List ℕ) (i b : ℕ) → ((j : ℕ) → slice_index ws j < 2 ^ 64) → i < length ws → vs ≡ set ws i (slice_index vs i)

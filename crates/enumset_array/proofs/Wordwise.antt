@@ -15,9 +15,7 @@ use Rattle.enumset_repr.specs.Laws.Numbers.{bits-and, bits-or, bits-xor, bits-no
 use Rattle.enumset_array.specs.Stored.{in_use, set_of, is_empty_past, IsStore}
 use Rattle.enumset_array.specs.Laws.Stored.{contains-set_of, set_is, past_is, empty_past}
 use Rattle.enumset_array.specs.Laws.WordSets.{contains-zero}
-
-in_use-le : (n : ℕ) → in_use n ≤ n
-in_use-le n = omega arith
+use Rattle.enumset_array.proofs.Places.{in_use-le}
 
 -- the words of r are an operation on those of a and b, and past the last they are as they were
 pub record IsMade (op : ℕ → ℕ → ℕ) (n : ℕ) (a b r : List ℕ) : Type 0 where

@@ -1,7 +1,8 @@
 //! The iterator over many words.
 
-ghost use Rattle.std.specs.Prelude.{◌≡◌, ◌+◌, length, is_some, if◌then◌else◌, IfNone, None, Some, ⊤};
-ghost use Rattle.std.specs.Iterator.{YieldsFirst, YieldsLast, item_count, MakesProgress};
+ghost use Rattle.std.specs.Prelude.{◌≡◌, ◌+◌, length, is_some, if◌then◌else◌, IfNone, IfSome, None, Some, ⊤};
+ghost use Rattle.std.specs.Iterator.{YieldsFirst, YieldsLast, item_count, at_most, UpTo, MakesProgress};
+ghost use Rattle.std.specs.Iterator.SizeHint.{IsWithinCount};
 ghost use Rattle.enumset_repr.specs.BitSet.{rising};
 ghost use Rattle.enumset_array.specs.Stored.{in_use, set_of};
 
@@ -85,8 +86,9 @@ impl<const N: usize> Iterator for ArrayIter<N> {
 
     /// Exactly how many items are left.
     fn size_hint(&self) -> (usize, Option<usize>)
-        ensures lower { result.0 ≡ length self.now.items }
-        ensures upper { result.1 ≡ Some (length self.now.items) }
+        ensures exact { result ≡ (length self.now.items, Some (length self.now.items)) }
+        ensures lower { IsWithinCount result.0 (at_most (length self.now.items)) }
+        ensures upper { IfSome result.1 (UpTo (at_most (length self.now.items))) }
     {
         let left = self.left();
         (left, Some(left))

@@ -13,8 +13,8 @@ use std::marker::Model;
 
 /// A store of `N` words of 64 bits, the lowest first: bit `n` is bit `n % 64` of word `n / 64`.
 ///
-/// It mirrors `ArrayRepr` of Rust's `enumset`. Its words past the first [`LEN`](ArrayRepr::LEN) are 0,
-/// which whoever builds a value shows. That says nothing for `N` up to 67108863.
+/// It mirrors `ArrayRepr` of Rust's `enumset`. The words past the first [`LEN`](ArrayRepr::LEN) are 0: a
+/// value is built with a proof of that, which is none up to 67108863 words, where all are in use.
 #[derive(Clone, Copy, Debug, PartialEq, Eq)]
 pub struct ArrayRepr<const N: usize>(pub [u64; N]);
 
@@ -32,7 +32,8 @@ impl<const N: usize> Model for ArrayRepr<N> {
 }
 
 impl<const N: usize> ArrayRepr<N> {
-    /// How many words are in use: `N`, for `N` up to 67108863.
+    /// How many words are in use: the remainder of `N` by 67108864, which is `N` itself up to 67108863. So
+    /// the width, 64 bits a word, is below 2^32 for every `N`.
     pub const LEN: usize = N % 67108864;
 }
 

@@ -10,7 +10,7 @@ use crate::row::Row;
 use std::marker::Model;
 
 /// Two places in a row of words: those from the front cursor up to the back one, which is one past,
-/// are the words that may still have bits.
+/// are the words that may still have bits. Rust's `enumset` keeps such a pair inside its `ArrayIter`.
 #[derive(Clone, Copy, Debug)]
 pub struct Cursors {
     front: usize,
@@ -41,7 +41,10 @@ impl Cursors {
 
 /// The least of the row's bits, which is taken out, or `None` if there is none.
 ///
-/// Each ask moves the front cursor on, but for the one that finds the bit.
+/// It asks that the back cursor is at most the row's length and that the words outside the cursors are
+/// empty. Each ask moves the front cursor on, but for the one that finds the bit, so asks and span together
+/// rise by one where a bit is given, and stay otherwise. Cursors that meet give `None` without an ask, and
+/// after `None` they meet.
 pub fn step_front<R: Row>(row: &mut R, cursors: &mut Cursors) -> Option<u32>
     requires { Covers (R.words row.old) cursors.old }
     ensures item { YieldsFirst items_of (R.words row.old) result (R.words row.new) }
@@ -55,7 +58,7 @@ pub fn step_front<R: Row>(row: &mut R, cursors: &mut Cursors) -> Option<u32>
     while cursors.front < cursors.back {
         let front = cursors.front;
         match row.ask_front(front) {
-            Some(b) => return Some(64 * front as u32 + b),
+            Some(bit) => return Some(64 * front as u32 + bit),
             None => cursors.front += 1,
         }
     }
@@ -64,7 +67,10 @@ pub fn step_front<R: Row>(row: &mut R, cursors: &mut Cursors) -> Option<u32>
 
 /// The greatest of the row's bits, which is taken out, or `None` if there is none.
 ///
-/// Each ask moves the back cursor on, but for the one that finds the bit.
+/// It asks that the back cursor is at most the row's length and that the words outside the cursors are
+/// empty. Each ask moves the back cursor down, but for the one that finds the bit, so asks and span together
+/// rise by one where a bit is given, and stay otherwise. Cursors that meet give `None` without an ask, and
+/// after `None` they meet.
 pub fn step_back<R: Row>(row: &mut R, cursors: &mut Cursors) -> Option<u32>
     requires { Covers (R.words row.old) cursors.old }
     ensures item { YieldsLast items_of (R.words row.old) result (R.words row.new) }
@@ -78,7 +84,7 @@ pub fn step_back<R: Row>(row: &mut R, cursors: &mut Cursors) -> Option<u32>
     while cursors.front < cursors.back {
         let last = cursors.back - 1;
         match row.ask_back(last) {
-            Some(b) => return Some(64 * last as u32 + b),
+            Some(bit) => return Some(64 * last as u32 + bit),
             None => cursors.back = last,
         }
     }

@@ -1,8 +1,8 @@
-//! Stores of many words, and iterators over them that look at each word a bounded number of times.
+//! Stores of many words, and iterators over them whose steps ask the words a bounded number of times.
 //!
 //! - [`array_repr`]: the store [`ArrayRepr`] of any number of words.
 //! - [`array_iter`]: its iterator, from both ends.
-//! - [`row`]: words that can be looked at in one way alone, which is counted.
+//! - [`row`]: words that show themselves by two calls alone, which are counted.
 //! - [`cursors`]: two cursors over a row, and the steps that they take.
 //! - [`walk`]: many such steps, with the bound on how often the words are asked.
 //! - [`shown_row`]: a row that can show its count.

@@ -7,8 +7,9 @@ ghost use Rattle.enumset_array.specs.WordList.{AreWords};
 
 /// A list of at most 67108863 words of 64 bits, and a count of asks.
 ///
-/// An ask is one call of [`ask_front`](Row::ask_front) or [`ask_back`](Row::ask_back). There is no
-/// other look at a word, so the count says how often code over a row has looked.
+/// An ask is one call of [`ask_front`](Row::ask_front) or [`ask_back`](Row::ask_back). A row shows its
+/// words by nothing else, so the count says how often code over a row has looked. Rust's `enumset` has
+/// nothing like it.
 pub trait Row {
     // The words.
     ghost words: { Self → List ℕ };
@@ -22,6 +23,8 @@ pub trait Row {
         ensures are_words { AreWords (words self.now) };
 
     /// The least bit of the word at `i`, which is taken out, or `None` if the word has no bit.
+    ///
+    /// It asks that `i` is below [`word_count`](Row::word_count). The count of asks rises by one.
     fn ask_front(&mut self, i: usize) -> Option<u32>
         requires { i < length (words self.old) }
         ensures counted { asks self.new ≡ asks self.old + 1 }
@@ -31,6 +34,8 @@ pub trait Row {
         ensures are_words { AreWords (words self.old) };
 
     /// The greatest bit of the word at `i`, which is taken out, or `None` if the word has no bit.
+    ///
+    /// It asks that `i` is below [`word_count`](Row::word_count). The count of asks rises by one.
     fn ask_back(&mut self, i: usize) -> Option<u32>
         requires { i < length (words self.old) }
         ensures counted { asks self.new ≡ asks self.old + 1 }

@@ -76,18 +76,12 @@ impl<const N: usize> Row for Words<N> {
 
     fn ask_front(&mut self, i: usize) -> Option<u32> {
         self.asks.raise();
-        let mut word = self.words[i];
-        let bit = word.next();
-        self.words[i] = word;
-        bit
+        self.words[i].next()
     }
 
     fn ask_back(&mut self, i: usize) -> Option<u32> {
         self.asks.raise();
-        let mut word = self.words[i];
-        let bit = word.next_back();
-        self.words[i] = word;
-        bit
+        self.words[i].next_back()
     }
 }
 

@@ -40,8 +40,12 @@ fn step<R: Row>(row: &mut R, cursors: &mut Cursors, end: End) -> Option<u32>
 /// One answer for each end: the least or the greatest of the row's bits, which is taken out, or `None`
 /// if there is none.
 ///
-/// All steps are of one pair of cursors, over the whole row. The list of answers is reserved before the
-/// first step, so where memory is refused no bit was taken out and no ask was made.
+/// All steps are of one pair of cursors, over the whole row. The asks made are at most the bits given and
+/// the row's words together, however long `ends` is, and just that many once an answer is `None`. The list
+/// of answers is reserved before the first step, so where memory is refused no bit was taken out and no
+/// ask was made.
+///
+/// Rust's `enumset` has no such call.
 pub fn walk<R: Row>(
     alloc: Global,
     row: &mut R,
@@ -53,12 +57,13 @@ pub fn walk<R: Row>(
     ensures asks { IfOk result (λ v. R.asks row.new ≤ R.asks row.old + length (given v.items) + length (R.words row.old)) }
     ensures all_asked { IfOk result (λ v. Contains v.items None → R.asks row.new ≡ R.asks row.old + length (given v.items) + length (R.words row.old)) }
     ensures bound { IfOk result (λ _. R.asks row.new ≤ R.asks row.old + length ends.now + length (R.words row.old)) }
+    ensures len { length (R.words row.new) ≡ length (R.words row.old) }
     ensures unchanged { IfErr result (λ _. row.new ≡ row.old) }
 {
-    let mut given = Vec::with_capacity(alloc, ends.len())?;
+    let mut answers = Vec::with_capacity(alloc, ends.len())?;
     let mut cursors = Cursors::over(row.word_count());
     for end in ends {
-        given.push(step(row, &mut cursors, *end))?;
+        answers.push(step(row, &mut cursors, *end))?;
     }
-    Ok(given)
+    Ok(answers)
 }

@@ -7,7 +7,7 @@ use denote.Enum.Bare.{Bare, tag_one, sameb, same_true, true_same}
 use Rattle.std.proofs.lemmas.Bool.{or_cases, cases_lt}
 use Rattle.enumset_repr.specs.BitSet.{BitSet, is_in, contains, from_list, rising, len, is_subset}
 use Rattle.enumset_repr.specs.Number.{is_distinct}
-use Rattle.enumset_repr.specs.Laws.Members.{same_number, itself, both, or_left, or_right, contains-from_list, contains-rising, list_all-each, is_subset-contains}
+use Rattle.enumset_repr.specs.Laws.Members.{same_number, itself, not_true, both, or_left, or_right, contains-from_list, contains-rising, list_all-each, is_subset-contains}
 use Rattle.enumset_repr.specs.Laws.Rising.{len-empty, len-insert, rising-rises, RisesFrom}
 use Rattle.enumset_sets.specs.Elements.{bit_of, one_past_last, one_past_greatest, IsElementType, one_past_all, is_lawful, AreBitsOf}
 
@@ -18,10 +18,6 @@ is_in-get_or (b ∷ bs) (suc i) small = or_right (get_or bs i 0 == b) _ (is_in-g
 
 apart_from_all : (b : ℕ) (bs : List ℕ) (i : ℕ) → is_in b bs ≡ false → i < length bs → b ≡ get_or bs i 0 → ⊥
 apart_from_all b bs i out small same = true≢false (sym (ap (λ x. is_in x bs) same ∙ is_in-get_or bs i small) ∙ out)
-
-not_true : (b : Bool) → not b ≡ true → b ≡ false
-not_true true h = sym h
-not_true false h = refl
 
 distinct_places : (bs : List ℕ) → is_distinct bs ≡ true → (i j : ℕ) → i < length bs → j < length bs → get_or bs i 0 ≡ get_or bs j 0 → i ≡ j
 distinct_places [] apart i j p q same = absurd (omega (arith, p))

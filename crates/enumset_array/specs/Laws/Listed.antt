@@ -1,31 +1,15 @@
 -- Words whose bits are listed: one test of the list says which set the words stand for.
---     lists_words      whether a list names the bits of a list of words, each once
 --     words_listed      then the words stand for the set of the list
 use Rattle.std.proofs.Common.{◌≡◌, ℕ, ◌-◌, Bool, true, false, cond, true≢false, ◌&&◌, ◌||◌, List, [], ◌∷◌, refl, sym, ap, ◌∙◌, arith}
 use Rattle.std.specs.Prelude.{◌==◌, nat_lt, nat_le}
 use Rattle.std.proofs.lemmas.Bool.Decides.{nat_tests}
 use Rattle.enumset_repr.specs.BitSet.{is_in, contains, from_list}
-use Rattle.enumset_repr.specs.Number.{bits, lists_bits}
+use Rattle.enumset_repr.specs.Number.{bits}
 use Rattle.enumset_repr.specs.Words.{raised}
 use Rattle.enumset_repr.specs.Laws.Members.{both, same_set, contains-union, contains-from_list, contains-empty}
 use Rattle.enumset_repr.specs.Laws.Words.{contains-raised}
 use Rattle.enumset_repr.specs.Laws.Listed.{bits_listed}
-use Rattle.enumset_array.specs.WordList.{bits_of}
-
--- the numbers below 64, and those from 64 on, each 64 lower
-abbrev pub in_first_word : List ℕ → List ℕ
-in_first_word [] = []
-in_first_word (b ∷ bs) = cond (nat_lt b 64) (b ∷ in_first_word bs) (in_first_word bs)
-
-abbrev pub in_later_words : List ℕ → List ℕ
-in_later_words [] = []
-in_later_words (b ∷ bs) = cond (nat_lt b 64) (in_later_words bs) ((b - 64) ∷ in_later_words bs)
-
--- whether a list names the bits of words, each once
-abbrev pub lists_words : List ℕ → List ℕ → Bool
-lists_words [] [] = true
-lists_words (b ∷ bs) [] = false
-lists_words bs (n ∷ ns) = lists_bits (in_first_word bs) n && lists_words (in_later_words bs) ns
+use Rattle.enumset_array.specs.WordList.{bits_of, in_first_word, in_later_words, lists_words}
 
 -- a number is in the list exactly if it is in one of the two parts
 in_parts : (bs : List ℕ) (q : ℕ) → (is_in q (in_first_word bs) || (nat_le 64 q && is_in (q - 64) (in_later_words bs))) ≡ is_in q bs

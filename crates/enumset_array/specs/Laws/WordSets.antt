@@ -3,7 +3,8 @@
 --     by_word      a fact about a number, by its word and the bit in the word
 --     same_place      numbers are equal if their words and their bits in the word are
 --     contains-zero      an empty word has no bit
-use Rattle.std.proofs.Common.{◌≡◌, ◌<◌, ◌≤◌, ℕ, suc, zero, ◌+◌, ◌-◌, ◌*◌, ◌/◌, ◌%◌, ◌^◌, Bool, true, false, ◌&&◌, ◌||◌, List, [], ◌∷◌, refl, sym, ap, ◌∙◌, subst, arith, mod-lt}
+use Rattle.std.proofs.Common.{◌≡◌, ◌<◌, ◌≤◌, ℕ, suc, zero, ◌+◌, ◌-◌, ◌*◌, ◌/◌, ◌%◌, ◌^◌, false, ◌&&◌, ◌||◌, List, [], ◌∷◌, sym, ap, ◌∙◌, subst, arith, mod-lt}
+use Rattle.std.proofs.Math.Bool.{or-false}
 use Rattle.std.proofs.Math.Nat.{div-add-mod}
 use Rattle.std.specs.Prelude.{◌==◌, slice_index}
 use Rattle.std.proofs.lemmas.Bool.Decides.{nat_tests}
@@ -14,10 +15,6 @@ use Rattle.enumset_repr.specs.Laws.Members.{contains-union, contains-empty}
 use Rattle.enumset_repr.specs.Laws.Numbers.{bits-zero}
 use Rattle.enumset_array.specs.WordList.{bits_of}
 use Rattle.enumset_array.specs.Laws.Bits.{contains-bits_above, contains-raised_from, contains-raised_lower}
-
-or-false : (a : Bool) → (a || false) ≡ a
-or-false true = refl
-or-false false = refl
 
 -- the bits of the words at place w, each 64 w + b
 pub contains-bits_of : (ws : List ℕ) (w b : ℕ) → ((i : ℕ) → slice_index ws i < 2 ^ 64) → b < 64 → contains (bits_of ws) (64 * w + b) ≡ contains (bits (slice_index ws w)) b

@@ -2,7 +2,6 @@
 --     least-is, greatest-is      the member that has none before it, or none past it
 --     least-empty, greatest-empty      the empty set has neither
 --     rising-least, rising-greatest      the least comes first, and the greatest last
---     least-member, greatest-member      each is a member
 --     trailing-least, leading-greatest      what `trailing_zeros` and `leading_zeros` count, at each width
 use Rattle.std.proofs.Common.{◌≡◌, ◌<◌, ◌≤◌, ℕ, suc, zero, ◌+◌, ◌-◌, ◌^◌, true, false, List, [], ◌∷◌, ◌++◌, Option, Some, None, refl, sym, ap, subst, ◌∙◌, arith, true≢false, inl, inr, length, length-append}
 use Rattle.std.specs.Prelude.{◌==◌, MatchOption}
@@ -76,9 +75,6 @@ least_facts s m first =
       λ q under. contains-rising s q ∙ ap (is_in q) parts.1 ∙ is_in-below m q (m ∷ parts.0) above under,
     )
 
-pub least-member : (s : BitSet) (m : ℕ) → least s ≡ Some m → contains s m ≡ true
-least-member s m first = (least_facts s m first).0
-
 -- the least member comes first
 pub rising-least : (s : BitSet) (m : ℕ) → least s ≡ Some m → rising s ≡ m ∷ rising (remove s m)
 rising-least s m first = let facts = least_facts s m first in rising-first s m facts.0 facts.1
@@ -108,9 +104,6 @@ greatest_facts s m last =
       contains-rising s m ∙ facts.0,
       λ q over. not_so (contains s q) (λ one. let near : q ≤ m = facts.1 q (sym (contains-rising s q) ∙ one) in omega arith),
     )
-
-pub greatest-member : (s : BitSet) (m : ℕ) → greatest s ≡ Some m → contains s m ≡ true
-greatest-member s m last = (greatest_facts s m last).0
 
 -- the greatest member comes last
 pub rising-greatest : (s : BitSet) (m : ℕ) → greatest s ≡ Some m → rising s ≡ rising (remove s m) ++ m ∷ []

@@ -5,6 +5,7 @@ use Rattle.std.specs.List.{list_any, list_all}
 use Rattle.std.specs.Ordering.{nat_cmp}
 use Rattle.std.specs.Cmp.{nat_cmp_total, unsigned_tied, unsigned_Decides}
 use Rattle.std.specs.FinMap as map
+use Rattle.std.proofs.Math.Bool.{or-false}
 use Rattle.std.proofs.lemmas.Bool.{or_cases, ltb-true}
 use Rattle.std.proofs.lemmas.Bool.Decides.{nat_tests}
 use Rattle.std.specs.declared.cmp.Ordering.TheVariants.{Equal}
@@ -39,10 +40,6 @@ or_swap true true c = refl
 or_swap true false c = refl
 or_swap false b c = refl
 
-or-false : (a : Bool) → a ≡ (a || false)
-or-false true = refl
-or-false false = refl
-
 -- two tests that pass together are one
 pub same_test : (a b : Bool) → (a ≡ true → b ≡ true) → (b ≡ true → a ≡ true) → a ≡ b
 same_test true b f g = sym (f refl)
@@ -76,7 +73,7 @@ contains-rising s q = map.contains_key-keys s q ∙ ap (λ (f : ℕ → Bool). l
 
 contains-insert_each : (s : BitSet) (bs : List ℕ) (q : ℕ) → contains (insert_each s bs) q ≡ (contains s q || list_any (λ b. q == b) bs)
 unfolding insert_each
-contains-insert_each s [] q = or-false _
+contains-insert_each s [] q = sym (or-false _)
 contains-insert_each s (b ∷ bs) q = contains-insert _ b q ∙ ap (λ t. (q == b) || t) (contains-insert_each s bs q) ∙ or_swap (q == b) (contains s q) _
 
 pub contains-from_list : (bs : List ℕ) (q : ℕ) → contains (from_list bs) q ≡ list_any (λ b. q == b) bs
@@ -254,7 +251,3 @@ not_below b n past = not_so (nat_lt b n) (λ h. omega (arith, past, ltb-true b n
 -- two tests that pass for the same reason are one
 pub test_of_iff : {P : Type 0} (a b : Bool) → (a ≡ true) ↔ P → (b ≡ true) ↔ P → a ≡ b
 test_of_iff a b p q = same_test a b (λ h. q.1 (p.0 h)) (λ h. p.1 (q.0 h))
-
-pub ruleset subsets = (empty-is_subset, insert-is_subset, remove-is_subset, union-is_subset, intersection-is_subset, difference-is_subset, symmetric_difference-is_subset, is_subset-itself)
-
-pub ruleset members = (contains-empty, contains-insert, contains-remove, contains-retain, contains-from_list, contains-union, contains-intersection, contains-difference, contains-symmetric_difference, contains-below, contains-low)

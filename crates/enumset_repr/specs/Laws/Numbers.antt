@@ -13,7 +13,7 @@ use mir.Val.{bits as width_bits}
 use Rattle.std.proofs.lemmas.Bool.{cases_lt, lt-ltb, ltb-true}
 use Rattle.std.proofs.lemmas.Bool.Decides.{nat_tests}
 use Rattle.std.proofs.lemmas.List.Sums.{sum_by-cons}
-use Rattle.std.proofs.lemmas.Nat.{pow_pos, le-div, div_below, pow_below, one_shl, and_mask, shr-shr, shr_split, mod_below}
+use Rattle.std.proofs.lemmas.Nat.{pow_pos, le-div, div_below, pow_below, one_shl, shr-shr, shr_split, mod_below}
 use Rattle.std.proofs.lemmas.Nat.Bits.{and_pow, bit_at_and, bit_at_or, bit_at_xor, bit_at_not, bit_at-pow_same, bit_at-pow_other, bit_at-zero, bit_at_above, bit_at-lt, bit_at_cat_low, bit_at_cat_high, bit_at-trailing_zeros, same_from_bits}
 use Rattle.enumset_repr.specs.BitSet.{is_in, BitSet, contains, rising, len, empty, insert, remove, union, intersection, difference, symmetric_difference, is_subset, below, low}
 use Rattle.enumset_repr.specs.Number.{number, bits}
@@ -302,10 +302,6 @@ bits-low n k = bits_is _ _ (λ q. by q (cases_lt q k) ∙ ap (λ t. t && nat_lt 
 pub contains-bits-shifted : (n k b : ℕ) → contains (bits (n / 2 ^ k)) b ≡ contains (bits n) (k + b)
 contains-bits-shifted n k b = contains-bits (n / 2 ^ k) b ∙ ap (λ m. m % 2 == 1) (shr-shr n k b) ∙ sym (contains-bits n (k + b))
 
--- `n & ((1 << k) - 1)`
-pub bits-low_mask : (w : Width) (n k : ℕ) → k < width_bits w → bits (bit_and n (1 * 2 ^ k % 2 ^ width_bits w - 1)) ≡ low (bits n) k
-bits-low_mask w n k within = ap (λ m. bits (bit_and n (m - 1))) (one_shl k (width_bits w) within) ∙ ap bits (and_mask n k) ∙ bits-low n k
-
 -- ---- the laws that speak of a width, at each width, for a tactic, which reads no width off a numeral
 
 abbrev NotLaw : Width → Type 0
@@ -323,18 +319,6 @@ ClearLaw w = (n k : ℕ) → n < 2 ^ width_bits w → k < width_bits w → bits 
 abbrev TestLaw : Width → Type 0
 TestLaw w = (n k : ℕ) → k < width_bits w → contains (bits n) k ≡ not (bit_and n (1 * 2 ^ k % 2 ^ width_bits w) == 0)
 
-abbrev LeastLaw : Width → Type 0
-LeastLaw w = (n : ℕ) → 0 < n → n < 2 ^ width_bits w → contains (bits n) (trailing_zeros w n) ≡ true
-
-abbrev BeforeLaw : Width → Type 0
-BeforeLaw w = (n : ℕ) → 0 < n → n < 2 ^ width_bits w → (q : ℕ) → q < trailing_zeros w n → contains (bits n) q ≡ false
-
-abbrev GreatestLaw : Width → Type 0
-GreatestLaw w = (n : ℕ) → 0 < n → n < 2 ^ width_bits w → (leading_zeros w n < width_bits w) × (contains (bits n) (width_bits w - 1 - leading_zeros w n) ≡ true) × ((q : ℕ) → width_bits w - 1 - leading_zeros w n < q → contains (bits n) q ≡ false)
-
-abbrev MaskLaw : Width → Type 0
-MaskLaw w = (n k : ℕ) → k < width_bits w → bits (bit_and n (1 * 2 ^ k % 2 ^ width_bits w - 1)) ≡ low (bits n) k
-
 pub bits-not_8 : NotLaw w8
 bits-not_8 = bits-not w8
 
@@ -349,18 +333,6 @@ bits-clear_8 = bits-clear w8
 
 pub bits-test_8 : TestLaw w8
 bits-test_8 = bits-test w8
-
-pub least-bits_8 : LeastLaw w8
-least-bits_8 n some fits = (least-bits w8 n some fits).0
-
-pub before_least-bits_8 : BeforeLaw w8
-before_least-bits_8 n some fits = (least-bits w8 n some fits).1
-
-pub greatest-bits_8 : GreatestLaw w8
-greatest-bits_8 = greatest-bits w8
-
-pub bits-low_mask_8 : MaskLaw w8
-bits-low_mask_8 = bits-low_mask w8
 
 pub bits-not_16 : NotLaw w16
 bits-not_16 = bits-not w16
@@ -377,18 +349,6 @@ bits-clear_16 = bits-clear w16
 pub bits-test_16 : TestLaw w16
 bits-test_16 = bits-test w16
 
-pub least-bits_16 : LeastLaw w16
-least-bits_16 n some fits = (least-bits w16 n some fits).0
-
-pub before_least-bits_16 : BeforeLaw w16
-before_least-bits_16 n some fits = (least-bits w16 n some fits).1
-
-pub greatest-bits_16 : GreatestLaw w16
-greatest-bits_16 = greatest-bits w16
-
-pub bits-low_mask_16 : MaskLaw w16
-bits-low_mask_16 = bits-low_mask w16
-
 pub bits-not_32 : NotLaw w32
 bits-not_32 = bits-not w32
 
@@ -403,18 +363,6 @@ bits-clear_32 = bits-clear w32
 
 pub bits-test_32 : TestLaw w32
 bits-test_32 = bits-test w32
-
-pub least-bits_32 : LeastLaw w32
-least-bits_32 n some fits = (least-bits w32 n some fits).0
-
-pub before_least-bits_32 : BeforeLaw w32
-before_least-bits_32 n some fits = (least-bits w32 n some fits).1
-
-pub greatest-bits_32 : GreatestLaw w32
-greatest-bits_32 = greatest-bits w32
-
-pub bits-low_mask_32 : MaskLaw w32
-bits-low_mask_32 = bits-low_mask w32
 
 pub bits-not_64 : NotLaw w64
 bits-not_64 = bits-not w64
@@ -431,18 +379,6 @@ bits-clear_64 = bits-clear w64
 pub bits-test_64 : TestLaw w64
 bits-test_64 = bits-test w64
 
-pub least-bits_64 : LeastLaw w64
-least-bits_64 n some fits = (least-bits w64 n some fits).0
-
-pub before_least-bits_64 : BeforeLaw w64
-before_least-bits_64 n some fits = (least-bits w64 n some fits).1
-
-pub greatest-bits_64 : GreatestLaw w64
-greatest-bits_64 = greatest-bits w64
-
-pub bits-low_mask_64 : MaskLaw w64
-bits-low_mask_64 = bits-low_mask w64
-
 pub bits-not_128 : NotLaw w128
 bits-not_128 = bits-not w128
 
@@ -458,27 +394,15 @@ bits-clear_128 = bits-clear w128
 pub bits-test_128 : TestLaw w128
 bits-test_128 = bits-test w128
 
-pub least-bits_128 : LeastLaw w128
-least-bits_128 n some fits = (least-bits w128 n some fits).0
-
-pub before_least-bits_128 : BeforeLaw w128
-before_least-bits_128 n some fits = (least-bits w128 n some fits).1
-
-pub greatest-bits_128 : GreatestLaw w128
-greatest-bits_128 = greatest-bits w128
-
-pub bits-low_mask_128 : MaskLaw w128
-bits-low_mask_128 = bits-low_mask w128
-
 -- What a function on numbers of a width wants: `#[tactic(auto, using(crate::specs::Laws::Numbers::numbers_64))]`. `on_numbers` has the laws that speak of no width.
 pub ruleset on_numbers = (bits-and, bits-or, bits-xor, len-bits, bits-low, contains-bits-shifted, bits-zero, bits_empty)
 
-pub ruleset numbers_8 = (on_numbers, bits-not_8, bits-and_not_8, bits-set_8, bits-clear_8, bits-test_8, least-bits_8, before_least-bits_8, greatest-bits_8, bits-low_mask_8)
+pub ruleset numbers_8 = (on_numbers, bits-not_8, bits-and_not_8, bits-set_8, bits-clear_8, bits-test_8)
 
-pub ruleset numbers_16 = (on_numbers, bits-not_16, bits-and_not_16, bits-set_16, bits-clear_16, bits-test_16, least-bits_16, before_least-bits_16, greatest-bits_16, bits-low_mask_16)
+pub ruleset numbers_16 = (on_numbers, bits-not_16, bits-and_not_16, bits-set_16, bits-clear_16, bits-test_16)
 
-pub ruleset numbers_32 = (on_numbers, bits-not_32, bits-and_not_32, bits-set_32, bits-clear_32, bits-test_32, least-bits_32, before_least-bits_32, greatest-bits_32, bits-low_mask_32)
+pub ruleset numbers_32 = (on_numbers, bits-not_32, bits-and_not_32, bits-set_32, bits-clear_32, bits-test_32)
 
-pub ruleset numbers_64 = (on_numbers, bits-not_64, bits-and_not_64, bits-set_64, bits-clear_64, bits-test_64, least-bits_64, before_least-bits_64, greatest-bits_64, bits-low_mask_64)
+pub ruleset numbers_64 = (on_numbers, bits-not_64, bits-and_not_64, bits-set_64, bits-clear_64, bits-test_64)
 
-pub ruleset numbers_128 = (on_numbers, bits-not_128, bits-and_not_128, bits-set_128, bits-clear_128, bits-test_128, least-bits_128, before_least-bits_128, greatest-bits_128, bits-low_mask_128)
+pub ruleset numbers_128 = (on_numbers, bits-not_128, bits-and_not_128, bits-set_128, bits-clear_128, bits-test_128)

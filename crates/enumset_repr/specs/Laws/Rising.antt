@@ -132,7 +132,7 @@ rises-push : (k m : ℕ) (xs : List ℕ) → k ≤ m → RisesFrom k xs → ((q 
 rises-push k m [] within rises small = (within, tt)
 rises-push k m (x ∷ xs) within rises small = (rises.0, rises-push (suc x) m xs (small x (or_left (x == x) _ (itself x))) rises.1 (λ q one. small q (or_right (q == x) _ one)))
 
-is_in-push : (q m : ℕ) (xs : List ℕ) → is_in q (xs ++ m ∷ []) ≡ ((q == m) || is_in q xs)
+pub is_in-push : (q m : ℕ) (xs : List ℕ) → is_in q (xs ++ m ∷ []) ≡ ((q == m) || is_in q xs)
 is_in-push q m [] = refl
 is_in-push q m (x ∷ xs) = ap (λ t. (q == x) || t) (is_in-push q m xs) ∙ or_swap (q == x) (q == m) (is_in q xs)
 

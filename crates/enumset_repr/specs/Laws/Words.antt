@@ -4,23 +4,23 @@
 --     word-bits, word-within, same_words      a word of a number;  a word is below 2 ^ 64;  a set is known by its words
 --     bits-shifted_up      the set of `n << k`
 --     bits-put_low, bits-put_word      the set of a number one word of which was replaced
-use Rattle.std.proofs.Common.{◌≡◌, ◌<◌, ◌≤◌, ℕ, suc, ◌+◌, ◌-◌, ◌*◌, ◌/◌, ◌%◌, ◌^◌, Bool, true, false, not, ◌&&◌, ◌||◌, List, [], ◌∷◌, refl, sym, ap, subst, ◌∙◌, arith, inl, inr, ◌⊎◌, map, cond}
+use Rattle.std.proofs.Common.{◌≡◌, ◌<◌, ◌≤◌, ℕ, suc, ◌+◌, ◌-◌, ◌*◌, ◌/◌, ◌%◌, ◌^◌, Bool, true, false, not, ◌&&◌, ◌||◌, List, [], ◌∷◌, refl, sym, ap, ◌∙◌, arith, inl, inr, ◌⊎◌, map, cond}
 use Rattle.std.specs.Prelude.{◌==◌, nat_lt, nat_le, sum_by, filter}
 use Rattle.std.specs.Int.{bit_at, bit_not, Width}
 use Rattle.std.specs.Int.RustNames.{bit_and, bit_or}
 use mir.Val.{bits as width_bits}
-use Rattle.std.proofs.Math.Bool.{and-true}
+use Rattle.std.proofs.Math.Bool.{or-false}
 use Rattle.std.proofs.lemmas.Bool.{cases_lt, lt-ltb}
 use Rattle.std.proofs.lemmas.Bool.Decides.{nat_tests}
 use Rattle.std.proofs.lemmas.List.Sums.{sum_by-cons}
 use Rattle.std.proofs.lemmas.Nat.{pow_pos, mod_below}
 use Rattle.std.proofs.lemmas.Nat.Bits.{bit_at_ones, bit_at_ones_above, bit_at_cat_low, bit_at_cat_high, bit_at-zero}
-use Rattle.enumset_repr.specs.BitSet.{is_in, BitSet, contains, rising, from_list, union, difference, low, below, is_subset}
+use Rattle.enumset_repr.specs.BitSet.{is_in, BitSet, contains, rising, from_list, union, difference, low}
 use Rattle.enumset_repr.specs.Number.{number, bits}
 use Rattle.enumset_repr.specs.Words.{is_in_word, word, raised, with_word}
-use Rattle.enumset_repr.specs.Laws.Members.{same_set, both, contains-rising, contains-retain, contains-from_list, contains-union, contains-difference, contains-below, contains-low, contains-is_subset, not_below, none_of, member_below}
+use Rattle.enumset_repr.specs.Laws.Members.{same_set, contains-rising, contains-retain, contains-from_list, contains-union, contains-difference, contains-low, not_below, none_of, member_below}
 use Rattle.enumset_repr.specs.Laws.Rising.{RisesFrom, rising-rises, rising_is}
-use Rattle.enumset_repr.specs.Laws.Numbers.{contains-bits, bits-number, number-bits, number-within, bits-within, bits-low, bits-or, bits-and_not, contains-bits-shifted}
+use Rattle.enumset_repr.specs.Laws.Numbers.{contains-bits, bits-number, number-bits, bits-within, bits-low, bits-or, bits-and_not, contains-bits-shifted}
 
 -- ---- a set moved up
 
@@ -83,10 +83,6 @@ or_and : (a b c : Bool) → ((a && c) || (b && c)) ≡ ((a || b) && c)
 or_and true true true = refl
 or_and true true false = refl
 or_and true false c = or-false c
-  where
-    or-false : (c : Bool) → (c || false) ≡ c
-    or-false true = refl
-    or-false false = refl
 or_and false b c = refl
 
 is_in-cut : (w q : ℕ) (xs : List ℕ) → is_in q (cut w xs) ≡ (is_in (64 * w + q) xs && nat_lt q 64)
@@ -122,20 +118,6 @@ pub word-bits : (n w : ℕ) → word (bits n) w ≡ n / 2 ^ (64 * w) % 2 ^ 64
 word-bits n w = number_is _ _ (λ q.
     contains-bits-word (bits n) w q ∙ ap (λ t. t && nat_lt q 64) (sym (contains-bits-shifted n (64 * w) q))
     ∙ sym (contains-low (bits (n / 2 ^ (64 * w))) 64 q) ∙ ap (λ t. contains t q) (sym (bits-low (n / 2 ^ (64 * w)) 64)))
-
-pub word-within : (s : BitSet) (w : ℕ) → word s w < 2 ^ 64
-word-within s w =
-    let sub : is_subset (bits (word s w)) (below 64) ≡ true = contains-is_subset _ _ (λ q one. contains-below 64 q ∙ (both (contains s (64 * w + q)) _ (sym (contains-bits-word s w q) ∙ one)).1) in
-    subst (λ n. n < 2 ^ 64) (number-bits (word s w)) (number-within (bits (word s w)) 64 sub)
-
-word_test : (s : BitSet) (q : ℕ) → contains (bits (word s (q / 64))) (q % 64) ≡ contains s q
-word_test s q =
-    let place : 64 * (q / 64) + q % 64 ≡ q = omega arith in
-    contains-bits-word s (q / 64) (q % 64) ∙ ap (λ b. contains s b && nat_lt (q % 64) 64) place
-    ∙ ap (λ t. contains s q && t) (lt-ltb (q % 64) 64 (omega arith)) ∙ and-true (contains s q)
-
-pub same_words : (s t : BitSet) → ((w : ℕ) → word s w ≡ word t w) → s ≡ t
-same_words s t same = same_set s t (λ q. sym (word_test s q) ∙ ap (λ n. contains (bits n) (q % 64)) (same (q / 64)) ∙ word_test t q)
 
 -- ---- one word replaced
 

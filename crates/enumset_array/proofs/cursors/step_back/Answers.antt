@@ -8,7 +8,7 @@ use Rattle.enumset_array.proofs.cursors.step_back.Goals as goal
 pub overflow_add-result : goal.overflow_add-result
 overflow_add-result g c =
     let within : c.loop-cursors.cursors-inside.back - 1 < length (g.R.Row.words c.loop-cursors.row) = omega (arith, c.loop-cursors.invariant.covers.within) in
-    let small : c.in-Some.b < 64 = (step_last_set _ _ _ _ c.in-Some.ensures.are_words.fit within c.in-Some.ensures.others c.in-Some.ensures.taken).0 in
+    let small : c.in-Some.bit < 64 = (step_last_set _ _ _ _ c.in-Some.ensures.are_words.fit within c.in-Some.ensures.others c.in-Some.ensures.taken).0 in
     omega (arith, c.in-Some.ensures.are_words.limit)
 
 pub returns-in-Some-clause-item : goal.returns-in-Some-clause-item
@@ -21,7 +21,7 @@ pub returns-in-Some-clause-set : goal.returns-in-Some-clause-set
 returns-in-Some-clause-set g c =
     let within : c.loop-cursors.cursors-inside.back - 1 < length (g.R.Row.words c.loop-cursors.row) = omega (arith, c.loop-cursors.invariant.covers.within) in
     (step_last_set _ _ _ _ c.in-Some.ensures.are_words.fit within c.in-Some.ensures.others c.in-Some.ensures.taken).1
-    ∙ ap (λ ws. remove (bits_of ws) (64 * (c.loop-cursors.cursors-inside.back - 1) + c.in-Some.b)) c.loop-cursors.invariant.same
+    ∙ ap (λ ws. remove (bits_of ws) (64 * (c.loop-cursors.cursors-inside.back - 1) + c.in-Some.bit)) c.loop-cursors.invariant.same
 
 pub returns-clause-item : goal.returns-clause-item
 returns-clause-item g c =

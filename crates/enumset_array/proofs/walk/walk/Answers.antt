@@ -1,4 +1,4 @@
-use Rattle.std.proofs.Common.{◌≡◌, ◌+◌, ◌≤◌, Contains, length, is_some, if◌then◌else◌, None, take, sym, ap, ◌∙◌, subst, arith}
+use Rattle.std.proofs.Common.{◌≡◌, ◌+◌, ◌≤◌, Contains, length, is_some, if◌then◌else◌, None, take, refl, sym, ap, ◌∙◌, subst, arith}
 use Rattle.std.proofs.lemmas.Grind.{common_steps}
 use Rattle.enumset_repr.specs.BitSet.{difference, from_list}
 use Rattle.enumset_array.specs.Ends.{given}
@@ -8,15 +8,16 @@ use Rattle.enumset_array.proofs.walk.walk.Goals as goal
 
 pub loop-end-init : goal.loop-end-init
 loop-end-init g c = record {
-  items = c.in_ok-given.ensures.items ∙ sym (no_answers _);
+  items = c.in_ok-answers.ensures.items ∙ sym (no_answers _);
   rest = sym (none_left_out _);
-  set = difference-none _ ∙ ap (λ rs. difference (bits_of (g.R.Row.words c.args.row.now)) (from_list (given rs))) (sym c.in_ok-given.ensures.items);
-  asks = let e : length (given c.in_ok-given.given.items) ≡ 0 = ap (λ rs. length (given rs)) c.in_ok-given.ensures.items ∙ none_given in
+  set = difference-none _ ∙ ap (λ rs. difference (bits_of (g.R.Row.words c.args.row.now)) (from_list (given rs))) (sym c.in_ok-answers.ensures.items);
+  asks = let e : length (given c.in_ok-answers.answers.items) ≡ 0 = ap (λ rs. length (given rs)) c.in_ok-answers.ensures.items ∙ none_given in
       rw c.over-cursors.ensures (omega arith);
-  met = λ has. absurd (none_in_no_answers _ c.in_ok-given.ensures.items has);
+  met = λ has. absurd (none_in_no_answers _ c.in_ok-answers.ensures.items has);
   covers = rw (c.over-cursors.ensures, c.word_count.ensures.count) (covers_all _);
-  count = c.in_ok-given.ensures.len;
-  room = omega (arith, c.in_ok-given.ensures.capacity);
+  count = c.in_ok-answers.ensures.len;
+  room = omega (arith, c.in_ok-answers.ensures.capacity);
+  same = refl;
 }
 
 pub loop-end-preserved : goal.loop-end-preserved
@@ -24,17 +25,18 @@ loop-end-preserved g c = record {
   items = answers_next _ _ _ _ _ _ _ c.loop-end-test.true c.loop-end.invariant.items c.loop-end.invariant.rest c.step.ensures.item c.in_ok-push.ensures.items;
   rest = left_next _ _ _ _ _ c.loop-end-test.true c.loop-end.invariant.rest c.step.ensures.left;
   set = difference-step _ _ _ _ _ c.loop-end.invariant.set c.step.ensures.set ∙ ap (λ rs. difference (bits_of (g.R.Row.words c.args.row.now)) (from_list (given rs))) (sym c.in_ok-push.ensures.items);
-  asks = let e : length (given c.push.new.self.items) ≡ length (given c.loop-end.given.items) + (if is_some c.step.result then 1 else 0) = ap (λ rs. length (given rs)) c.in_ok-push.ensures.items ∙ length-given-push _ _ in
+  asks = let e : length (given c.push.new.self.items) ≡ length (given c.loop-end.answers.items) + (if is_some c.step.result then 1 else 0) = ap (λ rs. length (given rs)) c.in_ok-push.ensures.items ∙ length-given-push _ _ in
       omega (arith, c.step.ensures.asks, c.loop-end.invariant.asks);
   met = λ has. none-push _ _ _ _ c.loop-end.invariant.met c.step.ensures.equal c.step.ensures.none (subst (λ rs. Contains rs None) c.in_ok-push.ensures.items has);
   covers = c.step.ensures.covers;
   count = omega (arith, c.in_ok-push.ensures.len, c.loop-end.invariant.count);
   room = omega (arith, c.in_ok-push.ensures.capacity, c.loop-end.invariant.room);
+  same = c.step.ensures.len ∙ c.loop-end.invariant.same;
 }
 
 pub returns-clause-bound : goal.returns-clause-bound
 returns-clause-bound g c =
-    let few : length (given c.loop-end.given.items) ≤ length c.loop-end.given.items = length-given _ in
-    let many : length c.loop-end.given.items ≡ length (take c.loop-end.end-index c.args.ends.now) = ap length c.loop-end.invariant.items ∙ length-answers _ _ in
+    let few : length (given c.loop-end.answers.items) ≤ length c.loop-end.answers.items = length-given _ in
+    let many : length c.loop-end.answers.items ≡ length (take c.loop-end.end-index c.args.ends.now) = ap length c.loop-end.invariant.items ∙ length-answers _ _ in
     let most : length (take c.loop-end.end-index c.args.ends.now) ≤ length c.args.ends.now = grind (arith, common_steps) in
     omega (arith, c.loop-end.invariant.asks)

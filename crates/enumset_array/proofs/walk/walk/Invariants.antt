@@ -8,12 +8,13 @@ use Rattle.enumset_array.proofs.walk.walk.Given as goal
 -- what the function ensures, as far as the ends were taken, with the words between the cursors still to be asked
 abbrev pub invariant-loop-end : goal.invariant-loop-end
 invariant-loop-end g l = record {
-  items : l.given.items ≡ answers (rising (bits_of (g.R.Row.words l.initial.row))) (take l.end-index l.ends);
+  items : l.answers.items ≡ answers (rising (bits_of (g.R.Row.words l.initial.row))) (take l.end-index l.ends);
   rest : rising (bits_of (g.R.Row.words l.row)) ≡ left (rising (bits_of (g.R.Row.words l.initial.row))) (take l.end-index l.ends);
-  set : bits_of (g.R.Row.words l.row) ≡ difference (bits_of (g.R.Row.words l.initial.row)) (from_list (given l.given.items));
-  asks : g.R.Row.asks l.row + span l.cursors ≡ g.R.Row.asks l.initial.row + length (given l.given.items) + length (g.R.Row.words l.initial.row);
-  met : Contains l.given.items None → l.cursors.front ≡ l.cursors.back;
+  set : bits_of (g.R.Row.words l.row) ≡ difference (bits_of (g.R.Row.words l.initial.row)) (from_list (given l.answers.items));
+  asks : g.R.Row.asks l.row + span l.cursors ≡ g.R.Row.asks l.initial.row + length (given l.answers.items) + length (g.R.Row.words l.initial.row);
+  met : Contains l.answers.items None → l.cursors.front ≡ l.cursors.back;
   covers : Covers (g.R.Row.words l.row) l.cursors;
-  count : vec_len l.given ≡ l.end-index;
-  room : length l.ends ≤ vec_capacity l.given;
+  count : vec_len l.answers ≡ l.end-index;
+  room : length l.ends ≤ vec_capacity l.answers;
+  same : length (g.R.Row.words l.row) ≡ length (g.R.Row.words l.initial.row);
 }

@@ -8,25 +8,25 @@ pub invariant_of-self : goal.invariant_of-self
 invariant_of-self g c =
     let same : used g.row.N (numbers c.self.inside.words) ≡ c.args.self.now.words = ap (λ (v : Counted). v.words) c.self.view_is in
     let low : c.args.i < length (used g.row.N (numbers c.self.inside.words)) = rw same c.requires in
-    front_words _ _ _ c.next-bit.new.self _ low c.next-bit.result c.self.invariant c.next-bit.ensures.steps
+    front_words _ _ _ c.next.new.self _ low c.next.result c.self.invariant c.next.ensures.steps
 
 pub returns-clause-empty : goal.returns-clause-empty
 returns-clause-empty g c =
     let same : used g.row.N (numbers c.self.inside.words) ≡ c.args.self.now.words = ap (λ (v : Counted). v.words) c.self.view_is in
     let low : c.args.i < length (used g.row.N (numbers c.self.inside.words)) = rw same c.requires in
-    rw (← same) (row_empty _ _ _ c.next-bit.new.self _ low (λ x xs. x ∷ xs) c.next-bit.result c.next-bit.ensures.steps)
+    rw (← same) (row_empty _ _ _ c.next.new.self _ low (λ x xs. x ∷ xs) c.next.result c.next.ensures.steps)
 
 pub returns-clause-taken : goal.returns-clause-taken
 returns-clause-taken g c =
     let same : used g.row.N (numbers c.self.inside.words) ≡ c.args.self.now.words = ap (λ (v : Counted). v.words) c.self.view_is in
     let low : c.args.i < length (used g.row.N (numbers c.self.inside.words)) = rw same c.requires in
-    rw (← same) (row_taken _ _ _ c.next-bit.new.self _ low (λ x xs. x ∷ xs) c.next-bit.result c.next-bit.ensures.steps)
+    rw (← same) (row_taken _ _ _ c.next.new.self _ low (λ x xs. x ∷ xs) c.next.result c.next.ensures.steps)
 
 pub returns-clause-others : goal.returns-clause-others
 returns-clause-others g c =
     let same : used g.row.N (numbers c.self.inside.words) ≡ c.args.self.now.words = ap (λ (v : Counted). v.words) c.self.view_is in
     let low : c.args.i < length (used g.row.N (numbers c.self.inside.words)) = rw same c.requires in
-    rw (← same) (row_others _ _ _ c.next-bit.new.self c.next-bit.new.self low)
+    rw (← same) (row_others _ _ _ c.next.new.self c.next.new.self low)
 
 pub returns-clause-counted : goal.returns-clause-counted
 returns-clause-counted g c = rw (← c.self.view_is) c.raise.ensures
