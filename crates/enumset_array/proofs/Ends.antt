@@ -1,13 +1,13 @@
 -- The laws of steps from either end: one step by its list, and one end more.
 use Rattle.std.proofs.Common.{◌≡◌, ◌<◌, ◌≤◌, ℕ, suc, ◌+◌, ◌-◌, Bool, true, false, not, ◌&&◌, ◌||◌, List, [], ◌∷◌, ◌++◌, Option, Some, None, length, take, get_or, add-one, take-suc, is_some, MatchOption, if◌then◌else◌, refl, sym, ap, ◌∙◌, subst, arith, length-append, append-nil, inl, inr, IfSome, IfNone, Contains}
-use Rattle.std.specs.Prelude.{◌==◌, slice_get, filter_map}
+use Rattle.std.specs.Prelude.{◌==◌, slice_get, slice_index, filter_map}
 use Rattle.std.proofs.Math.Seq.{take-append_seam}
 use Rattle.std.proofs.lemmas.List.Elements.{filter_map-append, Contains-push_cases}
 use Rattle.enumset_repr.specs.BitSet.{BitSet, contains, is_in, remove, difference, from_list, rising}
 use Rattle.enumset_repr.specs.Laws.Members.{same_set, contains-difference, contains-from_list, contains-remove}
-use Rattle.enumset_repr.specs.Laws.Rising.{empty_of_rising}
-use Rattle.enumset_repr.specs.Laws.Rising.{is_in-push}
+use Rattle.enumset_repr.specs.Laws.Rising.{empty_of_rising, is_in-push}
 use Rattle.std.proofs.Math.Bool.{and-true}
+use Rattle.std.proofs.lemmas.Bool.{cases_lt}
 use Rattle.enumset_array.specs.declared.walk.End.{End}
 use Rattle.enumset_array.specs.declared.walk.End.TheVariants.{Front, Back}
 use Rattle.enumset_array.specs.Cursors.{Covers}
@@ -130,6 +130,28 @@ covers_all ws = record {
   before = λ i h. absurd (omega (arith, h));
   past = λ i h. get_or_past ws i 0 h;
 }
+
+-- an empty word at the front cursor is passed
+pub covers_next : (ws vs : List ℕ) (front back : ℕ) → Covers ws (record { front = front; back = back }) → slice_index ws front ≡ 0 → vs ≡ ws → Covers vs (record { front = front + 1; back = back })
+covers_next ws vs front back covers none same = subst (λ us. Covers us (record { front = front + 1; back = back })) (sym same) (record {
+  within = covers.within;
+  before = λ i h. elim (cases_lt i front) [
+    | inl under ↦ covers.before i under
+    | inr from ↦ let here : i ≡ front = omega (arith, h, from) in ap (slice_index ws) here ∙ none
+  ];
+  past = covers.past;
+})
+
+-- an empty word right before the back cursor is passed
+pub covers_down : (ws vs : List ℕ) (front back : ℕ) → Covers ws (record { front = front; back = back }) → slice_index ws (back - 1) ≡ 0 → vs ≡ ws → Covers vs (record { front = front; back = back - 1 })
+covers_down ws vs front back covers none same = subst (λ us. Covers us (record { front = front; back = back - 1 })) (sym same) (record {
+  within = omega (arith, covers.within);
+  before = covers.before;
+  past = λ i h. elim (cases_lt i back) [
+    | inl under ↦ let here : i ≡ back - 1 = omega (arith, h, under) in ap (slice_index ws) here ∙ none
+    | inr from ↦ covers.past i from
+  ];
+})
 
 -- ---- one end of a list of ends after another
 

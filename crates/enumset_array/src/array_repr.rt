@@ -11,6 +11,9 @@ use crate::array_iter::ArrayIter;
 use enumset_repr::EnumSetTypeRepr;
 use std::marker::Model;
 
+// One more than the most words that a store uses: the bits of fewer are numbered by a `u32`.
+pub(crate) const WORD_LIMIT: usize = 67108864;
+
 /// A store of `N` words of 64 bits, the lowest first: bit `n` is bit `n % 64` of word `n / 64`.
 ///
 /// It mirrors `ArrayRepr` of Rust's `enumset`. The words past the first [`LEN`](ArrayRepr::LEN) are 0: a
@@ -34,7 +37,7 @@ impl<const N: usize> Model for ArrayRepr<N> {
 impl<const N: usize> ArrayRepr<N> {
     /// How many words are in use: the remainder of `N` by 67108864, which is `N` itself up to 67108863. So
     /// the width, 64 bits a word, is below 2^32 for every `N`.
-    pub const LEN: usize = N % 67108864;
+    pub const LEN: usize = N % WORD_LIMIT;
 }
 
 impl<const N: usize> EnumSetTypeRepr for ArrayRepr<N> {
@@ -46,11 +49,11 @@ impl<const N: usize> EnumSetTypeRepr for ArrayRepr<N> {
 
     ghost PREFERRED_ARRAY_LEN = { in_use N };
 
-    const PREFERRED_ARRAY_LEN: usize = N % 67108864;
+    const PREFERRED_ARRAY_LEN: usize = N % WORD_LIMIT;
 
     ghost WIDTH = { 64 * in_use N };
 
-    const WIDTH: u32 = 64 * (N % 67108864) as u32;
+    const WIDTH: u32 = 64 * (N % WORD_LIMIT) as u32;
 
     ghost EMPTY = { replicate N 0 };
 
@@ -71,7 +74,7 @@ impl<const N: usize> EnumSetTypeRepr for ArrayRepr<N> {
 
     fn count_ones(&self) -> u32 {
         self.known();
-        ones_of(&self.0[..N % 67108864])
+        ones_of(&self.0[..N % WORD_LIMIT])
     }
 
     fn add_bit(&mut self, bit: u32) {

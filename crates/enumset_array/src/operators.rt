@@ -4,7 +4,7 @@ ghost use Rattle.std.specs.Prelude.{◌≡◌, ◌*◌};
 ghost use Rattle.enumset_repr.specs.BitSet as set;
 ghost use Rattle.enumset_array.specs.Stored.{in_use, set_of};
 
-use crate::array_repr::ArrayRepr;
+use crate::array_repr::{ArrayRepr, WORD_LIMIT};
 use std::ops::{BitAnd, BitOr, BitXor, Not};
 
 impl<const N: usize> BitAnd for ArrayRepr<N> {
@@ -60,7 +60,7 @@ impl<const N: usize> Not for ArrayRepr<N> {
     /// The numbers below the width that are no members.
     fn not(self) -> ArrayRepr<N> {
         let mut words = self.0;
-        for i in 0..N % 67108864 {
+        for i in 0..N % WORD_LIMIT {
             words[i] = !words[i];
         }
         ArrayRepr(words)

@@ -4,7 +4,7 @@ ghost use Rattle.std.specs.Prelude.{◌≡◌, length, map};
 ghost use Rattle.enumset_array.specs.Stored.{used};
 ghost use Rattle.enumset_array.specs.WordList.{AreWords, items_of};
 
-use crate::array_repr::ArrayRepr;
+use crate::array_repr::{ArrayRepr, WORD_LIMIT};
 use crate::asks::Asks;
 use crate::row::Row;
 use enumset_repr::{EnumSetTypeRepr, PrimitiveIter};
@@ -60,7 +60,7 @@ impl<const N: usize> Words<N> {
     pub(crate) fn left(&self) -> usize
         ensures { result ≡ length (items_of self.now.words) }
     {
-        bits_in(&self.words[..N % 67108864])
+        bits_in(&self.words[..N % WORD_LIMIT])
     }
 }
 
@@ -71,7 +71,7 @@ impl<const N: usize> Row for Words<N> {
 
     fn word_count(&self) -> usize {
         let _words = &self.words;
-        N % 67108864
+        N % WORD_LIMIT
     }
 
     fn ask_front(&mut self, i: usize) -> Option<u32> {

@@ -1,5 +1,7 @@
+use crate::asks::Asks;
 use crate::{ArrayIter, ArrayRepr};
 use enumset_repr::EnumSetTypeRepr;
+use std::mem::size_of;
 use std::test::Fail;
 
 const ENDS: u64 = 0x8000_0000_0000_0001;
@@ -57,4 +59,10 @@ fn a_clone_has_the_items_that_are_left(rt: HostRuntime) -> Result<(), Fail> {
     assert!(rt; gives_in_turn(iter, &[64, 130]));
     assert!(rt; gives_in_turn(copy, &[64, 130]));
     Ok(())
+}
+
+#[test]
+fn the_count_takes_no_bytes(rt: HostRuntime) {
+    assert!(rt; size_of::<Asks>() == 0);
+    assert!(rt; size_of::<ArrayIter<3>>() == 40);
 }

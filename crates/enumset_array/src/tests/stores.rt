@@ -23,6 +23,9 @@ fn has_bits<R: EnumSetTypeRepr>(bits: &[u32]) -> bool {
             return false;
         }
         set.remove_bit(*bit);
+        if set.has_bit(*bit) {
+            return false;
+        }
     }
     set.is_empty()
 }

@@ -3,6 +3,7 @@ use crate::cursors::{Cursors, step_back, step_front};
 use crate::row::Row;
 use crate::shown_row::ShownRow;
 use crate::walk::{End, walk};
+use std::alloc::AllocError;
 use std::test::Fail;
 
 const ENDS: u64 = 0x8000_0000_0000_0001;
@@ -74,6 +75,24 @@ fn walks_of_fewer_ends_leave_the_rest(rt: HostRuntime) -> Result<(), Fail> {
     assert!(rt; row.ask_front(0).is_none());
     assert!(rt; row.ask_front(1) == Some(0));
     assert!(rt; row.shown() == 5);
+    Ok(())
+}
+
+// With memory it answers at once. Where the first allocation is refused, the row is as it was and a second walk
+// gives the whole answer.
+#[test]
+fn a_refused_walk_changes_nothing(rt: HostRuntime) -> Result<(), Fail> {
+    let mut row = ShownRow::new(ArrayRepr([8, 1, 4]));
+    let ends = [End::Front, End::Back, End::Front];
+    let answers = match walk(rt.alloc(), &mut row, &ends) {
+        Ok(answers) => answers,
+        Err(AllocError) => {
+            assert!(rt; row.shown() == 0);
+            walk(rt.alloc(), &mut row, &ends)?
+        }
+    };
+    assert!(rt; answers.as_slice() == [Some(3), Some(130), Some(64)].as_slice());
+    assert!(rt; row.shown() == 4);
     Ok(())
 }
 

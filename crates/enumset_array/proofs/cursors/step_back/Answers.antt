@@ -1,6 +1,7 @@
 use Rattle.std.proofs.Common.{◌≡◌, ◌+◌, ◌-◌, ◌*◌, ◌<◌, [], length, sym, ap, ◌∙◌, arith}
 use Rattle.enumset_repr.specs.BitSet.{rising, remove}
 use Rattle.enumset_array.specs.WordList.{bits_of}
+use Rattle.enumset_array.proofs.Ends.{covers_down}
 use Rattle.enumset_array.proofs.Progress.{one_ask}
 use Rattle.enumset_array.proofs.WordLists.{step_last, step_last_set, none_left}
 use Rattle.enumset_array.proofs.cursors.step_back.Goals as goal
@@ -33,3 +34,13 @@ returns-in-Some-clause-asks g c = rw (← c.cursors.view_is) (one_ask _ _ _ _ c.
 
 pub returns-clause-none : goal.returns-clause-none
 returns-clause-none g c = omega arith
+
+pub loop-cursors-preserved : goal.loop-cursors-preserved
+loop-cursors-preserved g c = record {
+  same = c.in-None.ensures.empty.1 ∙ c.loop-cursors.invariant.same;
+  ordered = omega (arith, c.loop-cursors-test.true);
+  down_to = omega (arith, c.loop-cursors.invariant.down_to);
+  front = c.loop-cursors.invariant.front;
+  covers = covers_down _ _ _ _ c.loop-cursors.invariant.covers c.in-None.ensures.empty.0 c.in-None.ensures.empty.1;
+  asks = omega (arith, c.in-None.ensures.counted, c.loop-cursors.invariant.asks, c.loop-cursors-test.true);
+}
