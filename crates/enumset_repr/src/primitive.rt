@@ -10,9 +10,9 @@ use std::fmt::Debug;
 /// An integer of [`BITS`](Primitive::BITS) bits, seen as the set of the numbers of those that are set,
 /// counted from the lowest.
 ///
-/// It mirrors `Primitive` of Rust's `enumset`. There the iterator asks [`BITS`](Primitive::BITS),
-/// [`ones`](Primitive::ones) and [`without`](Primitive::without) of the store; here it rests on no
-/// store.
+/// It mirrors `Primitive` of Rust's `enumset`. There the iterator asks `WIDTH`, `count_ones` and
+/// `remove_bit` of the store; here [`BITS`](Primitive::BITS), [`ones`](Primitive::ones) and
+/// [`without`](Primitive::without) are in their place, and it rests on no store.
 pub trait Primitive: Copy + Debug {
     // The set of the bits that are set.
     ghost set_of: { Self → BitSet };

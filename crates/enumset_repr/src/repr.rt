@@ -101,7 +101,8 @@ pub trait EnumSetTypeRepr: Copy
         ensures { result ≡ word_of (members self.now) i };
 
     /// Makes the bits from `64 * i` to `64 * i + 63` those of a word, as far as they are below the
-    /// width: its other bits are dropped.
+    /// width: its other bits are dropped. The place `i` is below
+    /// [`PREFERRED_ARRAY_LEN`](EnumSetTypeRepr::PREFERRED_ARRAY_LEN).
     fn put_word(&mut self, i: usize, w: u64)
         requires { i < PREFERRED_ARRAY_LEN }
         ensures { members self.new ≡ with_word (members self.old) WIDTH i w };

@@ -7,6 +7,9 @@ ghost use Rattle.enumset_sets.specs.Elements.{IsElementType};
 use enumset_repr::repr::EnumSetTypeRepr;
 
 /// An enum whose variants are the elements of an `EnumSet`: each has a bit of its own in a store.
+///
+/// It mirrors `EnumSetType` of Rust's `enumset`, with what is there `EnumSetTypePrivate`. There a derive
+/// writes it; here it is written by hand, and the laws of its bits are proved.
 pub trait EnumSetType: Copy + Eq {
     /// The store of its sets.
     type Repr: EnumSetTypeRepr;
@@ -36,7 +39,8 @@ pub trait EnumSetType: Copy + Eq {
     fn enum_into_u32(self) -> u32
         ensures { result ≡ bit self };
 
-    /// The value whose bit it is. The bit must be valid: one of those of the variants.
+    /// The value whose bit it is. The bit must be valid, one of those of the variants:
+    /// [`EnumSet::is_bit_valid`](crate::EnumSet::is_bit_valid) is the test.
     fn enum_from_u32(val: u32) -> Self
         requires { IsTrue (is_in val bits) }
         ensures { bit result ≡ val };

@@ -14,8 +14,8 @@ use std::marker::{Model, PhantomData};
 
 /// A set of elements, kept as a value of its store.
 ///
-/// It mirrors `EnumSet` of Rust's `enumset`. The parameter `R` is always the store of `T`: write
-/// `EnumSet<T>`.
+/// It mirrors `EnumSet` of Rust's `enumset`, and each call the one of its name there. The parameter `R` is
+/// always the store of `T`: write `EnumSet<T>`.
 pub struct EnumSet<T: EnumSetType, R: EnumSetTypeRepr = <T as EnumSetType>::Repr> {
     repr: R,
     of: PhantomData<T>,
@@ -339,7 +339,7 @@ impl<T: EnumSetType> EnumSet<T> {
         EnumSetIter::over(self.repr)
     }
 
-    /// Whether the set has this element and no other.
+    /// Whether the set has this element and no other. It stands for `==` between a set and an element.
     pub fn eq_element(&self, value: T) -> bool
         ensures { result ≡ set.is_same self.now (set.only (T.bit value)) }
     {

@@ -11,8 +11,8 @@ use std::marker::Model;
 
 /// The elements of a set, along their bits, rising.
 ///
-/// Contracts see the list of the bits that it has still to give. Once one end has answered `None`, both
-/// do.
+/// It mirrors `EnumSetIter` of Rust's `enumset`. Contracts see the list of the bits that it has still to
+/// give. Once one end has answered `None`, both do.
 pub struct EnumSetIter<T: EnumSetType> {
     iter: <T::Repr as EnumSetTypeRepr>::Iter,
 }
@@ -73,11 +73,13 @@ impl<T: EnumSetType> Iterator for EnumSetIter<T> {
 
     ghost remaining = { item_count (λ bits. bits) };
 
+    /// The element of the least bit that is left, or `None` if there is none.
     fn next(&mut self) -> Option<T> {
         let bit = self.iter.next()?;
         Some(T::enum_from_u32(bit))
     }
 
+    /// Exactly how many elements are left.
     fn size_hint(&self) -> (usize, Option<usize>)
         ensures lower { result.0 ≡ length self.now }
         ensures upper { result.1 ≡ Some (length self.now) }
@@ -92,6 +94,7 @@ impl<T: EnumSetType> DoubleEndedIterator for EnumSetIter<T> {
 
     ghost next_back_gives = { YieldsLastBy T.bit (λ bits. bits) };
 
+    /// The element of the greatest bit that is left, or `None` if there is none.
     fn next_back(&mut self) -> Option<T> {
         let bit = self.iter.next_back()?;
         Some(T::enum_from_u32(bit))
@@ -99,6 +102,7 @@ impl<T: EnumSetType> DoubleEndedIterator for EnumSetIter<T> {
 }
 
 impl<T: EnumSetType> ExactSizeIterator for EnumSetIter<T> {
+    /// How many elements are left.
     fn len(&self) -> usize {
         T::Repr::items_left(&self.iter)
     }
