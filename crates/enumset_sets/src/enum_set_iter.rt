@@ -60,7 +60,9 @@ impl<T: EnumSetType> Clone for EnumSetIter<T> {
 
 impl<T: EnumSetType> fmt::Debug for EnumSetIter<T> {
     fn fmt<W: fmt::Write>(&self, f: &mut fmt::Formatter<W>) -> fmt::Result {
-        f.debug_tuple("EnumSetIter").field(&self.iter).finish()
+        f.debug_struct("EnumSetIter")
+            .field("iter", &self.iter)
+            .finish()
     }
 }
 
