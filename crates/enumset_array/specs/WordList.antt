@@ -2,6 +2,7 @@
 --     AreWords      at most 67108863 numbers, each of 64 bits
 --     bits_of      the set: 64 w + b for each place w of the list and each b in the bits of the word there
 --     items_of      its members, each once, rising
+--     in_first_word, in_later_words      the numbers of a list below 64;  those from 64 on, each 64 lower
 --     lists_words      whether a list of numbers names that set's members, each once, by what it says of each word
 use Rattle.std.specs.Prelude.{ℕ, ◌<◌, ◌≤◌, ◌^◌, ◌-◌, Bool, true, false, cond, ◌&&◌, List, [], ◌∷◌, length, slice_index, nat_lt}
 use Rattle.enumset_repr.specs.BitSet.{BitSet, empty, union, rising}

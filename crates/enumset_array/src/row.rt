@@ -1,4 +1,4 @@
-//! Words that can be looked at in one way alone, which is counted.
+//! Words that show themselves by two calls alone, which are counted.
 
 ghost use Rattle.std.specs.Prelude.{◌≡◌, ℕ, ◌+◌, ◌<◌, List, ◌∷◌, [], ◌++◌, length, slice_index, slice_set, IfSome, IfNone};
 ghost use Rattle.enumset_repr.specs.BitSet.{rising};

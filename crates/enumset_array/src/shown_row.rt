@@ -10,7 +10,8 @@ use std::marker::Model;
 
 /// A row of the words of a store that keeps, beside the count of asks, a number that shows it.
 ///
-/// It is for tests, and Rust's `enumset` has nothing like it. That number stops at `u64::MAX`, and the count goes on.
+/// It is for tests, and Rust's `enumset` has nothing like it. That number stops at `u64::MAX`, and the
+/// count goes on.
 #[derive(Drop, Debug)]
 pub struct ShownRow<const N: usize> {
     row: Words<N>,

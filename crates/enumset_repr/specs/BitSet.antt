@@ -7,7 +7,7 @@
 --     is_empty      whether there is no member
 --     is_subset, is_disjoint, is_same      whether each member of the one is a member of the other;  none is;  they have the same members
 --     below, low      the numbers below one;  the members below one
---     from_list      the set of a list's numbers
+--     from_list, insert_each      the set of a list's numbers;  a set with them
 -- `Laws/Members.antt` and `Laws/Rising.antt` have the laws of these words: what `contains` answers at
 -- each, that two sets with the same members are one, and what `len` and `rising` are.
 use Rattle.std.specs.Prelude.{ℕ, suc, zero, Bool, not, ◌&&◌, ◌==◌, nat_lt, List, [], ◌∷◌}

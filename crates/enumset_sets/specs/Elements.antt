@@ -1,6 +1,7 @@
 -- What an element type proves of its values and their bits.
 --     bit_of      a value's bit, from the bits of the variants in the order of their declaration
 --     one_past_greatest      one past the greatest member, 0 of the empty set
+--     one_past_last, one_past_all      one past the last of a list;  one past the greatest number in it;  0 of the empty one
 --     IsElementType      the laws of an element type
 --     AreBitsOf      each number of a list is one of the variants' bits
 --     is_lawful      the test, of the bits of the variants, by which the laws are proved
