@@ -1,7 +1,6 @@
 -- The laws of steps from either end: one step by its list, and one end more.
 use Rattle.std.proofs.Common.{◌≡◌, ◌<◌, ◌≤◌, ℕ, suc, ◌+◌, ◌-◌, Bool, true, false, not, ◌&&◌, ◌||◌, List, [], ◌∷◌, ◌++◌, Option, Some, None, length, take, get_or, add-one, take-suc, is_some, MatchOption, if◌then◌else◌, refl, sym, ap, ◌∙◌, subst, arith, length-append, append-nil, inl, inr, IfSome, IfNone, Contains}
-use Rattle.std.specs.Prelude.{◌==◌, slice_get, slice_index, filter_map}
-use Rattle.std.proofs.Math.Seq.{take-append_seam}
+use Rattle.std.specs.Prelude.{◌==◌, slice_index, filter_map}
 use Rattle.std.proofs.lemmas.List.Elements.{filter_map-append, Contains-push_cases}
 use Rattle.enumset_repr.specs.BitSet.{BitSet, contains, is_in, remove, difference, from_list, rising}
 use Rattle.enumset_repr.specs.Laws.Members.{same_set, contains-difference, contains-from_list, contains-remove}
@@ -9,30 +8,10 @@ use Rattle.enumset_repr.specs.Laws.Rising.{empty_of_rising, is_in-push}
 use Rattle.std.proofs.Math.Bool.{and-true}
 use Rattle.std.proofs.lemmas.Bool.{cases_lt}
 use Rattle.enumset_array.specs.declared.walk.End.{End}
-use Rattle.enumset_array.specs.declared.walk.End.TheVariants.{Front, Back}
+use Rattle.enumset_array.specs.declared.walk.End.TheVariants.{Front}
 use Rattle.enumset_array.specs.Cursors.{Covers}
 use Rattle.std.proofs.lemmas.List.{get_or_past}
 use Rattle.enumset_array.specs.Ends.{answer, after, answers, left, given}
-
--- ---- one step
-
-slice_get_last : (ys : List ℕ) (x : ℕ) → slice_get (ys ++ x ∷ []) (length ys) ≡ Some x
-slice_get_last [] x = refl
-slice_get_last (y ∷ ys) x = slice_get_last ys x
-
-one_less : (ys : List ℕ) (x : ℕ) → length (ys ++ x ∷ []) - 1 ≡ length ys
-one_less ys x = omega (arith, length-append ys (x ∷ []))
-
-pub front_step : (xs : List ℕ) (r : Option ℕ) (ys : List ℕ) → MatchOption r ((xs ≡ []) × (ys ≡ [])) (λ x. xs ≡ x ∷ ys) → (r ≡ answer Front xs) × (ys ≡ after Front xs)
-front_step xs None ys step = (sym (ap (answer Front) step.0), step.1 ∙ sym (ap (after Front) step.0))
-front_step xs (Some x) ys step = (sym (ap (answer Front) step), sym (ap (after Front) step))
-
-pub back_step : (xs : List ℕ) (r : Option ℕ) (ys : List ℕ) → MatchOption r ((xs ≡ []) × (ys ≡ [])) (λ x. xs ≡ ys ++ x ∷ []) → (r ≡ answer Back xs) × (ys ≡ after Back xs)
-back_step xs None ys step = (sym (ap (answer Back) step.0), step.1 ∙ sym (ap (after Back) step.0))
-back_step xs (Some x) ys step = (
-  sym (ap (answer Back) step ∙ ap (slice_get (ys ++ x ∷ [])) (one_less ys x) ∙ slice_get_last ys x),
-  sym (ap (after Back) step ∙ ap (λ n. take n (ys ++ x ∷ [])) (one_less ys x) ∙ take-append_seam ys (x ∷ [])),
-)
 
 -- ---- one end more
 

@@ -1,11 +1,25 @@
--- The least and the greatest member of a set.
---     least, greatest      the first and the last of the members, rising; none where there is no member
-use Rattle.std.specs.Prelude.{ℕ, Option, None}
+-- The ends of a list, and of a set.
+--     first, last      the first and the last of a list; none of the empty list
+--     without_first, without_last      the list without it
+--     least, greatest      the first and the last of a set's members, rising; none where there is no member
+use Rattle.std.specs.Prelude.{ℕ, ◌-◌, List, Option, None, length, drop, take}
 use Rattle.std.specs.List.{slice_get, last_or}
 use Rattle.enumset_repr.specs.BitSet.{BitSet, rising}
 
+abbrev pub first : List ℕ → Option ℕ
+first xs = slice_get xs 0
+
+abbrev pub last : List ℕ → Option ℕ
+last xs = last_or None xs
+
+abbrev pub without_first : List ℕ → List ℕ
+without_first xs = drop 1 xs
+
+abbrev pub without_last : List ℕ → List ℕ
+without_last xs = take (length xs - 1) xs
+
 unfoldable pub least : BitSet → Option ℕ
-least s = slice_get (rising s) 0
+least s = first (rising s)
 
 unfoldable pub greatest : BitSet → Option ℕ
-greatest s = last_or None (rising s)
+greatest s = last (rising s)

@@ -7,7 +7,7 @@
 --     Ends      the least and the greatest member
 --     Words      words of 64 bits
 --     Listed      the set of a number whose bits are listed
---     Steps      a step of an iterator lowers how many items are left
+--     Steps      a step from an end of a list: the item that it gives and the others
 --     Integers      the laws of an integer as a store
 pub mod Members
 pub mod Rising

@@ -3,7 +3,7 @@
 --     least-empty, greatest-empty      the empty set has neither
 --     rising-least, rising-greatest      the least comes first, and the greatest last
 --     trailing-least, leading-greatest      what `trailing_zeros` and `leading_zeros` count, at each width
-use Rattle.std.proofs.Common.{◌≡◌, ◌<◌, ◌≤◌, ℕ, suc, zero, ◌+◌, ◌-◌, ◌^◌, true, false, List, [], ◌∷◌, ◌++◌, Option, Some, None, refl, sym, ap, subst, ◌∙◌, arith, true≢false, inl, inr, length, length-append}
+use Rattle.std.proofs.Common.{◌≡◌, ◌<◌, ◌≤◌, ℕ, suc, zero, ◌+◌, ◌-◌, ◌^◌, true, false, List, [], ◌∷◌, ◌++◌, Some, None, refl, sym, ap, subst, ◌∙◌, arith, true≢false, inl, inr, length, length-append}
 use Rattle.std.specs.Prelude.{◌==◌, MatchOption}
 use Rattle.std.specs.Int.{trailing_zeros, leading_zeros, Width, w8, w16, w32, w64, w128}
 use Rattle.std.specs.Int.Count.{trailing_of_zero, leading_of_zero}
@@ -11,17 +11,14 @@ use mir.Val.{bits as width_bits}
 use Rattle.std.specs.List.{slice_get, last_or}
 use Rattle.std.proofs.lemmas.Bool.{or_cases}
 use Rattle.enumset_repr.specs.BitSet.{is_in, BitSet, contains, rising, empty, remove}
-use Rattle.enumset_repr.specs.Ends.{least, greatest}
+use Rattle.enumset_repr.specs.Ends.{last, least, greatest}
+use Rattle.enumset_repr.specs.Laws.Steps.{last-push}
 use Rattle.enumset_repr.specs.Laws.Members.{same_number, itself, or_left, or_right, contains-rising, not_so, member_below}
 use Rattle.enumset_repr.specs.Laws.Rising.{len-rising, RisesFrom, rising-rises, rising-empty, is_in-from, is_in-below, rising-first, rising-last, empty_of_rising}
 use Rattle.enumset_repr.specs.Number.{bits}
 use Rattle.enumset_repr.specs.Laws.Numbers.{bits-zero, bits-within, least-bits, greatest-bits}
 
 -- ---- the ends of a list that rises
-
-last_or-push : (o : Option ℕ) (xs : List ℕ) (m : ℕ) → last_or o (xs ++ m ∷ []) ≡ Some m
-last_or-push o [] m = refl
-last_or-push o (x ∷ xs) m = last_or-push (Some x) xs m
 
 same_item : (a b : ℕ) → Some a ≡ Some b → a ≡ b
 same_item a b e = cc
@@ -87,7 +84,7 @@ rising-no_least s none = no_first (rising s) none
 
 pub greatest-is : (s : BitSet) (m : ℕ) → contains s m ≡ true → ((q : ℕ) → m < q → contains s q ≡ false) → greatest s ≡ Some m
 unfolding greatest
-greatest-is s m one none = ap (last_or None) (rising-last s m one none) ∙ last_or-push None (rising (remove s m)) m
+greatest-is s m one none = ap last (rising-last s m one none) ∙ last-push (rising (remove s m)) m
 
 pub greatest-empty : greatest empty ≡ None
 unfolding greatest

@@ -1,7 +1,34 @@
--- A step of an iterator that shows the list of what is left: fewer items are left where it gave one.
-use Rattle.std.proofs.Common.{ℕ, List, [], ◌∷◌, length, length-append, ap, arith}
-use Rattle.std.specs.Prelude.{Option, Some, None, ⊤}
+-- A step from an end of a list, which gives an item and leaves the others.
+--     last-push, without_last-push      the ends of a list with one item more at the back
+--     gives_first, gives_last      the item and what is left, by the words on lists
+--     first_goes, last_goes      where a step gave an item, fewer are left
+use Rattle.std.proofs.Common.{◌≡◌, ℕ, ◌-◌, List, [], ◌∷◌, ◌++◌, length, take, length-append, refl, sym, ap, ◌∙◌, arith}
+use Rattle.std.specs.Prelude.{Option, Some, None, MatchOption, ⊤}
+use Rattle.std.specs.List.{last_or}
+use Rattle.std.proofs.Math.Seq.{take-append_seam}
+use Rattle.enumset_repr.specs.Ends.{first, last, without_first, without_last}
 use Rattle.std.specs.Iterator.{YieldsFirst, YieldsLast, item_count, MakesProgress}
+
+last_or-push : (o : Option ℕ) (xs : List ℕ) (x : ℕ) → last_or o (xs ++ x ∷ []) ≡ Some x
+last_or-push o [] x = refl
+last_or-push o (y ∷ ys) x = last_or-push (Some y) ys x
+
+pub last-push : (xs : List ℕ) (x : ℕ) → last (xs ++ x ∷ []) ≡ Some x
+last-push xs x = last_or-push None xs x
+
+one_less : (xs : List ℕ) (x : ℕ) → length (xs ++ x ∷ []) - 1 ≡ length xs
+one_less xs x = omega (arith, length-append xs (x ∷ []))
+
+pub without_last-push : (xs : List ℕ) (x : ℕ) → without_last (xs ++ x ∷ []) ≡ xs
+without_last-push xs x = ap (λ n. take n (xs ++ x ∷ [])) (one_less xs x) ∙ take-append_seam xs (x ∷ [])
+
+pub gives_first : (xs : List ℕ) (r : Option ℕ) (ys : List ℕ) → MatchOption r ((xs ≡ []) × (ys ≡ [])) (λ x. xs ≡ x ∷ ys) → (r ≡ first xs) × (ys ≡ without_first xs)
+gives_first xs None ys step = (sym (ap first step.0), step.1 ∙ sym (ap without_first step.0))
+gives_first xs (Some x) ys step = (sym (ap first step), sym (ap without_first step))
+
+pub gives_last : (xs : List ℕ) (r : Option ℕ) (ys : List ℕ) → MatchOption r ((xs ≡ []) × (ys ≡ [])) (λ x. xs ≡ ys ++ x ∷ []) → (r ≡ last xs) × (ys ≡ without_last xs)
+gives_last xs None ys step = (sym (ap last step.0), step.1 ∙ sym (ap without_last step.0))
+gives_last xs (Some x) ys step = (sym (ap last step ∙ last-push ys x), sym (ap without_last step ∙ without_last-push ys x))
 
 pub first_goes : {S : Type 0} (rest : S → List ℕ) (s : S) (r : Option ℕ) (t : S) → YieldsFirst rest s r t → MakesProgress (λ _. ⊤) (item_count rest) s r t
 first_goes rest s None t e = record { on = λ _. tt; keeps = tt; rests = λ _. tt }
@@ -10,3 +37,5 @@ first_goes rest s (Some x) t e = record { on = λ _. (tt, tt, omega (arith, ap l
 pub last_goes : {S : Type 0} (rest : S → List ℕ) (s : S) (r : Option ℕ) (t : S) → YieldsLast rest s r t → MakesProgress (λ _. ⊤) (item_count rest) s r t
 last_goes rest s None t e = record { on = λ _. tt; keeps = tt; rests = λ _. tt }
 last_goes rest s (Some x) t e = record { on = λ _. (tt, tt, omega (arith, ap length e, length-append (rest t) (x ∷ []))); keeps = tt; rests = λ _. tt }
+
+pub ruleset lasts = (last-push, without_last-push)

@@ -1,5 +1,6 @@
 use Rattle.std.proofs.Common.{◌≡◌, [], ◌∷◌, ◌++◌, sym, ap, ◌∙◌}
-use Rattle.enumset_array.proofs.Ends.{front_step, back_step, set-step}
+use Rattle.enumset_repr.specs.Laws.Steps.{gives_first, gives_last}
+use Rattle.enumset_array.proofs.Ends.{set-step}
 use Rattle.enumset_array.specs.Ends.{answer, after}
 use Rattle.enumset_repr.specs.BitSet.{rising}
 use Rattle.enumset_array.specs.WordList.{bits_of}
@@ -13,7 +14,7 @@ returns-in-Front-clause-set g c =
 
 pub returns-in-Back-clause-item : goal.returns-in-Back-clause-item
 returns-in-Back-clause-item g c =
-    (back_step _ _ _ c.step_back.ensures.item).0 ∙ ap (λ e. answer e (rising (bits_of (g.R.Row.words c.args.row.now)))) (sym c.in-Back.is)
+    (gives_last _ _ _ c.step_back.ensures.item).0 ∙ ap (λ e. answer e (rising (bits_of (g.R.Row.words c.args.row.now)))) (sym c.in-Back.is)
 
 pub returns-in-Back-clause-set : goal.returns-in-Back-clause-set
 returns-in-Back-clause-set g c =
@@ -23,12 +24,12 @@ returns-in-Back-clause-set g c =
 
 pub returns-in-Front-clause-item : goal.returns-in-Front-clause-item
 returns-in-Front-clause-item g c =
-    (front_step _ _ _ c.step_front.ensures.item).0 ∙ ap (λ e. answer e (rising (bits_of (g.R.Row.words c.args.row.now)))) (sym c.in-Front.is)
+    (gives_first _ _ _ c.step_front.ensures.item).0 ∙ ap (λ e. answer e (rising (bits_of (g.R.Row.words c.args.row.now)))) (sym c.in-Front.is)
 
 pub returns-in-Front-clause-left : goal.returns-in-Front-clause-left
 returns-in-Front-clause-left g c =
-    (front_step _ _ _ c.step_front.ensures.item).1 ∙ ap (λ e. after e (rising (bits_of (g.R.Row.words c.args.row.now)))) (sym c.in-Front.is)
+    (gives_first _ _ _ c.step_front.ensures.item).1 ∙ ap (λ e. after e (rising (bits_of (g.R.Row.words c.args.row.now)))) (sym c.in-Front.is)
 
 pub returns-in-Back-clause-left : goal.returns-in-Back-clause-left
 returns-in-Back-clause-left g c =
-    (back_step _ _ _ c.step_back.ensures.item).1 ∙ ap (λ e. after e (rising (bits_of (g.R.Row.words c.args.row.now)))) (sym c.in-Back.is)
+    (gives_last _ _ _ c.step_back.ensures.item).1 ∙ ap (λ e. after e (rising (bits_of (g.R.Row.words c.args.row.now)))) (sym c.in-Back.is)
