@@ -1,5 +1,5 @@
 -- The laws of an element type, from the one test of its variants' bits.
-use Rattle.std.proofs.Common.{◌≡◌, ◌<◌, ◌≤◌, ℕ, suc, zero, ◌+◌, Bool, true, false, cond, ◌&&◌, List, [], ◌∷◌, refl, sym, ap, ◌∙◌, length, get_or, arith, true≢false, inl, inr}
+use Rattle.std.proofs.Common.{◌≡◌, ◌<◌, ◌≤◌, ℕ, suc, zero, ◌+◌, Bool, true, false, cond, ◌&&◌, List, [], ◌∷◌, Some, refl, sym, ap, ◌∙◌, length, get_or, arith, true≢false, inl, inr}
 use Rattle.std.specs.Prelude.{◌==◌}
 use denote.Enum.Declared.{Declared, rowss, tag_of}
 use denote.Enum.Enum.{tag_below}
@@ -7,9 +7,11 @@ use denote.Enum.Bare.{Bare, tag_one, sameb, same_true, true_same}
 use Rattle.std.proofs.lemmas.Bool.{or_cases, cases_lt}
 use Rattle.enumset_repr.specs.BitSet.{BitSet, is_in, contains, from_list, rising, len, is_subset}
 use Rattle.enumset_repr.specs.Number.{is_distinct}
+use Rattle.enumset_repr.specs.Ends.{last, greatest}
+use Rattle.std.specs.List.{last_or}
 use Rattle.enumset_repr.specs.Laws.Members.{same_number, itself, not_true, both, or_left, or_right, contains-from_list, contains-rising, list_all-each, is_subset-contains}
 use Rattle.enumset_repr.specs.Laws.Rising.{len-empty, len-insert, rising-rises, RisesFrom}
-use Rattle.enumset_sets.specs.Elements.{bit_of, one_past_last, one_past_greatest, IsElementType, one_past_all, is_lawful, AreBitsOf}
+use Rattle.enumset_sets.specs.Elements.{bit_of, one_past, one_past_greatest, IsElementType, one_past_all, is_lawful, AreBitsOf}
 
 is_in-get_or : (bs : List ℕ) (i : ℕ) → i < length bs → is_in (get_or bs i 0) bs ≡ true
 is_in-get_or [] i small = absurd (omega (arith, small))
@@ -58,16 +60,19 @@ same_reach xs bs same = reach_of (one_past_all xs) refl where
   reach_of (suc n) e = omega (arith, e, is_in-one_past n bs (sym (same n) ∙ one_past_is_in xs n e))
 
 -- the last of a list that rises is its greatest
-one_past_last-all : (k : ℕ) (bs : List ℕ) → RisesFrom k bs → one_past_last bs ≡ one_past_all bs
-one_past_last-all k [] rises = refl
-one_past_last-all k (b ∷ []) rises = omega arith
-one_past_last-all k (b ∷ c ∷ bs) rises =
-    one_past_last-all (suc b) (c ∷ bs) rises.1 ∙ omega (arith, rises.1.0)
+one_past-last_or : (k b : ℕ) (bs : List ℕ) → RisesFrom k (b ∷ bs) → one_past (last_or (Some b) bs) ≡ one_past_all (b ∷ bs)
+one_past-last_or k b [] rises = omega arith
+one_past-last_or k b (c ∷ bs) rises = one_past-last_or (suc b) c bs rises.1 ∙ omega (arith, rises.1.0)
+
+one_past-last : (bs : List ℕ) → RisesFrom 0 bs → one_past (last bs) ≡ one_past_all bs
+one_past-last [] rises = refl
+one_past-last (b ∷ bs) rises = one_past-last_or 0 b bs rises
 
 one_past_greatest-from_list : (bs : List ℕ) → one_past_greatest (from_list bs) ≡ one_past_all bs
+unfolding greatest
 one_past_greatest-from_list bs =
     let same : (q : ℕ) → is_in q (rising (from_list bs)) ≡ is_in q bs = λ q. sym (contains-rising (from_list bs) q) ∙ contains-from_list bs q in
-    one_past_last-all 0 (rising (from_list bs)) (rising-rises (from_list bs))
+    one_past-last (rising (from_list bs)) (rising-rises (from_list bs))
     ∙ omega (arith, same_reach _ bs same, same_reach bs _ (λ q. sym (same q)))
 
 -- ---- the laws

@@ -1,28 +1,28 @@
 -- What an element type proves of its values and their bits.
 --     bit_of      a value's bit, from the bits of the variants in the order of their declaration
 --     one_past_greatest      one past the greatest member, 0 of the empty set
---     one_past_last, one_past_all      one past the last of a list;  one past the greatest number in it;  0 of the empty one
+--     one_past, one_past_all      one past a number, 0 of none;  one past the greatest number of a list, 0 of the empty one
 --     IsElementType      the laws of an element type
 --     AreBitsOf      each number of a list is one of the variants' bits
 --     is_lawful      the test, of the bits of the variants, by which the laws are proved
-use Rattle.std.specs.Prelude.{◌≡◌, ◌↔◌, ◌==◌, ℕ, suc, Bool, ◌&&◌, List, [], ◌∷◌, length, max, slice_index, IsTrue}
+use Rattle.std.specs.Prelude.{◌≡◌, ◌↔◌, ◌==◌, ℕ, suc, Bool, ◌&&◌, List, [], ◌∷◌, Option, Some, None, length, max, slice_index, IsTrue}
 use Rattle.std.specs.List.{list_all}
 use denote.Enum.Declared.{Declared, tag_of}
-use Rattle.enumset_repr.specs.BitSet.{BitSet, is_in, contains, from_list, rising, len}
+use Rattle.enumset_repr.specs.BitSet.{BitSet, is_in, contains, from_list, len}
+use Rattle.enumset_repr.specs.Ends.{greatest}
 use Rattle.enumset_repr.specs.Number.{is_distinct}
 
 -- the bit of a value, from the bits of its enum's variants in the order of their declaration
 abbrev pub bit_of : (D : Declared) → List ℕ → D.D → ℕ
 bit_of D bits v = slice_index bits (tag_of D v)
 
--- one past the last of a list, 0 of the empty one
-abbrev pub one_past_last : List ℕ → ℕ
-one_past_last [] = 0
-one_past_last (b ∷ []) = suc b
-one_past_last (b ∷ c ∷ bs) = one_past_last (c ∷ bs)
+-- one past a number, 0 where there is none
+abbrev pub one_past : Option ℕ → ℕ
+one_past None = 0
+one_past (Some b) = suc b
 
 abbrev pub one_past_greatest : BitSet → ℕ
-one_past_greatest s = one_past_last (rising s)
+one_past_greatest s = one_past (greatest s)
 
 -- The laws of an element type, whose values have these bits, whose variants have the bits of the list,
 -- and whose constants mean `all`, `width` and `count`.
