@@ -4,4 +4,5 @@ pub mod Lines
 pub mod Texts
 pub mod Answers
 pub mod Faults
+pub mod Names
 pub mod Kinds

@@ -59,8 +59,23 @@ impl EnumSetType for Letters {
     ghost lawful = { lawful the_type tt (bits_listed _ _ refl) refl };
 }
 
+/// The name of the variant.
 impl fmt::Display for Letters {
+    ghost use Rattle.std.specs.Prelude.{Some, ◌∷◌, [], codes};
+    ghost use Rattle.enumset_run.specs.Names.{name_of};
+    ghost use Rattle.enumset_run.specs.contracts.letters.Letters.{the_type};
+
+    ghost output = { λ v. Some (name_of the_type (codes "A" ∷ codes "B" ∷ codes "C" ∷ codes "D" ∷ codes "E" ∷ codes "F" ∷ codes "G" ∷ []) v) };
+
     fn fmt<W: fmt::Write>(&self, f: &mut fmt::Formatter<W>) -> fmt::Result {
-        fmt::Debug::fmt(self, f)
+        match self {
+            Letters::A => write!(f, "A"),
+            Letters::B => write!(f, "B"),
+            Letters::C => write!(f, "C"),
+            Letters::D => write!(f, "D"),
+            Letters::E => write!(f, "E"),
+            Letters::F => write!(f, "F"),
+            Letters::G => write!(f, "G"),
+        }
     }
 }

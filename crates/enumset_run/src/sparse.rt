@@ -58,8 +58,20 @@ impl EnumSetType for Sparse {
     ghost lawful = { lawful the_type tt (bits_listed _ _ refl) refl };
 }
 
+/// The name of the variant.
 impl fmt::Display for Sparse {
+    ghost use Rattle.std.specs.Prelude.{Some, ◌∷◌, [], codes};
+    ghost use Rattle.enumset_run.specs.Names.{name_of};
+    ghost use Rattle.enumset_run.specs.contracts.sparse.Sparse.{the_type};
+
+    ghost output = { λ v. Some (name_of the_type (codes "A" ∷ codes "B" ∷ codes "C" ∷ codes "D" ∷ []) v) };
+
     fn fmt<W: fmt::Write>(&self, f: &mut fmt::Formatter<W>) -> fmt::Result {
-        fmt::Debug::fmt(self, f)
+        match self {
+            Sparse::A => write!(f, "A"),
+            Sparse::B => write!(f, "B"),
+            Sparse::C => write!(f, "C"),
+            Sparse::D => write!(f, "D"),
+        }
     }
 }

@@ -56,8 +56,19 @@ impl EnumSetType for Wide {
     ghost lawful = { lawful the_type tt (words_listed _ _ refl) refl };
 }
 
+/// The name of the variant.
 impl fmt::Display for Wide {
+    ghost use Rattle.std.specs.Prelude.{Some, ◌∷◌, [], codes};
+    ghost use Rattle.enumset_run.specs.Names.{name_of};
+    ghost use Rattle.enumset_run.specs.contracts.wide.Wide.{the_type};
+
+    ghost output = { λ v. Some (name_of the_type (codes "P" ∷ codes "Q" ∷ codes "R" ∷ []) v) };
+
     fn fmt<W: fmt::Write>(&self, f: &mut fmt::Formatter<W>) -> fmt::Result {
-        fmt::Debug::fmt(self, f)
+        match self {
+            Wide::P => write!(f, "P"),
+            Wide::Q => write!(f, "Q"),
+            Wide::R => write!(f, "R"),
+        }
     }
 }
