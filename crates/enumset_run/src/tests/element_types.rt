@@ -33,6 +33,10 @@ fn clones_its_place<T: EnumSetType>(a: T, b: T) -> bool {
     same.next_back() == Some(b) && iter.size_hint() == (1, Some(1))
 }
 
+fn equals_its_clone<V: Clone + PartialEq>(value: &V) -> bool {
+    value.clone().is_ok_and(|same| same == *value)
+}
+
 // Of two elements in the order of their bits.
 fn answers<T: EnumSetType>(a: T, b: T) -> bool {
     starts_empty::<T>()
@@ -50,11 +54,21 @@ fn each_call_answers(rt: HostRuntime) {
     assert!(rt; EnumSet::<Sparse>::bit_width() == 128);
     assert!(rt; EnumSet::<Sparse>::variant_count() == 4);
     assert!(rt; EnumSet::bit_index(Sparse::D) == 127);
+    assert!(rt; EnumSet::<Sparse>::is_bit_valid(127));
+    assert!(rt; !EnumSet::<Sparse>::is_bit_valid(128));
+    assert!(rt; !EnumSet::<Sparse>::is_bit_valid(4294967295));
     assert!(rt; answers(Sparse::B, Sparse::D));
     assert!(rt; EnumSet::<Wide>::bit_width() == 131);
     assert!(rt; EnumSet::<Wide>::variant_count() == 3);
     assert!(rt; EnumSet::bit_index(Wide::Q) == 64);
     assert!(rt; answers(Wide::P, Wide::R));
+}
+
+#[test]
+fn a_set_equals_its_clone(rt: HostRuntime) {
+    assert!(rt; equals_its_clone(&two_of(Letters::A, Letters::G)));
+    assert!(rt; equals_its_clone(&two_of(Sparse::B, Sparse::D)));
+    assert!(rt; equals_its_clone(&two_of(Wide::P, Wide::R)));
 }
 
 // A line of the elements' texts and that of their set.

@@ -129,14 +129,16 @@ letters
 ==
 ";
 
-// How many runs of a text, up to the first that has others, have the replies that stand with them. The
-// text has the form of `RUNS`.
+// How many runs of a text have the replies that stand with them, up to the first that has others or names
+// no type. The text has the form of `RUNS`.
 fn replying_so(alloc: Global, runs: &str) -> Result<usize, TextFault> {
     let mut replying = 0usize;
     for run in runs.split("--\n").skip(1) {
         let (asked, output) = run.split_once("==\n").unwrap_or((run, ""));
         let (name, input) = asked.split_once("\n").unwrap_or((asked, ""));
-        let kind = worked(name).unwrap_or(Worked::Letters);
+        let Some(kind) = worked(name) else {
+            break;
+        };
         if serve_worked(alloc, kind, input.as_bytes())?.as_slice() != output.as_bytes() {
             break;
         }

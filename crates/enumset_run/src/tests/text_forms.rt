@@ -16,13 +16,16 @@ fn bad_line(alloc: Global, input: &[u8]) -> Option<u64> {
 fn lines_and_words_may_be_spaced(rt: HostRuntime) -> Result<(), Fail> {
     let inputs =
         "insert 0 6\n|insert 000 00000000000000000000006\n|insert   0  6\n|  insert 0 6   \n\
-        |insert 0 6\r\n|insert 0 6 \r\n|insert 0 6|\n\n  \n \r\n\r\ninsert 0 6\n\n";
+        |insert 0 6\r\n|insert 0 6 \r\n|insert 0 6|\n\n  \n \r\n\r\ninsert 0 6\n\n\
+        |insert 0 6\n  |  insert 0 6";
     for input in inputs.split('|') {
         let answer = serve_worked(rt.alloc(), Worked::Letters, input.as_bytes())?;
         assert!(rt; answer.as_slice() == b"true\n".as_slice(), "{input}");
     }
-    let no_command = serve_worked(rt.alloc(), Worked::Letters, b" \r\n  \n")?;
-    assert!(rt; no_command.is_empty());
+    for input in ["", "  ", "\n  ", " \r\n  \n"] {
+        let no_command = serve_worked(rt.alloc(), Worked::Letters, input.as_bytes())?;
+        assert!(rt; no_command.is_empty(), "{input}");
+    }
     Ok(())
 }
 
@@ -41,9 +44,15 @@ fn other_lines_are_no_commands(rt: HostRuntime) {
     assert!(rt; bad_line(rt.alloc(), b"len 0\n\ninsert 0\n") == Some(3));
     assert!(rt; bad_line(rt.alloc(), b"len 0\n\n \r\nlen\nleft\n") == Some(4));
     assert!(rt; bad_line(rt.alloc(), b"\nlen") == Some(2));
-    // there is no command `compare`
+    // there are no such commands
+    for line in ["compare 0 1", "number 0 8", "words 0 1", "has_bit 0 1"] {
+        assert!(rt; bad_line(rt.alloc(), line.as_bytes()) == Some(1), "{line}");
+    }
     let compares =
-        b"clear 1\ninsert 1 10\ninsert 1 127\nclear 2\ninsert 2 20\ninsert 2 30\ninsert 2 10\ninsert 2 127\ndifference 3 1 2\nremove_all 1 2\nremove 0 30\nclear 3\ninsert 3 30\niter 0 3\nnext 0\nnext 0\nleft 0\nnew 1\nonly 1 2147483647\ninsert 255 2147483647\nsubset 0 255\ncompare 1 1\nclear 0\n";
+        b"clear 1\ninsert 1 10\ninsert 1 127\nclear 2\ninsert 2 20\ninsert 2 30\ninsert 2 10\n\
+        insert 2 127\ndifference 3 1 2\nremove_all 1 2\nremove 0 30\nclear 3\ninsert 3 30\niter 0 3\n\
+        next 0\nnext 0\nleft 0\nnew 1\nonly 1 2147483647\ninsert 255 2147483647\nsubset 0 255\n\
+        compare 1 1\nclear 0\n";
     assert!(rt; bad_line(rt.alloc(), compares) == Some(22));
 }
 
