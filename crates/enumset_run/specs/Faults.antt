@@ -1,9 +1,17 @@
--- The texts and exit statuses of the program's faults.
-use Rattle.std.specs.Prelude.{ℕ, List, codes}
-use Rattle.enumset_run.specs.Texts.{fault_text}
+-- The texts of faults, and the exit statuses of the program's.
+--     fault_text      the text of why a text of commands has no answer
+--     program_fault_text, status_of      the text and the exit status of a fault of the program
+use Rattle.std.specs.Prelude.{ℕ, List, ◌++◌, codes}
+use Rattle.std.specs.Fmt.{decimal}
+use Rattle.enumset_run.specs.declared.text_fault.TextFault.{TextFault}
 use Rattle.enumset_run.specs.declared.text_fault.TextFault.TheVariants.{TooLong, BadLine, OutOfMemory}
 use Rattle.enumset_run.specs.declared.fault.ProgramFault.{ProgramFault}
 use Rattle.enumset_run.specs.declared.fault.ProgramFault.TheVariants.{OneArgument, UnknownType, Text, Reading, Writing}
+
+abbrev pub fault_text : TextFault → List ℕ
+fault_text TooLong = codes "input too long"
+fault_text (BadLine n) = codes "line " ++ decimal n ++ codes ": not a command"
+fault_text OutOfMemory = codes "out of memory"
 
 abbrev pub program_fault_text : ProgramFault → List ℕ
 program_fault_text OneArgument = codes "one argument: the name of a type"

@@ -1,12 +1,9 @@
 -- The texts of replies.
 --     text_of      the text of a reply
 --     text      the texts of replies, each followed by one line feed
---     fault_text      the text of what a text of commands fails by
 use Rattle.std.specs.Prelude.{ℕ, Bool, true, false, List, [], ◌∷◌, ◌++◌, codes}
 use Rattle.std.specs.List.{flat_map}
 use Rattle.std.specs.Fmt.{decimal}
-use Rattle.enumset_run.specs.declared.text_fault.TextFault.{TextFault}
-use Rattle.enumset_run.specs.declared.text_fault.TextFault.TheVariants.{TooLong, BadLine, OutOfMemory}
 use Rattle.enumset_run.specs.declared.reply.Reply.{Reply}
 use Rattle.enumset_run.specs.declared.reply.Reply.TheVariants.{Done, Truth, Count, Bit, Absent, Refused}
 use Rattle.enumset_run.specs.declared.reply.Refusal.{Refusal}
@@ -30,8 +27,3 @@ text_of (Refused r) = refusal_text r
 
 abbrev pub text : List Reply → List ℕ
 text rs = flat_map (λ r. text_of r ++ 10 ∷ []) rs
-
-abbrev pub fault_text : TextFault → List ℕ
-fault_text TooLong = codes "input too long"
-fault_text (BadLine n) = codes "line " ++ decimal n ++ codes ": not a command"
-fault_text OutOfMemory = codes "out of memory"

@@ -12,7 +12,7 @@ use crate::wide::Wide;
 use crate::worked::Worked;
 use std::alloc::Global;
 
-/// The type of this name, byte by byte.
+/// The type of this name, byte by byte, or `None` where no type has that name.
 pub fn worked(name: &str) -> Option<Worked>
     ensures { result ≡ worked_of name.now }
 {
@@ -25,6 +25,10 @@ pub fn worked(name: &str) -> Option<Worked>
 }
 
 /// The text of the replies to the commands of an input, over the type of that kind.
+///
+/// The errors are [`TextFault::TooLong`] for an input of more than 1,048,576 bytes, else
+/// [`TextFault::BadLine`] for the first line that is no command, and [`TextFault::OutOfMemory`] for want of
+/// memory, which may come in the place of a bad line.
 pub fn serve_worked(alloc: Global, kind: Worked, input: &[u8]) -> Result<Vec<u8>, TextFault>
     ensures answer { IfOk result (λ out. answer_to (valid_bits_of kind) input.now ≡ Ok out.items) }
     ensures fault { IfErr result (λ fault. (answer_to (valid_bits_of kind) input.now ≡ Err fault) ⊎ (fault ≡ TextFault.OutOfMemory)) }

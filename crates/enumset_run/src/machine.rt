@@ -49,7 +49,9 @@ impl<T: EnumSetType> Machine<T> {
         }
     }
 
-    /// Carries out one command. No command here takes memory.
+    /// Carries out one command. A refused command changes nothing.
+    ///
+    /// No command here takes memory, so there is always a reply.
     #[tactic(auto, unfolding(crate::specs::Runs::outcome))]
     pub fn step(&mut self, alloc: Global, command: &Command) -> Result<Reply, AllocError>
         ensures succeeds { IsOk result }
@@ -67,6 +69,7 @@ impl<T: EnumSetType> Machine<T> {
         Ok(self.carry_out(command))
     }
 
+    // Carries out a command that is not refused.
     fn carry_out(&mut self, command: &Command) -> Reply
         requires registers { names_registers command.now ≡ true }
         requires bits { AreBitsOf T.bits (bits_named command.now) }

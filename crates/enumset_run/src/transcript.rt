@@ -5,7 +5,7 @@ ghost use Rattle.enumset_run.specs.Texts.{text};
 use crate::reply::Reply;
 use std::alloc::{AllocError, Global};
 
-/// The texts of replies, each followed by one line feed.
+/// The texts of replies, each followed by one line feed. The only error is want of memory for them.
 pub fn write_replies(alloc: Global, replies: &[Reply]) -> Result<Vec<u8>, AllocError>
     ensures { IfOk result (λ out. out.items ≡ text replies.now) }
 {

@@ -12,6 +12,7 @@ use enumset_sets::enum_set::EnumSet;
 use enumset_sets::enum_set_iter::EnumSetIter;
 
 impl<T: EnumSetType> Machine<T> {
+    // The set in a register.
     pub(super) fn get(&self, r: u8) -> EnumSet<T>
         requires { is_set_register r ≡ true }
         ensures { result ≡ set_at self.now r }
@@ -19,6 +20,7 @@ impl<T: EnumSetType> Machine<T> {
         self.sets.get(r)
     }
 
+    // Puts a set into a register.
     pub(super) fn put(&mut self, r: u8, elements: EnumSet<T>) -> Reply
         requires { is_set_register r ≡ true }
         ensures reply { result ≡ Done }
@@ -28,6 +30,7 @@ impl<T: EnumSetType> Machine<T> {
         Reply::Done
     }
 
+    // Puts an iterator into a register.
     pub(super) fn put_iterator(&mut self, i: u8, items: EnumSetIter<T>) -> Reply
         requires { is_iterator_register i ≡ true }
         ensures reply { result ≡ Done }
@@ -37,6 +40,7 @@ impl<T: EnumSetType> Machine<T> {
         Reply::Done
     }
 
+    // Puts an element into the set in a register, and replies whether it was absent.
     pub(super) fn insert(&mut self, r: u8, value: T) -> Reply
         requires { is_set_register r ≡ true }
         ensures reply { result ≡ Truth (not (set.contains (set_at self.old r) (T.bit value))) }
@@ -48,6 +52,7 @@ impl<T: EnumSetType> Machine<T> {
         Reply::Truth(is_new)
     }
 
+    // Takes an element out of the set in a register, and replies whether it was present.
     pub(super) fn remove(&mut self, r: u8, value: T) -> Reply
         requires { is_set_register r ≡ true }
         ensures reply { result ≡ Truth (set.contains (set_at self.old r) (T.bit value)) }
@@ -59,6 +64,7 @@ impl<T: EnumSetType> Machine<T> {
         Reply::Truth(was_present)
     }
 
+    // Takes all members out of the set in a register.
     pub(super) fn clear(&mut self, r: u8) -> Reply
         requires { is_set_register r ≡ true }
         ensures reply { result ≡ Done }
@@ -69,6 +75,7 @@ impl<T: EnumSetType> Machine<T> {
         self.put(r, elements)
     }
 
+    // Makes each member of a set one of the set in a register.
     pub(super) fn insert_all(&mut self, r: u8, others: EnumSet<T>) -> Reply
         requires { is_set_register r ≡ true }
         ensures reply { result ≡ Done }
@@ -79,6 +86,7 @@ impl<T: EnumSetType> Machine<T> {
         self.put(r, elements)
     }
 
+    // Takes each member of a set out of the set in a register.
     pub(super) fn remove_all(&mut self, r: u8, others: EnumSet<T>) -> Reply
         requires { is_set_register r ≡ true }
         ensures reply { result ≡ Done }
