@@ -6,7 +6,7 @@
 --     lines      the commands of an input, or the number of the first line that is no command
 use Rattle.std.specs.Prelude.{◌==◌, ℕ, ◌+◌, ◌-◌, ◌*◌, ◌^◌, Bool, true, false, not, ◌&&◌, nat_lt, List, [], ◌∷◌, filter, Option, Some, None, option_and_then, Result, Ok, Err, if◌then◌else◌}
 use Rattle.std.specs.List.{slice_split}
-use Rattle.std.specs.Str.{all_ascii_digits}
+use Rattle.std.specs.Str.{all_ascii_digits, byte}
 use Rattle.std.specs.Str.Lines as text
 use Rattle.std.specs.Option.{option_or}
 use Rattle.enumset_run.specs.declared.command.Command.{Command}
@@ -23,12 +23,12 @@ is_empty (b ∷ bs) = false
 
 -- the parts between spaces that are not empty
 abbrev pub words_of : List ℕ → List (List ℕ)
-words_of line = filter (λ word. not (is_empty word)) (slice_split (λ b. b == 32) line)
+words_of line = filter (λ word. not (is_empty word)) (slice_split (λ b. b == byte " ") line)
 
 -- the number that digits write after those that stood for n
 abbrev pub value_after : ℕ → List ℕ → ℕ
 value_after n [] = n
-value_after n (d ∷ ds) = value_after (10 * n + (d - 48)) ds
+value_after n (d ∷ ds) = value_after (10 * n + (d - byte "0")) ds
 
 -- the number that a word of one or more decimal digits writes, if it is below the limit
 abbrev pub field : ℕ → List ℕ → Option ℕ

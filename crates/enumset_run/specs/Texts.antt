@@ -1,7 +1,7 @@
 -- The texts of replies.
 --     text_of      the text of a reply
 --     text      the texts of replies, each followed by one line feed
-use Rattle.std.specs.Prelude.{ℕ, Bool, true, false, List, [], ◌∷◌, ◌++◌, codes}
+use Rattle.std.specs.Prelude.{ℕ, Bool, true, false, List, ◌++◌, codes}
 use Rattle.std.specs.List.{flat_map}
 use Rattle.std.specs.Fmt.{decimal}
 use Rattle.enumset_run.specs.declared.reply.Reply.{Reply}
@@ -26,4 +26,4 @@ text_of Absent = codes "none"
 text_of (Refused r) = refusal_text r
 
 abbrev pub text : List Reply → List ℕ
-text rs = flat_map (λ r. text_of r ++ 10 ∷ []) rs
+text rs = flat_map (λ r. text_of r ++ codes "\n") rs
