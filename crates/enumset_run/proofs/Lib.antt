@@ -5,3 +5,5 @@ pub mod Fields
 pub mod Commands
 pub mod Tables
 pub mod Replies
+pub mod Inputs
+pub mod Names

@@ -1,7 +1,8 @@
 -- The texts of faults, and the exit statuses of the program's.
 --     fault_text      the text of why a text of commands has no answer
 --     program_fault_text, status_of      the text and the exit status of a fault of the program
-use Rattle.std.specs.Prelude.{ℕ, List, ◌++◌, codes}
+--     IsFaultOver      the program may fail so, over an input whose answer is given
+use Rattle.std.specs.Prelude.{◌≡◌, ◌≢◌, ℕ, List, [], ◌++◌, codes, Result, Ok, Err, ⊤}
 use Rattle.std.specs.Fmt.{decimal}
 use Rattle.enumset_run.specs.declared.text_fault.TextFault.{TextFault}
 use Rattle.enumset_run.specs.declared.text_fault.TextFault.TheVariants.{TooLong, BadLine, OutOfMemory}
@@ -29,3 +30,14 @@ status_of (Text (BadLine n)) = 2
 status_of (Text OutOfMemory) = 3
 status_of Reading = 1
 status_of Writing = 1
+
+-- Reading and memory may fail over any input, and writing where there is something to write. Else the
+-- fault is the input's own.
+abbrev pub IsFaultOver : Result (List ℕ) TextFault → ProgramFault → Type 0
+IsFaultOver answer OneArgument = ⊥
+IsFaultOver answer UnknownType = ⊥
+IsFaultOver answer (Text TooLong) = answer ≡ Err TooLong
+IsFaultOver answer (Text (BadLine n)) = answer ≡ Err (BadLine n)
+IsFaultOver answer (Text OutOfMemory) = ⊤
+IsFaultOver answer Reading = ⊤
+IsFaultOver answer Writing = answer ≢ Ok []

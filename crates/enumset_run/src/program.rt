@@ -1,49 +1,85 @@
 // What the program does: its argument, its input and its output.
 
+ghost use Rattle.std.specs.Prelude.{◌≡◌, ◌≢◌, ◌⊎◌, ◌+◌, [], ok_or, take, IfOk, IfErr, IfSome, OnOk, IsOk, IsOkAnd};
+ghost use Rattle.std.specs.Io.KnownBytes.{Appends};
+ghost use Rattle.enumset_run.specs.Answers.{answer_to, input_limit};
+ghost use Rattle.enumset_run.specs.Faults.{IsFaultOver};
+ghost use Rattle.enumset_run.specs.Kinds.{valid_bits_of, worked_of};
+
 use crate::fault::ProgramFault;
 use crate::kinds::{serve_worked, worked};
 use crate::serve::INPUT_LIMIT;
 use crate::text_fault::TextFault;
 use crate::worked::Worked;
+use std::alloc::Global;
 use std::env::{Env, FillError};
-use std::io::{self, ErrorKind, Read, Write};
+use std::io::{self, ErrorKind, Input, Print, Read, Write};
 use std::str;
 
 // The longest name of a type has fewer bytes.
 const NAME_LIMIT: usize = 64;
 
 /// Tests the argument, reads the input, and writes the answer once.
-pub fn answer(rt: &HostRuntime) -> Result<(), ProgramFault> {
+pub fn answer<R: Env + Input + Print + AllocGlobal>(rt: &R) -> Result<(), ProgramFault> {
     let kind = requested_type(rt)?;
-    let input = read_input(rt)?;
-    let output = serve_worked(rt.alloc(), kind, &input)?;
-    write_output(rt, &output)
+    answer_input(rt.alloc(), kind, rt.reader(), &mut io::writer(rt))
 }
 
-// The type that the one argument names.
-fn requested_type(rt: &HostRuntime) -> Result<Worked, ProgramFault> {
+// The type that the one argument names. No clause can say what the arguments are.
+fn requested_type<E: Env>(env: &E) -> Result<Worked, ProgramFault>
+    ensures { IfErr result (λ fault. (fault ≡ ProgramFault.OneArgument) ⊎ (fault ≡ ProgramFault.UnknownType)) }
+{
     let mut name = [0u8; NAME_LIMIT];
-    let first = rt.arg(1, &mut name);
+    let first = env.arg(1, &mut name);
     let mut next = [0u8; 1];
-    let second = rt.arg(2, &mut next);
+    let second = env.arg(2, &mut next);
     match (first, second) {
-        (Ok(len), Err(FillError::NotPresent)) => {
-            let text = str::from_utf8(&name[..len]).map_err(|_| ProgramFault::UnknownType)?;
-            worked(text).ok_or(ProgramFault::UnknownType)
-        }
+        (Ok(len), Err(FillError::NotPresent)) => type_named(&name[..len]),
         (Err(FillError::TooLong), Err(FillError::NotPresent)) => Err(ProgramFault::UnknownType),
         _ => Err(ProgramFault::OneArgument),
     }
 }
 
-// Standard input until its end, or until there is one byte too many.
-fn read_input(rt: &HostRuntime) -> Result<Vec<u8>, ProgramFault> {
-    let mut input = Vec::new(rt.alloc());
-    let mut reader = rt.reader().take(INPUT_LIMIT as u64 + 1);
+// The type of the name that these bytes are.
+#[tactic(auto, using(crate::proofs::Names::name_steps))]
+fn type_named(name: &[u8]) -> Result<Worked, ProgramFault>
+    ensures { result ≡ ok_or (worked_of name.now) ProgramFault.UnknownType }
+{
+    let text = str::from_utf8(name).map_err(|_| ProgramFault::UnknownType)?;
+    worked(text).ok_or(ProgramFault::UnknownType)
+}
+
+// Answers the bytes of a reader on a writer, over the type of that kind.
+fn answer_input<R: Read + Drop, W: Write>(
+    alloc: Global,
+    kind: Worked,
+    reader: R,
+    writer: &mut W,
+) -> Result<(), ProgramFault>
+    // Where the bytes of the reader are known, the writer gets the answer to them, and a fault is one that
+    // they may have.
+    ensures answer { OnOk result (IfSome (R.remaining reader) (λ input. IsOkAnd (answer_to (valid_bits_of kind) input) (Appends (W.contents writer.old) (W.contents writer.new)))) }
+    ensures fault { IfErr result (λ fault. IfSome (R.remaining reader) (λ input. IsFaultOver (answer_to (valid_bits_of kind) input) fault)) }
+    // Nothing is written before a fault, but where writing itself fails.
+    ensures untouched { IfErr result (λ fault. fault ≢ ProgramFault.Writing → writer.new ≡ writer.old) }
+{
+    let input = read_input(alloc, reader)?;
+    let output = serve_worked(alloc, kind, &input)?;
+    write_output(writer, &output)
+}
+
+// The bytes of a reader until its end, or until there is one too many. A read that was interrupted is tried
+// again.
+fn read_input<R: Read + Drop>(alloc: Global, reader: R) -> Result<Vec<u8>, ProgramFault>
+    ensures bytes { IfOk result (λ input. IfSome (R.remaining reader) (λ bytes. input.items ≡ take (input_limit + 1) bytes)) }
+    ensures fault { IfErr result (λ fault. (fault ≡ ProgramFault.Reading) ⊎ (fault ≡ ProgramFault.Text TextFault.OutOfMemory)) }
+{
+    let mut input = Vec::new(alloc);
+    let mut reader = reader.take(INPUT_LIMIT as u64 + 1);
     let mut block = [0u8; 16384];
     for _ in 0..u64::MAX {
         match reader.read(&mut block) {
-            Ok(0) => break,
+            Ok(0) => return Ok(input),
             Ok(count) => input
                 .extend_from_slice(&block[..count])
                 .map_err(TextFault::from)?,
@@ -51,15 +87,19 @@ fn read_input(rt: &HostRuntime) -> Result<Vec<u8>, ProgramFault> {
             Err(_) => return Err(ProgramFault::Reading),
         }
     }
-    Ok(input)
+    Err(ProgramFault::Reading)
 }
 
 // Writes an answer that is not empty.
-fn write_output(rt: &HostRuntime, output: &[u8]) -> Result<(), ProgramFault> {
+fn write_output<W: Write>(writer: &mut W, output: &[u8]) -> Result<(), ProgramFault>
+    ensures written { OnOk result (Appends (W.contents writer.old) (W.contents writer.new) output.now) }
+    ensures fault { IfErr result (λ fault. fault ≡ ProgramFault.Writing) }
+    // An empty answer writes nothing.
+    ensures succeeds { output.now ≡ [] → IsOk result }
+    ensures untouched { output.now ≡ [] → writer.new ≡ writer.old }
+{
     if output.is_empty() {
         return Ok(());
     }
-    io::writer(rt)
-        .write_all(output)
-        .map_err(|_| ProgramFault::Writing)
+    writer.write_all(output).map_err(|_| ProgramFault::Writing)
 }

@@ -2,5 +2,6 @@
 
 mod element_types;
 mod faults;
+mod program;
 mod runs;
 mod text_forms;
