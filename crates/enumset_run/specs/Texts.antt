@@ -1,4 +1,5 @@
 -- The texts of replies.
+--     refusal_text, truth_text      the text of a refusal;  that of yes or no
 --     text_of      the text of a reply
 --     text      the texts of replies, each followed by one line feed
 use Rattle.std.specs.Prelude.{ℕ, Bool, true, false, List, ◌++◌, codes}
