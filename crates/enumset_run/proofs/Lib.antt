@@ -1,4 +1,3 @@
-pub mod Lists
 pub mod Lines
 pub mod Words
 pub mod Fields

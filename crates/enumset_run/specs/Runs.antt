@@ -9,6 +9,7 @@ use Rattle.std.specs.List.{slice_index_or, list_all}
 use Rattle.std.specs.Coded.{Coded, code_by, coded×, coded_list, coded_ℕ}
 use Rattle.enumset_repr.specs.BitSet as set
 use Rattle.enumset_repr.specs.BitSet.{BitSet}
+use Rattle.enumset_repr.specs.Ends.{first, last, without_first, without_last}
 use Rattle.enumset_run.specs.declared.command.Command.{Command}
 use Rattle.enumset_run.specs.declared.command.Command.TheVariants.{New, All, Only, Insert, Remove, Contains, Clear, Len, IsEmpty, Union, Intersection, Difference, SymmetricDifference, Complement, InsertAll, RemoveAll, Disjoint, Superset, Subset, Equal, Iter, Next, NextBack, Left}
 use Rattle.enumset_run.specs.declared.reply.Reply.{Reply}
@@ -144,26 +145,6 @@ names_bits valid c = list_all (set.contains valid) (bits_named c)
 abbrev pub refusal : BitSet → Command → Option Refusal
 refusal valid c = if not (names_registers c) then Some NoRegister else if not (names_bits valid c) then Some NotABit else None
 
--- the first and the last of a list
-abbrev pub first_of : List ℕ → Option ℕ
-first_of [] = None
-first_of (b ∷ bs) = Some b
-
-abbrev pub last_of : List ℕ → Option ℕ
-last_of [] = None
-last_of (b ∷ []) = Some b
-last_of (b ∷ c ∷ bs) = last_of (c ∷ bs)
-
--- a list without its first, and without its last
-abbrev pub without_first : List ℕ → List ℕ
-without_first [] = []
-without_first (b ∷ bs) = bs
-
-abbrev pub without_last : List ℕ → List ℕ
-without_last [] = []
-without_last (b ∷ []) = []
-without_last (b ∷ c ∷ bs) = b ∷ without_last (c ∷ bs)
-
 -- what a step replies
 abbrev pub bit_or_absent : Option ℕ → Reply
 bit_or_absent None = Absent
@@ -192,8 +173,8 @@ reply_of s (Superset a b) = Truth (set.is_subset (set_at s b) (set_at s a))
 reply_of s (Subset a b) = Truth (set.is_subset (set_at s a) (set_at s b))
 reply_of s (Equal a b) = Truth (set.is_same (set_at s a) (set_at s b))
 reply_of s (Iter i r) = Done
-reply_of s (Next i) = bit_or_absent (first_of (list_at s i))
-reply_of s (NextBack i) = bit_or_absent (last_of (list_at s i))
+reply_of s (Next i) = bit_or_absent (first (list_at s i))
+reply_of s (NextBack i) = bit_or_absent (last (list_at s i))
 reply_of s (Left i) = Count (length (list_at s i))
 
 -- the state that such a command leaves

@@ -2,7 +2,7 @@
 
 ghost use Rattle.std.specs.Prelude.{◌≡◌, true, slice_set, slice_index_or, [], length};
 ghost use Rattle.enumset_run.specs.Runs as model;
-ghost use Rattle.enumset_run.specs.Runs.{first_of, last_of, without_first, without_last};
+ghost use Rattle.enumset_repr.specs.Ends.{first, last, without_first, without_last};
 
 use enumset_sets::element::EnumSetType;
 use enumset_sets::enum_set::EnumSet;
@@ -125,7 +125,7 @@ impl<T: EnumSetType> IteratorRegisters<T> {
     // One step from the front of the iterator in a register.
     pub(super) fn next(&mut self, i: u8) -> Option<T>
         requires { model.is_iterator_register i ≡ true }
-        ensures given { option_map T.bit result ≡ first_of (slice_index_or self.old i []) }
+        ensures given { option_map T.bit result ≡ first (slice_index_or self.old i []) }
         ensures left { self.new ≡ slice_set self.old i (without_first (slice_index_or self.old i [])) }
     {
         match i {
@@ -135,10 +135,10 @@ impl<T: EnumSetType> IteratorRegisters<T> {
     }
 
     // One step from the back of the iterator in a register.
-    #[tactic(auto, using(crate::proofs::Lists::lasts))]
+    #[tactic(auto, using(enumset_repr::specs::Laws::Steps::lasts))]
     pub(super) fn next_back(&mut self, i: u8) -> Option<T>
         requires { model.is_iterator_register i ≡ true }
-        ensures given { option_map T.bit result ≡ last_of (slice_index_or self.old i []) }
+        ensures given { option_map T.bit result ≡ last (slice_index_or self.old i []) }
         ensures left { self.new ≡ slice_set self.old i (without_last (slice_index_or self.old i [])) }
     {
         match i {

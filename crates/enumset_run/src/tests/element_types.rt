@@ -18,7 +18,9 @@ fn starts_empty<T: EnumSetType>() -> bool {
 }
 
 fn tells_a_set_of_one<T: EnumSetType>(a: T, b: T) -> bool {
-    EnumSet::only(a).eq_element(a) && !two_of(a, b).eq_element(a)
+    EnumSet::only(a).eq_element(a)
+        && !two_of(a, b).eq_element(a)
+        && two_of(a, b).intersection(EnumSet::only(a)).eq_element(a)
 }
 
 fn has_the_older_name<T: EnumSetType>(a: T, b: T) -> bool {
