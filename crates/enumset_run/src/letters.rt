@@ -71,7 +71,7 @@ impl fmt::Display for Letters {
         match self {
             Letters::A => write!(f, "A"),
             Letters::B => write!(f, "B"),
-            Letters::C => write!(f, "D"),
+            Letters::C => write!(f, "C"),
             Letters::D => write!(f, "D"),
             Letters::E => write!(f, "E"),
             Letters::F => write!(f, "F"),
