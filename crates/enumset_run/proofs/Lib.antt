@@ -6,3 +6,4 @@ pub mod Tables
 pub mod Replies
 pub mod Inputs
 pub mod Names
+pub mod Transcripts
