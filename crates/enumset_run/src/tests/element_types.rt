@@ -27,24 +27,18 @@ fn has_the_older_name<T: EnumSetType>(a: T, b: T) -> bool {
     two_of(a, b).symmetrical_difference(EnumSet::only(a)) == EnumSet::only(b)
 }
 
-// A clone and the iterator that it was made of have the same items left.
-fn clones_its_place<T: EnumSetType>(a: T, b: T) -> bool {
-    let mut iter = two_of(a, b).iter();
+// A clone of a set is equal to it, and a clone of an iterator has the same items left.
+fn clones<T: EnumSetType>(a: T, b: T) -> bool {
+    let set = two_of(a, b).clone().unwrap();
+    let mut iter = set.iter();
     iter.next();
     let mut same = iter.clone().unwrap();
-    same.next_back() == Some(b) && iter.size_hint() == (1, Some(1))
-}
-
-fn equals_its_clone<V: Clone + PartialEq>(value: &V) -> bool {
-    value.clone().is_ok_and(|same| same == *value)
+    set == two_of(a, b) && same.next_back() == Some(b) && iter.size_hint() == (1, Some(1))
 }
 
 // Of two elements in the order of their bits.
 fn answers<T: EnumSetType>(a: T, b: T) -> bool {
-    starts_empty::<T>()
-        && tells_a_set_of_one(a, b)
-        && has_the_older_name(a, b)
-        && clones_its_place(a, b)
+    starts_empty::<T>() && tells_a_set_of_one(a, b) && has_the_older_name(a, b) && clones(a, b)
 }
 
 #[test]
@@ -64,13 +58,6 @@ fn each_call_answers(rt: HostRuntime) {
     assert!(rt; EnumSet::<Wide>::variant_count() == 3);
     assert!(rt; EnumSet::bit_index(Wide::Q) == 64);
     assert!(rt; answers(Wide::P, Wide::R));
-}
-
-#[test]
-fn a_set_equals_its_clone(rt: HostRuntime) {
-    assert!(rt; equals_its_clone(&two_of(Letters::A, Letters::G)));
-    assert!(rt; equals_its_clone(&two_of(Sparse::B, Sparse::D)));
-    assert!(rt; equals_its_clone(&two_of(Wide::P, Wide::R)));
 }
 
 // A line of the elements' texts and that of their set.
