@@ -15,8 +15,8 @@ pub const INPUT_LIMIT: usize = 1_048_576;
 
 /// The text of the replies to the commands of an input.
 ///
-/// An input of more than [`INPUT_LIMIT`] bytes is too long, which is tested first. A line that is no
-/// command is reported, the first of them, and then nothing is run.
+/// An input of more than [`INPUT_LIMIT`] bytes is too long, which is tested first. If some line is no
+/// command there are no replies: the fault is the first such line, or want of memory in its place.
 pub fn serve_text<T: EnumSetType>(alloc: Global, input: &[u8]) -> Result<Vec<u8>, TextFault>
     // The replies are those of finite sets of bit numbers.
     ensures answer { IfOk result (λ out. answer_to (T.Repr.members T.ALL_BITS) input.now ≡ Ok out.items) }

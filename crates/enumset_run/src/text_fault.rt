@@ -9,7 +9,7 @@ use std::fmt;
 pub enum TextFault {
     /// The input has more than 1,048,576 bytes.
     TooLong,
-    /// The line of this number, counted from 1, is not a command.
+    /// The line of this number, counted from 1, is the first that is not a command.
     BadLine(u64),
     /// There is no memory left.
     OutOfMemory,

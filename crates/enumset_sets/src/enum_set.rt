@@ -14,8 +14,8 @@ use std::marker::{Model, PhantomData};
 
 /// A set of elements, kept as a value of its store.
 ///
-/// It mirrors `EnumSet` of Rust's `enumset`, and each call the one of its name there. The parameter `R` is
-/// always the store of `T`: write `EnumSet<T>`.
+/// It mirrors `EnumSet` of Rust's `enumset`, and each call but `eq_element` the one of its name there. The
+/// parameter `R` is always the store of `T`: write `EnumSet<T>`.
 pub struct EnumSet<T: EnumSetType, R: EnumSetTypeRepr = <T as EnumSetType>::Repr> {
     repr: R,
     of: PhantomData<T>,
