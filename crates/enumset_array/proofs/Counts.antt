@@ -5,10 +5,11 @@ use Rattle.std.proofs.lemmas.List.{length-map}
 use Rattle.std.proofs.lemmas.List.Sums.{sum_by-cons}
 use Rattle.std.proofs.lemmas.List.Folds.{list_any-append}
 use Rattle.std.proofs.lemmas.Bool.Decides.{nat_tests}
+use Rattle.std.proofs.lemmas.Bool.{eq-eqb, or_left, or_right}
 use Rattle.enumset_repr.specs.BitSet.{is_in, rising, len, empty}
 use Rattle.enumset_repr.specs.Number.{bits}
 use Rattle.enumset_repr.specs.Words.{raised}
-use Rattle.enumset_repr.specs.Laws.Members.{contains-union, contains-from_list, contains-rising, itself, or_left, or_right}
+use Rattle.enumset_repr.specs.Laws.Members.{contains-union, contains-from_list, contains-rising}
 use Rattle.enumset_repr.specs.Laws.Rising.{RisesFrom, rising-rises, rising_is, len-rising, rising-empty}
 use Rattle.enumset_array.specs.WordList.{bits_of, items_of}
 use Rattle.enumset_array.specs.Laws.Bits.{contains-bits_above}
@@ -17,7 +18,7 @@ rises-append : (k m : ℕ) (xs ys : List ℕ) → k ≤ m → RisesFrom k xs →
 rises-append k m [] [] h rises small above = tt
 rises-append k m [] (y ∷ ys) h rises small above = (omega (arith, above.0), above.1)
 rises-append k m (x ∷ xs) ys h rises small above =
-    (rises.0, rises-append (suc x) m xs ys (small x (or_left (x == x) _ (itself x))) rises.1 (λ q one. small q (or_right (q == x) _ one)) above)
+    (rises.0, rises-append (suc x) m xs ys (small x (or_left (x == x) _ (eq-eqb x x refl))) rises.1 (λ q one. small q (or_right (q == x) _ one)) above)
 
 rises-raised : (k : ℕ) (ys : List ℕ) → RisesFrom k ys → RisesFrom (64 + k) (map (λ b. 64 + b) ys)
 rises-raised k [] rises = tt

@@ -1,11 +1,11 @@
 -- A set whose least or greatest member was taken out, by the lists of the members.
 use Rattle.std.proofs.Common.{◌≡◌, ◌<◌, ◌≤◌, ℕ, suc, ◌^◌, Bool, true, false, not, ◌&&◌, ◌||◌, List, [], ◌∷◌, ◌++◌, refl, sym, ap, ◌∙◌, subst, arith, true≢false, inl, inr}
 use Rattle.std.specs.Prelude.{◌==◌, nat_lt}
-use Rattle.std.proofs.lemmas.Bool.{cases_lt, lt-ltb}
+use Rattle.std.proofs.lemmas.Bool.{cases_lt, lt-ltb, eqb-true, eq-eqb, or_left, or_right}
 use Rattle.std.proofs.lemmas.Bool.Decides.{nat_tests}
 use Rattle.enumset_repr.specs.BitSet.{BitSet, is_in, contains, rising, remove, below}
 use Rattle.enumset_repr.specs.Number.{bits}
-use Rattle.enumset_repr.specs.Laws.Members.{same_set, same_number, itself, or_left, or_right, contains-remove, contains-rising, contains-below, contains-is_subset}
+use Rattle.enumset_repr.specs.Laws.Members.{same_set, contains-remove, contains-rising, contains-below, contains-is_subset}
 use Rattle.enumset_repr.specs.Laws.Rising.{RisesFrom, rising-rises, is_in-below, is_in-push}
 use Rattle.enumset_repr.specs.Laws.Numbers.{number-bits, number-within}
 use Rattle.enumset_array.specs.Laws.Bits.{contains-bits_above}
@@ -23,11 +23,11 @@ taken_test q b x h = elim (q == b) as (λ t. (t ≡ true → x ≡ false) → x 
 
 pub rest_of_taken : (s t : BitSet) (b : ℕ) → IsTaken s b t → t ≡ remove s b
 rest_of_taken s t b taken = same_set t (remove s b) (λ q.
-    taken_test q b (contains t q) (λ e. ap (contains t) (same_number q b e) ∙ taken.gone)
+    taken_test q b (contains t q) (λ e. ap (contains t) (eqb-true q b e) ∙ taken.gone)
     ∙ ap (λ c. not (q == b) && c) (sym (taken.was q)) ∙ sym (contains-remove s b q))
 
 pub was_there : (s t : BitSet) (b : ℕ) → IsTaken s b t → contains s b ≡ true
-was_there s t b taken = taken.was b ∙ or_left (b == b) _ (itself b)
+was_there s t b taken = taken.was b ∙ or_left (b == b) _ (eq-eqb b b refl)
 
 -- ---- the least
 

@@ -5,12 +5,12 @@ use Rattle.std.specs.Int.{bit_not}
 use Rattle.std.specs.Int.Bits.{and_lt}
 use Rattle.std.proofs.lemmas.Nat.{or_lt, xor_lt}
 use Rattle.std.proofs.Math.Pow.{ones_sub-lt}
-use Rattle.std.proofs.lemmas.Bool.{cases_lt, lt-ltb}
+use Rattle.std.proofs.lemmas.Bool.{cases_lt, lt-ltb, le-ltb}
 use Rattle.std.proofs.lemmas.Bool.Decides.{nat_tests}
 use Rattle.std.proofs.lemmas.List.{get_or-set_same, get_or-set_other}
 use Rattle.enumset_repr.specs.BitSet.{BitSet, contains, below, intersection, union, difference, symmetric_difference}
 use Rattle.enumset_repr.specs.Number.{bits}
-use Rattle.enumset_repr.specs.Laws.Members.{contains-intersection, contains-union, contains-difference, contains-symmetric_difference, contains-below, not_below}
+use Rattle.enumset_repr.specs.Laws.Members.{contains-intersection, contains-union, contains-difference, contains-symmetric_difference, contains-below}
 use Rattle.enumset_repr.specs.Laws.Numbers.{bits-and, bits-or, bits-xor, bits-not, bits-and_not}
 use Rattle.enumset_array.specs.Stored.{in_use, set_of, is_empty_past, IsStore}
 use Rattle.enumset_array.specs.Laws.Stored.{contains-set_of, set_is, past_is, empty_past}
@@ -124,7 +124,7 @@ turned_set n a r turned = set_is n r _ (turned_store n a r turned) (λ w q small
         ∙ sym (contains-difference _ _ (64 * w + q) ∙ ap (λ t. t && not (contains (set_of n a) (64 * w + q))) (contains-below (64 * in_use n) (64 * w + q) ∙ lt-ltb _ _ (omega (arith, low, small))))
     at w q small (inr past) =
         contains-zero _ q (turned.rest w past ∙ past_is n a w turned.first.past past)
-        ∙ sym (contains-difference _ _ (64 * w + q) ∙ ap (λ t. t && not (contains (set_of n a) (64 * w + q))) (contains-below (64 * in_use n) (64 * w + q) ∙ not_below _ _ (omega (arith, past))))
+        ∙ sym (contains-difference _ _ (64 * w + q) ∙ ap (λ t. t && not (contains (set_of n a) (64 * w + q))) (contains-below (64 * in_use n) (64 * w + q) ∙ le-ltb _ _ (omega (arith, past))))
 
 -- ---- one word more is made
 

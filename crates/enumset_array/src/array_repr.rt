@@ -160,6 +160,8 @@ impl<const N: usize> EnumSetTypeRepr for ArrayRepr<N> {
 
     ghost steps_back = { λ _ _ _ step. step };
 
+    ghost clones = { λ i j copy k. (copy k).items };
+
     ghost left = { λ _. refl };
 }
 

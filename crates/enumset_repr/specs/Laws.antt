@@ -1,6 +1,7 @@
 -- The laws of the definitions, each proved. Nothing here has to be believed: a contract cites the definitions
 -- alone. They stand in specs/ since the stores' laws, and the crates above, cite them.
 --     Members      what `contains` answers at each word on sets, subsets, and that sets with the same members are one
+--     Algebra      the algebra of sets, for users' proofs: order, grouping, De Morgan, what is put in and taken out
 --     Rising      the list of the members, and `len`
 --     Equality      `is_same` is an equivalence
 --     Numbers      sets and numbers, over every width
@@ -10,6 +11,7 @@
 --     Steps      a step from an end of a list: the item that it gives and the others
 --     Integers      the laws of an integer as a store
 pub mod Members
+pub mod Algebra
 pub mod Rising
 pub mod Equality
 pub mod Numbers

@@ -151,5 +151,9 @@ pub trait EnumSetTypeRepr: Copy
 
     ghost steps_back: { (i : Self.Iter) (r : Option ℕ) (j : Self.Iter) → Self.Iter.DoubleEndedIterator.next_back_gives i r j → YieldsLast rest i r j };
 
+    // A clone has the same items left.
+    ghost clones: { (i j : Self.Iter) → Self.Iter.Clone.is_clone i j → rest j ≡ rest i };
+
+    // No more items come than are left.
     ghost left: { (i : Self.Iter) → Self.Iter.Iterator.remaining i ≡ item_count rest i };
 }

@@ -4,18 +4,18 @@ use Rattle.std.specs.Prelude.{◌==◌}
 use denote.Enum.Declared.{Declared, rowss, tag_of}
 use denote.Enum.Enum.{tag_below}
 use denote.Enum.Bare.{Bare, tag_one, sameb, same_true, true_same}
-use Rattle.std.proofs.lemmas.Bool.{or_cases, cases_lt}
+use Rattle.std.proofs.lemmas.Bool.{or_cases, cases_lt, eqb-true, eq-eqb, not-true, and_parts, or_left, or_right}
 use Rattle.enumset_repr.specs.BitSet.{BitSet, is_in, contains, from_list, rising, len, is_subset}
 use Rattle.enumset_repr.specs.Number.{is_distinct}
 use Rattle.enumset_repr.specs.Ends.{last, greatest}
 use Rattle.std.specs.List.{last_or}
-use Rattle.enumset_repr.specs.Laws.Members.{same_number, itself, not_true, both, or_left, or_right, contains-from_list, contains-rising, list_all-each, is_subset-contains}
+use Rattle.enumset_repr.specs.Laws.Members.{contains-from_list, contains-rising, list_all-each, is_subset-contains}
 use Rattle.enumset_repr.specs.Laws.Rising.{len-empty, len-insert, rising-rises, RisesFrom}
 use Rattle.enumset_sets.specs.Elements.{bit_of, one_past, one_past_greatest, IsElementType, one_past_all, is_lawful, AreBitsOf}
 
 is_in-get_or : (bs : List ℕ) (i : ℕ) → i < length bs → is_in (get_or bs i 0) bs ≡ true
 is_in-get_or [] i small = absurd (omega (arith, small))
-is_in-get_or (b ∷ bs) zero small = or_left _ _ (itself b)
+is_in-get_or (b ∷ bs) zero small = or_left _ _ (eq-eqb b b refl)
 is_in-get_or (b ∷ bs) (suc i) small = or_right (get_or bs i 0 == b) _ (is_in-get_or bs i (omega (arith, small)))
 
 apart_from_all : (b : ℕ) (bs : List ℕ) (i : ℕ) → is_in b bs ≡ false → i < length bs → b ≡ get_or bs i 0 → ⊥
@@ -24,23 +24,23 @@ apart_from_all b bs i out small same = true≢false (sym (ap (λ x. is_in x bs) 
 distinct_places : (bs : List ℕ) → is_distinct bs ≡ true → (i j : ℕ) → i < length bs → j < length bs → get_or bs i 0 ≡ get_or bs j 0 → i ≡ j
 distinct_places [] apart i j p q same = absurd (omega (arith, p))
 distinct_places (b ∷ bs) apart zero zero p q same = refl
-distinct_places (b ∷ bs) apart zero (suc j) p q same = absurd (apart_from_all b bs j (not_true _ (both _ _ apart).0) (omega (arith, q)) same)
-distinct_places (b ∷ bs) apart (suc i) zero p q same = absurd (apart_from_all b bs i (not_true _ (both _ _ apart).0) (omega (arith, p)) (sym same))
-distinct_places (b ∷ bs) apart (suc i) (suc j) p q same = ap suc (distinct_places bs (both _ _ apart).1 i j (omega (arith, p)) (omega (arith, q)) same)
+distinct_places (b ∷ bs) apart zero (suc j) p q same = absurd (apart_from_all b bs j (not-true _ (and_parts _ _ apart).0) (omega (arith, q)) same)
+distinct_places (b ∷ bs) apart (suc i) zero p q same = absurd (apart_from_all b bs i (not-true _ (and_parts _ _ apart).0) (omega (arith, p)) (sym same))
+distinct_places (b ∷ bs) apart (suc i) (suc j) p q same = ap suc (distinct_places bs (and_parts _ _ apart).1 i j (omega (arith, p)) (omega (arith, q)) same)
 
 len-from_list : (bs : List ℕ) → is_distinct bs ≡ true → len (from_list bs) ≡ length bs
 unfolding from_list
 len-from_list [] apart = len-empty
 len-from_list (b ∷ bs) apart =
-    let absent : contains (from_list bs) b ≡ false = contains-from_list bs b ∙ not_true _ (both _ _ apart).0 in
-    len-insert (from_list bs) b ∙ ap (λ t. cond t (len (from_list bs)) (len (from_list bs) + 1)) absent ∙ omega (arith, len-from_list bs (both _ _ apart).1)
+    let absent : contains (from_list bs) b ≡ false = contains-from_list bs b ∙ not-true _ (and_parts _ _ apart).0 in
+    len-insert (from_list bs) b ∙ ap (λ t. cond t (len (from_list bs)) (len (from_list bs) + 1)) absent ∙ omega (arith, len-from_list bs (and_parts _ _ apart).1)
 
 -- ---- one past the greatest
 
 is_in-one_past : (q : ℕ) (bs : List ℕ) → is_in q bs ≡ true → q < one_past_all bs
 is_in-one_past q [] one = absurd (true≢false (sym one))
 is_in-one_past q (b ∷ bs) one = elim (or_cases (q == b) _ one) [
-  | inl here ↦ omega (arith, same_number q b here)
+  | inl here ↦ omega (arith, eqb-true q b here)
   | inr later ↦ omega (arith, is_in-one_past q bs later)
 ]
 
@@ -49,7 +49,7 @@ one_past_is_in : (bs : List ℕ) (n : ℕ) → one_past_all bs ≡ suc n → is_
 one_past_is_in [] n e = absurd (omega (arith, e))
 one_past_is_in (b ∷ bs) n e = elim (cases_lt (suc b) (one_past_all bs)) [
   | inl less ↦ or_right (n == b) _ (one_past_is_in bs n (omega (arith, e, less)))
-  | inr most ↦ or_left (n == b) _ (let same : n ≡ b = omega (arith, e, most) in ap (λ x. x == b) same ∙ itself b)
+  | inr most ↦ or_left (n == b) _ (let same : n ≡ b = omega (arith, e, most) in ap (λ x. x == b) same ∙ eq-eqb b b refl)
 ]
 
 -- two lists with the same numbers reach as far
@@ -91,17 +91,17 @@ module _ (D : Declared) (bare : Bare D.parts) (bits : List ℕ) (variants : leng
 -- its `==` answers as a comparison of the variants does.
 pub lawful_by : {bits : List ℕ} {all : BitSet} {width count : ℕ} (D : Declared) (eq : D.D → D.D → Bool) → ((v w : D.D) → eq v w ≡ sameb D v w) → Bare D.parts → all ≡ from_list bits → is_lawful (length (rowss D.parts)) bits width count ≡ true → IsElementType (bit_of D bits) eq bits all width count
 lawful_by {bits} {all} {width} {count} D eq compares bare valid test =
-    let variants : length bits ≡ length (rowss D.parts) = same_number _ _ (both _ _ test).0 in
-    let rest : (is_distinct bits && ((one_past_all bits == width) && (length bits == count))) ≡ true = (both _ _ test).1 in
-    let apart : is_distinct bits ≡ true = (both _ _ rest).0 in
-    let numbers : ((one_past_all bits == width) && (length bits == count)) ≡ true = (both _ _ rest).1 in
+    let variants : length bits ≡ length (rowss D.parts) = eqb-true _ _ (and_parts _ _ test).0 in
+    let rest : (is_distinct bits && ((one_past_all bits == width) && (length bits == count))) ≡ true = (and_parts _ _ test).1 in
+    let apart : is_distinct bits ≡ true = (and_parts _ _ rest).0 in
+    let numbers : ((one_past_all bits == width) && (length bits == count)) ≡ true = (and_parts _ _ rest).1 in
     record {
       valid = valid;
       bit_is_valid = λ v. ap (λ s. contains s (bit_of D bits v)) valid ∙ contains-from_list bits _ ∙ bit_of-is_in D bare bits variants apart v;
       bit_tells = bit_of-tells D bare bits variants apart;
       eq_tells = λ v w. (λ e. ap (bit_of D bits) (same_true D bare v w (sym (compares v w) ∙ e)), λ e. compares v w ∙ true_same D v w (bit_of-tells D bare bits variants apart v w e));
-      width_is = sym (same_number _ _ (both _ _ numbers).0) ∙ sym (one_past_greatest-from_list bits) ∙ ap one_past_greatest (sym valid);
-      count_is = sym (same_number _ _ (both _ _ numbers).1) ∙ sym (len-from_list bits apart) ∙ ap len (sym valid);
+      width_is = sym (eqb-true _ _ (and_parts _ _ numbers).0) ∙ sym (one_past_greatest-from_list bits) ∙ ap one_past_greatest (sym valid);
+      count_is = sym (eqb-true _ _ (and_parts _ _ numbers).1) ∙ sym (len-from_list bits apart) ∙ ap len (sym valid);
     }
 
 -- The laws of an enum of two variants or more, or of none, whose `==` is derived.
@@ -111,7 +111,7 @@ lawful D bare valid test = lawful_by D (sameb D) (λ v w. refl) bare valid test
 -- The laws of an enum of one variant, whose derived `==` compares nothing.
 pub lawful_single : {b : ℕ} {all : BitSet} {width count : ℕ} (D : Declared) → Bare D.parts → all ≡ from_list (b ∷ []) → is_lawful (length (rowss D.parts)) (b ∷ []) width count ≡ true → IsElementType (bit_of D (b ∷ [])) (λ _ _. true) (b ∷ []) all width count
 lawful_single D bare valid test =
-    let one : 1 ≡ length (rowss D.parts) = same_number _ _ (both _ _ test).0 in
+    let one : 1 ≡ length (rowss D.parts) = eqb-true _ _ (and_parts _ _ test).0 in
     let same : (v w : D.D) → v ≡ w = λ v w. tag_one D bare v w (omega (arith, one, tag_below (rowss D.parts) (D.to v), tag_below (rowss D.parts) (D.to w))) in
     lawful_by D (λ _ _. true) (λ v w. sym (true_same D v w (same v w))) bare valid test
 

@@ -3,10 +3,11 @@
 use Rattle.std.proofs.Common.{◌≡◌, ℕ, ◌-◌, Bool, true, false, cond, true≢false, ◌&&◌, ◌||◌, List, [], ◌∷◌, refl, sym, ap, ◌∙◌, arith}
 use Rattle.std.specs.Prelude.{◌==◌, nat_lt, nat_le}
 use Rattle.std.proofs.lemmas.Bool.Decides.{nat_tests}
+use Rattle.std.proofs.lemmas.Bool.{and_parts}
 use Rattle.enumset_repr.specs.BitSet.{is_in, contains, from_list}
 use Rattle.enumset_repr.specs.Number.{bits}
 use Rattle.enumset_repr.specs.Words.{raised}
-use Rattle.enumset_repr.specs.Laws.Members.{both, same_set, contains-union, contains-from_list, contains-empty}
+use Rattle.enumset_repr.specs.Laws.Members.{same_set, contains-union, contains-from_list, contains-empty}
 use Rattle.enumset_repr.specs.Laws.Words.{contains-raised}
 use Rattle.enumset_repr.specs.Laws.Listed.{bits_listed}
 use Rattle.enumset_array.specs.WordList.{bits_of, in_first_word, in_later_words, lists_words}
@@ -40,8 +41,8 @@ unfolding bits_of
 words_listed [] [] test = same_set _ _ (λ q. contains-empty q ∙ sym (contains-from_list [] q))
 words_listed (b ∷ bs) [] test = absurd (true≢false (sym test))
 words_listed bs (n ∷ ns) test =
-    let first : bits n ≡ from_list (in_first_word bs) = bits_listed (in_first_word bs) n (both _ _ test).0 in
-    let later : bits_of ns ≡ from_list (in_later_words bs) = words_listed (in_later_words bs) ns (both _ _ test).1 in
+    let first : bits n ≡ from_list (in_first_word bs) = bits_listed (in_first_word bs) n (and_parts _ _ test).0 in
+    let later : bits_of ns ≡ from_list (in_later_words bs) = words_listed (in_later_words bs) ns (and_parts _ _ test).1 in
     same_set _ _ (λ q.
     contains-union (bits n) (raised (bits_of ns) 64) q
     ∙ (λ i. contains (first i) q || contains-raised (later i) 64 q i)

@@ -12,7 +12,7 @@ use Rattle.std.proofs.Common.{◌≡◌, ◌<◌, ◌≤◌, ◌⊎◌, inl, inr
 use Rattle.std.specs.Prelude.{◌==◌, IsTrue, nat_eq, nat_lt, slice_index, replicate, sum_by, filter}
 use Rattle.std.specs.List.{list_all}
 use Rattle.std.specs.Cmp.Lexicographic.{pointwise, same_text}
-use Rattle.std.proofs.lemmas.Bool.{cases_lt, lt-ltb}
+use Rattle.std.proofs.lemmas.Bool.{cases_lt, lt-ltb, eqb-true, and_parts, and_from, le-ltb}
 use Rattle.std.proofs.Math.Bool.{and-true, and-false}
 use Rattle.std.proofs.lemmas.Cmp.{nat_list_eq_equiv}
 use Rattle.std.proofs.lemmas.Grind.{same_number_lists}
@@ -22,7 +22,7 @@ use Rattle.enumset_repr.specs.BitSet.{BitSet, contains, empty, below, is_subset}
 use Rattle.enumset_repr.specs.Number.{bits, number}
 use Rattle.enumset_repr.specs.Words.{word, is_in_word}
 use Rattle.enumset_repr.specs.Laws.Rising.{rising-empty}
-use Rattle.enumset_repr.specs.Laws.Members.{same_set, same_number, both, and_true, not_below, contains-empty, contains-below, contains-is_subset}
+use Rattle.enumset_repr.specs.Laws.Members.{same_set, contains-empty, contains-below, contains-is_subset}
 use Rattle.enumset_repr.specs.Laws.Numbers.{number-bits}
 use Rattle.enumset_repr.specs.Laws.Words.{contains-bits-word}
 use Rattle.enumset_array.specs.Stored.{in_use, used, set_of, words, is_empty_past, IsStore}
@@ -32,8 +32,8 @@ use Rattle.enumset_array.specs.Laws.WordSets.{contains-bits_of, by_word, contain
 -- a list of zeros has a zero at each place
 pub each_zero : (ws : List ℕ) (i : ℕ) → list_all (λ w. w == 0) ws ≡ true → slice_index ws i ≡ 0
 each_zero [] i all = refl
-each_zero (w ∷ ws) zero all = same_number w 0 (both (w == 0) _ all).0
-each_zero (w ∷ ws) (suc i) all = each_zero ws i (both (w == 0) _ all).1
+each_zero (w ∷ ws) zero all = eqb-true w 0 (and_parts (w == 0) _ all).0
+each_zero (w ∷ ws) (suc i) all = each_zero ws i (and_parts (w == 0) _ all).1
 
 pub past_is : (n : ℕ) (ws : List ℕ) (w : ℕ) → IsTrue (is_empty_past n ws) → in_use n ≤ w → slice_index ws w ≡ 0
 past_is n ws w past from =
@@ -56,7 +56,7 @@ used_is n ws w past = at (cases_lt w (in_use n))
 
 pub all_zero : (ws : List ℕ) → ((i : ℕ) → slice_index ws i ≡ 0) → list_all (λ w. w == 0) ws ≡ true
 all_zero [] none = refl
-all_zero (w ∷ ws) none = and_true (w == 0) _ (subst (λ x. (x == 0) ≡ true) (sym (none 0)) refl) (all_zero ws (λ i. none (suc i)))
+all_zero (w ∷ ws) none = and_from (w == 0) _ (subst (λ x. (x == 0) ≡ true) (sym (none 0)) refl) (all_zero ws (λ i. none (suc i)))
 
 pub empty_past : (n : ℕ) (ws : List ℕ) → ((w : ℕ) → in_use n ≤ w → slice_index ws w ≡ 0) → IsTrue (is_empty_past n ws)
 empty_past n ws none = all_zero (drop (in_use n) ws) (λ i. get_or-drop (in_use n) ws i 0 ∙ none (in_use n + i) (omega arith))
@@ -84,7 +84,7 @@ word_is n ws w store = same_word (slice_index ws w) (word (set_of n ws) w) (stor
   where
     at : (b : ℕ) → (b < 64) ⊎ (64 ≤ b) → (contains (set_of n ws) (64 * w + b) && nat_lt b 64) ≡ (contains (bits (slice_index ws w)) b && nat_lt b 64)
     at b (inl low) = ap (λ t. t && nat_lt b 64) (contains-set_of n ws w b store low)
-    at b (inr past) = ap (λ t. contains (set_of n ws) (64 * w + b) && t) (not_below b 64 past) ∙ and-false _ ∙ sym (ap (λ t. contains (bits (slice_index ws w)) b && t) (not_below b 64 past) ∙ and-false _)
+    at b (inr past) = ap (λ t. contains (set_of n ws) (64 * w + b) && t) (le-ltb b 64 past) ∙ and-false _ ∙ sym (ap (λ t. contains (bits (slice_index ws w)) b && t) (le-ltb b 64 past) ∙ and-false _)
 
 pub inverse : (n : ℕ) (ws : List ℕ) → IsStore n ws → words (set_of n ws) n ≡ ws
 unfolding words

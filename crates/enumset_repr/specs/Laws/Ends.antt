@@ -9,11 +9,11 @@ use Rattle.std.specs.Int.{trailing_zeros, leading_zeros, Width, w8, w16, w32, w6
 use Rattle.std.specs.Int.Count.{trailing_of_zero, leading_of_zero}
 use mir.Val.{bits as width_bits}
 use Rattle.std.specs.List.{slice_get, last_or}
-use Rattle.std.proofs.lemmas.Bool.{or_cases}
+use Rattle.std.proofs.lemmas.Bool.{or_cases, eqb-true, eq-eqb, or_left, or_right, false_from_ne_true}
 use Rattle.enumset_repr.specs.BitSet.{is_in, BitSet, contains, rising, empty, remove}
 use Rattle.enumset_repr.specs.Ends.{last, least, greatest}
 use Rattle.enumset_repr.specs.Laws.Steps.{last-push}
-use Rattle.enumset_repr.specs.Laws.Members.{same_number, itself, or_left, or_right, contains-rising, not_so, member_below}
+use Rattle.enumset_repr.specs.Laws.Members.{contains-rising, member_below}
 use Rattle.enumset_repr.specs.Laws.Rising.{len-rising, RisesFrom, rising-rises, rising-empty, is_in-from, is_in-below, rising-first, rising-last, empty_of_rising}
 use Rattle.enumset_repr.specs.Number.{bits}
 use Rattle.enumset_repr.specs.Laws.Numbers.{bits-zero, bits-within, least-bits, greatest-bits}
@@ -27,18 +27,18 @@ no_item : (a : ℕ) → None ≡ Some a → ⊥
 no_item a e = cc
 
 last_or-is_in : (x : ℕ) (xs : List ℕ) (m : ℕ) → last_or (Some x) xs ≡ Some m → is_in m (x ∷ xs) ≡ true
-last_or-is_in x [] m last = or_left (m == x) false (ap (λ k. k == x) (sym (same_item x m last)) ∙ itself x)
+last_or-is_in x [] m last = or_left (m == x) false (ap (λ k. k == x) (sym (same_item x m last)) ∙ eq-eqb x x refl)
 last_or-is_in x (y ∷ ys) m last = or_right (m == x) _ (last_or-is_in y ys m last)
 
 last_or-from : (k x : ℕ) (xs : List ℕ) (m q : ℕ) → RisesFrom k (x ∷ xs) → last_or (Some x) xs ≡ Some m → is_in q (x ∷ xs) ≡ true → q ≤ m
 last_or-from k x [] m q rises last one = elim (or_cases (q == x) false one) [
-  | inl here ↦ omega (arith, same_number q x here, same_item x m last)
+  | inl here ↦ omega (arith, eqb-true q x here, same_item x m last)
   | inr never ↦ absurd (true≢false (sym never))
 ]
 last_or-from k x (y ∷ ys) m q rises last one = elim (or_cases (q == x) _ one) [
   | inl here ↦
-      let above : y ≤ m = last_or-from (suc x) y ys m y rises.1 last (or_left (y == y) _ (itself y)) in
-      omega (arith, same_number q x here, rises.1.0, above)
+      let above : y ≤ m = last_or-from (suc x) y ys m y rises.1 last (or_left (y == y) _ (eq-eqb y y refl)) in
+      omega (arith, eqb-true q x here, rises.1.0, above)
   | inr later ↦ last_or-from (suc x) y ys m q rises.1 last later
 ]
 
@@ -68,7 +68,7 @@ least_facts s m first =
     let parts = first_item (rising s) m first in
     let rises : RisesFrom 0 (m ∷ parts.0) = subst (RisesFrom 0) parts.1 (rising-rises s) in
     let above : RisesFrom m (m ∷ parts.0) = (omega arith, rises.1) in (
-      contains-rising s m ∙ ap (is_in m) parts.1 ∙ or_left (m == m) _ (itself m),
+      contains-rising s m ∙ ap (is_in m) parts.1 ∙ or_left (m == m) _ (eq-eqb m m refl),
       λ q under. contains-rising s q ∙ ap (is_in q) parts.1 ∙ is_in-below m q (m ∷ parts.0) above under,
     )
 
@@ -99,7 +99,7 @@ unfolding greatest
 greatest_facts s m last =
     let facts = last_facts 0 (rising s) m (rising-rises s) last in (
       contains-rising s m ∙ facts.0,
-      λ q over. not_so (contains s q) (λ one. let near : q ≤ m = facts.1 q (sym (contains-rising s q) ∙ one) in omega arith),
+      λ q over. false_from_ne_true (contains s q) (λ one. let near : q ≤ m = facts.1 q (sym (contains-rising s q) ∙ one) in omega arith),
     )
 
 -- the greatest member comes last

@@ -1,11 +1,12 @@
 -- `is_same` is an equivalence of sets.
 use Rattle.std.proofs.Common.{◌≡◌, refl, sym, ◌∙◌}
 use Rattle.std.specs.Cmp.{IsEquivalence, IsPartialEquivalence}
+use Rattle.std.proofs.lemmas.Bool.Decides.{same_from_decides}
 use Rattle.enumset_repr.specs.BitSet.{BitSet, is_same}
-use Rattle.enumset_repr.specs.Laws.Members.{is_same_iff, test_of_iff}
+use Rattle.enumset_repr.specs.Laws.Members.{is_same_iff}
 
 symm_same : (s t : BitSet) → is_same s t ≡ is_same t s
-symm_same s t = test_of_iff _ _ (is_same_iff s t) (λ h. sym ((is_same_iff t s).0 h), λ e. (is_same_iff t s).1 (sym e))
+symm_same s t = same_from_decides _ _ (is_same_iff s t) (λ h. sym ((is_same_iff t s).0 h), λ e. (is_same_iff t s).1 (sym e))
 
 pub is_same-IsEquivalence : IsEquivalence is_same
 is_same-IsEquivalence = record {

@@ -2,16 +2,16 @@
 --     within_width, number_of_bits, equal_bits      the members are below the width;  the number of a number's set;  numbers are equal if their sets are
 --     and_is, or_is, xor_is, not_is      the operators
 --     words_narrow, words_wide      a word, and a number with a word replaced, at a width up to 64 bits and at 128, for `using`
-use Rattle.std.proofs.Common.{◌≡◌, ◌<◌, ◌≤◌, ℕ, ◌*◌, ◌/◌, ◌%◌, ◌^◌, ◌-◌, sym, ap, ◌∙◌, arith, ◌↔◌}
+use Rattle.std.proofs.Common.{◌≡◌, ◌<◌, ◌≤◌, ℕ, ◌*◌, ◌/◌, ◌%◌, ◌^◌, ◌-◌, refl, sym, ap, ◌∙◌, arith, ◌↔◌}
 use Rattle.std.specs.Prelude.{◌==◌, IsTrue}
 use Rattle.std.specs.Int.{bit_not, Width, w128}
 use Rattle.std.specs.Int.RustNames.{bit_and, bit_or, bit_xor}
 use mir.Val.{bits as width_bits}
 use Rattle.std.proofs.lemmas.Nat.{and_mask}
+use Rattle.std.proofs.lemmas.Bool.{eqb-true, eq-eqb}
 use Rattle.enumset_repr.specs.BitSet.{intersection, union, symmetric_difference, difference, is_subset, below}
 use Rattle.enumset_repr.specs.Number.{number, bits}
 use Rattle.enumset_repr.specs.Words.{word, with_word}
-use Rattle.enumset_repr.specs.Laws.Members.{same_number, itself}
 use Rattle.enumset_repr.specs.Laws.Numbers.{number-bits, bits-within, bits-and, bits-or, bits-xor, bits-not}
 use Rattle.enumset_repr.specs.Laws.Words.{word-bits, bits-put_low, bits-put_word}
 
@@ -27,8 +27,8 @@ module _ (w : Width) where
 
   pub equal_bits : (a b : ℕ) → IsNumber a → IsNumber b → IsTrue (a == b) ↔ (bits a ≡ bits b)
   equal_bits a b p q = (
-    λ same. ap bits (same_number a b same),
-    λ same. ap (λ n. a == n) (sym (sym (number-bits a) ∙ ap number same ∙ number-bits b)) ∙ itself a,
+    λ same. ap bits (eqb-true a b same),
+    λ same. ap (λ n. a == n) (sym (sym (number-bits a) ∙ ap number same ∙ number-bits b)) ∙ eq-eqb a a refl,
   )
 
   pub and_is : (a b r : ℕ) → IsNumber a → IsNumber b → r ≡ bit_and a b → bits r ≡ intersection (bits a) (bits b)

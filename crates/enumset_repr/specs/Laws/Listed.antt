@@ -1,12 +1,12 @@
 -- A number whose bits are listed: one test of the list says which set the number stands for.
 use Rattle.std.proofs.Common.{◌≡◌, ◌≤◌, ℕ, suc, ◌+◌, ◌^◌, Bool, true, false, cond, true≢false, ◌||◌, List, [], ◌∷◌, refl, sym, ap, ◌∙◌, arith, sum_by}
 use Rattle.std.specs.Prelude.{◌==◌, nat_lt}
-use Rattle.std.proofs.lemmas.Bool.{ltb-true}
+use Rattle.std.proofs.lemmas.Bool.{ltb-true, eqb-true, and_parts, not-true, or_parts}
 use Rattle.std.proofs.lemmas.List.Sums.{sum_by-cons}
 use Rattle.std.proofs.lemmas.Bool.Decides.{nat_tests}
 use Rattle.enumset_repr.specs.BitSet.{is_in, BitSet, contains, rising, insert, from_list}
 use Rattle.enumset_repr.specs.Number.{number, bits, is_distinct, lists_bits}
-use Rattle.enumset_repr.specs.Laws.Members.{same_number, both, not_true, or_swap, contains-insert, contains-rising, contains-from_list}
+use Rattle.enumset_repr.specs.Laws.Members.{or_swap, contains-insert, contains-rising, contains-from_list}
 use Rattle.enumset_repr.specs.Laws.Rising.{RisesFrom, rising-rises, rising-empty, rising_is}
 use Rattle.enumset_repr.specs.Laws.Numbers.{bits-number}
 
@@ -23,16 +23,12 @@ is_in-put q b (x ∷ xs) = elim (nat_lt b x) as (λ t. is_in q (cond t (b ∷ x 
   | false ↦ ap (λ t. (q == x) || t) (is_in-put q b xs) ∙ or_swap (q == x) (q == b) (is_in q xs)
 ]
 
-neither : (a b : Bool) → (a || b) ≡ false → (a ≡ false) × (b ≡ false)
-neither true b h = absurd (true≢false h)
-neither false b h = (refl, h)
-
 rises-put : (k b : ℕ) (xs : List ℕ) → k ≤ b → RisesFrom k xs → is_in b xs ≡ false → RisesFrom k (put b xs)
 unfolding put
 rises-put k b [] low rises out = (low, tt)
 rises-put k b (x ∷ xs) low rises out = elim (nat_lt b x) as (λ t. nat_lt b x ≡ t → RisesFrom k (cond t (b ∷ x ∷ xs) (x ∷ put b xs))) [
   | true ↦ λ e. (low, (ltb-true b x e, rises.1))
-  | false ↦ λ e. (rises.0, rises-put (suc x) b xs (grind (arith, nat_tests, e, (neither (b == x) _ out).0)) rises.1 (neither (b == x) _ out).1)
+  | false ↦ λ e. (rises.0, rises-put (suc x) b xs (grind (arith, nat_tests, e, (or_parts (b == x) _ out).0)) rises.1 (or_parts (b == x) _ out).1)
 ] refl
 
 sum_by-put : (b : ℕ) (xs : List ℕ) → sum_by (λ c. 2 ^ c) (put b xs) ≡ 2 ^ b + sum_by (λ c. 2 ^ c) xs
@@ -56,10 +52,10 @@ number-from_list : (bs : List ℕ) → is_distinct bs ≡ true → number (from_
 unfolding number from_list
 number-from_list [] apart = ap (sum_by (λ b. 2 ^ b)) rising-empty
 number-from_list (b ∷ bs) apart =
-    number-insert (from_list bs) b (contains-from_list bs b ∙ not_true _ (both _ _ apart).0)
-    ∙ omega (arith, sum_by-cons (λ c. 2 ^ c) b bs, number-from_list bs (both _ _ apart).1)
+    number-insert (from_list bs) b (contains-from_list bs b ∙ not-true _ (and_parts _ _ apart).0)
+    ∙ omega (arith, sum_by-cons (λ c. 2 ^ c) b bs, number-from_list bs (and_parts _ _ apart).1)
 
 -- the set of a number whose bits are listed
 pub bits_listed : (bs : List ℕ) (n : ℕ) → lists_bits bs n ≡ true → bits n ≡ from_list bs
 bits_listed bs n test =
-    ap bits (sym (same_number _ n (both _ _ test).1) ∙ sym (number-from_list bs (both _ _ test).0)) ∙ bits-number (from_list bs)
+    ap bits (sym (eqb-true _ n (and_parts _ _ test).1) ∙ sym (number-from_list bs (and_parts _ _ test).0)) ∙ bits-number (from_list bs)

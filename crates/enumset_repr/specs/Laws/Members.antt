@@ -1,4 +1,11 @@
 -- The laws of sets by membership: what `contains` answers at each word of `BitSet`.
+--     contains-..      what it answers at a word;  the ruleset `members` holds them all
+--     same_set, is_same_iff      sets with the same members are one
+--     is_subset-.., contains-is_subset, is_subset_iff      a subset, by its members;  by what is outside
+--     is_disjoint-.., contains-is_disjoint, is_disjoint_iff      disjoint sets, by their members;  by their intersection
+--     ..-is_subset      what stays within one set;  the ruleset `subsets` holds them all
+--     member_below, contains-past      members of sets of numbers below a bound
+--     or_swap, none_of, list_all-each      tests
 use Rattle.std.proofs.Common.{◌≡◌, ◌<◌, ◌≤◌, ℕ, suc, zero, Bool, true, false, cond, not, ◌&&◌, ◌||◌, List, [], ◌∷◌, Option, Some, None, refl, sym, ap, subst, true≢false, ◌∙◌, arith, inl, inr}
 use Rattle.std.specs.Prelude.{◌==◌, nat_lt, is_some, ◌↔◌}
 use Rattle.std.specs.List.{list_any, list_all}
@@ -6,8 +13,8 @@ use Rattle.std.specs.Ordering.{nat_cmp}
 use Rattle.std.specs.Cmp.{nat_cmp_total, unsigned_tied, unsigned_Decides}
 use Rattle.std.specs.FinMap as map
 use Rattle.std.proofs.Math.Bool.{or-false}
-use Rattle.std.proofs.lemmas.Bool.{or_cases, ltb-true}
-use Rattle.std.proofs.lemmas.Bool.Decides.{nat_tests}
+use Rattle.std.proofs.lemmas.Bool.{or_cases, ltb-true, and_parts, and_from, or_left, or_right, not-true, not-false, false_from_ne_true, eqb-true, eq-eqb}
+use Rattle.std.proofs.lemmas.Bool.Decides.{nat_tests, same_from_decides}
 use Rattle.std.specs.declared.cmp.Ordering.TheVariants.{Equal}
 use Rattle.enumset_repr.specs.BitSet.{BitSet, contains, rising, empty, insert, remove, retain, from_list, insert_each, union, intersection, difference, symmetric_difference, is_subset, is_disjoint, is_same, below, low}
 
@@ -40,12 +47,6 @@ or_swap true true c = refl
 or_swap true false c = refl
 or_swap false b c = refl
 
--- two tests that pass together are one
-pub same_test : (a b : Bool) → (a ≡ true → b ≡ true) → (b ≡ true → a ≡ true) → a ≡ b
-same_test true b f g = sym (f refl)
-same_test false true f g = g refl
-same_test false false f g = refl
-
 -- ---- membership
 
 pub contains-empty : (q : ℕ) → contains empty q ≡ false
@@ -71,7 +72,7 @@ pub contains-rising : (s : BitSet) (q : ℕ) → contains s q ≡ list_any (λ b
 unfolding contains rising
 contains-rising s q = map.contains_key-keys s q ∙ ap (λ (f : ℕ → Bool). list_any f (map.keys s)) (λ i b. unsigned_tied q b i)
 
-contains-insert_each : (s : BitSet) (bs : List ℕ) (q : ℕ) → contains (insert_each s bs) q ≡ (contains s q || list_any (λ b. q == b) bs)
+pub contains-insert_each : (s : BitSet) (bs : List ℕ) (q : ℕ) → contains (insert_each s bs) q ≡ (contains s q || list_any (λ b. q == b) bs)
 unfolding insert_each
 contains-insert_each s [] q = sym (or-false _)
 contains-insert_each s (b ∷ bs) q = contains-insert _ b q ∙ ap (λ t. (q == b) || t) (contains-insert_each s bs q) ∙ or_swap (q == b) (contains s q) _
@@ -115,50 +116,18 @@ pub same_set : (s t : BitSet) → ((q : ℕ) → contains s q ≡ contains t q) 
 unfolding contains
 same_set s t is = map.same_map nat_cmp_total map.nat_cmp-IsAntisymmetric s t (λ q. mark_of _ ∙ ap marked (is q) ∙ sym (mark_of _))
 
-pub both : (a b : Bool) → (a && b) ≡ true → (a ≡ true) × (b ≡ true)
-both true b h = (refl, h)
-both false b h = absurd (true≢false (sym h))
-
-pub and_true : (a b : Bool) → a ≡ true → b ≡ true → (a && b) ≡ true
-and_true a b p q = ap (λ t. t && b) p ∙ q
-
-pub or_left : (a b : Bool) → a ≡ true → (a || b) ≡ true
-or_left a b p = ap (λ t. t || b) p
-
-pub or_right : (a b : Bool) → b ≡ true → (a || b) ≡ true
-or_right true b p = refl
-or_right false b p = p
-
-pub same_number : (a b : ℕ) → (a == b) ≡ true → a ≡ b
-same_number a b = (unsigned_Decides a b).0
-
-pub itself : (a : ℕ) → (a == a) ≡ true
-itself a = (unsigned_Decides a a).1 refl
-
 list_all-any : (p : ℕ → Bool) (bs : List ℕ) (q : ℕ) → list_all p bs ≡ true → list_any (λ b. q == b) bs ≡ true → p q ≡ true
 list_all-any p [] q all any = absurd (true≢false (sym any))
 list_all-any p (b ∷ bs) q all any =
     elim (or_cases (q == b) _ any) [
-      | inl here ↦ ap p (same_number q b here) ∙ (both (p b) _ all).0
-      | inr later ↦ list_all-any p bs q (both (p b) _ all).1 later
+      | inl here ↦ ap p (eqb-true q b here) ∙ (and_parts (p b) _ all).0
+      | inr later ↦ list_all-any p bs q (and_parts (p b) _ all).1 later
     ]
 
 pub list_all-each : (p : ℕ → Bool) (bs : List ℕ) → ((q : ℕ) → list_any (λ b. q == b) bs ≡ true → p q ≡ true) → list_all p bs ≡ true
 list_all-each p [] each = refl
 list_all-each p (b ∷ bs) each =
-    and_true (p b) _ (each b (or_left (b == b) _ (itself b))) (list_all-each p bs (λ q one. each q (or_right (q == b) _ one)))
-
-pub not_true : (b : Bool) → not b ≡ true → b ≡ false
-not_true true h = sym h
-not_true false h = refl
-
-not_false : (b : Bool) → not b ≡ false → b ≡ true
-not_false true h = refl
-not_false false h = sym h
-
-pub not_so : (b : Bool) → (b ≡ true → ⊥) → b ≡ false
-not_so true h = absurd (h refl)
-not_so false h = refl
+    and_from (p b) _ (each b (or_left (b == b) _ (eq-eqb b b refl))) (list_all-each p bs (λ q one. each q (or_right (q == b) _ one)))
 
 -- what is false wherever the first test passes
 pub none_of : (a b : Bool) → (a ≡ true → b ≡ false) → (a && b) ≡ false
@@ -178,7 +147,7 @@ is_subset-itself s = contains-is_subset s s (λ q h. h)
 
 pub is_disjoint-contains : (s t : BitSet) → is_disjoint s t ≡ true → (q : ℕ) → contains s q ≡ true → contains t q ≡ false
 unfolding is_disjoint
-is_disjoint-contains s t apart q in_s = not_true _ (list_all-any (λ b. not (contains t b)) (rising s) q apart (sym (contains-rising s q) ∙ in_s))
+is_disjoint-contains s t apart q in_s = not-true _ (list_all-any (λ b. not (contains t b)) (rising s) q apart (sym (contains-rising s q) ∙ in_s))
 
 pub contains-is_disjoint : (s t : BitSet) → ((q : ℕ) → contains s q ≡ true → contains t q ≡ false) → is_disjoint s t ≡ true
 unfolding is_disjoint
@@ -195,15 +164,15 @@ is_disjoint_iff s t = (
 pub is_subset_iff : (s t : BitSet) → (is_subset s t ≡ true) ↔ (difference s t ≡ empty)
 is_subset_iff s t = (
   λ sub. same_set _ _ (λ q. contains-difference s t q ∙ none_of (contains s q) _ (λ in_s. ap not (is_subset-contains s t sub q in_s)) ∙ sym (contains-empty q)),
-  λ none. contains-is_subset s t (λ q in_s. not_false _ (sym (ap (λ b. b && not (contains t q)) in_s) ∙ sym (contains-difference s t q) ∙ ap (λ u. contains u q) none ∙ contains-empty q)),
+  λ none. contains-is_subset s t (λ q in_s. not-false _ (sym (ap (λ b. b && not (contains t q)) in_s) ∙ sym (contains-difference s t q) ∙ ap (λ u. contains u q) none ∙ contains-empty q)),
 )
 
 -- sets are one exactly if they have the same members
 pub is_same_iff : (s t : BitSet) → (is_same s t ≡ true) ↔ (s ≡ t)
 unfolding is_same
 is_same_iff s t = (
-  λ same. same_set s t (λ q. same_test _ _ (is_subset-contains s t (both _ _ same).0 q) (is_subset-contains t s (both _ _ same).1 q)),
-  λ e. and_true _ _ (subst (λ u. is_subset s u ≡ true) e (is_subset-itself s)) (subst (λ u. is_subset u s ≡ true) e (is_subset-itself s)),
+  λ same. same_set s t (λ q. same_from_decides _ _ (is_subset-contains s t (and_parts _ _ same).0 q, is_subset-contains t s (and_parts _ _ same).1 q) (λ h. h, λ h. h)),
+  λ e. and_from _ _ (subst (λ u. is_subset s u ≡ true) e (is_subset-itself s)) (subst (λ u. is_subset u s ≡ true) e (is_subset-itself s)),
 )
 
 -- ---- subsets of one set
@@ -214,12 +183,12 @@ module _ (v : BitSet) where
 
   pub insert-is_subset : (s : BitSet) (b : ℕ) → is_subset s v ≡ true → contains v b ≡ true → is_subset (insert s b) v ≡ true
   insert-is_subset s b sub in_v = contains-is_subset _ v (λ q h. elim (or_cases _ _ (sym (contains-insert s b q) ∙ h)) [
-    | inl here ↦ ap (contains v) (same_number q b here) ∙ in_v
+    | inl here ↦ ap (contains v) (eqb-true q b here) ∙ in_v
     | inr there ↦ is_subset-contains s v sub q there
   ])
 
   pub remove-is_subset : (s : BitSet) (b : ℕ) → is_subset s v ≡ true → is_subset (remove s b) v ≡ true
-  remove-is_subset s b sub = contains-is_subset _ v (λ q h. is_subset-contains s v sub q (both _ _ (sym (contains-remove s b q) ∙ h)).1)
+  remove-is_subset s b sub = contains-is_subset _ v (λ q h. is_subset-contains s v sub q (and_parts _ _ (sym (contains-remove s b q) ∙ h)).1)
 
   pub union-is_subset : (s t : BitSet) → is_subset s v ≡ true → is_subset t v ≡ true → is_subset (union s t) v ≡ true
   union-is_subset s t sub also = contains-is_subset _ v (λ q h. elim (or_cases _ _ (sym (contains-union s t q) ∙ h)) [
@@ -228,10 +197,10 @@ module _ (v : BitSet) where
   ])
 
   pub intersection-is_subset : (s t : BitSet) → is_subset s v ≡ true → is_subset (intersection s t) v ≡ true
-  intersection-is_subset s t sub = contains-is_subset _ v (λ q h. is_subset-contains s v sub q (both _ _ (sym (contains-intersection s t q) ∙ h)).0)
+  intersection-is_subset s t sub = contains-is_subset _ v (λ q h. is_subset-contains s v sub q (and_parts _ _ (sym (contains-intersection s t q) ∙ h)).0)
 
   pub difference-is_subset : (s t : BitSet) → is_subset s v ≡ true → is_subset (difference s t) v ≡ true
-  difference-is_subset s t sub = contains-is_subset _ v (λ q h. is_subset-contains s v sub q (both _ _ (sym (contains-difference s t q) ∙ h)).0)
+  difference-is_subset s t sub = contains-is_subset _ v (λ q h. is_subset-contains s v sub q (and_parts _ _ (sym (contains-difference s t q) ∙ h)).0)
 
   pub symmetric_difference-is_subset : (s t : BitSet) → is_subset s v ≡ true → is_subset t v ≡ true → is_subset (symmetric_difference s t) v ≡ true
   unfolding symmetric_difference
@@ -243,11 +212,10 @@ member_below s n b sub in_s = ltb-true b n (sym (contains-below n b) ∙ is_subs
 
 -- a number past a bound of the members is no member
 pub contains-past : (s : BitSet) (n b : ℕ) → is_subset s (below n) ≡ true → n ≤ b → contains s b ≡ false
-contains-past s n b sub past = not_so (contains s b) (λ in_s. omega (arith, past, member_below s n b sub in_s))
+contains-past s n b sub past = false_from_ne_true (contains s b) (λ in_s. omega (arith, past, member_below s n b sub in_s))
 
-pub not_below : (b n : ℕ) → n ≤ b → nat_lt b n ≡ false
-not_below b n past = not_so (nat_lt b n) (λ h. omega (arith, past, ltb-true b n h))
+-- What a proof by members wants: `same_set _ _ (λ q. grind (arith, members))`.
+pub ruleset members = (contains-empty, contains-insert, contains-remove, contains-retain, contains-union, contains-intersection, contains-difference, contains-symmetric_difference, contains-below, contains-low)
 
--- two tests that pass for the same reason are one
-pub test_of_iff : {P : Type 0} (a b : Bool) → (a ≡ true) ↔ P → (b ≡ true) ↔ P → a ≡ b
-test_of_iff a b p q = same_test a b (λ h. q.1 (p.0 h)) (λ h. p.1 (q.0 h))
+-- What stays within the valid bits: `#[tactic(auto, using(enumset_repr::specs::Laws::Members::subsets))]`.
+pub ruleset subsets = (is_subset-itself, empty-is_subset, insert-is_subset, remove-is_subset, union-is_subset, intersection-is_subset, difference-is_subset, symmetric_difference-is_subset)

@@ -4,20 +4,20 @@
 --     least-bits, greatest-bits      `trailing_zeros` and `leading_zeros`
 --     numbers_8, .., numbers_128      the laws at a width, for `using`
 use Rattle.std.proofs.Common.{◌≡◌, ◌<◌, ◌≤◌, ℕ, suc, zero, ◌+◌, ◌-◌, ◌*◌, ◌/◌, ◌%◌, ◌^◌, min, max, Bool, true, false, not, ◌&&◌, ◌||◌, List, [], ◌∷◌, refl, sym, ap, ◌∙◌, length, arith, inl, inr, ◌⊎◌, true≢false, pow-suc, pow_mono, mul_assoc, mul_comm, suc-mul, pow-add, one-mul, zero-mul}
-use Rattle.std.proofs.Math.Bool.{and-true}
+use Rattle.std.proofs.Math.Bool.{and-true, or_comm, and_comm}
 use Rattle.std.specs.Prelude.{◌==◌, nat_lt, sum_by}
 use Rattle.std.specs.Int.{bit_at, bit_not, trailing_zeros, leading_zeros, Width, w8, w16, w32, w64, w128}
 use Rattle.std.specs.Int.RustNames.{bit_and, bit_or, bit_xor, count_ones}
 use Rattle.std.specs.Int.Count.{ones_cat, leading_top}
 use mir.Val.{bits as width_bits}
-use Rattle.std.proofs.lemmas.Bool.{cases_lt, lt-ltb, ltb-true}
+use Rattle.std.proofs.lemmas.Bool.{cases_lt, lt-ltb, ltb-true, eqb-true, eq-eqb, or_left, or_right}
 use Rattle.std.proofs.lemmas.Bool.Decides.{nat_tests}
 use Rattle.std.proofs.lemmas.List.Sums.{sum_by-cons}
 use Rattle.std.proofs.lemmas.Nat.{pow_pos, le-div, div_below, pow_below, one_shl, shr-shr, shr_split, mod_below}
 use Rattle.std.proofs.lemmas.Nat.Bits.{and_pow, bit_at_and, bit_at_or, bit_at_xor, bit_at_not, bit_at-pow_same, bit_at-pow_other, bit_at-zero, bit_at_above, bit_at-lt, bit_at_cat_low, bit_at_cat_high, bit_at-trailing_zeros, same_from_bits}
 use Rattle.enumset_repr.specs.BitSet.{is_in, BitSet, contains, rising, len, empty, insert, remove, union, intersection, difference, symmetric_difference, is_subset, below, low}
 use Rattle.enumset_repr.specs.Number.{number, bits}
-use Rattle.enumset_repr.specs.Laws.Members.{same_set, same_number, itself, or_left, or_right, contains-empty, contains-rising, contains-retain, contains-remove, contains-insert, contains-union, contains-intersection, contains-difference, contains-symmetric_difference, contains-below, contains-low, is_subset-contains, contains-is_subset}
+use Rattle.enumset_repr.specs.Laws.Members.{same_set, contains-empty, contains-rising, contains-retain, contains-remove, contains-insert, contains-union, contains-intersection, contains-difference, contains-symmetric_difference, contains-below, contains-low, is_subset-contains, contains-is_subset}
 use Rattle.enumset_repr.specs.Laws.Rising.{RisesFrom, rising-rises, rising-empty, is_in-below, len-rising}
 
 -- ---- the members of a number's set
@@ -69,7 +69,7 @@ worth-below : (k w : ℕ) (xs : List ℕ) → RisesFrom k xs → k ≤ w → ((q
 unfolding worth
 worth-below k w [] rises within small = omega (arith, pow_mono within)
 worth-below k w (x ∷ xs) rises within small =
-    let first : x < w = small x (or_left (x == x) _ (itself x)) in
+    let first : x < w = small x (or_left (x == x) _ (eq-eqb x x refl)) in
     let rest = worth-below (suc x) w xs rises.1 first (λ q one. small q (or_right (q == x) _ one)) in
     omega (arith, worth-cons x xs, rest, pow-suc 2 x, pow_mono rises.0)
 
@@ -113,8 +113,8 @@ worth-parts k x xs rises =
 
 pow_bit : (k q : ℕ) → (bit_at (2 ^ k) q == 1) ≡ (q == k)
 pow_bit k q = elim (q == k) as (λ t. (q == k) ≡ t → (bit_at (2 ^ k) q == 1) ≡ t) [
-  | true ↦ λ e. ap (λ p. bit_at (2 ^ k) p == 1) (same_number q k e) ∙ ap (λ d. d == 1) (bit_at-pow_same k)
-  | false ↦ λ e. ap (λ d. d == 1) (bit_at-pow_other k q (λ same. true≢false (sym (itself k) ∙ ap (λ p. p == k) (sym same) ∙ e)))
+  | true ↦ λ e. ap (λ p. bit_at (2 ^ k) p == 1) (eqb-true q k e) ∙ ap (λ d. d == 1) (bit_at-pow_same k)
+  | false ↦ λ e. ap (λ d. d == 1) (bit_at-pow_other k q (λ same. true≢false (sym (eq-eqb k k refl) ∙ ap (λ p. p == k) (sym same) ∙ e)))
 ] refl
 
 -- the bits of a list's worth are its numbers
@@ -165,18 +165,6 @@ digit_not b q = grind (arith, nat_tests)
 
 digit_is : (a b : ℕ) → a < 2 → b < 2 → (a == 1) ≡ (b == 1) → a ≡ b
 digit_is a b p q same = grind (arith, nat_tests)
-
-or_comm : (p q : Bool) → (p || q) ≡ (q || p)
-or_comm true true = refl
-or_comm true false = refl
-or_comm false true = refl
-or_comm false false = refl
-
-and_comm : (p q : Bool) → (p && q) ≡ (q && p)
-and_comm true true = refl
-and_comm true false = refl
-and_comm false true = refl
-and_comm false false = refl
 
 pub bits-zero : bits 0 ≡ empty
 bits-zero = bits_is 0 empty (λ q. ap (λ d. d == 1) (bit_at-zero q) ∙ sym (contains-empty q))

@@ -13,10 +13,10 @@ use Rattle.std.proofs.lemmas.List.{length-map}
 use Rattle.std.specs.Cmp.{nat_cmp_total}
 use Rattle.std.specs.FinMap as fin
 use Rattle.std.specs.FinMap.{is_sorted}
-use Rattle.std.proofs.lemmas.Bool.{ltb-true, or_cases}
+use Rattle.std.proofs.lemmas.Bool.{ltb-true, or_cases, eqb-true, eq-eqb, and_parts, or_left, or_right}
 use Rattle.std.proofs.lemmas.Bool.Decides.{nat_tests}
 use Rattle.enumset_repr.specs.BitSet.{is_in, BitSet, contains, rising, len, is_empty, empty, insert, remove, is_subset, below}
-use Rattle.enumset_repr.specs.Laws.Members.{same_set, same_number, itself, both, or_swap, or_left, or_right, contains-empty, contains-rising, contains-remove, contains-below, is_subset-contains}
+use Rattle.enumset_repr.specs.Laws.Members.{same_set, or_swap, contains-empty, contains-rising, contains-remove, contains-below, is_subset-contains}
 
 -- the list rises strictly, and its first is at least k
 abbrev pub RisesFrom : ℕ → List ℕ → Type 0
@@ -58,30 +58,30 @@ is_in-below k q (x ∷ xs) rises low =
 
 pub rises_higher : (j k : ℕ) (xs : List ℕ) → RisesFrom j xs → ((q : ℕ) → is_in q xs ≡ true → k ≤ q) → RisesFrom k xs
 rises_higher j k [] rises from = tt
-rises_higher j k (x ∷ xs) rises from = (from x (or_left (x == x) _ (itself x)), rises.1)
+rises_higher j k (x ∷ xs) rises from = (from x (or_left (x == x) _ (eq-eqb x x refl)), rises.1)
 
 -- a number that is in a list that rises from k is at least k
 pub is_in-from : (k q : ℕ) (xs : List ℕ) → RisesFrom k xs → is_in q xs ≡ true → k ≤ q
 is_in-from k q [] rises one = absurd (true≢false (sym one))
 is_in-from k q (x ∷ xs) rises one = elim (or_cases (q == x) _ one) [
-  | inl here ↦ omega (arith, rises.0, same_number q x here)
+  | inl here ↦ omega (arith, rises.0, eqb-true q x here)
   | inr later ↦ omega (arith, rises.0, is_in-from (suc x) q xs rises.1 later)
 ]
 
 -- what is in the rest of a list that rises
 is_in-rest : (q x k : ℕ) (xs : List ℕ) → RisesFrom k (x ∷ xs) → is_in q xs ≡ (is_in q (x ∷ xs) && not (q == x))
 is_in-rest q x k xs rises = elim (q == x) as (λ t. (q == x) ≡ t → is_in q xs ≡ ((t || is_in q xs) && not t)) [
-  | true ↦ λ e. is_in-below (suc x) q xs rises.1 (omega (arith, same_number q x e))
+  | true ↦ λ e. is_in-below (suc x) q xs rises.1 (omega (arith, eqb-true q x e))
   | false ↦ λ e. sym (and-true (is_in q xs))
 ] refl
 
 pub same_list : (k : ℕ) (xs ys : List ℕ) → RisesFrom k xs → RisesFrom k ys → ((q : ℕ) → is_in q xs ≡ is_in q ys) → xs ≡ ys
 same_list k [] [] p q same = refl
-same_list k [] (y ∷ ys) p q same = absurd (true≢false (sym (same y ∙ or_left (y == y) _ (itself y))))
-same_list k (x ∷ xs) [] p q same = absurd (true≢false (sym (sym (same x) ∙ or_left (x == x) _ (itself x))))
+same_list k [] (y ∷ ys) p q same = absurd (true≢false (sym (same y ∙ or_left (y == y) _ (eq-eqb y y refl))))
+same_list k (x ∷ xs) [] p q same = absurd (true≢false (sym (sym (same x) ∙ or_left (x == x) _ (eq-eqb x x refl))))
 same_list k (x ∷ xs) (y ∷ ys) p q same =
-    let from_y : y ≤ x = is_in-from y x (y ∷ ys) (le_refl y, q.1) (sym (same x) ∙ or_left (x == x) _ (itself x)) in
-    let from_x : x ≤ y = is_in-from x y (x ∷ xs) (le_refl x, p.1) (same y ∙ or_left (y == y) _ (itself y)) in
+    let from_y : y ≤ x = is_in-from y x (y ∷ ys) (le_refl y, q.1) (sym (same x) ∙ or_left (x == x) _ (eq-eqb x x refl)) in
+    let from_x : x ≤ y = is_in-from x y (x ∷ xs) (le_refl x, p.1) (same y ∙ or_left (y == y) _ (eq-eqb y y refl)) in
     let head : x ≡ y = omega arith in
     let rest : (r : ℕ) → is_in r xs ≡ is_in r ys = λ r. is_in-rest r x k xs p ∙ (λ i. same r i && not (r == head i)) ∙ sym (is_in-rest r y k ys q) in
     (λ i. head i ∷ same_list (suc x) xs ys p.1 (subst (λ h. RisesFrom (suc h) ys) (sym head) q.1) rest i)
@@ -112,25 +112,25 @@ len-remove s b = fin.len-remove nat_cmp_total s b
 -- a set is what it was with a member put back
 back_in : (s : BitSet) (m q : ℕ) → contains s m ≡ true → contains s q ≡ ((q == m) || contains (remove s m) q)
 back_in s m q one = elim (q == m) as (λ t. (q == m) ≡ t → contains s q ≡ (t || contains (remove s m) q)) [
-  | true ↦ λ e. ap (contains s) (same_number q m e) ∙ one
+  | true ↦ λ e. ap (contains s) (eqb-true q m e) ∙ one
   | false ↦ λ e. sym (contains-remove s m q ∙ ap (λ t. not t && contains s q) e)
 ] refl
 
 later_of : (s : BitSet) (m q : ℕ) → ((r : ℕ) → r < m → contains s r ≡ false) → (not (q == m) && contains s q) ≡ true → suc m ≤ q
 later_of s m q least h = elim (nat_lt q m) as (λ t. nat_lt q m ≡ t → suc m ≤ q) [
-  | true ↦ λ e. absurd (true≢false (sym (both (not (q == m)) _ h).1 ∙ least q (ltb-true q m e)))
-  | false ↦ λ e. grind (arith, nat_tests, e, (both (not (q == m)) _ h).0)
+  | true ↦ λ e. absurd (true≢false (sym (and_parts (not (q == m)) _ h).1 ∙ least q (ltb-true q m e)))
+  | false ↦ λ e. grind (arith, nat_tests, e, (and_parts (not (q == m)) _ h).0)
 ] refl
 
 earlier_of : (s : BitSet) (m q : ℕ) → ((r : ℕ) → m < r → contains s r ≡ false) → (not (q == m) && contains s q) ≡ true → q < m
 earlier_of s m q greatest h = elim (nat_lt m q) as (λ t. nat_lt m q ≡ t → q < m) [
-  | true ↦ λ e. absurd (true≢false (sym (both (not (q == m)) _ h).1 ∙ greatest q (ltb-true m q e)))
-  | false ↦ λ e. grind (arith, nat_tests, e, (both (not (q == m)) _ h).0)
+  | true ↦ λ e. absurd (true≢false (sym (and_parts (not (q == m)) _ h).1 ∙ greatest q (ltb-true m q e)))
+  | false ↦ λ e. grind (arith, nat_tests, e, (and_parts (not (q == m)) _ h).0)
 ] refl
 
 rises-push : (k m : ℕ) (xs : List ℕ) → k ≤ m → RisesFrom k xs → ((q : ℕ) → is_in q xs ≡ true → q < m) → RisesFrom k (xs ++ m ∷ [])
 rises-push k m [] within rises small = (within, tt)
-rises-push k m (x ∷ xs) within rises small = (rises.0, rises-push (suc x) m xs (small x (or_left (x == x) _ (itself x))) rises.1 (λ q one. small q (or_right (q == x) _ one)))
+rises-push k m (x ∷ xs) within rises small = (rises.0, rises-push (suc x) m xs (small x (or_left (x == x) _ (eq-eqb x x refl))) rises.1 (λ q one. small q (or_right (q == x) _ one)))
 
 pub is_in-push : (q m : ℕ) (xs : List ℕ) → is_in q (xs ++ m ∷ []) ≡ ((q == m) || is_in q xs)
 is_in-push q m [] = refl
@@ -160,7 +160,7 @@ empty_of_rising s e = same_set s empty (λ q. contains-rising s q ∙ ap (is_in 
 length-rises : (k n : ℕ) (xs : List ℕ) → RisesFrom k xs → k ≤ n → ((q : ℕ) → is_in q xs ≡ true → q < n) → length xs + k ≤ n
 length-rises k n [] rises within small = omega (arith, within)
 length-rises k n (x ∷ xs) rises within small =
-    let first : x < n = small x (or_left (x == x) _ (itself x)) in
+    let first : x < n = small x (or_left (x == x) _ (eq-eqb x x refl)) in
     omega (arith, rises.0, first, length-rises (suc x) n xs rises.1 first (λ q one. small q (or_right (q == x) _ one)))
 
 -- a set of numbers below n has at most n members
@@ -173,6 +173,6 @@ len-below s n sub =
 pub is_empty_iff : (s : BitSet) → (is_empty s ≡ true) ↔ (s ≡ empty)
 unfolding is_empty
 is_empty_iff s = (
-  λ none. empty_of_len s (same_number (len s) 0 none),
+  λ none. empty_of_len s (eqb-true (len s) 0 none),
   λ e. ap (λ n. n == 0) (ap len e ∙ len-empty),
 )

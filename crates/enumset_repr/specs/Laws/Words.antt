@@ -9,8 +9,8 @@ use Rattle.std.specs.Prelude.{◌==◌, nat_lt, nat_le, sum_by, filter}
 use Rattle.std.specs.Int.{bit_at, bit_not, Width}
 use Rattle.std.specs.Int.RustNames.{bit_and, bit_or}
 use mir.Val.{bits as width_bits}
-use Rattle.std.proofs.Math.Bool.{or-false}
-use Rattle.std.proofs.lemmas.Bool.{cases_lt, lt-ltb}
+use Rattle.std.proofs.Math.Bool.{and-false, and-or_distrib_left, and-or_distrib_right}
+use Rattle.std.proofs.lemmas.Bool.{cases_lt, lt-ltb, le-ltb}
 use Rattle.std.proofs.lemmas.Bool.Decides.{nat_tests}
 use Rattle.std.proofs.lemmas.List.Sums.{sum_by-cons}
 use Rattle.std.proofs.lemmas.Nat.{pow_pos, mod_below}
@@ -18,7 +18,7 @@ use Rattle.std.proofs.lemmas.Nat.Bits.{bit_at_ones, bit_at_ones_above, bit_at_ca
 use Rattle.enumset_repr.specs.BitSet.{is_in, BitSet, contains, rising, from_list, union, difference, low}
 use Rattle.enumset_repr.specs.Number.{number, bits}
 use Rattle.enumset_repr.specs.Words.{is_in_word, word, raised, with_word}
-use Rattle.enumset_repr.specs.Laws.Members.{same_set, contains-rising, contains-retain, contains-from_list, contains-union, contains-difference, contains-low, not_below, none_of, member_below}
+use Rattle.enumset_repr.specs.Laws.Members.{same_set, contains-rising, contains-retain, contains-from_list, contains-union, contains-difference, contains-low, none_of, member_below}
 use Rattle.enumset_repr.specs.Laws.Rising.{RisesFrom, rising-rises, rising_is}
 use Rattle.enumset_repr.specs.Laws.Numbers.{contains-bits, bits-number, number-bits, bits-within, bits-low, bits-or, bits-and_not, contains-bits-shifted}
 
@@ -27,18 +27,10 @@ use Rattle.enumset_repr.specs.Laws.Numbers.{contains-bits, bits-number, number-b
 raised_test : (k q b : ℕ) → (q == k + b) ≡ (nat_le k q && (q - k == b))
 raised_test k q b = grind (arith, nat_tests)
 
-and_or : (a b c : Bool) → ((a && b) || (a && c)) ≡ (a && (b || c))
-and_or true b c = refl
-and_or false b c = refl
-
-and_none : (a : Bool) → false ≡ (a && false)
-and_none true = refl
-and_none false = refl
-
 is_in-raised : (k q : ℕ) (bs : List ℕ) → is_in q (map (λ b. k + b) bs) ≡ (nat_le k q && is_in (q - k) bs)
-is_in-raised k q [] = and_none (nat_le k q)
+is_in-raised k q [] = sym (and-false (nat_le k q))
 is_in-raised k q (b ∷ bs) =
-    (λ i. raised_test k q b i || is_in-raised k q bs i) ∙ and_or (nat_le k q) (q - k == b) (is_in (q - k) bs)
+    (λ i. raised_test k q b i || is_in-raised k q bs i) ∙ sym (and-or_distrib_left (nat_le k q) (q - k == b) (is_in (q - k) bs))
 
 pub contains-raised : (s : BitSet) (k q : ℕ) → contains (raised s k) q ≡ (nat_le k q && contains s (q - k))
 unfolding raised
@@ -79,19 +71,13 @@ cut_yes w q x one = grind (arith, nat_tests)
 cut_no : (w q x : ℕ) → is_in_word w x ≡ false → ((64 * w + q == x) && nat_lt q 64) ≡ false
 cut_no w q x none = grind (arith, nat_tests)
 
-or_and : (a b c : Bool) → ((a && c) || (b && c)) ≡ ((a || b) && c)
-or_and true true true = refl
-or_and true true false = refl
-or_and true false c = or-false c
-or_and false b c = refl
-
 is_in-cut : (w q : ℕ) (xs : List ℕ) → is_in q (cut w xs) ≡ (is_in (64 * w + q) xs && nat_lt q 64)
 unfolding cut
 is_in-cut w q [] = refl
 is_in-cut w q (x ∷ xs) =
     elim (is_in_word w x) as (λ t. is_in_word w x ≡ t → is_in q (map (λ b. b - 64 * w) (cond t (x ∷ filter (is_in_word w) xs) (filter (is_in_word w) xs))) ≡ (is_in (64 * w + q) (x ∷ xs) && nat_lt q 64)) [
-      | true ↦ λ e. (λ i. cut_yes w q x e i || is_in-cut w q xs i) ∙ or_and (64 * w + q == x) (is_in (64 * w + q) xs) (nat_lt q 64)
-      | false ↦ λ e. is_in-cut w q xs ∙ ap (λ t. t || (is_in (64 * w + q) xs && nat_lt q 64)) (sym (cut_no w q x e)) ∙ or_and (64 * w + q == x) (is_in (64 * w + q) xs) (nat_lt q 64)
+      | true ↦ λ e. (λ i. cut_yes w q x e i || is_in-cut w q xs i) ∙ sym (and-or_distrib_right (64 * w + q == x) (is_in (64 * w + q) xs) (nat_lt q 64))
+      | false ↦ λ e. is_in-cut w q xs ∙ ap (λ t. t || (is_in (64 * w + q) xs && nat_lt q 64)) (sym (cut_no w q x e)) ∙ sym (and-or_distrib_right (64 * w + q == x) (is_in (64 * w + q) xs) (nat_lt q 64))
     ] refl
 
 sum_by-map : (f g : ℕ → ℕ) (xs : List ℕ) → sum_by f (map g xs) ≡ sum_by (λ x. f (g x)) xs
@@ -140,7 +126,7 @@ bits-shifted_up width n k = bits-low (n * 2 ^ k) width ∙ ap (λ s. low s width
 contains-ones : (q : ℕ) → contains (bits 18446744073709551615) q ≡ nat_lt q 64
 contains-ones q = contains-bits _ q ∙ elim (cases_lt q 64) [
   | inl under ↦ ap (λ d. d == 1) (bit_at_ones 64 q under) ∙ sym (lt-ltb q 64 under)
-  | inr over ↦ ap (λ d. d == 1) (bit_at_ones_above 64 q over) ∙ sym (not_below q 64 over)
+  | inr over ↦ ap (λ d. d == 1) (bit_at_ones_above 64 q over) ∙ sym (le-ltb q 64 over)
 ]
 
 -- where a place below the width is set, it is in the mask of a word exactly if it is in the word

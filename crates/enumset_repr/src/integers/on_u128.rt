@@ -141,5 +141,7 @@ impl EnumSetTypeRepr for u128 {
 
     ghost steps_back = { λ _ _ _ step. step };
 
+    ghost clones = { λ i j copy k. set.rising (bits (copy k).0) };
+
     ghost left = { λ _. refl };
 }

@@ -142,5 +142,7 @@ impl EnumSetTypeRepr for u8 {
 
     ghost steps_back = { λ _ _ _ step. step };
 
+    ghost clones = { λ i j copy k. set.rising (bits (copy k).0) };
+
     ghost left = { λ _. refl };
 }

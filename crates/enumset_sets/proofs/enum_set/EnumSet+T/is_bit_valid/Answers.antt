@@ -1,15 +1,16 @@
 use Rattle.std.proofs.Common.{refl, sym, ◌∙◌, arith}
-use Rattle.enumset_repr.specs.Laws.Members.{contains-past, not_below}
+use Rattle.std.proofs.lemmas.Bool.{le-ltb}
+use Rattle.enumset_repr.specs.Laws.Members.{contains-past}
 use Rattle.enumset_sets.proofs.ElementLaws.{contains-is_in}
 use Rattle.enumset_sets.proofs.enum_set.EnumSet+T.is_bit_valid.Goals as goal
 
 pub returns-else-bit-WIDTH-clause-valid : goal.returns-else-bit-WIDTH-clause-valid
 returns-else-bit-WIDTH-clause-valid g c =
-    not_below _ _ c.if-bit-WIDTH.false
+    le-ltb _ _ c.if-bit-WIDTH.false
     ∙ sym (contains-past _ _ _ (g.met.T.Repr.EnumSetTypeRepr.within g.T.EnumSetType.ALL_BITS (rw (← c.valid_repr-all.ensures.value) c.valid_repr-all.ensures.is_value)) (omega (arith, c.if-bit-WIDTH.false, c.WIDTH.ensures)))
 
 pub returns-else-bit-WIDTH-clause-past : goal.returns-else-bit-WIDTH-clause-past
-returns-else-bit-WIDTH-clause-past g c past = not_below _ _ c.if-bit-WIDTH.false
+returns-else-bit-WIDTH-clause-past g c past = le-ltb _ _ c.if-bit-WIDTH.false
 
 pub returns-else-bit-WIDTH-clause-of_a_variant : goal.returns-else-bit-WIDTH-clause-of_a_variant
 returns-else-bit-WIDTH-clause-of_a_variant g c =

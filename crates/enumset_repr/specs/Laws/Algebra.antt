@@ -1,0 +1,257 @@
+-- The algebra of sets: laws in one line each, for proofs about code over sets.
+--     union_.., intersection_.., symmetric_difference_.., difference_..      order, grouping, the empty set, a set with itself, one word over another
+--     insert_.., remove_..      what is put in or taken out twice, in either order, or one after the other
+--     complement_..      what is left of a set v without a part of it
+--     is_subset_.., is_disjoint_..      subsets, and sets with no common member
+--     from_list_.., insert_each_..      a set built from a list of its members
+-- The ruleset `algebra` holds those that a tactic can apply by itself: cite it in a crate above by
+-- `#[tactic(auto, using(enumset_repr::specs::Laws::Algebra::algebra))]`.
+use Rattle.std.proofs.Common.{◌≡◌, ℕ, true, false, List, [], ◌∷◌, ◌++◌, refl, sym, ap, ◌∙◌, arith}
+use Rattle.std.proofs.lemmas.Bool.Decides.{nat_tests, same_from_decides}
+use Rattle.enumset_repr.specs.BitSet.{BitSet, contains, rising, empty, insert, only, remove, from_list, insert_each, union, intersection, difference, symmetric_difference, is_subset, is_disjoint, is_same}
+use Rattle.enumset_repr.specs.Laws.Members.{members, subsets, same_set, contains-rising, contains-from_list, contains-insert_each, contains-is_subset, is_subset-contains, contains-is_disjoint, is_disjoint-contains, is_same_iff}
+
+-- ---- union
+
+pub union_comm : (s t : BitSet) → union s t ≡ union t s
+union_comm s t = same_set _ _ (λ q. grind (arith, members))
+
+pub union_assoc : (s t u : BitSet) → union (union s t) u ≡ union s (union t u)
+union_assoc s t u = same_set _ _ (λ q. grind (arith, members))
+
+pub union_self : (s : BitSet) → union s s ≡ s
+union_self s = same_set _ _ (λ q. grind (arith, members))
+
+pub union_empty : (s : BitSet) → union s empty ≡ s
+union_empty s = same_set _ _ (λ q. grind (arith, members))
+
+pub empty_union : (s : BitSet) → union empty s ≡ s
+empty_union s = same_set _ _ (λ q. grind (arith, members))
+
+pub union_intersection : (s t : BitSet) → union s (intersection s t) ≡ s
+union_intersection s t = same_set _ _ (λ q. grind (arith, members))
+
+pub union_over_intersection : (s t u : BitSet) → union s (intersection t u) ≡ intersection (union s t) (union s u)
+union_over_intersection s t u = same_set _ _ (λ q. grind (arith, members))
+
+pub ruleset on_unions = (union_comm, union_self, union_empty, empty_union, union_intersection)
+
+-- ---- intersection
+
+pub intersection_comm : (s t : BitSet) → intersection s t ≡ intersection t s
+intersection_comm s t = same_set _ _ (λ q. grind (arith, members))
+
+pub intersection_assoc : (s t u : BitSet) → intersection (intersection s t) u ≡ intersection s (intersection t u)
+intersection_assoc s t u = same_set _ _ (λ q. grind (arith, members))
+
+pub intersection_self : (s : BitSet) → intersection s s ≡ s
+intersection_self s = same_set _ _ (λ q. grind (arith, members))
+
+pub intersection_empty : (s : BitSet) → intersection s empty ≡ empty
+intersection_empty s = same_set _ _ (λ q. grind (arith, members))
+
+pub empty_intersection : (s : BitSet) → intersection empty s ≡ empty
+empty_intersection s = same_set _ _ (λ q. grind (arith, members))
+
+pub intersection_union : (s t : BitSet) → intersection s (union s t) ≡ s
+intersection_union s t = same_set _ _ (λ q. grind (arith, members))
+
+pub intersection_over_union : (s t u : BitSet) → intersection s (union t u) ≡ union (intersection s t) (intersection s u)
+intersection_over_union s t u = same_set _ _ (λ q. grind (arith, members))
+
+pub ruleset on_intersections = (intersection_comm, intersection_self, intersection_empty, empty_intersection, intersection_union)
+
+-- ---- difference
+
+pub difference_self : (s : BitSet) → difference s s ≡ empty
+difference_self s = same_set _ _ (λ q. grind (arith, members))
+
+pub difference_empty : (s : BitSet) → difference s empty ≡ s
+difference_empty s = same_set _ _ (λ q. grind (arith, members))
+
+pub empty_difference : (s : BitSet) → difference empty s ≡ empty
+empty_difference s = same_set _ _ (λ q. grind (arith, members))
+
+-- De Morgan: what is outside a union is outside both, what is outside an intersection is outside one
+pub difference_union : (v s t : BitSet) → difference v (union s t) ≡ intersection (difference v s) (difference v t)
+difference_union v s t = same_set _ _ (λ q. grind (arith, members))
+
+pub difference_intersection : (v s t : BitSet) → difference v (intersection s t) ≡ union (difference v s) (difference v t)
+difference_intersection v s t = same_set _ _ (λ q. grind (arith, members))
+
+-- in a and then out again leaves what was not there before
+pub union_difference : (s t : BitSet) → difference (union s t) t ≡ difference s t
+union_difference s t = same_set _ _ (λ q. grind (arith, members))
+
+pub difference_then_union : (s t : BitSet) → union (difference s t) t ≡ union s t
+difference_then_union s t = same_set _ _ (λ q. grind (arith, members))
+
+pub difference_twice : (s t : BitSet) → difference (difference s t) t ≡ difference s t
+difference_twice s t = same_set _ _ (λ q. grind (arith, members))
+
+pub ruleset on_differences = (difference_self, difference_empty, empty_difference, difference_union, difference_intersection, union_difference, difference_then_union, difference_twice)
+
+-- ---- symmetric difference
+
+pub symmetric_difference_comm : (s t : BitSet) → symmetric_difference s t ≡ symmetric_difference t s
+symmetric_difference_comm s t = same_set _ _ (λ q. grind (arith, members))
+
+pub symmetric_difference_assoc : (s t u : BitSet) → symmetric_difference (symmetric_difference s t) u ≡ symmetric_difference s (symmetric_difference t u)
+symmetric_difference_assoc s t u = same_set _ _ (λ q. grind (arith, members))
+
+pub symmetric_difference_self : (s : BitSet) → symmetric_difference s s ≡ empty
+symmetric_difference_self s = same_set _ _ (λ q. grind (arith, members))
+
+pub symmetric_difference_empty : (s : BitSet) → symmetric_difference s empty ≡ s
+symmetric_difference_empty s = same_set _ _ (λ q. grind (arith, members))
+
+pub symmetric_difference_twice : (s t : BitSet) → symmetric_difference (symmetric_difference s t) t ≡ s
+symmetric_difference_twice s t = same_set _ _ (λ q. grind (arith, members))
+
+pub ruleset on_symmetric_differences = (symmetric_difference_comm, symmetric_difference_self, symmetric_difference_empty, symmetric_difference_twice)
+
+-- ---- one number
+
+pub insert_twice : (s : BitSet) (b : ℕ) → insert (insert s b) b ≡ insert s b
+insert_twice s b = same_set _ _ (λ q. grind (arith, members))
+
+pub insert_comm : (s : BitSet) (b c : ℕ) → insert (insert s b) c ≡ insert (insert s c) b
+insert_comm s b c = same_set _ _ (λ q. grind (arith, members))
+
+pub insert_present : (s : BitSet) (b : ℕ) → contains s b ≡ true → insert s b ≡ s
+insert_present s b one = same_set _ _ (λ q. grind (arith, members, nat_tests))
+
+pub remove_twice : (s : BitSet) (b : ℕ) → remove (remove s b) b ≡ remove s b
+remove_twice s b = same_set _ _ (λ q. grind (arith, members))
+
+pub remove_comm : (s : BitSet) (b c : ℕ) → remove (remove s b) c ≡ remove (remove s c) b
+remove_comm s b c = same_set _ _ (λ q. grind (arith, members))
+
+pub remove_absent : (s : BitSet) (b : ℕ) → contains s b ≡ false → remove s b ≡ s
+remove_absent s b none = same_set _ _ (λ q. grind (arith, members, nat_tests))
+
+-- what was absent goes again
+pub remove_insert : (s : BitSet) (b : ℕ) → contains s b ≡ false → remove (insert s b) b ≡ s
+remove_insert s b none = same_set _ _ (λ q. grind (arith, members, nat_tests))
+
+-- what was present comes back
+pub insert_remove : (s : BitSet) (b : ℕ) → contains s b ≡ true → insert (remove s b) b ≡ s
+insert_remove s b one = same_set _ _ (λ q. grind (arith, members, nat_tests))
+
+pub contains_insert : (s : BitSet) (b : ℕ) → contains (insert s b) b ≡ true
+contains_insert s b = grind (arith, members, nat_tests)
+
+pub contains_remove : (s : BitSet) (b : ℕ) → contains (remove s b) b ≡ false
+contains_remove s b = grind (arith, members, nat_tests)
+
+pub union_only : (s : BitSet) (b : ℕ) → union s (only b) ≡ insert s b
+union_only s b = same_set _ _ (λ q. grind (arith, members))
+
+pub difference_only : (s : BitSet) (b : ℕ) → difference s (only b) ≡ remove s b
+difference_only s b = same_set _ _ (λ q. grind (arith, members))
+
+pub insert_union : (s t : BitSet) (b : ℕ) → union (insert s b) t ≡ insert (union s t) b
+insert_union s t b = same_set _ _ (λ q. grind (arith, members))
+
+pub union_insert : (s t : BitSet) (b : ℕ) → union s (insert t b) ≡ insert (union s t) b
+union_insert s t b = same_set _ _ (λ q. grind (arith, members))
+
+pub ruleset on_one_number = (contains_insert, contains_remove, insert_twice, insert_present, remove_twice, remove_absent, remove_insert, insert_remove, union_only, difference_only)
+
+-- ---- the rest of a set v: its complement, where v is the set of all
+
+pub complement_twice : (v s : BitSet) → is_subset s v ≡ true → difference v (difference v s) ≡ s
+complement_twice v s within = same_set _ _ (λ q. let each = is_subset-contains s v within q in grind (arith, members))
+
+pub complement_union : (v s : BitSet) → is_subset s v ≡ true → union s (difference v s) ≡ v
+complement_union v s within = same_set _ _ (λ q. let each = is_subset-contains s v within q in grind (arith, members))
+
+pub complement_intersection : (v s : BitSet) → intersection s (difference v s) ≡ empty
+complement_intersection v s = same_set _ _ (λ q. grind (arith, members))
+
+pub complement_apart : (v s : BitSet) → is_disjoint s (difference v s) ≡ true
+complement_apart v s = contains-is_disjoint _ _ (λ q one. grind (arith, members))
+
+pub ruleset on_complements = (complement_twice, complement_union, complement_intersection, complement_apart)
+
+-- ---- sets with no common member
+
+apart_back : (s t : BitSet) → is_disjoint s t ≡ true → is_disjoint t s ≡ true
+apart_back s t apart = contains-is_disjoint t s (λ q one. let none = is_disjoint-contains s t apart q in grind arith)
+
+pub is_disjoint_comm : (s t : BitSet) → is_disjoint s t ≡ is_disjoint t s
+is_disjoint_comm s t = same_from_decides _ _ (apart_back s t, apart_back t s) (λ h. h, λ h. h)
+
+pub is_disjoint_empty : (s : BitSet) → is_disjoint s empty ≡ true
+is_disjoint_empty s = contains-is_disjoint _ _ (λ q one. grind (arith, members))
+
+pub is_disjoint_difference : (s t : BitSet) → is_disjoint (difference s t) t ≡ true
+is_disjoint_difference s t = contains-is_disjoint _ _ (λ q one. grind (arith, members))
+
+-- ---- subsets
+
+pub is_subset_trans : (s t u : BitSet) → is_subset s t ≡ true → is_subset t u ≡ true → is_subset s u ≡ true
+is_subset_trans s t u first second = contains-is_subset s u (λ q one. is_subset-contains t u second q (is_subset-contains s t first q one))
+
+pub is_subset_antisymm : (s t : BitSet) → is_subset s t ≡ true → is_subset t s ≡ true → s ≡ t
+is_subset_antisymm s t first second = same_set s t (λ q. let there = is_subset-contains s t first q in let back = is_subset-contains t s second q in grind arith)
+
+pub union_left : (s t : BitSet) → is_subset s (union s t) ≡ true
+union_left s t = contains-is_subset _ _ (λ q one. grind (arith, members))
+
+pub union_right : (s t : BitSet) → is_subset t (union s t) ≡ true
+union_right s t = contains-is_subset _ _ (λ q one. grind (arith, members))
+
+pub intersection_left : (s t : BitSet) → is_subset (intersection s t) s ≡ true
+intersection_left s t = contains-is_subset _ _ (λ q one. grind (arith, members))
+
+pub intersection_right : (s t : BitSet) → is_subset (intersection s t) t ≡ true
+intersection_right s t = contains-is_subset _ _ (λ q one. grind (arith, members))
+
+pub difference_left : (s t : BitSet) → is_subset (difference s t) s ≡ true
+difference_left s t = contains-is_subset _ _ (λ q one. grind (arith, members))
+
+pub insert_grows : (s : BitSet) (b : ℕ) → is_subset s (insert s b) ≡ true
+insert_grows s b = contains-is_subset _ _ (λ q one. grind (arith, members))
+
+pub remove_shrinks : (s : BitSet) (b : ℕ) → is_subset (remove s b) s ≡ true
+remove_shrinks s b = contains-is_subset _ _ (λ q one. grind (arith, members))
+
+pub union_within : (s t : BitSet) → is_subset s t ≡ true → union s t ≡ t
+union_within s t within = same_set _ _ (λ q. let each = is_subset-contains s t within q in grind (arith, members))
+
+pub intersection_within : (s t : BitSet) → is_subset s t ≡ true → intersection s t ≡ s
+intersection_within s t within = same_set _ _ (λ q. let each = is_subset-contains s t within q in grind (arith, members))
+
+pub difference_within : (s t : BitSet) → is_subset s t ≡ true → difference s t ≡ empty
+difference_within s t within = same_set _ _ (λ q. let each = is_subset-contains s t within q in grind (arith, members))
+
+pub intersection_apart : (s t : BitSet) → is_disjoint s t ≡ true → intersection s t ≡ empty
+intersection_apart s t apart = same_set _ _ (λ q. let each = is_disjoint-contains s t apart q in grind (arith, members))
+
+pub difference_apart : (s t : BitSet) → is_disjoint s t ≡ true → difference s t ≡ s
+difference_apart s t apart = same_set _ _ (λ q. let each = is_disjoint-contains s t apart q in grind (arith, members))
+
+pub ruleset on_subsets = (is_disjoint_empty, is_disjoint_difference, union_left, union_right, intersection_left, intersection_right, difference_left, insert_grows, remove_shrinks, union_within, intersection_within, difference_within, intersection_apart, difference_apart)
+
+-- ---- a set from a list of its members
+
+pub from_list_rising : (s : BitSet) → from_list (rising s) ≡ s
+from_list_rising s = same_set _ _ (λ q. contains-from_list (rising s) q ∙ sym (contains-rising s q))
+
+pub insert_each_rising : (s : BitSet) → insert_each empty (rising s) ≡ s
+unfolding union
+insert_each_rising s = empty_union s
+
+-- a loop that takes a list's numbers in turn: with the first of them put in, those after it are left
+pub insert_each_insert : (s : BitSet) (b : ℕ) (bs : List ℕ) → insert_each (insert s b) bs ≡ insert_each s (b ∷ bs)
+insert_each_insert s b bs = same_set _ _ (λ q. grind (arith, members, contains-insert_each))
+
+pub insert_each_none : (s : BitSet) → insert_each s [] ≡ s
+unfolding insert_each
+insert_each_none s = refl
+
+pub ruleset on_lists = (from_list_rising, insert_each_rising, insert_each_insert, insert_each_none)
+
+-- What a proof about code over sets wants: what `contains` answers, what stays within a set, and these laws, but for those that only order or group.
+pub ruleset algebra = (members, subsets, on_unions, on_intersections, on_differences, on_symmetric_differences, on_one_number, on_complements, on_subsets, on_lists)
