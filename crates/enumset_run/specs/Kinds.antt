@@ -1,4 +1,7 @@
--- The worked types: their names, and the valid bits of each.
+-- The worked types: their names and their bits.
+--     worked_of      the type of a name, byte by byte
+--     letters_bits, sparse_bits, wide_bits      the bits of its variants, in the order of their declaration
+--     valid_bits_of      the set of a type's bits
 use Rattle.std.specs.Prelude.{ℕ, List, [], ◌∷◌, codes, Option}
 use Rattle.std.specs.Map.{lookup}
 use Rattle.std.specs.Str.{bytes_eq}
@@ -16,7 +19,18 @@ worked_of name =
     ∷ []
     )
 
+-- the bits of each type's variants, in the order of their declaration
+abbrev pub letters_bits : List ℕ
+letters_bits = 0 ∷ 1 ∷ 2 ∷ 3 ∷ 4 ∷ 5 ∷ 6 ∷ []
+
+abbrev pub sparse_bits : List ℕ
+sparse_bits = 10 ∷ 20 ∷ 30 ∷ 127 ∷ []
+
+abbrev pub wide_bits : List ℕ
+wide_bits = 3 ∷ 64 ∷ 130 ∷ []
+
+-- its valid bits
 abbrev pub valid_bits_of : Worked → BitSet
-valid_bits_of Letters = from_list (0 ∷ 1 ∷ 2 ∷ 3 ∷ 4 ∷ 5 ∷ 6 ∷ [])
-valid_bits_of Sparse = from_list (10 ∷ 20 ∷ 30 ∷ 127 ∷ [])
-valid_bits_of Wide = from_list (3 ∷ 64 ∷ 130 ∷ [])
+valid_bits_of Letters = from_list letters_bits
+valid_bits_of Sparse = from_list sparse_bits
+valid_bits_of Wide = from_list wide_bits

@@ -1,6 +1,7 @@
 //! The worked type `letters`.
 
 use enumset_sets::element::EnumSetType;
+use enumset_sets::variant_of;
 use std::fmt;
 
 /// Seven variants, on bits 0 to 6.
@@ -16,17 +17,13 @@ pub enum Letters {
 }
 
 impl EnumSetType for Letters {
-    ghost use Rattle.std.specs.Prelude.{◌∷◌, [], refl};
-    ghost use Rattle.enumset_repr.specs.Laws.Listed.{bits_listed};
-    ghost use Rattle.enumset_sets.specs.Elements.{bit_of};
-    ghost use Rattle.enumset_sets.proofs.ElementLaws.{lawful};
+    ghost use Rattle.enumset_sets.specs.Laws.Elements.{with_bits, lawful_in_integer};
+    ghost use Rattle.enumset_run.specs.Kinds.{letters_bits};
     ghost use Rattle.enumset_run.specs.contracts.letters.Letters.{the_type};
 
     type Repr = u8;
 
-    ghost bits = { 0 ∷ 1 ∷ 2 ∷ 3 ∷ 4 ∷ 5 ∷ 6 ∷ [] };
-
-    ghost bit = { bit_of the_type (0 ∷ 1 ∷ 2 ∷ 3 ∷ 4 ∷ 5 ∷ 6 ∷ []) };
+    ghost elements = { with_bits the_type letters_bits };
 
     ghost ALL_BITS = { 127 };
 
@@ -45,18 +42,10 @@ impl EnumSetType for Letters {
     }
 
     fn enum_from_u32(val: u32) -> Letters {
-        match val {
-            0 => Letters::A,
-            1 => Letters::B,
-            2 => Letters::C,
-            3 => Letters::D,
-            4 => Letters::E,
-            5 => Letters::F,
-            _ => Letters::G,
-        }
+        variant_of!(val, Letters: A B C D E F G)
     }
 
-    ghost lawful = { lawful the_type tt (bits_listed _ _ refl) refl };
+    ghost lawful = { lawful_in_integer the_type _ tt };
 }
 
 /// The name of the variant.

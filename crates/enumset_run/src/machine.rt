@@ -72,7 +72,7 @@ impl<T: EnumSetType> Machine<T> {
     // Carries out a command that is not refused.
     fn carry_out(&mut self, command: &Command) -> Reply
         requires registers { names_registers command.now ≡ true }
-        requires bits { AreBitsOf T.bits (bits_named command.now) }
+        requires bits { AreBitsOf T.elements.bit_list (bits_named command.now) }
         ensures reply { result ≡ reply_of self.old command.now }
         ensures state { self.new ≡ after (T.Repr.members T.ALL_BITS) self.old command.now }
     {
@@ -114,7 +114,7 @@ impl<T: EnumSetType> Machine<T> {
 
 // The reply to a step of an iterator.
 fn given<T: EnumSetType>(element: Option<T>) -> Reply
-    ensures { result ≡ bit_or_absent (option_map T.bit element) }
+    ensures { result ≡ bit_or_absent (option_map T.elements.bit element) }
 {
     match element {
         Some(element) => Reply::Bit(element.enum_into_u32()),

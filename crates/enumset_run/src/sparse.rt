@@ -1,33 +1,30 @@
 //! The worked type `sparse`.
 
 use enumset_sets::element::EnumSetType;
+use enumset_sets::variant_of;
 use std::fmt;
 
 /// Four variants, on bits 10, 20, 30 and 127.
 #[derive(Clone, Copy, Debug, PartialEq, Eq, PartialOrd, Ord, Hash)]
 pub enum Sparse {
-    A,
-    B,
-    C,
-    D,
+    A = 10,
+    B = 20,
+    C = 30,
+    D = 127,
 }
 
 impl EnumSetType for Sparse {
-    ghost use Rattle.std.specs.Prelude.{◌∷◌, [], refl};
-    ghost use Rattle.enumset_repr.specs.Laws.Listed.{bits_listed};
-    ghost use Rattle.enumset_sets.specs.Elements.{bit_of};
-    ghost use Rattle.enumset_sets.proofs.ElementLaws.{lawful};
+    ghost use Rattle.enumset_sets.specs.Laws.Elements.{with_bits, lawful_in_integer};
+    ghost use Rattle.enumset_run.specs.Kinds.{sparse_bits};
     ghost use Rattle.enumset_run.specs.contracts.sparse.Sparse.{the_type};
 
     type Repr = u128;
 
-    ghost bits = { 10 ∷ 20 ∷ 30 ∷ 127 ∷ [] };
-
-    ghost bit = { bit_of the_type (10 ∷ 20 ∷ 30 ∷ 127 ∷ []) };
+    ghost elements = { with_bits the_type sparse_bits };
 
     ghost ALL_BITS = { 170141183460469231731687303716958897152 };
 
-    const ALL_BITS: u128 = 170141183460469231731687303716958897152;
+    const ALL_BITS: u128 = 1 << 10 | 1 << 20 | 1 << 30 | 1 << 127;
 
     ghost BIT_WIDTH = { 128 };
 
@@ -38,24 +35,14 @@ impl EnumSetType for Sparse {
     const VARIANT_COUNT: u32 = 4;
 
     fn enum_into_u32(self) -> u32 {
-        match self {
-            Sparse::A => 10,
-            Sparse::B => 20,
-            Sparse::C => 30,
-            Sparse::D => 127,
-        }
+        self as u32
     }
 
     fn enum_from_u32(val: u32) -> Sparse {
-        match val {
-            10 => Sparse::A,
-            20 => Sparse::B,
-            30 => Sparse::C,
-            _ => Sparse::D,
-        }
+        variant_of!(val, Sparse: A B C D)
     }
 
-    ghost lawful = { lawful the_type tt (bits_listed _ _ refl) refl };
+    ghost lawful = { lawful_in_integer the_type _ tt };
 }
 
 /// The name of the variant.

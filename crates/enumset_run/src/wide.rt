@@ -2,28 +2,27 @@
 
 use enumset_array::ArrayRepr;
 use enumset_sets::element::EnumSetType;
+use enumset_sets::variant_of;
 use std::fmt;
 
 /// Three variants, on bits 3, 64 and 130, each in a word of its own.
 #[derive(Clone, Copy, Debug, PartialEq, Eq, PartialOrd, Ord, Hash)]
 pub enum Wide {
-    P,
-    Q,
-    R,
+    P = 3,
+    Q = 64,
+    R = 130,
 }
 
 impl EnumSetType for Wide {
     ghost use Rattle.std.specs.Prelude.{◌∷◌, [], refl};
     ghost use Rattle.enumset_array.specs.Laws.Listed.{words_listed};
-    ghost use Rattle.enumset_sets.specs.Elements.{bit_of};
-    ghost use Rattle.enumset_sets.proofs.ElementLaws.{lawful};
+    ghost use Rattle.enumset_sets.specs.Laws.Elements.{with_bits, lawful_in};
+    ghost use Rattle.enumset_run.specs.Kinds.{wide_bits};
     ghost use Rattle.enumset_run.specs.contracts.wide.Wide.{the_type};
 
     type Repr = ArrayRepr<3>;
 
-    ghost bits = { 3 ∷ 64 ∷ 130 ∷ [] };
-
-    ghost bit = { bit_of the_type (3 ∷ 64 ∷ 130 ∷ []) };
+    ghost elements = { with_bits the_type wide_bits };
 
     ghost ALL_BITS = { 8 ∷ 1 ∷ 4 ∷ [] };
 
@@ -38,22 +37,14 @@ impl EnumSetType for Wide {
     const VARIANT_COUNT: u32 = 3;
 
     fn enum_into_u32(self) -> u32 {
-        match self {
-            Wide::P => 3,
-            Wide::Q => 64,
-            Wide::R => 130,
-        }
+        self as u32
     }
 
     fn enum_from_u32(val: u32) -> Wide {
-        match val {
-            3 => Wide::P,
-            64 => Wide::Q,
-            _ => Wide::R,
-        }
+        variant_of!(val, Wide: P Q R)
     }
 
-    ghost lawful = { lawful the_type tt (words_listed _ _ refl) refl };
+    ghost lawful = { lawful_in the_type (words_listed _ _ refl) tt };
 }
 
 /// The name of the variant.

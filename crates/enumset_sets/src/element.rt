@@ -1,8 +1,8 @@
 //! The trait of element types.
 
-ghost use Rattle.std.specs.Prelude.{◌≡◌, ℕ, List, IsTrue};
+ghost use Rattle.std.specs.Prelude.{◌≡◌, ℕ, IsTrue};
 ghost use Rattle.enumset_repr.specs.BitSet.{is_in};
-ghost use Rattle.enumset_sets.specs.Elements.{IsElementType};
+ghost use Rattle.enumset_sets.specs.Elements.{Elements, IsElementType};
 
 use enumset_repr::repr::EnumSetTypeRepr;
 
@@ -14,11 +14,8 @@ pub trait EnumSetType: Copy + Eq {
     /// The store of its sets.
     type Repr: EnumSetTypeRepr;
 
-    // A value's bit.
-    ghost bit: { Self → ℕ };
-
-    // The valid bits, one for each variant. Where `bit` is `bit_of`, in the order of their declaration.
-    ghost bits: { List ℕ };
+    // The bit of each value, and the list of the valid bits, one for each variant.
+    ghost elements: { Elements Self };
 
     ghost ALL_BITS: { Self.Repr };
 
@@ -37,13 +34,13 @@ pub trait EnumSetType: Copy + Eq {
 
     /// The value's bit.
     fn enum_into_u32(self) -> u32
-        ensures { result ≡ bit self };
+        ensures { result ≡ elements.bit self };
 
     /// The value whose bit it is. The bit must be valid, one of those of the variants:
     /// [`EnumSet::is_bit_valid`](crate::EnumSet::is_bit_valid) is the test.
     fn enum_from_u32(val: u32) -> Self
-        requires { IsTrue (is_in val bits) }
-        ensures { bit result ≡ val };
+        requires { IsTrue (is_in val elements.bit_list) }
+        ensures { elements.bit result ≡ val };
 
-    ghost lawful: { IsElementType bit Self.PartialEq.eq bits (Self.Repr.members ALL_BITS) BIT_WIDTH VARIANT_COUNT };
+    ghost lawful: { IsElementType elements Self.PartialEq.eq (Self.Repr.members ALL_BITS) BIT_WIDTH VARIANT_COUNT };
 }

@@ -113,7 +113,7 @@ fn valid_repr<T: EnumSetType>() -> T::Repr
 
 // A value's bit, which is below the width of its store.
 fn bit_of_value<T: EnumSetType>(value: T) -> u32
-    ensures bit { result ≡ T.bit value }
+    ensures bit { result ≡ T.elements.bit value }
     ensures valid { IsTrue (set.contains (T.Repr.members T.ALL_BITS) result) }
     ensures within { result < T.Repr.WIDTH }
 {
@@ -157,7 +157,7 @@ impl<T: EnumSetType> EnumSet<T> {
 
     /// The set of one element.
     pub fn only(t: T) -> EnumSet<T>
-        ensures { result ≡ set.only (T.bit t) }
+        ensures { result ≡ set.only (T.elements.bit t) }
     {
         let mut repr = T::Repr::EMPTY;
         repr.add_bit(bit_of_value(t));
@@ -180,7 +180,7 @@ impl<T: EnumSetType> EnumSet<T> {
 
     /// The element's bit. It is valid, and below the store's width.
     pub fn bit_index(t: T) -> u32
-        ensures bit { result ≡ T.bit t }
+        ensures bit { result ≡ T.elements.bit t }
         ensures valid { IsTrue (set.contains (T.Repr.members T.ALL_BITS) result) }
         ensures within { result < T.Repr.WIDTH }
     {
@@ -190,7 +190,7 @@ impl<T: EnumSetType> EnumSet<T> {
     /// Whether a bit is valid: one of a variant. It is not at and past the store's width.
     pub fn is_bit_valid(bit: u32) -> bool
         ensures valid { result ≡ set.contains (T.Repr.members T.ALL_BITS) bit }
-        ensures of_a_variant { result ≡ set.is_in bit T.bits }
+        ensures of_a_variant { result ≡ set.is_in bit T.elements.bit_list }
         ensures past { T.Repr.WIDTH ≤ bit → result ≡ false }
     {
         let all = valid_repr::<T>();
@@ -221,15 +221,15 @@ impl<T: EnumSetType> EnumSet<T> {
 
     /// Whether the element is a member.
     pub fn contains(&self, value: T) -> bool
-        ensures { result ≡ set.contains self.now (T.bit value) }
+        ensures { result ≡ set.contains self.now (T.elements.bit value) }
     {
         self.repr.has_bit(bit_of_value(value))
     }
 
     /// Makes the element a member, and says whether it was absent.
     pub fn insert(&mut self, value: T) -> bool
-        ensures inserted { self.new ≡ set.insert self.old (T.bit value) }
-        ensures was_absent { result ≡ not (set.contains self.old (T.bit value)) }
+        ensures inserted { self.new ≡ set.insert self.old (T.elements.bit value) }
+        ensures was_absent { result ≡ not (set.contains self.old (T.elements.bit value)) }
     {
         let is_absent = !self.contains(value);
         let mut repr = self.repr;
@@ -240,8 +240,8 @@ impl<T: EnumSetType> EnumSet<T> {
 
     /// Takes the element out, and says whether it was present.
     pub fn remove(&mut self, value: T) -> bool
-        ensures removed { self.new ≡ set.remove self.old (T.bit value) }
-        ensures was_present { result ≡ set.contains self.old (T.bit value) }
+        ensures removed { self.new ≡ set.remove self.old (T.elements.bit value) }
+        ensures was_present { result ≡ set.contains self.old (T.elements.bit value) }
     {
         let is_present = self.contains(value);
         let mut repr = self.repr;
@@ -341,7 +341,7 @@ impl<T: EnumSetType> EnumSet<T> {
 
     /// Whether the set has this element and no other. It stands for `==` between a set and an element.
     pub fn eq_element(&self, value: T) -> bool
-        ensures { result ≡ set.is_same self.now (set.only (T.bit value)) }
+        ensures { result ≡ set.is_same self.now (set.only (T.elements.bit value)) }
     {
         are_same(self.repr, Self::only(value).repr)
     }

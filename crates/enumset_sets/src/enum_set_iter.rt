@@ -25,7 +25,7 @@ impl<T: EnumSetType> Model for EnumSetIter<T> {
 
     ghost view = { λ i. T.Repr.rest i.iter };
 
-    ghost invariant = { λ i. AreBitsOf T.bits (T.Repr.rest i.iter) };
+    ghost invariant = { λ i. AreBitsOf T.elements.bit_list (T.Repr.rest i.iter) };
 }
 
 impl<T: EnumSetType> Drop for EnumSetIter<T> {
@@ -71,7 +71,7 @@ impl<T: EnumSetType> Iterator for EnumSetIter<T> {
 
     ghost use Rattle.std.specs.Iterator.{YieldsFirstBy, item_count};
 
-    ghost next_gives = { YieldsFirstBy T.bit (λ bits. bits) };
+    ghost next_gives = { YieldsFirstBy T.elements.bit (λ bits. bits) };
 
     ghost remaining = { item_count (λ bits. bits) };
 
@@ -94,7 +94,7 @@ impl<T: EnumSetType> Iterator for EnumSetIter<T> {
 impl<T: EnumSetType> DoubleEndedIterator for EnumSetIter<T> {
     ghost use Rattle.std.specs.Iterator.{YieldsLastBy};
 
-    ghost next_back_gives = { YieldsLastBy T.bit (λ bits. bits) };
+    ghost next_back_gives = { YieldsLastBy T.elements.bit (λ bits. bits) };
 
     /// The element of the greatest bit that is left, or `None` if there is none.
     fn next_back(&mut self) -> Option<T> {

@@ -7,6 +7,7 @@
 pub mod element;
 pub mod enum_set;
 pub mod enum_set_iter;
+mod macros;
 mod store;
 
 pub use element::EnumSetType;

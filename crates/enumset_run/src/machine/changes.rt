@@ -43,8 +43,8 @@ impl<T: EnumSetType> Machine<T> {
     // Puts an element into the set in a register, and replies whether it was absent.
     pub(super) fn insert(&mut self, r: u8, value: T) -> Reply
         requires { is_set_register r ≡ true }
-        ensures reply { result ≡ Truth (not (set.contains (set_at self.old r) (T.bit value))) }
-        ensures state { self.new ≡ put_set self.old r (set.insert (set_at self.old r) (T.bit value)) }
+        ensures reply { result ≡ Truth (not (set.contains (set_at self.old r) (T.elements.bit value))) }
+        ensures state { self.new ≡ put_set self.old r (set.insert (set_at self.old r) (T.elements.bit value)) }
     {
         let mut elements = self.sets.get(r);
         let is_new = elements.insert(value);
@@ -55,8 +55,8 @@ impl<T: EnumSetType> Machine<T> {
     // Takes an element out of the set in a register, and replies whether it was present.
     pub(super) fn remove(&mut self, r: u8, value: T) -> Reply
         requires { is_set_register r ≡ true }
-        ensures reply { result ≡ Truth (set.contains (set_at self.old r) (T.bit value)) }
-        ensures state { self.new ≡ put_set self.old r (set.remove (set_at self.old r) (T.bit value)) }
+        ensures reply { result ≡ Truth (set.contains (set_at self.old r) (T.elements.bit value)) }
+        ensures state { self.new ≡ put_set self.old r (set.remove (set_at self.old r) (T.elements.bit value)) }
     {
         let mut elements = self.sets.get(r);
         let was_present = elements.remove(value);

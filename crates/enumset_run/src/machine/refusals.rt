@@ -48,7 +48,7 @@ pub(super) fn names_registers(command: &Command) -> bool
 // Whether each bit that a command names is valid.
 pub(super) fn names_bits<T: EnumSetType>(command: &Command) -> bool
     ensures valid { result ≡ model.names_bits (T.Repr.members T.ALL_BITS) command.now }
-    ensures of_variants { result ≡ list_all (λ b. is_in b T.bits) (model.bits_named command.now) }
+    ensures of_variants { result ≡ list_all (λ b. is_in b T.elements.bit_list) (model.bits_named command.now) }
 {
     match *command {
         Command::Only { bit, .. }

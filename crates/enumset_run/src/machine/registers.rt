@@ -125,7 +125,7 @@ impl<T: EnumSetType> IteratorRegisters<T> {
     // One step from the front of the iterator in a register.
     pub(super) fn next(&mut self, i: u8) -> Option<T>
         requires { model.is_iterator_register i ≡ true }
-        ensures given { option_map T.bit result ≡ first (slice_index_or self.old i []) }
+        ensures given { option_map T.elements.bit result ≡ first (slice_index_or self.old i []) }
         ensures left { self.new ≡ slice_set self.old i (without_first (slice_index_or self.old i [])) }
     {
         match i {
@@ -138,7 +138,7 @@ impl<T: EnumSetType> IteratorRegisters<T> {
     #[tactic(auto, using(enumset_repr::specs::Laws::Steps::lasts))]
     pub(super) fn next_back(&mut self, i: u8) -> Option<T>
         requires { model.is_iterator_register i ≡ true }
-        ensures given { option_map T.bit result ≡ last (slice_index_or self.old i []) }
+        ensures given { option_map T.elements.bit result ≡ last (slice_index_or self.old i []) }
         ensures left { self.new ≡ slice_set self.old i (without_last (slice_index_or self.old i [])) }
     {
         match i {

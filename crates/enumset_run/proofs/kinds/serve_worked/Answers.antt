@@ -1,16 +1,17 @@
 use Rattle.std.proofs.Common.{refl, ◌∷◌, []}
 use Rattle.enumset_repr.specs.Laws.Listed.{bits_listed}
 use Rattle.enumset_array.specs.Laws.Listed.{words_listed}
+use Rattle.enumset_run.specs.Kinds.{letters_bits, sparse_bits, wide_bits}
 use Rattle.enumset_run.proofs.kinds.serve_worked.Goals as goal
 
 pub returns-in-Letters-clause-answer : goal.returns-in-Letters-clause-answer
 returns-in-Letters-clause-answer c =
-    rw (c.in-Letters.is, ← bits_listed (0 ∷ 1 ∷ 2 ∷ 3 ∷ 4 ∷ 5 ∷ 6 ∷ []) 127 refl) c.serve_text.ensures.answer
+    rw (c.in-Letters.is, ← bits_listed letters_bits 127 refl) c.serve_text.ensures.answer
 
 pub returns-in-Sparse-clause-answer : goal.returns-in-Sparse-clause-answer
 returns-in-Sparse-clause-answer c =
-    rw (c.in-Sparse.is, ← bits_listed (10 ∷ 20 ∷ 30 ∷ 127 ∷ []) 170141183460469231731687303716958897152 refl) c.serve_text-in-Sparse.ensures.answer
+    rw (c.in-Sparse.is, ← bits_listed sparse_bits 170141183460469231731687303716958897152 refl) c.serve_text-in-Sparse.ensures.answer
 
 pub returns-in-Wide-clause-answer : goal.returns-in-Wide-clause-answer
 returns-in-Wide-clause-answer c =
-    rw (c.in-Wide.is, ← words_listed (3 ∷ 64 ∷ 130 ∷ []) (8 ∷ 1 ∷ 4 ∷ []) refl) c.serve_text-in-Wide.ensures.answer
+    rw (c.in-Wide.is, ← words_listed wide_bits (8 ∷ 1 ∷ 4 ∷ []) refl) c.serve_text-in-Wide.ensures.answer

@@ -1,7 +1,7 @@
 use Rattle.std.proofs.Common.{refl, sym, ◌∙◌, arith}
 use Rattle.std.proofs.lemmas.Bool.{le-ltb}
 use Rattle.enumset_repr.specs.Laws.Members.{contains-past}
-use Rattle.enumset_sets.proofs.ElementLaws.{contains-is_in}
+use Rattle.enumset_sets.specs.Laws.Elements.{contains-is_in}
 use Rattle.enumset_sets.proofs.enum_set.EnumSet+T.is_bit_valid.Goals as goal
 
 pub returns-else-bit-WIDTH-clause-valid : goal.returns-else-bit-WIDTH-clause-valid

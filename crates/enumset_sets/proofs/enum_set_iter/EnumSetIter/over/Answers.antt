@@ -1,4 +1,4 @@
-use Rattle.enumset_sets.proofs.ElementLaws.{AreBitsOf-rising}
+use Rattle.enumset_sets.specs.Laws.Elements.{AreBitsOf-rising}
 use Rattle.enumset_sets.proofs.enum_set_iter.EnumSetIter.over.Goals as goal
 
 pub invariant_of-result : goal.invariant_of-result

@@ -1,0 +1,196 @@
+-- The laws of an enum without fields as an element type, from one test of its bits and its constants.
+--     IsLawful, IsLawfulNumber      the test; where it fails it is the fault, by a name that says what to mend
+--     lawful_in, lawful_in_integer      the laws, over any store; over an integer
+--     derived_eq      what a derived `==` of such an enum answers
+-- An element type imports all that it writes from here: the makers of its elements, the words of a list and `refl` too.
+use Rattle.std.proofs.Common.{◌≡◌, ◌<◌, ◌≤◌, ℕ, suc, zero, ◌+◌, ◌^◌, Bool, true, false, cond, eqb, List, Some, sym, ap, ◌∙◌, length, get_or, max, sum_by, arith, true≢false, inl, inr}
+use Rattle.std.specs.Prelude.{◌==◌}
+use denote.Struct.Field.{Field}
+use denote.Enum.Declared.{Declared, rowss, tag_of}
+use denote.Enum.Enum.{tag_below}
+use denote.Enum.Bare.{Bare, tag_one, sameb, same_true, true_same}
+use Rattle.std.proofs.lemmas.Bool.{or_cases, cases_lt, and_parts, and_from, or_left, or_right, not-true, eqb-true, eq-eqb}
+use Rattle.std.specs.List.{last_or}
+use Rattle.enumset_repr.specs.BitSet.{BitSet, is_in, contains, from_list, rising, len, is_subset}
+use Rattle.enumset_repr.specs.Number.{bits, is_distinct}
+use Rattle.enumset_repr.specs.Ends.{last, greatest}
+use Rattle.enumset_repr.specs.Laws.Members.{contains-from_list, contains-rising, list_all-each, is_subset-contains}
+use Rattle.enumset_repr.specs.Laws.Rising.{len-empty, len-insert, rising-rises, RisesFrom}
+use Rattle.enumset_repr.specs.Laws.Listed.{bits_listed}
+pub use Rattle.std.specs.Prelude.{[], ◌∷◌, refl}
+pub use Rattle.enumset_sets.specs.Elements.{with_bits, in_order}
+use Rattle.enumset_sets.specs.Elements.{one_past, one_past_greatest, IsElementType, AreBitsOf}
+
+-- one past the greatest number of a list
+abbrev pub one_past_all : List ℕ → ℕ
+one_past_all [] = 0
+one_past_all (b ∷ bs) = max (suc b) (one_past_all bs)
+
+-- ---- lists of numbers
+
+is_in-get_or : (bs : List ℕ) (i : ℕ) → i < length bs → is_in (get_or bs i 0) bs ≡ true
+is_in-get_or [] i small = absurd (omega (arith, small))
+is_in-get_or (b ∷ bs) zero small = or_left _ _ (eq-eqb b b refl)
+is_in-get_or (b ∷ bs) (suc i) small = or_right (get_or bs i 0 == b) _ (is_in-get_or bs i (omega (arith, small)))
+
+apart_from_all : (b : ℕ) (bs : List ℕ) (i : ℕ) → is_in b bs ≡ false → i < length bs → b ≡ get_or bs i 0 → ⊥
+apart_from_all b bs i out small same = true≢false (sym (ap (λ x. is_in x bs) same ∙ is_in-get_or bs i small) ∙ out)
+
+distinct_places : (bs : List ℕ) → is_distinct bs ≡ true → (i j : ℕ) → i < length bs → j < length bs → get_or bs i 0 ≡ get_or bs j 0 → i ≡ j
+distinct_places [] apart i j p q same = absurd (omega (arith, p))
+distinct_places (b ∷ bs) apart zero zero p q same = refl
+distinct_places (b ∷ bs) apart zero (suc j) p q same = absurd (apart_from_all b bs j (not-true _ (and_parts _ _ apart).0) (omega (arith, q)) same)
+distinct_places (b ∷ bs) apart (suc i) zero p q same = absurd (apart_from_all b bs i (not-true _ (and_parts _ _ apart).0) (omega (arith, p)) (sym same))
+distinct_places (b ∷ bs) apart (suc i) (suc j) p q same = ap suc (distinct_places bs (and_parts _ _ apart).1 i j (omega (arith, p)) (omega (arith, q)) same)
+
+len-from_list : (bs : List ℕ) → is_distinct bs ≡ true → len (from_list bs) ≡ length bs
+unfolding from_list
+len-from_list [] apart = len-empty
+len-from_list (b ∷ bs) apart =
+    let absent : contains (from_list bs) b ≡ false = contains-from_list bs b ∙ not-true _ (and_parts _ _ apart).0 in
+    len-insert (from_list bs) b ∙ ap (λ t. cond t (len (from_list bs)) (len (from_list bs) + 1)) absent ∙ omega (arith, len-from_list bs (and_parts _ _ apart).1)
+
+-- ---- one past the greatest
+
+is_in-one_past : (q : ℕ) (bs : List ℕ) → is_in q bs ≡ true → q < one_past_all bs
+is_in-one_past q [] one = absurd (true≢false (sym one))
+is_in-one_past q (b ∷ bs) one = elim (or_cases (q == b) _ one) [
+  | inl here ↦ omega (arith, eqb-true q b here)
+  | inr later ↦ omega (arith, is_in-one_past q bs later)
+]
+
+-- what reaches the number is in the list
+one_past_is_in : (bs : List ℕ) (n : ℕ) → one_past_all bs ≡ suc n → is_in n bs ≡ true
+one_past_is_in [] n e = absurd (omega (arith, e))
+one_past_is_in (b ∷ bs) n e = elim (cases_lt (suc b) (one_past_all bs)) [
+  | inl less ↦ or_right (n == b) _ (one_past_is_in bs n (omega (arith, e, less)))
+  | inr most ↦ or_left (n == b) _ (let same : n ≡ b = omega (arith, e, most) in ap (λ x. x == b) same ∙ eq-eqb b b refl)
+]
+
+-- two lists with the same numbers reach as far
+same_reach : (xs bs : List ℕ) → ((q : ℕ) → is_in q xs ≡ is_in q bs) → one_past_all xs ≤ one_past_all bs
+same_reach xs bs same = reach_of (one_past_all xs) refl where
+  reach_of : (n : ℕ) → one_past_all xs ≡ n → one_past_all xs ≤ one_past_all bs
+  reach_of zero e = omega (arith, e)
+  reach_of (suc n) e = omega (arith, e, is_in-one_past n bs (sym (same n) ∙ one_past_is_in xs n e))
+
+-- the last of a list that rises is its greatest
+one_past-last_or : (k b : ℕ) (bs : List ℕ) → RisesFrom k (b ∷ bs) → one_past (last_or (Some b) bs) ≡ one_past_all (b ∷ bs)
+one_past-last_or k b [] rises = omega arith
+one_past-last_or k b (c ∷ bs) rises = one_past-last_or (suc b) c bs rises.1 ∙ omega (arith, rises.1.0)
+
+one_past-last : (bs : List ℕ) → RisesFrom 0 bs → one_past (last bs) ≡ one_past_all bs
+one_past-last [] rises = refl
+one_past-last (b ∷ bs) rises = one_past-last_or 0 b bs rises
+
+one_past_greatest-from_list : (bs : List ℕ) → one_past_greatest (from_list bs) ≡ one_past_all bs
+unfolding greatest
+one_past_greatest-from_list bs =
+    let same : (q : ℕ) → is_in q (rising (from_list bs)) ≡ is_in q bs = λ q. sym (contains-rising (from_list bs) q) ∙ contains-from_list bs q in
+    one_past-last (rising (from_list bs)) (rising-rises (from_list bs))
+    ∙ omega (arith, same_reach _ bs same, same_reach bs _ (λ q. sym (same q)))
+
+-- ---- the bits of an enum's variants
+
+module _ (D : Declared) (bare : Bare D.parts) (bs : List ℕ) (variants : length bs ≡ length (rowss D.parts)) (apart : is_distinct bs ≡ true) where
+  tag_within : (v : D.D) → tag_of D v < length bs
+  tag_within v = omega (arith, variants, tag_below (rowss D.parts) (D.to v))
+
+  bit-is_in : (v : D.D) → is_in ((with_bits D bs).bit v) bs ≡ true
+  bit-is_in v = is_in-get_or bs (tag_of D v) (tag_within v)
+
+  bit-tells : (v w : D.D) → (with_bits D bs).bit v ≡ (with_bits D bs).bit w → v ≡ w
+  bit-tells v w same = tag_one D bare v w (distinct_places bs apart (tag_of D v) (tag_of D w) (tag_within v) (tag_within w) same)
+
+-- ---- a derived `==`
+
+-- the derived `==` of an enum without fields compares the variants, and at one variant it compares nothing
+abbrev pub of_one : List (List Field) → Bool → Bool
+of_one (Fs ∷ []) same = true
+of_one Fss same = same
+
+abbrev pub derived_eq : (D : Declared) → D.D → D.D → Bool
+derived_eq D v w = of_one D.parts (sameb D v w)
+
+of_one-same : (Fss : List (List Field)) (i j : ℕ) → i < length (rowss Fss) → j < length (rowss Fss) → of_one Fss (eqb i j) ≡ eqb i j
+of_one-same [] i j p q = refl
+of_one-same (Fs ∷ []) i j p q = sym (eq-eqb i j (omega (arith, p, q)))
+of_one-same (Fs ∷ Gs ∷ Fss) i j p q = refl
+
+derived_eq-same : (D : Declared) (v w : D.D) → derived_eq D v w ≡ sameb D v w
+derived_eq-same D v w = of_one-same D.parts (tag_of D v) (tag_of D w) (tag_below (rowss D.parts) (D.to v)) (tag_below (rowss D.parts) (D.to w))
+
+-- ---- the test
+
+-- What an element type may get wrong. Nothing is of these types: where one is asked for, its name says what to mend.
+pub data BitCountShouldBe (variants : ℕ) : Type 0 where
+
+pub data NamesABitTwice (bs : List ℕ) : Type 0 where
+
+pub data BitWidthShouldBe (width : ℕ) : Type 0 where
+
+pub data VariantCountShouldBe (count : ℕ) : Type 0 where
+
+pub data AllBitsShouldBe (number : ℕ) : Type 0 where
+
+-- the fault where the test fails, else what comes next
+abbrev pub or_else : Bool → Type 0 → Type 0 → Type 0
+or_else true fault next = next
+or_else false fault next = fault
+
+-- an enum without fields, one bit for each variant and no two the same, and their width and their count
+abbrev pub IsLawful : (D : Declared) → List ℕ → ℕ → ℕ → Type 0
+IsLawful D bs width count =
+    or_else (length bs == length (rowss D.parts)) (BitCountShouldBe (length (rowss D.parts)))
+    (or_else (is_distinct bs) (NamesABitTwice bs)
+    (or_else (one_past_all bs == width) (BitWidthShouldBe (one_past_all bs))
+    (or_else (length bs == count) (VariantCountShouldBe (length bs)) (Bare D.parts))))
+
+-- the same, and this number is that of the bits
+abbrev pub IsLawfulNumber : (D : Declared) → List ℕ → ℕ → ℕ → ℕ → Type 0
+IsLawfulNumber D bs n width count =
+    or_else (sum_by (λ b. 2 ^ b) bs == n) (AllBitsShouldBe (sum_by (λ b. 2 ^ b) bs)) (IsLawful D bs width count)
+
+passed : (test : Bool) (fault next : Type 0) → (fault → ⊥) → or_else test fault next → (test ≡ true) × next
+passed true fault next none h = (refl, h)
+passed false fault next none h = absurd (none h)
+
+module _ (D : Declared) (bs : List ℕ) (width count : ℕ) where
+  parts : IsLawful D bs width count → (length bs ≡ length (rowss D.parts)) × (is_distinct bs ≡ true) × (one_past_all bs ≡ width) × (length bs ≡ count) × Bare D.parts
+  parts test =
+      let a = passed (length bs == length (rowss D.parts)) _ _ (λ h. elim h [ ]) test in
+      let b = passed (is_distinct bs) _ _ (λ h. elim h [ ]) a.1 in
+      let c = passed (one_past_all bs == width) _ _ (λ h. elim h [ ]) b.1 in
+      let d = passed (length bs == count) _ _ (λ h. elim h [ ]) c.1 in
+      (eqb-true _ _ a.0, b.0, eqb-true _ _ c.0, eqb-true _ _ d.0, d.1)
+
+-- The laws of an enum without fields, over any store: the value of ALL_BITS means the set of the list.
+pub lawful_in : {bs : List ℕ} {all : BitSet} {width count : ℕ} (D : Declared) → all ≡ from_list bs → IsLawful D bs width count → IsElementType (with_bits D bs) (derived_eq D) all width count
+lawful_in {bs} {all} {width} {count} D valid test =
+    let p = parts D bs width count test in
+    record {
+      valid = valid;
+      distinct = p.1;
+      bit_is_valid = λ v. ap (λ s. contains s ((with_bits D bs).bit v)) valid ∙ contains-from_list bs _ ∙ bit-is_in D p.4 bs p.0 p.1 v;
+      bit_tells = bit-tells D p.4 bs p.0 p.1;
+      eq_tells = λ v w. (λ e. ap (with_bits D bs).bit (same_true D p.4 v w (sym (derived_eq-same D v w) ∙ e)), λ e. derived_eq-same D v w ∙ true_same D v w (bit-tells D p.4 bs p.0 p.1 v w e));
+      width_is = sym p.2 ∙ sym (one_past_greatest-from_list bs) ∙ ap one_past_greatest (sym valid);
+      count_is = sym p.3 ∙ sym (len-from_list bs p.1) ∙ ap len (sym valid);
+    }
+
+-- The same over an integer, whose number ALL_BITS is.
+pub lawful_in_integer : {bs : List ℕ} {width count : ℕ} (D : Declared) (n : ℕ) → IsLawfulNumber D bs n width count → IsElementType (with_bits D bs) (derived_eq D) (bits n) width count
+lawful_in_integer {bs} {width} {count} D n test =
+    let p = passed (sum_by (λ b. 2 ^ b) bs == n) _ _ (λ h. elim h [ ]) test in
+    lawful_in D (bits_listed bs n (and_from _ _ (parts D bs width count p.1).1 p.0)) p.1
+
+-- ---- what the laws give
+
+-- the members of a set of valid bits are bits of variants
+pub AreBitsOf-rising : (bs : List ℕ) (all s : BitSet) → all ≡ from_list bs → is_subset s all ≡ true → AreBitsOf bs (rising s)
+AreBitsOf-rising bs all s valid sub =
+    list_all-each (λ b. is_in b bs) (rising s) (λ q one. sym (contains-from_list bs q) ∙ sym (ap (λ t. contains t q) valid) ∙ is_subset-contains s all sub q (contains-rising s q ∙ one))
+
+-- the valid bits are the bits of the variants
+pub contains-is_in : (bs : List ℕ) (all : BitSet) (b : ℕ) → all ≡ from_list bs → contains all b ≡ is_in b bs
+contains-is_in bs all b valid = ap (λ s. contains s b) valid ∙ contains-from_list bs b
