@@ -2,7 +2,6 @@ pub mod Lines
 pub mod Words
 pub mod Fields
 pub mod Commands
-pub mod Tables
 pub mod Replies
 pub mod Inputs
 pub mod Names

@@ -1,4 +1,7 @@
+pub mod States
+pub mod Plans
 pub mod Runs
+pub mod Operands
 pub mod Tables
 pub mod Lines
 pub mod Texts

@@ -4,7 +4,7 @@
 ///
 /// The fields `to`, `a`, `b` and `r` name set registers, `i` an iterator register, and `bit` is the
 /// number of a bit.
-#[derive(Clone, Copy)]
+#[derive(Drop)]
 pub enum Command {
     /// `new r`: empties a set.
     New { r: u8 },

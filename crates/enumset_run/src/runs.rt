@@ -9,10 +9,11 @@ use crate::reply::Reply;
 use enumset_sets::element::EnumSetType;
 use std::alloc::{AllocError, Global};
 
-/// Carries out commands in order by the steps of a new machine: one reply a command, as finite sets of
-/// bit numbers answer. The only error is want of memory for the replies.
+/// Carries out commands in order by the steps of a new machine: one reply a command, as finite sets
+/// of bit numbers answer. The only error is want of memory for the replies.
 pub fn run<T: EnumSetType>(alloc: Global, commands: &[Command]) -> Result<Vec<Reply>, AllocError>
-    ensures { IfOk result (λ answers. answers.items ≡ replies (T.Repr.members T.ALL_BITS) commands.now) }
+    ensures { IfOk result
+        (λ answers. answers.items ≡ replies (T.Repr.members T.ALL_BITS) commands.now) }
 {
     let mut machine = Machine::<T>::new();
     let mut replies = Vec::new(alloc);

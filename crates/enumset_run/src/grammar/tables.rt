@@ -10,79 +10,65 @@ use crate::command::Command;
 pub(super) fn one_register(name: &[u8], r: u8) -> Option<Command>
     ensures { result ≡ one_register name.now r }
 {
-    named(
-        name,
-        &[
-            ("new", Command::New { r }),
-            ("all", Command::All { r }),
-            ("clear", Command::Clear { r }),
-            ("len", Command::Len { r }),
-            ("empty", Command::IsEmpty { r }),
-            ("next", Command::Next { i: r }),
-            ("next_back", Command::NextBack { i: r }),
-            ("left", Command::Left { i: r }),
-        ],
-    )
+    Some(match name {
+        _ if is(name, "new") => Command::New { r },
+        _ if is(name, "all") => Command::All { r },
+        _ if is(name, "clear") => Command::Clear { r },
+        _ if is(name, "len") => Command::Len { r },
+        _ if is(name, "empty") => Command::IsEmpty { r },
+        _ if is(name, "next") => Command::Next { i: r },
+        _ if is(name, "next_back") => Command::NextBack { i: r },
+        _ if is(name, "left") => Command::Left { i: r },
+        _ => return None,
+    })
 }
 
 /// The command of this name over two registers.
 pub(super) fn two_registers(name: &[u8], x: u8, y: u8) -> Option<Command>
     ensures { result ≡ two_registers name.now x y }
 {
-    named(
-        name,
-        &[
-            ("complement", Command::Complement { to: x, a: y }),
-            ("insert_all", Command::InsertAll { r: x, a: y }),
-            ("remove_all", Command::RemoveAll { r: x, a: y }),
-            ("disjoint", Command::Disjoint { a: x, b: y }),
-            ("superset", Command::Superset { a: x, b: y }),
-            ("subset", Command::Subset { a: x, b: y }),
-            ("equal", Command::Equal { a: x, b: y }),
-            ("iter", Command::Iter { i: x, r: y }),
-        ],
-    )
+    Some(match name {
+        _ if is(name, "complement") => Command::Complement { to: x, a: y },
+        _ if is(name, "insert_all") => Command::InsertAll { r: x, a: y },
+        _ if is(name, "remove_all") => Command::RemoveAll { r: x, a: y },
+        _ if is(name, "disjoint") => Command::Disjoint { a: x, b: y },
+        _ if is(name, "superset") => Command::Superset { a: x, b: y },
+        _ if is(name, "subset") => Command::Subset { a: x, b: y },
+        _ if is(name, "equal") => Command::Equal { a: x, b: y },
+        _ if is(name, "iter") => Command::Iter { i: x, r: y },
+        _ => return None,
+    })
 }
 
 /// The command of this name over three registers.
 pub(super) fn three_registers(name: &[u8], to: u8, a: u8, b: u8) -> Option<Command>
     ensures { result ≡ three_registers name.now to a b }
 {
-    named(
-        name,
-        &[
-            ("union", Command::Union { to, a, b }),
-            ("intersection", Command::Intersection { to, a, b }),
-            ("difference", Command::Difference { to, a, b }),
-            ("symmetric", Command::SymmetricDifference { to, a, b }),
-        ],
-    )
+    Some(match name {
+        _ if is(name, "union") => Command::Union { to, a, b },
+        _ if is(name, "intersection") => Command::Intersection { to, a, b },
+        _ if is(name, "difference") => Command::Difference { to, a, b },
+        _ if is(name, "symmetric") => Command::SymmetricDifference { to, a, b },
+        _ => return None,
+    })
 }
 
 /// The command of this name over a register and a bit.
 pub(super) fn register_and_bit(name: &[u8], r: u8, bit: u32) -> Option<Command>
     ensures { result ≡ register_and_bit name.now r bit }
 {
-    named(
-        name,
-        &[
-            ("only", Command::Only { r, bit }),
-            ("insert", Command::Insert { r, bit }),
-            ("remove", Command::Remove { r, bit }),
-            ("contains", Command::Contains { r, bit }),
-        ],
-    )
+    Some(match name {
+        _ if is(name, "only") => Command::Only { r, bit },
+        _ if is(name, "insert") => Command::Insert { r, bit },
+        _ if is(name, "remove") => Command::Remove { r, bit },
+        _ if is(name, "contains") => Command::Contains { r, bit },
+        _ => return None,
+    })
 }
 
-/// The command that stands beside a name in a table.
-#[tactic(auto, using(crate::proofs::Tables::table_steps))]
-fn named(name: &[u8], table: &[(&str, Command)]) -> Option<Command>
-    ensures { result ≡ lookup (bytes_eq name.now) (map (λ entry. (entry.0.now, entry.1)) table.now) }
+/// Whether a name is this word.
+fn is(name: &[u8], word: &str) -> bool
+    ensures { result ≡ bytes_eq name.now word.now }
 {
-    for (word, command) in table {
-        if name == word.as_bytes() {
-            return Some(*command);
-        }
-    }
-    None
+    name == word.as_bytes()
 }

@@ -1,53 +1,73 @@
-// The registers of a machine.
+//! The registers of a run.
 
 ghost use Rattle.std.specs.Prelude.{◌≡◌, true, slice_set, slice_index_or, [], length};
-ghost use Rattle.enumset_run.specs.Runs as model;
+ghost use Rattle.enumset_repr.specs.BitSet.{empty};
 ghost use Rattle.enumset_repr.specs.Ends.{first, last, without_first, without_last};
+ghost use Rattle.enumset_run.specs.States as model;
 
-use enumset_sets::element::EnumSetType;
-use enumset_sets::enum_set::EnumSet;
-use enumset_sets::enum_set_iter::EnumSetIter;
+use super::run_set::RunSet;
 use std::marker::Model;
 
-// Four values, in registers 0 to 3.
-#[derive(Drop)]
-pub(super) struct Registers<X> {
-    zero: X,
-    one: X,
-    two: X,
-    three: X,
+/// How many set registers there are.
+pub(super) const SET_REGISTERS: u8 = 4;
+
+/// How many iterator registers there are.
+pub(super) const ITERATOR_REGISTERS: u8 = 2;
+
+/// Whether there is a set register of this number.
+pub(super) fn is_set_register(r: u8) -> bool
+    ensures { result ≡ model.is_set_register r }
+{
+    r < SET_REGISTERS
 }
 
-impl<X> Model for Registers<X> {
+/// Whether there is an iterator register of this number.
+pub(super) fn is_iterator_register(i: u8) -> bool
+    ensures { result ≡ model.is_iterator_register i }
+{
+    i < ITERATOR_REGISTERS
+}
+
+/// Four sets, in registers 0 to 3.
+#[derive(Drop)]
+pub(super) struct Registers<S: RunSet> {
+    zero: S,
+    one: S,
+    two: S,
+    three: S,
+}
+
+impl<S: RunSet> Model for Registers<S> {
     ghost use Rattle.std.specs.Prelude.{List, [], ◌∷◌};
     ghost use Rattle.std.specs.Coded.{coded_list};
+    ghost use Rattle.enumset_repr.specs.BitSet.{BitSet, coded_set};
 
-    ghost Value = { List X };
+    ghost Value = { List BitSet };
 
-    ghost coded = { coded_list X.code };
+    ghost coded = { coded_list coded_set };
 
-    ghost view = { λ s. s.zero ∷ s.one ∷ s.two ∷ s.three ∷ [] };
+    ghost view = { λ s. S.members s.zero ∷ S.members s.one
+        ∷ S.members s.two ∷ S.members s.three ∷ [] };
 }
 
-impl<X: Copy> Registers<X> {
-    ghost use Rattle.std.specs.Prelude.{[], ◌∷◌};
-
-    // The same value in each register.
-    pub(super) fn of(value: X) -> Registers<X>
-        ensures { result ≡ value ∷ value ∷ value ∷ value ∷ [] }
+impl<S: RunSet> Registers<S> {
+    /// Four empty sets.
+    pub(super) fn new() -> Registers<S>
+        ensures { result ≡ model.no_sets }
     {
+        let empty = S::new();
         Registers {
-            zero: value,
-            one: value,
-            two: value,
-            three: value,
+            zero: empty,
+            one: empty,
+            two: empty,
+            three: empty,
         }
     }
 
-    // The value in a register.
-    pub(super) fn get(&self, r: u8) -> X
+    /// The set in a register.
+    pub(super) fn get(&self, r: u8) -> S
         requires { model.is_set_register r ≡ true }
-        ensures { (x : X) → result ≡ slice_index_or self.now r x }
+        ensures { S.members result ≡ slice_index_or self.now r empty }
     {
         match r {
             0 => self.zero,
@@ -57,35 +77,28 @@ impl<X: Copy> Registers<X> {
         }
     }
 
-    // Puts a value into a register.
-    pub(super) fn put(&mut self, r: u8, value: X)
+    /// Puts a set into a register.
+    pub(super) fn put(&mut self, r: u8, set: S)
         requires { model.is_set_register r ≡ true }
-        ensures { self.new ≡ slice_set self.old r value }
+        ensures { self.new ≡ slice_set self.old r (S.members set) }
     {
         match r {
-            0 => self.zero = value,
-            1 => self.one = value,
-            2 => self.two = value,
-            _ => self.three = value,
+            0 => self.zero = set,
+            1 => self.one = set,
+            2 => self.two = set,
+            _ => self.three = set,
         }
     }
 }
 
-// Whether there is a set register of this number.
-pub(super) fn is_set_register(r: u8) -> bool
-    ensures { result ≡ model.is_set_register r }
-{
-    r < 4
-}
-
-// Two iterators, in registers 0 and 1.
+/// Two iterators, in registers 0 and 1.
 #[derive(Drop)]
-pub(super) struct IteratorRegisters<T: EnumSetType> {
-    zero: EnumSetIter<T>,
-    one: EnumSetIter<T>,
+pub(super) struct IteratorRegisters<S: RunSet> {
+    zero: S::Items,
+    one: S::Items,
 }
 
-impl<T: EnumSetType> Model for IteratorRegisters<T> {
+impl<S: RunSet> Model for IteratorRegisters<S> {
     ghost use Rattle.std.specs.Prelude.{ℕ, List, [], ◌∷◌};
     ghost use Rattle.std.specs.Coded.{coded_list, coded_ℕ};
 
@@ -93,28 +106,25 @@ impl<T: EnumSetType> Model for IteratorRegisters<T> {
 
     ghost coded = { coded_list (coded_list coded_ℕ) };
 
-    ghost view = { λ s. s.zero ∷ s.one ∷ [] };
+    ghost view = { λ s. S.rest s.zero ∷ S.rest s.one ∷ [] };
 }
 
-impl<T: EnumSetType> IteratorRegisters<T> {
-    ghost use Rattle.std.specs.Prelude.{option_map};
-    ghost use Rattle.enumset_run.specs.Runs.{no_lists};
-
-    // Two iterators with nothing to give.
-    pub(super) fn new() -> IteratorRegisters<T>
-        ensures { result ≡ no_lists }
+impl<S: RunSet> IteratorRegisters<S> {
+    /// Two iterators with nothing to give.
+    pub(super) fn new() -> IteratorRegisters<S>
+        ensures { result ≡ model.no_lists }
     {
-        let empty = EnumSet::<T>::new();
+        let empty = S::new();
         IteratorRegisters {
-            zero: empty.iter(),
-            one: empty.iter(),
+            zero: empty.items(),
+            one: empty.items(),
         }
     }
 
-    // Puts an iterator into a register.
-    pub(super) fn put(&mut self, i: u8, items: EnumSetIter<T>)
+    /// Puts an iterator into a register.
+    pub(super) fn put(&mut self, i: u8, items: S::Items)
         requires { model.is_iterator_register i ≡ true }
-        ensures { self.new ≡ slice_set self.old i items }
+        ensures { self.new ≡ slice_set self.old i (S.rest items) }
     {
         match i {
             0 => self.zero = items,
@@ -122,46 +132,40 @@ impl<T: EnumSetType> IteratorRegisters<T> {
         }
     }
 
-    // One step from the front of the iterator in a register.
-    pub(super) fn next(&mut self, i: u8) -> Option<T>
+    /// One step from the front of the iterator in a register.
+    pub(super) fn next(&mut self, i: u8) -> Option<u32>
         requires { model.is_iterator_register i ≡ true }
-        ensures given { option_map T.elements.bit result ≡ first (slice_index_or self.old i []) }
-        ensures left { self.new ≡ slice_set self.old i (without_first (slice_index_or self.old i [])) }
+        ensures given { result ≡ first (slice_index_or self.old i []) }
+        ensures rest { self.new
+            ≡ slice_set self.old i (without_first (slice_index_or self.old i [])) }
     {
         match i {
-            0 => self.zero.next(),
-            _ => self.one.next(),
+            0 => S::next(&mut self.zero),
+            _ => S::next(&mut self.one),
         }
     }
 
-    // One step from the back of the iterator in a register.
-    #[tactic(auto, using(enumset_repr::specs::Laws::Steps::lasts))]
-    pub(super) fn next_back(&mut self, i: u8) -> Option<T>
+    /// One step from the back of the iterator in a register.
+    pub(super) fn next_back(&mut self, i: u8) -> Option<u32>
         requires { model.is_iterator_register i ≡ true }
-        ensures given { option_map T.elements.bit result ≡ last (slice_index_or self.old i []) }
-        ensures left { self.new ≡ slice_set self.old i (without_last (slice_index_or self.old i [])) }
+        ensures given { result ≡ last (slice_index_or self.old i []) }
+        ensures rest { self.new
+            ≡ slice_set self.old i (without_last (slice_index_or self.old i [])) }
     {
         match i {
-            0 => self.zero.next_back(),
-            _ => self.one.next_back(),
+            0 => S::next_back(&mut self.zero),
+            _ => S::next_back(&mut self.one),
         }
     }
 
-    // How many items the iterator in a register has still to give.
-    pub(super) fn left(&self, i: u8) -> usize
+    /// How many members the iterator in a register has still to give.
+    pub(super) fn items_left(&self, i: u8) -> usize
         requires { model.is_iterator_register i ≡ true }
         ensures { result ≡ length (slice_index_or self.now i []) }
     {
         match i {
-            0 => self.zero.len(),
-            _ => self.one.len(),
+            0 => S::items_left(&self.zero),
+            _ => S::items_left(&self.one),
         }
     }
-}
-
-// Whether there is an iterator register of this number.
-pub(super) fn is_iterator_register(i: u8) -> bool
-    ensures { result ≡ model.is_iterator_register i }
-{
-    i < 2
 }

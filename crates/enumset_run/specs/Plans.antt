@@ -1,0 +1,95 @@
+-- What a command names, replies and leaves, as one row, and the outcome of a row.
+--     Rules      what a run asks of the bits of its sets
+--     of_valid      the rules of a run whose sets have valid bits alone
+--     Named      the registers and the bits that a command names
+--     Plan      the row of a command
+--     asks, puts, changes, steps, over_bit      rows by what they do, and a row that names a bit too
+--     given_or_absent      what a step replies
+--     names_registers, names_bits      whether the registers that a row names are there;  whether its bits are valid
+--     refusal      why a command of a row is refused, if it is
+--     Outcome      a reply, and the state after it
+--     outcome_unless, outcome_of      what a row comes to, where it may be refused
+--     replies_by      the replies to a list of commands, where an outcome is known of each
+use Rattle.std.specs.Prelude.{ℕ, Bool, not, ◌&&◌, List, [], ◌∷◌, Option, Some, None, if◌then◌else◌}
+use Rattle.std.specs.List.{list_all}
+use Rattle.enumset_repr.specs.BitSet.{BitSet, contains}
+use Rattle.enumset_run.specs.States.{State, put_set, is_set_register, is_iterator_register}
+use Rattle.enumset_run.specs.declared.reply.Reply.{Reply}
+use Rattle.enumset_run.specs.declared.reply.Reply.TheVariants.{Done, Bit, Absent, Refused}
+use Rattle.enumset_run.specs.declared.reply.Refusal.{Refusal}
+use Rattle.enumset_run.specs.declared.reply.Refusal.TheVariants.{NoRegister, NotABit}
+
+-- the valid bits, the bits that a set may hold, and the reply to a step that gives a bit
+pub record Rules : Type 0 where
+  pub valid : BitSet
+  pub allowed : BitSet
+  pub given : ℕ → Reply
+
+abbrev pub of_valid : BitSet → Rules
+of_valid valid = record { valid = valid; allowed = valid; given = λ bit. Bit bit }
+
+-- the set registers, the iterator registers, and the bits that have to be valid
+pub record Named : Type 0 where
+  pub sets : List ℕ
+  pub iterators : List ℕ
+  pub bits : List ℕ
+
+-- what a command names; where all of it is there, what it replies, and the state that it leaves
+pub record Plan : Type 0 where
+  pub named : Named
+  pub reply : Rules → State → Reply
+  pub after : Rules → State → State
+
+-- it asks of some sets, and changes nothing
+abbrev pub asks : List ℕ → (Rules → State → Reply) → Plan
+asks sets reply =
+    record { named = record { sets = sets; iterators = []; bits = [] }; reply = reply; after = λ rules s. s }
+
+-- it changes the set of a register, and replies
+abbrev pub changes : ℕ → List ℕ → (Rules → State → Reply) → (Rules → State → BitSet) → Plan
+changes r others reply new = record (asks (r ∷ others) reply) { after = λ rules s. put_set s r (new rules s) }
+
+-- it puts a set into a register
+abbrev pub puts : ℕ → List ℕ → (Rules → State → BitSet) → Plan
+puts to sets new = changes to sets (λ rules s. Done) new
+
+-- it is about an iterator
+abbrev pub steps : ℕ → List ℕ → (Rules → State → Reply) → (Rules → State → State) → Plan
+steps i sets reply after =
+    record { named = record { sets = sets; iterators = i ∷ []; bits = [] }; reply = reply; after = after }
+
+-- the same row, which names a bit
+abbrev pub over_bit : ℕ → Plan → Plan
+over_bit bit row = record row { named = record row.named { bits = bit ∷ [] } }
+
+abbrev pub given_or_absent : Rules → Option ℕ → Reply
+given_or_absent rules None = Absent
+given_or_absent rules (Some bit) = rules.given bit
+
+abbrev pub names_registers : Named → Bool
+names_registers named = list_all is_set_register named.sets && list_all is_iterator_register named.iterators
+
+abbrev pub names_bits : Rules → Named → Bool
+names_bits rules named = list_all (contains rules.valid) named.bits
+
+-- the registers are tested first, and then the bits
+abbrev pub refusal : Rules → Named → Option Refusal
+refusal rules named =
+    if not (names_registers named) then Some NoRegister else if not (names_bits rules named) then Some NotABit else None
+
+pub record Outcome : Type 0 where
+  pub reply : Reply
+  pub state : State
+
+-- a refused command leaves the state as it was
+abbrev pub outcome_unless : Option Refusal → Rules → State → Plan → Outcome
+outcome_unless (Some refused) rules s row = record { reply = Refused refused; state = s }
+outcome_unless None rules s row = record { reply = row.reply rules s; state = row.after rules s }
+
+abbrev pub outcome_of : Rules → State → Plan → Outcome
+outcome_of rules s row = outcome_unless (refusal rules row.named) rules s row
+
+-- each command in turn, from a state
+abbrev pub replies_by : {C : Type 0} → (State → C → Outcome) → State → List C → List Reply
+replies_by outcome s [] = []
+replies_by outcome s (c ∷ cs) = (outcome s c).reply ∷ replies_by outcome (outcome s c).state cs

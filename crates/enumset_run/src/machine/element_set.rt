@@ -1,0 +1,138 @@
+//! The sets of elements, as a run asks of them.
+
+ghost use Rattle.std.specs.Prelude.{◌≡◌, true};
+ghost use Rattle.enumset_repr.specs.BitSet as set;
+
+use super::run_set::RunSet;
+use crate::reply::Reply;
+use enumset_repr::repr::EnumSetTypeRepr;
+use enumset_sets::element::EnumSetType;
+use enumset_sets::enum_set::EnumSet;
+use enumset_sets::enum_set_iter::EnumSetIter;
+
+/// The element of a valid bit.
+fn element_of<T: EnumSetType>(bit: u32) -> T
+    requires { set.contains (T.Repr.members T.ALL_BITS) bit ≡ true }
+    ensures { T.elements.bit result ≡ bit }
+{
+    T::enum_from_u32(bit)
+}
+
+impl<T: EnumSetType> RunSet for EnumSet<T> {
+    ghost use Rattle.enumset_run.specs.Plans.{of_valid};
+
+    ghost members = { λ s. s };
+
+    ghost rules = { of_valid (T.Repr.members T.ALL_BITS) };
+
+    type Items = EnumSetIter<T>;
+
+    ghost rest = { λ items. items };
+
+    fn is_bit_valid(bit: u32) -> bool {
+        EnumSet::<T>::is_bit_valid(bit)
+    }
+
+    fn given(bit: u32) -> Reply {
+        Reply::Bit(bit)
+    }
+
+    fn new() -> EnumSet<T> {
+        EnumSet::<T>::new()
+    }
+
+    fn all() -> EnumSet<T> {
+        EnumSet::<T>::all()
+    }
+
+    fn only(bit: u32) -> EnumSet<T> {
+        EnumSet::<T>::only(element_of(bit))
+    }
+
+    fn insert(&mut self, bit: u32) -> bool {
+        EnumSet::<T>::insert(self, element_of(bit))
+    }
+
+    fn remove(&mut self, bit: u32) -> bool {
+        EnumSet::<T>::remove(self, element_of(bit))
+    }
+
+    fn contains(&self, bit: u32) -> bool {
+        EnumSet::<T>::contains(self, element_of(bit))
+    }
+
+    fn clear(&mut self) {
+        EnumSet::<T>::clear(self);
+    }
+
+    fn len(&self) -> usize {
+        EnumSet::<T>::len(self)
+    }
+
+    fn is_empty(&self) -> bool {
+        EnumSet::<T>::is_empty(self)
+    }
+
+    fn union(&self, other: EnumSet<T>) -> EnumSet<T> {
+        EnumSet::<T>::union(self, other)
+    }
+
+    fn intersection(&self, other: EnumSet<T>) -> EnumSet<T> {
+        EnumSet::<T>::intersection(self, other)
+    }
+
+    fn difference(&self, other: EnumSet<T>) -> EnumSet<T> {
+        EnumSet::<T>::difference(self, other)
+    }
+
+    fn symmetric_difference(&self, other: EnumSet<T>) -> EnumSet<T> {
+        EnumSet::<T>::symmetric_difference(self, other)
+    }
+
+    fn complement(&self) -> EnumSet<T> {
+        EnumSet::<T>::complement(self)
+    }
+
+    fn insert_all(&mut self, other: EnumSet<T>) {
+        EnumSet::<T>::insert_all(self, other);
+    }
+
+    fn remove_all(&mut self, other: EnumSet<T>) {
+        EnumSet::<T>::remove_all(self, other);
+    }
+
+    fn is_disjoint(&self, other: EnumSet<T>) -> bool {
+        EnumSet::<T>::is_disjoint(self, other)
+    }
+
+    fn is_superset(&self, other: EnumSet<T>) -> bool {
+        EnumSet::<T>::is_superset(self, other)
+    }
+
+    fn is_subset(&self, other: EnumSet<T>) -> bool {
+        EnumSet::<T>::is_subset(self, other)
+    }
+
+    fn is_same(&self, other: EnumSet<T>) -> bool {
+        *self == other
+    }
+
+    fn items(&self) -> EnumSetIter<T> {
+        EnumSet::<T>::iter(self)
+    }
+
+    fn next(items: &mut EnumSetIter<T>) -> Option<u32> {
+        let element = items.next()?;
+        Some(element.enum_into_u32())
+    }
+
+    #[tactic(auto, using(enumset_repr::specs::Laws::Steps::lasts))]
+    fn next_back(items: &mut EnumSetIter<T>) -> Option<u32> {
+        let element = items.next_back()?;
+        Some(element.enum_into_u32())
+    }
+
+    fn items_left(items: &EnumSetIter<T>) -> usize {
+        items.len()
+    }
+}

@@ -1,0 +1,57 @@
+//! A run over any sets: its registers, and its step.
+
+ghost use Rattle.std.specs.Prelude.{◌≡◌};
+ghost use Rattle.enumset_run.specs.States.{start};
+ghost use Rattle.enumset_run.specs.Plans.{outcome_of};
+ghost use Rattle.enumset_run.specs.Runs.{plan};
+
+use super::operands::Operands;
+use super::registers::{IteratorRegisters, Registers};
+use super::run_set::RunSet;
+use crate::command::Command;
+use crate::reply::{Refusal, Reply};
+use std::marker::Model;
+
+/// Four set registers and two iterator registers.
+#[derive(Drop)]
+pub(super) struct Runner<S: RunSet> {
+    pub(super) sets: Registers<S>,
+    pub(super) iterators: IteratorRegisters<S>,
+}
+
+impl<S: RunSet> Model for Runner<S> {
+    ghost use Rattle.enumset_run.specs.States.{State, coded_state};
+
+    ghost Value = { State };
+
+    ghost coded = { coded_state };
+
+    ghost view = { λ m. record { sets = m.sets; lists = m.iterators } };
+}
+
+impl<S: RunSet> Runner<S> {
+    /// A run whose registers are empty.
+    pub(super) fn new() -> Runner<S>
+        ensures { result ≡ start }
+    {
+        Runner {
+            sets: Registers::new(),
+            iterators: IteratorRegisters::new(),
+        }
+    }
+
+    /// Carries out one command. A refused command changes nothing.
+    pub(super) fn step(&mut self, command: &Command) -> Reply
+        ensures { outcome_of S.rules self.old (plan command.now)
+            ≡ record { reply = result; state = self.new } }
+    {
+        let operands = Operands::of(command);
+        if !operands.names_registers() {
+            return Reply::Refused(Refusal::NoRegister);
+        }
+        if !operands.names_bits::<S>() {
+            return Reply::Refused(Refusal::NotABit);
+        }
+        self.carry_out(command, operands)
+    }
+}
