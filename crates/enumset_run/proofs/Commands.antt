@@ -1,20 +1,38 @@
 -- The commands of the lines before, and of those after.
-use Rattle.std.proofs.Common.{◌≡◌, ℕ, List, [], ◌∷◌, ◌++◌, Some, Result, Ok, Err, refl, ap, sym, append_assoc}
+use Rattle.std.proofs.Common.{◌≡◌, ℕ, List, [], ◌∷◌, ◌++◌, Some, None, Result, Ok, Err, refl, ap, sym, append_assoc}
+use Rattle.std.specs.Result.{result_err}
 use Rattle.enumset_run.proofs.Lines.{length-lines_of}
 use Rattle.enumset_run.specs.declared.command.Command.{Command}
+use Rattle.enumset_run.specs.declared.text_fault.TextFault.{TextFault}
+use Rattle.enumset_run.specs.declared.text_fault.TextFault.TheVariants.{OutOfMemory}
+use Rattle.enumset_run.specs.Answers.{IsFaultOf}
 use Rattle.enumset_run.specs.Lines.{before}
 
--- the commands that lines come to, after others
-abbrev pub after : List Command → Result (List Command) ℕ → Result (List Command) ℕ
-after cs (Ok ds) = Ok (cs ++ ds)
-after cs (Err n) = Err n
+-- what lines come to where others stand before theirs
+abbrev pub preceded_by : List Command → Result (List Command) TextFault → Result (List Command) TextFault
+preceded_by cs (Ok ds) = Ok (cs ++ ds)
+preceded_by cs (Err fault) = Err fault
 
-pub after-before : (cs : List Command) (c : Command) (n : ℕ) (rest : Result (List Command) ℕ) → after cs (before (Some c) n rest) ≡ after (cs ++ c ∷ []) rest
-after-before cs c n (Ok ds) = ap Ok (sym (append_assoc cs (c ∷ []) ds))
-after-before cs c n (Err m) = refl
+pub preceded_by-before : (cs : List Command) (c : Command) (n : ℕ) (rest : Result (List Command) TextFault) → preceded_by cs (before (Some c) n rest) ≡ preceded_by (cs ++ c ∷ []) rest
+preceded_by-before cs c n (Ok ds) = ap Ok (sym (append_assoc cs (c ∷ []) ds))
+preceded_by-before cs c n (Err fault) = refl
 
-pub after-nil : (rest : Result (List Command) ℕ) → after [] rest ≡ rest
-after-nil (Ok ds) = refl
-after-nil (Err n) = refl
+pub preceded_by-nil : (rest : Result (List Command) TextFault) → preceded_by [] rest ≡ rest
+preceded_by-nil (Ok ds) = refl
+preceded_by-nil (Err fault) = refl
 
-pub ruleset command_steps = (after-before, after-nil, length-lines_of)
+-- a command brings no fault
+pub result_err-before : (c : Command) (n : ℕ) (rest : Result (List Command) TextFault) → result_err (before (Some c) n rest) ≡ result_err rest
+result_err-before c n (Ok ds) = refl
+result_err-before c n (Err fault) = refl
+
+-- the fault of lines, and want of memory where they have none
+pub IsFaultOf-own : (read : Result (List Command) TextFault) (fault : TextFault) → Some fault ≡ result_err read → IsFaultOf read fault
+IsFaultOf-own (Ok cs) fault own = absurd (cc)
+IsFaultOf-own (Err other) fault own = cc
+
+pub IsFaultOf-memory : (read : Result (List Command) TextFault) → None ≡ result_err read → IsFaultOf read OutOfMemory
+IsFaultOf-memory (Ok cs) none = refl
+IsFaultOf-memory (Err fault) none = absurd (cc)
+
+pub ruleset command_steps = (preceded_by-before, preceded_by-nil, result_err-before, IsFaultOf-own, IsFaultOf-memory, length-lines_of)

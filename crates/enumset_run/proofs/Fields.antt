@@ -1,56 +1,60 @@
--- What a field writes, digit by digit.
-use Rattle.std.proofs.Common.{◌≡◌, ℕ, ◌+◌, ◌-◌, ◌*◌, ◌^◌, ◌<◌, ◌≤◌, true, false, cond, ◌&&◌, nat_lt, List, [], ◌∷◌, length, get_or, drop, Some, None, refl, drop-cons, add-one, lit≤, arith}
-use Rattle.std.specs.Str.{all_ascii_digits}
-use Rattle.std.specs.Char.{is_ascii_digit}
-use Rattle.std.proofs.lemmas.List.{drop_all}
+-- What a field writes.
+use Rattle.std.proofs.Common.{◌≡◌, ◌≢◌, ℕ, ◌^◌, ◌<◌, ◌≤◌, Bool, true, false, cond, nat_lt, List, [], ◌∷◌, length, get_or, Option, Some, None, Result, Ok, Err, refl, sym, lit≤, arith}
+use Rattle.std.specs.Result.{result_ok}
+use Rattle.std.specs.Str.{all_ascii_digits, IsUtf8}
+use Rattle.std.specs.Str.Parse.{digits_value, ParsesUnsigned}
 use Rattle.std.proofs.lemmas.Bool.Decides.{nat_tests}
-use Rattle.enumset_run.specs.Lines.{is_empty, value_after, field, register, bit}
+use Rattle.std.proofs.lemmas.Str.{IsUtf8-from_ascii}
+use Rattle.std.proofs.lemmas.Fmt.{IsAscii-from_digits}
+use Rattle.std.proofs.lemmas.Str.Parse.{IsNumeralModel, numerals_by_value, tells_all_ascii_digits, parse_plain}
+use Rattle.enumset_run.specs.Lines.{is_empty, field, register, bit}
 
-pub value_after-ge : (ds : List ℕ) (n : ℕ) → n ≤ value_after n ds
-value_after-ge [] n = omega arith
-value_after-ge (d ∷ ds) n = omega (arith, value_after-ge ds (10 * n + (d - 48)))
+numerals : IsNumeralModel (λ ds. all_ascii_digits ds ≡ true) (digits_value 10)
+numerals = numerals_by_value _ tells_all_ascii_digits
 
--- the byte at i, and those after it
-pub value_after-drop : (word : List ℕ) (n i : ℕ) → i < length word → value_after n (drop i word) ≡ value_after (10 * n + (get_or word i 0 - 48)) (drop (i + 1) word)
-value_after-drop word n i h = rw (add-one, drop-cons word i 0 h)
+-- digits are a text
+other_than_digits : (token : List ℕ) (b : Bool) → all_ascii_digits token ≡ b → ¬ (IsUtf8 token) → all_ascii_digits token ≡ false
+other_than_digits token true digits other = absurd (other (IsUtf8-from_ascii token (IsAscii-from_digits token (numerals.to token digits))))
+other_than_digits token false digits other = digits
 
-pub all_ascii_digits-drop : (word : List ℕ) (i : ℕ) → i < length word → all_ascii_digits (drop i word) ≡ (is_ascii_digit (get_or word i 0) && all_ascii_digits (drop (i + 1) word))
-all_ascii_digits-drop word i h = rw (add-one, drop-cons word i 0 h)
+pub all_ascii_digits-other : (token : List ℕ) → ¬ (IsUtf8 token) → all_ascii_digits token ≡ false
+all_ascii_digits-other token other = other_than_digits token (all_ascii_digits token) refl other
 
--- after the last byte
-pub value_after-end : (word : List ℕ) (n i : ℕ) → length word ≤ i → value_after n (drop i word) ≡ n
-value_after-end word n i h = rw (drop_all i word h)
+pub field-none : (bits : ℕ) (token : List ℕ) → all_ascii_digits token ≡ false → field bits token ≡ None
+field-none bits token h = grind (arith, nat_tests)
 
-pub all_ascii_digits-end : (word : List ℕ) (i : ℕ) → length word ≤ i → all_ascii_digits (drop i word) ≡ true
-all_ascii_digits-end word i h = rw (drop_all i word h)
-
-pub field-none : (limit : ℕ) (word : List ℕ) → all_ascii_digits word ≡ false → field limit word ≡ None
-field-none limit word h = grind (arith, nat_tests)
-
-pub field-large : (limit : ℕ) (word : List ℕ) → limit ≤ value_after 0 word → field limit word ≡ None
-field-large limit word h = grind (arith, nat_tests)
-
-nonempty : (word : List ℕ) → 0 < length word → is_empty word ≡ false
+nonempty : (token : List ℕ) → 0 < length token → is_empty token ≡ false
 nonempty [] l = absurd (omega arith)
-nonempty (d ∷ ds) l = refl
+nonempty (b ∷ bs) l = refl
 
-pub field-some : (limit : ℕ) (word : List ℕ) → 0 < length word → all_ascii_digits word ≡ true → value_after 0 word < limit → field limit word ≡ Some (value_after 0 word)
-field-some limit word l d h = let e = nonempty word l in grind (arith, nat_tests)
+-- what is no number of so many bits is no field
+field-refused : (bits : ℕ) (token : List ℕ) → (all_ascii_digits token ≡ true → digits_value 10 token < 2 ^ bits → ⊥) → (digits fits : Bool) → all_ascii_digits token ≡ digits → nat_lt (digits_value 10 token) (2 ^ bits) ≡ fits → field bits token ≡ None
+field-refused bits token small true true d f = absurd (small d (grind (arith, nat_tests)))
+field-refused bits token small true false d f = grind (arith, nat_tests)
+field-refused bits token small false fits d f = field-none bits token d
 
--- a smaller limit
-pub field-below : (small large n : ℕ) (word : List ℕ) → small ≤ large → field large word ≡ Some n → field small word ≡ cond (nat_lt n small) (Some n) None
-field-below small large n word le h = grind (arith, nat_tests)
+-- what `parse` gives, where no plus sign stands in front, is the field
+pub field-parsed : {E : Type 0} (bits : ℕ) (token : List ℕ) (r : Result ℕ E) → ParsesUnsigned bits 10 token r → get_or token 0 0 ≢ 43 → result_ok r ≡ field bits token
+field-parsed {E} bits token (Ok n) parsed plain =
+    let p = parse_plain numerals {E = E} bits token (Ok n) parsed plain in
+    let some : is_empty token ≡ false = nonempty token p.0.1 in
+    let digits : all_ascii_digits token ≡ true = p.0.0 in
+    let fits : digits_value 10 token < 2 ^ bits = p.0.2 in
+    let value : n ≡ digits_value 10 token = p.1 in
+    grind (arith, nat_tests)
+field-parsed {E} bits [] (Err e) parsed plain = refl
+field-parsed {E} bits (b ∷ bs) (Err e) parsed plain =
+    let p = parse_plain numerals {E = E} bits (b ∷ bs) (Err e) parsed plain in
+    sym (field-refused bits (b ∷ bs) (λ digits fits. p (digits, omega arith, fits)) (all_ascii_digits (b ∷ bs)) (nat_lt (digits_value 10 (b ∷ bs)) (2 ^ bits)) refl refl)
 
-pub field-below-none : (small large : ℕ) (word : List ℕ) → small ≤ large → field large word ≡ None → field small word ≡ None
-field-below-none small large word le h = grind (arith, nat_tests)
+pub ruleset field_steps = (field-parsed, field-none, all_ascii_digits-other)
 
-pub ruleset field_steps = (value_after-ge, value_after-drop, all_ascii_digits-drop, value_after-end, all_ascii_digits-end, field-none, field-large, field-some)
+-- what has no number of many bits has none of few
+field-fewer : (few many : ℕ) (token : List ℕ) → 2 ^ few ≤ 2 ^ many → field many token ≡ None → field few token ≡ None
+field-fewer few many token le h = grind (arith, nat_tests)
 
 -- what is no bit is no register
-pub register-none : (word : List ℕ) → bit word ≡ None → register word ≡ None
-register-none word h = field-below-none (2 ^ 8) (2 ^ 32) word (lit≤ tt) h
+pub register-none : (token : List ℕ) → bit token ≡ None → register token ≡ None
+register-none token h = field-fewer 8 32 token (lit≤ tt) h
 
-pub register-below : (word : List ℕ) (n : ℕ) → bit word ≡ Some n → register word ≡ cond (nat_lt n (2 ^ 8)) (Some n) None
-register-below word n h = field-below (2 ^ 8) (2 ^ 32) n word (lit≤ tt) h
-
-pub ruleset limits = (register-none, register-below)
+pub ruleset limits = (register-none)

@@ -1,16 +1,18 @@
 -- What is read of an input, up to one byte more than it may have, and the answer to it.
-use Rattle.std.proofs.Common.{◌≡◌, ◌⊎◌, inl, inr, ℕ, ◌+◌, Bool, true, false, List, [], ◌++◌, length, take, nat_lt, Option, None, Some, IfSome, Result, Ok, Err, IfErr, OnOk, IsOk, IsOkAnd, sym, ap, ◌∙◌, append-nil, arith, if◌then◌else◌, refl}
+use Rattle.std.proofs.Common.{◌≡◌, ◌≢◌, ℕ, ◌+◌, Bool, true, false, List, [], ◌++◌, length, take, nat_lt, Option, None, Some, IfSome, Result, Ok, Err, IfErr, OnOk, OnErr, IsOk, IsOkAnd, sym, ap, ◌∙◌, subst, append-nil, arith, if◌then◌else◌, refl}
 use Rattle.std.specs.Option.{option_map}
 use Rattle.std.specs.Io.KnownBytes.{Appends, Consumes, IsAtEnd}
 use Rattle.std.proofs.KnownBytes.{Consumes-trans, Consumes-whole}
 use Rattle.std.proofs.lemmas.List.{length-take, take_all}
 use Rattle.std.proofs.lemmas.Bool.Decides.{nat_tests}
 use Rattle.enumset_repr.specs.BitSet.{BitSet}
-use Rattle.enumset_run.specs.Answers.{input_limit, answer_to, answer_to_lines}
+use Rattle.enumset_run.specs.Answers.{answer_to, answer_to_lines, IsFaultOf, AppendsFrontOf}
 use Rattle.enumset_run.specs.Faults.{IsFaultOver}
 use Rattle.enumset_run.specs.Lines.{lines}
+use Rattle.enumset_run.specs.declared.serve.TheConstants.{INPUT_LIMIT}
+use Rattle.enumset_run.specs.declared.program.TheConstants.{READ_LIMIT}
 use Rattle.enumset_run.specs.declared.text_fault.TextFault.{TextFault}
-use Rattle.enumset_run.specs.declared.text_fault.TextFault.TheVariants.{TooLong, BadLine, OutOfMemory}
+use Rattle.enumset_run.specs.declared.text_fault.TextFault.TheVariants.{TooLong}
 use Rattle.enumset_run.specs.declared.fault.ProgramFault.{ProgramFault}
 use Rattle.enumset_run.specs.declared.fault.ProgramFault.TheVariants.{Text, Writing}
 
@@ -33,35 +35,42 @@ tested-take limit bytes long f true h = rw (longer-take limit bytes h, h) refl
 tested-take limit bytes long f false h = rw (within limit bytes h) refl
 
 -- what is read has the answer to the whole input
-pub answer_to-take : (valid : BitSet) (bytes : List ℕ) → answer_to valid (take (input_limit + 1) bytes) ≡ answer_to valid bytes
+answer_to-take : (valid : BitSet) (bytes : List ℕ) → answer_to valid (take READ_LIMIT bytes) ≡ answer_to valid bytes
 answer_to-take valid bytes =
-    tested-take input_limit bytes (Err TooLong) (λ input. answer_to_lines valid (lines input)) (nat_lt input_limit (length bytes)) refl
+    tested-take INPUT_LIMIT bytes (Err TooLong) (λ input. answer_to_lines valid (lines input)) (nat_lt INPUT_LIMIT (length bytes)) refl
 
-answer_is : (valid : BitSet) (bytes input : List ℕ) (answer : Result (List ℕ) TextFault) → input ≡ take (input_limit + 1) bytes → answer_to valid input ≡ answer → answer_to valid bytes ≡ answer
-answer_is valid bytes input answer read e = sym (answer_to-take valid bytes) ∙ ap (answer_to valid) (sym read) ∙ e
+same_answer : (valid : BitSet) (bytes input : List ℕ) → input ≡ take READ_LIMIT bytes → answer_to valid input ≡ answer_to valid bytes
+same_answer valid bytes input read = ap (answer_to valid) read ∙ answer_to-take valid bytes
+
+-- what is true of the text of the answer to what was read is true of that to the input
+on_answer : (P : List ℕ → Type 0) (valid : BitSet) (bytes input text : List ℕ) → input ≡ take READ_LIMIT bytes → answer_to valid input ≡ Ok text → P text → IsOkAnd (answer_to valid bytes) P
+on_answer P valid bytes input text read answer holds =
+    subst (λ a. IsOkAnd a P) (sym answer ∙ same_answer valid bytes input read) holds
 
 -- a writer that got the answer to what was read got that to the input
-pub answered : {E : Type 0} (valid : BitSet) (known old new : Option (List ℕ)) (input out : List ℕ) (r : Result (Unit {0}) E) → IfSome known (λ bytes. input ≡ take (input_limit + 1) bytes) → answer_to valid input ≡ Ok out
-    → OnOk r (Appends old new out) → OnOk r (IfSome known (λ bytes. IsOkAnd (answer_to valid bytes) (Appends old new)))
-answered valid known old new input out (Err e) read answer written = tt
-answered valid None old new input out (Ok u) read answer written = tt
-answered valid (Some bytes) old new input out (Ok u) read answer written = rw (answer_is valid bytes input (Ok out) read answer) written
+pub answered : {E : Type 0} (valid : BitSet) (known old new : Option (List ℕ)) (input text : List ℕ) (r : Result (Unit {0}) E) → IfSome known (λ bytes. input ≡ take READ_LIMIT bytes) → answer_to valid input ≡ Ok text
+    → OnOk r (Appends old new text) → OnOk r (IfSome known (λ bytes. IsOkAnd (answer_to valid bytes) (Appends old new)))
+answered valid known old new input text (Err e) read answer written = tt
+answered valid None old new input text (Ok u) read answer written = tt
+answered valid (Some bytes) old new input text (Ok u) read answer written = on_answer (Appends old new) valid bytes input text read answer written
 
--- a fault of the text that was read is the input's own, or want of memory
-pub text_fault : (valid : BitSet) (known : Option (List ℕ)) (input : List ℕ) (fault : TextFault) → IfSome known (λ bytes. input ≡ take (input_limit + 1) bytes) → (answer_to valid input ≡ Err fault) ⊎ (fault ≡ OutOfMemory)
+-- one that got a front part of it got one of that to the input
+pub begun : {E : Type 0} (valid : BitSet) (known old new : Option (List ℕ)) (input text : List ℕ) (r : Result (Unit {0}) E) (e : E) → IfSome known (λ bytes. input ≡ take READ_LIMIT bytes) → answer_to valid input ≡ Ok text
+    → OnErr r (AppendsFrontOf old new text) → r ≡ Err e → IfSome known (λ bytes. IsOkAnd (answer_to valid bytes) (AppendsFrontOf old new))
+begun valid known old new input text (Ok u) e read answer written failed = absurd (cc)
+begun valid None old new input text (Err e) f read answer written failed = tt
+begun valid (Some bytes) old new input text (Err e) f read answer written failed = on_answer (AppendsFrontOf old new) valid bytes input text read answer written
+
+-- a fault of the text that was read is one of the input
+pub text_fault : (valid : BitSet) (known : Option (List ℕ)) (input : List ℕ) (fault : TextFault) → IfSome known (λ bytes. input ≡ take READ_LIMIT bytes) → IsFaultOf (answer_to valid input) fault
     → IfSome known (λ bytes. IsFaultOver (answer_to valid bytes) (Text fault))
 text_fault valid None input fault read why = tt
-text_fault valid (Some bytes) input TooLong read (inl e) = answer_is valid bytes input (Err TooLong) read e
-text_fault valid (Some bytes) input TooLong read (inr other) = cc
-text_fault valid (Some bytes) input (BadLine n) read (inl e) = answer_is valid bytes input (Err (BadLine n)) read e
-text_fault valid (Some bytes) input (BadLine n) read (inr other) = cc
-text_fault valid (Some bytes) input OutOfMemory read why = tt
+text_fault valid (Some bytes) input fault read why = subst (λ a. IsFaultOf a fault) (same_answer valid bytes input read) why
 
 -- writing fails only where there is something to write
-pub writing_fault : (valid : BitSet) (known : Option (List ℕ)) (input out : List ℕ) (r : Result (Unit {0}) ProgramFault) → IfSome known (λ bytes. input ≡ take (input_limit + 1) bytes) → answer_to valid input ≡ Ok out
-    → IfErr r (λ fault. fault ≡ Writing) → (out ≡ [] → IsOk r) → IfErr r (λ fault. IfSome known (λ bytes. IsFaultOver (answer_to valid bytes) fault))
-writing_fault valid known input out (Ok u) read answer why empty = tt
-writing_fault valid None input out (Err fault) read answer why empty = tt
-writing_fault valid (Some bytes) input out (Err fault) read answer why empty =
-    let is : answer_to valid bytes ≡ Ok out = answer_is valid bytes input (Ok out) read answer in
-    rw why (λ none. let written : false ≡ true = empty (cc) in cc)
+pub writing_fault : (valid : BitSet) (known : Option (List ℕ)) (input text : List ℕ) (r : Result (Unit {0}) ProgramFault) → IfSome known (λ bytes. input ≡ take READ_LIMIT bytes) → answer_to valid input ≡ Ok text
+    → IfErr r (λ fault. fault ≡ Writing) → (text ≡ [] → IsOk r) → IfErr r (λ fault. IfSome known (λ bytes. IsFaultOver (answer_to valid bytes) fault))
+writing_fault valid known input text (Ok u) read answer why empty = tt
+writing_fault valid None input text (Err fault) read answer why empty = tt
+writing_fault valid (Some bytes) input text (Err fault) read answer why empty =
+    rw why (on_answer (λ t. t ≢ []) valid bytes input text read answer (λ none. let written : false ≡ true = empty none in absurd (cc)))

@@ -1,5 +1,5 @@
 pub mod Lines
-pub mod Words
+pub mod Tokens
 pub mod Fields
 pub mod Commands
 pub mod Replies

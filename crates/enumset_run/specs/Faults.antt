@@ -2,12 +2,13 @@
 --     fault_text      the text of why a text of commands has no answer
 --     program_fault_text, status_of      the text and the exit status of a fault of the program
 --     IsFaultOver      the program may fail so, over an input whose answer is given
-use Rattle.std.specs.Prelude.{◌≡◌, ◌≢◌, ℕ, List, [], ◌++◌, codes, Result, Ok, Err, ⊤}
+use Rattle.std.specs.Prelude.{◌≢◌, ℕ, List, [], ◌++◌, codes, Result, IsOkAnd, ⊤}
 use Rattle.std.specs.Fmt.{decimal}
 use Rattle.enumset_run.specs.declared.text_fault.TextFault.{TextFault}
 use Rattle.enumset_run.specs.declared.text_fault.TextFault.TheVariants.{TooLong, BadLine, OutOfMemory}
 use Rattle.enumset_run.specs.declared.fault.ProgramFault.{ProgramFault}
 use Rattle.enumset_run.specs.declared.fault.ProgramFault.TheVariants.{OneArgument, UnknownType, Text, Reading, Writing}
+use Rattle.enumset_run.specs.Answers.{IsFaultOf}
 
 abbrev pub fault_text : TextFault → List ℕ
 fault_text TooLong = codes "input too long"
@@ -31,13 +32,11 @@ status_of (Text OutOfMemory) = 3
 status_of Reading = 1
 status_of Writing = 1
 
--- Reading and memory may fail over any input, and writing where there is something to write. Else the
--- fault is the input's own.
+-- Reading may fail over any input, memory may be refused where there are replies, and writing may fail where
+-- there is something to write. Else the fault is the input's own.
 abbrev pub IsFaultOver : Result (List ℕ) TextFault → ProgramFault → Type 0
 IsFaultOver answer OneArgument = ⊥
 IsFaultOver answer UnknownType = ⊥
-IsFaultOver answer (Text TooLong) = answer ≡ Err TooLong
-IsFaultOver answer (Text (BadLine n)) = answer ≡ Err (BadLine n)
-IsFaultOver answer (Text OutOfMemory) = ⊤
+IsFaultOver answer (Text fault) = IsFaultOf answer fault
 IsFaultOver answer Reading = ⊤
-IsFaultOver answer Writing = answer ≢ Ok []
+IsFaultOver answer Writing = IsOkAnd answer (λ text. text ≢ [])

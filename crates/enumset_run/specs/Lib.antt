@@ -7,5 +7,6 @@ pub mod Lines
 pub mod Texts
 pub mod Answers
 pub mod Faults
+pub mod Arguments
 pub mod Names
 pub mod Kinds

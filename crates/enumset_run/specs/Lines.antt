@@ -1,15 +1,24 @@
 -- The commands that the lines of an input stand for.
 --     lines_of      the lines: a line feed ends one, and a carriage return right before it is left away
---     words_of      the words of a line, which spaces part
+--     is_empty      whether a list of bytes is empty
+--     tokens_of      the tokens of a line, which spaces part
+--     is_number      whether a token is made of decimal digits
 --     field, register, bit      the number that a field writes, if it fits
---     command_of      the command that the words of a line write
---     lines      the commands of an input, or the number of the first line that is no command
-use Rattle.std.specs.Prelude.{◌==◌, ℕ, ◌+◌, ◌-◌, ◌*◌, ◌^◌, Bool, true, false, not, ◌&&◌, nat_lt, List, [], ◌∷◌, filter, Option, Some, None, option_and_then, Result, Ok, Err, if◌then◌else◌}
+--     with_one, with_two, with_three      the command over one field, two or three, if each of them is there
+--     one_field, two_fields, three_fields      the command that a name and so many fields write
+--     command_of      the command that the tokens of a line write
+--     before      a command before those of the lines after it, or the fault of a line that is no command
+--     line_then, commands_from      what a line and those after it come to;  what lines come to
+--     lines      the commands of an input, or the fault of its first line that is no command
+use Rattle.std.specs.Prelude.{◌==◌, ℕ, ◌+◌, ◌^◌, Bool, true, false, not, ◌&&◌, nat_lt, List, [], ◌∷◌, filter, Option, Some, None, option_and_then, Result, Ok, Err, if◌then◌else◌}
 use Rattle.std.specs.List.{slice_split}
 use Rattle.std.specs.Str.{all_ascii_digits, byte}
 use Rattle.std.specs.Str.Lines as text
+use Rattle.std.specs.Str.Parse.{digits_value}
 use Rattle.std.specs.Option.{option_or}
 use Rattle.enumset_run.specs.declared.command.Command.{Command}
+use Rattle.enumset_run.specs.declared.text_fault.TextFault.{TextFault}
+use Rattle.enumset_run.specs.declared.text_fault.TextFault.TheVariants.{BadLine}
 use Rattle.enumset_run.specs.Tables.{one_register, two_registers, three_registers, register_and_bit}
 
 -- A line feed ends a line. A carriage return right before it is left away, and a last line without a
@@ -22,25 +31,24 @@ is_empty [] = true
 is_empty (b ∷ bs) = false
 
 -- the parts between spaces that are not empty
-abbrev pub words_of : List ℕ → List (List ℕ)
-words_of line = filter (λ word. not (is_empty word)) (slice_split (λ b. b == byte " ") line)
+abbrev pub tokens_of : List ℕ → List (List ℕ)
+tokens_of line = filter (λ token. not (is_empty token)) (slice_split (λ b. b == byte " ") line)
 
--- the number that digits write after those that stood for n
-abbrev pub value_after : ℕ → List ℕ → ℕ
-value_after n [] = n
-value_after n (d ∷ ds) = value_after (10 * n + (d - byte "0")) ds
+-- one decimal digit or more, and nothing else
+abbrev pub is_number : List ℕ → Bool
+is_number token = not (is_empty token) && all_ascii_digits token
 
--- the number that a word of one or more decimal digits writes, if it is below the limit
+-- the number that a token of decimal digits writes, if it is one of so many bits
 abbrev pub field : ℕ → List ℕ → Option ℕ
-field limit word =
-    if not (is_empty word) && (all_ascii_digits word && nat_lt (value_after 0 word) limit) then Some (value_after 0 word) else None
+field bits token =
+    if is_number token && nat_lt (digits_value 10 token) (2 ^ bits) then Some (digits_value 10 token) else None
 
 -- a register is a number of 8 bits, a bit a number of 32
 abbrev pub register : List ℕ → Option ℕ
-register word = field (2 ^ 8) word
+register token = field 8 token
 
 abbrev pub bit : List ℕ → Option ℕ
-bit word = field (2 ^ 32) word
+bit token = field 32 token
 
 -- a command over one field, if the field is there, over two and over three
 abbrev pub with_one : (ℕ → Option Command) → Option ℕ → Option Command
@@ -65,7 +73,7 @@ two_fields name x y =
 abbrev pub three_fields : List ℕ → List ℕ → List ℕ → List ℕ → Option Command
 three_fields name x y z = with_three (three_registers name) (register x) (register y) (register z)
 
--- the command that the words of a line write: its name, and exactly its fields
+-- the command that the tokens of a line write: its name, and exactly its fields
 abbrev pub command_of : List (List ℕ) → Option Command
 command_of [] = None
 command_of (name ∷ []) = None
@@ -74,22 +82,22 @@ command_of (name ∷ x ∷ y ∷ []) = two_fields name x y
 command_of (name ∷ x ∷ y ∷ z ∷ []) = three_fields name x y z
 command_of (name ∷ w ∷ x ∷ y ∷ z ∷ more) = None
 
--- a command, before those of the lines after it
-abbrev pub before : Option Command → ℕ → Result (List Command) ℕ → Result (List Command) ℕ
-before None n rest = Err n
+-- the command of line n, if it is one, before those of the lines after it
+abbrev pub before : Option Command → ℕ → Result (List Command) TextFault → Result (List Command) TextFault
+before None n rest = Err (BadLine n)
 before (Some c) n (Ok cs) = Ok (c ∷ cs)
 before (Some c) n (Err later) = Err later
 
--- what line n, of these words, and the lines after it come to: a line without words is passed over, and counts
-abbrev pub line_then : ℕ → List (List ℕ) → Result (List Command) ℕ → Result (List Command) ℕ
+-- what line n, of these tokens, and the lines after it come to: a line without tokens is passed over, and counts
+abbrev pub line_then : ℕ → List (List ℕ) → Result (List Command) TextFault → Result (List Command) TextFault
 line_then n [] rest = rest
-line_then n (word ∷ words) rest = before (command_of (word ∷ words)) n rest
+line_then n (token ∷ tokens) rest = before (command_of (token ∷ tokens)) n rest
 
 -- the commands of lines that are counted from n
-abbrev pub commands_from : ℕ → List (List ℕ) → Result (List Command) ℕ
+abbrev pub commands_from : ℕ → List (List ℕ) → Result (List Command) TextFault
 commands_from n [] = Ok []
-commands_from n (line ∷ more) = line_then n (words_of line) (commands_from (n + 1) more)
+commands_from n (line ∷ more) = line_then n (tokens_of line) (commands_from (n + 1) more)
 
 -- lines are counted from 1
-abbrev pub lines : List ℕ → Result (List Command) ℕ
+abbrev pub lines : List ℕ → Result (List Command) TextFault
 lines input = commands_from 1 (lines_of input)

@@ -1,38 +1,44 @@
 //! The commands that the lines of a text write.
-ghost use Rattle.std.specs.Prelude.{◌≡◌, ◌≢◌, ℕ, IfOk, Ok, Err};
+ghost use Rattle.std.specs.Prelude.{◌≡◌, IfOk, IfErr, Ok};
+ghost use Rattle.enumset_run.specs.Answers.{IsFaultOf};
 ghost use Rattle.enumset_run.specs.Lines.{lines};
 
 mod commands;
 mod fields;
 mod lines;
 mod tables;
-mod words;
+mod tokens;
 
 use crate::command::Command;
 use crate::text_fault::TextFault;
 use commands::read_command;
 use lines::Lines;
 use std::alloc::Global;
-use words::Words;
+use tokens::Tokens;
 
-/// The commands that the lines of an input write, or the first line that is no command.
+/// The commands that the lines of an input write, or the fault of the first line that is no command.
 ///
-/// Memory is needed for the commands alone.
+/// Memory is needed for the commands alone. Where it is refused, the rest of the lines is still read: the only
+/// error of an input whose lines are all commands is want of memory, and no other input has that error.
 #[tactic(auto, using(crate::proofs::Commands::command_steps))]
 pub fn read_commands(alloc: Global, input: &[u8]) -> Result<Vec<Command>, TextFault>
     ensures commands { IfOk result (λ commands. lines input.now ≡ Ok commands.items) }
-    ensures bad_line { (n : ℕ) → result ≡ Err (TextFault.BadLine n) → lines input.now ≡ Err n }
-    ensures never_too_long { result ≢ Err TextFault.TooLong }
+    ensures fault { IfErr result (λ fault. IsFaultOf (lines input.now) fault) }
 {
     let mut commands = Vec::new(alloc);
+    let mut has_room = true;
     let mut number = 0u64;
     for line in Lines::new(input) {
         number += 1;
-        let mut words = Words::new(line);
-        if let Some(name) = words.next() {
-            let command = read_command(name, words).ok_or(TextFault::BadLine(number))?;
-            commands.push(command)?;
+        let mut tokens = Tokens::new(line);
+        if let Some(name) = tokens.next() {
+            let command = read_command(name, tokens).ok_or(TextFault::BadLine(number))?;
+            has_room = has_room && commands.push(command).is_ok();
         }
     }
-    Ok(commands)
+    if has_room {
+        Ok(commands)
+    } else {
+        Err(TextFault::OutOfMemory)
+    }
 }

@@ -1,8 +1,8 @@
 //! The worked types by their names, and the answer to an input over each.
 
-ghost use Rattle.std.specs.Prelude.{◌≡◌, ◌⊎◌, IfOk, IfErr, Ok, Err};
+ghost use Rattle.std.specs.Prelude.{◌≡◌, IfOk, IfErr, Ok};
 ghost use Rattle.enumset_run.specs.Kinds.{worked_of, valid_bits_of};
-ghost use Rattle.enumset_run.specs.Answers.{answer_to};
+ghost use Rattle.enumset_run.specs.Answers.{answer_to, IsFaultOf};
 
 use crate::letters::Letters;
 use crate::serve::serve_text;
@@ -26,13 +26,10 @@ pub fn worked(name: &str) -> Option<Worked>
 
 /// The text of the replies to the commands of an input, over the type of that kind.
 ///
-/// The errors are [`TextFault::TooLong`] for an input of more than 1,048,576 bytes, else
-/// [`TextFault::BadLine`] for the first line that is no command, and [`TextFault::OutOfMemory`] for want of
-/// memory, which may come in the place of a bad line.
+/// The errors are those of [`serve_text`].
 pub fn serve_worked(alloc: Global, kind: Worked, input: &[u8]) -> Result<Vec<u8>, TextFault>
     ensures answer { IfOk result (λ out. answer_to (valid_bits_of kind) input.now ≡ Ok out.items) }
-    ensures fault { IfErr result (λ fault. (answer_to (valid_bits_of kind) input.now ≡ Err fault) ⊎ (fault ≡ TextFault.OutOfMemory)) }
-    ensures too_long { answer_to (valid_bits_of kind) input.now ≡ Err TextFault.TooLong → result ≡ Err TextFault.TooLong }
+    ensures fault { IfErr result (λ fault. IsFaultOf (answer_to (valid_bits_of kind) input.now) fault) }
 {
     match kind {
         Worked::Letters => serve_text::<Letters>(alloc, input),

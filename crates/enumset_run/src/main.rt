@@ -19,8 +19,6 @@ mod sparse;
 mod tests;
 mod text_fault;
 mod transcript;
-#[cfg(test)]
-mod vectors;
 mod wide;
 mod worked;
 

@@ -1,6 +1,6 @@
 //! Runs of commands.
 
-ghost use Rattle.std.specs.Prelude.{◌≡◌, IfOk};
+ghost use Rattle.std.specs.Prelude.{◌≡◌, ◌≤◌, [], length, IfOk, IsOk, OnOk, vec_capacity};
 ghost use Rattle.enumset_run.specs.Runs.{replies};
 
 use crate::command::Command;
@@ -15,10 +15,26 @@ pub fn run<T: EnumSetType>(alloc: Global, commands: &[Command]) -> Result<Vec<Re
     ensures { IfOk result
         (λ answers. answers.items ≡ replies (T.Repr.members T.ALL_BITS) commands.now) }
 {
+    run_over_room::<T>(alloc, commands, Vec::with_capacity(alloc, commands.len())?)
+}
+
+/// The same in an empty vector that has room for the replies: then each run has its replies, since no step takes
+/// memory.
+fn run_over_room<T: EnumSetType>(
+    alloc: Global,
+    commands: &[Command],
+    room: Vec<Reply>,
+) -> Result<Vec<Reply>, AllocError>
+    requires empty { room.items ≡ [] }
+    requires room { length commands.now ≤ vec_capacity room }
+    ensures succeeds { IsOk result }
+    ensures replies { IfOk result (λ answers.
+        answers.items ≡ replies (T.Repr.members T.ALL_BITS) commands.now) }
+{
     let mut machine = Machine::<T>::new();
-    let mut replies = Vec::new(alloc);
+    let mut replies = room;
     for command in commands {
-        replies.push(machine.step(alloc, command)?)?;
+        replies.push_reserved(machine.step(alloc, command)?);
     }
     Ok(replies)
 }

@@ -1,6 +1,6 @@
 //! Answers a text of commands by the text of their replies.
-ghost use Rattle.std.specs.Prelude.{◌≡◌, ◌⊎◌, IfOk, IfErr, Ok, Err};
-ghost use Rattle.enumset_run.specs.Answers.{answer_to};
+ghost use Rattle.std.specs.Prelude.{◌≡◌, IfOk, IfErr, Ok};
+ghost use Rattle.enumset_run.specs.Answers.{answer_to, IsFaultOf};
 
 use crate::grammar::read_commands;
 use crate::runs::run;
@@ -15,15 +15,16 @@ pub const INPUT_LIMIT: usize = 1_048_576;
 
 /// The text of the replies to the commands of an input.
 ///
-/// An input of more than [`INPUT_LIMIT`] bytes is too long, which is tested first. If some line is no
-/// command there are no replies: the fault is the first such line, or want of memory in its place.
+/// The errors are [`TextFault::TooLong`] for an input of more than [`INPUT_LIMIT`] bytes, else
+/// [`TextFault::BadLine`] for the first line that is no command, and else, where there are replies,
+/// [`TextFault::OutOfMemory`] for want of memory.
 pub fn serve_text<T: EnumSetType>(alloc: Global, input: &[u8]) -> Result<Vec<u8>, TextFault>
     // The replies are those of finite sets of bit numbers.
-    ensures answer { IfOk result (λ out. answer_to (T.Repr.members T.ALL_BITS) input.now ≡ Ok out.items) }
-    // A fault is the input's own, or want of memory.
-    ensures fault { IfErr result (λ fault. (answer_to (T.Repr.members T.ALL_BITS) input.now ≡ Err fault) ⊎ (fault ≡ TextFault.OutOfMemory)) }
-    // Want of memory never hides that the input is too long.
-    ensures too_long { answer_to (T.Repr.members T.ALL_BITS) input.now ≡ Err TextFault.TooLong → result ≡ Err TextFault.TooLong }
+    ensures answer { IfOk result (λ out.
+        answer_to (T.Repr.members T.ALL_BITS) input.now ≡ Ok out.items) }
+    // A fault is the input's own where it has one, and else want of memory.
+    ensures fault { IfErr result (λ fault.
+        IsFaultOf (answer_to (T.Repr.members T.ALL_BITS) input.now) fault) }
 {
     if input.len() > INPUT_LIMIT {
         return Err(TextFault::TooLong);

@@ -1,7 +1,9 @@
-// Tests of the program's parts together: runs from bytes to bytes, and the worked element types.
+//! Tests of the program and of its parts together, and of the worked element types.
 
 mod element_types;
-mod faults;
 mod program;
 mod runs;
+mod surroundings;
 mod text_forms;
+mod texts;
+mod vectors;

@@ -4,21 +4,21 @@ ghost use Rattle.enumset_run.specs.Lines.{command_of, one_field, two_fields, thr
 
 use super::fields::{read_bit, read_register};
 use super::tables::{one_register, register_and_bit, three_registers, two_registers};
-use super::words::Words;
+use super::tokens::Tokens;
 use crate::command::Command;
 
-/// The command of this name whose fields are the words left.
-pub(super) fn read_command(name: &[u8], mut words: Words) -> Option<Command>
-    ensures { result ≡ command_of (name.now ∷ words.entry) }
+/// The command of this name whose fields are the tokens left.
+pub(super) fn read_command(name: &[u8], mut tokens: Tokens) -> Option<Command>
+    ensures { result ≡ command_of (name.now ∷ tokens.entry) }
 {
-    let first = words.next()?;
-    let Some(second) = words.next() else {
+    let first = tokens.next()?;
+    let Some(second) = tokens.next() else {
         return one_field(name, first);
     };
-    let Some(third) = words.next() else {
+    let Some(third) = tokens.next() else {
         return two_fields(name, first, second);
     };
-    match words.next() {
+    match tokens.next() {
         None => three_fields(name, first, second, third),
         Some(_) => None,
     }

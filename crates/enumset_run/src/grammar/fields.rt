@@ -1,30 +1,35 @@
 //! The fields of a command.
-ghost use Rattle.std.specs.Prelude.{◌≡◌};
+ghost use Rattle.std.specs.Prelude.{◌≡◌, ◌≢◌, false, slice_index, IfSome};
+ghost use Rattle.std.specs.Str.{all_ascii_digits};
 ghost use Rattle.enumset_run.specs.Lines.{register, bit};
 
-/// The number that a word of decimal digits writes, if it is a `u8`.
-pub(super) fn read_register(word: &[u8]) -> Option<u8>
-    ensures { result ≡ register word.now }
+use std::str;
+
+/// The number that a token of decimal digits writes, if it is a `u8`.
+#[tactic(auto, using(crate::proofs::Fields::field_steps))]
+pub(super) fn read_register(token: &[u8]) -> Option<u8>
+    ensures { result ≡ register token.now }
 {
-    u8::try_from(read_bit(word)?).ok()
+    unsigned(token)?.parse().ok()
 }
 
-/// The number that a word of decimal digits writes, if it is a `u32`.
+/// The number that a token of decimal digits writes, if it is a `u32`.
 #[tactic(auto, using(crate::proofs::Fields::field_steps))]
-pub(super) fn read_bit(word: &[u8]) -> Option<u32>
-    ensures { result ≡ bit word.now }
+pub(super) fn read_bit(token: &[u8]) -> Option<u32>
+    ensures { result ≡ bit token.now }
 {
-    if word.is_empty() {
-        return None;
+    unsigned(token)?.parse().ok()
+}
+
+/// A token as a text without a plus sign in front, which `parse` would pass over, if it is one.
+#[tactic(auto, using(crate::proofs::Fields::field_steps))]
+fn unsigned(token: &[u8]) -> Option<&str>
+    ensures text { IfSome result (λ text. text.now ≡ token.now) }
+    ensures unsigned { IfSome result (λ text. slice_index token.now 0 ≢ 43) }
+    ensures none { result ≡ None → all_ascii_digits token.now ≡ false }
+{
+    match token {
+        [b'+', ..] => None,
+        _ => str::from_utf8(token).ok(),
     }
-    let mut value = 0u32;
-    for digit in word {
-        if !digit.is_ascii_digit() {
-            return None;
-        }
-        value = value
-            .checked_mul(10)?
-            .checked_add(u32::from(*digit - b'0'))?;
-    }
-    Some(value)
 }

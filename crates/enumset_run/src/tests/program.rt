@@ -1,173 +1,163 @@
-// The program over runtimes whose arguments, input and output are made up.
+//! The program as a whole: its arguments, and input and output that fail.
 
-use crate::fault::ProgramFault;
-use crate::program::answer;
-use crate::text_fault::TextFault;
-use std::alloc::{Allocator, Global};
-use std::env::{Env, FillError};
-use std::fmt::Display;
-use std::io::{self, BufRead, ErrorKind, Input, Lines, Print, Read};
+use super::surroundings::{Source, outcome};
+use crate::program::answer_input;
+use crate::serve::INPUT_LIMIT;
+use crate::worked::Worked;
+use std::alloc::{AllocError, Global};
 use std::test::Fail;
 
-// Bytes that come after one interruption. Reading past them fails, or else finds the end.
-#[derive(Clone, Copy)]
-struct Source<'a> {
-    bytes: &'a [u8],
-    is_interrupted: bool,
-    fails_at_end: bool,
-}
+// Each row has the arguments, what fails, the input, and the outcome. Reading fails at the end of the input, or
+// writing fails once so many bytes are written.
+const ROWS: &str = "\
+--
+|reading||!2 one argument: the name of a type
+--
+program|reading||!2 one argument: the name of a type
+--
+program,letter,letters|reading||!2 one argument: the name of a type
+--
+program,letters,letters|reading||!2 one argument: the name of a type
+--
+program,letters,|reading||!2 one argument: the name of a type
+--
+program,,letters|reading||!2 one argument: the name of a type
+--
+program,letter|reading||!2 unknown type
+--
+program,|reading||!2 unknown type
+--
+program,Letters|reading||!2 unknown type
+--
+program, letters|reading||!2 unknown type
+--
+program,letters |reading||!2 unknown type
+--
+program,letterssparse|reading||!2 unknown type
+--
+program,lettersletterslettersletterslettersletterslettersletterslettersletters|reading||!2 unknown type
+--
+program,letters||all 0
+len 0
+|ok
+7
+--
+program,sparse||all 0
+len 0
+|ok
+4
+--
+program,wide||all 0
+len 0
+|ok
+3
+--
+program,sparse|reading|len 0
+|!1 reading failed
+--
+program,sparse|reading|len
+|!1 reading failed
+--
+program,wide|0|len 0
+|!1 writing failed
+--
+program,wide|4|all 0
+len 0
+|ok
+3!1 writing failed
+--
+program,wide|5|all 0
+len 0
+|ok
+3
+--
+program,wide|0|
+|--
+program,wide|0|len 0
+len|!2 line 2: not a command
+";
 
-impl Read for Source<'_> {
-    fn read(&mut self, buf: &mut [u8]) -> io::Result<usize> {
-        if !self.is_interrupted {
-            self.is_interrupted = true;
-            return Err(io::Error::from(ErrorKind::Interrupted));
-        }
-        if self.bytes.is_empty() && self.fails_at_end {
-            return Err(io::Error::from(ErrorKind::Other));
-        }
-        Read::read(&mut self.bytes, buf)
-    }
-}
-
-impl BufRead for Source<'_> {
-    fn fill_buf(&mut self) -> io::Result<&[u8]> {
-        Ok(self.bytes)
-    }
-
-    fn consume(&mut self, amount: usize) {
-        BufRead::consume(&mut self.bytes, amount);
-    }
-}
-
-// The arguments begin with the program's name.
-#[derive(Clone, Copy)]
-struct Surroundings<'a> {
-    arguments: &'a [&'a str],
-    input: Source<'a>,
-    writing_fails: bool,
-}
-
-impl Env for Surroundings<'_> {
-    fn arg(&self, i: usize, buf: &mut [u8]) -> Result<usize, FillError> {
-        let argument = self
-            .arguments
-            .get(i)
-            .ok_or(FillError::NotPresent)?
-            .as_bytes();
-        if argument.len() > buf.len() {
-            return Err(FillError::TooLong);
-        }
-        buf[..argument.len()].copy_from_slice(argument);
-        Ok(argument.len())
-    }
-
-    fn var(&self, _name: &str, _buf: &mut [u8]) -> Result<usize, FillError> {
-        Err(FillError::NotPresent)
-    }
-
-    fn var_at(&self, _i: usize, _buf: &mut [u8]) -> Result<usize, FillError> {
-        Err(FillError::NotPresent)
-    }
-}
-
-impl<'a> Input for Surroundings<'a> {
-    type Reader = Source<'a>;
-
-    fn read_line<A: Allocator + Clone>(&self, buf: &mut String<A>) -> io::Result<usize> {
-        self.reader().read_line(buf)
-    }
-
-    fn lines<A: Allocator>(&self, alloc: A) -> Lines<Source<'a>, A> {
-        self.reader().lines(alloc)
-    }
-
-    fn reader(&self) -> Source<'a> {
-        self.input
-    }
-}
-
-impl Print for Surroundings<'_> {
-    fn print<D: Display + Drop>(&self, _value: D) -> io::Result<()> {
-        self.write_all(b"")
-    }
-
-    fn println<D: Display + Drop>(&self, _value: D) -> io::Result<()> {
-        self.write_all(b"")
-    }
-
-    fn write_all(&self, _bytes: &[u8]) -> io::Result<()> {
-        if self.writing_fails {
-            return Err(io::Error::from(ErrorKind::BrokenPipe));
-        }
-        Ok(())
-    }
-}
-
-// The fault over these arguments and this input, where the input and the output fail as said.
-fn fault(
+// The outcome over a row's arguments and input, of which a read gives one byte.
+fn outcome_of(
     alloc: Global,
-    arguments: &[&str],
-    bytes: &[u8],
-    fails_at_end: bool,
-    writing_fails: bool,
-) -> Option<ProgramFault> {
+    arguments: &str,
+    failing: &str,
+    input: &str,
+) -> Result<Vec<u8>, AllocError> {
     let input = Source {
-        bytes,
+        bytes: input.as_bytes(),
+        most: 1,
+        fails_at_end: failing == "reading",
         is_interrupted: false,
-        fails_at_end,
     };
-    let surroundings = Surroundings {
-        arguments,
-        input,
-        writing_fails,
-    };
-    answer(&(&surroundings, alloc)).err()
+    outcome(alloc, arguments, input, failing.parse().unwrap_or(usize::MAX))
 }
 
 #[test]
-fn the_arguments_are_tested_first(rt: HostRuntime) {
-    let long = "lettersletterslettersletterslettersletterslettersletterslettersletters";
-    let none = ["program"];
-    let two = ["program", "letter", "letters"];
-    for arguments in [none.as_slice(), two.as_slice(), &[]] {
-        assert!(rt;
-            fault(rt.alloc(), arguments, b"", true, true) == Some(ProgramFault::OneArgument)
-        );
+fn each_row_has_its_outcome(rt: HostRuntime) -> Result<(), Fail> {
+    let mut rows = 0usize;
+    for row in ROWS.split("--\n").skip(1) {
+        let mut parts = row.split('|');
+        let arguments = parts.next().unwrap_or("");
+        let failing = parts.next().unwrap_or("");
+        let input = parts.next().unwrap_or("");
+        let expected = parts.next().unwrap_or("");
+        let outcome = outcome_of(rt.alloc(), arguments, failing, input)?;
+        assert!(rt; outcome.as_slice() == expected.as_bytes(), "{row}");
+        rows = rows.saturating_add(1);
     }
-    for name in ["letter", "", long] {
-        let arguments = ["program", name];
-        assert!(rt;
-            fault(rt.alloc(), &arguments, b"", true, true) == Some(ProgramFault::UnknownType),
-            "{name}"
-        );
-    }
-}
-
-#[test]
-fn reading_may_fail(rt: HostRuntime) -> Result<(), Fail> {
-    let sparse = ["program", "sparse"];
-    let alloc = rt.alloc();
-    assert!(rt; fault(alloc, &sparse, b"len 0\n", false, false).is_none());
-    assert!(rt; fault(alloc, &sparse, b"len 0\n", true, false) == Some(ProgramFault::Reading));
-    assert!(rt; fault(alloc, &sparse, b"len\n", true, false) == Some(ProgramFault::Reading));
-    // what is too long is not read on
-    let longest = vec![in alloc; b'\n'; 1_048_576]?;
-    assert!(rt; fault(alloc, &sparse, &longest, true, false) == Some(ProgramFault::Reading));
-    assert!(rt; fault(alloc, &sparse, &longest, false, false).is_none());
-    let too_long = vec![in alloc; b'\n'; 1_048_577]?;
-    let fault_of_text = ProgramFault::Text(TextFault::TooLong);
-    assert!(rt; fault(alloc, &sparse, &too_long, true, false) == Some(fault_of_text));
+    assert!(rt; rows == 23);
     Ok(())
 }
 
+// The outcome over an input of so many bytes of one kind.
+fn outcome_of_bytes(
+    alloc: Global,
+    byte: u8,
+    count: usize,
+    fails_at_end: bool,
+) -> Result<Vec<u8>, AllocError> {
+    let bytes = vec![in alloc; byte; count]?;
+    let input = Source {
+        bytes: &bytes,
+        most: 4096,
+        fails_at_end,
+        is_interrupted: false,
+    };
+    outcome(alloc, "program,sparse", input, 0)
+}
+
 #[test]
-fn writing_may_fail(rt: HostRuntime) {
-    let wide = ["program", "wide"];
+fn an_input_has_at_most_a_mebibyte(rt: HostRuntime) -> Result<(), Fail> {
     let alloc = rt.alloc();
-    assert!(rt; fault(alloc, &wide, b"len 0\n", false, true) == Some(ProgramFault::Writing));
-    // an empty answer is not written, nor is there one to a bad line
-    assert!(rt; fault(alloc, &wide, b"\n", false, true).is_none());
-    let fault_of_text = ProgramFault::Text(TextFault::BadLine(2));
-    assert!(rt; fault(alloc, &wide, b"len 0\nlen", false, true) == Some(fault_of_text));
+    let outcomes = [
+        outcome_of_bytes(alloc, b'\n', 1_048_576, false)?,
+        outcome_of_bytes(alloc, b'\n', 1_048_576, true)?,
+        // what is too long is not read on, and its length is tested before its lines
+        outcome_of_bytes(alloc, b'\n', 1_048_577, true)?,
+        outcome_of_bytes(alloc, b'x', 1_048_577, true)?,
+        // bytes that are no text
+        outcome_of_bytes(alloc, b'\xff', 1, false)?,
+    ];
+    let mut text = Vec::new(alloc);
+    for outcome in &outcomes {
+        text.extend_from_slice(outcome.as_slice())?;
+        text.push(b'.')?;
+    }
+    assert!(rt;
+        text.as_slice()
+            == b".!1 reading failed\n.!2 input too long\n.!2 input too long\n.!2 line 1: not a command\n.".as_slice()
+    );
+    Ok(())
+}
+
+// A reader and a writer whose bytes are known, as the contract of `answer_input` asks.
+#[test]
+fn known_bytes_are_answered(rt: HostRuntime) -> Result<(), Fail> {
+    let alloc = rt.alloc();
+    let room = Vec::with_capacity(alloc, INPUT_LIMIT + 1)?;
+    let mut output = Vec::new(alloc);
+    let answered = answer_input(alloc, Worked::Wide, room, b"all 0\nlen 0".as_slice(), &mut output);
+    assert!(rt; answered.is_ok() && output.as_slice() == b"ok\n3\n".as_slice());
+    Ok(())
 }

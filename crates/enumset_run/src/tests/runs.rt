@@ -1,12 +1,8 @@
-use crate::command::Command;
-use crate::kinds::{serve_worked, worked};
-use crate::letters::Letters;
-use crate::reply::{Refusal, Reply};
-use crate::runs::run;
-use crate::text_fault::TextFault;
-use crate::vectors::RUNS;
-use crate::worked::Worked;
-use std::alloc::Global;
+//! Runs of the program: commands and the replies to them.
+
+use super::surroundings::{Source, outcome};
+use super::text_forms::TEXT_FORMS;
+use super::vectors;
 use std::test::Fail;
 
 const WORKED_RUNS: &str = "\
@@ -126,58 +122,35 @@ none
 none
 --
 letters
+all 1
+len 1
+left 2
+==
+ok
+7
+K1 no register
+--
+letters
 ==
 ";
 
-// How many runs of a text have the replies that stand with them, up to the first that has others or names
-// no type. The text has the form of `RUNS`.
-fn replying_so(alloc: Global, runs: &str) -> Result<usize, TextFault> {
-    let mut replying = 0usize;
-    for run in runs.split("--\n").skip(1) {
-        let (asked, output) = run.split_once("==\n").unwrap_or((run, ""));
-        let (name, input) = asked.split_once("\n").unwrap_or((asked, ""));
-        let Some(kind) = worked(name) else {
-            break;
-        };
-        if serve_worked(alloc, kind, input.as_bytes())?.as_slice() != output.as_bytes() {
-            break;
+// A run has the name of a type, the inputs, and what the program makes of each of them.
+#[test]
+fn each_run_has_its_output(rt: HostRuntime) -> Result<(), Fail> {
+    let [letters, sparse, wide] = vectors::RUNS;
+    let mut inputs = 0usize;
+    for runs in [WORKED_RUNS, TEXT_FORMS, letters, sparse, wide] {
+        for run in runs.split("--\n").skip(1) {
+            let (asked, expected) = run.split_once("==\n").unwrap_or((run, ""));
+            let (name, texts) = asked.split_once("\n").unwrap_or((asked, ""));
+            let arguments = format!(in rt.alloc(); "program,{name}")?;
+            for text in texts.split('|') {
+                let output = outcome(rt.alloc(), &arguments, Source::new(text), usize::MAX)?;
+                assert!(rt; output.as_slice() == expected.as_bytes(), "{text}");
+                inputs = inputs.saturating_add(1);
+            }
         }
-        replying = replying.saturating_add(1);
     }
-    Ok(replying)
-}
-
-#[test]
-fn a_run_writes_its_replies(rt: HostRuntime) -> Result<(), Fail> {
-    assert!(rt; replying_so(rt.alloc(), WORKED_RUNS)? == 9);
-    // those of the Rust crate
-    assert!(rt; replying_so(rt.alloc(), RUNS)? == 24);
+    assert!(rt; inputs == 80);
     Ok(())
-}
-
-#[test]
-fn each_command_has_a_reply(rt: HostRuntime) -> Result<(), Fail> {
-    let commands = [
-        Command::All { r: 1 },
-        Command::Len { r: 1 },
-        Command::Left { i: 2 },
-    ];
-    let replies = run::<Letters>(rt.alloc(), &commands)?;
-    let expected = [
-        Reply::Done,
-        Reply::Count(7),
-        Reply::Refused(Refusal::NoRegister),
-    ];
-    assert!(rt; replies.as_slice() == expected.as_slice());
-    Ok(())
-}
-
-#[test]
-fn a_type_is_named_byte_by_byte(rt: HostRuntime) {
-    assert!(rt; worked("letters") == Some(Worked::Letters));
-    assert!(rt; worked("sparse") == Some(Worked::Sparse));
-    assert!(rt; worked("wide") == Some(Worked::Wide));
-    for name in ["Letters", "letter", "letters ", ""] {
-        assert!(rt; worked(name).is_none(), "{name}");
-    }
 }

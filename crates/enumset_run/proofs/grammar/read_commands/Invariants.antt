@@ -1,10 +1,14 @@
-use Rattle.std.proofs.Common.{◌≡◌, ◌+◌, ◌<◌, ◌^◌, length}
+use Rattle.std.proofs.Common.{◌≡◌, ◌+◌, ◌<◌, ◌^◌, true, length}
+use Rattle.std.specs.Result.{result_err}
 use Rattle.enumset_run.specs.Lines.{commands_from, lines}
-use Rattle.enumset_run.proofs.Commands.{after}
+use Rattle.enumset_run.proofs.Commands.{preceded_by}
 use Rattle.enumset_run.proofs.grammar.read_commands.Given as goal
 
+-- Until memory is refused the commands so far, before those of what is left, are those of the input. The fault
+-- of what is left is that of the input.
 abbrev pub invariant-loop-line : goal.invariant-loop-line
 invariant-loop-line l = record {
-  commands : after l.commands.items (commands_from (l.number + 1) l.line-iterator) ≡ lines l.input;
+  commands : l.has_room ≡ true → preceded_by l.commands.items (commands_from (l.number + 1) l.line-iterator) ≡ lines l.input;
+  fault : result_err (commands_from (l.number + 1) l.line-iterator) ≡ result_err (lines l.input);
   counted : l.number + length l.line-iterator < 2 ^ 64;
 }

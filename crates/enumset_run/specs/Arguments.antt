@@ -1,0 +1,16 @@
+-- The type that the arguments of the program name.
+--     requested      that type, from what was found when the first argument and the second were asked for
+use Rattle.std.specs.Prelude.{ℕ, List, take, Result, Ok, Err, ok_or}
+use Rattle.std.specs.declared.env.FillError.{FillError}
+use Rattle.std.specs.declared.env.FillError.TheVariants.{NotPresent, TooLong}
+use Rattle.enumset_run.specs.declared.worked.Worked.{Worked}
+use Rattle.enumset_run.specs.declared.fault.ProgramFault.{ProgramFault}
+use Rattle.enumset_run.specs.declared.fault.ProgramFault.TheVariants.{OneArgument, UnknownType}
+use Rattle.enumset_run.specs.Kinds.{worked_of}
+
+-- There is just one argument where the first is found and the second is not. An argument of n bytes, or one
+-- that is too long, was found.
+abbrev pub requested : Result ℕ FillError → List ℕ → Result ℕ FillError → Result Worked ProgramFault
+requested (Ok n) name (Err NotPresent) = ok_or (worked_of (take n name)) UnknownType
+requested (Err TooLong) name (Err NotPresent) = Err UnknownType
+requested _ name _ = Err OneArgument

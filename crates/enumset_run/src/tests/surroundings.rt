@@ -1,0 +1,157 @@
+//! The program over runtimes whose arguments, input and output are made up.
+
+use crate::program::answer;
+use std::alloc::{AllocError, Allocator, Global};
+use std::cell::{Cell, RefCell};
+use std::env::{Env, FillError};
+use std::fmt::Display;
+use std::io::{self, BufRead, ErrorKind, Input, Lines, Print, Read};
+
+/// Bytes of which a read gives at most so many. Every other read is interrupted. Reading past the bytes fails,
+/// or else finds the end.
+#[derive(Clone, Copy)]
+pub(super) struct Source<'a> {
+    pub(super) bytes: &'a [u8],
+    pub(super) most: usize,
+    pub(super) fails_at_end: bool,
+    pub(super) is_interrupted: bool,
+}
+
+impl<'a> Source<'a> {
+    /// A text, all of which may be read.
+    pub(super) fn new(text: &'a str) -> Source<'a> {
+        Source {
+            bytes: text.as_bytes(),
+            most: usize::MAX,
+            fails_at_end: false,
+            is_interrupted: false,
+        }
+    }
+}
+
+impl Read for Source<'_> {
+    fn read(&mut self, buf: &mut [u8]) -> io::Result<usize> {
+        self.is_interrupted = !self.is_interrupted;
+        if self.is_interrupted {
+            return Err(io::Error::from(ErrorKind::Interrupted));
+        }
+        if self.bytes.is_empty() && self.fails_at_end {
+            return Err(io::Error::from(ErrorKind::Other));
+        }
+        let most = buf.len().min(self.most);
+        Read::read(&mut self.bytes, &mut buf[..most])
+    }
+}
+
+impl BufRead for Source<'_> {
+    fn fill_buf(&mut self) -> io::Result<&[u8]> {
+        Ok(self.bytes)
+    }
+
+    fn consume(&mut self, amount: usize) {
+        BufRead::consume(&mut self.bytes, amount);
+    }
+}
+
+/// Arguments, which commas part, after the program's name; an input; and an output that holds at
+/// most so many bytes and takes at most three at a time. Every other write is interrupted.
+#[derive(Drop)]
+pub(super) struct Surroundings<'a> {
+    pub(super) arguments: &'a str,
+    pub(super) input: Source<'a>,
+    pub(super) room: usize,
+    pub(super) is_interrupted: Cell<bool>,
+    pub(super) output: RefCell<Vec<u8>>,
+}
+
+impl Env for Surroundings<'_> {
+    fn arg(&self, i: usize, buf: &mut [u8]) -> Result<usize, FillError> {
+        let argument = self.arguments.split(',').nth(i);
+        let argument = argument.ok_or(FillError::NotPresent)?.as_bytes();
+        if argument.len() > buf.len() {
+            return Err(FillError::TooLong);
+        }
+        buf[..argument.len()].copy_from_slice(argument);
+        Ok(argument.len())
+    }
+
+    fn var(&self, _name: &str, _buf: &mut [u8]) -> Result<usize, FillError> {
+        Err(FillError::NotPresent)
+    }
+
+    fn var_at(&self, _i: usize, _buf: &mut [u8]) -> Result<usize, FillError> {
+        Err(FillError::NotPresent)
+    }
+}
+
+impl<'a> Input for Surroundings<'a> {
+    type Reader = Source<'a>;
+
+    fn read_line<A: Allocator + Clone>(&self, buf: &mut String<A>) -> io::Result<usize> {
+        self.reader().read_line(buf)
+    }
+
+    fn lines<A: Allocator>(&self, alloc: A) -> Lines<Source<'a>, A> {
+        self.reader().lines(alloc)
+    }
+
+    fn reader(&self) -> Source<'a> {
+        self.input
+    }
+}
+
+// The program writes by `write_some` alone.
+impl Print for Surroundings<'_> {
+    fn print<D: Display + Drop>(&self, _value: D) -> io::Result<()> {
+        Err(io::Error::from(ErrorKind::Unsupported))
+    }
+
+    fn println<D: Display + Drop>(&self, _value: D) -> io::Result<()> {
+        Err(io::Error::from(ErrorKind::Unsupported))
+    }
+
+    fn write_all(&self, _bytes: &[u8]) -> io::Result<()> {
+        Err(io::Error::from(ErrorKind::Unsupported))
+    }
+
+    fn write_some(&self, bytes: &[u8]) -> io::Result<usize> {
+        self.is_interrupted.set(!self.is_interrupted.get());
+        if self.is_interrupted.get() {
+            return Err(io::Error::from(ErrorKind::Interrupted));
+        }
+        let Ok(mut output) = self.output.try_borrow_mut() else {
+            return Err(io::Error::from(ErrorKind::Other));
+        };
+        let room = self.room.saturating_sub(output.len());
+        let count = bytes.len().min(room).min(3);
+        if count == 0 {
+            return Err(io::Error::from(ErrorKind::BrokenPipe));
+        }
+        output.extend_from_slice(&bytes[..count])?;
+        Ok(count)
+    }
+}
+
+/// What the program writes over these arguments, this input and an output that holds at most so many bytes; and, if
+/// it fails, an exclamation mark, and the status and the text of the fault in a line.
+pub(super) fn outcome(
+    alloc: Global,
+    arguments: &str,
+    input: Source,
+    room: usize,
+) -> Result<Vec<u8>, AllocError> {
+    let surroundings = Surroundings {
+        arguments,
+        input,
+        room,
+        is_interrupted: Cell::new(false),
+        output: RefCell::new(Vec::new(alloc)),
+    };
+    let answered = answer(&(&surroundings, alloc));
+    let mut outcome = surroundings.output.into_inner();
+    if let Err(fault) = answered {
+        let said = format!(in alloc; "!{} {fault}\n", fault.status())?;
+        outcome.extend_from_slice(said.as_bytes())?;
+    }
+    Ok(outcome)
+}

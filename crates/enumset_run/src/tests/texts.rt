@@ -1,0 +1,62 @@
+//! The texts of replies and of faults.
+
+use crate::fault::ProgramFault;
+use crate::reply::{Refusal, Reply};
+use crate::text_fault::TextFault;
+use crate::transcript::write_replies;
+use std::test::Fail;
+
+#[test]
+fn replies_and_faults_have_their_texts(rt: HostRuntime) -> Result<(), Fail> {
+    let replies = [
+        Reply::Done,
+        Reply::Truth(true),
+        Reply::Truth(false),
+        Reply::Count(0),
+        Reply::Count(18446744073709551615),
+        Reply::Bit(3),
+        Reply::Absent,
+        Reply::Refused(Refusal::NoRegister),
+        Reply::Refused(Refusal::NotABit),
+    ];
+    let faults = [
+        ProgramFault::OneArgument,
+        ProgramFault::UnknownType,
+        ProgramFault::Text(TextFault::TooLong),
+        ProgramFault::Text(TextFault::BadLine(3)),
+        ProgramFault::Text(TextFault::BadLine(18446744073709551615)),
+        ProgramFault::Text(TextFault::OutOfMemory),
+        ProgramFault::Reading,
+        ProgramFault::Writing,
+    ];
+    let mut said = String::new(rt.alloc());
+    for fault in &faults {
+        writeln!(said, "{} {fault}", fault.status())?;
+    }
+    let mut text = write_replies(rt.alloc(), &replies)?;
+    text.extend_from_slice(said.as_bytes())?;
+    assert!(rt;
+        text.as_slice()
+            == b"\
+ok
+true
+false
+0
+18446744073709551615
+bit 3
+none
+K1 no register
+K2 not a bit
+2 one argument: the name of a type
+2 unknown type
+2 input too long
+2 line 3: not a command
+2 line 18446744073709551615: not a command
+3 out of memory
+1 reading failed
+1 writing failed
+"
+            .as_slice()
+    );
+    Ok(())
+}

@@ -1,0 +1,1051 @@
+//! The replies of the Rust crate to commands over `letters`.
+
+/// The runs, in the form of [`super::RUNS`].
+pub(super) const RUNS: &str = "\
+--
+letters
+insert 0 0
+insert 3 2
+insert 3 3
+insert 3 5
+insert 3 4
+insert 3 0
+insert 3 6
+insert 0 1
+insert 0 4
+insert 0 3
+insert 0 6
+insert 0 0
+insert 0 2
+insert 0 5
+insert 2 1
+insert 2 0
+insert 2 3
+insert 2 2
+insert 0 1
+insert 0 3
+left 0
+iter 1 2
+contains 0 5
+insert 1 2
+insert 1 5
+insert 1 2
+insert 1 1
+insert 1 1
+len 0
+complement 2 3
+next 0
+contains 2 2
+insert 255 194
+next 255
+len 255
+left 0
+insert 3 2
+insert 3 5
+insert 3 6
+iter 0 3
+iter 0 3
+next 0
+next 0
+next 0
+next 0
+complement 3 2
+next 0
+len 0
+complement 2 0
+iter 0 0
+next 1
+insert 0 2
+insert 0 6
+insert 0 0
+insert 2 6
+insert 2 0
+iter 0 0
+==
+true
+true
+true
+true
+true
+true
+true
+true
+true
+true
+true
+false
+true
+true
+true
+true
+true
+true
+false
+false
+0
+ok
+true
+true
+true
+false
+true
+false
+7
+ok
+none
+false
+K1 no register
+K1 no register
+K1 no register
+0
+false
+false
+false
+ok
+ok
+bit 0
+bit 2
+bit 3
+bit 4
+ok
+bit 5
+7
+ok
+ok
+bit 0
+false
+false
+false
+true
+true
+ok
+--
+letters
+iter 0 0
+iter 0 0
+left 0
+next 0
+left 0
+contains 1 0
+insert 2 4
+insert 2 3
+insert 2 0
+insert 2 3
+insert 2 2
+iter 0 0
+len 16
+insert 1 1
+complement 1 0
+next 0
+left 1
+contains 1 5
+insert 2 6
+insert 2 0
+==
+ok
+ok
+0
+none
+0
+false
+true
+true
+true
+false
+true
+ok
+K1 no register
+true
+ok
+none
+0
+true
+true
+false
+--
+letters
+insert 3 5
+insert 3 0
+insert 3 4
+insert 3 3
+insert 2 4
+insert 2 5
+insert 2 0
+insert 2 3
+insert 2 2
+insert 2 5
+insert 2 1
+insert 3 5
+insert 3 1
+complement 1 0
+next 3
+len 255
+iter 3 255
+contains 1 0
+len 0
+next 1
+iter 1 1
+left 0
+insert 1 3
+left 1
+insert 3 6
+insert 3 0
+insert 3 2
+iter 1 3
+complement 3 1
+next 1
+next 1
+left 1
+len 3
+iter 0 3
+next 0
+insert 1 4
+iter 1 2
+left 0
+iter 0 2
+insert 255 4294967295
+complement 0 255
+iter 3 255
+insert 3 2
+insert 3 5
+insert 2 4
+insert 2 6
+insert 2 1
+insert 2 5
+contains 0 0
+iter 1 0
+len 0
+complement 0 0
+insert 1 6
+insert 4 4294967295
+iter 3 4
+==
+true
+true
+true
+true
+true
+true
+true
+true
+true
+false
+true
+false
+true
+ok
+K1 no register
+K1 no register
+K1 no register
+true
+0
+none
+ok
+0
+false
+7
+true
+false
+true
+ok
+ok
+bit 0
+bit 1
+5
+0
+ok
+none
+false
+ok
+0
+ok
+K1 no register
+K1 no register
+K1 no register
+true
+true
+false
+true
+false
+false
+false
+ok
+0
+ok
+false
+K1 no register
+K1 no register
+--
+letters
+iter 255 5
+insert 5 67
+iter 255 0
+insert 3 547120589
+left 1
+insert 3 4
+insert 3 3
+insert 3 2
+insert 3 0
+insert 3 5
+insert 2 4
+insert 2 5
+insert 2 0
+insert 2 3
+complement 3 1
+len 1
+insert 2 5
+insert 2 4
+insert 2 6
+iter 1 2
+next 1
+next 1
+next 1
+iter 0 2
+left 1
+next 3
+complement 0 5
+contains 5 65
+==
+K1 no register
+K1 no register
+K1 no register
+K2 not a bit
+0
+true
+true
+true
+true
+true
+true
+true
+true
+true
+ok
+0
+false
+false
+true
+ok
+bit 0
+bit 3
+bit 4
+ok
+2
+K1 no register
+K1 no register
+K1 no register
+--
+letters
+insert 1 5
+insert 1 2
+insert 1 5
+insert 1 6
+insert 1 4
+iter 0 0
+len 3
+insert 3 0
+insert 3 6
+insert 3 5
+iter 255 5
+next 255
+len 5
+insert 3 3
+insert 2 2
+insert 2 1
+insert 2 3
+insert 0 1
+insert 0 3
+next 0
+insert 3 4
+insert 3 2
+insert 2 6
+insert 2 3
+insert 2 2
+insert 2 0
+insert 0 3
+insert 0 4
+insert 0 6
+insert 0 2
+insert 0 6
+complement 2 2
+contains 1 1
+left 0
+left 1
+iter 0 0
+len 2
+insert 5 0
+next 255
+left 255
+insert 1 4
+insert 1 4
+insert 1 1
+insert 1 1
+insert 1 3
+insert 1 6
+complement 128 1
+next 1
+insert 3 3
+insert 3 3
+insert 3 1
+insert 1 4
+contains 0 1
+iter 0 1
+contains 0 1
+insert 0 3
+insert 0 4
+insert 0 2
+insert 3 3
+insert 3 2
+==
+true
+true
+false
+true
+true
+ok
+0
+true
+true
+true
+K1 no register
+K1 no register
+K1 no register
+true
+true
+true
+true
+true
+true
+none
+true
+true
+true
+false
+false
+true
+false
+true
+true
+true
+false
+ok
+false
+0
+0
+ok
+2
+K1 no register
+K1 no register
+K1 no register
+false
+false
+true
+false
+true
+false
+K1 no register
+none
+false
+false
+true
+false
+true
+ok
+true
+false
+false
+false
+false
+false
+--
+letters
+complement 0 1
+contains 2 4
+left 0
+left 3
+contains 0 4294967231
+contains 9 4294967231
+iter 0 1
+next 0
+len 1
+insert 1 3
+next 0
+complement 1 3
+complement 1 1
+left 0
+next 0
+insert 0 2
+insert 0 6
+insert 0 2
+iter 1 252
+len 1
+next 1
+insert 3 6
+insert 2 6
+insert 2 3
+insert 2 3
+contains 3 1
+insert 3 1
+insert 3 3
+insert 3 4
+insert 3 0
+insert 0 0
+insert 0 6
+insert 0 2
+insert 0 5
+insert 0 1
+insert 0 4
+len 2
+iter 0 3
+left 1
+insert 3 1
+complement 1 0
+next 1
+==
+ok
+false
+0
+K1 no register
+K2 not a bit
+K1 no register
+ok
+none
+0
+true
+none
+ok
+ok
+0
+none
+false
+false
+false
+K1 no register
+0
+none
+true
+true
+true
+false
+false
+true
+true
+true
+true
+false
+false
+false
+false
+false
+false
+2
+ok
+0
+false
+ok
+none
+--
+letters
+clear 1
+clear 0
+difference 1 1 0
+remove_all 1 1
+remove_all 3 2
+only 1 8
+empty 9
+iter 255 9
+superset 0 2
+all 5
+insert_all 0 5
+superset 5 5
+all 0
+symmetric 2 3 0
+difference 0 2 0
+clear 3
+insert 3 0
+symmetric 3 3 3
+remove_all 3 3
+empty 3
+insert_all 1 3
+clear 3
+insert 3 0
+insert 3 4
+insert 3 3
+intersection 2 3 3
+iter 1 1
+only 2 2
+next_back 1
+empty 2
+clear 2
+insert 2 4
+insert 2 2
+insert 2 5
+iter 1 2
+next 1
+next_back 1
+next 1
+next 1
+left 1
+left 0
+insert 0 3
+clear 0
+insert 0 1
+insert 0 0
+iter 0 0
+next 0
+next 0
+next_back 0
+==
+ok
+ok
+ok
+ok
+ok
+K2 not a bit
+K1 no register
+K1 no register
+true
+K1 no register
+K1 no register
+K1 no register
+ok
+ok
+ok
+ok
+true
+ok
+ok
+true
+ok
+ok
+true
+true
+true
+ok
+ok
+ok
+none
+false
+ok
+true
+true
+true
+ok
+bit 2
+bit 5
+bit 4
+none
+0
+0
+true
+ok
+true
+true
+ok
+bit 0
+bit 1
+none
+--
+letters
+symmetric 0 1 0
+contains 0 1
+equal 2 2
+next 1
+disjoint 1 2
+intersection 2 0 1
+equal 4 0
+len 4
+insert_all 0 4
+new 2
+subset 1 3
+difference 0 2 2
+insert 2 1
+left 0
+all 0
+remove_all 3 0
+iter 0 3
+left 0
+next 0
+next_back 0
+==
+ok
+false
+true
+none
+true
+ok
+K1 no register
+K1 no register
+K1 no register
+ok
+true
+ok
+true
+0
+ok
+ok
+ok
+0
+none
+none
+--
+letters
+union 1 2 3
+clear 2
+insert 2 2
+insert 2 4
+insert 2 6
+insert 2 0
+insert 2 1
+clear 0
+insert 0 1
+insert 0 6
+insert 0 0
+insert 0 4
+equal 2 0
+subset 0 2
+disjoint 0 2
+remove_all 4 0
+clear 4
+intersection 4 1 2
+clear 1
+insert 1 2
+insert 1 6
+insert 1 0
+insert 1 1
+clear 0
+insert 0 6
+intersection 1 1 0
+clear 0
+symmetric 2 0 0
+insert_all 0 0
+len 2
+clear 1
+insert 1 3
+insert 1 5
+iter 0 1
+next 0
+next_back 0
+remove 1 3
+next_back 0
+next 0
+next 0
+all 1
+left 0
+left 0
+next_back 0
+next_back 1
+next_back 0
+next 0
+remove_all 2 0
+subset 3 0
+contains 2 5
+complement 2 0
+union 4 0 0
+complement 0 4
+contains 4 26
+difference 2 2 2
+clear 3
+insert 3 5
+==
+ok
+ok
+true
+true
+true
+true
+true
+ok
+true
+true
+true
+true
+false
+true
+false
+K1 no register
+K1 no register
+K1 no register
+ok
+true
+true
+true
+true
+ok
+true
+ok
+ok
+ok
+ok
+0
+ok
+true
+true
+ok
+bit 3
+bit 5
+true
+none
+none
+none
+ok
+0
+0
+none
+none
+none
+none
+ok
+true
+false
+ok
+K1 no register
+K1 no register
+K1 no register
+ok
+ok
+true
+--
+letters
+len 2
+union 2 1 0
+contains 4 4294967295
+clear 4
+subset 0 4
+clear 1
+insert 1 4
+insert 1 5
+insert 1 0
+insert 1 2
+insert 1 6
+iter 1 1
+next_back 1
+next 1
+all 1
+next 1
+next 0
+next 1
+next_back 1
+iter 0 1
+next_back 1
+next 0
+next 1
+left 1
+next 1
+iter 1 3
+next_back 1
+next_back 1
+next_back 0
+next_back 1
+remove 3 1
+left 1
+next 1
+insert 0 5
+insert 0 2
+insert 0 3
+remove 0 5
+insert 0 6
+insert 0 2
+insert_all 3 0
+intersection 2 0 3
+subset 1 3
+complement 1 2
+insert 1 255
+clear 3
+insert 3 3
+insert 3 4
+==
+0
+ok
+K1 no register
+K1 no register
+K1 no register
+ok
+true
+true
+true
+true
+true
+ok
+bit 6
+bit 0
+ok
+bit 2
+none
+bit 4
+bit 5
+ok
+none
+bit 0
+none
+0
+none
+ok
+none
+none
+bit 6
+none
+false
+0
+none
+true
+true
+true
+true
+true
+false
+ok
+ok
+false
+ok
+K2 not a bit
+ok
+true
+true
+--
+letters
+clear 2
+insert 0 1
+remove 1 6
+insert 1 20
+insert 1 0
+insert 1 4
+empty 1
+clear 0
+insert 0 1
+insert 0 6
+insert 0 0
+insert 0 2
+clear 2
+insert 2 2
+insert 2 1
+insert 2 6
+equal 0 2
+subset 2 0
+disjoint 0 2
+subset 1 2
+clear 3
+insert 3 0
+insert 3 1
+insert 3 4
+insert 3 3
+iter 0 3
+next_back 0
+left 1
+next 1
+next 0
+next_back 0
+next 0
+next_back 0
+iter 1 3
+next_back 0
+remove 3 6
+insert 0 5
+==
+ok
+true
+false
+K2 not a bit
+true
+true
+false
+ok
+true
+true
+true
+true
+ok
+true
+true
+true
+false
+true
+false
+false
+ok
+true
+true
+true
+true
+ok
+bit 4
+0
+none
+bit 0
+bit 3
+bit 1
+none
+ok
+none
+false
+true
+--
+letters
+insert 3 5
+clear 0
+insert 0 5
+insert 0 2
+insert 0 3
+insert 0 6
+insert 0 4
+insert 0 0
+insert 0 1
+clear 1
+insert 1 6
+insert 1 1
+insert 1 2
+disjoint 1 0
+disjoint 0 1
+superset 0 3
+complement 3 4
+insert 3 4
+new 5
+len 5
+empty 5
+intersection 1 3 254
+empty 3
+next_back 1
+disjoint 2 0
+contains 1 1
+next 1
+left 1
+equal 1 0
+insert 2 65536
+remove 2 4
+remove 2 4
+insert 2 1
+==
+true
+ok
+true
+true
+true
+true
+true
+true
+true
+ok
+true
+true
+true
+false
+false
+true
+K1 no register
+true
+K1 no register
+K1 no register
+K1 no register
+K1 no register
+false
+none
+true
+true
+none
+0
+false
+K2 not a bit
+false
+false
+true
+";

@@ -1,0 +1,475 @@
+//! The replies of the Rust crate to commands over `sparse`.
+
+/// The runs, in the form of [`super::RUNS`].
+pub(super) const RUNS: &str = "\
+--
+sparse
+clear 1
+insert 1 10
+insert 1 127
+clear 2
+insert 2 20
+insert 2 30
+insert 2 10
+insert 2 127
+difference 3 1 2
+remove_all 1 2
+remove 0 30
+clear 3
+insert 3 30
+iter 0 3
+next 0
+next 0
+left 0
+new 1
+only 1 2147483647
+insert 255 2147483647
+subset 0 255
+clear 0
+clear 1
+insert 1 127
+insert 1 20
+disjoint 1 0
+subset 1 0
+remove 1 10
+remove_all 255 0
+iter 2 0
+complement 0 255
+insert 1 10
+insert 1 20
+insert 1 30
+remove 1 20
+insert 1 30
+remove 1 30
+next_back 1
+clear 0
+insert 0 20
+insert 0 127
+clear 1
+insert 1 20
+insert 1 10
+==
+ok
+true
+true
+ok
+true
+true
+true
+true
+ok
+ok
+false
+ok
+true
+ok
+bit 30
+none
+0
+ok
+K2 not a bit
+K1 no register
+K1 no register
+ok
+ok
+true
+true
+true
+false
+false
+K1 no register
+K1 no register
+K1 no register
+true
+false
+true
+true
+false
+true
+none
+ok
+true
+true
+ok
+true
+true
+--
+sparse
+subset 1 0
+clear 0
+insert 0 127
+iter 1 0
+next 1
+len 0
+next 1
+next_back 1
+next 1
+next 1
+next_back 1
+left 1
+next 1
+next_back 1
+iter 0 0
+union 2 3 2
+disjoint 2 3
+left 1
+complement 1 2
+contains 3 30
+insert 1 10
+equal 5 0
+insert 5 148
+symmetric 1 2 5
+symmetric 2 1 0
+clear 2
+clear 2
+insert 2 127
+==
+true
+ok
+true
+ok
+bit 127
+1
+none
+none
+none
+none
+none
+0
+none
+none
+ok
+ok
+true
+0
+ok
+false
+false
+K1 no register
+K1 no register
+K1 no register
+ok
+ok
+ok
+true
+--
+sparse
+len 0
+union 1 1 8
+empty 4
+clear 2
+insert 2 30
+insert 2 127
+insert 2 20
+clear 3
+insert 3 127
+insert 3 30
+insert 3 20
+difference 0 2 3
+remove_all 2 3
+remove 3 30
+insert 3 30
+remove 3 10
+remove 3 30
+insert 3 127
+intersection 0 1 1
+contains 0 103
+clear 0
+insert 0 10
+insert 0 127
+clear 3
+insert 3 30
+insert 3 10
+insert 3 20
+union 1 0 3
+clear 2
+insert 2 10
+insert 2 30
+insert 2 20
+iter 0 2
+next_back 0
+left 1
+insert 2 127
+next_back 1
+next 0
+next 0
+next_back 0
+next_back 0
+next_back 0
+==
+0
+K1 no register
+K1 no register
+ok
+true
+true
+true
+ok
+true
+true
+true
+ok
+ok
+true
+true
+false
+true
+false
+ok
+K2 not a bit
+ok
+true
+true
+ok
+true
+true
+true
+ok
+ok
+true
+true
+true
+ok
+bit 30
+0
+true
+none
+bit 10
+bit 20
+none
+none
+none
+--
+sparse
+insert_all 1 2
+insert 1 15
+subset 1 1
+clear 3
+insert 3 30
+insert 3 10
+insert 3 20
+insert 3 127
+iter 0 3
+next_back 0
+len 3
+next_back 0
+next_back 0
+iter 1 3
+iter 1 3
+next 0
+left 0
+left 0
+next_back 0
+next_back 0
+next 0
+next_back 0
+empty 0
+union 2 3 2
+symmetric 0 0 3
+len 1
+clear 3
+iter 0 3
+next 0
+next 0
+all 3
+left 0
+next 0
+next 0
+next 0
+all 3
+len 3
+next_back 1
+remove 0 4294967295
+remove 0 127
+==
+ok
+K2 not a bit
+true
+ok
+true
+true
+true
+true
+ok
+bit 127
+4
+bit 30
+bit 20
+ok
+ok
+bit 10
+0
+0
+none
+none
+none
+none
+true
+ok
+ok
+0
+ok
+ok
+none
+none
+ok
+0
+none
+none
+none
+ok
+4
+bit 127
+K2 not a bit
+true
+--
+sparse
+remove 2 21
+remove 2 20
+remove 2 20
+remove 2 30
+remove 2 30
+insert 2 10
+remove 1 20
+insert 1 148
+insert 1 96
+remove 1 191
+remove 4 2147483678
+iter 2 0
+clear 4
+len 0
+next_back 0
+subset 0 0
+new 0
+insert 2 20
+insert 2 20
+next 1
+clear 3
+insert 3 20
+insert 3 10
+insert 3 127
+clear 2
+insert 2 30
+insert 2 127
+insert 2 10
+insert 2 20
+equal 3 2
+superset 3 2
+superset 2 3
+disjoint 3 2
+disjoint 2 3
+subset 3 2
+superset 0 1
+clear 3
+contains 1 30
+insert 5 21
+disjoint 0 5
+left 3
+clear 0
+insert 0 30
+insert 0 20
+intersection 0 0 0
+complement 0 0
+insert_all 1 0
+equal 2 1
+iter 1 2
+all 2
+next_back 1
+==
+K2 not a bit
+false
+false
+false
+false
+true
+false
+K2 not a bit
+K2 not a bit
+K2 not a bit
+K1 no register
+K1 no register
+K1 no register
+0
+none
+true
+ok
+true
+false
+none
+ok
+true
+true
+true
+ok
+true
+true
+true
+true
+false
+false
+true
+false
+false
+true
+true
+ok
+false
+K1 no register
+K1 no register
+K1 no register
+ok
+true
+true
+ok
+ok
+ok
+false
+ok
+ok
+bit 127
+--
+sparse
+clear 1
+clear 3
+insert 3 127
+insert 3 20
+subset 1 3
+disjoint 3 1
+superset 1 3
+clear 1
+insert 1 30
+clear 3
+insert 3 10
+insert 3 127
+insert 3 30
+insert 3 20
+symmetric 0 1 3
+empty 0
+insert 0 30
+all 0
+clear 3
+clear 1
+insert 1 10
+==
+ok
+ok
+true
+true
+true
+true
+false
+ok
+true
+ok
+true
+true
+true
+true
+ok
+false
+true
+ok
+ok
+ok
+true
+";

@@ -1,0 +1,535 @@
+//! The replies of the Rust crate to commands over `wide`.
+
+/// The runs, in the form of [`super::RUNS`].
+pub(super) const RUNS: &str = "\
+--
+wide
+only 0 4294967295
+complement 2 2
+all 3
+disjoint 0 1
+remove_all 2 3
+iter 3 0
+disjoint 0 4
+left 3
+new 3
+insert 2 64
+insert_all 3 1
+equal 2 3
+len 3
+clear 2
+insert 2 64
+insert 2 130
+clear 1
+insert 1 130
+subset 2 1
+subset 1 2
+disjoint 1 2
+superset 2 1
+contains 3 142
+complement 0 255
+subset 0 255
+contains 255 133
+clear 3
+insert 3 64
+insert 3 3
+insert 3 130
+iter 0 3
+next_back 1
+len 3
+insert 3 195
+iter 1 2
+clear 2
+insert 2 64
+clear 1
+insert 1 64
+equal 2 1
+superset 2 1
+subset 2 1
+subset 1 2
+symmetric 0 1 0
+empty 1
+insert 1 64
+clear 0
+insert 0 130
+insert 0 3
+clear 3
+insert 3 3
+insert 3 130
+disjoint 0 3
+superset 0 3
+difference 2 2 0
+==
+K2 not a bit
+ok
+ok
+true
+ok
+K1 no register
+K1 no register
+K1 no register
+ok
+true
+ok
+false
+0
+ok
+true
+true
+ok
+true
+false
+true
+false
+true
+K2 not a bit
+K1 no register
+K1 no register
+K1 no register
+ok
+true
+true
+true
+ok
+none
+3
+K2 not a bit
+ok
+ok
+true
+ok
+true
+true
+true
+true
+true
+ok
+false
+false
+ok
+true
+true
+ok
+true
+true
+false
+true
+ok
+--
+wide
+next 0
+remove 0 64
+disjoint 3 5
+insert_all 0 3
+insert 0 64
+empty 1
+len 0
+next 2
+contains 0 92
+contains 5 92
+iter 0 1
+insert 2 130
+insert 2 3
+insert 2 130
+only 1 3
+left 1
+contains 3 3
+intersection 1 0 252
+remove 1 64
+superset 1 0
+subset 0 2
+new 3
+clear 1
+all 3
+remove_all 2 0
+equal 0 2
+difference 2 0 2
+symmetric 1 2 2
+complement 2 1
+new 4
+clear 4
+intersection 4 1 2
+next_back 254
+clear 0
+insert 0 64
+clear 1
+insert 1 64
+==
+none
+false
+K1 no register
+ok
+true
+true
+1
+K1 no register
+K2 not a bit
+K1 no register
+ok
+true
+true
+false
+ok
+0
+false
+K1 no register
+false
+false
+false
+ok
+ok
+ok
+ok
+false
+ok
+ok
+ok
+K1 no register
+K1 no register
+K1 no register
+K1 no register
+ok
+true
+ok
+true
+--
+wide
+symmetric 2 3 2
+remove_all 1 2
+empty 4
+union 0 4 0
+iter 2 0
+insert 2 130
+left 1
+clear 3
+insert 3 3
+insert 3 64
+clear 1
+insert 1 130
+superset 3 1
+disjoint 3 1
+equal 3 1
+subset 3 1
+next 0
+insert_all 3 1
+empty 1
+equal 3 1
+insert 2 16
+remove 2 33
+insert 2 2147483651
+insert 2 3
+insert 2 64
+remove 2 193
+superset 0 0
+next_back 1
+==
+ok
+ok
+K1 no register
+K1 no register
+K1 no register
+true
+0
+ok
+true
+true
+ok
+true
+false
+true
+false
+false
+none
+ok
+false
+false
+K2 not a bit
+K2 not a bit
+K2 not a bit
+true
+true
+K2 not a bit
+true
+none
+--
+wide
+empty 3
+remove 3 130
+insert 3 130
+remove 3 64
+insert 3 130
+insert 3 64
+iter 1 0
+next 1
+remove 0 131
+new 0
+next 1
+clear 1
+next_back 3
+insert_all 0 5
+clear 5
+clear 0
+insert 0 3
+clear 1
+insert 1 130
+insert 1 64
+remove_all 3 0
+insert_all 0 1
+insert 2 156
+insert 2 64
+insert 2 64
+insert 2 64
+insert 2 153
+complement 127 2
+insert 2 64
+remove 2 3
+remove 2 2147483778
+insert 2 64
+intersection 1 255 2
+insert 0 4294967295
+symmetric 0 127 2
+subset 2 2
+only 16 130
+disjoint 0 1
+union 1 0 3
+difference 1 3 3
+equal 0 3
+iter 0 3
+iter 1 2
+next_back 1
+clear 2
+next 0
+next 1
+next 1
+all 1
+superset 0 1
+insert 0 130
+remove 0 3
+insert 0 64
+remove 2 63
+==
+true
+false
+true
+false
+false
+true
+ok
+none
+K2 not a bit
+ok
+none
+ok
+K1 no register
+K1 no register
+K1 no register
+ok
+true
+ok
+true
+true
+ok
+ok
+K2 not a bit
+true
+false
+false
+K2 not a bit
+K1 no register
+false
+false
+K2 not a bit
+false
+K1 no register
+K2 not a bit
+K1 no register
+true
+K1 no register
+false
+ok
+ok
+false
+ok
+ok
+bit 64
+ok
+bit 64
+none
+none
+ok
+true
+false
+true
+false
+K2 not a bit
+--
+wide
+clear 0
+insert 0 3
+insert 0 64
+iter 1 0
+clear 0
+next_back 1
+next_back 1
+left 1
+remove 0 64
+next 1
+next_back 1
+next_back 0
+next_back 1
+insert_all 0 2
+only 1 64
+clear 0
+insert 0 64
+insert 0 130
+insert 0 3
+clear 3
+insert 3 3
+subset 0 3
+subset 3 0
+superset 0 3
+clear 0
+insert 0 130
+insert 0 3
+insert 0 64
+iter 0 0
+iter 0 0
+next_back 0
+next_back 0
+left 0
+next 1
+remove 0 3
+left 0
+next_back 0
+next_back 0
+insert 2 3
+clear 3
+insert 3 64
+clear 2
+insert 2 130
+insert 2 64
+difference 3 3 2
+remove_all 3 2
+clear 3
+insert 3 64
+clear 2
+insert 2 64
+symmetric 2 3 2
+empty 2
+superset 0 2
+clear 3
+insert 3 130
+insert 3 64
+insert 3 3
+clear 0
+insert 0 3
+==
+ok
+true
+true
+ok
+ok
+bit 64
+bit 3
+0
+false
+none
+none
+none
+none
+ok
+ok
+ok
+true
+true
+true
+ok
+true
+false
+true
+true
+ok
+true
+true
+true
+ok
+ok
+bit 130
+bit 64
+1
+none
+true
+1
+bit 3
+none
+true
+ok
+true
+ok
+true
+true
+ok
+ok
+ok
+true
+ok
+true
+ok
+true
+true
+ok
+true
+true
+true
+ok
+true
+--
+wide
+insert 3 130
+insert 3 130
+insert 3 130
+insert 3 3
+remove 3 130
+next_back 0
+complement 0 1
+remove 2 64
+disjoint 0 0
+new 1
+clear 3
+insert 3 130
+insert 3 64
+clear 1
+insert 1 64
+disjoint 3 1
+equal 3 1
+subset 1 3
+clear 3
+insert 3 64
+insert 3 3
+insert 3 130
+clear 2
+==
+true
+false
+false
+true
+true
+none
+ok
+false
+false
+ok
+ok
+true
+true
+ok
+true
+false
+false
+true
+ok
+true
+true
+true
+ok
+";
