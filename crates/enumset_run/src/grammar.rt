@@ -18,8 +18,8 @@ use tokens::Tokens;
 
 /// The commands that the lines of an input write, or the fault of the first line that is no command.
 ///
-/// Memory is needed for the commands alone. Where it is refused, the rest of the lines is still read: the only
-/// error of an input whose lines are all commands is want of memory, and no other input has that error.
+/// Memory is needed for the commands alone. Where it is refused the rest of the lines is still read, so that want
+/// of memory is the error of no input that has a line which is no command.
 #[tactic(auto, using(crate::proofs::Commands::command_steps))]
 pub fn read_commands(alloc: Global, input: &[u8]) -> Result<Vec<Command>, TextFault>
     ensures commands { IfOk result (λ commands. lines input.now ≡ Ok commands.items) }

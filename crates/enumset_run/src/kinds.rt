@@ -29,7 +29,8 @@ pub fn worked(name: &str) -> Option<Worked>
 /// The errors are those of [`serve_text`].
 pub fn serve_worked(alloc: Global, kind: Worked, input: &[u8]) -> Result<Vec<u8>, TextFault>
     ensures answer { IfOk result (λ out. answer_to (valid_bits_of kind) input.now ≡ Ok out.items) }
-    ensures fault { IfErr result (λ fault. IsFaultOf (answer_to (valid_bits_of kind) input.now) fault) }
+    ensures fault { IfErr result (λ fault.
+        IsFaultOf (answer_to (valid_bits_of kind) input.now) fault) }
 {
     match kind {
         Worked::Letters => serve_text::<Letters>(alloc, input),

@@ -84,13 +84,13 @@ pub(crate) fn answer_input<R: Read + Drop, W: Write>(
     // they may have.
     ensures answer { OnOk result (IfSome (R.remaining reader) (λ input.
         IsOkAnd (answer_to (valid_bits_of kind) input)
-            (Appends (W.contents writer.old) (W.contents writer.new)))) }
+        (Appends (W.contents writer.old) (W.contents writer.new)))) }
     ensures fault { IfErr result (λ fault. IfSome (R.remaining reader) (λ input.
         IsFaultOver (answer_to (valid_bits_of kind) input) fault)) }
     // Where writing fails, a front part of the answer was written, and before any other fault nothing.
     ensures begun { result ≡ Err ProgramFault.Writing → IfSome (R.remaining reader) (λ input.
         IsOkAnd (answer_to (valid_bits_of kind) input)
-            (AppendsFrontOf (W.contents writer.old) (W.contents writer.new))) }
+        (AppendsFrontOf (W.contents writer.old) (W.contents writer.new))) }
     ensures untouched { IfErr result (λ fault.
         fault ≢ ProgramFault.Writing → writer.new ≡ writer.old) }
 {

@@ -18,7 +18,7 @@ pub fn run<T: EnumSetType>(alloc: Global, commands: &[Command]) -> Result<Vec<Re
     run_over_room::<T>(alloc, commands, Vec::with_capacity(alloc, commands.len())?)
 }
 
-/// The same in an empty vector that has room for the replies: then each run has its replies, since no step takes
+/// The same in an empty vector that has room for the replies. Then each run has replies, since no step takes
 /// memory.
 fn run_over_room<T: EnumSetType>(
     alloc: Global,

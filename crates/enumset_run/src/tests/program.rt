@@ -90,7 +90,12 @@ fn outcome_of(
         fails_at_end: failing == "reading",
         is_interrupted: false,
     };
-    outcome(alloc, arguments, input, failing.parse().unwrap_or(usize::MAX))
+    outcome(
+        alloc,
+        arguments,
+        input,
+        failing.parse().unwrap_or(usize::MAX),
+    )
 }
 
 #[test]
@@ -157,7 +162,13 @@ fn known_bytes_are_answered(rt: HostRuntime) -> Result<(), Fail> {
     let alloc = rt.alloc();
     let room = Vec::with_capacity(alloc, INPUT_LIMIT + 1)?;
     let mut output = Vec::new(alloc);
-    let answered = answer_input(alloc, Worked::Wide, room, b"all 0\nlen 0".as_slice(), &mut output);
+    let answered = answer_input(
+        alloc,
+        Worked::Wide,
+        room,
+        b"all 0\nlen 0".as_slice(),
+        &mut output,
+    );
     assert!(rt; answered.is_ok() && output.as_slice() == b"ok\n3\n".as_slice());
     Ok(())
 }

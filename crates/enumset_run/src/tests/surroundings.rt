@@ -132,8 +132,8 @@ impl Print for Surroundings<'_> {
     }
 }
 
-/// What the program writes over these arguments, this input and an output that holds at most so many bytes; and, if
-/// it fails, an exclamation mark, and the status and the text of the fault in a line.
+/// What the program writes over these arguments, this input and an output that holds at most so many bytes. If it
+/// fails, an exclamation mark and the status and the text of the fault in a line come after that.
 pub(super) fn outcome(
     alloc: Global,
     arguments: &str,

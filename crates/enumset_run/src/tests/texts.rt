@@ -56,7 +56,7 @@ K2 not a bit
 1 reading failed
 1 writing failed
 "
-            .as_slice()
+                .as_slice()
     );
     Ok(())
 }

@@ -37,8 +37,8 @@ loop-preserved g c =
             room = rw w.input-is (omega (arith, w.extend_from_slice.ensures.capacity, c.loop.invariant.room));
           }
       | in-Err w ↦ record {
-          bytes = rw w.input-is (Consumes-kept allowed before after c.loop.input.items c.loop.invariant.bytes w.in-Err.ensures.bytes);
-          within = rw (w.input-is, w.in-Err.ensures.err) c.loop.invariant.within;
-          room = rw w.input-is c.loop.invariant.room;
-        }
+        bytes = rw w.input-is (Consumes-kept allowed before after c.loop.input.items c.loop.invariant.bytes w.in-Err.ensures.bytes);
+        within = rw (w.input-is, w.in-Err.ensures.err) c.loop.invariant.within;
+        room = rw w.input-is c.loop.invariant.room;
+      }
     ]

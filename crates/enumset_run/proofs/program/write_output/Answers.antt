@@ -22,7 +22,7 @@ loop-preserved g c =
             more = rw w.count-is (omega (arith, bound, length-drop n out, c.loop.invariant.more, w.if-count-more.false));
           }
       | in-Err w ↦ record {
-          written = rw w.count-is (Appends-kept old before after (take n out) c.loop.invariant.written w.in-Err.ensures.bytes);
-          more = rw w.count-is c.loop.invariant.more;
-        }
+        written = rw w.count-is (Appends-kept old before after (take n out) c.loop.invariant.written w.in-Err.ensures.bytes);
+        more = rw w.count-is c.loop.invariant.more;
+      }
     ]
