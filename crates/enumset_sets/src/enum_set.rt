@@ -121,6 +121,7 @@ fn bit_of_value<T: EnumSetType>(value: T) -> u32
     value.enum_into_u32()
 }
 
+#[tactic(auto, using(enumset_repr::specs::Laws::Members::subsets))]
 impl<T: EnumSetType> EnumSet<T> {
     // The set that a store value means.
     fn of_repr(repr: T::Repr) -> EnumSet<T>

@@ -1,9 +1,0 @@
-use Rattle.std.specs.Prelude.{refl}
-use Rattle.enumset_repr.specs.Laws.Members.{is_subset-itself}
-use Rattle.enumset_sets.proofs.enum_set.EnumSet+T.all.Goals as goal
-
-pub of_repr-requires : goal.of_repr-requires
-of_repr-requires g c = rw c.ALL_BITS.ensures (is_subset-itself _)
-
-pub returns : goal.returns
-returns g c = rw (c.of_repr.ensures, c.ALL_BITS.ensures) refl
