@@ -2,6 +2,7 @@
 
 mod element_types;
 mod program;
+mod proving;
 mod runs;
 mod surroundings;
 mod text_forms;

@@ -43,46 +43,55 @@ fn answers<T: EnumSetType>(a: T, b: T) -> bool {
 
 #[test]
 fn each_call_answers(rt: HostRuntime) {
-    assert!(rt; EnumSet::<Letters>::bit_width() == 7);
-    assert!(rt; EnumSet::<Letters>::variant_count() == 7);
-    assert!(rt; EnumSet::bit_index(Letters::D) == 3);
+    let numbers = [
+        EnumSet::<Letters>::bit_width(),
+        EnumSet::<Letters>::variant_count(),
+        EnumSet::<Sparse>::bit_width(),
+        EnumSet::<Sparse>::variant_count(),
+        EnumSet::<Wide>::bit_width(),
+        EnumSet::<Wide>::variant_count(),
+    ];
+    assert!(rt; numbers == [7, 7, 128, 4, 131, 3]);
+    let valid = [
+        EnumSet::<Sparse>::is_bit_valid(127),
+        EnumSet::<Sparse>::is_bit_valid(128),
+        EnumSet::<Sparse>::is_bit_valid(4294967295),
+    ];
+    assert!(rt; valid == [true, false, false]);
     assert!(rt; answers(Letters::A, Letters::G));
-    assert!(rt; EnumSet::<Sparse>::bit_width() == 128);
-    assert!(rt; EnumSet::<Sparse>::variant_count() == 4);
-    assert!(rt; EnumSet::bit_index(Sparse::D) == 127);
-    assert!(rt; EnumSet::<Sparse>::is_bit_valid(127));
-    assert!(rt; !EnumSet::<Sparse>::is_bit_valid(128));
-    assert!(rt; !EnumSet::<Sparse>::is_bit_valid(4294967295));
     assert!(rt; answers(Sparse::B, Sparse::D));
-    assert!(rt; EnumSet::<Wide>::bit_width() == 131);
-    assert!(rt; EnumSet::<Wide>::variant_count() == 3);
-    assert!(rt; EnumSet::bit_index(Wide::Q) == 64);
     assert!(rt; answers(Wide::P, Wide::R));
 }
 
-// A line of the elements' texts and that of their set.
+// A line of each element's bit and its texts, along the bits, and the text of their set.
 fn write_texts<T: EnumSetType + fmt::Display + fmt::Debug>(
     text: &mut String,
-    a: T,
-    b: T,
 ) -> Result<(), AllocError> {
-    writeln!(text, "{a} {b:?} {:?}", two_of(a, b))
+    for element in EnumSet::<T>::all().iter() {
+        write!(
+            text,
+            "{} {element} {element:?}, ",
+            EnumSet::bit_index(element)
+        )?;
+    }
+    writeln!(text, "{:?}", EnumSet::<T>::all())
 }
 
 #[test]
 fn texts_name_the_elements(rt: HostRuntime) -> Result<(), Fail> {
     let mut text = String::new(rt.alloc());
-    write_texts(&mut text, Letters::C, Letters::A)?;
-    write_texts(&mut text, Sparse::D, Sparse::B)?;
-    write_texts(&mut text, Wide::P, Wide::R)?;
-    writeln!(text, "{:?}", EnumSet::<Letters>::new())?;
+    write_texts::<Letters>(&mut text)?;
+    write_texts::<Sparse>(&mut text)?;
+    write_texts::<Wide>(&mut text)?;
+    let (none, one) = (EnumSet::<Letters>::new(), EnumSet::only(Letters::C));
+    writeln!(text, "{none:?} {one:?} {:?}", one.iter())?;
     assert!(rt;
         text.as_str()
             == "\
-C A EnumSet(A | C)
-D B EnumSet(B | D)
-P R EnumSet(P | R)
-EnumSet()
+0 A A, 1 B B, 2 C C, 3 D D, 4 E E, 5 F F, 6 G G, EnumSet(A | B | C | D | E | F | G)
+10 A A, 20 B B, 30 C C, 127 D D, EnumSet(A | B | C | D)
+3 P P, 64 Q Q, 130 R R, EnumSet(P | Q | R)
+EnumSet() EnumSet(C) EnumSetIter { iter: PrimitiveIter(4) }
 "
     );
     Ok(())
