@@ -125,7 +125,7 @@ derived_eq-same D v w = of_one-same D.parts (tag_of D v) (tag_of D w) (tag_below
 -- What an element type may get wrong. Nothing is of these types: where one is asked for, its name says what to mend.
 pub data BitCountShouldBe (variants : ℕ) : Type 0 where
 
-pub data NamesABitTwice (bs : List ℕ) : Type 0 where
+pub data NamesABitTwice : Type 0 where
 
 pub data BitWidthShouldBe (width : ℕ) : Type 0 where
 
@@ -142,7 +142,7 @@ or_else false fault next = fault
 abbrev pub IsLawful : (D : Declared) → List ℕ → ℕ → ℕ → Type 0
 IsLawful D bs width count =
     or_else (length bs == length (rowss D.parts)) (BitCountShouldBe (length (rowss D.parts)))
-    (or_else (is_distinct bs) (NamesABitTwice bs)
+    (or_else (is_distinct bs) NamesABitTwice
     (or_else (one_past_all bs == width) (BitWidthShouldBe (one_past_all bs))
     (or_else (length bs == count) (VariantCountShouldBe (length bs)) (Bare D.parts))))
 
