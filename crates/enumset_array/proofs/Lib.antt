@@ -1,5 +1,6 @@
 pub mod Counts
-pub mod Ends
+pub mod Covers
+pub mod Walks
 pub mod Wordwise
 pub mod Places
 pub mod Progress

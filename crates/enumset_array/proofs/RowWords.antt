@@ -12,7 +12,8 @@ use Rattle.enumset_repr.specs.Number.{bits}
 use Rattle.enumset_repr.specs.Laws.Rising.{empty_of_rising, len-below}
 use Rattle.enumset_repr.specs.Laws.Numbers.{bits_empty, bits-within}
 use Rattle.enumset_array.specs.Stored.{in_use, used}
-use Rattle.enumset_array.specs.WordList.{AreWords}
+use Rattle.enumset_array.specs.declared.array_repr.TheConstants.{WORD_LIMIT}
+use Rattle.enumset_array.specs.Views.{AreWords}
 use Rattle.enumset_array.proofs.Taken.{IsTaken, taken_first, taken_last}
 use Rattle.enumset_array.proofs.WordLists.{taken_fit}
 
@@ -26,7 +27,7 @@ no_bits x none = bits_empty x (empty_of_rising (bits x) none)
 pub few : (x : ℕ) → x < 2 ^ 64 → len (bits x) ≤ 64
 few x small = len-below (bits x) 64 (bits-within x 64 small)
 
-used_limit : (n : ℕ) (ws : List ℕ) → length (used n ws) ≤ 67108863
+used_limit : (n : ℕ) (ws : List ℕ) → length (used n ws) < WORD_LIMIT
 used_limit n ws = omega (arith, length-take (in_use n) ws)
 
 -- ---- one word replaced

@@ -1,22 +1,16 @@
--- The laws of the set of a list of words, and what it is after a bit was taken out of a word.
+-- The set of a list of words once a bit was taken out of a word.
 use Rattle.std.proofs.Common.{◌≡◌, ◌<◌, ◌≤◌, ◌≢◌, ℕ, ◌+◌, ◌*◌, ◌^◌, true, false, ◌&&◌, ◌||◌, List, [], ◌∷◌, ◌++◌, length, set, refl, sym, ap, ◌∙◌, subst, arith, lit<}
 use Rattle.std.proofs.lemmas.List.{get_or-set_other}
 use Rattle.std.specs.Prelude.{◌==◌, nat_lt, slice_index}
 use Rattle.std.proofs.lemmas.Bool.Decides.{nat_tests}
-use Rattle.enumset_repr.specs.BitSet.{contains, rising, remove, empty}
+use Rattle.enumset_repr.specs.BitSet.{contains, rising, remove}
 use Rattle.enumset_repr.specs.Number.{bits}
-use Rattle.enumset_repr.specs.Laws.Members.{same_set, contains-empty}
 use Rattle.enumset_repr.specs.Laws.Rising.{rising-first, rising-last, rising-empty}
 use Rattle.enumset_array.specs.Cursors.{Reach, Covers}
 use Rattle.enumset_array.specs.WordList.{bits_of}
 use Rattle.enumset_array.specs.Laws.WordSets.{contains-bits_of, by_word, contains-zero, same_place}
+use Rattle.enumset_array.specs.Laws.WordsOf.{bits_of-zeros}
 use Rattle.enumset_array.proofs.Taken.{IsTaken, rest_of_taken, was_there, taken_first, first_is_least, taken_last, last_is_greatest, taken_small, taken_below}
-
--- words that are all empty
-pub rising-no_words : (ws : List ℕ) → ((i : ℕ) → slice_index ws i < 2 ^ 64) → ((i : ℕ) → slice_index ws i ≡ 0) → rising (bits_of ws) ≡ []
-rising-no_words ws fit none =
-    ap rising (same_set (bits_of ws) empty (λ q. by_word (λ p. contains (bits_of ws) p ≡ false) (λ w r small. contains-bits_of ws w r fit small ∙ contains-zero _ r (none w)) q ∙ sym (contains-empty q)))
-    ∙ rising-empty
 
 -- ---- a bit taken out of the word at i
 
@@ -104,4 +98,4 @@ none_left ws c covers met =
       | true ↦ λ e. covers.before i (grind (arith, nat_tests, e))
       | false ↦ λ e. let from : c.front ≤ i = grind (arith, nat_tests, e) in covers.past i (omega arith)
     ] refl in
-    rising-no_words ws (λ i. subst (λ n. n < 2 ^ 64) (sym (none i)) (lit< tt)) none
+    ap rising (bits_of-zeros ws (λ i. subst (λ n. n < 2 ^ 64) (sym (none i)) (lit< tt)) none) ∙ rising-empty

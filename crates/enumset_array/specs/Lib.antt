@@ -1,7 +1,7 @@
-pub mod Counted
 pub mod Cursors
-pub mod Ends
 pub mod Laws
-pub mod Steps
+pub mod OneStep
 pub mod Stored
+pub mod Views
+pub mod Walks
 pub mod WordList

@@ -1,9 +1,10 @@
 //! The iterator over many words.
 
-ghost use Rattle.std.specs.Prelude.{◌≡◌, ◌+◌, length, is_some, if◌then◌else◌, IfNone, IfSome, None, Some, ⊤};
+ghost use Rattle.std.specs.Prelude.{◌≡◌, length, IfSome, Some, ⊤};
 ghost use Rattle.std.specs.Iterator.{YieldsFirst, YieldsLast, item_count, at_most, UpTo, MakesProgress};
 ghost use Rattle.std.specs.Iterator.SizeHint.{IsWithinCount};
 ghost use Rattle.enumset_repr.specs.BitSet.{rising};
+ghost use Rattle.enumset_array.specs.OneStep.{CountsAsks};
 ghost use Rattle.enumset_array.specs.Stored.{in_use, set_of};
 
 use crate::array_repr::ArrayRepr;
@@ -24,11 +25,11 @@ pub struct ArrayIter<const N: usize> {
 }
 
 impl<const N: usize> Model for ArrayIter<N> {
-    ghost use Rattle.enumset_array.specs.Steps.{Steps};
+    ghost use Rattle.enumset_array.specs.Views.{IterView};
     ghost use Rattle.enumset_array.specs.Cursors.{span, Covers};
     ghost use Rattle.enumset_array.specs.WordList.{items_of};
 
-    ghost Value = { Steps };
+    ghost Value = { IterView };
 
     ghost view = { λ i. record { items = items_of i.row.words; asks = i.row.asks; span = span i.cursors } };
 
@@ -58,10 +59,10 @@ impl<const N: usize> ArrayIter<N> {
     }
 
     /// How many items are left. It is no step.
-    pub(crate) fn left(&self) -> usize
+    pub(crate) fn items_left(&self) -> usize
         ensures { result ≡ length self.now.items }
     {
-        self.row.left()
+        self.row.bits_left()
     }
 }
 
@@ -77,9 +78,7 @@ impl<const N: usize> Iterator for ArrayIter<N> {
     fn next(&mut self) -> Option<u32>
         ensures steps { YieldsFirst (λ i. i.items) self.old result self.new }
         ensures goes { MakesProgress (λ _. ⊤) (item_count (λ i. i.items)) self.old result self.new }
-        ensures asks { self.new.asks + self.new.span ≡ self.old.asks + self.old.span + (if is_some result then 1 else 0) }
-        ensures none { IfNone result (self.new.span ≡ 0) }
-        ensures equal { self.old.span ≡ 0 → (result ≡ None) × (self.new.asks ≡ self.old.asks) }
+        ensures asks { CountsAsks self.old.asks self.old.span result self.new.asks self.new.span }
     {
         step_front(&mut self.row, &mut self.cursors)
     }
@@ -90,7 +89,7 @@ impl<const N: usize> Iterator for ArrayIter<N> {
         ensures lower { IsWithinCount result.0 (at_most (length self.now.items)) }
         ensures upper { IfSome result.1 (UpTo (at_most (length self.now.items))) }
     {
-        let left = self.left();
+        let left = self.items_left();
         (left, Some(left))
     }
 }
@@ -103,9 +102,7 @@ impl<const N: usize> DoubleEndedIterator for ArrayIter<N> {
     fn next_back(&mut self) -> Option<u32>
         ensures steps { YieldsLast (λ i. i.items) self.old result self.new }
         ensures goes { MakesProgress (λ _. ⊤) (item_count (λ i. i.items)) self.old result self.new }
-        ensures asks { self.new.asks + self.new.span ≡ self.old.asks + self.old.span + (if is_some result then 1 else 0) }
-        ensures none { IfNone result (self.new.span ≡ 0) }
-        ensures equal { self.old.span ≡ 0 → (result ≡ None) × (self.new.asks ≡ self.old.asks) }
+        ensures asks { CountsAsks self.old.asks self.old.span result self.new.asks self.new.span }
     {
         step_back(&mut self.row, &mut self.cursors)
     }

@@ -1,10 +1,11 @@
 //! The store of many words.
 
-ghost use Rattle.std.specs.Prelude.{◌≡◌, ◌≤◌, ◌*◌, ◌==◌, length, replicate, sum_by, refl};
+ghost use Rattle.std.specs.Prelude.{◌≡◌, ◌<◌, ◌*◌, ◌==◌, length, replicate, sum_by, refl};
 ghost use Rattle.std.specs.List.{list_all};
 ghost use Rattle.enumset_repr.specs.BitSet.{rising, len};
 ghost use Rattle.enumset_repr.specs.Number.{bits};
-ghost use Rattle.enumset_array.specs.Stored.{in_use, set_of, words as words_of_set, IsStore};
+ghost use Rattle.enumset_array.specs.Stored.{in_use, set_of, IsStore};
+ghost use Rattle.enumset_array.specs.WordList.{words as words_of_set};
 ghost use Rattle.enumset_array.specs.Laws.Stored.{set_of_none, within, inverse, width_words, equal};
 
 use crate::array_iter::ArrayIter;
@@ -108,7 +109,7 @@ impl<const N: usize> EnumSetTypeRepr for ArrayRepr<N> {
     }
 
     fn items_left(iter: &ArrayIter<N>) -> usize {
-        iter.left()
+        iter.items_left()
     }
 
     fn same_iter(iter: &ArrayIter<N>) -> ArrayIter<N>
@@ -174,7 +175,7 @@ fn are_empty(words: &[u64]) -> bool
 
 // How many bits are set in words.
 fn ones_of(words: &[u64]) -> u32
-    requires { length words.now ≤ 67108863 }
+    requires { length words.now < WORD_LIMIT }
     ensures { result ≡ sum_by (λ w. len (bits w)) words.now }
 {
     let mut ones = 0;

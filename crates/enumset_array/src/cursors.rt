@@ -1,10 +1,10 @@
 //! Two cursors over the words of a row, and the steps that they take.
 
-ghost use Rattle.std.specs.Prelude.{◌≡◌, ◌+◌, length, is_some, if◌then◌else◌, IfSome, IfNone, None};
+ghost use Rattle.std.specs.Prelude.{◌≡◌};
 ghost use Rattle.std.specs.Iterator.{YieldsFirst, YieldsLast};
-ghost use Rattle.enumset_repr.specs.BitSet.{remove};
 ghost use Rattle.enumset_array.specs.Cursors.{span, Covers};
-ghost use Rattle.enumset_array.specs.WordList.{bits_of, items_of};
+ghost use Rattle.enumset_array.specs.OneStep.{TakesOut, CountsAsks, MovesFront, MovesBack};
+ghost use Rattle.enumset_array.specs.WordList.{items_of};
 
 use crate::row::Row;
 use std::marker::Model;
@@ -48,12 +48,11 @@ impl Cursors {
 pub fn step_front<R: Row>(row: &mut R, cursors: &mut Cursors) -> Option<u32>
     requires { Covers (R.words row.old) cursors.old }
     ensures item { YieldsFirst items_of (R.words row.old) result (R.words row.new) }
-    ensures set { IfSome result (λ b. bits_of (R.words row.new) ≡ remove (bits_of (R.words row.old)) b) }
-    ensures asks { R.asks row.new + span cursors.new ≡ R.asks row.old + span cursors.old + (if is_some result then 1 else 0) }
+    ensures words { TakesOut (R.words row.old) result (R.words row.new) }
+    ensures asks { CountsAsks (R.asks row.old) (span cursors.old) result
+        (R.asks row.new) (span cursors.new) }
+    ensures moves { MovesFront cursors.old cursors.new }
     ensures covers { Covers (R.words row.new) cursors.new }
-    ensures len { length (R.words row.new) ≡ length (R.words row.old) }
-    ensures none { IfNone result (cursors.new.front ≡ cursors.new.back) }
-    ensures equal { cursors.old.front ≡ cursors.old.back → (result ≡ None) × (R.asks row.new ≡ R.asks row.old) }
 {
     while cursors.front < cursors.back {
         let front = cursors.front;
@@ -74,12 +73,11 @@ pub fn step_front<R: Row>(row: &mut R, cursors: &mut Cursors) -> Option<u32>
 pub fn step_back<R: Row>(row: &mut R, cursors: &mut Cursors) -> Option<u32>
     requires { Covers (R.words row.old) cursors.old }
     ensures item { YieldsLast items_of (R.words row.old) result (R.words row.new) }
-    ensures set { IfSome result (λ b. bits_of (R.words row.new) ≡ remove (bits_of (R.words row.old)) b) }
-    ensures asks { R.asks row.new + span cursors.new ≡ R.asks row.old + span cursors.old + (if is_some result then 1 else 0) }
+    ensures words { TakesOut (R.words row.old) result (R.words row.new) }
+    ensures asks { CountsAsks (R.asks row.old) (span cursors.old) result
+        (R.asks row.new) (span cursors.new) }
+    ensures moves { MovesBack cursors.old cursors.new }
     ensures covers { Covers (R.words row.new) cursors.new }
-    ensures len { length (R.words row.new) ≡ length (R.words row.old) }
-    ensures none { IfNone result (cursors.new.front ≡ cursors.new.back) }
-    ensures equal { cursors.old.front ≡ cursors.old.back → (result ≡ None) × (R.asks row.new ≡ R.asks row.old) }
 {
     while cursors.front < cursors.back {
         let last = cursors.back - 1;

@@ -3,9 +3,9 @@
 ghost use Rattle.std.specs.Prelude.{◌≡◌, ℕ, ◌+◌, ◌<◌, List, ◌∷◌, [], ◌++◌, length, slice_index, slice_set, IfSome, IfNone};
 ghost use Rattle.enumset_repr.specs.BitSet.{rising};
 ghost use Rattle.enumset_repr.specs.Number.{bits};
-ghost use Rattle.enumset_array.specs.WordList.{AreWords};
+ghost use Rattle.enumset_array.specs.Views.{AreWords};
 
-/// A list of at most 67108863 words of 64 bits, and a count of asks.
+/// A list of fewer than 67108864 words of 64 bits, and a count of asks.
 ///
 /// An ask is one call of [`ask_front`](Row::ask_front) or [`ask_back`](Row::ask_back). A row shows its
 /// words by nothing else, so the count says how often code over a row has looked. Rust's `enumset` has
@@ -28,8 +28,11 @@ pub trait Row {
     fn ask_front(&mut self, i: usize) -> Option<u32>
         requires { i < length (words self.old) }
         ensures counted { asks self.new ≡ asks self.old + 1 }
-        ensures empty { IfNone result ((slice_index (words self.old) i ≡ 0) × (words self.new ≡ words self.old)) }
-        ensures taken { IfSome result (λ b. rising (bits (slice_index (words self.old) i)) ≡ b ∷ rising (bits (slice_index (words self.new) i))) }
+        ensures empty { IfNone result
+            ((slice_index (words self.old) i ≡ 0) × (words self.new ≡ words self.old)) }
+        ensures taken { IfSome result (λ b.
+            rising (bits (slice_index (words self.old) i))
+            ≡ b ∷ rising (bits (slice_index (words self.new) i))) }
         ensures others { words self.new ≡ slice_set (words self.old) i (slice_index (words self.new) i) }
         ensures are_words { AreWords (words self.old) };
 
@@ -39,8 +42,11 @@ pub trait Row {
     fn ask_back(&mut self, i: usize) -> Option<u32>
         requires { i < length (words self.old) }
         ensures counted { asks self.new ≡ asks self.old + 1 }
-        ensures empty { IfNone result ((slice_index (words self.old) i ≡ 0) × (words self.new ≡ words self.old)) }
-        ensures taken { IfSome result (λ b. rising (bits (slice_index (words self.old) i)) ≡ rising (bits (slice_index (words self.new) i)) ++ b ∷ []) }
+        ensures empty { IfNone result
+            ((slice_index (words self.old) i ≡ 0) × (words self.new ≡ words self.old)) }
+        ensures taken { IfSome result (λ b.
+            rising (bits (slice_index (words self.old) i))
+            ≡ rising (bits (slice_index (words self.new) i)) ++ b ∷ []) }
         ensures others { words self.new ≡ slice_set (words self.old) i (slice_index (words self.new) i) }
         ensures are_words { AreWords (words self.old) };
 }

@@ -2,7 +2,8 @@
 
 ghost use Rattle.std.specs.Prelude.{◌≡◌, length, map};
 ghost use Rattle.enumset_array.specs.Stored.{used};
-ghost use Rattle.enumset_array.specs.WordList.{AreWords, items_of};
+ghost use Rattle.enumset_array.specs.Views.{AreWords};
+ghost use Rattle.enumset_array.specs.WordList.{items_of};
 
 use crate::array_repr::{ArrayRepr, WORD_LIMIT};
 use crate::asks::Asks;
@@ -19,11 +20,10 @@ pub(crate) struct Words<const N: usize> {
 
 impl<const N: usize> Model for Words<N> {
     ghost use Rattle.std.specs.Prelude.{map};
-    ghost use Rattle.enumset_array.specs.Counted.{Counted};
+    ghost use Rattle.enumset_array.specs.Views.{RowView, AreWords};
     ghost use Rattle.enumset_array.specs.Stored.{used};
-    ghost use Rattle.enumset_array.specs.WordList.{AreWords};
 
-    ghost Value = { Counted };
+    ghost Value = { RowView };
 
     ghost view = { λ r. record { words = used N (map (λ i. i.0) r.words); asks = r.asks } };
 
@@ -57,7 +57,7 @@ impl<const N: usize> Words<N> {
     }
 
     /// How many bits are left. It is no ask.
-    pub(crate) fn left(&self) -> usize
+    pub(crate) fn bits_left(&self) -> usize
         ensures { result ≡ length (items_of self.now.words) }
     {
         bits_in(&self.words[..N % WORD_LIMIT])
@@ -85,7 +85,7 @@ impl<const N: usize> Row for Words<N> {
     }
 }
 
-// How many bits there are in words.
+// How many bits are left in words.
 fn bits_in(words: &[PrimitiveIter<u64>]) -> usize
     requires { AreWords (map (λ w. w.0) words.now) }
     ensures { result ≡ length (items_of (map (λ w. w.0) words.now)) }

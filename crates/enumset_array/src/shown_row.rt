@@ -20,9 +20,9 @@ pub struct ShownRow<const N: usize> {
 
 impl<const N: usize> Model for ShownRow<N> {
     ghost use Rattle.std.specs.Prelude.{◌≡◌, ◌-◌, ◌^◌, min};
-    ghost use Rattle.enumset_array.specs.Counted.{Counted};
+    ghost use Rattle.enumset_array.specs.Views.{RowView};
 
-    ghost Value = { Counted };
+    ghost Value = { RowView };
 
     ghost view = { λ r. r.row };
 

@@ -1,9 +1,10 @@
 //! Many steps of one pair of cursors, from whichever end.
 
-ghost use Rattle.std.specs.Prelude.{◌≡◌, ◌+◌, ◌≤◌, Contains, MatchOption, length, is_some, if◌then◌else◌, IfOk, IfErr, IfNone, None};
-ghost use Rattle.enumset_repr.specs.BitSet.{remove, difference, from_list};
+ghost use Rattle.std.specs.Prelude.{◌≡◌, ◌+◌, ◌≤◌, Contains, length, IfOk, IfErr, None};
+ghost use Rattle.enumset_repr.specs.BitSet.{difference, from_list};
 ghost use Rattle.enumset_array.specs.Cursors.{span, Covers};
-ghost use Rattle.enumset_array.specs.Ends.{answer, after, answers, left, given};
+ghost use Rattle.enumset_array.specs.OneStep.{TakesOut, CountsAsks};
+ghost use Rattle.enumset_array.specs.Walks.{answer, without_answer, answers, without_answers, given};
 ghost use Rattle.enumset_array.specs.WordList.{bits_of, items_of};
 
 use crate::cursors::{Cursors, step_back, step_front};
@@ -23,13 +24,11 @@ pub enum End {
 fn step<R: Row>(row: &mut R, cursors: &mut Cursors, end: End) -> Option<u32>
     requires { Covers (R.words row.old) cursors.old }
     ensures item { result ≡ answer end (items_of (R.words row.old)) }
-    ensures left { items_of (R.words row.new) ≡ after end (items_of (R.words row.old)) }
-    ensures set { MatchOption result (bits_of (R.words row.new) ≡ bits_of (R.words row.old)) (λ b. bits_of (R.words row.new) ≡ remove (bits_of (R.words row.old)) b) }
-    ensures asks { R.asks row.new + span cursors.new ≡ R.asks row.old + span cursors.old + (if is_some result then 1 else 0) }
+    ensures rest { items_of (R.words row.new) ≡ without_answer end (items_of (R.words row.old)) }
+    ensures words { TakesOut (R.words row.old) result (R.words row.new) }
+    ensures asks { CountsAsks (R.asks row.old) (span cursors.old) result
+        (R.asks row.new) (span cursors.new) }
     ensures covers { Covers (R.words row.new) cursors.new }
-    ensures len { length (R.words row.new) ≡ length (R.words row.old) }
-    ensures none { IfNone result (cursors.new.front ≡ cursors.new.back) }
-    ensures equal { cursors.old.front ≡ cursors.old.back → result ≡ None }
 {
     match end {
         End::Front => step_front(row, cursors),
@@ -52,11 +51,19 @@ pub fn walk<R: Row>(
     ends: &[End],
 ) -> Result<Vec<Option<u32>>, AllocError>
     ensures answers { IfOk result (λ v. v.items ≡ answers (items_of (R.words row.old)) ends.now) }
-    ensures left { IfOk result (λ _. items_of (R.words row.new) ≡ left (items_of (R.words row.old)) ends.now) }
-    ensures set { IfOk result (λ v. bits_of (R.words row.new) ≡ difference (bits_of (R.words row.old)) (from_list (given v.items))) }
-    ensures asks { IfOk result (λ v. R.asks row.new ≤ R.asks row.old + length (given v.items) + length (R.words row.old)) }
-    ensures all_asked { IfOk result (λ v. Contains v.items None → R.asks row.new ≡ R.asks row.old + length (given v.items) + length (R.words row.old)) }
-    ensures bound { IfOk result (λ _. R.asks row.new ≤ R.asks row.old + length ends.now + length (R.words row.old)) }
+    ensures rest { IfOk result (λ _.
+        items_of (R.words row.new) ≡ without_answers (items_of (R.words row.old)) ends.now) }
+    ensures set { IfOk result (λ v.
+        bits_of (R.words row.new)
+        ≡ difference (bits_of (R.words row.old)) (from_list (given v.items))) }
+    ensures asks { IfOk result (λ v.
+        R.asks row.new ≤ R.asks row.old + length (given v.items) + length (R.words row.old)) }
+    ensures all_asked { IfOk result (λ v.
+        Contains v.items None
+        → R.asks row.new
+        ≡ R.asks row.old + length (given v.items) + length (R.words row.old)) }
+    ensures bound { IfOk result (λ _.
+        R.asks row.new ≤ R.asks row.old + length ends.now + length (R.words row.old)) }
     ensures len { length (R.words row.new) ≡ length (R.words row.old) }
     ensures unchanged { IfErr result (λ _. row.new ≡ row.old) }
 {

@@ -1,7 +1,7 @@
-use Rattle.std.proofs.Common.{◌≡◌, ◌+◌, ◌*◌, ◌<◌, [], length, sym, ap, ◌∙◌, arith}
+use Rattle.std.proofs.Common.{◌≡◌, ◌+◌, ◌*◌, ◌<◌, [], length, length-set, refl, sym, ap, ◌∙◌, arith}
 use Rattle.enumset_repr.specs.BitSet.{rising, remove}
 use Rattle.enumset_array.specs.WordList.{bits_of}
-use Rattle.enumset_array.proofs.Ends.{covers_next}
+use Rattle.enumset_array.proofs.Covers.{covers_next}
 use Rattle.enumset_array.proofs.Progress.{one_ask}
 use Rattle.enumset_array.proofs.WordLists.{step_first, step_first_set, none_left}
 use Rattle.enumset_array.proofs.cursors.step_front.Goals as goal
@@ -18,11 +18,15 @@ returns-in-Some-clause-item g c =
     ap (λ ws. rising (bits_of ws)) (sym c.loop-cursors.invariant.same)
     ∙ step_first _ _ _ _ c.in-Some.ensures.are_words.fit within c.in-Some.ensures.others c.loop-cursors.invariant.covers.before c.in-Some.ensures.taken
 
-pub returns-in-Some-clause-set : goal.returns-in-Some-clause-set
-returns-in-Some-clause-set g c =
+pub returns-in-Some-clause-words : goal.returns-in-Some-clause-words
+returns-in-Some-clause-words g c =
     let within : c.loop-cursors.cursors-inside.front < length (g.R.Row.words c.loop-cursors.row) = omega (arith, c.loop-cursors.invariant.covers.within) in
-    (step_first_set _ _ _ _ c.in-Some.ensures.are_words.fit within c.in-Some.ensures.others c.in-Some.ensures.taken).1
-    ∙ ap (λ ws. remove (bits_of ws) (64 * c.loop-cursors.cursors-inside.front + c.in-Some.bit)) c.loop-cursors.invariant.same
+    record {
+      set =
+          (step_first_set _ _ _ _ c.in-Some.ensures.are_words.fit within c.in-Some.ensures.others c.in-Some.ensures.taken).1
+          ∙ ap (λ ws. remove (bits_of ws) (64 * c.loop-cursors.cursors-inside.front + c.in-Some.bit)) c.loop-cursors.invariant.same;
+      len = ap length c.in-Some.ensures.others ∙ length-set _ _ _ ∙ ap length c.loop-cursors.invariant.same;
+    }
 
 pub returns-clause-item : goal.returns-clause-item
 returns-clause-item g c =
@@ -30,10 +34,27 @@ returns-clause-item g c =
     (ap (λ ws. rising (bits_of ws)) (sym c.loop-cursors.invariant.same) ∙ none, none)
 
 pub returns-in-Some-clause-asks : goal.returns-in-Some-clause-asks
-returns-in-Some-clause-asks g c = rw (← c.cursors.view_is) (one_ask _ _ _ _ c.in-Some.ensures.counted c.loop-cursors.invariant.asks)
+returns-in-Some-clause-asks g c = rw (← c.cursors.view_is) (record {
+  sum = one_ask _ _ _ _ c.in-Some.ensures.counted c.loop-cursors.invariant.asks;
+  met = tt;
+  stays = λ none. absurd (omega (arith, none, c.loop-cursors-test.true, c.loop-cursors.invariant.back, c.loop-cursors.invariant.from));
+})
 
-pub returns-clause-none : goal.returns-clause-none
-returns-clause-none g c = omega arith
+pub returns-in-Some-clause-moves : goal.returns-in-Some-clause-moves
+returns-in-Some-clause-moves g c = rw (← c.cursors.view_is) (record { back = c.loop-cursors.invariant.back; front = c.loop-cursors.invariant.from; within = c.loop-cursors.invariant.ordered })
+
+pub returns-clause-words : goal.returns-clause-words
+returns-clause-words g c = record { set = ap bits_of c.loop-cursors.invariant.same; len = ap length c.loop-cursors.invariant.same }
+
+pub returns-clause-asks : goal.returns-clause-asks
+returns-clause-asks g c = rw (← c.cursors.view_is) (record {
+  sum = omega (arith, c.loop-cursors.invariant.asks);
+  met = omega (arith, c.loop-cursors-test.false);
+  stays = λ met. (refl, omega (arith, met, c.loop-cursors.invariant.asks, c.loop-cursors-test.false));
+})
+
+pub returns-clause-moves : goal.returns-clause-moves
+returns-clause-moves g c = rw (← c.cursors.view_is) (record { back = c.loop-cursors.invariant.back; front = c.loop-cursors.invariant.from; within = c.loop-cursors.invariant.ordered })
 
 pub loop-cursors-preserved : goal.loop-cursors-preserved
 loop-cursors-preserved g c = record {

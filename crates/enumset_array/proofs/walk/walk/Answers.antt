@@ -1,15 +1,16 @@
 use Rattle.std.proofs.Common.{◌≡◌, ◌+◌, ◌≤◌, Contains, length, is_some, if◌then◌else◌, None, take, refl, sym, ap, ◌∙◌, subst, arith}
 use Rattle.std.proofs.lemmas.Grind.{common_steps}
 use Rattle.enumset_repr.specs.BitSet.{difference, from_list}
-use Rattle.enumset_array.specs.Ends.{given}
+use Rattle.enumset_array.specs.Walks.{given}
 use Rattle.enumset_array.specs.WordList.{bits_of}
-use Rattle.enumset_array.proofs.Ends.{length-given, length-given-push, length-answers, difference-none, difference-step, none-push, no_answers, none_left_out, none_given, none_in_no_answers, covers_all, answers_next, left_next}
+use Rattle.enumset_array.proofs.Covers.{covers_all}
+use Rattle.enumset_array.proofs.Walks.{length-given, length-given-push, length-answers, difference-none, difference-step, none-push, no_answers, all_left, none_given, none_in_no_answers, answers_next, rest_next}
 use Rattle.enumset_array.proofs.walk.walk.Goals as goal
 
 pub loop-end-init : goal.loop-end-init
 loop-end-init g c = record {
   items = c.in_ok-answers.ensures.items ∙ sym (no_answers _);
-  rest = sym (none_left_out _);
+  rest = sym (all_left _);
   set = difference-none _ ∙ ap (λ rs. difference (bits_of (g.R.Row.words c.args.row.now)) (from_list (given rs))) (sym c.in_ok-answers.ensures.items);
   asks = let e : length (given c.in_ok-answers.answers.items) ≡ 0 = ap (λ rs. length (given rs)) c.in_ok-answers.ensures.items ∙ none_given in
       rw c.over-cursors.ensures (omega arith);
@@ -23,15 +24,15 @@ loop-end-init g c = record {
 pub loop-end-preserved : goal.loop-end-preserved
 loop-end-preserved g c = record {
   items = answers_next _ _ _ _ _ _ _ c.loop-end-test.true c.loop-end.invariant.items c.loop-end.invariant.rest c.step.ensures.item c.in_ok-push.ensures.items;
-  rest = left_next _ _ _ _ _ c.loop-end-test.true c.loop-end.invariant.rest c.step.ensures.left;
-  set = difference-step _ _ _ _ _ c.loop-end.invariant.set c.step.ensures.set ∙ ap (λ rs. difference (bits_of (g.R.Row.words c.args.row.now)) (from_list (given rs))) (sym c.in_ok-push.ensures.items);
+  rest = rest_next _ _ _ _ _ c.loop-end-test.true c.loop-end.invariant.rest c.step.ensures.rest;
+  set = difference-step _ _ _ _ _ c.loop-end.invariant.set c.step.ensures.words.set ∙ ap (λ rs. difference (bits_of (g.R.Row.words c.args.row.now)) (from_list (given rs))) (sym c.in_ok-push.ensures.items);
   asks = let e : length (given c.push.new.self.items) ≡ length (given c.loop-end.answers.items) + (if is_some c.step.result then 1 else 0) = ap (λ rs. length (given rs)) c.in_ok-push.ensures.items ∙ length-given-push _ _ in
-      omega (arith, c.step.ensures.asks, c.loop-end.invariant.asks);
-  met = λ has. none-push _ _ _ _ c.loop-end.invariant.met c.step.ensures.equal c.step.ensures.none (subst (λ rs. Contains rs None) c.in_ok-push.ensures.items has);
+      omega (arith, c.step.ensures.asks.sum, c.loop-end.invariant.asks);
+  met = λ has. none-push _ _ _ _ c.loop-end.invariant.met (λ met. (c.step.ensures.asks.stays met).0) c.step.ensures.asks.met (subst (λ rs. Contains rs None) c.in_ok-push.ensures.items has);
   covers = c.step.ensures.covers;
   count = omega (arith, c.in_ok-push.ensures.len, c.loop-end.invariant.count);
   room = omega (arith, c.in_ok-push.ensures.capacity, c.loop-end.invariant.room);
-  same = c.step.ensures.len ∙ c.loop-end.invariant.same;
+  same = c.step.ensures.words.len ∙ c.loop-end.invariant.same;
 }
 
 pub returns-clause-bound : goal.returns-clause-bound

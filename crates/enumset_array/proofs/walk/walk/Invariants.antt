@@ -1,7 +1,7 @@
 use Rattle.std.proofs.Common.{◌≡◌, ◌+◌, ◌≤◌, Contains, length, None, take, vec_len, vec_capacity}
 use Rattle.enumset_repr.specs.BitSet.{rising, difference, from_list}
 use Rattle.enumset_array.specs.Cursors.{span, Covers}
-use Rattle.enumset_array.specs.Ends.{answers, left, given}
+use Rattle.enumset_array.specs.Walks.{answers, without_answers, given}
 use Rattle.enumset_array.specs.WordList.{bits_of}
 use Rattle.enumset_array.proofs.walk.walk.Given as goal
 
@@ -9,10 +9,10 @@ use Rattle.enumset_array.proofs.walk.walk.Given as goal
 abbrev pub invariant-loop-end : goal.invariant-loop-end
 invariant-loop-end g l = record {
   items : l.answers.items ≡ answers (rising (bits_of (g.R.Row.words l.initial.row))) (take l.end-index l.ends);
-  rest : rising (bits_of (g.R.Row.words l.row)) ≡ left (rising (bits_of (g.R.Row.words l.initial.row))) (take l.end-index l.ends);
+  rest : rising (bits_of (g.R.Row.words l.row)) ≡ without_answers (rising (bits_of (g.R.Row.words l.initial.row))) (take l.end-index l.ends);
   set : bits_of (g.R.Row.words l.row) ≡ difference (bits_of (g.R.Row.words l.initial.row)) (from_list (given l.answers.items));
   asks : g.R.Row.asks l.row + span l.cursors ≡ g.R.Row.asks l.initial.row + length (given l.answers.items) + length (g.R.Row.words l.initial.row);
-  met : Contains l.answers.items None → l.cursors.front ≡ l.cursors.back;
+  met : Contains l.answers.items None → span l.cursors ≡ 0;
   covers : Covers (g.R.Row.words l.row) l.cursors;
   count : vec_len l.answers ≡ l.end-index;
   room : length l.ends ≤ vec_capacity l.answers;

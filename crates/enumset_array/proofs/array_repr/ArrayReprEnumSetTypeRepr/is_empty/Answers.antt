@@ -1,6 +1,7 @@
 use Rattle.std.proofs.Common.{sym, ◌∙◌}
 use Rattle.enumset_array.specs.Stored.{IsStore}
-use Rattle.enumset_array.specs.Laws.Stored.{empty_iff, each_zero, all_zero}
+use Rattle.enumset_array.specs.Laws.Stored.{empty_iff}
+use Rattle.enumset_array.specs.Laws.Zeros.{each_zero, all_zero}
 use Rattle.enumset_array.proofs.array_repr.ArrayReprEnumSetTypeRepr.is_empty.Goals as goal
 
 pub returns : goal.returns

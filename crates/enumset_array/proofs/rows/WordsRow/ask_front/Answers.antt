@@ -1,30 +1,30 @@
 use Rattle.std.proofs.Common.{◌≡◌, ap, ◌∷◌, ◌<◌, length}
-use Rattle.enumset_array.specs.Counted.{Counted}
+use Rattle.enumset_array.specs.Views.{RowView}
 use Rattle.enumset_array.specs.Stored.{used}
 use Rattle.enumset_array.proofs.RowWords.{numbers, row_empty, row_taken, row_others, front_words}
 use Rattle.enumset_array.proofs.rows.WordsRow.ask_front.Goals as goal
 
 pub invariant_of-self : goal.invariant_of-self
 invariant_of-self g c =
-    let same : used g.row.N (numbers c.self.inside.words) ≡ c.args.self.now.words = ap (λ (v : Counted). v.words) c.self.view_is in
+    let same : used g.row.N (numbers c.self.inside.words) ≡ c.args.self.now.words = ap (λ (v : RowView). v.words) c.self.view_is in
     let low : c.args.i < length (used g.row.N (numbers c.self.inside.words)) = rw same c.requires in
     front_words _ _ _ c.next.new.self _ low c.next.result c.self.invariant c.next.ensures.steps
 
 pub returns-clause-empty : goal.returns-clause-empty
 returns-clause-empty g c =
-    let same : used g.row.N (numbers c.self.inside.words) ≡ c.args.self.now.words = ap (λ (v : Counted). v.words) c.self.view_is in
+    let same : used g.row.N (numbers c.self.inside.words) ≡ c.args.self.now.words = ap (λ (v : RowView). v.words) c.self.view_is in
     let low : c.args.i < length (used g.row.N (numbers c.self.inside.words)) = rw same c.requires in
     rw (← same) (row_empty _ _ _ c.next.new.self _ low (λ x xs. x ∷ xs) c.next.result c.next.ensures.steps)
 
 pub returns-clause-taken : goal.returns-clause-taken
 returns-clause-taken g c =
-    let same : used g.row.N (numbers c.self.inside.words) ≡ c.args.self.now.words = ap (λ (v : Counted). v.words) c.self.view_is in
+    let same : used g.row.N (numbers c.self.inside.words) ≡ c.args.self.now.words = ap (λ (v : RowView). v.words) c.self.view_is in
     let low : c.args.i < length (used g.row.N (numbers c.self.inside.words)) = rw same c.requires in
     rw (← same) (row_taken _ _ _ c.next.new.self _ low (λ x xs. x ∷ xs) c.next.result c.next.ensures.steps)
 
 pub returns-clause-others : goal.returns-clause-others
 returns-clause-others g c =
-    let same : used g.row.N (numbers c.self.inside.words) ≡ c.args.self.now.words = ap (λ (v : Counted). v.words) c.self.view_is in
+    let same : used g.row.N (numbers c.self.inside.words) ≡ c.args.self.now.words = ap (λ (v : RowView). v.words) c.self.view_is in
     let low : c.args.i < length (used g.row.N (numbers c.self.inside.words)) = rw same c.requires in
     rw (← same) (row_others _ _ _ c.next.new.self c.next.new.self low)
 

@@ -1,6 +1,7 @@
 -- Steps from either end of a list.
---     answer, after      what a step from an end gives: the first of the list or its last, and None of the empty list;  what it leaves
---     answers, left      the same of one step for each of a list of ends
+--     answer      what a step from an end answers: the first of the list or its last, and None of the empty list
+--     without_answer      the list without it
+--     answers, without_answers      the same of one step for each of a list of ends
 --     given      the items among the answers
 use Rattle.std.specs.Prelude.{ℕ, List, [], ◌∷◌, Option, filter_map}
 use Rattle.enumset_repr.specs.Ends.{first, last, without_first, without_last}
@@ -11,17 +12,17 @@ abbrev pub answer : End → List ℕ → Option ℕ
 answer Front xs = first xs
 answer Back xs = last xs
 
-abbrev pub after : End → List ℕ → List ℕ
-after Front xs = without_first xs
-after Back xs = without_last xs
+abbrev pub without_answer : End → List ℕ → List ℕ
+without_answer Front xs = without_first xs
+without_answer Back xs = without_last xs
 
 unfoldable pub answers : List ℕ → List End → List (Option ℕ)
 answers xs [] = []
-answers xs (e ∷ es) = answer e xs ∷ answers (after e xs) es
+answers xs (e ∷ es) = answer e xs ∷ answers (without_answer e xs) es
 
-unfoldable pub left : List ℕ → List End → List ℕ
-left xs [] = xs
-left xs (e ∷ es) = left (after e xs) es
+unfoldable pub without_answers : List ℕ → List End → List ℕ
+without_answers xs [] = xs
+without_answers xs (e ∷ es) = without_answers (without_answer e xs) es
 
 unfoldable pub given : List (Option ℕ) → List ℕ
 given rs = filter_map (λ r. r) rs

@@ -1,4 +1,4 @@
--- The laws of steps from either end: one step by its list, and one end more.
+-- The laws of steps from either end of a list: no end, and one end more.
 use Rattle.std.proofs.Common.{◌≡◌, ◌<◌, ◌≤◌, ℕ, suc, ◌+◌, ◌-◌, Bool, true, false, not, ◌&&◌, ◌||◌, List, [], ◌∷◌, ◌++◌, Option, Some, None, length, take, get_or, add-one, take-suc, is_some, MatchOption, if◌then◌else◌, refl, sym, ap, ◌∙◌, subst, arith, length-append, append-nil, inl, inr, IfSome, IfNone, Contains}
 use Rattle.std.specs.Prelude.{◌==◌, slice_index, filter_map}
 use Rattle.std.proofs.lemmas.List.Elements.{filter_map-append, Contains-push_cases}
@@ -9,21 +9,19 @@ use Rattle.std.proofs.Math.Bool.{and-true}
 use Rattle.std.proofs.lemmas.Bool.{cases_lt}
 use Rattle.enumset_array.specs.declared.walk.End.{End}
 use Rattle.enumset_array.specs.declared.walk.End.TheVariants.{Front}
-use Rattle.enumset_array.specs.Cursors.{Covers}
-use Rattle.std.proofs.lemmas.List.{get_or_past}
-use Rattle.enumset_array.specs.Ends.{answer, after, answers, left, given}
+use Rattle.enumset_array.specs.Walks.{answer, without_answer, answers, without_answers, given}
 
 -- ---- one end more
 
-pub answers-push : (xs : List ℕ) (es : List End) (e : End) → answers xs (es ++ e ∷ []) ≡ answers xs es ++ answer e (left xs es) ∷ []
-unfolding answers left
+pub answers-push : (xs : List ℕ) (es : List End) (e : End) → answers xs (es ++ e ∷ []) ≡ answers xs es ++ answer e (without_answers xs es) ∷ []
+unfolding answers without_answers
 answers-push xs [] e = refl
-answers-push xs (f ∷ fs) e = ap (λ rs. answer f xs ∷ rs) (answers-push (after f xs) fs e)
+answers-push xs (f ∷ fs) e = ap (λ rs. answer f xs ∷ rs) (answers-push (without_answer f xs) fs e)
 
-pub left-push : (xs : List ℕ) (es : List End) (e : End) → left xs (es ++ e ∷ []) ≡ after e (left xs es)
-unfolding left
-left-push xs [] e = refl
-left-push xs (f ∷ fs) e = left-push (after f xs) fs e
+pub without_answers-push : (xs : List ℕ) (es : List End) (e : End) → without_answers xs (es ++ e ∷ []) ≡ without_answer e (without_answers xs es)
+unfolding without_answers
+without_answers-push xs [] e = refl
+without_answers-push xs (f ∷ fs) e = without_answers-push (without_answer f xs) fs e
 
 pub given-push_some : (rs : List (Option ℕ)) (b : ℕ) → given (rs ++ Some b ∷ []) ≡ given rs ++ b ∷ []
 unfolding given
@@ -46,7 +44,7 @@ length-given (Some b ∷ rs) = omega (arith, length-given rs)
 pub length-answers : (xs : List ℕ) (es : List End) → length (answers xs es) ≡ length es
 unfolding answers
 length-answers xs [] = refl
-length-answers xs (e ∷ es) = ap suc (length-answers (after e xs) es)
+length-answers xs (e ∷ es) = ap suc (length-answers (without_answer e xs) es)
 
 -- ---- the set without the items given
 
@@ -74,11 +72,6 @@ difference-step s t u rs None e step = step ∙ e ∙ ap (λ bs. difference s (f
 difference-step s t u rs (Some b) e step =
     step ∙ ap (λ v. remove v b) e ∙ difference-push s (given rs) b ∙ ap (λ bs. difference s (from_list bs)) (sym (given-push_some rs b))
 
--- what becomes of the set at a step that gave r
-pub set-step : (P : ℕ → Type 0) (s t : BitSet) (r : Option ℕ) → MatchOption r ((rising s ≡ []) × (rising t ≡ [])) P → IfSome r (λ b. t ≡ remove s b) → MatchOption r (t ≡ s) (λ b. t ≡ remove s b)
-set-step P s t None step taken = empty_of_rising t step.1 ∙ sym (empty_of_rising s step.0)
-set-step P s t (Some b) step taken = taken
-
 -- once None was among the answers, the cursors have met
 pub none-push : (rs : List (Option ℕ)) (r : Option ℕ) (P Q : Type 0) → (Contains rs None → P) → (P → r ≡ None) → IfNone r Q → Contains (rs ++ r ∷ []) None → Q
 none-push rs r P Q before stays met has = elim (Contains-push_cases rs r None has) [
@@ -92,9 +85,9 @@ pub no_answers : (xs : List ℕ) → answers xs [] ≡ []
 unfolding answers
 no_answers xs = refl
 
-pub none_left_out : (xs : List ℕ) → left xs [] ≡ xs
-unfolding left
-none_left_out xs = refl
+pub all_left : (xs : List ℕ) → without_answers xs [] ≡ xs
+unfolding without_answers
+all_left xs = refl
 
 pub none_given : length (given []) ≡ 0
 unfolding given
@@ -103,45 +96,16 @@ none_given = refl
 pub none_in_no_answers : (rs : List (Option ℕ)) → rs ≡ [] → Contains rs None → ⊥
 none_in_no_answers rs e has = let short : length rs ≡ 0 = ap length e in absurd (omega (arith, has.1))
 
-pub covers_all : (ws : List ℕ) → Covers ws (record { front = 0; back = length ws })
-covers_all ws = record {
-  within = omega arith;
-  before = λ i h. absurd (omega (arith, h));
-  past = λ i h. get_or_past ws i 0 h;
-}
-
--- an empty word at the front cursor is passed
-pub covers_next : (ws vs : List ℕ) (front back : ℕ) → Covers ws (record { front = front; back = back }) → slice_index ws front ≡ 0 → vs ≡ ws → Covers vs (record { front = front + 1; back = back })
-covers_next ws vs front back covers none same = subst (λ us. Covers us (record { front = front + 1; back = back })) (sym same) (record {
-  within = covers.within;
-  before = λ i h. elim (cases_lt i front) [
-    | inl under ↦ covers.before i under
-    | inr from ↦ let here : i ≡ front = omega (arith, h, from) in ap (slice_index ws) here ∙ none
-  ];
-  past = covers.past;
-})
-
--- an empty word right before the back cursor is passed
-pub covers_down : (ws vs : List ℕ) (front back : ℕ) → Covers ws (record { front = front; back = back }) → slice_index ws (back - 1) ≡ 0 → vs ≡ ws → Covers vs (record { front = front; back = back - 1 })
-covers_down ws vs front back covers none same = subst (λ us. Covers us (record { front = front; back = back - 1 })) (sym same) (record {
-  within = omega (arith, covers.within);
-  before = covers.before;
-  past = λ i h. elim (cases_lt i back) [
-    | inl under ↦ let here : i ≡ back - 1 = omega (arith, h, under) in ap (slice_index ws) here ∙ none
-    | inr from ↦ covers.past i from
-  ];
-})
-
 -- ---- one end of a list of ends after another
 
 one_more : (es : List End) (i : ℕ) → i < length es → take (i + 1) es ≡ take i es ++ get_or es i Front ∷ []
 one_more es i h = ap (λ n. take n es) (add-one i) ∙ take-suc es i Front h
 
-pub answers_next : (xs : List ℕ) (es : List End) (i : ℕ) (rs vs : List (Option ℕ)) (r : Option ℕ) (ys : List ℕ) → i < length es → rs ≡ answers xs (take i es) → ys ≡ left xs (take i es)
+pub answers_next : (xs : List ℕ) (es : List End) (i : ℕ) (rs vs : List (Option ℕ)) (r : Option ℕ) (ys : List ℕ) → i < length es → rs ≡ answers xs (take i es) → ys ≡ without_answers xs (take i es)
     → r ≡ answer (get_or es i Front) ys → vs ≡ rs ++ r ∷ [] → vs ≡ answers xs (take (i + 1) es)
 answers_next xs es i rs vs r ys h items rest item pushed =
     pushed ∙ (λ k. items k ++ (item ∙ ap (answer (get_or es i Front)) rest) k ∷ []) ∙ sym (answers-push xs (take i es) (get_or es i Front)) ∙ ap (answers xs) (sym (one_more es i h))
 
-pub left_next : (xs : List ℕ) (es : List End) (i : ℕ) (ys zs : List ℕ) → i < length es → ys ≡ left xs (take i es) → zs ≡ after (get_or es i Front) ys → zs ≡ left xs (take (i + 1) es)
-left_next xs es i ys zs h rest step =
-    step ∙ ap (after (get_or es i Front)) rest ∙ sym (left-push xs (take i es) (get_or es i Front)) ∙ ap (left xs) (sym (one_more es i h))
+pub rest_next : (xs : List ℕ) (es : List End) (i : ℕ) (ys zs : List ℕ) → i < length es → ys ≡ without_answers xs (take i es) → zs ≡ without_answer (get_or es i Front) ys → zs ≡ without_answers xs (take (i + 1) es)
+rest_next xs es i ys zs h rest step =
+    step ∙ ap (without_answer (get_or es i Front)) rest ∙ sym (without_answers-push xs (take i es) (get_or es i Front)) ∙ ap (without_answers xs) (sym (one_more es i h))
