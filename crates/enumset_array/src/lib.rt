@@ -19,8 +19,6 @@ mod operators;
 pub mod row;
 mod rows;
 pub mod shown_row;
-#[cfg(test)]
-mod tests;
 pub mod walk;
 
 pub use array_iter::ArrayIter;

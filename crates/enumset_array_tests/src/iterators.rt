@@ -1,7 +1,5 @@
-use crate::asks::Asks;
-use crate::{ArrayIter, ArrayRepr};
+use enumset_array::{ArrayIter, ArrayRepr};
 use enumset_repr::EnumSetTypeRepr;
-use std::mem::size_of;
 use std::test::Fail;
 
 const ENDS: u64 = 0x8000_0000_0000_0001;
@@ -34,35 +32,30 @@ fn gives_nothing<const N: usize>(mut iter: ArrayIter<N>) -> bool {
 
 #[test]
 fn each_end_gives_its_bits(rt: HostRuntime) {
-    assert!(rt; gives_nothing(ArrayRepr::<0>([]).iter()));
-    assert!(rt; gives_nothing(ArrayRepr([0]).iter()));
-    assert!(rt; gives_in_turn(ArrayRepr([ENDS]).iter(), &[0, 63]));
-    assert!(rt; gives_in_turn(ArrayRepr([7]).iter(), &[0, 2, 1]));
-    assert!(rt; gives_in_turn(ArrayRepr([ENDS, ENDS]).iter(), &[0, 127, 63, 64]));
-    assert!(rt; gives_in_turn(ArrayRepr([0, ENDS]).iter(), &[64, 127]));
-    assert!(rt; gives_in_turn(ArrayRepr([ENDS, 0]).iter(), &[0, 63]));
-    assert!(rt; gives_nothing(ArrayRepr([0; 5]).iter()));
-    assert!(rt;
+    let right = [
+        gives_nothing(ArrayRepr::<0>([]).iter()),
+        gives_nothing(ArrayRepr([0]).iter()),
+        gives_nothing(ArrayRepr([0; 5]).iter()),
+        gives_in_turn(ArrayRepr([ENDS]).iter(), &[0, 63]),
+        gives_in_turn(ArrayRepr([7]).iter(), &[0, 2, 1]),
+        gives_in_turn(ArrayRepr([ENDS, ENDS]).iter(), &[0, 127, 63, 64]),
+        gives_in_turn(ArrayRepr([0, ENDS]).iter(), &[64, 127]),
+        gives_in_turn(ArrayRepr([ENDS, 0]).iter(), &[0, 63]),
         gives_in_turn(
             ArrayRepr([ENDS, 1, 0, 0, ENDS]).iter(),
-            &[0, 319, 63, 256, 64]
-        )
-    );
-    assert!(rt; gives_in_turn(ArrayRepr([0, 0, 4, 0, 0]).iter(), &[130]));
+            &[0, 319, 63, 256, 64],
+        ),
+        gives_in_turn(ArrayRepr([0, 0, 4, 0, 0]).iter(), &[130]),
+    ];
+    assert!(rt; right == [true; 10]);
 }
 
 #[test]
 fn a_clone_has_the_items_that_are_left(rt: HostRuntime) -> Result<(), Fail> {
     let mut iter = ArrayRepr([8, 1, 4]).iter();
-    assert!(rt; iter.next() == Some(3));
+    let first = iter.next();
     let copy = iter.clone()?;
-    assert!(rt; gives_in_turn(iter, &[64, 130]));
-    assert!(rt; gives_in_turn(copy, &[64, 130]));
+    let right = gives_in_turn(iter, &[64, 130]) && gives_in_turn(copy, &[64, 130]);
+    assert!(rt; (first, right) == (Some(3), true));
     Ok(())
-}
-
-#[test]
-fn the_count_takes_no_bytes(rt: HostRuntime) {
-    assert!(rt; size_of::<Asks>() == 0);
-    assert!(rt; size_of::<ArrayIter<3>>() == 40);
 }

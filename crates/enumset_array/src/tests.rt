@@ -1,3 +1,0 @@
-mod iterators;
-mod stores;
-mod walks;
