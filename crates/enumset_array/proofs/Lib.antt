@@ -3,7 +3,6 @@ pub mod Covers
 pub mod Walks
 pub mod Wordwise
 pub mod Places
-pub mod Progress
 pub mod RowWords
 pub mod Taken
 pub mod WordLists

@@ -1,12 +1,10 @@
 -- The laws of steps from either end of a list: no end, and one end more.
-use Rattle.std.proofs.Common.{◌≡◌, ◌<◌, ◌≤◌, ℕ, suc, ◌+◌, ◌-◌, Bool, true, false, not, ◌&&◌, ◌||◌, List, [], ◌∷◌, ◌++◌, Option, Some, None, length, take, get_or, add-one, take-suc, is_some, MatchOption, if◌then◌else◌, refl, sym, ap, ◌∙◌, subst, arith, length-append, append-nil, inl, inr, IfSome, IfNone, Contains}
-use Rattle.std.specs.Prelude.{◌==◌, slice_index, filter_map}
+use Rattle.std.proofs.Common.{◌≡◌, ◌<◌, ◌≤◌, ℕ, suc, ◌+◌, List, [], ◌∷◌, ◌++◌, Option, Some, None, length, take, get_or, add-one, take-suc, is_some, MatchOption, if◌then◌else◌, refl, sym, ap, ◌∙◌, subst, arith, length-append, append-nil, inl, inr, IfNone, Contains}
+use Rattle.std.specs.Prelude.{filter_map}
 use Rattle.std.proofs.lemmas.List.Elements.{filter_map-append, Contains-push_cases}
-use Rattle.enumset_repr.specs.BitSet.{BitSet, contains, is_in, remove, difference, from_list, rising}
-use Rattle.enumset_repr.specs.Laws.Members.{same_set, contains-difference, contains-from_list, contains-remove}
-use Rattle.enumset_repr.specs.Laws.Rising.{empty_of_rising, is_in-push}
-use Rattle.std.proofs.Math.Bool.{and-true}
-use Rattle.std.proofs.lemmas.Bool.{cases_lt}
+use Rattle.enumset_repr.specs.BitSet.{BitSet, remove, difference, from_list}
+use Rattle.enumset_repr.specs.Laws.Members.{members, same_set, contains-from_list}
+use Rattle.enumset_repr.specs.Laws.Rising.{is_in-push}
 use Rattle.enumset_array.specs.declared.walk.End.{End}
 use Rattle.enumset_array.specs.declared.walk.End.TheVariants.{Front}
 use Rattle.enumset_array.specs.Walks.{answer, without_answer, answers, without_answers, given}
@@ -48,23 +46,12 @@ length-answers xs (e ∷ es) = ap suc (length-answers (without_answer e xs) es)
 
 -- ---- the set without the items given
 
-not_or : (a b c : Bool) → (a && not (b || c)) ≡ (not b && (a && not c))
-not_or true true c = refl
-not_or true false c = refl
-not_or false true c = refl
-not_or false false c = refl
-
 pub difference-none : (s : BitSet) → s ≡ difference s (from_list (given []))
 unfolding given
-difference-none s = same_set s _ (λ q. sym (contains-difference s _ q ∙ ap (λ c. contains s q && not c) (contains-from_list [] q) ∙ and-true (contains s q)))
+difference-none s = same_set s _ (λ q. grind (arith, members, contains-from_list [] q))
 
 difference-push : (s : BitSet) (bs : List ℕ) (b : ℕ) → remove (difference s (from_list bs)) b ≡ difference s (from_list (bs ++ b ∷ []))
-difference-push s bs b = same_set _ _ (λ q.
-    contains-remove (difference s (from_list bs)) b q
-    ∙ ap (λ c. not (q == b) && c) (contains-difference s (from_list bs) q ∙ ap (λ c. contains s q && not c) (contains-from_list bs q))
-    ∙ sym (not_or (contains s q) (q == b) (is_in q bs))
-    ∙ ap (λ c. contains s q && not c) (sym (is_in-push q b bs) ∙ sym (contains-from_list (bs ++ b ∷ []) q))
-    ∙ sym (contains-difference s (from_list (bs ++ b ∷ [])) q))
+difference-push s bs b = same_set _ _ (λ q. grind (arith, members, contains-from_list, is_in-push))
 
 -- the set after a step that gave r
 pub difference-step : (s t u : BitSet) (rs : List (Option ℕ)) (r : Option ℕ) → t ≡ difference s (from_list (given rs)) → MatchOption r (u ≡ t) (λ b. u ≡ remove t b) → u ≡ difference s (from_list (given (rs ++ r ∷ [])))

@@ -12,7 +12,7 @@ use crate::array_iter::ArrayIter;
 use enumset_repr::EnumSetTypeRepr;
 use std::marker::Model;
 
-// One more than the most words that a store uses: the bits of fewer are numbered by a `u32`.
+/// One more than the most words that a store uses: the bits of fewer are numbered by a `u32`.
 pub(crate) const WORD_LIMIT: usize = 67108864;
 
 /// A store of `N` words of 64 bits, the lowest first: bit `n` is bit `n % 64` of word `n / 64`.
@@ -166,14 +166,14 @@ impl<const N: usize> EnumSetTypeRepr for ArrayRepr<N> {
     ghost left = { λ _. refl };
 }
 
-// Whether all words are 0.
+/// Whether all words are 0.
 fn are_empty(words: &[u64]) -> bool
     ensures { result ≡ list_all (λ w. w == 0) words.now }
 {
     words.iter().all(|word| *word == 0)
 }
 
-// How many bits are set in words.
+/// How many bits are set in words.
 fn ones_of(words: &[u64]) -> u32
     requires { length words.now < WORD_LIMIT }
     ensures { result ≡ sum_by (λ w. len (bits w)) words.now }

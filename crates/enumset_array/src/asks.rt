@@ -26,7 +26,7 @@ impl Model for Asks {
 }
 
 impl Asks {
-    // The one maker: the count that its caller's proof picks.
+    /// The one maker: the count that its caller's proof picks.
     fn counted() -> Asks
         ghost n: { ℕ }
         ensures { result ≡ n }
@@ -36,7 +36,7 @@ impl Asks {
         }
     }
 
-    // A count that its caller's proof picks from another.
+    /// A count that its caller's proof picks from another.
     fn counted_from(other: &Asks) -> Asks
         ghost n: { ℕ }
         ensures { result ≡ n }

@@ -85,7 +85,7 @@ impl<const N: usize> Row for Words<N> {
     }
 }
 
-// How many bits are left in words.
+/// How many bits are left in words.
 fn bits_in(words: &[PrimitiveIter<u64>]) -> usize
     requires { AreWords (map (λ w. w.0) words.now) }
     ensures { result ≡ length (items_of (map (λ w. w.0) words.now)) }

@@ -68,7 +68,7 @@ impl<const N: usize> Row for ShownRow<N> {
     }
 }
 
-// The number that shows one ask more.
+/// The number that shows one ask more.
 fn one_more(shown: u64) -> u64
     ensures { result ≡ min (shown + 1) (2 ^ 64 - 1) }
 {

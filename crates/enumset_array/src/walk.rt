@@ -20,7 +20,7 @@ pub enum End {
     Back,
 }
 
-// One step from an end.
+/// One step from an end.
 fn step<R: Row>(row: &mut R, cursors: &mut Cursors, end: End) -> Option<u32>
     requires { Covers (R.words row.old) cursors.old }
     ensures item { result ≡ answer end (items_of (R.words row.old)) }

@@ -1,10 +1,12 @@
+//! Iterators over words: what each end gives, and clones.
+
 use enumset_array::{ArrayIter, ArrayRepr};
 use enumset_repr::EnumSetTypeRepr;
 use std::test::Fail;
 
 const ENDS: u64 = 0x8000_0000_0000_0001;
 
-// Whether the iterator gives these bits from the front and the back in turn, and then nothing.
+/// Whether the iterator gives these bits from the front and the back in turn, and then nothing.
 fn gives_in_turn<const N: usize>(mut iter: ArrayIter<N>, bits: &[u32]) -> bool {
     for (i, bit) in bits.iter().enumerate() {
         let left = bits.len() - i;

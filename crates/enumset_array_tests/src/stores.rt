@@ -1,7 +1,9 @@
+//! Each call of the store, by its bound and by name, and how many words are in use.
+
 use enumset_array::ArrayRepr;
 use enumset_repr::EnumSetTypeRepr;
 
-// The store value of these bits, of those that are below the width.
+/// The store value of these bits, of those that are below the width.
 fn store_of<R: EnumSetTypeRepr>(bits: &[u32]) -> R {
     let mut set = R::EMPTY;
     for bit in bits {
@@ -12,7 +14,7 @@ fn store_of<R: EnumSetTypeRepr>(bits: &[u32]) -> R {
     set
 }
 
-// Whether a set of these bits has them and, with all taken out, nothing.
+/// Whether a set of these bits has them and, with all taken out, nothing.
 fn has_bits<R: EnumSetTypeRepr>(bits: &[u32]) -> bool {
     let mut set: R = store_of(bits);
     if set.count_ones() as usize != bits.len() || set.is_empty() != bits.is_empty() {
@@ -51,13 +53,13 @@ fn gives_bits_from_the_back<R: EnumSetTypeRepr>(bits: &[u32]) -> bool {
     R::items_left(&iter) == bits.len() && R::items_left(&same) == 0
 }
 
-// The operators, over a set and the other bits.
+/// The operators, over a set and the other bits.
 fn splits<R: EnumSetTypeRepr>(set: R) -> bool {
     let (none, all) = (R::EMPTY, !R::EMPTY);
     set & !set == none && set | !set == all && set ^ all == !set && set.and_not(!set) == set
 }
 
-// Whether these are the words, read and put into the empty set.
+/// Whether these are the words, read and put into the empty set.
 fn has_words<R: EnumSetTypeRepr>(set: R, words: &[u64]) -> bool {
     let mut built = R::EMPTY;
     for (i, word) in words.iter().enumerate() {
@@ -69,7 +71,7 @@ fn has_words<R: EnumSetTypeRepr>(set: R, words: &[u64]) -> bool {
     built == set && R::PREFERRED_ARRAY_LEN == words.len()
 }
 
-// Each call of a store, at the set of these bits, whose words are these.
+/// Each call of a store, at the set of these bits, whose words are these.
 fn is_store<R: EnumSetTypeRepr>(bits: &[u32], words: &[u64]) -> bool {
     let set: R = store_of(bits);
     has_bits::<R>(bits)
@@ -108,7 +110,7 @@ fn operators_go_word_by_word(rt: HostRuntime) {
     assert!(rt; set != other);
 }
 
-// No contract can say the value of this constant, as generic constants have none in proofs.
+/// No contract can say the value of this constant, as generic constants have none in proofs.
 #[test]
 fn words_in_use(rt: HostRuntime) {
     let lengths = [

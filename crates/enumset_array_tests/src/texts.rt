@@ -1,3 +1,5 @@
+//! Texts under `{:?}`, and sizes.
+
 use enumset_array::cursors::Cursors;
 use enumset_array::shown_row::ShownRow;
 use enumset_array::walk::End;

@@ -1,3 +1,5 @@
+//! Walks over rows that show their asks, and walks that are refused memory.
+
 use enumset_array::ArrayRepr;
 use enumset_array::cursors::{Cursors, step_back, step_front};
 use enumset_array::row::Row;
@@ -17,7 +19,7 @@ const ALTERNATING: [End; 6] = [
     End::Back,
 ];
 
-// Whether a walk from either end in turn gives these answers, and makes this many asks.
+/// Whether a walk from either end in turn gives these answers, and makes this many asks.
 fn walks<const N: usize>(
     alloc: Global,
     mut row: ShownRow<N>,
@@ -76,8 +78,8 @@ fn walks_of_fewer_ends_leave_the_rest(rt: HostRuntime) -> Result<(), Fail> {
     Ok(())
 }
 
-// With memory it answers at once. Where the first allocation is refused, the row is as it was and a second walk
-// gives the whole answer.
+/// With memory it answers at once. Where the first allocation is refused, the row is as it was and a second walk
+/// gives the whole answer.
 #[test]
 fn a_refused_walk_changes_nothing(rt: HostRuntime) -> Result<(), Fail> {
     let mut row = ShownRow::new(ArrayRepr([8, 1, 4]));

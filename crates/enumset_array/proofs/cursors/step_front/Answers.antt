@@ -2,7 +2,6 @@ use Rattle.std.proofs.Common.{◌≡◌, ◌+◌, ◌*◌, ◌<◌, [], length, 
 use Rattle.enumset_repr.specs.BitSet.{rising, remove}
 use Rattle.enumset_array.specs.WordList.{bits_of}
 use Rattle.enumset_array.proofs.Covers.{covers_next}
-use Rattle.enumset_array.proofs.Progress.{one_ask}
 use Rattle.enumset_array.proofs.WordLists.{step_first, step_first_set, none_left}
 use Rattle.enumset_array.proofs.cursors.step_front.Goals as goal
 
@@ -35,7 +34,7 @@ returns-clause-item g c =
 
 pub returns-in-Some-clause-asks : goal.returns-in-Some-clause-asks
 returns-in-Some-clause-asks g c = rw (← c.cursors.view_is) (record {
-  sum = one_ask _ _ _ _ c.in-Some.ensures.counted c.loop-cursors.invariant.asks;
+  sum = omega (arith, c.in-Some.ensures.counted, c.loop-cursors.invariant.asks);
   met = tt;
   stays = λ none. absurd (omega (arith, none, c.loop-cursors-test.true, c.loop-cursors.invariant.back, c.loop-cursors.invariant.from));
 })
