@@ -43,8 +43,8 @@ impl Cursors {
 ///
 /// It asks that the back cursor is at most the row's length and that the words outside the cursors are
 /// empty. Each ask moves the front cursor on, but for the one that finds the bit, so asks and span together
-/// rise by one where a bit is given, and stay otherwise. Cursors that meet give `None` without an ask, and
-/// after `None` they meet.
+/// rise by one where a bit is given, and stay otherwise. The back cursor stays. Cursors that meet give `None`
+/// without an ask, and after `None` they meet.
 pub fn step_front<R: Row>(row: &mut R, cursors: &mut Cursors) -> Option<u32>
     requires { Covers (R.words row.old) cursors.old }
     ensures item { YieldsFirst items_of (R.words row.old) result (R.words row.new) }
@@ -68,8 +68,8 @@ pub fn step_front<R: Row>(row: &mut R, cursors: &mut Cursors) -> Option<u32>
 ///
 /// It asks that the back cursor is at most the row's length and that the words outside the cursors are
 /// empty. Each ask moves the back cursor down, but for the one that finds the bit, so asks and span together
-/// rise by one where a bit is given, and stay otherwise. Cursors that meet give `None` without an ask, and
-/// after `None` they meet.
+/// rise by one where a bit is given, and stay otherwise. The front cursor stays. Cursors that meet give `None`
+/// without an ask, and after `None` they meet.
 pub fn step_back<R: Row>(row: &mut R, cursors: &mut Cursors) -> Option<u32>
     requires { Covers (R.words row.old) cursors.old }
     ensures item { YieldsLast items_of (R.words row.old) result (R.words row.new) }
