@@ -2,6 +2,7 @@
 --     Rules      what a run asks of the bits of its sets
 --     of_valid      the rules of a run whose sets have valid bits alone
 --     Named      the registers and the bits that a command names
+--     of_sets      set registers alone
 --     Plan      the row of a command
 --     asks, puts, changes, steps, over_bit      rows by what they do, and a row that names a bit too
 --     given_or_absent      what a step replies
@@ -34,6 +35,9 @@ pub record Named : Type 0 where
   pub iterators : List ℕ
   pub bits : List ℕ
 
+abbrev pub of_sets : List ℕ → Named
+of_sets sets = record { sets = sets; iterators = []; bits = [] }
+
 -- what a command names; where all of it is there, what it replies, and the state that it leaves
 pub record Plan : Type 0 where
   pub named : Named
@@ -42,8 +46,7 @@ pub record Plan : Type 0 where
 
 -- it asks of some sets, and changes nothing
 abbrev pub asks : List ℕ → (Rules → State → Reply) → Plan
-asks sets reply =
-    record { named = record { sets = sets; iterators = []; bits = [] }; reply = reply; after = λ rules s. s }
+asks sets reply = record { named = of_sets sets; reply = reply; after = λ rules s. s }
 
 -- it changes the set of a register, and replies
 abbrev pub changes : ℕ → List ℕ → (Rules → State → Reply) → (Rules → State → BitSet) → Plan
@@ -56,7 +59,7 @@ puts to sets new = changes to sets (λ rules s. Done) new
 -- it is about an iterator
 abbrev pub steps : ℕ → List ℕ → (Rules → State → Reply) → (Rules → State → State) → Plan
 steps i sets reply after =
-    record { named = record { sets = sets; iterators = i ∷ []; bits = [] }; reply = reply; after = after }
+    record { named = record (of_sets sets) { iterators = i ∷ [] }; reply = reply; after = after }
 
 -- the same row, which names a bit
 abbrev pub over_bit : ℕ → Plan → Plan
