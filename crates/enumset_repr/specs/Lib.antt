@@ -2,4 +2,5 @@ pub mod BitSet
 pub mod Number
 pub mod Words
 pub mod Ends
+pub mod Primitives
 pub mod Laws

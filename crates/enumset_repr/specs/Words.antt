@@ -2,7 +2,7 @@
 --     is_in_word      whether a bit is one of those of a word: from 64 w to 64 w + 63
 --     word      the number of the members in word w, counted from its lowest bit
 --     raised      the set moved up: each member, and k
---     with_word      the set where word w has just the bits that a number names, of those below a width
+--     with_word      the set where word w has just the bits that a number below 2 ^ 64 names, of those below a width
 use Rattle.std.specs.Prelude.{ℕ, ◌+◌, ◌-◌, ◌*◌, ◌^◌, Bool, not, ◌&&◌, nat_lt, nat_le, map, filter, sum_by}
 use Rattle.enumset_repr.specs.BitSet.{BitSet, rising, retain, from_list, union, low}
 use Rattle.enumset_repr.specs.Number.{bits}

@@ -2,17 +2,20 @@
 //!
 //! - [`repr`]: the trait [`EnumSetTypeRepr`] of stores, whose every call is an operation on a finite set
 //!   of bit numbers.
-//! - [`integers`]: `u8`, `u16`, `u32`, `u64` and `u128` as stores.
-//! - [`primitive`] and [`primitive_iter`]: the iterator over the bits of an integer, from both ends.
+//! - [`primitive`], [`primitive_iter`] and [`primitive_store`]: an integer as the set of its bits, the iterator
+//!   over them, from both ends, and the integer as a store.
+//! - [`integers`]: `u8`, `u16`, `u32`, `u64` and `u128`.
 //!
 //! A contract speaks of the finite sets of `specs/BitSet.antt`. `specs/Number.antt` says which set a
-//! number means, `specs/Words.antt` what a set's words of 64 bits are, and `specs/Ends.antt` what its
-//! least and its greatest member are. `specs/Laws` has the proved laws of these words.
+//! number means, `specs/Words.antt` what a set's words of 64 bits are, `specs/Ends.antt` what its least and
+//! its greatest member are, and `specs/Primitives.antt` what an integer proves of itself. `specs/Laws` has
+//! the proved laws of these words.
 #![tactic(auto)]
 
 pub mod integers;
 pub mod primitive;
 pub mod primitive_iter;
+pub mod primitive_store;
 pub mod repr;
 
 pub use primitive_iter::PrimitiveIter;

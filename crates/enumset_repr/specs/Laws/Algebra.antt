@@ -6,9 +6,9 @@
 --     from_list_.., insert_each_..      a set built from a list of its members
 -- The ruleset `algebra` holds those that a tactic can apply by itself: cite it in a crate above by
 -- `#[tactic(auto, using(enumset_repr::specs::Laws::Algebra::algebra))]`.
-use Rattle.std.proofs.Common.{◌≡◌, ℕ, true, false, List, [], ◌∷◌, ◌++◌, refl, sym, ap, ◌∙◌, arith}
+use Rattle.std.proofs.Common.{◌≡◌, ℕ, true, false, List, [], ◌∷◌, refl, sym, ap, ◌∙◌, arith, ◌↔◌}
 use Rattle.std.proofs.lemmas.Bool.Decides.{nat_tests, same_from_decides}
-use Rattle.enumset_repr.specs.BitSet.{BitSet, contains, rising, empty, insert, only, remove, from_list, insert_each, union, intersection, difference, symmetric_difference, is_subset, is_disjoint, is_same}
+use Rattle.enumset_repr.specs.BitSet.{BitSet, contains, rising, empty, insert, only, remove, from_list, insert_each, union, intersection, difference, symmetric_difference, is_subset, is_disjoint}
 use Rattle.enumset_repr.specs.Laws.Members.{members, subsets, same_set, contains-rising, contains-from_list, contains-insert_each, contains-is_subset, is_subset-contains, contains-is_disjoint, is_disjoint-contains, is_same_iff}
 
 -- ---- union
@@ -78,6 +78,10 @@ difference_union v s t = same_set _ _ (λ q. grind (arith, members))
 
 pub difference_intersection : (v s t : BitSet) → difference v (intersection s t) ≡ union (difference v s) (difference v t)
 difference_intersection v s t = same_set _ _ (λ q. grind (arith, members))
+
+-- what is in s and not in t is what is in s and in the rest of t
+pub intersection_rest : (v s t : BitSet) → is_subset s v ≡ true → intersection s (difference v t) ≡ difference s t
+intersection_rest v s t within = same_set _ _ (λ q. let each = is_subset-contains s v within q in grind (arith, members))
 
 -- in a and then out again leaves what was not there before
 pub union_difference : (s t : BitSet) → difference (union s t) t ≡ difference s t
@@ -149,6 +153,12 @@ union_only s b = same_set _ _ (λ q. grind (arith, members))
 
 pub difference_only : (s : BitSet) (b : ℕ) → difference s (only b) ≡ remove s b
 difference_only s b = same_set _ _ (λ q. grind (arith, members))
+
+pub intersection_only_iff : (s : BitSet) (b : ℕ) → (intersection s (only b) ≡ empty) ↔ (contains s b ≡ false)
+intersection_only_iff s b = (
+  λ none. let here = ap (λ t. contains t b) none in grind (arith, members, nat_tests),
+  λ none. same_set _ _ (λ q. grind (arith, members, nat_tests)),
+)
 
 pub insert_union : (s t : BitSet) (b : ℕ) → union (insert s b) t ≡ insert (union s t) b
 insert_union s t b = same_set _ _ (λ q. grind (arith, members))

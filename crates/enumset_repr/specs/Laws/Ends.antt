@@ -2,10 +2,11 @@
 --     least-is, greatest-is      the member that has none before it, or none past it
 --     least-empty, greatest-empty      the empty set has neither
 --     rising-least, rising-greatest      the least comes first, and the greatest last
---     trailing-least, leading-greatest      what `trailing_zeros` and `leading_zeros` count, at each width
+--     trailing-least, leading-greatest      what `trailing_zeros` and `leading_zeros` count: `TrailingLaw` and `LeadingLaw`, over the width
+--     at_the_ends      the ends of a set, for `using`
 use Rattle.std.proofs.Common.{◌≡◌, ◌<◌, ◌≤◌, ℕ, suc, zero, ◌+◌, ◌-◌, ◌^◌, true, false, List, [], ◌∷◌, ◌++◌, Some, None, refl, sym, ap, subst, ◌∙◌, arith, true≢false, inl, inr, length, length-append}
 use Rattle.std.specs.Prelude.{◌==◌, MatchOption}
-use Rattle.std.specs.Int.{trailing_zeros, leading_zeros, Width, w8, w16, w32, w64, w128}
+use Rattle.std.specs.Int.{trailing_zeros, leading_zeros, Width}
 use Rattle.std.specs.Int.Count.{trailing_of_zero, leading_of_zero}
 use mir.Val.{bits as width_bits}
 use Rattle.std.specs.List.{slice_get, last_or}
@@ -124,10 +125,10 @@ rising-no_greatest s none = no_last (rising s) none
 
 -- ---- the ends of a number's set
 
-abbrev TrailingLaw : Width → Type 0
+abbrev pub TrailingLaw : Width → Type 0
 TrailingLaw w = (n : ℕ) → n < 2 ^ width_bits w → MatchOption (least (bits n)) (trailing_zeros w n ≡ width_bits w) (λ m. (trailing_zeros w n ≡ m) × (m < width_bits w))
 
-abbrev LeadingLaw : Width → Type 0
+abbrev pub LeadingLaw : Width → Type 0
 LeadingLaw w = (n : ℕ) → n < 2 ^ width_bits w → MatchOption (greatest (bits n)) (leading_zeros w n ≡ width_bits w) (λ m. leading_zeros w n + m + 1 ≡ width_bits w)
 
 -- `n.trailing_zeros()` is the least member, or the width where there is none
@@ -150,45 +151,5 @@ leading-greatest w (suc n) fits =
     let facts = greatest-bits w (suc n) (omega arith) fits in
     let some : greatest (bits (suc n)) ≡ Some (width_bits w - 1 - leading_zeros w (suc n)) = greatest-is _ _ facts.1 facts.2 in
     subst (λ o. MatchOption o (leading_zeros w (suc n) ≡ width_bits w) (λ m. leading_zeros w (suc n) + m + 1 ≡ width_bits w)) (sym some) (omega (arith, facts.0))
-
-pub trailing-least_8 : TrailingLaw w8
-trailing-least_8 = trailing-least w8
-
-pub leading-greatest_8 : LeadingLaw w8
-leading-greatest_8 = leading-greatest w8
-
-pub trailing-least_16 : TrailingLaw w16
-trailing-least_16 = trailing-least w16
-
-pub leading-greatest_16 : LeadingLaw w16
-leading-greatest_16 = leading-greatest w16
-
-pub trailing-least_32 : TrailingLaw w32
-trailing-least_32 = trailing-least w32
-
-pub leading-greatest_32 : LeadingLaw w32
-leading-greatest_32 = leading-greatest w32
-
-pub trailing-least_64 : TrailingLaw w64
-trailing-least_64 = trailing-least w64
-
-pub leading-greatest_64 : LeadingLaw w64
-leading-greatest_64 = leading-greatest w64
-
-pub trailing-least_128 : TrailingLaw w128
-trailing-least_128 = trailing-least w128
-
-pub leading-greatest_128 : LeadingLaw w128
-leading-greatest_128 = leading-greatest w128
-
-pub ruleset ends_8 = (trailing-least_8, leading-greatest_8)
-
-pub ruleset ends_16 = (trailing-least_16, leading-greatest_16)
-
-pub ruleset ends_32 = (trailing-least_32, leading-greatest_32)
-
-pub ruleset ends_64 = (trailing-least_64, leading-greatest_64)
-
-pub ruleset ends_128 = (trailing-least_128, leading-greatest_128)
 
 pub ruleset at_the_ends = (rising-least, rising-no_least, rising-greatest, rising-no_greatest, fewer-greatest, len-rising)

@@ -1,47 +1,41 @@
--- An integer of a width as a store: the laws of the store, in the form in which it asks for them, and its words.
---     within_width, number_of_bits, equal_bits      the members are below the width;  the number of a number's set;  numbers are equal if their sets are
---     and_is, or_is, xor_is, not_is      the operators
---     words_narrow, words_wide      a word, and a number with a word replaced, at a width up to 64 bits and at 128, for `using`
-use Rattle.std.proofs.Common.{◌≡◌, ◌<◌, ◌≤◌, ℕ, ◌*◌, ◌/◌, ◌%◌, ◌^◌, ◌-◌, refl, sym, ap, ◌∙◌, arith, ◌↔◌}
-use Rattle.std.specs.Prelude.{◌==◌, IsTrue}
-use Rattle.std.specs.Int.{bit_not, Width, w128}
+-- The integers as stores: the laws of `IsPrimitive`, proved once over the width, and what an integer's own calls want.
+--     integer      the laws
+--     word-.., with_word-..      a word, and a number with a word replaced, at a width up to 64 bits and at 128
+--     on_8, .., on_128      what the calls of an integer want, for `using`
+use Rattle.std.proofs.Common.{◌≡◌, ◌<◌, ◌≤◌, ℕ, ◌*◌, ◌/◌, ◌%◌, ◌^◌, ◌-◌, sym, ap, ◌∙◌, arith, ◌↔◌}
+use Rattle.std.specs.Prelude.{◌==◌, IsTrue, ⊤}
+use Rattle.std.specs.Int.{bit_not, Width, w8, w16, w32, w64, w128}
 use Rattle.std.specs.Int.RustNames.{bit_and, bit_or, bit_xor}
 use mir.Val.{bits as width_bits}
-use Rattle.std.proofs.lemmas.Nat.{and_mask}
 use Rattle.std.proofs.lemmas.Bool.{eqb-true, eq-eqb}
-use Rattle.enumset_repr.specs.BitSet.{intersection, union, symmetric_difference, difference, is_subset, below}
+use Rattle.std.proofs.lemmas.Nat.{and_mask}
+use Rattle.enumset_repr.specs.BitSet.{only}
 use Rattle.enumset_repr.specs.Number.{number, bits}
 use Rattle.enumset_repr.specs.Words.{word, with_word}
-use Rattle.enumset_repr.specs.Laws.Numbers.{number-bits, bits-within, bits-and, bits-or, bits-xor, bits-not}
+use Rattle.enumset_repr.specs.Primitives.{IsPrimitive}
+use Rattle.enumset_repr.specs.Laws.Numbers.{number-bits, bits-within, bits-zero, bits-and, bits-or, bits-xor, bits-not, bits-one, len-bits}
+use Rattle.enumset_repr.specs.Laws.Ends.{TrailingLaw, LeadingLaw, trailing-least, leading-greatest}
 use Rattle.enumset_repr.specs.Laws.Words.{word-bits, bits-put_low, bits-put_word}
 
-module _ (w : Width) where
-  abbrev IsNumber : ℕ → Type 0
-  IsNumber n = n < 2 ^ width_bits w
+equal_bits : (a b : ℕ) → IsTrue (a == b) ↔ (bits a ≡ bits b)
+equal_bits a b = (λ same. ap bits (eqb-true a b same), λ same. eq-eqb a b (sym (number-bits a) ∙ ap number same ∙ number-bits b))
 
-  pub within_width : (a : ℕ) → IsNumber a → IsTrue (is_subset (bits a) (below (width_bits w)))
-  within_width a fits = bits-within a (width_bits w) fits
-
-  pub number_of_bits : (a : ℕ) → IsNumber a → number (bits a) ≡ a
-  number_of_bits a fits = number-bits a
-
-  pub equal_bits : (a b : ℕ) → IsNumber a → IsNumber b → IsTrue (a == b) ↔ (bits a ≡ bits b)
-  equal_bits a b p q = (
-    λ same. ap bits (eqb-true a b same),
-    λ same. ap (λ n. a == n) (sym (sym (number-bits a) ∙ ap number same ∙ number-bits b)) ∙ eq-eqb a a refl,
-  )
-
-  pub and_is : (a b r : ℕ) → IsNumber a → IsNumber b → r ≡ bit_and a b → bits r ≡ intersection (bits a) (bits b)
-  and_is a b r p q e = ap bits e ∙ bits-and a b
-
-  pub or_is : (a b r : ℕ) → IsNumber a → IsNumber b → r ≡ bit_or a b → bits r ≡ union (bits a) (bits b)
-  or_is a b r p q e = ap bits e ∙ bits-or a b
-
-  pub xor_is : (a b r : ℕ) → IsNumber a → IsNumber b → r ≡ bit_xor a b → bits r ≡ symmetric_difference (bits a) (bits b)
-  xor_is a b r p q e = ap bits e ∙ bits-xor a b
-
-  pub not_is : (a r : ℕ) → IsNumber a → r ≡ bit_not w a → bits r ≡ difference (below (width_bits w)) (bits a)
-  not_is a r p e = ap bits e ∙ bits-not w a p
+-- a number of a width is the set of its bits
+pub integer : (w : Width) → IsPrimitive bits number (λ n. n < 2 ^ width_bits w) (width_bits w) 0 ◌==◌ (λ _ _. ⊤) (λ _ _. ⊤) (λ _ _. ⊤) (λ _. ⊤) (λ a b r. r ≡ bit_and a b) (λ a b r. r ≡ bit_or a b) (λ a b r. r ≡ bit_xor a b) (λ a r. r ≡ bit_not w a)
+integer w = record {
+  zero_is = bits-zero;
+  within = λ a fits. bits-within a (width_bits w) fits;
+  inverse = λ a fits. number-bits a;
+  eq_is = equal_bits;
+  can_and = λ _ _. tt;
+  can_or = λ _ _. tt;
+  can_xor = λ _ _. tt;
+  can_not = λ _. tt;
+  and_is = λ a b r e. ap bits e ∙ bits-and a b;
+  or_is = λ a b r e. ap bits e ∙ bits-or a b;
+  xor_is = λ a b r e. ap bits e ∙ bits-xor a b;
+  not_is = λ a r fits e. ap bits e ∙ bits-not w a fits;
+}
 
 -- ---- words
 
@@ -79,3 +73,63 @@ with_word-wide n i x fits = sym (bits-put_word w128 n x i fits)
 pub ruleset words_narrow = (word-whole, with_word-narrow, with_word-whole)
 
 pub ruleset words_wide = (word-shifted, with_word-wide)
+
+-- ---- what the calls of an integer want, at each width: a tactic reads no width off a numeral
+
+abbrev OneLaw : Width → Type 0
+OneLaw w = (k : ℕ) → k < width_bits w → bits (1 * 2 ^ k % 2 ^ width_bits w) ≡ only k
+
+pub one_8 : OneLaw w8
+one_8 = bits-one w8
+
+pub trailing_8 : TrailingLaw w8
+trailing_8 = trailing-least w8
+
+pub leading_8 : LeadingLaw w8
+leading_8 = leading-greatest w8
+
+pub ruleset on_8 = (len-bits, one_8, trailing_8, leading_8, words_narrow)
+
+pub one_16 : OneLaw w16
+one_16 = bits-one w16
+
+pub trailing_16 : TrailingLaw w16
+trailing_16 = trailing-least w16
+
+pub leading_16 : LeadingLaw w16
+leading_16 = leading-greatest w16
+
+pub ruleset on_16 = (len-bits, one_16, trailing_16, leading_16, words_narrow)
+
+pub one_32 : OneLaw w32
+one_32 = bits-one w32
+
+pub trailing_32 : TrailingLaw w32
+trailing_32 = trailing-least w32
+
+pub leading_32 : LeadingLaw w32
+leading_32 = leading-greatest w32
+
+pub ruleset on_32 = (len-bits, one_32, trailing_32, leading_32, words_narrow)
+
+pub one_64 : OneLaw w64
+one_64 = bits-one w64
+
+pub trailing_64 : TrailingLaw w64
+trailing_64 = trailing-least w64
+
+pub leading_64 : LeadingLaw w64
+leading_64 = leading-greatest w64
+
+pub ruleset on_64 = (len-bits, one_64, trailing_64, leading_64, words_narrow)
+
+pub one_128 : OneLaw w128
+one_128 = bits-one w128
+
+pub trailing_128 : TrailingLaw w128
+trailing_128 = trailing-least w128
+
+pub leading_128 : LeadingLaw w128
+leading_128 = leading-greatest w128
+
+pub ruleset on_128 = (len-bits, one_128, trailing_128, leading_128, words_wide)

@@ -2,11 +2,11 @@
 --     contains-bits, bits-.., len-bits      the set of a number, and of what an operator answers
 --     bits-number, number-bits      a set and its number
 --     least-bits, greatest-bits      `trailing_zeros` and `leading_zeros`
---     numbers_8, .., numbers_128      the laws at a width, for `using`
+--     on_numbers      those that speak of no width, for `using`
 use Rattle.std.proofs.Common.{◌≡◌, ◌<◌, ◌≤◌, ℕ, suc, zero, ◌+◌, ◌-◌, ◌*◌, ◌/◌, ◌%◌, ◌^◌, min, max, Bool, true, false, not, ◌&&◌, ◌||◌, List, [], ◌∷◌, refl, sym, ap, ◌∙◌, length, arith, inl, inr, ◌⊎◌, true≢false, pow-suc, pow_mono, mul_assoc, mul_comm, suc-mul, pow-add, one-mul, zero-mul}
-use Rattle.std.proofs.Math.Bool.{and-true, or_comm, and_comm}
+use Rattle.std.proofs.Math.Bool.{and-true, or-false, or_comm, and_comm}
 use Rattle.std.specs.Prelude.{◌==◌, nat_lt, sum_by}
-use Rattle.std.specs.Int.{bit_at, bit_not, trailing_zeros, leading_zeros, Width, w8, w16, w32, w64, w128}
+use Rattle.std.specs.Int.{bit_at, bit_not, trailing_zeros, leading_zeros, Width}
 use Rattle.std.specs.Int.RustNames.{bit_and, bit_or, bit_xor, count_ones}
 use Rattle.std.specs.Int.Count.{ones_cat, leading_top}
 use mir.Val.{bits as width_bits}
@@ -15,7 +15,7 @@ use Rattle.std.proofs.lemmas.Bool.Decides.{nat_tests}
 use Rattle.std.proofs.lemmas.List.Sums.{sum_by-cons}
 use Rattle.std.proofs.lemmas.Nat.{pow_pos, le-div, div_below, pow_below, one_shl, shr-shr, shr_split, mod_below}
 use Rattle.std.proofs.lemmas.Nat.Bits.{and_pow, bit_at_and, bit_at_or, bit_at_xor, bit_at_not, bit_at-pow_same, bit_at-pow_other, bit_at-zero, bit_at_above, bit_at-lt, bit_at_cat_low, bit_at_cat_high, bit_at-trailing_zeros, same_from_bits}
-use Rattle.enumset_repr.specs.BitSet.{is_in, BitSet, contains, rising, len, empty, insert, remove, union, intersection, difference, symmetric_difference, is_subset, below, low}
+use Rattle.enumset_repr.specs.BitSet.{is_in, BitSet, contains, rising, len, empty, insert, only, remove, union, intersection, difference, symmetric_difference, is_subset, below, low}
 use Rattle.enumset_repr.specs.Number.{number, bits}
 use Rattle.enumset_repr.specs.Laws.Members.{same_set, contains-empty, contains-rising, contains-retain, contains-remove, contains-insert, contains-union, contains-intersection, contains-difference, contains-symmetric_difference, contains-below, contains-low, is_subset-contains, contains-is_subset}
 use Rattle.enumset_repr.specs.Laws.Rising.{RisesFrom, rising-rises, rising-empty, is_in-below, len-rising}
@@ -231,6 +231,10 @@ bits-and_not w a b fits_a fits_b =
 contains-pow : (k q : ℕ) → contains (bits (2 ^ k)) q ≡ (q == k)
 contains-pow k q = contains-bits (2 ^ k) q ∙ pow_bit k q
 
+-- `1 << k`
+pub bits-one : (w : Width) (k : ℕ) → k < width_bits w → bits (1 * 2 ^ k % 2 ^ width_bits w) ≡ only k
+bits-one w k within = ap bits (one_shl k (width_bits w) within) ∙ same_set _ _ (λ q. contains-pow k q ∙ sym (contains-insert empty k q ∙ ap (λ t. (q == k) || t) (contains-empty q) ∙ or-false (q == k)))
+
 pub bits-set : (w : Width) (n k : ℕ) → n < 2 ^ width_bits w → k < width_bits w → bits (bit_or n (1 * 2 ^ k % 2 ^ width_bits w)) ≡ insert (bits n) k
 bits-set w n k fits within =
     ap (λ m. bits (bit_or n m)) (one_shl k (width_bits w) within) ∙ bits-or n (2 ^ k)
@@ -290,107 +294,5 @@ bits-low n k = bits_is _ _ (λ q. by q (cases_lt q k) ∙ ap (λ t. t && nat_lt 
 pub contains-bits-shifted : (n k b : ℕ) → contains (bits (n / 2 ^ k)) b ≡ contains (bits n) (k + b)
 contains-bits-shifted n k b = contains-bits (n / 2 ^ k) b ∙ ap (λ m. m % 2 == 1) (shr-shr n k b) ∙ sym (contains-bits n (k + b))
 
--- ---- the laws that speak of a width, at each width, for a tactic, which reads no width off a numeral
-
-abbrev NotLaw : Width → Type 0
-NotLaw w = (n : ℕ) → n < 2 ^ width_bits w → bits (bit_not w n) ≡ difference (below (width_bits w)) (bits n)
-
-abbrev AndNotLaw : Width → Type 0
-AndNotLaw w = (a b : ℕ) → a < 2 ^ width_bits w → b < 2 ^ width_bits w → bits (bit_and a (bit_not w b)) ≡ difference (bits a) (bits b)
-
-abbrev SetLaw : Width → Type 0
-SetLaw w = (n k : ℕ) → n < 2 ^ width_bits w → k < width_bits w → bits (bit_or n (1 * 2 ^ k % 2 ^ width_bits w)) ≡ insert (bits n) k
-
-abbrev ClearLaw : Width → Type 0
-ClearLaw w = (n k : ℕ) → n < 2 ^ width_bits w → k < width_bits w → bits (bit_and n (bit_not w (1 * 2 ^ k % 2 ^ width_bits w))) ≡ remove (bits n) k
-
-abbrev TestLaw : Width → Type 0
-TestLaw w = (n k : ℕ) → k < width_bits w → contains (bits n) k ≡ not (bit_and n (1 * 2 ^ k % 2 ^ width_bits w) == 0)
-
-pub bits-not_8 : NotLaw w8
-bits-not_8 = bits-not w8
-
-pub bits-and_not_8 : AndNotLaw w8
-bits-and_not_8 = bits-and_not w8
-
-pub bits-set_8 : SetLaw w8
-bits-set_8 = bits-set w8
-
-pub bits-clear_8 : ClearLaw w8
-bits-clear_8 = bits-clear w8
-
-pub bits-test_8 : TestLaw w8
-bits-test_8 = bits-test w8
-
-pub bits-not_16 : NotLaw w16
-bits-not_16 = bits-not w16
-
-pub bits-and_not_16 : AndNotLaw w16
-bits-and_not_16 = bits-and_not w16
-
-pub bits-set_16 : SetLaw w16
-bits-set_16 = bits-set w16
-
-pub bits-clear_16 : ClearLaw w16
-bits-clear_16 = bits-clear w16
-
-pub bits-test_16 : TestLaw w16
-bits-test_16 = bits-test w16
-
-pub bits-not_32 : NotLaw w32
-bits-not_32 = bits-not w32
-
-pub bits-and_not_32 : AndNotLaw w32
-bits-and_not_32 = bits-and_not w32
-
-pub bits-set_32 : SetLaw w32
-bits-set_32 = bits-set w32
-
-pub bits-clear_32 : ClearLaw w32
-bits-clear_32 = bits-clear w32
-
-pub bits-test_32 : TestLaw w32
-bits-test_32 = bits-test w32
-
-pub bits-not_64 : NotLaw w64
-bits-not_64 = bits-not w64
-
-pub bits-and_not_64 : AndNotLaw w64
-bits-and_not_64 = bits-and_not w64
-
-pub bits-set_64 : SetLaw w64
-bits-set_64 = bits-set w64
-
-pub bits-clear_64 : ClearLaw w64
-bits-clear_64 = bits-clear w64
-
-pub bits-test_64 : TestLaw w64
-bits-test_64 = bits-test w64
-
-pub bits-not_128 : NotLaw w128
-bits-not_128 = bits-not w128
-
-pub bits-and_not_128 : AndNotLaw w128
-bits-and_not_128 = bits-and_not w128
-
-pub bits-set_128 : SetLaw w128
-bits-set_128 = bits-set w128
-
-pub bits-clear_128 : ClearLaw w128
-bits-clear_128 = bits-clear w128
-
-pub bits-test_128 : TestLaw w128
-bits-test_128 = bits-test w128
-
--- What a function on numbers of a width wants: `#[tactic(auto, using(crate::specs::Laws::Numbers::numbers_64))]`. `on_numbers` has the laws that speak of no width.
+-- What a proof about a number's set wants, of any width.
 pub ruleset on_numbers = (bits-and, bits-or, bits-xor, len-bits, bits-low, contains-bits-shifted, bits-zero, bits_empty)
-
-pub ruleset numbers_8 = (on_numbers, bits-not_8, bits-and_not_8, bits-set_8, bits-clear_8, bits-test_8)
-
-pub ruleset numbers_16 = (on_numbers, bits-not_16, bits-and_not_16, bits-set_16, bits-clear_16, bits-test_16)
-
-pub ruleset numbers_32 = (on_numbers, bits-not_32, bits-and_not_32, bits-set_32, bits-clear_32, bits-test_32)
-
-pub ruleset numbers_64 = (on_numbers, bits-not_64, bits-and_not_64, bits-set_64, bits-clear_64, bits-test_64)
-
-pub ruleset numbers_128 = (on_numbers, bits-not_128, bits-and_not_128, bits-set_128, bits-clear_128, bits-test_128)
