@@ -51,7 +51,8 @@ impl fmt::Display for Sparse {
     ghost use Rattle.enumset_run.specs.Names.{name_of};
     ghost use Rattle.enumset_run.specs.contracts.sparse.Sparse.{the_type};
 
-    ghost output = { λ v. Some (name_of the_type (codes "A" ∷ codes "B" ∷ codes "C" ∷ codes "D" ∷ []) v) };
+    ghost output = { λ v. Some (name_of the_type
+        (codes "A" ∷ codes "B" ∷ codes "C" ∷ codes "D" ∷ []) v) };
 
     fn fmt<W: fmt::Write>(&self, f: &mut fmt::Formatter<W>) -> fmt::Result {
         match self {

@@ -42,5 +42,6 @@ pub trait EnumSetType: Copy + Eq {
         requires { IsTrue (is_in val elements.bit_list) }
         ensures { elements.bit result ≡ val };
 
-    ghost lawful: { IsElementType elements Self.PartialEq.eq (Self.Repr.members ALL_BITS) BIT_WIDTH VARIANT_COUNT };
+    ghost lawful: { IsElementType elements Self.PartialEq.eq
+        (Self.Repr.members ALL_BITS) BIT_WIDTH VARIANT_COUNT };
 }

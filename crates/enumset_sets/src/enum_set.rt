@@ -31,7 +31,8 @@ impl<T: EnumSetType, R: EnumSetTypeRepr> Model for EnumSet<T, R> {
 
     ghost view = { λ s. R.members s.repr };
 
-    ghost invariant = { λ s. IsHeld R.members R.of_members R.is_value (T.Repr.members T.ALL_BITS) s.repr };
+    ghost invariant = { λ s.
+        IsHeld R.members R.of_members R.is_value (T.Repr.members T.ALL_BITS) s.repr };
 
     ghost inverse = { λ s. record { repr = R.of_members s; of = record {} } };
 
