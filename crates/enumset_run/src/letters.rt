@@ -55,7 +55,8 @@ impl fmt::Display for Letters {
     ghost use Rattle.enumset_run.specs.contracts.letters.Letters.{the_type};
 
     ghost output = { λ v. Some (name_of the_type
-        (codes "A" ∷ codes "B" ∷ codes "C" ∷ codes "D" ∷ codes "E" ∷ codes "F" ∷ codes "G" ∷ []) v) };
+        (codes "A" ∷ codes "B" ∷ codes "C" ∷ codes "D"
+        ∷ codes "E" ∷ codes "F" ∷ codes "G" ∷ []) v) };
 
     fn fmt<W: fmt::Write>(&self, f: &mut fmt::Formatter<W>) -> fmt::Result {
         match self {
