@@ -1,60 +1,77 @@
--- What a field writes.
-use Rattle.std.proofs.Common.{◌≡◌, ◌≢◌, ℕ, ◌^◌, ◌<◌, ◌≤◌, Bool, true, false, cond, nat_lt, List, [], ◌∷◌, length, get_or, Option, Some, None, Result, Ok, Err, refl, sym, lit≤, arith}
-use Rattle.std.specs.Result.{result_ok}
-use Rattle.std.specs.Str.{all_ascii_digits, IsUtf8}
-use Rattle.std.specs.Str.Parse.{digits_value, ParsesUnsigned}
+-- What a field writes, digit by digit.
+use Rattle.std.proofs.Common.{◌≡◌, ℕ, ◌+◌, ◌-◌, ◌*◌, ◌^◌, ◌<◌, ◌≤◌, true, false, cond, ◌&&◌, nat_lt, List, [], ◌∷◌, length, get_or, drop, Some, None, refl, drop-cons, add-one, lit≤, arith}
+use Rattle.std.specs.Str.{all_ascii_digits}
+use Rattle.std.specs.Str.Parse.{digits_value, digits_value_after}
+use Rattle.std.specs.Char.{is_ascii_digit, digit_value}
+use Rattle.std.proofs.lemmas.List.{drop_all}
 use Rattle.std.proofs.lemmas.Bool.Decides.{nat_tests}
-use Rattle.std.proofs.lemmas.Str.{IsUtf8-from_ascii}
-use Rattle.std.proofs.lemmas.Fmt.{IsAscii-from_digits}
-use Rattle.std.proofs.lemmas.Str.Parse.{IsNumeralModel, numerals_by_value, tells_all_ascii_digits, parse_plain}
 use Rattle.enumset_run.specs.Lines.{is_empty, field, register, bit}
 
-numerals : IsNumeralModel (λ ds. all_ascii_digits ds ≡ true) (digits_value 10)
-numerals = numerals_by_value _ tells_all_ascii_digits
+pub digits_value_after-ge : (ds : List ℕ) (n : ℕ) → n ≤ digits_value_after 10 n ds
+digits_value_after-ge [] n = omega arith
+digits_value_after-ge (d ∷ ds) n = omega (arith, digits_value_after-ge ds (n * 10 + digit_value d))
 
--- digits are a text
-other_than_digits : (token : List ℕ) (b : Bool) → all_ascii_digits token ≡ b → ¬ (IsUtf8 token) → all_ascii_digits token ≡ false
-other_than_digits token true digits other = absurd (other (IsUtf8-from_ascii token (IsAscii-from_digits token (numerals.to token digits))))
-other_than_digits token false digits other = digits
+-- what a digit is worth
+digit_value-digit : (c : ℕ) → is_ascii_digit c ≡ true → digit_value c ≡ c - 48
+digit_value-digit c h = grind (arith, nat_tests)
 
-pub all_ascii_digits-other : (token : List ℕ) → ¬ (IsUtf8 token) → all_ascii_digits token ≡ false
-all_ascii_digits-other token other = other_than_digits token (all_ascii_digits token) refl other
+-- the byte at i, and those after it
+pub digits_value_after-drop : (token : List ℕ) (n i : ℕ) → i < length token → is_ascii_digit (get_or token i 0) ≡ true → digits_value_after 10 n (drop i token) ≡ digits_value_after 10 (n * 10 + (get_or token i 0 - 48)) (drop (i + 1) token)
+digits_value_after-drop token n i h d = rw (add-one, drop-cons token i 0 h, ← digit_value-digit (get_or token i 0) d) refl
+
+pub all_ascii_digits-drop : (token : List ℕ) (i : ℕ) → i < length token → all_ascii_digits (drop i token) ≡ (is_ascii_digit (get_or token i 0) && all_ascii_digits (drop (i + 1) token))
+all_ascii_digits-drop token i h = rw (add-one, drop-cons token i 0 h)
+
+-- after the last byte
+pub digits_value_after-end : (token : List ℕ) (n i : ℕ) → length token ≤ i → digits_value_after 10 n (drop i token) ≡ n
+digits_value_after-end token n i h = rw (drop_all i token h)
+
+pub all_ascii_digits-end : (token : List ℕ) (i : ℕ) → length token ≤ i → all_ascii_digits (drop i token) ≡ true
+all_ascii_digits-end token i h = rw (drop_all i token h)
 
 pub field-none : (bits : ℕ) (token : List ℕ) → all_ascii_digits token ≡ false → field bits token ≡ None
 field-none bits token h = grind (arith, nat_tests)
 
+pub field-large : (bits : ℕ) (token : List ℕ) → 2 ^ bits ≤ digits_value 10 token → field bits token ≡ None
+field-large bits token h = grind (arith, nat_tests)
+
+-- a number that is too large with the digit at i
+pub field-past : (bits : ℕ) (token : List ℕ) (n i : ℕ) → i < length token → is_ascii_digit (get_or token i 0) ≡ true → digits_value_after 10 n (drop i token) ≡ digits_value 10 token → 2 ^ bits ≤ n * 10 + (get_or token i 0 - 48) → field bits token ≡ None
+field-past bits token n i h d value large =
+    let step = digits_value_after-drop token n i h d in
+    let rest = digits_value_after-ge (drop (i + 1) token) (n * 10 + (get_or token i 0 - 48)) in
+    field-large bits token (omega (arith, value, step, rest, large))
+
 nonempty : (token : List ℕ) → 0 < length token → is_empty token ≡ false
 nonempty [] l = absurd (omega arith)
-nonempty (b ∷ bs) l = refl
+nonempty (d ∷ ds) l = refl
 
--- what is no number of so many bits is no field
-field-refused : (bits : ℕ) (token : List ℕ) → (all_ascii_digits token ≡ true → digits_value 10 token < 2 ^ bits → ⊥) → (digits fits : Bool) → all_ascii_digits token ≡ digits → nat_lt (digits_value 10 token) (2 ^ bits) ≡ fits → field bits token ≡ None
-field-refused bits token small true true d f = absurd (small d (grind (arith, nat_tests)))
-field-refused bits token small true false d f = grind (arith, nat_tests)
-field-refused bits token small false fits d f = field-none bits token d
+pub field-some : (bits : ℕ) (token : List ℕ) → 0 < length token → all_ascii_digits token ≡ true → digits_value 10 token < 2 ^ bits → field bits token ≡ Some (digits_value 10 token)
+field-some bits token l d h = let e = nonempty token l in grind (arith, nat_tests)
 
--- what `parse` gives, where no plus sign stands in front, is the field
-pub field-parsed : {E : Type 0} (bits : ℕ) (token : List ℕ) (r : Result ℕ E) → ParsesUnsigned bits 10 token r → get_or token 0 0 ≢ 43 → result_ok r ≡ field bits token
-field-parsed {E} bits token (Ok n) parsed plain =
-    let p = parse_plain numerals {E = E} bits token (Ok n) parsed plain in
-    let some : is_empty token ≡ false = nonempty token p.0.1 in
-    let digits : all_ascii_digits token ≡ true = p.0.0 in
-    let fits : digits_value 10 token < 2 ^ bits = p.0.2 in
-    let value : n ≡ digits_value 10 token = p.1 in
-    grind (arith, nat_tests)
-field-parsed {E} bits [] (Err e) parsed plain = refl
-field-parsed {E} bits (b ∷ bs) (Err e) parsed plain =
-    let p = parse_plain numerals {E = E} bits (b ∷ bs) (Err e) parsed plain in
-    sym (field-refused bits (b ∷ bs) (λ digits fits. p (digits, omega arith, fits)) (all_ascii_digits (b ∷ bs)) (nat_lt (digits_value 10 (b ∷ bs)) (2 ^ bits)) refl refl)
+pub ruleset field_steps = (digits_value_after-ge, digits_value_after-drop, all_ascii_digits-drop, digits_value_after-end, all_ascii_digits-end, field-none, field-large, field-some)
 
-pub ruleset field_steps = (field-parsed, field-none, all_ascii_digits-other)
+-- a field of fewer bits
+field-fewer : (few many n : ℕ) (token : List ℕ) → 2 ^ few ≤ 2 ^ many → field many token ≡ Some n → field few token ≡ cond (nat_lt n (2 ^ few)) (Some n) None
+field-fewer few many n token le h = grind (arith, nat_tests)
 
--- what has no number of many bits has none of few
-field-fewer : (few many : ℕ) (token : List ℕ) → 2 ^ few ≤ 2 ^ many → field many token ≡ None → field few token ≡ None
-field-fewer few many token le h = grind (arith, nat_tests)
+field-fewer_none : (few many : ℕ) (token : List ℕ) → 2 ^ few ≤ 2 ^ many → field many token ≡ None → field few token ≡ None
+field-fewer_none few many token le h = grind (arith, nat_tests)
+
+pub register-some : (token : List ℕ) (n : ℕ) → field 128 token ≡ Some n → register token ≡ cond (nat_lt n (2 ^ 8)) (Some n) None
+register-some token n h = field-fewer 8 128 n token (lit≤ tt) h
+
+pub register-no_number : (token : List ℕ) → field 128 token ≡ None → register token ≡ None
+register-no_number token h = field-fewer_none 8 128 token (lit≤ tt) h
+
+pub bit-some : (token : List ℕ) (n : ℕ) → field 128 token ≡ Some n → bit token ≡ cond (nat_lt n (2 ^ 32)) (Some n) None
+bit-some token n h = field-fewer 32 128 n token (lit≤ tt) h
+
+pub bit-no_number : (token : List ℕ) → field 128 token ≡ None → bit token ≡ None
+bit-no_number token h = field-fewer_none 32 128 token (lit≤ tt) h
 
 -- what is no bit is no register
 pub register-none : (token : List ℕ) → bit token ≡ None → register token ≡ None
-register-none token h = field-fewer 8 32 token (lit≤ tt) h
+register-none token h = field-fewer_none 8 32 token (lit≤ tt) h
 
-pub ruleset limits = (register-none)
+pub ruleset limits = (register-some, register-no_number, bit-some, bit-no_number, register-none)

@@ -1,35 +1,39 @@
 //! The fields of a command.
-ghost use Rattle.std.specs.Prelude.{◌≡◌, ◌≢◌, false, slice_index, IfSome};
-ghost use Rattle.std.specs.Str.{all_ascii_digits};
-ghost use Rattle.enumset_run.specs.Lines.{register, bit};
-
-use std::str;
+ghost use Rattle.std.specs.Prelude.{◌≡◌};
+ghost use Rattle.enumset_run.specs.Lines.{register, bit, field};
 
 /// The number that a token of decimal digits writes, if it is a `u8`.
-#[tactic(auto, using(crate::proofs::Fields::field_steps))]
+#[tactic(auto, using(crate::proofs::Fields::limits))]
 pub(super) fn read_register(token: &[u8]) -> Option<u8>
     ensures { result ≡ register token.now }
 {
-    unsigned(token)?.parse().ok()
+    u8::try_from(read_number(token)?).ok()
 }
 
 /// The number that a token of decimal digits writes, if it is a `u32`.
-#[tactic(auto, using(crate::proofs::Fields::field_steps))]
+#[tactic(auto, using(crate::proofs::Fields::limits))]
 pub(super) fn read_bit(token: &[u8]) -> Option<u32>
     ensures { result ≡ bit token.now }
 {
-    unsigned(token)?.parse().ok()
+    u32::try_from(read_number(token)?).ok()
 }
 
-/// A token as a text without a plus sign in front, which `parse` would pass over, if it is one.
+/// The number that a token of decimal digits writes, if it is a `u128`. Every field is a smaller one.
 #[tactic(auto, using(crate::proofs::Fields::field_steps))]
-fn unsigned(token: &[u8]) -> Option<&str>
-    ensures text { IfSome result (λ text. text.now ≡ token.now) }
-    ensures unsigned { IfSome result (λ text. slice_index token.now 0 ≢ 43) }
-    ensures none { result ≡ None → all_ascii_digits token.now ≡ false }
+fn read_number(token: &[u8]) -> Option<u128>
+    ensures { result ≡ field 128 token.now }
 {
-    match token {
-        [b'+', ..] => None,
-        _ => str::from_utf8(token).ok(),
+    if token.is_empty() {
+        return None;
     }
+    let mut number = 0u128;
+    for digit in token {
+        if !digit.is_ascii_digit() {
+            return None;
+        }
+        number = number
+            .checked_mul(10)?
+            .checked_add(u128::from(*digit - b'0'))?;
+    }
+    Some(number)
 }
