@@ -138,51 +138,65 @@ abbrev pub or_else : Bool → Type 0 → Type 0 → Type 0
 or_else true fault next = next
 or_else false fault next = fault
 
--- an enum without fields, one bit for each variant and no two the same, and their width and their count
-abbrev pub IsLawful : (D : Declared) → List ℕ → ℕ → ℕ → Type 0
-IsLawful D bs width count =
+-- an enum without fields, one bit for each variant and no two the same, a test of ALL_BITS, and their width and their count
+abbrev pub IsLawful : (D : Declared) → List ℕ → Bool → Type 0 → ℕ → ℕ → Type 0
+IsLawful D bs valid fault width count =
     or_else (length bs == length (rowss D.parts)) (BitCountShouldBe (length (rowss D.parts)))
     (or_else (is_distinct bs) NamesABitTwice
+    (or_else valid fault
     (or_else (one_past_all bs == width) (BitWidthShouldBe (one_past_all bs))
-    (or_else (length bs == count) (VariantCountShouldBe (length bs)) (Bare D.parts))))
+    (or_else (length bs == count) (VariantCountShouldBe (length bs)) (Bare D.parts)))))
 
--- the same, and this number is that of the bits
+-- the same over an integer: ALL_BITS is the number of the bits
 abbrev pub IsLawfulNumber : (D : Declared) → List ℕ → ℕ → ℕ → ℕ → Type 0
 IsLawfulNumber D bs n width count =
-    or_else (sum_by (λ b. 2 ^ b) bs == n) (AllBitsShouldBe (sum_by (λ b. 2 ^ b) bs)) (IsLawful D bs width count)
+    IsLawful D bs (sum_by (λ b. 2 ^ b) bs == n) (AllBitsShouldBe (sum_by (λ b. 2 ^ b) bs)) width count
 
 passed : (test : Bool) (fault next : Type 0) → (fault → ⊥) → or_else test fault next → (test ≡ true) × next
 passed true fault next none h = (refl, h)
 passed false fault next none h = absurd (none h)
 
-module _ (D : Declared) (bs : List ℕ) (width count : ℕ) where
-  parts : IsLawful D bs width count → (length bs ≡ length (rowss D.parts)) × (is_distinct bs ≡ true) × (one_past_all bs ≡ width) × (length bs ≡ count) × Bare D.parts
-  parts test =
-      let a = passed (length bs == length (rowss D.parts)) _ _ (λ h. elim h [ ]) test in
-      let b = passed (is_distinct bs) _ _ (λ h. elim h [ ]) a.1 in
-      let c = passed (one_past_all bs == width) _ _ (λ h. elim h [ ]) b.1 in
-      let d = passed (length bs == count) _ _ (λ h. elim h [ ]) c.1 in
-      (eqb-true _ _ a.0, b.0, eqb-true _ _ c.0, eqb-true _ _ d.0, d.1)
+-- what the test says where it passes
+record Passes (D : Declared) (bs : List ℕ) (valid : Bool) (width count : ℕ) : Type 0 where
+  variants : length bs ≡ length (rowss D.parts)
+  distinct : is_distinct bs ≡ true
+  is_valid : valid ≡ true
+  width_is : one_past_all bs ≡ width
+  count_is : length bs ≡ count
+  bare : Bare D.parts
 
--- The laws of an enum without fields, over any store: the value of ALL_BITS means the set of the list.
-pub lawful_in : {bs : List ℕ} {all : BitSet} {width count : ℕ} (D : Declared) → all ≡ from_list bs → IsLawful D bs width count → IsElementType (with_bits D bs) (derived_eq D) all width count
-lawful_in {bs} {all} {width} {count} D valid test =
-    let p = parts D bs width count test in
+IsLawful-passes : (D : Declared) (bs : List ℕ) (valid : Bool) (fault : Type 0) (width count : ℕ) → (fault → ⊥) → IsLawful D bs valid fault width count → Passes D bs valid width count
+IsLawful-passes D bs valid fault width count none test =
+    let a = passed (length bs == length (rowss D.parts)) _ _ (λ h. elim h [ ]) test in
+    let b = passed (is_distinct bs) _ _ (λ h. elim h [ ]) a.1 in
+    let c = passed valid fault _ none b.1 in
+    let d = passed (one_past_all bs == width) _ _ (λ h. elim h [ ]) c.1 in
+    let e = passed (length bs == count) _ _ (λ h. elim h [ ]) d.1 in
+    record { variants = eqb-true _ _ a.0; distinct = b.0; is_valid = c.0; width_is = eqb-true _ _ d.0; count_is = eqb-true _ _ e.0; bare = e.1 }
+
+laws : (D : Declared) (bs : List ℕ) (test : Bool) (all : BitSet) (width count : ℕ) → all ≡ from_list bs → Passes D bs test width count → IsElementType (with_bits D bs) (derived_eq D) all width count
+laws D bs test all width count valid p =
+    let tells = bit-tells D p.bare bs p.variants p.distinct in
     record {
       valid = valid;
-      distinct = p.1;
-      bit_is_valid = λ v. ap (λ s. contains s ((with_bits D bs).bit v)) valid ∙ contains-from_list bs _ ∙ bit-is_in D p.4 bs p.0 p.1 v;
-      bit_tells = bit-tells D p.4 bs p.0 p.1;
-      eq_tells = λ v w. (λ e. ap (with_bits D bs).bit (same_true D p.4 v w (sym (derived_eq-same D v w) ∙ e)), λ e. derived_eq-same D v w ∙ true_same D v w (bit-tells D p.4 bs p.0 p.1 v w e));
-      width_is = sym p.2 ∙ sym (one_past_greatest-from_list bs) ∙ ap one_past_greatest (sym valid);
-      count_is = sym p.3 ∙ sym (len-from_list bs p.1) ∙ ap len (sym valid);
+      distinct = p.distinct;
+      bit_is_valid = λ v. ap (λ s. contains s ((with_bits D bs).bit v)) valid ∙ contains-from_list bs _ ∙ bit-is_in D p.bare bs p.variants p.distinct v;
+      bit_tells = tells;
+      eq_tells = λ v w. (λ e. ap (with_bits D bs).bit (same_true D p.bare v w (sym (derived_eq-same D v w) ∙ e)), λ e. derived_eq-same D v w ∙ true_same D v w (tells v w e));
+      width_is = sym p.width_is ∙ sym (one_past_greatest-from_list bs) ∙ ap one_past_greatest (sym valid);
+      count_is = sym p.count_is ∙ sym (len-from_list bs p.distinct) ∙ ap len (sym valid);
     }
+
+-- The laws of an enum without fields, over any store: the value of ALL_BITS means the set of the list.
+pub lawful_in : {bs : List ℕ} {all : BitSet} {width count : ℕ} (D : Declared) → all ≡ from_list bs → IsLawful D bs true ⊥ width count → IsElementType (with_bits D bs) (derived_eq D) all width count
+lawful_in {bs} {all} {width} {count} D valid test =
+    laws D bs true all width count valid (IsLawful-passes D bs true ⊥ width count (λ h. h) test)
 
 -- The same over an integer, whose number ALL_BITS is.
 pub lawful_in_integer : {bs : List ℕ} {width count : ℕ} (D : Declared) (n : ℕ) → IsLawfulNumber D bs n width count → IsElementType (with_bits D bs) (derived_eq D) (bits n) width count
 lawful_in_integer {bs} {width} {count} D n test =
-    let p = passed (sum_by (λ b. 2 ^ b) bs == n) _ _ (λ h. elim h [ ]) test in
-    lawful_in D (bits_listed bs n (and_from _ _ (parts D bs width count p.1).1 p.0)) p.1
+    let p = IsLawful-passes D bs (sum_by (λ b. 2 ^ b) bs == n) _ width count (λ h. elim h [ ]) test in
+    laws D bs _ (bits n) width count (bits_listed bs n (and_from _ _ p.distinct p.is_valid)) p
 
 -- ---- what the laws give
 
