@@ -7,6 +7,8 @@
 --     Numbers      sets and numbers, over every width
 --     Ends      the least and the greatest member
 --     Words      words of 64 bits
+--     Low      what a cut at a width leaves, and which sets and numbers fit one
+--     WordLists      lists of words of 64 bits, and the words of a set
 --     Listed      the set of a number whose bits are listed
 --     Steps      a step from an end of a list: the item that it gives and the others
 --     Integers      the laws of an integer as a store
@@ -20,3 +22,5 @@ pub mod Steps
 pub mod Words
 pub mod Integers
 pub mod Listed
+pub mod Low
+pub mod WordLists

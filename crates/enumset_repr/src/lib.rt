@@ -2,6 +2,7 @@
 //!
 //! - [`repr`]: the trait [`EnumSetTypeRepr`] of stores, whose every call is an operation on a finite set
 //!   of bit numbers.
+//! - [`arrays`]: sets to and from arrays of words, over every store.
 //! - [`primitive`], [`primitive_iter`] and [`primitive_store`]: an integer as the set of its bits, the iterator
 //!   over them, from both ends, and the integer as a store.
 //! - [`integers`]: `u8`, `u16`, `u32`, `u64` and `u128`.
@@ -12,11 +13,14 @@
 //! the proved laws of these words.
 #![tactic(auto)]
 
+pub mod arrays;
+mod halves;
 pub mod integers;
 pub mod primitive;
 pub mod primitive_iter;
 pub mod primitive_store;
 pub mod repr;
 
+pub use arrays::{from_u64_array, to_u64_array, try_from_u64_array, try_to_u64_array};
 pub use primitive_iter::PrimitiveIter;
 pub use repr::EnumSetTypeRepr;

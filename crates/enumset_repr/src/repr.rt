@@ -1,11 +1,13 @@
 //! The trait of bit stores.
 
-ghost use Rattle.std.specs.Prelude.{◌≡◌, ℕ, ◌+◌, ◌*◌, ◌/◌, ◌<◌, ◌≤◌, ◌↔◌, List, length, IsTrue, Option};
+ghost use Rattle.std.specs.Prelude.{◌≡◌, ℕ, ◌+◌, ◌*◌, ◌/◌, ◌<◌, ◌≤◌, ◌↔◌, List, length, IsTrue, Option, IsSome, IfSome};
 ghost use Rattle.std.specs.Iterator.{YieldsFirst, YieldsLast, item_count};
 ghost use Rattle.enumset_repr.specs.BitSet as set;
 ghost use Rattle.enumset_repr.specs.BitSet.{BitSet};
-ghost use Rattle.enumset_repr.specs.Words.{word as word_of, with_word};
+ghost use Rattle.enumset_repr.specs.Number.{bits, number};
+ghost use Rattle.enumset_repr.specs.Words.{word as word_of, with_word, words as words_of, bits_of};
 
+use crate::halves::{halves_of, joined};
 use std::fmt::Debug;
 use std::ops::{BitAnd, BitOr, BitXor, Not};
 
@@ -14,6 +16,7 @@ use std::ops::{BitAnd, BitOr, BitXor, Not};
 /// It mirrors `EnumSetTypeRepr` of Rust's `enumset`. A type that implements it says which set each
 /// value means and proves that each call is that set's operation, so that whatever stands on a store
 /// speaks of sets alone.
+#[tactic(auto, using(crate::specs::Laws::Low::cuts_to))]
 pub trait EnumSetTypeRepr: Copy
     + Eq
     + Debug
@@ -107,6 +110,342 @@ pub trait EnumSetTypeRepr: Copy
         requires { i < PREFERRED_ARRAY_LEN }
         ensures { members self.new ≡ with_word (members self.old) WIDTH i w };
 
+    /// Writes a word of the set to each place of a slice, the lowest first, and 0 past the words of the
+    /// store. Members that are in no word of the slice are left out.
+    ///
+    /// It mirrors `to_u64_slice` of Rust's `EnumSetTypeRepr`.
+    final fn to_u64_slice(&self, out: &mut [u64])
+        ensures { out.new ≡ words_of (members self.now) (length out.old) }
+    {
+        for i in 0..out.len() {
+            out[i] = word_or_zero(self, i);
+        }
+    }
+
+    /// Writes a word of the set to each place of a slice, if each member is in one of them. Otherwise
+    /// the answer is `None`, and the slice stays as it was.
+    ///
+    /// It mirrors `try_to_u64_slice` of Rust's `EnumSetTypeRepr`.
+    final fn try_to_u64_slice(&self, out: &mut [u64]) -> Option<()>
+        ensures fits { IsSome result
+            ↔ IsTrue (set.is_subset (members self.now) (set.below (64 * length out.old))) }
+        ensures words { IsSome result → out.new ≡ words_of (members self.now) (length out.old) }
+        ensures unchanged { result ≡ None → out.new ≡ out.old }
+    {
+        self.known();
+        for i in out.len()..Self::PREFERRED_ARRAY_LEN {
+            if self.word(i) != 0 {
+                return None;
+            }
+        }
+        self.to_u64_slice(out);
+        Some(())
+    }
+
+    /// The set of the words of a slice, the lowest first. Bits at or past the width are left out.
+    ///
+    /// It mirrors `from_u64_slice` of Rust's `EnumSetTypeRepr`.
+    final fn from_u64_slice(v: &[u64]) -> Self
+        ensures { members result ≡ set.low (bits_of v.now) WIDTH }
+    {
+        let mut repr = Self::EMPTY;
+        for i in 0..v.len().min(Self::PREFERRED_ARRAY_LEN) {
+            repr.put_word(i, v[i]);
+        }
+        repr
+    }
+
+    /// The set of the words of a slice, if no bit of them is at or past the width, else `None`.
+    ///
+    /// It mirrors `try_from_u64_slice` of Rust's `EnumSetTypeRepr`.
+    final fn try_from_u64_slice(v: &[u64]) -> Option<Self>
+        ensures fits { IsSome result ↔ IsTrue (set.is_subset (bits_of v.now) (set.below WIDTH)) }
+        ensures value { IfSome result (λ s. members s ≡ bits_of v.now) }
+    {
+        let repr = Self::from_u64_slice(v);
+        for i in 0..v.len() {
+            if word_or_zero(&repr, i) != v[i] {
+                return None;
+            }
+        }
+        Some(repr)
+    }
+
+    // ---- u128: by words
+
+    /// The set of a number's bits. Those at or past the width are left out.
+    ///
+    /// It mirrors `from_u128` of Rust's `EnumSetTypeRepr`.
+    final fn from_u128(v: u128) -> Self
+        ensures { members result ≡ set.low (bits v) WIDTH }
+    {
+        Self::from_u64_slice(&halves_of(v))
+    }
+
+    /// The set of a number's bits, if none is at or past the width, else `None`.
+    ///
+    /// It mirrors `try_from_u128` of Rust's `EnumSetTypeRepr`.
+    final fn try_from_u128(v: u128) -> Option<Self>
+        ensures fits { IsSome result ↔ IsTrue (set.is_subset (bits v) (set.below WIDTH)) }
+        ensures value { IfSome result (λ s. members s ≡ bits v) }
+    {
+        Self::try_from_u64_slice(&halves_of(v))
+    }
+
+    /// The number of the members below 128.
+    ///
+    /// It mirrors `to_u128` of Rust's `EnumSetTypeRepr`.
+    final fn to_u128(&self) -> u128
+        ensures { result ≡ number (set.low (members self.now) u128.BITS) }
+    {
+        let mut halves = [0; 2];
+        self.to_u64_slice(&mut halves);
+        joined(halves[0], halves[1])
+    }
+
+    /// The number of the set, if each member is below 128, else `None`.
+    ///
+    /// It mirrors `try_to_u128` of Rust's `EnumSetTypeRepr`.
+    final fn try_to_u128(&self) -> Option<u128>
+        ensures fits { IsSome result
+            ↔ IsTrue (set.is_subset (members self.now) (set.below u128.BITS)) }
+        ensures value { IfSome result (λ n. n ≡ number (members self.now)) }
+    {
+        let mut halves = [0; 2];
+        self.try_to_u64_slice(&mut halves)?;
+        Some(joined(halves[0], halves[1]))
+    }
+
+    // ---- u8
+
+    /// The set of a number's bits. Those at or past the width are left out.
+    ///
+    /// It mirrors `from_u8` of Rust's `EnumSetTypeRepr`.
+    final fn from_u8(v: u8) -> Self
+        ensures { members result ≡ set.low (bits v) WIDTH }
+    {
+        Self::from_u128(v as u128)
+    }
+
+    /// The set of a number's bits, if none is at or past the width, else `None`.
+    ///
+    /// It mirrors `try_from_u8` of Rust's `EnumSetTypeRepr`.
+    final fn try_from_u8(v: u8) -> Option<Self>
+        ensures fits { IsSome result ↔ IsTrue (set.is_subset (bits v) (set.below WIDTH)) }
+        ensures value { IfSome result (λ s. members s ≡ bits v) }
+    {
+        Self::try_from_u128(v as u128)
+    }
+
+    /// The number of the members below 8.
+    ///
+    /// It mirrors `to_u8` of Rust's `EnumSetTypeRepr`.
+    final fn to_u8(&self) -> u8
+        ensures { result ≡ number (set.low (members self.now) u8.BITS) }
+    {
+        (self.to_u128() & u8::MAX as u128) as u8
+    }
+
+    /// The number of the set, if each member is below 8, else `None`.
+    ///
+    /// It mirrors `try_to_u8` of Rust's `EnumSetTypeRepr`.
+    final fn try_to_u8(&self) -> Option<u8>
+        ensures fits { IsSome result
+            ↔ IsTrue (set.is_subset (members self.now) (set.below u8.BITS)) }
+        ensures value { IfSome result (λ n. n ≡ number (members self.now)) }
+    {
+        let n = self.try_to_u128()?;
+        if n <= u8::MAX as u128 {
+            Some(n as u8)
+        } else {
+            None
+        }
+    }
+
+    // ---- u16
+
+    /// The set of a number's bits. Those at or past the width are left out.
+    ///
+    /// It mirrors `from_u16` of Rust's `EnumSetTypeRepr`.
+    final fn from_u16(v: u16) -> Self
+        ensures { members result ≡ set.low (bits v) WIDTH }
+    {
+        Self::from_u128(v as u128)
+    }
+
+    /// The set of a number's bits, if none is at or past the width, else `None`.
+    ///
+    /// It mirrors `try_from_u16` of Rust's `EnumSetTypeRepr`.
+    final fn try_from_u16(v: u16) -> Option<Self>
+        ensures fits { IsSome result ↔ IsTrue (set.is_subset (bits v) (set.below WIDTH)) }
+        ensures value { IfSome result (λ s. members s ≡ bits v) }
+    {
+        Self::try_from_u128(v as u128)
+    }
+
+    /// The number of the members below 16.
+    ///
+    /// It mirrors `to_u16` of Rust's `EnumSetTypeRepr`.
+    final fn to_u16(&self) -> u16
+        ensures { result ≡ number (set.low (members self.now) u16.BITS) }
+    {
+        (self.to_u128() & u16::MAX as u128) as u16
+    }
+
+    /// The number of the set, if each member is below 16, else `None`.
+    ///
+    /// It mirrors `try_to_u16` of Rust's `EnumSetTypeRepr`.
+    final fn try_to_u16(&self) -> Option<u16>
+        ensures fits { IsSome result
+            ↔ IsTrue (set.is_subset (members self.now) (set.below u16.BITS)) }
+        ensures value { IfSome result (λ n. n ≡ number (members self.now)) }
+    {
+        let n = self.try_to_u128()?;
+        if n <= u16::MAX as u128 {
+            Some(n as u16)
+        } else {
+            None
+        }
+    }
+
+    // ---- u32
+
+    /// The set of a number's bits. Those at or past the width are left out.
+    ///
+    /// It mirrors `from_u32` of Rust's `EnumSetTypeRepr`.
+    final fn from_u32(v: u32) -> Self
+        ensures { members result ≡ set.low (bits v) WIDTH }
+    {
+        Self::from_u128(v as u128)
+    }
+
+    /// The set of a number's bits, if none is at or past the width, else `None`.
+    ///
+    /// It mirrors `try_from_u32` of Rust's `EnumSetTypeRepr`.
+    final fn try_from_u32(v: u32) -> Option<Self>
+        ensures fits { IsSome result ↔ IsTrue (set.is_subset (bits v) (set.below WIDTH)) }
+        ensures value { IfSome result (λ s. members s ≡ bits v) }
+    {
+        Self::try_from_u128(v as u128)
+    }
+
+    /// The number of the members below 32.
+    ///
+    /// It mirrors `to_u32` of Rust's `EnumSetTypeRepr`.
+    final fn to_u32(&self) -> u32
+        ensures { result ≡ number (set.low (members self.now) u32.BITS) }
+    {
+        (self.to_u128() & u32::MAX as u128) as u32
+    }
+
+    /// The number of the set, if each member is below 32, else `None`.
+    ///
+    /// It mirrors `try_to_u32` of Rust's `EnumSetTypeRepr`.
+    final fn try_to_u32(&self) -> Option<u32>
+        ensures fits { IsSome result
+            ↔ IsTrue (set.is_subset (members self.now) (set.below u32.BITS)) }
+        ensures value { IfSome result (λ n. n ≡ number (members self.now)) }
+    {
+        let n = self.try_to_u128()?;
+        if n <= u32::MAX as u128 {
+            Some(n as u32)
+        } else {
+            None
+        }
+    }
+
+    // ---- u64
+
+    /// The set of a number's bits. Those at or past the width are left out.
+    ///
+    /// It mirrors `from_u64` of Rust's `EnumSetTypeRepr`.
+    final fn from_u64(v: u64) -> Self
+        ensures { members result ≡ set.low (bits v) WIDTH }
+    {
+        Self::from_u128(v as u128)
+    }
+
+    /// The set of a number's bits, if none is at or past the width, else `None`.
+    ///
+    /// It mirrors `try_from_u64` of Rust's `EnumSetTypeRepr`.
+    final fn try_from_u64(v: u64) -> Option<Self>
+        ensures fits { IsSome result ↔ IsTrue (set.is_subset (bits v) (set.below WIDTH)) }
+        ensures value { IfSome result (λ s. members s ≡ bits v) }
+    {
+        Self::try_from_u128(v as u128)
+    }
+
+    /// The number of the members below 64.
+    ///
+    /// It mirrors `to_u64` of Rust's `EnumSetTypeRepr`.
+    final fn to_u64(&self) -> u64
+        ensures { result ≡ number (set.low (members self.now) u64.BITS) }
+    {
+        (self.to_u128() & u64::MAX as u128) as u64
+    }
+
+    /// The number of the set, if each member is below 64, else `None`.
+    ///
+    /// It mirrors `try_to_u64` of Rust's `EnumSetTypeRepr`.
+    final fn try_to_u64(&self) -> Option<u64>
+        ensures fits { IsSome result
+            ↔ IsTrue (set.is_subset (members self.now) (set.below u64.BITS)) }
+        ensures value { IfSome result (λ n. n ≡ number (members self.now)) }
+    {
+        let n = self.try_to_u128()?;
+        if n <= u64::MAX as u128 {
+            Some(n as u64)
+        } else {
+            None
+        }
+    }
+
+    // ---- usize
+
+    /// The set of a number's bits. Those at or past the width are left out.
+    ///
+    /// It mirrors `from_usize` of Rust's `EnumSetTypeRepr`.
+    final fn from_usize(v: usize) -> Self
+        ensures { members result ≡ set.low (bits v) WIDTH }
+    {
+        Self::from_u128(v as u128)
+    }
+
+    /// The set of a number's bits, if none is at or past the width, else `None`.
+    ///
+    /// It mirrors `try_from_usize` of Rust's `EnumSetTypeRepr`.
+    final fn try_from_usize(v: usize) -> Option<Self>
+        ensures fits { IsSome result ↔ IsTrue (set.is_subset (bits v) (set.below WIDTH)) }
+        ensures value { IfSome result (λ s. members s ≡ bits v) }
+    {
+        Self::try_from_u128(v as u128)
+    }
+
+    /// The number of the members below 64.
+    ///
+    /// It mirrors `to_usize` of Rust's `EnumSetTypeRepr`.
+    final fn to_usize(&self) -> usize
+        ensures { result ≡ number (set.low (members self.now) usize.BITS) }
+    {
+        (self.to_u128() & usize::MAX as u128) as usize
+    }
+
+    /// The number of the set, if each member is below 64, else `None`.
+    ///
+    /// It mirrors `try_to_usize` of Rust's `EnumSetTypeRepr`.
+    final fn try_to_usize(&self) -> Option<usize>
+        ensures fits { IsSome result
+            ↔ IsTrue (set.is_subset (members self.now) (set.below usize.BITS)) }
+        ensures value { IfSome result (λ n. n ≡ number (members self.now)) }
+    {
+        let n = self.try_to_u128()?;
+        if n <= usize::MAX as u128 {
+            Some(n as usize)
+        } else {
+            None
+        }
+    }
+
     // The empty set has no member.
     ghost empty_is: { members EMPTY ≡ set.empty };
 
@@ -156,4 +495,16 @@ pub trait EnumSetTypeRepr: Copy
 
     // No more items come than are left.
     ghost left: { (i : Self.Iter) → Self.Iter.Iterator.remaining i ≡ item_count rest i };
+}
+
+// The word of a set at any place: 0 past the words of the store.
+fn word_or_zero<R: EnumSetTypeRepr>(repr: &R, i: usize) -> u64
+    ensures { result ≡ word_of (R.members repr.now) i }
+{
+    repr.known();
+    if i < R::PREFERRED_ARRAY_LEN {
+        repr.word(i)
+    } else {
+        0
+    }
 }

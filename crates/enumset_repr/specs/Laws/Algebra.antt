@@ -9,7 +9,7 @@
 use Rattle.std.proofs.Common.{◌≡◌, ℕ, true, false, List, [], ◌∷◌, refl, sym, ap, ◌∙◌, arith, ◌↔◌}
 use Rattle.std.proofs.lemmas.Bool.Decides.{nat_tests, same_from_decides}
 use Rattle.enumset_repr.specs.BitSet.{BitSet, contains, rising, empty, insert, only, remove, from_list, insert_each, union, intersection, difference, symmetric_difference, is_subset, is_disjoint}
-use Rattle.enumset_repr.specs.Laws.Members.{members, subsets, same_set, contains-rising, contains-from_list, contains-insert_each, contains-is_subset, is_subset-contains, contains-is_disjoint, is_disjoint-contains, is_same_iff}
+use Rattle.enumset_repr.specs.Laws.Members.{members, subsets, same_set, contains-rising, contains-from_list, contains-insert_each, contains-is_subset, is_subset-contains, contains-is_disjoint, is_disjoint-contains, is_same_iff, is_subset_iff}
 
 -- ---- union
 
@@ -235,6 +235,9 @@ intersection_within s t within = same_set _ _ (λ q. let each = is_subset-contai
 
 pub difference_within : (s t : BitSet) → is_subset s t ≡ true → difference s t ≡ empty
 difference_within s t within = same_set _ _ (λ q. let each = is_subset-contains s t within q in grind (arith, members))
+
+pub difference_none : (s t : BitSet) → difference s t ≡ empty → is_subset s t ≡ true
+difference_none s t none = (is_subset_iff s t).1 none
 
 pub intersection_apart : (s t : BitSet) → is_disjoint s t ≡ true → intersection s t ≡ empty
 intersection_apart s t apart = same_set _ _ (λ q. let each = is_disjoint-contains s t apart q in grind (arith, members))

@@ -1,0 +1,30 @@
+use Rattle.std.proofs.Common.{refl, sym, ap, ◌∙◌, arith, true≢false, inl, inr, slice_index}
+use Rattle.std.proofs.lemmas.Bool.{cases_lt}
+use Rattle.enumset_repr.specs.Words.{word}
+use Rattle.enumset_repr.specs.Laws.Low.{low_within}
+use Rattle.enumset_repr.specs.Laws.WordLists.{word-bits_of}
+use Rattle.enumset_repr.proofs.Slices.{same_at, all_kept}
+use Rattle.enumset_repr.proofs.repr.EnumSetTypeRepr.try_from_u64_slice.Goals as goal
+
+pub returns-then-word_or_zero-v-clause-fits : goal.returns-then-word_or_zero-v-clause-fits
+returns-then-word_or_zero-v-clause-fits g c = (
+  λ some. absurd (true≢false (sym some)),
+  λ within. absurd (c.if-word_or_zero-v.true (
+      c.word_or_zero.ensures ∙ ap (λ s. word s c.loop-i.i) (c.from_u64_slice-repr.ensures ∙ low_within _ _ within) ∙ word-bits_of c.args.v.now c.loop-i.i (λ k. (c.type_inv.v k).fits))),
+)
+
+pub loop-i-preserved : goal.loop-i-preserved
+loop-i-preserved g c = λ w under. elim (cases_lt w c.loop-i.i) [
+  | inl before ↦ c.loop-i.invariant w before
+  | inr from ↦ same_at (word (g.Self.EnumSetTypeRepr.members c.from_u64_slice-repr.result)) (slice_index c.args.v.now) c.loop-i.i w (omega (arith, under, from)) (sym c.word_or_zero.ensures ∙ c.if-word_or_zero-v.false)
+]
+
+pub returns-clause-fits : goal.returns-clause-fits
+returns-clause-fits g c = (
+  λ _. all_kept c.args.v.now g.Self.EnumSetTypeRepr.WIDTH (λ k. (c.type_inv.v k).fits) (λ w under. ap (λ s. word s w) (sym c.from_u64_slice-repr.ensures) ∙ c.loop-i.invariant w (omega (arith, under, c.loop-i-test.false))),
+  λ _. refl,
+)
+
+pub returns-clause-value : goal.returns-clause-value
+returns-clause-value g c = c.from_u64_slice-repr.ensures
+    ∙ low_within _ _ (all_kept c.args.v.now g.Self.EnumSetTypeRepr.WIDTH (λ k. (c.type_inv.v k).fits) (λ w under. ap (λ s. word s w) (sym c.from_u64_slice-repr.ensures) ∙ c.loop-i.invariant w (omega (arith, under, c.loop-i-test.false))))

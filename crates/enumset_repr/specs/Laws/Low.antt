@@ -1,0 +1,140 @@
+-- What a cut at a width leaves, and which sets and numbers fit one.
+--     low-is_subset, low_part      what is left is below the width, and of the set
+--     low_within, low_inside      nothing is left out of a set below the width, nor of a part of such a set
+--     low_is_subset      a set that a cut leaves as it is, is below the width
+--     low_narrow      a cut, and then one at a width that is no more
+--     low_intersection, low_empty      what is left, met with a set below the width;  of the empty set
+--     is_subset_wider      a set below a width is below each width from there on
+--     number_low, number_cut      the number of what is left, by a remainder
+--     number_fits, fits_number      a set below a width has a number of so many bits, and back
+-- The ruleset `cuts` holds those that a tactic can apply by itself.
+use Rattle.std.proofs.Common.{◌≡◌, ◌<◌, ◌≤◌, ℕ, ◌-◌, ◌%◌, ◌^◌, true, sym, ap, subst, ◌∙◌, arith}
+use Rattle.std.proofs.lemmas.Bool.Decides.{nat_tests}
+use Rattle.std.specs.Int.RustNames.{bit_and}
+use Rattle.std.proofs.lemmas.Nat.{and_mask}
+use Rattle.enumset_repr.specs.BitSet.{BitSet, empty, intersection, is_subset, below, low}
+use Rattle.enumset_repr.specs.Number.{number}
+use Rattle.enumset_repr.specs.Laws.Members.{members, same_set, is_subset-contains, contains-is_subset}
+use Rattle.enumset_repr.specs.Laws.Algebra.{is_subset_trans, intersection_right, difference_within, difference_none}
+use Rattle.enumset_repr.specs.Laws.Numbers.{bits-low, bits-number, number-bits, bits-within, number-within}
+
+-- ---- what is left
+
+pub low-is_subset : (s : BitSet) (n : ℕ) → is_subset (low s n) (below n) ≡ true
+low-is_subset s n = contains-is_subset _ _ (λ q one. grind (arith, members))
+
+pub low_part : (s : BitSet) (n : ℕ) → is_subset (low s n) s ≡ true
+low_part s n = contains-is_subset _ _ (λ q one. grind (arith, members))
+
+pub low_within : (s : BitSet) (n : ℕ) → is_subset s (below n) ≡ true → low s n ≡ s
+low_within s n within = same_set _ _ (λ q. let each = is_subset-contains s (below n) within q in grind (arith, members))
+
+pub low_inside : (s v : BitSet) (n : ℕ) → is_subset s v ≡ true → is_subset v (below n) ≡ true → low s n ≡ s
+low_inside s v n part within = low_within s n (is_subset_trans s v (below n) part within)
+
+pub low_is_subset : (s : BitSet) (n : ℕ) → low s n ≡ s → is_subset s (below n) ≡ true
+low_is_subset s n same = subst (λ t. is_subset t (below n) ≡ true) same (low-is_subset s n)
+
+pub low_narrow : (s : BitSet) (m n : ℕ) → n ≤ m → low (low s m) n ≡ low s n
+low_narrow s m n less = same_set _ _ (λ q. grind (arith, members, nat_tests, less))
+
+pub low_intersection : (s v : BitSet) (n : ℕ) → is_subset v (below n) ≡ true → intersection (low s n) v ≡ intersection s v
+low_intersection s v n within = same_set _ _ (λ q. let each = is_subset-contains v (below n) within q in grind (arith, members))
+
+pub low_empty : (n : ℕ) → low empty n ≡ empty
+low_empty n = same_set _ _ (λ q. grind (arith, members))
+
+pub is_subset_wider : (s : BitSet) (m n : ℕ) → m ≤ n → is_subset s (below m) ≡ true → is_subset s (below n) ≡ true
+is_subset_wider s m n less within = contains-is_subset s (below n) (λ q one. let each = is_subset-contains s (below m) within q one in grind (arith, members, nat_tests, less, each))
+
+-- ---- its number
+
+pub number_low : (s : BitSet) (n : ℕ) → number (low s n) ≡ number s % 2 ^ n
+number_low s n = ap number (ap (λ t. low t n) (sym (bits-number s)) ∙ sym (bits-low (number s) n)) ∙ number-bits _
+
+pub number_cut : (s : BitSet) (m n : ℕ) → n ≤ m → number (low s m) % 2 ^ n ≡ number (low s n)
+number_cut s m n less = sym (number_low (low s m) n) ∙ ap number (low_narrow s m n less)
+
+pub number_fits : (s : BitSet) (n : ℕ) → is_subset s (below n) ≡ true → number s < 2 ^ n
+number_fits s n within = number-within s n within
+
+pub fits_number : (s : BitSet) (n : ℕ) → number s < 2 ^ n → is_subset s (below n) ≡ true
+fits_number s n small = subst (λ t. is_subset t (below n) ≡ true) (bits-number s) (bits-within (number s) n small)
+
+pub ruleset cuts = (low-is_subset, low_part, low_within, low_inside, low_is_subset, low_intersection, low_empty, bits-number, number-bits, intersection_right, difference_within, difference_none)
+
+-- ---- the laws that speak of a width, at each width below 128, for a tactic, which reads no width off a numeral
+
+abbrev CutLaw : ℕ → Type 0
+CutLaw n = (s : BitSet) → bit_and (number (low s 128)) (2 ^ n - 1) ≡ number (low s n)
+
+abbrev SmallLaw : ℕ → Type 0
+SmallLaw n = (s : BitSet) → is_subset s (below n) ≡ true → number s < 2 ^ n
+
+abbrev FitsLaw : ℕ → Type 0
+FitsLaw n = (s : BitSet) → number s < 2 ^ n → is_subset s (below n) ≡ true
+
+abbrev WiderLaw : ℕ → Type 0
+WiderLaw n = (s : BitSet) → is_subset s (below n) ≡ true → is_subset s (below 128) ≡ true
+
+cut : (n : ℕ) → n ≤ 128 → CutLaw n
+cut n less s = and_mask _ n ∙ number_cut s 128 n less
+
+small : (n : ℕ) → SmallLaw n
+small n s within = number_fits s n within
+
+fits : (n : ℕ) → FitsLaw n
+fits n s below_power = fits_number s n below_power
+
+wider : (n : ℕ) → n ≤ 128 → WiderLaw n
+wider n less s within = is_subset_wider s n 128 less within
+
+pub cut_8 : CutLaw 8
+cut_8 = cut 8 (omega arith)
+
+pub small_8 : SmallLaw 8
+small_8 = small 8
+
+pub fits_8 : FitsLaw 8
+fits_8 = fits 8
+
+pub wider_8 : WiderLaw 8
+wider_8 = wider 8 (omega arith)
+
+pub cut_16 : CutLaw 16
+cut_16 = cut 16 (omega arith)
+
+pub small_16 : SmallLaw 16
+small_16 = small 16
+
+pub fits_16 : FitsLaw 16
+fits_16 = fits 16
+
+pub wider_16 : WiderLaw 16
+wider_16 = wider 16 (omega arith)
+
+pub cut_32 : CutLaw 32
+cut_32 = cut 32 (omega arith)
+
+pub small_32 : SmallLaw 32
+small_32 = small 32
+
+pub fits_32 : FitsLaw 32
+fits_32 = fits 32
+
+pub wider_32 : WiderLaw 32
+wider_32 = wider 32 (omega arith)
+
+pub cut_64 : CutLaw 64
+cut_64 = cut 64 (omega arith)
+
+pub small_64 : SmallLaw 64
+small_64 = small 64
+
+pub fits_64 : FitsLaw 64
+fits_64 = fits 64
+
+pub wider_64 : WiderLaw 64
+wider_64 = wider 64 (omega arith)
+
+pub ruleset cuts_to = (cut_8, small_8, fits_8, wider_8, cut_16, small_16, fits_16, wider_16, cut_32, small_32, fits_32, wider_32, cut_64, small_64, fits_64, wider_64)

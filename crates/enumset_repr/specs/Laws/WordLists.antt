@@ -1,0 +1,237 @@
+-- Lists of words of 64 bits: the set of a list, and the words of a set.
+--     contains-bits_of      at 64 w + b: whether b is a bit of the word at w
+--     by_word      a fact about a number, by its word and the bit in the word
+--     same_place      numbers are equal if their words and their bits in the word are
+--     contains-zero      an empty word has no bit
+--     word-bits_of, words-bits_of      the words of the set of a list are the list's
+--     word-empty      each word of the empty set is 0
+--     bits_of-zeros      the set of a list of zeros is empty
+--     words-none, words-more, length-words, slice_index-words      the list of the words of a set, one more at a time
+--     bits_of-words      the set of the words of a set: what is below the last
+--     word-past, within_words      a set below a width has no word past it, and back
+--     put_next      a set below a word, with its next word put in
+--     bits_of-within      the bits of a list of words are below 64 for each of them
+--     bits_of-halves, number-words      a number of 128 bits, and its two words
+--     low-same_words      a set is below a width if a cut there leaves each word as it is
+use Rattle.std.proofs.Common.{◌≡◌, ◌<◌, ◌≤◌, ◌⊎◌, inl, inr, ℕ, suc, zero, ◌+◌, ◌-◌, ◌*◌, ◌/◌, ◌%◌, ◌^◌, Bool, true, false, ◌&&◌, ◌||◌, not, List, [], ◌∷◌, ◌++◌, length, refl, sym, ap, ◌∙◌, subst, arith, mod-lt, true≢false}
+use Rattle.std.proofs.Math.Bool.{or-false, and-true, and-false}
+use Rattle.std.proofs.Math.Nat.{div-add-mod}
+use Rattle.std.specs.Prelude.{◌==◌, nat_lt, nat_le, slice_index, sum_by, filter}
+use Rattle.std.proofs.lemmas.Bool.{cases_lt, lt-ltb, le-ltb}
+use Rattle.std.proofs.lemmas.Bool.Decides.{nat_tests}
+use Rattle.std.proofs.lemmas.Grind.{same_number_lists}
+use Rattle.std.proofs.lemmas.List.{get_or_past}
+use Rattle.std.proofs.lemmas.List.FromFn.{get_or-map-range_with_len, length-map-range_with_len, map-range_with_len_more}
+use Rattle.enumset_repr.specs.BitSet.{BitSet, contains, empty, below, is_subset, low}
+use Rattle.enumset_repr.specs.Number.{bits, number}
+use Rattle.enumset_repr.specs.Words.{word, words, bits_of, is_in_word, with_word, raised}
+use Rattle.enumset_repr.specs.Laws.Rising.{rising-empty}
+use Rattle.enumset_repr.specs.Laws.Members.{same_set, contains-empty, contains-union, contains-below, contains-low, contains-is_subset, contains-past}
+use Rattle.enumset_repr.specs.Laws.Numbers.{number-bits, bits-zero, bits-within, number-within}
+use Rattle.enumset_repr.specs.Laws.Words.{contains-raised, contains-bits-word, contains-with_word, word-bits}
+use Rattle.enumset_repr.specs.Laws.Low.{low_is_subset, low_within}
+
+-- ---- bits past a number, and sets moved up
+
+-- a number of k bits has none from k on
+pub contains-bits_above : (n k b : ℕ) → n < 2 ^ k → k ≤ b → contains (bits n) b ≡ false
+contains-bits_above n k b small past = contains-past (bits n) k b (bits-within n k small) past
+
+pub contains-raised_from : (s : BitSet) (k q : ℕ) → k ≤ q → contains (raised s k) q ≡ contains s (q - k)
+contains-raised_from s k q h =
+    let reached : nat_le k q ≡ true = grind (arith, nat_tests, h) in
+    contains-raised s k q ∙ ap (λ t. t && contains s (q - k)) reached
+
+pub contains-raised_lower : (s : BitSet) (k q : ℕ) → q < k → contains (raised s k) q ≡ false
+contains-raised_lower s k q h =
+    let under : nat_le k q ≡ false = grind (arith, nat_tests, h) in
+    contains-raised s k q ∙ ap (λ t. t && contains s (q - k)) under
+
+-- ---- the set of a list of words
+
+-- the bits of the words at place w, each 64 w + b
+pub contains-bits_of : (ws : List ℕ) (w b : ℕ) → ((i : ℕ) → slice_index ws i < 2 ^ 64) → b < 64 → contains (bits_of ws) (64 * w + b) ≡ contains (bits (slice_index ws w)) b
+unfolding bits_of
+contains-bits_of [] w b fit small = contains-empty _ ∙ sym (ap (λ s. contains s b) bits-zero ∙ contains-empty b)
+contains-bits_of (n ∷ ns) zero b fit small =
+    let here : 64 * zero + b ≡ b = omega arith in
+    ap (contains (bits_of (n ∷ ns))) here ∙ contains-union (bits n) (raised (bits_of ns) 64) b
+    ∙ ap (λ t. contains (bits n) b || t) (contains-raised_lower (bits_of ns) 64 b small) ∙ or-false _
+contains-bits_of (n ∷ ns) (suc w) b fit small =
+    let q : ℕ = 64 * suc w + b in
+    let lower : q - 64 ≡ 64 * w + b = omega arith in
+    let from : 64 ≤ q = omega arith in
+    contains-union (bits n) (raised (bits_of ns) 64) q
+    ∙ (λ i. contains-bits_above n 64 q (fit zero) from i || contains-raised_from (bits_of ns) 64 q from i)
+    ∙ ap (contains (bits_of ns)) lower
+    ∙ contains-bits_of ns w b (λ i. fit (suc i)) small
+
+pub at_word : (q : ℕ) → 64 * (q / 64) + q % 64 ≡ q
+at_word q = div-add-mod q 64
+
+in_word : (q : ℕ) → q % 64 < 64
+in_word q = mod-lt q (omega arith)
+
+-- a fact about a number, by its word and the bit in the word
+pub by_word : (P : ℕ → Type 0) → ((w r : ℕ) → r < 64 → P (64 * w + r)) → (q : ℕ) → P q
+by_word P each q = subst P (at_word q) (each (q / 64) (q % 64) (in_word q))
+
+pub contains-zero : (n b : ℕ) → n ≡ 0 → contains (bits n) b ≡ false
+contains-zero n b zero_word = ap (λ m. contains (bits m) b) zero_word ∙ ap (λ s. contains s b) bits-zero ∙ contains-empty b
+
+pub same_place : (i b w r : ℕ) → b < 64 → r < 64 → ((64 * w + r) == (64 * i + b)) ≡ ((w == i) && (r == b))
+same_place i b w r h k = grind (arith, nat_tests)
+
+-- ---- its words
+
+-- a word below 2 ^ 64 is known by its bits below 64
+same_word : (x y : ℕ) → x < 2 ^ 64 → ((b : ℕ) → contains (bits y) b ≡ (contains (bits x) b && nat_lt b 64)) → y ≡ x
+same_word x y small each =
+    sym (number-bits y) ∙ ap number (same_set (bits y) (bits x) (λ b. each b ∙ at b (cases_lt b 64))) ∙ number-bits x
+  where
+    at : (b : ℕ) → (b < 64) ⊎ (64 ≤ b) → (contains (bits x) b && nat_lt b 64) ≡ contains (bits x) b
+    at b (inl low) = ap (λ t. contains (bits x) b && t) (lt-ltb b 64 low) ∙ and-true (contains (bits x) b)
+    at b (inr past) = ap (λ t. t && nat_lt b 64) (contains-bits_above x 64 b small past) ∙ sym (contains-bits_above x 64 b small past)
+
+pub word-bits_of : (ws : List ℕ) (w : ℕ) → ((i : ℕ) → slice_index ws i < 2 ^ 64) → word (bits_of ws) w ≡ slice_index ws w
+word-bits_of ws w fit = same_word (slice_index ws w) (word (bits_of ws) w) (fit w) (λ b. contains-bits-word (bits_of ws) w b ∙ at b (cases_lt b 64))
+  where
+    at : (b : ℕ) → (b < 64) ⊎ (64 ≤ b) → (contains (bits_of ws) (64 * w + b) && nat_lt b 64) ≡ (contains (bits (slice_index ws w)) b && nat_lt b 64)
+    at b (inl low) = ap (λ t. t && nat_lt b 64) (contains-bits_of ws w b fit low)
+    at b (inr past) = ap (λ t. contains (bits_of ws) (64 * w + b) && t) (le-ltb b 64 past) ∙ and-false _ ∙ sym (ap (λ t. contains (bits (slice_index ws w)) b && t) (le-ltb b 64 past) ∙ and-false _)
+
+-- the first list may have left zeros at the end of the second away
+pub words-bits_of : (us ws : List ℕ) → ((i : ℕ) → slice_index us i < 2 ^ 64) → ((i : ℕ) → slice_index us i ≡ slice_index ws i) → words (bits_of us) (length ws) ≡ ws
+unfolding words
+words-bits_of us ws fit same = same_number_lists _ ws (length-map-range_with_len (word (bits_of us)) 0 (length ws)) (λ k under.
+    let low : k < length ws = omega (arith, under, length-map-range_with_len (word (bits_of us)) 0 (length ws)) in
+    get_or-map-range_with_len (word (bits_of us)) 0 (length ws) k k 0 low (omega arith) ∙ word-bits_of us k fit ∙ same k)
+
+pub word-empty : (w : ℕ) → word empty w ≡ 0
+unfolding word
+word-empty w = ap (λ bs. sum_by (λ b. 2 ^ (b - 64 * w)) (filter (is_in_word w) bs)) rising-empty
+
+pub bits_of-zeros : (ws : List ℕ) → ((i : ℕ) → slice_index ws i < 2 ^ 64) → ((i : ℕ) → slice_index ws i ≡ 0) → bits_of ws ≡ empty
+bits_of-zeros ws fit none = same_set (bits_of ws) empty (λ q. by_word (λ p. contains (bits_of ws) p ≡ false) (λ w b small. contains-bits_of ws w b fit small ∙ contains-zero _ b (none w)) q ∙ sym (contains-empty q))
+
+-- ---- the words of a set
+
+pub words-none : (s : BitSet) → words s 0 ≡ []
+unfolding words
+words-none s = refl
+
+pub words-more : (s : BitSet) (n : ℕ) → words s (n + 1) ≡ words s n ++ word s n ∷ []
+unfolding words
+words-more s n = map-range_with_len_more (word s) 0 n n (omega arith)
+
+pub length-words : (s : BitSet) (n : ℕ) → length (words s n) ≡ n
+unfolding words
+length-words s n = length-map-range_with_len (word s) 0 n
+
+pub slice_index-words : (s : BitSet) (n i : ℕ) → i < n → slice_index (words s n) i ≡ word s i
+unfolding words
+slice_index-words s n i under = get_or-map-range_with_len (word s) 0 n i i 0 under (omega arith)
+
+pub slice_index-words_past : (s : BitSet) (n i : ℕ) → n ≤ i → slice_index (words s n) i ≡ 0
+slice_index-words_past s n i past = get_or_past (words s n) i 0 (omega (arith, past, length-words s n))
+
+-- a word is a number of 64 bits
+pub word-small : (s : BitSet) (w : ℕ) → word s w < 2 ^ 64
+word-small s w = subst (λ n. n < 2 ^ 64) (number-bits (word s w)) (number-within (bits (word s w)) 64 (contains-is_subset _ _ (λ b one. contains-below 64 b ∙ under b one)))
+  where
+    under : (b : ℕ) → contains (bits (word s w)) b ≡ true → nat_lt b 64 ≡ true
+    under b one = let cut = contains-bits-word s w b in grind (arith, cut, one)
+
+words_fit : (s : BitSet) (n i : ℕ) → slice_index (words s n) i < 2 ^ 64
+words_fit s n i = elim (cases_lt i n) [
+  | inl under ↦ subst (λ x. x < 2 ^ 64) (sym (slice_index-words s n i under)) (word-small s i)
+  | inr past ↦ omega (arith, slice_index-words_past s n i past)
+]
+
+pub bits_of-words : (s : BitSet) (n : ℕ) → bits_of (words s n) ≡ low s (64 * n)
+bits_of-words s n = same_set _ _ (by_word (λ q. contains (bits_of (words s n)) q ≡ contains (low s (64 * n)) q) (λ w b small.
+    contains-bits_of (words s n) w b (words_fit s n) small ∙ at w b small (cases_lt w n) ∙ sym (contains-low s (64 * n) (64 * w + b))))
+  where
+    at : (w b : ℕ) → b < 64 → (w < n) ⊎ (n ≤ w) → contains (bits (slice_index (words s n) w)) b ≡ (contains s (64 * w + b) && nat_lt (64 * w + b) (64 * n))
+    at w b small (inl under) =
+        let inside : nat_lt (64 * w + b) (64 * n) ≡ true = lt-ltb _ _ (omega (arith, under, small)) in
+        ap (λ x. contains (bits x) b) (slice_index-words s n w under) ∙ contains-bits-word s w b ∙ (λ i. contains s (64 * w + b) && (lt-ltb b 64 small ∙ sym inside) i)
+    at w b small (inr past) =
+        let outside : nat_lt (64 * w + b) (64 * n) ≡ false = le-ltb _ _ (omega (arith, past)) in
+        contains-zero _ b (slice_index-words_past s n w past) ∙ sym (ap (λ t. contains s (64 * w + b) && t) outside ∙ and-false _)
+
+-- ---- the words past a width
+
+pub word-past : (s : BitSet) (n w : ℕ) → is_subset s (below n) ≡ true → n ≤ 64 * w → word s w ≡ 0
+word-past s n w within past = same_word 0 (word s w) (omega arith) (λ b. contains-bits-word s w b ∙ ap (λ t. t && nat_lt b 64)
+    (contains-past s n (64 * w + b) within (omega (arith, past)) ∙ sym (contains-zero 0 b refl)))
+
+pub within_words : (s : BitSet) (n : ℕ) → ((w : ℕ) → n ≤ w → word s w ≡ 0) → is_subset s (below (64 * n)) ≡ true
+within_words s n none = contains-is_subset _ _ (by_word (λ q. contains s q ≡ true → contains (below (64 * n)) q ≡ true) (λ w b small one. contains-below _ _ ∙ at w b small one (cases_lt w n)))
+  where
+    at : (w b : ℕ) → b < 64 → contains s (64 * w + b) ≡ true → (w < n) ⊎ (n ≤ w) → nat_lt (64 * w + b) (64 * n) ≡ true
+    at w b small one (inl under) = lt-ltb _ _ (omega (arith, under, small))
+    at w b small one (inr past) = absurd (true≢false (
+        sym one ∙ sym (and-true _) ∙ ap (λ t. contains s (64 * w + b) && t) (sym (lt-ltb b 64 small)) ∙ sym (contains-bits-word s w b) ∙ contains-zero _ b (none w past)))
+
+pub bits_of-within : (ws : List ℕ) → ((i : ℕ) → slice_index ws i < 2 ^ 64) → is_subset (bits_of ws) (below (64 * length ws)) ≡ true
+bits_of-within ws fit = within_words (bits_of ws) (length ws) (λ w past. word-bits_of ws w fit ∙ get_or_past ws w 0 past)
+
+-- ---- one word after another
+
+-- the bits of a word of a set, moved to where they stand
+word_there : (s : BitSet) (i q : ℕ) → (nat_le (64 * i) q && contains (bits (word s i)) (q - 64 * i)) ≡ (contains s q && is_in_word i q)
+word_there s i q = elim (cases_lt q (64 * i)) [
+  | inl under ↦ let none : nat_le (64 * i) q ≡ false = grind (arith, nat_tests, under) in
+      ap (λ t. t && contains (bits (word s i)) (q - 64 * i)) none ∙ sym (ap (λ t. contains s q && (t && nat_lt q (64 * i + 64))) none ∙ and-false _)
+  | inr from ↦ let all : nat_le (64 * i) q ≡ true = grind (arith, nat_tests, from) in
+      let place : 64 * i + (q - 64 * i) ≡ q = omega (arith, from) in
+      let short : nat_lt (q - 64 * i) 64 ≡ nat_lt q (64 * i + 64) = grind (arith, nat_tests, from) in
+      ap (λ t. t && contains (bits (word s i)) (q - 64 * i)) all ∙ contains-bits-word s i (q - 64 * i)
+      ∙ (λ j. contains s (place j) && short j) ∙ sym (ap (λ t. contains s q && (t && nat_lt q (64 * i + 64))) all)
+]
+
+one_more : (width i q : ℕ) (c : Bool) → ((((c && nat_lt q (64 * i)) && nat_lt q width) && not (is_in_word i q)) || ((c && is_in_word i q) && nat_lt q width)) ≡ ((c && nat_lt q (64 * (i + 1))) && nat_lt q width)
+one_more width i q c = grind (arith, nat_tests)
+
+pub put_next : (s : BitSet) (width i : ℕ) → with_word (low (low s (64 * i)) width) width i (word s i) ≡ low (low s (64 * (i + 1))) width
+put_next s width i = same_set _ _ (λ q.
+    contains-with_word (low (low s (64 * i)) width) width i (word s i) q
+    ∙ (λ j. (low_twice (64 * i) q j && not (is_in_word i q)) || (word_there s i q j && nat_lt q width))
+    ∙ one_more width i q (contains s q) ∙ sym (low_twice (64 * (i + 1)) q))
+  where
+    low_twice : (n q : ℕ) → contains (low (low s n) width) q ≡ ((contains s q && nat_lt q n) && nat_lt q width)
+    low_twice n q = contains-low (low s n) width q ∙ ap (λ t. t && nat_lt q width) (contains-low s n q)
+
+-- a set is below a width if a cut there leaves each of its words as it is
+pub low-same_words : (s : BitSet) (width n : ℕ) → is_subset s (below (64 * n)) ≡ true → ((w : ℕ) → w < n → word (low s width) w ≡ word s w) → is_subset s (below width) ≡ true
+low-same_words s width n within same = low_is_subset s width (same_set _ _ (by_word (λ q. contains (low s width) q ≡ contains s q) (λ w b small. at w b small (cases_lt w n))))
+  where
+    by_bit : (t : BitSet) (w b : ℕ) → b < 64 → contains t (64 * w + b) ≡ contains (bits (word t w)) b
+    by_bit t w b small = sym (contains-bits-word t w b ∙ ap (λ u. contains t (64 * w + b) && u) (lt-ltb b 64 small) ∙ and-true _)
+
+    at : (w b : ℕ) → b < 64 → (w < n) ⊎ (n ≤ w) → contains (low s width) (64 * w + b) ≡ contains s (64 * w + b)
+    at w b small (inl under) = by_bit (low s width) w b small ∙ ap (λ x. contains (bits x) b) (same w under) ∙ sym (by_bit s w b small)
+    at w b small (inr past) =
+        let none : contains s (64 * w + b) ≡ false = contains-past s (64 * n) (64 * w + b) within (omega (arith, past)) in
+        contains-low s width (64 * w + b) ∙ ap (λ t. t && nat_lt (64 * w + b) width) none ∙ sym none
+
+-- ---- two words
+
+pub bits_of-halves : (n : ℕ) → n < 2 ^ 128 → bits_of (n % 2 ^ 64 ∷ n / 2 ^ 64 ∷ []) ≡ bits n
+unfolding words
+bits_of-halves n fits =
+    let lower : n / 2 ^ (64 * 0) % 2 ^ 64 ≡ n % 2 ^ 64 = omega arith in
+    let upper : n / 2 ^ (64 * 1) % 2 ^ 64 ≡ n / 2 ^ 64 = omega (arith, fits) in
+    let list : words (bits n) 2 ≡ n % 2 ^ 64 ∷ n / 2 ^ 64 ∷ [] = λ i. (word-bits n 0 ∙ lower) i ∷ (word-bits n 1 ∙ upper) i ∷ [] in
+    sym (ap bits_of list) ∙ bits_of-words (bits n) 2 ∙ low_within (bits n) 128 (bits-within n 128 fits)
+
+joined_halves : (l h : ℕ) → l < 2 ^ 64 → h < 2 ^ 64 → (h * 2 ^ 64 + l < 2 ^ 128) × ((h * 2 ^ 64 + l) % 2 ^ 64 ≡ l) × ((h * 2 ^ 64 + l) / 2 ^ 64 ≡ h)
+joined_halves l h small also = (omega (arith, small, also), omega (arith, small, also), omega (arith, small, also))
+
+pub number-words : (s : BitSet) (ws : List ℕ) → ws ≡ words s 2 → slice_index ws 1 * 2 ^ 64 + slice_index ws 0 ≡ number (low s 128)
+unfolding words
+number-words s ws is =
+    let parts = joined_halves (word s 0) (word s 1) (word-small s 0) (word-small s 1) in
+    (λ i. slice_index (is i) 1 * 2 ^ 64 + slice_index (is i) 0) ∙ sym (number-bits (word s 1 * 2 ^ 64 + word s 0))
+    ∙ ap number (sym (bits_of-halves (word s 1 * 2 ^ 64 + word s 0) parts.0) ∙ (λ i. bits_of (parts.1 i ∷ parts.2 i ∷ [])) ∙ bits_of-words s 2)

@@ -1,0 +1,10 @@
+//! Tests of the calls that a store has by its trait alone: numbers and words, in and out, at the integers
+//! and at stores of 0 to 3 words.
+//!
+//! They stand apart from the crates, so that those are proved once.
+#![tactic(auto)]
+
+#[cfg(test)]
+mod numbers;
+#[cfg(test)]
+mod words;
