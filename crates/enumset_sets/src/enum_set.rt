@@ -17,7 +17,7 @@ use std::marker::{Model, PhantomData};
 /// It mirrors `EnumSet` of Rust's `enumset`, and each call but `eq_element` the one of its name there. The
 /// parameter `R` is always the store of `T`: write `EnumSet<T>`.
 pub struct EnumSet<T: EnumSetType, R: EnumSetTypeRepr = <T as EnumSetType>::Repr> {
-    repr: R,
+    pub(crate) repr: R,
     of: PhantomData<T>,
 }
 
@@ -102,10 +102,11 @@ impl<T: EnumSetType + fmt::Debug> fmt::Debug for EnumSet<T> {
     }
 }
 
-// The store value of all variants, which is one of its type.
-fn valid_repr<T: EnumSetType>() -> T::Repr
+// The store value of all variants, which is one of its type; so the valid bits are below the width.
+pub(crate) fn valid_repr<T: EnumSetType>() -> T::Repr
     ensures value { result ≡ T.ALL_BITS }
     ensures is_value { T.Repr.is_value result }
+    ensures within { IsTrue (set.is_subset (T.Repr.members T.ALL_BITS) (set.below T.Repr.WIDTH)) }
 {
     let all = T::ALL_BITS;
     all.known();
@@ -125,7 +126,7 @@ fn bit_of_value<T: EnumSetType>(value: T) -> u32
 #[tactic(auto, using(enumset_repr::specs::Laws::Members::subsets))]
 impl<T: EnumSetType> EnumSet<T> {
     // The set that a store value means.
-    fn of_repr(repr: T::Repr) -> EnumSet<T>
+    pub(crate) fn of_repr(repr: T::Repr) -> EnumSet<T>
         requires { IsTrue (set.is_subset (T.Repr.members repr) (T.Repr.members T.ALL_BITS)) }
         ensures { result ≡ T.Repr.members repr }
     {

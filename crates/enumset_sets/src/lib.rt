@@ -7,9 +7,16 @@
 pub mod element;
 pub mod enum_set;
 pub mod enum_set_iter;
+pub mod laws;
 mod macros;
+mod numbers;
+pub mod raw;
 mod store;
+mod taken;
+pub mod with_repr;
+mod words;
 
 pub use element::EnumSetType;
 pub use enum_set::EnumSet;
 pub use enum_set_iter::EnumSetIter;
+pub use with_repr::EnumSetTypeWithRepr;

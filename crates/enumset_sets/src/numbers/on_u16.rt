@@ -1,0 +1,68 @@
+//! Sets to and from `u16`.
+
+ghost use Rattle.std.specs.Prelude.{◌≡◌, ◌↔◌, IsTrue, IsSome, IfSome};
+ghost use Rattle.enumset_repr.specs.BitSet as set;
+ghost use Rattle.enumset_repr.specs.Number.{bits, number};
+
+use crate::element::EnumSetType;
+use crate::enum_set::EnumSet;
+use crate::taken::{checked_of, valid_part_of, whole_of};
+use enumset_repr::repr::EnumSetTypeRepr;
+
+#[tactic(auto, using(crate::specs::Laws::Conversions::conversions))]
+impl<T: EnumSetType> EnumSet<T> {
+    /// The number of the set, whose members must all be below 16: [`try_as_u16`](EnumSet::try_as_u16) is the test.
+    pub fn as_u16(&self) -> u16
+        requires fits { IsTrue (set.is_subset self.now (set.below u16.BITS)) }
+        ensures { result ≡ number self.now }
+    {
+        self.as_u16_truncated()
+    }
+
+    /// The number of the set, if each member is below 16, else `None`.
+    pub fn try_as_u16(&self) -> Option<u16>
+        ensures fits { IsSome result ↔ IsTrue (set.is_subset self.now (set.below u16.BITS)) }
+        ensures value { IfSome result (λ n. n ≡ number self.now) }
+    {
+        self.repr.try_to_u16()
+    }
+
+    /// The number of the members below 16.
+    pub fn as_u16_truncated(&self) -> u16
+        ensures { result ≡ number (set.low self.now u16.BITS) }
+    {
+        self.repr.to_u16()
+    }
+
+    /// The set of a number, whose bits must all be valid: [`try_from_u16`](EnumSet::try_from_u16) is the test.
+    pub fn from_u16(value: u16) -> EnumSet<T>
+        requires valid { IsTrue (set.is_subset (bits value) (T.Repr.members T.ALL_BITS)) }
+        ensures { result ≡ bits value }
+    {
+        whole_of(T::Repr::from_u16(value))
+    }
+
+    /// The set of a number, if each of its bits is valid, else `None`.
+    pub fn try_from_u16(value: u16) -> Option<EnumSet<T>>
+        ensures valid { IsSome result
+            ↔ IsTrue (set.is_subset (bits value) (T.Repr.members T.ALL_BITS)) }
+        ensures value { IfSome result (λ s. s ≡ bits value) }
+    {
+        checked_of(T::Repr::try_from_u16(value))
+    }
+
+    /// The set of those bits of a number that are valid.
+    pub fn from_u16_truncated(value: u16) -> EnumSet<T>
+        ensures { result ≡ set.intersection (bits value) (T.Repr.members T.ALL_BITS) }
+    {
+        valid_part_of(T::Repr::from_u16(value))
+    }
+
+    /// The set of a number, whose bits must all be valid, as [`from_u16`](EnumSet::from_u16).
+    pub fn from_u16_unchecked(value: u16) -> EnumSet<T>
+        requires valid { IsTrue (set.is_subset (bits value) (T.Repr.members T.ALL_BITS)) }
+        ensures { result ≡ bits value }
+    {
+        Self::from_u16(value)
+    }
+}

@@ -1,0 +1,68 @@
+//! Sets to and from `usize`.
+
+ghost use Rattle.std.specs.Prelude.{◌≡◌, ◌↔◌, IsTrue, IsSome, IfSome};
+ghost use Rattle.enumset_repr.specs.BitSet as set;
+ghost use Rattle.enumset_repr.specs.Number.{bits, number};
+
+use crate::element::EnumSetType;
+use crate::enum_set::EnumSet;
+use crate::taken::{checked_of, valid_part_of, whole_of};
+use enumset_repr::repr::EnumSetTypeRepr;
+
+#[tactic(auto, using(crate::specs::Laws::Conversions::conversions))]
+impl<T: EnumSetType> EnumSet<T> {
+    /// The number of the set, whose members must all be below 64: [`try_as_usize`](EnumSet::try_as_usize) is the test.
+    pub fn as_usize(&self) -> usize
+        requires fits { IsTrue (set.is_subset self.now (set.below usize.BITS)) }
+        ensures { result ≡ number self.now }
+    {
+        self.as_usize_truncated()
+    }
+
+    /// The number of the set, if each member is below 64, else `None`.
+    pub fn try_as_usize(&self) -> Option<usize>
+        ensures fits { IsSome result ↔ IsTrue (set.is_subset self.now (set.below usize.BITS)) }
+        ensures value { IfSome result (λ n. n ≡ number self.now) }
+    {
+        self.repr.try_to_usize()
+    }
+
+    /// The number of the members below 64.
+    pub fn as_usize_truncated(&self) -> usize
+        ensures { result ≡ number (set.low self.now usize.BITS) }
+    {
+        self.repr.to_usize()
+    }
+
+    /// The set of a number, whose bits must all be valid: [`try_from_usize`](EnumSet::try_from_usize) is the test.
+    pub fn from_usize(value: usize) -> EnumSet<T>
+        requires valid { IsTrue (set.is_subset (bits value) (T.Repr.members T.ALL_BITS)) }
+        ensures { result ≡ bits value }
+    {
+        whole_of(T::Repr::from_usize(value))
+    }
+
+    /// The set of a number, if each of its bits is valid, else `None`.
+    pub fn try_from_usize(value: usize) -> Option<EnumSet<T>>
+        ensures valid { IsSome result
+            ↔ IsTrue (set.is_subset (bits value) (T.Repr.members T.ALL_BITS)) }
+        ensures value { IfSome result (λ s. s ≡ bits value) }
+    {
+        checked_of(T::Repr::try_from_usize(value))
+    }
+
+    /// The set of those bits of a number that are valid.
+    pub fn from_usize_truncated(value: usize) -> EnumSet<T>
+        ensures { result ≡ set.intersection (bits value) (T.Repr.members T.ALL_BITS) }
+    {
+        valid_part_of(T::Repr::from_usize(value))
+    }
+
+    /// The set of a number, whose bits must all be valid, as [`from_usize`](EnumSet::from_usize).
+    pub fn from_usize_unchecked(value: usize) -> EnumSet<T>
+        requires valid { IsTrue (set.is_subset (bits value) (T.Repr.members T.ALL_BITS)) }
+        ensures { result ≡ bits value }
+    {
+        Self::from_usize(value)
+    }
+}

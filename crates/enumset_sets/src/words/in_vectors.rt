@@ -1,0 +1,21 @@
+//! Sets to vectors of words.
+
+ghost use Rattle.std.specs.Prelude.{◌≡◌, IfOk};
+ghost use Rattle.enumset_repr.specs.Words.{words};
+
+use crate::element::EnumSetType;
+use crate::enum_set::EnumSet;
+use enumset_repr::repr::EnumSetTypeRepr;
+use std::alloc::{AllocError, Global};
+
+impl<T: EnumSetType> EnumSet<T> {
+    /// The words of the set, as many as its store has. Room for them is taken once; where it is refused, so is the
+    /// vector.
+    pub fn to_vec(&self, alloc: Global) -> Result<Vec<u64>, AllocError>
+        ensures { IfOk result (λ v. v.items ≡ words self.now T.Repr.PREFERRED_ARRAY_LEN) }
+    {
+        let mut all = vec![in alloc; 0; T::Repr::PREFERRED_ARRAY_LEN]?;
+        self.copy_into_slice_truncated(&mut all);
+        Ok(all)
+    }
+}
