@@ -5,5 +5,3 @@ mod on_u16;
 mod on_u32;
 mod on_u64;
 mod on_u8;
-#[cfg(test)]
-mod tests;

@@ -75,6 +75,3 @@ impl<T: Primitive> ExactSizeIterator for PrimitiveIter<T> {
         self.0.ones() as usize
     }
 }
-
-#[cfg(test)]
-mod tests;
