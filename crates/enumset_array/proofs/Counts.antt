@@ -8,11 +8,11 @@ use Rattle.std.proofs.lemmas.Bool.Decides.{nat_tests}
 use Rattle.std.proofs.lemmas.Bool.{eq-eqb, or_left, or_right}
 use Rattle.enumset_repr.specs.BitSet.{is_in, rising, len, empty}
 use Rattle.enumset_repr.specs.Number.{bits}
-use Rattle.enumset_repr.specs.Words.{raised}
+use Rattle.enumset_repr.specs.Words.{raised, bits_of}
 use Rattle.enumset_repr.specs.Laws.Members.{contains-union, contains-from_list, contains-rising}
 use Rattle.enumset_repr.specs.Laws.Rising.{RisesFrom, rising-rises, rising_is, len-rising, rising-empty}
-use Rattle.enumset_array.specs.WordList.{bits_of, items_of}
-use Rattle.enumset_array.specs.Laws.Bits.{contains-bits_above}
+use Rattle.enumset_array.specs.WordList.{items_of}
+use Rattle.enumset_repr.specs.Laws.WordLists.{contains-bits_above}
 
 rises-append : (k m : ℕ) (xs ys : List ℕ) → k ≤ m → RisesFrom k xs → ((q : ℕ) → is_in q xs ≡ true → q < m) → RisesFrom m ys → RisesFrom k (xs ++ ys)
 rises-append k m [] [] h rises small above = tt

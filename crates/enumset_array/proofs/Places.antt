@@ -17,9 +17,8 @@ use Rattle.enumset_repr.specs.Laws.Members.{contains-insert, contains-remove}
 use Rattle.enumset_repr.specs.Laws.Numbers.{bits-set, bits-clear, bits-test}
 use Rattle.enumset_repr.specs.Laws.Words.{contains-with_word}
 use Rattle.enumset_array.specs.Stored.{in_use, set_of, is_empty_past, IsStore}
-use Rattle.enumset_array.specs.Laws.Bits.{contains-bits_above}
+use Rattle.enumset_repr.specs.Laws.WordLists.{contains-bits_above, at_word}
 use Rattle.enumset_array.specs.Laws.Stored.{contains-set_of, set_is}
-use Rattle.enumset_array.specs.Laws.WordSets.{at_word}
 
 pub set_past : (n : ℕ) (ws : List ℕ) (i x : ℕ) → i < in_use n → IsTrue (is_empty_past n ws) → IsTrue (is_empty_past n (set ws i x))
 set_past n ws i x low past = ap (list_all (λ w. w == 0)) (drop-set-lt (in_use n) ws i x low) ∙ past

@@ -8,7 +8,7 @@ use Rattle.enumset_repr.specs.Number.{bits}
 use Rattle.enumset_repr.specs.Laws.Members.{same_set, contains-remove, contains-rising, contains-below, contains-is_subset}
 use Rattle.enumset_repr.specs.Laws.Rising.{RisesFrom, rising-rises, is_in-below, is_in-push}
 use Rattle.enumset_repr.specs.Laws.Numbers.{number-bits, number-within}
-use Rattle.enumset_array.specs.Laws.Bits.{contains-bits_above}
+use Rattle.enumset_repr.specs.Laws.WordLists.{contains-bits_above}
 
 -- what was there is the one taken out and what is left; the one isn't left
 pub record IsTaken (s : BitSet) (b : ℕ) (t : BitSet) : Type 0 where

@@ -7,9 +7,8 @@ use Rattle.enumset_repr.specs.BitSet.{contains, rising, remove}
 use Rattle.enumset_repr.specs.Number.{bits}
 use Rattle.enumset_repr.specs.Laws.Rising.{rising-first, rising-last, rising-empty}
 use Rattle.enumset_array.specs.Cursors.{Reach, Covers}
-use Rattle.enumset_array.specs.WordList.{bits_of}
-use Rattle.enumset_array.specs.Laws.WordSets.{contains-bits_of, by_word, contains-zero, same_place}
-use Rattle.enumset_array.specs.Laws.WordsOf.{bits_of-zeros}
+use Rattle.enumset_repr.specs.Words.{bits_of}
+use Rattle.enumset_repr.specs.Laws.WordLists.{contains-bits_of, by_word, contains-zero, same_place, bits_of-zeros}
 use Rattle.enumset_array.proofs.Taken.{IsTaken, rest_of_taken, was_there, taken_first, first_is_least, taken_last, last_is_greatest, taken_small, taken_below}
 
 -- ---- a bit taken out of the word at i

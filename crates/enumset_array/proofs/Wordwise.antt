@@ -14,7 +14,7 @@ use Rattle.enumset_repr.specs.Laws.Members.{contains-intersection, contains-unio
 use Rattle.enumset_repr.specs.Laws.Numbers.{bits-and, bits-or, bits-xor, bits-not, bits-and_not}
 use Rattle.enumset_array.specs.Stored.{in_use, set_of, is_empty_past, IsStore}
 use Rattle.enumset_array.specs.Laws.Stored.{contains-set_of, set_is, past_is, empty_past}
-use Rattle.enumset_array.specs.Laws.WordSets.{contains-zero}
+use Rattle.enumset_repr.specs.Laws.WordLists.{contains-zero}
 use Rattle.enumset_array.proofs.Places.{in_use-le}
 
 -- the words of r are an operation on those of a and b, and past the last they are as they were

@@ -6,7 +6,7 @@
 use Rattle.std.specs.Prelude.{◌≡◌, ℕ, ◌+◌, ◌≤◌, List, length, Option, None, IfNone, MatchOption, is_some, if◌then◌else◌}
 use Rattle.enumset_repr.specs.BitSet.{remove}
 use Rattle.enumset_array.specs.Cursors.{Reach}
-use Rattle.enumset_array.specs.WordList.{bits_of}
+use Rattle.enumset_repr.specs.Words.{bits_of}
 
 pub record TakesOut (ws : List ℕ) (r : Option ℕ) (vs : List ℕ) : Type 0 where
   pub set : MatchOption r (bits_of vs ≡ bits_of ws) (λ b. bits_of vs ≡ remove (bits_of ws) b)

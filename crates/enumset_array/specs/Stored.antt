@@ -8,7 +8,7 @@ use Rattle.std.specs.Prelude.{◌≡◌, ℕ, ◌<◌, ◌^◌, ◌%◌, ◌==�
 use Rattle.std.specs.List.{list_all}
 use Rattle.enumset_repr.specs.BitSet.{BitSet}
 use Rattle.enumset_array.specs.declared.array_repr.TheConstants.{WORD_LIMIT}
-use Rattle.enumset_array.specs.WordList.{bits_of}
+use Rattle.enumset_repr.specs.Words.{bits_of}
 
 abbrev pub in_use : ℕ → ℕ
 in_use n = n % WORD_LIMIT

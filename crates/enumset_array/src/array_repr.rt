@@ -5,7 +5,7 @@ ghost use Rattle.std.specs.List.{list_all};
 ghost use Rattle.enumset_repr.specs.BitSet.{rising, len};
 ghost use Rattle.enumset_repr.specs.Number.{bits};
 ghost use Rattle.enumset_array.specs.Stored.{in_use, set_of, IsStore};
-ghost use Rattle.enumset_array.specs.WordList.{words as words_of_set};
+ghost use Rattle.enumset_repr.specs.Words.{words as words_of_set};
 ghost use Rattle.enumset_array.specs.Laws.Stored.{set_of_none, within, inverse, width_words, equal};
 
 use crate::array_iter::ArrayIter;

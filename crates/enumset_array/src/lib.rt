@@ -7,8 +7,9 @@
 //! - [`walk`]: many such steps, with the bound on how often the words are asked.
 //! - [`shown_row`]: a row that can show its count.
 //!
-//! The count of asks takes no bytes at run time: contracts alone see it. `specs/WordList.antt` says
-//! which set a list of words means, and `specs/Stored.antt` which words of a store are in use.
+//! The count of asks takes no bytes at run time: contracts alone see it. `specs/Words.antt` of
+//! `enumset_repr` says which set a list of words means, and `specs/Stored.antt` which words of a store
+//! are in use.
 #![tactic(auto)]
 
 pub mod array_iter;

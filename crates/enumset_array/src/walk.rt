@@ -5,7 +5,8 @@ ghost use Rattle.enumset_repr.specs.BitSet.{difference, from_list};
 ghost use Rattle.enumset_array.specs.Cursors.{span, Covers};
 ghost use Rattle.enumset_array.specs.OneStep.{TakesOut, CountsAsks};
 ghost use Rattle.enumset_array.specs.Walks.{answer, without_answer, answers, without_answers, given};
-ghost use Rattle.enumset_array.specs.WordList.{bits_of, items_of};
+ghost use Rattle.enumset_repr.specs.Words.{bits_of};
+ghost use Rattle.enumset_array.specs.WordList.{items_of};
 
 use crate::cursors::{Cursors, step_back, step_front};
 use crate::row::Row;

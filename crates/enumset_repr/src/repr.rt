@@ -254,12 +254,7 @@ pub trait EnumSetTypeRepr: Copy
             ↔ IsTrue (set.is_subset (members self.now) (set.below u8.BITS)) }
         ensures value { IfSome result (λ n. n ≡ number (members self.now)) }
     {
-        let n = self.try_to_u128()?;
-        if n <= u8::MAX as u128 {
-            Some(n as u8)
-        } else {
-            None
-        }
+        u8::try_from(self.try_to_u128()?).ok()
     }
 
     // ---- u16
@@ -300,12 +295,7 @@ pub trait EnumSetTypeRepr: Copy
             ↔ IsTrue (set.is_subset (members self.now) (set.below u16.BITS)) }
         ensures value { IfSome result (λ n. n ≡ number (members self.now)) }
     {
-        let n = self.try_to_u128()?;
-        if n <= u16::MAX as u128 {
-            Some(n as u16)
-        } else {
-            None
-        }
+        u16::try_from(self.try_to_u128()?).ok()
     }
 
     // ---- u32
@@ -346,12 +336,7 @@ pub trait EnumSetTypeRepr: Copy
             ↔ IsTrue (set.is_subset (members self.now) (set.below u32.BITS)) }
         ensures value { IfSome result (λ n. n ≡ number (members self.now)) }
     {
-        let n = self.try_to_u128()?;
-        if n <= u32::MAX as u128 {
-            Some(n as u32)
-        } else {
-            None
-        }
+        u32::try_from(self.try_to_u128()?).ok()
     }
 
     // ---- u64
@@ -392,12 +377,7 @@ pub trait EnumSetTypeRepr: Copy
             ↔ IsTrue (set.is_subset (members self.now) (set.below u64.BITS)) }
         ensures value { IfSome result (λ n. n ≡ number (members self.now)) }
     {
-        let n = self.try_to_u128()?;
-        if n <= u64::MAX as u128 {
-            Some(n as u64)
-        } else {
-            None
-        }
+        u64::try_from(self.try_to_u128()?).ok()
     }
 
     // ---- usize
@@ -438,12 +418,7 @@ pub trait EnumSetTypeRepr: Copy
             ↔ IsTrue (set.is_subset (members self.now) (set.below usize.BITS)) }
         ensures value { IfSome result (λ n. n ≡ number (members self.now)) }
     {
-        let n = self.try_to_u128()?;
-        if n <= usize::MAX as u128 {
-            Some(n as usize)
-        } else {
-            None
-        }
+        usize::try_from(self.try_to_u128()?).ok()
     }
 
     // The empty set has no member.

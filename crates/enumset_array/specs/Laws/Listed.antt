@@ -6,11 +6,11 @@ use Rattle.std.proofs.lemmas.Bool.Decides.{nat_tests}
 use Rattle.std.proofs.lemmas.Bool.{and_parts}
 use Rattle.enumset_repr.specs.BitSet.{is_in, contains, from_list}
 use Rattle.enumset_repr.specs.Number.{bits}
-use Rattle.enumset_repr.specs.Words.{raised}
+use Rattle.enumset_repr.specs.Words.{raised, bits_of}
 use Rattle.enumset_repr.specs.Laws.Members.{same_set, contains-union, contains-from_list, contains-empty}
 use Rattle.enumset_repr.specs.Laws.Words.{contains-raised}
 use Rattle.enumset_repr.specs.Laws.Listed.{bits_listed}
-use Rattle.enumset_array.specs.WordList.{bits_of, in_first_word, in_later_words, lists_words}
+use Rattle.enumset_array.specs.WordList.{in_first_word, in_later_words, lists_words}
 
 -- a number is in the list exactly if it is in one of the two parts
 in_parts : (bs : List ℕ) (q : ℕ) → (is_in q (in_first_word bs) || (nat_le 64 q && is_in (q - 64) (in_later_words bs))) ≡ is_in q bs

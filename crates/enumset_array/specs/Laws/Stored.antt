@@ -17,12 +17,10 @@ use Rattle.std.proofs.lemmas.Cmp.{nat_list_eq_equiv}
 use Rattle.std.proofs.lemmas.List.{get_or-take, get_or-drop, get_or_past, length-take, length-replicate, drop-replicate}
 use Rattle.enumset_repr.specs.BitSet.{BitSet, contains, empty, below, is_subset}
 use Rattle.enumset_repr.specs.Number.{bits}
-use Rattle.enumset_repr.specs.Words.{word}
+use Rattle.enumset_repr.specs.Words.{word, words}
 use Rattle.enumset_repr.specs.Laws.Members.{same_set, contains-below, contains-empty, contains-is_subset}
 use Rattle.enumset_array.specs.Stored.{in_use, used, set_of, is_empty_past, IsStore}
-use Rattle.enumset_array.specs.WordList.{words}
-use Rattle.enumset_array.specs.Laws.WordSets.{contains-bits_of, by_word, contains-zero}
-use Rattle.enumset_array.specs.Laws.WordsOf.{word-bits_of, words-bits_of, word-empty}
+use Rattle.enumset_repr.specs.Laws.WordLists.{contains-bits_of, by_word, contains-zero, word-bits_of, words-bits_of, word-empty}
 use Rattle.enumset_array.specs.Laws.Zeros.{each_zero, all_zero, none_at, all_none}
 
 pub past_is : (n : ℕ) (ws : List ℕ) (w : ℕ) → IsTrue (is_empty_past n ws) → in_use n ≤ w → slice_index ws w ≡ 0

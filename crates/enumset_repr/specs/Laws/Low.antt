@@ -1,13 +1,15 @@
 -- What a cut at a width leaves, and which sets and numbers fit one.
 --     low-is_subset, low_part      what is left is below the width, and of the set
 --     low_within, low_inside      nothing is left out of a set below the width, nor of a part of such a set
---     low_is_subset      a set that a cut leaves as it is, is below the width
+--     within_from_low      a set of which a cut leaves out nothing is below the width
 --     low_narrow      a cut, and then one at a width that is no more
 --     low_intersection, low_empty      what is left, met with a set below the width;  of the empty set
 --     is_subset_wider      a set below a width is below each width from there on
 --     number_low, number_cut      the number of what is left, by a remainder
 --     number_fits, fits_number      a set below a width has a number of so many bits, and back
--- The ruleset `cuts` holds those that a tactic can apply by itself.
+--     cut_8, small_8, fits_8, wider_8 and those at 16, 32 and 64      the same laws at a width, of numbers below 2 ^ 128
+-- The ruleset `cuts` has what a proof about sets and their numbers wants: cite it in a crate above by
+-- `#[tactic(auto, using(enumset_repr::specs::Laws::Low::cuts))]`. `cuts_to` has the laws at the widths.
 use Rattle.std.proofs.Common.{◌≡◌, ◌<◌, ◌≤◌, ℕ, ◌-◌, ◌%◌, ◌^◌, true, sym, ap, subst, ◌∙◌, arith}
 use Rattle.std.proofs.lemmas.Bool.Decides.{nat_tests}
 use Rattle.std.specs.Int.RustNames.{bit_and}
@@ -32,8 +34,8 @@ low_within s n within = same_set _ _ (λ q. let each = is_subset-contains s (bel
 pub low_inside : (s v : BitSet) (n : ℕ) → is_subset s v ≡ true → is_subset v (below n) ≡ true → low s n ≡ s
 low_inside s v n part within = low_within s n (is_subset_trans s v (below n) part within)
 
-pub low_is_subset : (s : BitSet) (n : ℕ) → low s n ≡ s → is_subset s (below n) ≡ true
-low_is_subset s n same = subst (λ t. is_subset t (below n) ≡ true) same (low-is_subset s n)
+pub within_from_low : (s : BitSet) (n : ℕ) → low s n ≡ s → is_subset s (below n) ≡ true
+within_from_low s n same = subst (λ t. is_subset t (below n) ≡ true) same (low-is_subset s n)
 
 pub low_narrow : (s : BitSet) (m n : ℕ) → n ≤ m → low (low s m) n ≡ low s n
 low_narrow s m n less = same_set _ _ (λ q. grind (arith, members, nat_tests, less))
@@ -61,7 +63,7 @@ number_fits s n within = number-within s n within
 pub fits_number : (s : BitSet) (n : ℕ) → number s < 2 ^ n → is_subset s (below n) ≡ true
 fits_number s n small = subst (λ t. is_subset t (below n) ≡ true) (bits-number s) (bits-within (number s) n small)
 
-pub ruleset cuts = (low-is_subset, low_part, low_within, low_inside, low_is_subset, low_intersection, low_empty, bits-number, number-bits, intersection_right, difference_within, difference_none)
+pub ruleset cuts = (low-is_subset, low_part, low_within, low_inside, within_from_low, low_intersection, low_empty, bits-number, number-bits, intersection_right, difference_within, difference_none)
 
 -- ---- the laws that speak of a width, at each width below 128, for a tactic, which reads no width off a numeral
 
@@ -77,64 +79,64 @@ FitsLaw n = (s : BitSet) → number s < 2 ^ n → is_subset s (below n) ≡ true
 abbrev WiderLaw : ℕ → Type 0
 WiderLaw n = (s : BitSet) → is_subset s (below n) ≡ true → is_subset s (below 128) ≡ true
 
-cut : (n : ℕ) → n ≤ 128 → CutLaw n
-cut n less s = and_mask _ n ∙ number_cut s 128 n less
+cut_at : (n : ℕ) → n ≤ 128 → CutLaw n
+cut_at n less s = and_mask _ n ∙ number_cut s 128 n less
 
-small : (n : ℕ) → SmallLaw n
-small n s within = number_fits s n within
+small_at : (n : ℕ) → SmallLaw n
+small_at n s within = number_fits s n within
 
-fits : (n : ℕ) → FitsLaw n
-fits n s below_power = fits_number s n below_power
+fits_at : (n : ℕ) → FitsLaw n
+fits_at n s below_power = fits_number s n below_power
 
-wider : (n : ℕ) → n ≤ 128 → WiderLaw n
-wider n less s within = is_subset_wider s n 128 less within
+wider_at : (n : ℕ) → n ≤ 128 → WiderLaw n
+wider_at n less s within = is_subset_wider s n 128 less within
 
 pub cut_8 : CutLaw 8
-cut_8 = cut 8 (omega arith)
+cut_8 = cut_at 8 (omega arith)
 
 pub small_8 : SmallLaw 8
-small_8 = small 8
+small_8 = small_at 8
 
 pub fits_8 : FitsLaw 8
-fits_8 = fits 8
+fits_8 = fits_at 8
 
 pub wider_8 : WiderLaw 8
-wider_8 = wider 8 (omega arith)
+wider_8 = wider_at 8 (omega arith)
 
 pub cut_16 : CutLaw 16
-cut_16 = cut 16 (omega arith)
+cut_16 = cut_at 16 (omega arith)
 
 pub small_16 : SmallLaw 16
-small_16 = small 16
+small_16 = small_at 16
 
 pub fits_16 : FitsLaw 16
-fits_16 = fits 16
+fits_16 = fits_at 16
 
 pub wider_16 : WiderLaw 16
-wider_16 = wider 16 (omega arith)
+wider_16 = wider_at 16 (omega arith)
 
 pub cut_32 : CutLaw 32
-cut_32 = cut 32 (omega arith)
+cut_32 = cut_at 32 (omega arith)
 
 pub small_32 : SmallLaw 32
-small_32 = small 32
+small_32 = small_at 32
 
 pub fits_32 : FitsLaw 32
-fits_32 = fits 32
+fits_32 = fits_at 32
 
 pub wider_32 : WiderLaw 32
-wider_32 = wider 32 (omega arith)
+wider_32 = wider_at 32 (omega arith)
 
 pub cut_64 : CutLaw 64
-cut_64 = cut 64 (omega arith)
+cut_64 = cut_at 64 (omega arith)
 
 pub small_64 : SmallLaw 64
-small_64 = small 64
+small_64 = small_at 64
 
 pub fits_64 : FitsLaw 64
-fits_64 = fits 64
+fits_64 = fits_at 64
 
 pub wider_64 : WiderLaw 64
-wider_64 = wider 64 (omega arith)
+wider_64 = wider_at 64 (omega arith)
 
 pub ruleset cuts_to = (cut_8, small_8, fits_8, wider_8, cut_16, small_16, fits_16, wider_16, cut_32, small_32, fits_32, wider_32, cut_64, small_64, fits_64, wider_64)

@@ -29,7 +29,7 @@ use Rattle.enumset_repr.specs.Laws.Rising.{rising-empty}
 use Rattle.enumset_repr.specs.Laws.Members.{same_set, contains-empty, contains-union, contains-below, contains-low, contains-is_subset, contains-past}
 use Rattle.enumset_repr.specs.Laws.Numbers.{number-bits, bits-zero, bits-within, number-within}
 use Rattle.enumset_repr.specs.Laws.Words.{contains-raised, contains-bits-word, contains-with_word, word-bits}
-use Rattle.enumset_repr.specs.Laws.Low.{low_is_subset, low_within}
+use Rattle.enumset_repr.specs.Laws.Low.{within_from_low, low_within}
 
 -- ---- bits past a number, and sets moved up
 
@@ -205,7 +205,7 @@ put_next s width i = same_set _ _ (λ q.
 
 -- a set is below a width if a cut there leaves each of its words as it is
 pub low-same_words : (s : BitSet) (width n : ℕ) → is_subset s (below (64 * n)) ≡ true → ((w : ℕ) → w < n → word (low s width) w ≡ word s w) → is_subset s (below width) ≡ true
-low-same_words s width n within same = low_is_subset s width (same_set _ _ (by_word (λ q. contains (low s width) q ≡ contains s q) (λ w b small. at w b small (cases_lt w n))))
+low-same_words s width n within same = within_from_low s width (same_set _ _ (by_word (λ q. contains (low s width) q ≡ contains s q) (λ w b small. at w b small (cases_lt w n))))
   where
     by_bit : (t : BitSet) (w b : ℕ) → b < 64 → contains t (64 * w + b) ≡ contains (bits (word t w)) b
     by_bit t w b small = sym (contains-bits-word t w b ∙ ap (λ u. contains t (64 * w + b) && u) (lt-ltb b 64 small) ∙ and-true _)

@@ -1,6 +1,6 @@
 use Rattle.std.proofs.Common.{◌≡◌, ◌+◌, ◌-◌, ◌*◌, ◌<◌, [], length, length-set, refl, sym, ap, ◌∙◌, arith}
 use Rattle.enumset_repr.specs.BitSet.{rising, remove}
-use Rattle.enumset_array.specs.WordList.{bits_of}
+use Rattle.enumset_repr.specs.Words.{bits_of}
 use Rattle.enumset_array.proofs.Covers.{covers_down}
 use Rattle.enumset_array.proofs.WordLists.{step_last, step_last_set, none_left}
 use Rattle.enumset_array.proofs.cursors.step_back.Goals as goal

@@ -1,6 +1,6 @@
 use Rattle.std.proofs.Common.{◌≡◌, ◌+◌, ◌*◌, ◌<◌, [], length, length-set, refl, sym, ap, ◌∙◌, arith}
 use Rattle.enumset_repr.specs.BitSet.{rising, remove}
-use Rattle.enumset_array.specs.WordList.{bits_of}
+use Rattle.enumset_repr.specs.Words.{bits_of}
 use Rattle.enumset_array.proofs.Covers.{covers_next}
 use Rattle.enumset_array.proofs.WordLists.{step_first, step_first_set, none_left}
 use Rattle.enumset_array.proofs.cursors.step_front.Goals as goal

@@ -2,7 +2,7 @@ use Rattle.std.proofs.Common.{◌≡◌, ◌+◌, ◌≤◌, Contains, length, i
 use Rattle.std.proofs.lemmas.Grind.{common_steps}
 use Rattle.enumset_repr.specs.BitSet.{difference, from_list}
 use Rattle.enumset_array.specs.Walks.{given}
-use Rattle.enumset_array.specs.WordList.{bits_of}
+use Rattle.enumset_repr.specs.Words.{bits_of}
 use Rattle.enumset_array.proofs.Covers.{covers_all}
 use Rattle.enumset_array.proofs.Walks.{length-given, length-given-push, length-answers, difference-none, difference-step, none-push, no_answers, all_left, none_given, none_in_no_answers, answers_next, rest_next}
 use Rattle.enumset_array.proofs.walk.walk.Goals as goal

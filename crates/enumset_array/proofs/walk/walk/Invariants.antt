@@ -2,7 +2,7 @@ use Rattle.std.proofs.Common.{◌≡◌, ◌+◌, ◌≤◌, Contains, length, N
 use Rattle.enumset_repr.specs.BitSet.{rising, difference, from_list}
 use Rattle.enumset_array.specs.Cursors.{span, Covers}
 use Rattle.enumset_array.specs.Walks.{answers, without_answers, given}
-use Rattle.enumset_array.specs.WordList.{bits_of}
+use Rattle.enumset_repr.specs.Words.{bits_of}
 use Rattle.enumset_array.proofs.walk.walk.Given as goal
 
 -- what the function ensures, as far as the ends were taken, with the words between the cursors still to be asked

@@ -4,4 +4,4 @@ use Rattle.enumset_repr.proofs.repr.EnumSetTypeRepr.try_to_u64_slice.Given as go
 
 -- the words past the slice are empty, as far as they were looked at
 abbrev pub invariant-loop-i : goal.invariant-loop-i
-invariant-loop-i g l = (w : ℕ) → length l.out ≤ w → w < l.i → word (g.Self.EnumSetTypeRepr.members l.self) w ≡ 0
+invariant-loop-i g l = (w : ℕ) → length l.fn.out ≤ w → w < l.i → word (g.Self.EnumSetTypeRepr.members l.self) w ≡ 0
