@@ -14,8 +14,9 @@ pub enum Wide {
 }
 
 impl EnumSetType for Wide {
+    ghost use Rattle.std.specs.Prelude.{◌∷◌, [], refl};
     ghost use Rattle.enumset_array.specs.Laws.Listed.{words_listed};
-    ghost use Rattle.enumset_sets.specs.Laws.Elements.{with_bits, lawful_in, ◌∷◌, [], refl};
+    ghost use Rattle.enumset_sets.specs.Laws.Elements.{with_bits, lawful_in};
     ghost use Rattle.enumset_run.specs.Kinds.{wide_bits};
     ghost use Rattle.enumset_run.specs.contracts.wide.Wide.{the_type};
 

@@ -2,7 +2,7 @@
 --     IsLawful, IsLawfulNumber      the test; where it fails it is the fault, by a name that says what to mend
 --     lawful_in, lawful_in_integer      the laws, over any store; over an integer
 --     derived_eq      what a derived `==` of such an enum answers
--- An element type imports all that it writes from here: the makers of its elements, the words of a list and `refl` too.
+-- An element type imports the makers of its elements from here too.
 use Rattle.std.proofs.Common.{◌≡◌, ◌<◌, ◌≤◌, ℕ, suc, zero, ◌+◌, ◌^◌, Bool, true, false, cond, eqb, List, Some, sym, ap, ◌∙◌, length, get_or, max, sum_by, arith, true≢false, inl, inr}
 use Rattle.std.specs.Prelude.{◌==◌}
 use denote.Struct.Field.{Field}
@@ -17,7 +17,7 @@ use Rattle.enumset_repr.specs.Ends.{last, greatest}
 use Rattle.enumset_repr.specs.Laws.Members.{contains-from_list, contains-rising, list_all-each, is_subset-contains}
 use Rattle.enumset_repr.specs.Laws.Rising.{len-empty, len-insert, rising-rises, RisesFrom}
 use Rattle.enumset_repr.specs.Laws.Listed.{bits_listed}
-pub use Rattle.std.specs.Prelude.{[], ◌∷◌, refl}
+use Rattle.std.specs.Prelude.{[], ◌∷◌, refl}
 pub use Rattle.enumset_sets.specs.Elements.{with_bits, in_order}
 use Rattle.enumset_sets.specs.Elements.{one_past, one_past_greatest, IsElementType, AreBitsOf}
 
