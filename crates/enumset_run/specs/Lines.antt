@@ -3,7 +3,7 @@
 --     is_empty      whether a list of bytes is empty
 --     tokens_of      the tokens of a line, which spaces part
 --     is_number      whether a token is made of decimal digits
---     field, register, bit      the number that a field writes, if it fits
+--     field, register, bit, width, value      the number that a field writes, if it fits
 --     with_one, with_two, with_three      the command over one field, two or three, if each of them is there
 --     one_field, two_fields, three_fields      the command that a name and so many fields write
 --     command_of      the command that the tokens of a line write
@@ -19,7 +19,7 @@ use Rattle.std.specs.Option.{option_or}
 use Rattle.enumset_run.specs.declared.command.Command.{Command}
 use Rattle.enumset_run.specs.declared.text_fault.TextFault.{TextFault}
 use Rattle.enumset_run.specs.declared.text_fault.TextFault.TheVariants.{BadLine}
-use Rattle.enumset_run.specs.Tables.{one_register, two_registers, three_registers, register_and_bit}
+use Rattle.enumset_run.specs.Tables.{one_register, two_registers, three_registers, register_and_bit, register_and_width, register_width_and_value}
 
 -- A line feed ends a line. A carriage return right before it is left away, and a last line without a
 -- line feed counts unless it is empty. std's `lines` says just this.
@@ -43,12 +43,18 @@ abbrev pub field : ℕ → List ℕ → Option ℕ
 field bits token =
     if is_number token && nat_lt (digits_value 10 token) (2 ^ bits) then Some (digits_value 10 token) else None
 
--- a register is a number of 8 bits, a bit a number of 32
+-- a register is a number of 8 bits, a bit and a width one of 32, a value one of 128
 abbrev pub register : List ℕ → Option ℕ
 register token = field 8 token
 
 abbrev pub bit : List ℕ → Option ℕ
 bit token = field 32 token
+
+abbrev pub width : List ℕ → Option ℕ
+width token = field 32 token
+
+abbrev pub value : List ℕ → Option ℕ
+value token = field 128 token
 
 -- a command over one field, if the field is there, over two and over three
 abbrev pub with_one : (ℕ → Option Command) → Option ℕ → Option Command
@@ -64,14 +70,18 @@ with_three command x y z = option_and_then (λ a. with_two (command a) y z) x
 abbrev pub one_field : List ℕ → List ℕ → Option Command
 one_field name x = with_one (one_register name) (register x)
 
--- the command that a name and two fields write: over a register and a bit, or else over two registers
+-- the command that a name and two fields write: over a register and a bit, a register and a width, or two registers
 abbrev pub two_fields : List ℕ → List ℕ → List ℕ → Option Command
 two_fields name x y =
-    option_or (with_two (register_and_bit name) (register x) (bit y)) (with_two (two_registers name) (register x) (register y))
+    option_or (with_two (register_and_bit name) (register x) (bit y)) (
+    option_or (with_two (register_and_width name) (register x) (width y)) (
+    with_two (two_registers name) (register x) (register y)))
 
--- the command that a name and three fields write
+-- the command that a name and three fields write: over a register, a width and a value, or three registers
 abbrev pub three_fields : List ℕ → List ℕ → List ℕ → List ℕ → Option Command
-three_fields name x y z = with_three (three_registers name) (register x) (register y) (register z)
+three_fields name x y z =
+    option_or (with_three (register_width_and_value name) (register x) (width y) (value z)) (
+    with_three (three_registers name) (register x) (register y) (register z))
 
 -- the command that the tokens of a line write: its name, and exactly its fields
 abbrev pub command_of : List (List ℕ) → Option Command

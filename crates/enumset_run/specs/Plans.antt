@@ -1,24 +1,27 @@
 -- What a command names, replies and leaves, as one row, and the outcome of a row.
 --     Rules      what a run asks of the bits of its sets
 --     of_valid      the rules of a run whose sets have valid bits alone
---     Named      the registers and the bits that a command names
+--     is_width      whether a number is the width of one of the integers that sets go to and come from
+--     Named      the registers, the widths, the values and the bits that a command names
 --     of_sets      set registers alone
 --     Plan      the row of a command
---     asks, puts, changes, steps, over_bit      rows by what they do, and a row that names a bit too
+--     asks, puts, puts_allowed, changes, steps      rows by what they do
+--     over_bit, over_width, over_value      the same row, which names a bit, a width, a value and its width too
+--     where_below      a reply, where each member of a set is below a number
 --     given_or_absent      what a step replies
---     names_registers, names_bits      whether the registers that a row names are there;  whether its bits are valid
+--     names_registers, names_widths, names_bits      whether the registers that a row names are there;  whether its widths are some and its values fit them;  whether its bits are valid
 --     refusal      why a command of a row is refused, if it is
 --     Outcome      a reply, and the state after it
 --     outcome_unless, outcome_of      what a row comes to, where it may be refused
 --     replies_by      the replies to a list of commands, where an outcome is known of each
-use Rattle.std.specs.Prelude.{ℕ, Bool, not, ◌&&◌, List, [], ◌∷◌, Option, Some, None, if◌then◌else◌}
+use Rattle.std.specs.Prelude.{ℕ, ◌^◌, Bool, not, ◌&&◌, nat_lt, List, [], ◌∷◌, Option, Some, None, if◌then◌else◌}
 use Rattle.std.specs.List.{list_all}
-use Rattle.enumset_repr.specs.BitSet.{BitSet, contains}
+use Rattle.enumset_repr.specs.BitSet.{BitSet, is_in, contains, is_subset, below}
 use Rattle.enumset_run.specs.States.{State, put_set, is_set_register, is_iterator_register}
 use Rattle.enumset_run.specs.declared.reply.Reply.{Reply}
 use Rattle.enumset_run.specs.declared.reply.Reply.TheVariants.{Done, Bit, Absent, Refused}
 use Rattle.enumset_run.specs.declared.reply.Refusal.{Refusal}
-use Rattle.enumset_run.specs.declared.reply.Refusal.TheVariants.{NoRegister, NotABit}
+use Rattle.enumset_run.specs.declared.reply.Refusal.TheVariants.{NoRegister, NotABit, NotAWidth}
 
 -- the valid bits, the bits that a set may hold, and the reply to a step that gives a bit
 pub record Rules : Type 0 where
@@ -29,14 +32,20 @@ pub record Rules : Type 0 where
 abbrev pub of_valid : BitSet → Rules
 of_valid valid = record { valid = valid; allowed = valid; given = λ bit. Bit bit }
 
--- the set registers, the iterator registers, and the bits that have to be valid
+abbrev pub is_width : ℕ → Bool
+is_width w = is_in w (8 ∷ 16 ∷ 32 ∷ 64 ∷ 128 ∷ [])
+
+-- the set registers, the iterator registers, the widths, the values that have to fit each of these, and the bits
+-- that have to be valid
 pub record Named : Type 0 where
   pub sets : List ℕ
   pub iterators : List ℕ
+  pub widths : List ℕ
+  pub values : List ℕ
   pub bits : List ℕ
 
 abbrev pub of_sets : List ℕ → Named
-of_sets sets = record { sets = sets; iterators = []; bits = [] }
+of_sets sets = record { sets = sets; iterators = []; widths = []; values = []; bits = [] }
 
 -- what a command names; where all of it is there, what it replies, and the state that it leaves
 pub record Plan : Type 0 where
@@ -56,14 +65,28 @@ changes r others reply new = record (asks (r ∷ others) reply) { after = λ rul
 abbrev pub puts : ℕ → List ℕ → (Rules → State → BitSet) → Plan
 puts to sets new = changes to sets (λ rules s. Done) new
 
+-- it puts a set into a register where each of its bits is allowed, and else changes nothing
+abbrev pub puts_allowed : ℕ → BitSet → Plan
+puts_allowed r new =
+    record (asks (r ∷ []) (λ rules s. if is_subset new rules.allowed then Done else Absent)) { after = λ rules s. if is_subset new rules.allowed then put_set s r new else s }
+
 -- it is about an iterator
 abbrev pub steps : ℕ → List ℕ → (Rules → State → Reply) → (Rules → State → State) → Plan
 steps i sets reply after =
     record { named = record (of_sets sets) { iterators = i ∷ [] }; reply = reply; after = after }
 
--- the same row, which names a bit
+-- the same row, which names a bit, a width, or a value that has to fit a width
 abbrev pub over_bit : ℕ → Plan → Plan
 over_bit bit row = record row { named = record row.named { bits = bit ∷ [] } }
+
+abbrev pub over_width : ℕ → Plan → Plan
+over_width width row = record row { named = record row.named { widths = width ∷ [] } }
+
+abbrev pub over_value : ℕ → ℕ → Plan → Plan
+over_value width value row = record row { named = record row.named { widths = width ∷ []; values = value ∷ [] } }
+
+abbrev pub where_below : BitSet → ℕ → Reply → Reply
+where_below s n reply = if is_subset s (below n) then reply else Absent
 
 abbrev pub given_or_absent : Rules → Option ℕ → Reply
 given_or_absent rules None = Absent
@@ -72,13 +95,16 @@ given_or_absent rules (Some bit) = rules.given bit
 abbrev pub names_registers : Named → Bool
 names_registers named = list_all is_set_register named.sets && list_all is_iterator_register named.iterators
 
+abbrev pub names_widths : Named → Bool
+names_widths named = list_all (λ w. is_width w && list_all (λ value. nat_lt value (2 ^ w)) named.values) named.widths
+
 abbrev pub names_bits : Rules → Named → Bool
 names_bits rules named = list_all (contains rules.valid) named.bits
 
--- the registers are tested first, and then the bits
+-- the registers are tested first, then the widths, and then the bits
 abbrev pub refusal : Rules → Named → Option Refusal
 refusal rules named =
-    if not (names_registers named) then Some NoRegister else if not (names_bits rules named) then Some NotABit else None
+    if not (names_registers named) then Some NoRegister else if not (names_widths named) then Some NotAWidth else if not (names_bits rules named) then Some NotABit else None
 
 pub record Outcome : Type 0 where
   pub reply : Reply

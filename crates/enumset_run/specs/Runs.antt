@@ -5,13 +5,14 @@
 use Rattle.std.specs.Prelude.{not, List, [], ◌∷◌, length}
 use Rattle.enumset_repr.specs.BitSet as set
 use Rattle.enumset_repr.specs.BitSet.{BitSet}
+use Rattle.enumset_repr.specs.Number.{number, bits}
 use Rattle.enumset_repr.specs.Ends.{first, last, without_first, without_last}
 use Rattle.enumset_run.specs.States.{State, start, set_at, list_at, put_list}
-use Rattle.enumset_run.specs.Plans.{Plan, asks, puts, changes, steps, over_bit, given_or_absent, of_valid, Outcome, outcome_of, replies_by}
+use Rattle.enumset_run.specs.Plans.{Plan, asks, puts, puts_allowed, changes, steps, over_bit, over_width, over_value, where_below, given_or_absent, of_valid, Outcome, outcome_of, replies_by}
 use Rattle.enumset_run.specs.declared.command.Command.{Command}
-use Rattle.enumset_run.specs.declared.command.Command.TheVariants.{New, All, Only, Insert, Remove, Contains, Clear, Len, IsEmpty, Union, Intersection, Difference, SymmetricDifference, Complement, InsertAll, RemoveAll, Disjoint, Superset, Subset, Equal, Iter, Next, NextBack, Left}
+use Rattle.enumset_run.specs.declared.command.Command.TheVariants.{New, All, Only, Insert, Remove, Contains, Clear, Len, IsEmpty, Union, Intersection, Difference, SymmetricDifference, Complement, InsertAll, RemoveAll, Disjoint, Superset, Subset, Equal, Number, NumberCut, FromNumber, FromNumberCut, Iter, Next, NextBack, Left}
 use Rattle.enumset_run.specs.declared.reply.Reply.{Reply}
-use Rattle.enumset_run.specs.declared.reply.Reply.TheVariants.{Done, Truth, Count}
+use Rattle.enumset_run.specs.declared.reply.Reply.TheVariants.{Done, Truth, Count, Number as NumberIs}
 
 -- the sets and the lists are those before the command
 unfoldable pub plan : Command → Plan
@@ -37,6 +38,10 @@ plan (Disjoint a b) = asks (a ∷ b ∷ []) (λ rules s. Truth (set.is_disjoint 
 plan (Superset a b) = asks (a ∷ b ∷ []) (λ rules s. Truth (set.is_subset (set_at s b) (set_at s a)))
 plan (Subset a b) = asks (a ∷ b ∷ []) (λ rules s. Truth (set.is_subset (set_at s a) (set_at s b)))
 plan (Equal a b) = asks (a ∷ b ∷ []) (λ rules s. Truth (set.is_same (set_at s a) (set_at s b)))
+plan (Number r width) = over_width width (asks (r ∷ []) (λ rules s. where_below (set_at s r) width (NumberIs (number (set_at s r)))))
+plan (NumberCut r width) = over_width width (asks (r ∷ []) (λ rules s. NumberIs (number (set.low (set_at s r) width))))
+plan (FromNumber r width value) = over_value width value (puts_allowed r (bits value))
+plan (FromNumberCut r width value) = over_value width value (puts r [] (λ rules s. set.intersection (bits value) rules.allowed))
 plan (Iter i r) = steps i (r ∷ []) (λ rules s. Done) (λ rules s. put_list s i (set.rising (set_at s r)))
 plan (Next i) =
     steps i [] (λ rules s. given_or_absent rules (first (list_at s i))) (λ rules s. put_list s i (without_first (list_at s i)))

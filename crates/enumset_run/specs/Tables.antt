@@ -1,10 +1,10 @@
 -- The names of the commands, by the fields that they take.
---     one_register, two_registers, three_registers, register_and_bit      the command of a name over these fields, if there is one
+--     one_register, two_registers, three_registers, register_and_bit, register_and_width, register_width_and_value      the command of a name over these fields, if there is one
 use Rattle.std.specs.Prelude.{ℕ, List, [], ◌∷◌, codes, Option}
 use Rattle.std.specs.Map.{lookup}
 use Rattle.std.specs.Str.{bytes_eq}
 use Rattle.enumset_run.specs.declared.command.Command.{Command}
-use Rattle.enumset_run.specs.declared.command.Command.TheVariants.{New, All, Clear, Len, IsEmpty, Next, NextBack, Left, Complement, InsertAll, RemoveAll, Disjoint, Superset, Subset, Equal, Iter, Union, Intersection, Difference, SymmetricDifference, Only, Insert, Remove, Contains}
+use Rattle.enumset_run.specs.declared.command.Command.TheVariants.{New, All, Clear, Len, IsEmpty, Next, NextBack, Left, Complement, InsertAll, RemoveAll, Disjoint, Superset, Subset, Equal, Iter, Union, Intersection, Difference, SymmetricDifference, Only, Insert, Remove, Contains, Number, NumberCut, FromNumber, FromNumberCut}
 
 abbrev pub one_register : List ℕ → ℕ → Option Command
 one_register name r =
@@ -51,5 +51,21 @@ register_and_bit name r bit =
     ∷ (codes "insert", Insert r bit)
     ∷ (codes "remove", Remove r bit)
     ∷ (codes "contains", Contains r bit)
+    ∷ []
+    )
+
+abbrev pub register_and_width : List ℕ → ℕ → ℕ → Option Command
+register_and_width name r width =
+    lookup (bytes_eq name) (
+    (codes "number", Number r width)
+    ∷ (codes "number_cut", NumberCut r width)
+    ∷ []
+    )
+
+abbrev pub register_width_and_value : List ℕ → ℕ → ℕ → ℕ → Option Command
+register_width_and_value name r width value =
+    lookup (bytes_eq name) (
+    (codes "from_number", FromNumber r width value)
+    ∷ (codes "from_number_cut", FromNumberCut r width value)
     ∷ []
     )

@@ -6,13 +6,14 @@ use Rattle.std.specs.Prelude.{ℕ, Bool, true, false, List, ◌++◌, codes}
 use Rattle.std.specs.List.{flat_map}
 use Rattle.std.specs.Fmt.{decimal}
 use Rattle.enumset_run.specs.declared.reply.Reply.{Reply}
-use Rattle.enumset_run.specs.declared.reply.Reply.TheVariants.{Done, Truth, Count, Bit, Absent, Refused}
+use Rattle.enumset_run.specs.declared.reply.Reply.TheVariants.{Done, Truth, Count, Number, Bit, Absent, Refused}
 use Rattle.enumset_run.specs.declared.reply.Refusal.{Refusal}
-use Rattle.enumset_run.specs.declared.reply.Refusal.TheVariants.{NoRegister, NotABit}
+use Rattle.enumset_run.specs.declared.reply.Refusal.TheVariants.{NoRegister, NotABit, NotAWidth}
 
 abbrev pub refusal_text : Refusal → List ℕ
 refusal_text NoRegister = codes "K1 no register"
 refusal_text NotABit = codes "K2 not a bit"
+refusal_text NotAWidth = codes "K3 not a width"
 
 abbrev pub truth_text : Bool → List ℕ
 truth_text true = codes "true"
@@ -22,6 +23,7 @@ abbrev pub text_of : Reply → List ℕ
 text_of Done = codes "ok"
 text_of (Truth b) = truth_text b
 text_of (Count n) = decimal n
+text_of (Number n) = decimal n
 text_of (Bit b) = codes "bit " ++ decimal b
 text_of Absent = codes "none"
 text_of (Refused r) = refusal_text r

@@ -3,7 +3,7 @@
 /// One command of a run over four set registers, 0 to 3, and two iterator registers, 0 and 1.
 ///
 /// The fields `to`, `a`, `b` and `r` name set registers, `i` an iterator register, and `bit` is the
-/// number of a bit.
+/// number of a bit. A `width` is 8, 16, 32, 64 or 128, and a `value` is below 2 to that power.
 #[derive(Drop)]
 pub enum Command {
     /// `new r`: empties a set.
@@ -46,6 +46,14 @@ pub enum Command {
     Subset { a: u8, b: u8 },
     /// `equal a b`: replies whether the two have the same members.
     Equal { a: u8, b: u8 },
+    /// `number r width`: replies the number of a set, if each member is below the width.
+    Number { r: u8, width: u32 },
+    /// `number_cut r width`: replies the number of the members below the width.
+    NumberCut { r: u8, width: u32 },
+    /// `from_number r width value`: makes a set the bits of a number, if a set may have each of them.
+    FromNumber { r: u8, width: u32, value: u128 },
+    /// `from_number_cut r width value`: makes a set those bits of a number that a set may have.
+    FromNumberCut { r: u8, width: u32, value: u128 },
     /// `iter i r`: puts an iterator over the members that `r` has now into `i`.
     Iter { i: u8, r: u8 },
     /// `next i`: one step from the front.

@@ -10,6 +10,8 @@ pub enum Reply {
     Truth(bool),
     /// How many members or items there are.
     Count(u64),
+    /// The number of a set: the sum of the powers of two of its members.
+    Number(u128),
     /// The number of a valid bit.
     Bit(u32),
     /// There is nothing to give.
@@ -25,6 +27,8 @@ pub enum Refusal {
     NoRegister,
     /// It names a bit that is not valid.
     NotABit,
+    /// It names a width other than 8, 16, 32, 64 and 128, or a value that does not fit the width.
+    NotAWidth,
 }
 
 impl fmt::Display for Reply {
@@ -38,6 +42,7 @@ impl fmt::Display for Reply {
             Reply::Done => write!(f, "ok"),
             Reply::Truth(truth) => write!(f, "{truth}"),
             Reply::Count(count) => write!(f, "{count}"),
+            Reply::Number(number) => write!(f, "{number}"),
             Reply::Bit(bit) => write!(f, "bit {bit}"),
             Reply::Absent => write!(f, "none"),
             Reply::Refused(refusal) => write!(f, "{refusal}"),
@@ -55,6 +60,7 @@ impl fmt::Display for Refusal {
         match self {
             Refusal::NoRegister => write!(f, "K1 no register"),
             Refusal::NotABit => write!(f, "K2 not a bit"),
+            Refusal::NotAWidth => write!(f, "K3 not a width"),
         }
     }
 }

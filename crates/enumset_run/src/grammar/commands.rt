@@ -2,8 +2,11 @@
 ghost use Rattle.std.specs.Prelude.{◌≡◌, ◌∷◌};
 ghost use Rattle.enumset_run.specs.Lines.{command_of, one_field, two_fields, three_fields};
 
-use super::fields::{read_bit, read_register};
-use super::tables::{one_register, register_and_bit, three_registers, two_registers};
+use super::fields::{read_bit, read_number, read_register};
+use super::tables::{
+    one_register, register_and_bit, register_and_width, register_width_and_value, three_registers,
+    two_registers,
+};
 use super::tokens::Tokens;
 use crate::command::Command;
 
@@ -35,19 +38,25 @@ fn two_fields(name: &[u8], x: &[u8], y: &[u8]) -> Option<Command>
     ensures { result ≡ two_fields name.now x.now y.now }
 {
     let first = read_register(x)?;
-    match register_and_bit(name, first, read_bit(y)?) {
-        Some(command) => Some(command),
-        None => two_registers(name, first, read_register(y)?),
+    // a bit and a width are numbers of 32 bits
+    let number = read_bit(y)?;
+    if let Some(command) = register_and_bit(name, first, number) {
+        return Some(command);
     }
+    if let Some(command) = register_and_width(name, first, number) {
+        return Some(command);
+    }
+    two_registers(name, first, read_register(y)?)
 }
 
+#[tactic(auto, using(crate::proofs::Fields::limits))]
 fn three_fields(name: &[u8], x: &[u8], y: &[u8], z: &[u8]) -> Option<Command>
     ensures { result ≡ three_fields name.now x.now y.now z.now }
 {
-    three_registers(
-        name,
-        read_register(x)?,
-        read_register(y)?,
-        read_register(z)?,
-    )
+    let first = read_register(x)?;
+    let width = read_bit(y)?;
+    if let Some(command) = register_width_and_value(name, first, width, read_number(z)?) {
+        return Some(command);
+    }
+    three_registers(name, first, read_register(y)?, read_register(z)?)
 }

@@ -20,7 +20,7 @@ pub(super) fn read_bit(token: &[u8]) -> Option<u32>
 
 /// The number that a token of decimal digits writes, if it is a `u128`. Every field is a smaller one.
 #[tactic(auto, using(crate::proofs::Fields::field_steps))]
-fn read_number(token: &[u8]) -> Option<u128>
+pub(super) fn read_number(token: &[u8]) -> Option<u128>
     ensures { result ≡ field 128 token.now }
 {
     if token.is_empty() {

@@ -2,7 +2,7 @@
 ghost use Rattle.std.specs.Prelude.{◌≡◌, map};
 ghost use Rattle.std.specs.Map.{lookup};
 ghost use Rattle.std.specs.Str.{bytes_eq};
-ghost use Rattle.enumset_run.specs.Tables.{one_register, register_and_bit, three_registers, two_registers};
+ghost use Rattle.enumset_run.specs.Tables.{one_register, register_and_bit, register_and_width, register_width_and_value, three_registers, two_registers};
 
 use crate::command::Command;
 
@@ -62,6 +62,33 @@ pub(super) fn register_and_bit(name: &[u8], r: u8, bit: u32) -> Option<Command>
         _ if is(name, "insert") => Command::Insert { r, bit },
         _ if is(name, "remove") => Command::Remove { r, bit },
         _ if is(name, "contains") => Command::Contains { r, bit },
+        _ => return None,
+    })
+}
+
+/// The command of this name over a register and a width.
+pub(super) fn register_and_width(name: &[u8], r: u8, width: u32) -> Option<Command>
+    ensures { result ≡ register_and_width name.now r width }
+{
+    Some(match name {
+        _ if is(name, "number") => Command::Number { r, width },
+        _ if is(name, "number_cut") => Command::NumberCut { r, width },
+        _ => return None,
+    })
+}
+
+/// The command of this name over a register, a width and a value.
+pub(super) fn register_width_and_value(
+    name: &[u8],
+    r: u8,
+    width: u32,
+    value: u128,
+) -> Option<Command>
+    ensures { result ≡ register_width_and_value name.now r width value }
+{
+    Some(match name {
+        _ if is(name, "from_number") => Command::FromNumber { r, width, value },
+        _ if is(name, "from_number_cut") => Command::FromNumberCut { r, width, value },
         _ => return None,
     })
 }

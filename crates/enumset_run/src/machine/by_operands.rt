@@ -1,9 +1,9 @@
 //! What each command does, by its operands.
 
-ghost use Rattle.std.specs.Prelude.{◌≡◌, true};
+ghost use Rattle.std.specs.Prelude.{◌≡◌, ◌<◌, ◌^◌, true};
 ghost use Rattle.enumset_repr.specs.BitSet as set;
 ghost use Rattle.enumset_run.specs.States.{is_set_register, is_iterator_register};
-ghost use Rattle.enumset_run.specs.Plans.{names_registers, names_bits};
+ghost use Rattle.enumset_run.specs.Plans.{is_width, names_registers, names_widths, names_bits};
 ghost use Rattle.enumset_run.specs.Operands.{named_by};
 ghost use Rattle.enumset_run.specs.Runs.{plan};
 
@@ -19,6 +19,7 @@ impl<S: RunSet> Runner<S> {
     pub(super) fn carry_out(&mut self, command: &Command, operands: Operands) -> Reply
         requires names { named_by operands ≡ (plan command.now).named }
         requires registers { names_registers (named_by operands) ≡ true }
+        requires widths { names_widths (named_by operands) ≡ true }
         requires bits { names_bits S.rules (named_by operands) ≡ true }
         ensures reply { result ≡ (plan command.now).reply S.rules self.old }
         ensures state { self.new ≡ (plan command.now).after S.rules self.old }
@@ -28,6 +29,8 @@ impl<S: RunSet> Runner<S> {
             Operands::TwoSets(a, b) => self.over_two_sets(command, a, b),
             Operands::ThreeSets(to, a, b) => self.over_three_sets(command, to, a, b),
             Operands::SetAndBit(r, bit) => self.over_a_bit(command, r, bit),
+            Operands::SetAndWidth(r, width) => self.over_a_width(command, r, width),
+            Operands::SetAndValue(r, width, value) => self.over_a_value(command, r, width, value),
             Operands::OneIterator(i) => self.over_an_iterator(command, i),
             Operands::IteratorAndSet(i, r) => self.over_an_iterator_and_a_set(command, i, r),
         }
@@ -114,6 +117,40 @@ impl<S: RunSet> Runner<S> {
             Command::Insert { .. } => self.insert(r, bit),
             Command::Remove { .. } => self.remove(r, bit),
             Command::Contains { .. } => Reply::Truth(self.sets.get(r).contains(bit)),
+            _ => unreachable!(),
+        }
+    }
+
+    /// Carries out a command that names a set and a width.
+    #[tactic(auto, unfolding(crate::specs::Runs::plan))]
+    fn over_a_width(&mut self, command: &Command, r: u8, width: u32) -> Reply
+        requires names { named_by (Operands.SetAndWidth r width) ≡ (plan command.now).named }
+        requires register { is_set_register r ≡ true }
+        requires width { is_width width ≡ true }
+        ensures reply { result ≡ (plan command.now).reply S.rules self.old }
+        ensures state { self.new ≡ (plan command.now).after S.rules self.old }
+    {
+        match command {
+            Command::Number { .. } => self.number(r, width),
+            Command::NumberCut { .. } => Reply::Number(self.sets.get(r).number_cut(width)),
+            _ => unreachable!(),
+        }
+    }
+
+    /// Carries out a command that names a set, and a value of a width.
+    #[tactic(auto, unfolding(crate::specs::Runs::plan))]
+    fn over_a_value(&mut self, command: &Command, r: u8, width: u32, value: u128) -> Reply
+        requires names { named_by (Operands.SetAndValue r width value)
+            ≡ (plan command.now).named }
+        requires register { is_set_register r ≡ true }
+        requires width { is_width width ≡ true }
+        requires fits { value < 2 ^ width }
+        ensures reply { result ≡ (plan command.now).reply S.rules self.old }
+        ensures state { self.new ≡ (plan command.now).after S.rules self.old }
+    {
+        match command {
+            Command::FromNumber { .. } => self.put_number(r, width, value),
+            Command::FromNumberCut { .. } => self.put(r, S::from_number_cut(width, value)),
             _ => unreachable!(),
         }
     }

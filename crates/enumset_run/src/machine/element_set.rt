@@ -117,6 +117,46 @@ impl<T: EnumSetType> RunSet for EnumSet<T> {
         *self == other
     }
 
+    fn number(&self, width: u32) -> Option<u128> {
+        Some(match width {
+            8 => u128::from(EnumSet::<T>::try_as_u8(self)?),
+            16 => u128::from(EnumSet::<T>::try_as_u16(self)?),
+            32 => u128::from(EnumSet::<T>::try_as_u32(self)?),
+            64 => u128::from(EnumSet::<T>::try_as_u64(self)?),
+            _ => EnumSet::<T>::try_as_u128(self)?,
+        })
+    }
+
+    fn number_cut(&self, width: u32) -> u128 {
+        match width {
+            8 => u128::from(EnumSet::<T>::as_u8_truncated(self)),
+            16 => u128::from(EnumSet::<T>::as_u16_truncated(self)),
+            32 => u128::from(EnumSet::<T>::as_u32_truncated(self)),
+            64 => u128::from(EnumSet::<T>::as_u64_truncated(self)),
+            _ => EnumSet::<T>::as_u128_truncated(self),
+        }
+    }
+
+    fn from_number(width: u32, value: u128) -> Option<EnumSet<T>> {
+        match width {
+            8 => EnumSet::<T>::try_from_u8(value as u8),
+            16 => EnumSet::<T>::try_from_u16(value as u16),
+            32 => EnumSet::<T>::try_from_u32(value as u32),
+            64 => EnumSet::<T>::try_from_u64(value as u64),
+            _ => EnumSet::<T>::try_from_u128(value),
+        }
+    }
+
+    fn from_number_cut(width: u32, value: u128) -> EnumSet<T> {
+        match width {
+            8 => EnumSet::<T>::from_u8_truncated(value as u8),
+            16 => EnumSet::<T>::from_u16_truncated(value as u16),
+            32 => EnumSet::<T>::from_u32_truncated(value as u32),
+            64 => EnumSet::<T>::from_u64_truncated(value as u64),
+            _ => EnumSet::<T>::from_u128_truncated(value),
+        }
+    }
+
     fn items(&self) -> EnumSetIter<T> {
         EnumSet::<T>::iter(self)
     }

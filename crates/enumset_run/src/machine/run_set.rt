@@ -1,10 +1,11 @@
 //! What a run asks of its sets.
 
-ghost use Rattle.std.specs.Prelude.{◌≡◌, ℕ, List, not, length, true};
+ghost use Rattle.std.specs.Prelude.{◌≡◌, ◌↔◌, ◌<◌, ◌^◌, ℕ, List, not, length, true, IsTrue, IsSome, IfSome};
 ghost use Rattle.enumset_repr.specs.BitSet as set;
 ghost use Rattle.enumset_repr.specs.BitSet.{BitSet};
+ghost use Rattle.enumset_repr.specs.Number.{number as number_of, bits};
 ghost use Rattle.enumset_repr.specs.Ends.{first, last, without_first, without_last};
-ghost use Rattle.enumset_run.specs.Plans.{Rules};
+ghost use Rattle.enumset_run.specs.Plans.{Rules, is_width};
 
 use crate::reply::Reply;
 
@@ -115,6 +116,30 @@ pub(crate) trait RunSet: Copy {
     /// Whether both have the same members.
     fn is_same(&self, other: Self) -> bool
         ensures { result ≡ set.is_same (members self.now) (members other) };
+
+    /// The number of the set, if each member is below a width.
+    fn number(&self, width: u32) -> Option<u128>
+        requires { is_width width ≡ true }
+        ensures fits { IsSome result ↔ IsTrue (set.is_subset (members self.now) (set.below width)) }
+        ensures value { IfSome result (λ n. n ≡ number_of (members self.now)) };
+
+    /// The number of the members below a width.
+    fn number_cut(&self, width: u32) -> u128
+        requires { is_width width ≡ true }
+        ensures { result ≡ number_of (set.low (members self.now) width) };
+
+    /// The set of a number of a width, if a set may have each of its bits.
+    fn from_number(width: u32, value: u128) -> Option<Self>
+        requires width { is_width width ≡ true }
+        requires fits { value < 2 ^ width }
+        ensures allowed { IsSome result ↔ IsTrue (set.is_subset (bits value) rules.allowed) }
+        ensures value { IfSome result (λ s. members s ≡ bits value) };
+
+    /// The set of those bits of a number of a width that a set may have.
+    fn from_number_cut(width: u32, value: u128) -> Self
+        requires width { is_width width ≡ true }
+        requires fits { value < 2 ^ width }
+        ensures { members result ≡ set.intersection (bits value) rules.allowed };
 
     /// The members as they are now, rising, from both ends.
     fn items(&self) -> Self::Items

@@ -49,6 +49,9 @@ impl<S: RunSet> Runner<S> {
         if !operands.names_registers() {
             return Reply::Refused(Refusal::NoRegister);
         }
+        if !operands.names_widths() {
+            return Reply::Refused(Refusal::NotAWidth);
+        }
         if !operands.names_bits::<S>() {
             return Reply::Refused(Refusal::NotABit);
         }

@@ -110,6 +110,8 @@ left 0
 next 0
 next_back 0
 next 0
+number 0 64
+number_cut 0 64
 ==
 ok
 ok
@@ -120,6 +122,98 @@ bit 130
 bit 64
 none
 none
+none
+8
+--
+letters
+new 4
+number 0 7
+from_number 0 8 256
+from_number 0 8 128
+from_number_cut 0 8 255
+number 0 8
+clear 0
+iter 2 0
+==
+K1 no register
+K3 not a width
+K3 not a width
+none
+ok
+127
+ok
+K1 no register
+--
+letters
+number 9 9
+from_number 0 8 340282366920938463463374607431768211455
+from_number 0 128 340282366920938463463374607431768211455
+==
+K1 no register
+K3 not a width
+none
+--
+letters
+number 0 0
+number_cut 0 9
+number 0 127
+number_cut 0 256
+number 0 4294967295
+from_number 0 0 0
+from_number_cut 0 24 0
+==
+K3 not a width
+K3 not a width
+K3 not a width
+K3 not a width
+K3 not a width
+K3 not a width
+K3 not a width
+--
+sparse
+from_number_cut 0 8 255
+from_number_cut 0 8 256
+from_number_cut 0 16 65535
+number 0 16
+from_number_cut 0 16 65536
+number 0 8
+number_cut 0 8
+from_number_cut 0 32 4294967295
+number 0 32
+from_number_cut 0 32 4294967296
+from_number_cut 0 64 18446744073709551615
+number 0 64
+from_number_cut 0 64 18446744073709551616
+from_number_cut 0 128 340282366920938463463374607431768211455
+number 0 64
+number_cut 0 64
+number 0 128
+from_number 1 128 170141183460469231731687303715884105728
+len 1
+from_number 1 128 170141183460469231731687303715884105729
+len 1
+==
+ok
+K3 not a width
+ok
+1024
+K3 not a width
+none
+0
+ok
+1074791424
+K3 not a width
+ok
+1074791424
+K3 not a width
+ok
+none
+1074791424
+170141183460469231731687303716958897152
+ok
+1
+none
+1
 --
 letters
 all 1
@@ -151,6 +245,6 @@ fn each_run_has_its_output(rt: HostRuntime) -> Result<(), Fail> {
             }
         }
     }
-    assert!(rt; inputs == 80);
+    assert!(rt; inputs == 104);
     Ok(())
 }

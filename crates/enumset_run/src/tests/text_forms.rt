@@ -10,6 +10,10 @@ insert 0 6\n|insert 000 00000000000000000000006\n|insert   0  6\n|  insert 0 6  
 true
 --
 letters
+from_number 0 8 7|from_number 0 128 00000000000000000000000000000000000000000000000000007==
+ok
+--
+letters
 |  |\n  | \r\n  \n==
 --
 letters
@@ -17,7 +21,9 @@ insert 256 6|insert 0 4294967296|insert 0 99999999999999999999999|insert 0\
 |insert 0 6 6|len|len 0 0|0 len|INSERT 0 6|Insert 0 6|insert0 6|inser 0 6|insert\t0 6\
 |insert 0 6\t|insert 0 +6|insert 0 -6|insert 0 6x|insert 0 six|insert 0 6\r|insert 0 6\r\r\n\
 |insert 0 6\r \n|\r|insert 0 é|len\nlen 0\nlen\n\
-|compare 0 1|number 0 8|words 0 1|has_bit 0 1==
+|number 0|number 0 8 8|number_cut 0 4294967296|from_number 0 8|from_number 0 8 1 1\
+|from_number 0 128 340282366920938463463374607431768211456|from_number 0 8 -1\
+|compare 0 1|words 0 1|has_bit 0 1==
 !2 line 1: not a command
 --
 letters

@@ -14,10 +14,13 @@ fn replies_and_faults_have_their_texts(rt: HostRuntime) -> Result<(), Fail> {
         Reply::Truth(false),
         Reply::Count(0),
         Reply::Count(18446744073709551615),
+        Reply::Number(0),
+        Reply::Number(340282366920938463463374607431768211455),
         Reply::Bit(3),
         Reply::Absent,
         Reply::Refused(Refusal::NoRegister),
         Reply::Refused(Refusal::NotABit),
+        Reply::Refused(Refusal::NotAWidth),
     ];
     let faults = [
         ProgramFault::OneArgument,
@@ -43,10 +46,13 @@ true
 false
 0
 18446744073709551615
+0
+340282366920938463463374607431768211455
 bit 3
 none
 K1 no register
 K2 not a bit
+K3 not a width
 2 one argument: the name of a type
 2 unknown type
 2 input too long

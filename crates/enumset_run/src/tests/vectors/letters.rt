@@ -1048,4 +1048,324 @@ K2 not a bit
 false
 false
 true
+--
+letters
+complement 0 3
+remove 0 0
+insert 3 4294967294
+insert 3 0
+len 1
+from_number 1 8 1
+number_cut 1 128
+from_number 0 32 122
+from_number 1 8 1
+intersection 2 0 1
+empty 2
+symmetric 2 1 3
+from_number 2 64 93
+iter 1 2
+next_back 1
+iter 1 2
+next_back 1
+all 2
+next_back 1
+next 1
+left 0
+left 1
+next_back 1
+next_back 1
+from_number_cut 2 64 12413830731188584499
+next 1
+empty 0
+clear 1
+contains 3 4294967232
+intersection 3 1 3
+superset 2 2
+union 2 3 3
+iter 1 3
+next 1
+next 1
+next_back 1
+next 1
+next_back 1
+next_back 1
+left 1
+new 3
+next_back 0
+next_back 0
+subset 2 2
+iter 1 1
+number_cut 1 64
+from_number 1 8 69
+clear 3
+==
+ok
+true
+K2 not a bit
+true
+0
+ok
+1
+ok
+ok
+ok
+true
+ok
+ok
+ok
+bit 6
+ok
+bit 6
+ok
+bit 4
+bit 0
+0
+2
+bit 3
+bit 2
+ok
+none
+false
+ok
+K2 not a bit
+ok
+true
+ok
+ok
+none
+none
+none
+none
+none
+none
+0
+ok
+none
+none
+true
+ok
+0
+ok
+ok
+--
+letters
+from_number 2 64 73
+from_number 0 16 73
+subset 0 2
+union 3 1 2
+insert 1 0
+insert 1 5
+insert 1 3
+remove 1 37
+new 0
+remove 2 6
+insert 3 6
+from_number 3 128 0
+from_number 0 16 114
+union 3 3 0
+len 3
+difference 1 3 2
+insert_all 1 1
+from_number 3 32 66
+iter 1 3
+next_back 1
+left 1
+left 1
+next 0
+left 1
+next_back 1
+left 1
+next 1
+from_number 1 64 74
+iter 0 1
+next_back 0
+clear 1
+iter 1 1
+next_back 0
+from_number_cut 1 16 121
+next 0
+next 0
+next_back 0
+next 0
+left 0
+from_number 3 32 84
+symmetric 0 3 3
+disjoint 0 0
+remove_all 1 2
+clear 0
+only 3 6
+from_number_cut 0 16 97
+number 0 64
+from_number 3 8 110
+from_number 0 128 108
+subset 3 0
+disjoint 3 0
+superset 0 3
+==
+ok
+ok
+true
+ok
+true
+true
+true
+K2 not a bit
+ok
+true
+false
+ok
+ok
+ok
+4
+ok
+ok
+ok
+ok
+bit 6
+1
+1
+none
+1
+bit 1
+0
+none
+ok
+ok
+bit 6
+ok
+ok
+bit 3
+ok
+bit 1
+none
+none
+none
+0
+ok
+ok
+true
+ok
+ok
+ok
+ok
+97
+ok
+ok
+false
+false
+false
+--
+letters
+clear 0
+insert 0 2
+insert 0 5
+insert 0 1
+insert 0 0
+insert 0 3
+symmetric 0 0 0
+empty 0
+left 0
+remove 1 7
+clear 1
+all 0
+from_number 0 8 54
+iter 1 0
+next_back 1
+next_back 1
+next_back 1
+next_back 1
+iter 0 0
+insert 0 1
+next_back 1
+next_back 1
+next_back 1
+from_number 0 16 62
+from_number 2 32 89
+symmetric 3 0 2
+number 0 8
+==
+ok
+true
+true
+true
+true
+true
+ok
+true
+0
+K2 not a bit
+ok
+ok
+ok
+ok
+bit 5
+bit 4
+bit 2
+bit 1
+ok
+false
+none
+none
+none
+ok
+ok
+ok
+62
+--
+letters
+from_number 0 8 60
+iter 0 0
+iter 1 0
+iter 1 0
+next_back 0
+next 0
+next_back 0
+next_back 0
+next 0
+left 0
+left 1
+new 0
+remove 0 5
+iter 0 2
+next_back 0
+next_back 0
+next 0
+next_back 0
+next_back 0
+next 0
+all 2
+next_back 0
+next_back 0
+next 0
+next_back 0
+iter 1 2
+number 0 32
+==
+ok
+ok
+ok
+ok
+bit 5
+bit 2
+bit 4
+bit 3
+none
+0
+4
+ok
+false
+ok
+none
+none
+none
+none
+none
+none
+ok
+none
+none
+none
+none
+ok
+0
 ";

@@ -472,4 +472,342 @@ ok
 ok
 ok
 true
+--
+sparse
+number 5 9
+insert_all 0 5
+iter 255 0
+superset 1 1
+union 0 255 0
+left 255
+contains 0 50
+next_back 3
+equal 4 0
+from_number 3 128 340282366920938463463374607431768211455
+union 0 0 2
+from_number 1 32 1073741824
+iter 0 1
+remove 1 127
+clear 1
+len 1
+left 1
+next_back 1
+next_back 0
+next 0
+all 1
+next 0
+from_number_cut 0 64 1074791424
+number 0 16
+from_number 0 64 0
+from_number 1 128 170141183460469231731687303716958896128
+disjoint 1 0
+disjoint 0 1
+equal 0 1
+superset 0 1
+remove_all 0 0
+from_number 3 32 1074791424
+iter 0 3
+next_back 0
+left 0
+new 3
+next_back 0
+next 0
+next_back 0
+next 0
+next 0
+iter 0 3
+next_back 0
+iter 1 3
+left 0
+remove 3 20
+number 2 64
+number 9 9
+remove 5 2365930889
+intersection 5 1 2
+from_number 0 128 170141183460469231731687303716958897152
+==
+K1 no register
+K1 no register
+K1 no register
+true
+K1 no register
+K1 no register
+K2 not a bit
+K1 no register
+K1 no register
+none
+ok
+ok
+ok
+false
+ok
+0
+0
+none
+bit 30
+none
+ok
+none
+ok
+none
+ok
+ok
+true
+true
+false
+false
+ok
+ok
+ok
+bit 30
+2
+ok
+bit 20
+bit 10
+none
+none
+none
+ok
+none
+ok
+0
+false
+0
+K1 no register
+K1 no register
+K1 no register
+ok
+--
+sparse
+from_number 1 128 170141183460469231731687303716958897152
+from_number 0 128 170141183460469231731687303716957848576
+symmetric 3 1 0
+remove_all 1 1
+empty 3
+number 3 128
+from_number 0 128 170141183460469231731687303715884105728
+clear 3
+insert 3 127
+insert 3 20
+subset 3 0
+disjoint 0 3
+disjoint 3 0
+superset 0 3
+subset 0 3
+iter 3 255
+number_cut 255 7
+len 255
+next_back 0
+from_number 2 32 2147483648
+from_number 0 32 1073741824
+iter 1 0
+next_back 1
+next_back 1
+next 1
+next_back 1
+insert 0 127
+remove 0 20
+next_back 1
+next 1
+next_back 1
+equal 2 3
+==
+ok
+ok
+ok
+ok
+false
+1048576
+ok
+ok
+true
+true
+false
+false
+false
+false
+true
+K1 no register
+K1 no register
+K1 no register
+none
+none
+ok
+ok
+bit 30
+none
+none
+none
+true
+false
+none
+none
+none
+false
+--
+sparse
+subset 0 0
+iter 1 3
+number 9 9
+contains 4 84
+iter 3 4
+superset 3 2
+only 2 2147483647
+difference 3 1 0
+empty 2
+from_number 0 31 170141183460469231731687303716958897152
+iter 0 1
+left 0
+new 1
+next_back 0
+left 0
+next 0
+next_back 0
+next 0
+insert 0 20
+insert 0 2147483775
+from_number 3 128 170141183460469231731687303715884106752
+from_number 1 128 170141183460469231731687303716958897152
+intersection 2 3 1
+number 2 128
+new 2
+next_back 0
+clear 0
+complement 0 1
+number 0 128
+contains 1 127
+from_number 3 64 1073742848
+number_cut 3 32
+number_cut 3 128
+intersection 3 1 2
+all 0
+len 2
+from_number 0 128 170141183460469231731687303716958897152
+clear 2
+insert 2 30
+insert 2 20
+subset 2 0
+disjoint 0 2
+equal 0 2
+disjoint 2 0
+superset 0 2
+equal 3 2
+remove 4 256
+iter 3 4
+from_number_cut 4 64 18446744073709551616
+==
+true
+ok
+K1 no register
+K1 no register
+K1 no register
+true
+K2 not a bit
+ok
+true
+K3 not a width
+ok
+0
+ok
+none
+0
+none
+none
+none
+true
+K2 not a bit
+ok
+ok
+ok
+170141183460469231731687303715884106752
+ok
+none
+ok
+ok
+0
+true
+ok
+1073742848
+1073742848
+ok
+ok
+0
+ok
+ok
+true
+true
+true
+false
+false
+false
+true
+false
+K1 no register
+K1 no register
+K1 no register
+--
+sparse
+from_number 5 8 256
+number 5 63
+union 5 0 0
+equal 0 1
+from_number 0 128 170141183460469231731687303716958897152
+union 0 0 0
+empty 0
+number 0 128
+next_back 1
+from_number 3 128 170141183460469231731687303716958896128
+difference 2 3 3
+remove_all 3 3
+empty 2
+empty 1
+from_number_cut 2 8 170141183460469231731687303716958897152
+number 2 64
+number_cut 2 8
+disjoint 0 0
+number_cut 0 128
+remove 1 10
+contains 1 11
+from_number 3 8 0
+union 2 3 3
+number 2 128
+from_number 0 8 0
+only 1 63
+insert 0 127
+from_number 0 128 170141183460469231731687303716958897152
+iter 1 0
+next 1
+iter 1 0
+==
+K1 no register
+K1 no register
+K1 no register
+true
+ok
+ok
+false
+170141183460469231731687303716958897152
+none
+ok
+ok
+ok
+true
+true
+K3 not a width
+0
+0
+false
+170141183460469231731687303716958897152
+false
+K2 not a bit
+ok
+ok
+0
+ok
+K2 not a bit
+true
+ok
+ok
+bit 10
+ok
 ";

@@ -532,4 +532,374 @@ true
 true
 true
 ok
+--
+wide
+intersection 1 0 1
+from_number 3 128 18446744073709551616
+iter 0 3
+complement 3 3
+next_back 0
+left 0
+next 0
+next 0
+next 0
+next 0
+next 0
+next_back 0
+next_back 0
+next_back 0
+next 0
+complement 3 2
+len 0
+superset 3 2
+remove 0 64
+insert 0 256
+insert 0 3
+insert 0 130
+insert 0 64
+from_number 0 32 0
+insert 2 130
+insert 2 64
+insert 2 64
+insert 2 3
+remove 2 130
+insert 2 70800175
+remove 3 64
+empty 0
+union 2 0 0
+clear 0
+insert 0 64
+==
+ok
+ok
+ok
+ok
+bit 64
+0
+none
+none
+none
+none
+none
+none
+none
+none
+none
+ok
+0
+true
+false
+K2 not a bit
+true
+true
+true
+ok
+true
+true
+false
+true
+true
+K2 not a bit
+true
+true
+ok
+ok
+true
+--
+wide
+insert 0 3
+insert 0 3
+insert 0 3
+insert 0 64
+insert 0 193
+intersection 1 1 0
+insert 0 3
+iter 0 2
+next_back 0
+next_back 0
+next 0
+from_number_cut 2 64 18446744073709551624
+left 1
+next_back 0
+difference 1 1 0
+from_number 0 128 18446744073709551624
+iter 1 0
+next 1
+remove 0 130
+next 1
+next 1
+iter 1 1
+next 1
+from_number 0 128 0
+clear 1
+insert 1 130
+union 3 0 1
+number_cut 3 64
+number 3 128
+from_number 1 128 18446744073709551624
+clear 2
+insert 2 3
+insert 2 64
+insert 2 130
+equal 1 2
+superset 2 1
+len 1
+clear 2
+insert 2 130
+insert 2 64
+insert 2 3
+clear 1
+insert 1 130
+insert 1 64
+superset 2 1
+superset 1 2
+clear 0
+insert 0 130
+from_number 3 64 8
+subset 0 3
+disjoint 0 3
+superset 3 0
+equal 0 3
+insert 0 64
+insert 0 64
+from_number 3 64 0
+from_number 2 128 18446744073709551616
+superset 2 3
+number_cut 1 8
+==
+true
+false
+false
+true
+K2 not a bit
+ok
+false
+ok
+none
+none
+none
+K3 not a width
+0
+none
+ok
+ok
+ok
+bit 3
+false
+bit 64
+none
+ok
+none
+ok
+ok
+true
+ok
+0
+none
+ok
+ok
+true
+true
+true
+false
+true
+2
+ok
+true
+true
+true
+ok
+true
+true
+true
+false
+ok
+true
+ok
+false
+true
+false
+false
+true
+false
+ok
+ok
+true
+0
+--
+wide
+from_number 1 32 8
+symmetric 1 1 1
+remove_all 1 1
+len 1
+remove 3 64
+from_number_cut 1 512 340282366920938463463374607431768211453
+clear 1
+from_number 0 128 18446744073709551624
+from_number 2 128 18446744073709551616
+union 1 0 2
+number 1 128
+next_back 255
+remove_all 4 0
+from_number 4 8 256
+number_cut 1 63
+left 1
+insert 2 130
+remove 2 64
+insert 2 3
+number 255 8
+complement 0 255
+iter 255 0
+only 1 130
+insert 1 130
+from_number 1 8 255
+clear 255
+insert_all 0 255
+next_back 0
+clear 0
+insert 0 130
+insert 0 3
+==
+ok
+ok
+ok
+0
+false
+K3 not a width
+ok
+ok
+ok
+ok
+18446744073709551624
+K1 no register
+K1 no register
+K1 no register
+K3 not a width
+0
+true
+true
+true
+K1 no register
+K1 no register
+K1 no register
+ok
+false
+none
+K1 no register
+K1 no register
+none
+ok
+true
+true
+--
+wide
+complement 2 1
+insert 2 3
+difference 1 0 3
+symmetric 3 0 1
+clear 3
+number 0 129
+clear 0
+insert 0 64
+insert 0 130
+insert 0 3
+iter 0 0
+insert 0 64
+next_back 0
+left 0
+iter 0 0
+next 0
+next_back 0
+next_back 0
+next 0
+left 0
+next_back 0
+next_back 0
+next_back 0
+left 1
+union 0 1 1
+equal 2 254
+iter 0 3
+next 0
+next_back 0
+next 0
+next_back 0
+iter 0 3
+from_number_cut 3 128 18446744073709551624
+next_back 0
+next 0
+all 3
+iter 0 3
+from_number 3 8 8
+clear 2
+insert 2 130
+insert 2 64
+difference 3 3 2
+remove_all 3 3
+superset 1 0
+left 1
+insert_all 3 0
+contains 1 3
+insert 2 130
+insert 2 3
+insert 2 130
+insert 2 3
+iter 0 3
+from_number_cut 1 128 18446744073709551616
+complement 0 255
+==
+ok
+false
+ok
+ok
+ok
+K3 not a width
+ok
+true
+true
+true
+ok
+false
+bit 130
+2
+ok
+bit 3
+bit 130
+bit 64
+none
+0
+none
+none
+none
+0
+ok
+K1 no register
+ok
+none
+none
+none
+none
+ok
+ok
+none
+none
+ok
+ok
+ok
+ok
+true
+true
+ok
+ok
+true
+0
+ok
+false
+false
+true
+false
+false
+ok
+ok
+K1 no register
 ";
