@@ -117,8 +117,13 @@ pub trait EnumSetTypeRepr: Copy
     final fn to_u64_slice(&self, out: &mut [u64])
         ensures { out.new ≡ words_of (members self.now) (length out.old) }
     {
-        for i in 0..out.len() {
-            out[i] = word_or_zero(self, i);
+        self.known();
+        let used = out.len().min(Self::PREFERRED_ARRAY_LEN);
+        for i in 0..used {
+            out[i] = self.word(i);
+        }
+        for place in used..out.len() {
+            out[place] = 0;
         }
     }
 

@@ -1,10 +1,14 @@
 use Rattle.std.proofs.Common.{sym, arith}
 use Rattle.enumset_repr.specs.Laws.WordLists.{words-none}
-use Rattle.enumset_repr.proofs.Slices.{placed}
+use Rattle.enumset_repr.proofs.Slices.{placed, word_past_store}
 use Rattle.enumset_repr.proofs.repr.EnumSetTypeRepr.to_u64_slice.Goals as goal
 
 pub loop-i-init : goal.loop-i-init
 loop-i-init g c = sym (words-none _)
 
 pub loop-i-preserved : goal.loop-i-preserved
-loop-i-preserved g c = placed _ c.loop-i.out c.loop-i.i c.word_or_zero.result (omega arith) c.loop-i.invariant c.word_or_zero.ensures
+loop-i-preserved g c = placed _ c.loop-i.out c.loop-i.i c.word.result (omega arith) c.loop-i.invariant c.word.ensures
+
+pub loop-place-preserved : goal.loop-place-preserved
+loop-place-preserved g c = placed _ c.loop-place.out c.loop-place.place 0 (omega arith) c.loop-place.invariant
+    (sym (word_past_store _ _ _ c.loop-place.place (g.met.Self.EnumSetTypeRepr.within c.args.self.now c.known.ensures) g.met.Self.EnumSetTypeRepr.words (omega arith)))

@@ -5,3 +5,6 @@ use Rattle.enumset_repr.proofs.repr.EnumSetTypeRepr.to_u64_slice.Given as goal
 -- the places before this one have their words
 abbrev pub invariant-loop-i : goal.invariant-loop-i
 invariant-loop-i g l = take l.i l.out ≡ words (g.Self.EnumSetTypeRepr.members l.self) l.i
+
+abbrev pub invariant-loop-place : goal.invariant-loop-place
+invariant-loop-place g l = take l.place l.out ≡ words (g.Self.EnumSetTypeRepr.members l.self) l.place
