@@ -2,6 +2,7 @@
 
 use enumset_sets::element::EnumSetType;
 use enumset_sets::variant_of;
+use enumset_sets::with_repr::EnumSetTypeWithRepr;
 use std::fmt;
 
 /// Seven variants, on bits 0 to 6.
@@ -46,6 +47,12 @@ impl EnumSetType for Letters {
     }
 
     ghost lawful = { lawful_in_integer the_type _ tt };
+}
+
+impl EnumSetTypeWithRepr for Letters {
+    ghost use Rattle.std.proofs.Common.{rules};
+
+    ghost narrow = { Prim.search rules };
 }
 
 /// The name of the variant.

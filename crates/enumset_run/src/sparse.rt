@@ -2,6 +2,7 @@
 
 use enumset_sets::element::EnumSetType;
 use enumset_sets::variant_of;
+use enumset_sets::with_repr::EnumSetTypeWithRepr;
 use std::fmt;
 
 /// Four variants, on bits 10, 20, 30 and 127.
@@ -43,6 +44,12 @@ impl EnumSetType for Sparse {
     }
 
     ghost lawful = { lawful_in_integer the_type _ tt };
+}
+
+impl EnumSetTypeWithRepr for Sparse {
+    ghost use Rattle.std.proofs.Common.{rules};
+
+    ghost narrow = { Prim.search rules };
 }
 
 /// The name of the variant.

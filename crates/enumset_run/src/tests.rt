@@ -1,9 +1,11 @@
 //! Tests of the program and of its parts together, and of the worked element types.
 
+mod conversions;
 mod element_types;
 mod program;
 mod proving;
 mod runs;
+mod sending;
 mod surroundings;
 mod text_forms;
 mod texts;
