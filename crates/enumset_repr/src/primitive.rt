@@ -49,11 +49,13 @@ pub trait Primitive: Copy
 
     /// How many bits above the greatest that is set are not: [`BITS`](Primitive::BITS) where none is.
     fn leading_zeros(&self) -> u32
-        ensures { MatchOption (greatest (set_of self.now)) (result ≡ BITS) (λ m. result + m + 1 ≡ BITS) };
+        ensures { MatchOption (greatest (set_of self.now)) (result ≡ BITS)
+            (λ m. result + m + 1 ≡ BITS) };
 
     /// The least bit that is set: [`BITS`](Primitive::BITS) where none is.
     fn trailing_zeros(&self) -> u32
-        ensures { MatchOption (least (set_of self.now)) (result ≡ BITS) (λ m. (result ≡ m) × (m < BITS)) };
+        ensures { MatchOption (least (set_of self.now)) (result ≡ BITS)
+            (λ m. (result ≡ m) × (m < BITS)) };
 
     /// How many bits are set.
     fn ones(&self) -> u32
@@ -89,5 +91,6 @@ pub trait Primitive: Copy
     // The laws of the integer.
     ghost lawful: { IsPrimitive set_of of_set fits BITS ZERO Self.PartialEq.eq
         Self.BitAnd.can_bitand Self.BitOr.can_bitor Self.BitXor.can_bitxor Self.Not.can_not
-        Self.BitAnd.bitand_gives Self.BitOr.bitor_gives Self.BitXor.bitxor_gives Self.Not.not_gives };
+        Self.BitAnd.bitand_gives Self.BitOr.bitor_gives Self.BitXor.bitxor_gives
+        Self.Not.not_gives };
 }

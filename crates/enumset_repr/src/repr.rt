@@ -430,7 +430,8 @@ pub trait EnumSetTypeRepr: Copy
     ghost empty_is: { members EMPTY ≡ set.empty };
 
     // Each member is below the width.
-    ghost within: { (a : Self) → is_value a → IsTrue (set.is_subset (members a) (set.below WIDTH)) };
+    ghost within: { (a : Self) → is_value a
+        → IsTrue (set.is_subset (members a) (set.below WIDTH)) };
 
     // A value is the one that means its set.
     ghost inverse: { (a : Self) → is_value a → of_members (members a) ≡ a };
@@ -439,7 +440,8 @@ pub trait EnumSetTypeRepr: Copy
     ghost words: { PREFERRED_ARRAY_LEN ≡ (WIDTH + 63) / 64 };
 
     // Two values are equal exactly if their sets are.
-    ghost eq_is: { (a b : Self) → is_value a → is_value b → (IsTrue (Self.PartialEq.eq a b) ↔ (members a ≡ members b)) };
+    ghost eq_is: { (a b : Self) → is_value a → is_value b
+        → (IsTrue (Self.PartialEq.eq a b) ↔ (members a ≡ members b)) };
 
     // The operators are allowed at all values.
     ghost can_bitand: { (a b : Self) → Self.BitAnd.can_bitand a b };
@@ -452,13 +454,18 @@ pub trait EnumSetTypeRepr: Copy
 
     // `&`, `|` and `^` are the intersection, the union and the symmetric difference, and `!` the rest
     // of the numbers below the width.
-    ghost bitand_is: { (a b r : Self) → is_value a → is_value b → Self.BitAnd.bitand_gives a b r → members r ≡ set.intersection (members a) (members b) };
+    ghost bitand_is: { (a b r : Self) → is_value a → is_value b
+        → Self.BitAnd.bitand_gives a b r → members r ≡ set.intersection (members a) (members b) };
 
-    ghost bitor_is: { (a b r : Self) → is_value a → is_value b → Self.BitOr.bitor_gives a b r → members r ≡ set.union (members a) (members b) };
+    ghost bitor_is: { (a b r : Self) → is_value a → is_value b
+        → Self.BitOr.bitor_gives a b r → members r ≡ set.union (members a) (members b) };
 
-    ghost bitxor_is: { (a b r : Self) → is_value a → is_value b → Self.BitXor.bitxor_gives a b r → members r ≡ set.symmetric_difference (members a) (members b) };
+    ghost bitxor_is: { (a b r : Self) → is_value a → is_value b
+        → Self.BitXor.bitxor_gives a b r
+        → members r ≡ set.symmetric_difference (members a) (members b) };
 
-    ghost not_is: { (a r : Self) → is_value a → Self.Not.not_gives a r → members r ≡ set.difference (set.below WIDTH) (members a) };
+    ghost not_is: { (a r : Self) → is_value a → Self.Not.not_gives a r
+        → members r ≡ set.difference (set.below WIDTH) (members a) };
 
     // Either end of an iterator may be asked at any time, and gives the first or the last of what is
     // left.
@@ -466,9 +473,11 @@ pub trait EnumSetTypeRepr: Copy
 
     ghost can_step_back: { (i : Self.Iter) → Self.Iter.DoubleEndedIterator.can_next_back i };
 
-    ghost steps: { (i : Self.Iter) (r : Option ℕ) (j : Self.Iter) → Self.Iter.Iterator.next_gives i r j → YieldsFirst rest i r j };
+    ghost steps: { (i : Self.Iter) (r : Option ℕ) (j : Self.Iter)
+        → Self.Iter.Iterator.next_gives i r j → YieldsFirst rest i r j };
 
-    ghost steps_back: { (i : Self.Iter) (r : Option ℕ) (j : Self.Iter) → Self.Iter.DoubleEndedIterator.next_back_gives i r j → YieldsLast rest i r j };
+    ghost steps_back: { (i : Self.Iter) (r : Option ℕ) (j : Self.Iter)
+        → Self.Iter.DoubleEndedIterator.next_back_gives i r j → YieldsLast rest i r j };
 
     // A clone has the same items left.
     ghost clones: { (i j : Self.Iter) → Self.Iter.Clone.is_clone i j → rest j ≡ rest i };
