@@ -1,4 +1,5 @@
-//! Sets to and from numbers, store values and words, at each worked type.
+//! Sets to and from numbers, store values and words, at each worked type. Sets of `Wide` stand in functions over every
+//! element type alone, as no other function may hold one.
 
 use super::sending::{as_byte, granted_by, sent_and_read};
 use crate::letters::Letters;
