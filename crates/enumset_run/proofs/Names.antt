@@ -18,7 +18,8 @@ pub worked_of-other : (bytes : List ℕ) → ¬ (IsUtf8 bytes) → worked_of byt
 worked_of-other bytes other =
     let letters = bytes_eq-text bytes (codes "letters") (IsUtf8-from_ascii (codes "letters") (IsAscii-from_all (codes "letters") (search rules))) other in
     let sparse = bytes_eq-text bytes (codes "sparse") (IsUtf8-from_ascii (codes "sparse") (IsAscii-from_all (codes "sparse") (search rules))) other in
+    let marks = bytes_eq-text bytes (codes "marks") (IsUtf8-from_ascii (codes "marks") (IsAscii-from_all (codes "marks") (search rules))) other in
     let wide = bytes_eq-text bytes (codes "wide") (IsUtf8-from_ascii (codes "wide") (IsAscii-from_all (codes "wide") (search rules))) other in
-    rw (letters, sparse, wide) refl
+    rw (letters, sparse, marks, wide) refl
 
 pub ruleset name_steps = (worked_of-other)

@@ -5,6 +5,7 @@ ghost use Rattle.enumset_run.specs.Kinds.{worked_of, valid_bits_of};
 ghost use Rattle.enumset_run.specs.Answers.{answer_to, IsFaultOf};
 
 use crate::letters::Letters;
+use crate::marks::Marks;
 use crate::serve::serve_text;
 use crate::sparse::Sparse;
 use crate::text_fault::TextFault;
@@ -19,6 +20,7 @@ pub fn worked(name: &str) -> Option<Worked>
     match name {
         "letters" => Some(Worked::Letters),
         "sparse" => Some(Worked::Sparse),
+        "marks" => Some(Worked::Marks),
         "wide" => Some(Worked::Wide),
         _ => None,
     }
@@ -35,6 +37,7 @@ pub fn serve_worked(alloc: Global, kind: Worked, input: &[u8]) -> Result<Vec<u8>
     match kind {
         Worked::Letters => serve_text::<Letters>(alloc, input),
         Worked::Sparse => serve_text::<Sparse>(alloc, input),
+        Worked::Marks => serve_text::<Marks>(alloc, input),
         Worked::Wide => serve_text::<Wide>(alloc, input),
     }
 }

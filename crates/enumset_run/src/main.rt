@@ -10,6 +10,7 @@ mod grammar;
 mod kinds;
 mod letters;
 mod machine;
+mod marks;
 mod program;
 mod reply;
 mod runs;

@@ -2,6 +2,7 @@
 
 mod conversions;
 mod element_types;
+mod mixed;
 mod program;
 mod proving;
 mod runs;

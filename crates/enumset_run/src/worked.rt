@@ -7,6 +7,8 @@ pub enum Worked {
     Letters,
     /// `sparse`: bits 10, 20, 30 and 127, in a `u128`.
     Sparse,
+    /// `marks`: bits 0, 1 and 2, in a `u8`.
+    Marks,
     /// `wide`: bits 3, 64 and 130, in three words.
     Wide,
 }

@@ -6,7 +6,10 @@ ghost use Rattle.enumset_sets.specs.Elements.{one_past_greatest};
 
 use crate::element::EnumSetType;
 use crate::enum_set_iter::EnumSetIter;
-use crate::store::{are_same, intersection_of, symmetric_difference_of, union_of};
+use crate::store::{
+    are_disjoint, are_same, has_no_member, intersection_of, is_subset_of, symmetric_difference_of,
+    union_of,
+};
 use enumset_repr::repr::EnumSetTypeRepr;
 use std::alloc::AllocError;
 use std::fmt;
@@ -212,7 +215,7 @@ impl<T: EnumSetType> EnumSet<T> {
     pub fn is_empty(&self) -> bool
         ensures { result ≡ set.is_empty self.now }
     {
-        self.repr.is_empty()
+        has_no_member(self.repr)
     }
 
     /// Takes out all members.
@@ -257,21 +260,21 @@ impl<T: EnumSetType> EnumSet<T> {
     pub fn is_disjoint(&self, other: EnumSet<T>) -> bool
         ensures { result ≡ set.is_disjoint self.now other }
     {
-        intersection_of(self.repr, other.repr).is_empty()
+        are_disjoint(self.repr, other.repr)
     }
 
     /// Whether each member of the other is one of this.
     pub fn is_superset(&self, other: EnumSet<T>) -> bool
         ensures { result ≡ set.is_subset other self.now }
     {
-        other.repr.and_not(self.repr).is_empty()
+        is_subset_of(other.repr, self.repr)
     }
 
     /// Whether each member of this is one of the other.
     pub fn is_subset(&self, other: EnumSet<T>) -> bool
         ensures { result ≡ set.is_subset self.now other }
     {
-        self.repr.and_not(other.repr).is_empty()
+        is_subset_of(self.repr, other.repr)
     }
 
     /// The members of either.

@@ -11,7 +11,7 @@ pub mod laws;
 mod macros;
 mod numbers;
 pub mod raw;
-mod store;
+pub mod store;
 mod taken;
 pub mod with_repr;
 mod words;

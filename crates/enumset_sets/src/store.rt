@@ -1,12 +1,13 @@
-// The operators of a store, by the sets that its values mean.
+//! The operators and tests of a store, as calls by the sets that its values mean: what [`EnumSet`](crate::EnumSet)
+//! and other sets over a store share.
 
 ghost use Rattle.std.specs.Prelude.{◌≡◌};
 ghost use Rattle.enumset_repr.specs.BitSet as set;
 
 use enumset_repr::repr::EnumSetTypeRepr;
 
-// The members of both.
-pub(crate) fn intersection_of<R: EnumSetTypeRepr>(a: R, b: R) -> R
+/// The members of both.
+pub fn intersection_of<R: EnumSetTypeRepr>(a: R, b: R) -> R
     ensures { R.members result ≡ set.intersection (R.members a) (R.members b) }
 {
     a.known();
@@ -14,8 +15,8 @@ pub(crate) fn intersection_of<R: EnumSetTypeRepr>(a: R, b: R) -> R
     a & b
 }
 
-// The members of either.
-pub(crate) fn union_of<R: EnumSetTypeRepr>(a: R, b: R) -> R
+/// The members of either.
+pub fn union_of<R: EnumSetTypeRepr>(a: R, b: R) -> R
     ensures { R.members result ≡ set.union (R.members a) (R.members b) }
 {
     a.known();
@@ -23,8 +24,8 @@ pub(crate) fn union_of<R: EnumSetTypeRepr>(a: R, b: R) -> R
     a | b
 }
 
-// The members of just one of them.
-pub(crate) fn symmetric_difference_of<R: EnumSetTypeRepr>(a: R, b: R) -> R
+/// The members of just one of them.
+pub fn symmetric_difference_of<R: EnumSetTypeRepr>(a: R, b: R) -> R
     ensures { R.members result ≡ set.symmetric_difference (R.members a) (R.members b) }
 {
     a.known();
@@ -32,11 +33,40 @@ pub(crate) fn symmetric_difference_of<R: EnumSetTypeRepr>(a: R, b: R) -> R
     a ^ b
 }
 
-// Whether they have the same members.
-pub(crate) fn are_same<R: EnumSetTypeRepr>(a: R, b: R) -> bool
+/// The numbers below the store's width that are no members.
+pub fn rest_of<R: EnumSetTypeRepr>(a: R) -> R
+    ensures { R.members result ≡ set.difference (set.below R.WIDTH) (R.members a) }
+{
+    a.known();
+    !a
+}
+
+/// Whether they have the same members.
+pub fn are_same<R: EnumSetTypeRepr>(a: R, b: R) -> bool
     ensures { result ≡ set.is_same (R.members a) (R.members b) }
 {
     a.known();
     b.known();
     a == b
+}
+
+/// Whether there is no member.
+pub fn has_no_member<R: EnumSetTypeRepr>(a: R) -> bool
+    ensures { result ≡ set.is_empty (R.members a) }
+{
+    a.is_empty()
+}
+
+/// Whether each member of the first is one of the second.
+pub fn is_subset_of<R: EnumSetTypeRepr>(a: R, b: R) -> bool
+    ensures { result ≡ set.is_subset (R.members a) (R.members b) }
+{
+    a.and_not(b).is_empty()
+}
+
+/// Whether no number is a member of both.
+pub fn are_disjoint<R: EnumSetTypeRepr>(a: R, b: R) -> bool
+    ensures { result ≡ set.is_disjoint (R.members a) (R.members b) }
+{
+    intersection_of(a, b).is_empty()
 }

@@ -1,6 +1,7 @@
 // The calls of a set and of its iterator that no command makes, at each worked type.
 
 use crate::letters::Letters;
+use crate::marks::Marks;
 use crate::sparse::Sparse;
 use crate::wide::Wide;
 use enumset_sets::element::EnumSetType;
@@ -48,10 +49,12 @@ fn each_call_answers(rt: HostRuntime) {
         EnumSet::<Letters>::variant_count(),
         EnumSet::<Sparse>::bit_width(),
         EnumSet::<Sparse>::variant_count(),
+        EnumSet::<Marks>::bit_width(),
+        EnumSet::<Marks>::variant_count(),
         EnumSet::<Wide>::bit_width(),
         EnumSet::<Wide>::variant_count(),
     ];
-    assert!(rt; numbers == [7, 7, 128, 4, 131, 3]);
+    assert!(rt; numbers == [7, 7, 128, 4, 3, 3, 131, 3]);
     let valid = [
         EnumSet::<Sparse>::is_bit_valid(127),
         EnumSet::<Sparse>::is_bit_valid(128),
@@ -60,6 +63,7 @@ fn each_call_answers(rt: HostRuntime) {
     assert!(rt; valid == [true, false, false]);
     assert!(rt; answers(Letters::A, Letters::G));
     assert!(rt; answers(Sparse::B, Sparse::D));
+    assert!(rt; answers(Marks::A, Marks::C));
     assert!(rt; answers(Wide::P, Wide::R));
 }
 
@@ -82,6 +86,7 @@ fn texts_name_the_elements(rt: HostRuntime) -> Result<(), Fail> {
     let mut text = String::new(rt.alloc());
     write_texts::<Letters>(&mut text)?;
     write_texts::<Sparse>(&mut text)?;
+    write_texts::<Marks>(&mut text)?;
     write_texts::<Wide>(&mut text)?;
     let (none, one) = (EnumSet::<Letters>::new(), EnumSet::only(Letters::C));
     writeln!(text, "{none:?} {one:?} {:?}", one.iter())?;
@@ -90,6 +95,7 @@ fn texts_name_the_elements(rt: HostRuntime) -> Result<(), Fail> {
             == "\
 0 A A, 1 B B, 2 C C, 3 D D, 4 E E, 5 F F, 6 G G, EnumSet(A | B | C | D | E | F | G)
 10 A A, 20 B B, 30 C C, 127 D D, EnumSet(A | B | C | D)
+0 A A, 1 B B, 2 C C, EnumSet(A | B | C)
 3 P P, 64 Q Q, 130 R R, EnumSet(P | Q | R)
 EnumSet() EnumSet(C) EnumSetIter { iter: PrimitiveIter(4) }
 "

@@ -89,6 +89,17 @@ true
 true
 K2 not a bit
 --
+marks
+insert 0 2
+insert 0 3
+complement 1 0
+len 1
+==
+true
+K2 not a bit
+ok
+2
+--
 wide
 insert 0 0
 insert 0 64
@@ -245,6 +256,6 @@ fn each_run_has_its_output(rt: HostRuntime) -> Result<(), Fail> {
             }
         }
     }
-    assert!(rt; inputs == 104);
+    assert!(rt; inputs == 105);
     Ok(())
 }

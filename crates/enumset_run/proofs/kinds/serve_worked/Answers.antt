@@ -1,7 +1,7 @@
 use Rattle.std.proofs.Common.{refl, ◌∷◌, []}
 use Rattle.enumset_repr.specs.Laws.Listed.{bits_listed}
 use Rattle.enumset_array.specs.Laws.Listed.{words_listed}
-use Rattle.enumset_run.specs.Kinds.{letters_bits, sparse_bits, wide_bits}
+use Rattle.enumset_run.specs.Kinds.{letters_bits, sparse_bits, marks_bits, wide_bits}
 use Rattle.enumset_run.proofs.kinds.serve_worked.Goals as goal
 
 pub returns-in-Letters-clause-answer : goal.returns-in-Letters-clause-answer
@@ -11,6 +11,10 @@ returns-in-Letters-clause-answer c =
 pub returns-in-Sparse-clause-answer : goal.returns-in-Sparse-clause-answer
 returns-in-Sparse-clause-answer c =
     rw (c.in-Sparse.is, ← bits_listed sparse_bits 170141183460469231731687303716958897152 refl) c.serve_text-in-Sparse.ensures.answer
+
+pub returns-in-Marks-clause-answer : goal.returns-in-Marks-clause-answer
+returns-in-Marks-clause-answer c =
+    rw (c.in-Marks.is, ← bits_listed marks_bits 7 refl) c.serve_text-in-Marks.ensures.answer
 
 pub returns-in-Wide-clause-answer : goal.returns-in-Wide-clause-answer
 returns-in-Wide-clause-answer c =

@@ -1,6 +1,4 @@
-use Rattle.std.proofs.lemmas.Bool.Decides.{same_from_decides}
-use Rattle.enumset_repr.specs.Laws.Rising.{is_empty_iff}
 use Rattle.enumset_sets.proofs.enum_set.EnumSet+T.is_empty.Goals as goal
 
 pub returns : goal.returns
-returns g c = same_from_decides _ _ (rw (← c.self.view_is) c.is_empty.ensures) (is_empty_iff _)
+returns g c = rw (← c.self.view_is) c.has_no_member.ensures

@@ -1,7 +1,4 @@
-use Rattle.std.proofs.lemmas.Bool.Decides.{same_from_decides}
-use Rattle.enumset_repr.specs.Laws.Members.{is_subset_iff}
 use Rattle.enumset_sets.proofs.enum_set.EnumSet+T.is_superset.Goals as goal
 
 pub returns : goal.returns
-returns g c =
-    same_from_decides _ _ (rw (← c.self.view_is, ← c.other.view_is, ← c.and_not.ensures) c.is_empty.ensures) (is_subset_iff _ _)
+returns g c = rw (← c.self.view_is, ← c.other.view_is) c.is_subset_of.ensures
