@@ -5,7 +5,7 @@ use Rattle.std.specs.Str.Parse.{digits_value, digits_value_after}
 use Rattle.std.specs.Char.{is_ascii_digit, digit_value}
 use Rattle.std.proofs.lemmas.List.{drop_all}
 use Rattle.std.proofs.lemmas.Bool.Decides.{nat_tests}
-use Rattle.enumset_run.specs.Lines.{is_empty, field, register, bit}
+use Rattle.enumset_run.specs.Lines.{is_empty, field, register, bit, word}
 
 pub digits_value_after-ge : (ds : List ℕ) (n : ℕ) → n ≤ digits_value_after 10 n ds
 digits_value_after-ge [] n = omega arith
@@ -70,8 +70,14 @@ bit-some token n h = field-fewer 32 128 n token (lit≤ tt) h
 pub bit-no_number : (token : List ℕ) → field 128 token ≡ None → bit token ≡ None
 bit-no_number token h = field-fewer_none 32 128 token (lit≤ tt) h
 
+pub word-some : (token : List ℕ) (n : ℕ) → field 128 token ≡ Some n → word token ≡ cond (nat_lt n (2 ^ 64)) (Some n) None
+word-some token n h = field-fewer 64 128 n token (lit≤ tt) h
+
+pub word-no_number : (token : List ℕ) → field 128 token ≡ None → word token ≡ None
+word-no_number token h = field-fewer_none 64 128 token (lit≤ tt) h
+
 -- what is no bit is no register
 pub register-none : (token : List ℕ) → bit token ≡ None → register token ≡ None
 register-none token h = field-fewer_none 8 32 token (lit≤ tt) h
 
-pub ruleset limits = (register-some, register-no_number, bit-some, bit-no_number, register-none)
+pub ruleset limits = (register-some, register-no_number, bit-some, bit-no_number, word-some, word-no_number, register-none)

@@ -2,6 +2,7 @@ pub mod Lines
 pub mod Tokens
 pub mod Fields
 pub mod Commands
+pub mod WordTokens
 pub mod Replies
 pub mod Inputs
 pub mod Names

@@ -2,8 +2,10 @@
 --     answer_to_lines      the answer, where it is known what the lines come to
 --     answer_to      the answer to an input
 --     IsFaultOf      what has this answer may fail so
+--     IsReadAs      reading what writes this, or nothing, came to this: it, nothing, or want of memory
 --     AppendsFrontOf      what a writer holds grows by a front part of a text
-use Rattle.std.specs.Prelude.{◌≡◌, ℕ, nat_lt, List, length, take, Option, Result, Ok, Err, if◌then◌else◌}
+use Rattle.std.specs.Prelude.{◌≡◌, ℕ, nat_lt, List, length, take, Option, Some, None, Result, Ok, Err, if◌then◌else◌}
+use Rattle.std.specs.Option.{IsSome}
 use Rattle.std.specs.Io.KnownBytes.{Appends}
 use Rattle.enumset_repr.specs.BitSet.{BitSet}
 use Rattle.enumset_run.specs.declared.command.Command.{Command}
@@ -27,6 +29,12 @@ answer_to valid input = if nat_lt INPUT_LIMIT (length input) then Err TooLong el
 abbrev pub IsFaultOf : {A : Type 0} → Result A TextFault → TextFault → Type 0
 IsFaultOf (Ok value) fault = fault ≡ OutOfMemory
 IsFaultOf (Err own) fault = fault ≡ own
+
+-- what is nothing is read as nothing, whatever memory is refused
+abbrev pub IsReadAs : {A E : Type 0} → Option A → Option (Result A E) → Type 0
+IsReadAs own None = own ≡ None
+IsReadAs own (Some (Ok value)) = own ≡ Some value
+IsReadAs own (Some (Err error)) = IsSome own
 
 -- known bytes grow by the first n bytes of a text, for some n
 abbrev pub AppendsFrontOf : Option (List ℕ) → Option (List ℕ) → List ℕ → Type 0

@@ -9,17 +9,18 @@
 --     over_bit, over_width, over_value      the same row, which names a bit, a width, a value and its width too
 --     where_below      a reply, where each member of a set is below a number
 --     given_or_absent      what a step replies
+--     takes_memory      whether a reply takes memory: it has words
 --     names_registers, names_widths, names_bits      whether the registers that a row names are there;  whether its widths are some and its values fit them;  whether its bits are valid
 --     refusal      why a command of a row is refused, if it is
 --     Outcome      a reply, and the state after it
 --     outcome_unless, outcome_of      what a row comes to, where it may be refused
 --     replies_by      the replies to a list of commands, where an outcome is known of each
-use Rattle.std.specs.Prelude.{ℕ, ◌^◌, Bool, not, ◌&&◌, nat_lt, List, [], ◌∷◌, Option, Some, None, if◌then◌else◌}
+use Rattle.std.specs.Prelude.{ℕ, ◌^◌, Bool, true, false, not, ◌&&◌, nat_lt, List, [], ◌∷◌, Option, Some, None, if◌then◌else◌}
 use Rattle.std.specs.List.{list_all}
 use Rattle.enumset_repr.specs.BitSet.{BitSet, is_in, contains, is_subset, below}
 use Rattle.enumset_run.specs.States.{State, put_set, is_set_register, is_iterator_register}
 use Rattle.enumset_run.specs.declared.reply.Reply.{Reply}
-use Rattle.enumset_run.specs.declared.reply.Reply.TheVariants.{Done, Bit, Absent, Refused}
+use Rattle.enumset_run.specs.declared.reply.Reply.TheVariants.{Done, Words, Bit, Absent, Refused}
 use Rattle.enumset_run.specs.declared.reply.Refusal.{Refusal}
 use Rattle.enumset_run.specs.declared.reply.Refusal.TheVariants.{NoRegister, NotABit, NotAWidth}
 
@@ -91,6 +92,10 @@ where_below s n reply = if is_subset s (below n) then reply else Absent
 abbrev pub given_or_absent : Rules → Option ℕ → Reply
 given_or_absent rules None = Absent
 given_or_absent rules (Some bit) = rules.given bit
+
+abbrev pub takes_memory : Reply → Bool
+takes_memory (Words ws) = true
+takes_memory other = false
 
 abbrev pub names_registers : Named → Bool
 names_registers named = list_all is_set_register named.sets && list_all is_iterator_register named.iterators

@@ -2,17 +2,18 @@
 --     plan      of each command, what it names, what it replies and what it leaves
 --     outcome      what a command comes to, a refused one included
 --     replies      the replies to a list of commands, from the start
-use Rattle.std.specs.Prelude.{not, List, [], ◌∷◌, length}
+use Rattle.std.specs.Prelude.{◌*◌, not, List, [], ◌∷◌, length}
 use Rattle.enumset_repr.specs.BitSet as set
 use Rattle.enumset_repr.specs.BitSet.{BitSet}
 use Rattle.enumset_repr.specs.Number.{number, bits}
+use Rattle.enumset_repr.specs.Words.{words, bits_of}
 use Rattle.enumset_repr.specs.Ends.{first, last, without_first, without_last}
 use Rattle.enumset_run.specs.States.{State, start, set_at, list_at, put_list}
 use Rattle.enumset_run.specs.Plans.{Plan, asks, puts, puts_allowed, changes, steps, over_bit, over_width, over_value, where_below, given_or_absent, of_valid, Outcome, outcome_of, replies_by}
 use Rattle.enumset_run.specs.declared.command.Command.{Command}
-use Rattle.enumset_run.specs.declared.command.Command.TheVariants.{New, All, Only, Insert, Remove, Contains, Clear, Len, IsEmpty, Union, Intersection, Difference, SymmetricDifference, Complement, InsertAll, RemoveAll, Disjoint, Superset, Subset, Equal, Number, NumberCut, FromNumber, FromNumberCut, Iter, Next, NextBack, Left}
+use Rattle.enumset_run.specs.declared.command.Command.TheVariants.{New, All, Only, Insert, Remove, Contains, Clear, Len, IsEmpty, Union, Intersection, Difference, SymmetricDifference, Complement, InsertAll, RemoveAll, Disjoint, Superset, Subset, Equal, Number, NumberCut, FromNumber, FromNumberCut, Words, WordsCut, FromWords, FromWordsCut, Iter, Next, NextBack, Left}
 use Rattle.enumset_run.specs.declared.reply.Reply.{Reply}
-use Rattle.enumset_run.specs.declared.reply.Reply.TheVariants.{Done, Truth, Count, Number as NumberIs}
+use Rattle.enumset_run.specs.declared.reply.Reply.TheVariants.{Done, Truth, Count, Number as NumberIs, Words as WordsAre}
 
 -- the sets and the lists are those before the command
 unfoldable pub plan : Command → Plan
@@ -42,6 +43,10 @@ plan (Number r width) = over_width width (asks (r ∷ []) (λ rules s. where_bel
 plan (NumberCut r width) = over_width width (asks (r ∷ []) (λ rules s. NumberIs (number (set.low (set_at s r) width))))
 plan (FromNumber r width value) = over_value width value (puts_allowed r (bits value))
 plan (FromNumberCut r width value) = over_value width value (puts r [] (λ rules s. set.intersection (bits value) rules.allowed))
+plan (Words r count) = asks (r ∷ []) (λ rules s. where_below (set_at s r) (64 * count) (WordsAre (words (set_at s r) count)))
+plan (WordsCut r count) = asks (r ∷ []) (λ rules s. WordsAre (words (set_at s r) count))
+plan (FromWords r ws) = puts_allowed r (bits_of ws)
+plan (FromWordsCut r ws) = puts r [] (λ rules s. set.intersection (bits_of ws) rules.allowed)
 plan (Iter i r) = steps i (r ∷ []) (λ rules s. Done) (λ rules s. put_list s i (set.rising (set_at s r)))
 plan (Next i) =
     steps i [] (λ rules s. given_or_absent rules (first (list_at s i))) (λ rules s. put_list s i (without_first (list_at s i)))

@@ -1,10 +1,11 @@
 -- The names of the commands, by the fields that they take.
---     one_register, two_registers, three_registers, register_and_bit, register_and_width, register_width_and_value      the command of a name over these fields, if there is one
+--     one_register, two_registers, three_registers, register_and_bit, register_and_width, register_width_and_value, register_and_count      the command of a name over these fields, if there is one
+--     register_and_words      the command of a name over a register and words, if there is one
 use Rattle.std.specs.Prelude.{ℕ, List, [], ◌∷◌, codes, Option}
 use Rattle.std.specs.Map.{lookup}
 use Rattle.std.specs.Str.{bytes_eq}
 use Rattle.enumset_run.specs.declared.command.Command.{Command}
-use Rattle.enumset_run.specs.declared.command.Command.TheVariants.{New, All, Clear, Len, IsEmpty, Next, NextBack, Left, Complement, InsertAll, RemoveAll, Disjoint, Superset, Subset, Equal, Iter, Union, Intersection, Difference, SymmetricDifference, Only, Insert, Remove, Contains, Number, NumberCut, FromNumber, FromNumberCut}
+use Rattle.enumset_run.specs.declared.command.Command.TheVariants.{New, All, Clear, Len, IsEmpty, Next, NextBack, Left, Complement, InsertAll, RemoveAll, Disjoint, Superset, Subset, Equal, Iter, Union, Intersection, Difference, SymmetricDifference, Only, Insert, Remove, Contains, Number, NumberCut, FromNumber, FromNumberCut, Words, WordsCut, FromWords, FromWordsCut}
 
 abbrev pub one_register : List ℕ → ℕ → Option Command
 one_register name r =
@@ -67,5 +68,21 @@ register_width_and_value name r width value =
     lookup (bytes_eq name) (
     (codes "from_number", FromNumber r width value)
     ∷ (codes "from_number_cut", FromNumberCut r width value)
+    ∷ []
+    )
+
+abbrev pub register_and_count : List ℕ → ℕ → ℕ → Option Command
+register_and_count name r count =
+    lookup (bytes_eq name) (
+    (codes "words", Words r count)
+    ∷ (codes "words_cut", WordsCut r count)
+    ∷ []
+    )
+
+abbrev pub register_and_words : List ℕ → Option (ℕ → List ℕ → Command)
+register_and_words name =
+    lookup (bytes_eq name) (
+    (codes "from_words", FromWords)
+    ∷ (codes "from_words_cut", FromWordsCut)
     ∷ []
     )

@@ -1,5 +1,7 @@
 //! The commands of a run.
 
+use crate::word_list::WordList;
+
 /// One command of a run over four set registers, 0 to 3, and two iterator registers, 0 and 1.
 ///
 /// The fields `to`, `a`, `b` and `r` name set registers, `i` an iterator register, and `bit` is the
@@ -54,6 +56,14 @@ pub enum Command {
     FromNumber { r: u8, width: u32, value: u128 },
     /// `from_number_cut r width value`: makes a set those bits of a number that a set may have.
     FromNumberCut { r: u8, width: u32, value: u128 },
+    /// `words r count`: replies so many words of a set, if each member is in one of them.
+    Words { r: u8, count: u8 },
+    /// `words_cut r count`: replies so many words of a set.
+    WordsCut { r: u8, count: u8 },
+    /// `from_words r w w ..`: makes a set the bits of words, if a set may have each of them.
+    FromWords { r: u8, words: WordList },
+    /// `from_words_cut r w w ..`: makes a set those bits of words that a set may have.
+    FromWordsCut { r: u8, words: WordList },
     /// `iter i r`: puts an iterator over the members that `r` has now into `i`.
     Iter { i: u8, r: u8 },
     /// `next i`: one step from the front.

@@ -8,6 +8,7 @@ mod fields;
 mod lines;
 mod tables;
 mod tokens;
+mod words;
 
 use crate::command::Command;
 use crate::text_fault::TextFault;
@@ -18,8 +19,8 @@ use tokens::Tokens;
 
 /// The commands that the lines of an input write, or the fault of the first line that is no command.
 ///
-/// Memory is needed for the commands alone. Where it is refused the rest of the lines is still read, so that want
-/// of memory is the error of no input that has a line which is no command.
+/// Memory is needed for the commands and their words alone. Where it is refused the rest of the lines is still
+/// read, so that want of memory is the error of no input that has a line which is no command.
 #[tactic(auto, using(crate::proofs::Commands::command_steps))]
 pub fn read_commands(alloc: Global, input: &[u8]) -> Result<Vec<Command>, TextFault>
     ensures commands { IfOk result (λ commands. lines input.now ≡ Ok commands.items) }
@@ -32,8 +33,11 @@ pub fn read_commands(alloc: Global, input: &[u8]) -> Result<Vec<Command>, TextFa
         number += 1;
         let mut tokens = Tokens::new(line);
         if let Some(name) = tokens.next() {
-            let command = read_command(name, tokens).ok_or(TextFault::BadLine(number))?;
-            has_room = has_room && commands.push(command).is_ok();
+            let command = read_command(alloc, name, tokens).ok_or(TextFault::BadLine(number))?;
+            has_room = match command {
+                Ok(command) => has_room && commands.push(command).is_ok(),
+                Err(_) => false,
+            };
         }
     }
     if has_room {

@@ -1,9 +1,10 @@
 //! The machine that carries out commands.
 
-ghost use Rattle.std.specs.Prelude.{◌≡◌, IfOk, IsOk, OnErr};
+ghost use Rattle.std.specs.Prelude.{◌≡◌, false, IfOk, IsOk, OnErr};
 
 mod by_operands;
 mod changes;
+mod conversions;
 mod element_set;
 mod operands;
 mod registers;
@@ -39,6 +40,7 @@ impl<T: EnumSetType> Model for Machine<T> {
 
 impl<T: EnumSetType> Machine<T> {
     ghost use Rattle.enumset_run.specs.States.{start};
+    ghost use Rattle.enumset_run.specs.Plans.{takes_memory};
     ghost use Rattle.enumset_run.specs.Runs.{outcome};
 
     /// A machine whose registers are empty.
@@ -52,16 +54,17 @@ impl<T: EnumSetType> Machine<T> {
 
     /// Carries out one command. A refused command changes nothing.
     ///
-    /// No command here takes memory, so there is always a reply.
+    /// Memory is taken for a reply of words alone: where the reply is another, there is always one. Where memory is
+    /// refused, the machine is as it was.
     #[tactic(auto, unfolding(crate::specs::Runs::outcome))]
     pub fn step(&mut self, alloc: Global, command: &Command) -> Result<Reply, AllocError>
-        ensures succeeds { IsOk result }
+        ensures succeeds { takes_memory
+            (outcome (T.Repr.members T.ALL_BITS) self.old command.now).reply ≡ false → IsOk result }
         ensures step { IfOk result (λ reply.
             outcome (T.Repr.members T.ALL_BITS) self.old command.now
             ≡ record { reply = reply; state = self.new }) }
         ensures err { OnErr result (self.new ≡ self.old) }
     {
-        let _ = alloc;
-        Ok(self.runner.step(command))
+        self.runner.step(alloc, command)
     }
 }

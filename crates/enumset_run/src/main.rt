@@ -21,6 +21,7 @@ mod tests;
 mod text_fault;
 mod transcript;
 mod wide;
+mod word_list;
 mod worked;
 
 use std::process::ExitCode;

@@ -1,8 +1,9 @@
 //! The replies of a run.
+use crate::word_list::WordList;
 use std::fmt;
 
 /// The answer to one command.
-#[derive(Clone, Copy, Debug, PartialEq, Eq)]
+#[derive(Debug, Drop)]
 pub enum Reply {
     /// The command was carried out.
     Done,
@@ -12,6 +13,8 @@ pub enum Reply {
     Count(u64),
     /// The number of a set: the sum of the powers of two of its members.
     Number(u128),
+    /// Words of a set, the lowest first.
+    Words(WordList),
     /// The number of a valid bit.
     Bit(u32),
     /// There is nothing to give.
@@ -43,6 +46,7 @@ impl fmt::Display for Reply {
             Reply::Truth(truth) => write!(f, "{truth}"),
             Reply::Count(count) => write!(f, "{count}"),
             Reply::Number(number) => write!(f, "{number}"),
+            Reply::Words(words) => write!(f, "words{words}"),
             Reply::Bit(bit) => write!(f, "bit {bit}"),
             Reply::Absent => write!(f, "none"),
             Reply::Refused(refusal) => write!(f, "{refusal}"),

@@ -1,6 +1,8 @@
 //! Runs of commands.
 
-ghost use Rattle.std.specs.Prelude.{◌≡◌, ◌≤◌, [], length, IfOk, IsOk, OnOk, vec_capacity};
+ghost use Rattle.std.specs.Prelude.{◌≡◌, ◌≤◌, [], length, false, IfOk, IsOk, vec_capacity};
+ghost use Rattle.std.specs.List.{list_any};
+ghost use Rattle.enumset_run.specs.Plans.{takes_memory};
 ghost use Rattle.enumset_run.specs.Runs.{replies};
 
 use crate::command::Command;
@@ -18,8 +20,8 @@ pub fn run<T: EnumSetType>(alloc: Global, commands: &[Command]) -> Result<Vec<Re
     run_over_room::<T>(alloc, commands, Vec::with_capacity(alloc, commands.len())?)
 }
 
-/// The same in an empty vector that has room for the replies. Then each run has replies, since no step takes
-/// memory.
+/// The same in an empty vector that has room for the replies. Then each run has replies where none of them takes
+/// memory of its own.
 fn run_over_room<T: EnumSetType>(
     alloc: Global,
     commands: &[Command],
@@ -27,7 +29,8 @@ fn run_over_room<T: EnumSetType>(
 ) -> Result<Vec<Reply>, AllocError>
     requires empty { room.items ≡ [] }
     requires room { length commands.now ≤ vec_capacity room }
-    ensures succeeds { IsOk result }
+    ensures succeeds { list_any takes_memory (replies (T.Repr.members T.ALL_BITS) commands.now)
+        ≡ false → IsOk result }
     ensures replies { IfOk result (λ answers.
         answers.items ≡ replies (T.Repr.members T.ALL_BITS) commands.now) }
 {

@@ -1,18 +1,40 @@
 //! The command that a name and its fields write.
 ghost use Rattle.std.specs.Prelude.{◌≡◌, ◌∷◌};
-ghost use Rattle.enumset_run.specs.Lines.{command_of, one_field, two_fields, three_fields};
+ghost use Rattle.enumset_run.specs.Lines.{command_of, with_fields, one_field, two_fields, three_fields};
+ghost use Rattle.enumset_run.specs.Answers.{IsReadAs};
 
 use super::fields::{read_bit, read_number, read_register};
 use super::tables::{
-    one_register, register_and_bit, register_and_width, register_width_and_value, three_registers,
-    two_registers,
+    one_register, register_and_bit, register_and_count, register_and_width, register_and_words,
+    register_width_and_value, takes_words, three_registers, two_registers,
 };
 use super::tokens::Tokens;
+use super::words::read_words;
 use crate::command::Command;
+use std::alloc::{AllocError, Global};
 
-/// The command of this name whose fields are the tokens left.
-pub(super) fn read_command(name: &[u8], mut tokens: Tokens) -> Option<Command>
-    ensures { result ≡ command_of (name.now ∷ tokens.entry) }
+/// The command of this name whose fields are the tokens left, or `None` where they write no command. The error is
+/// want of memory for the words of one.
+pub(super) fn read_command(
+    alloc: Global,
+    name: &[u8],
+    mut tokens: Tokens,
+) -> Option<Result<Command, AllocError>>
+    ensures { IsReadAs (command_of (name.now ∷ tokens.entry)) result }
+{
+    if !takes_words(name) {
+        return Some(Ok(with_fields(name, tokens)?));
+    }
+    let r = read_register(tokens.next()?)?;
+    match read_words(alloc, tokens)? {
+        Ok(words) => Some(Ok(register_and_words(name, r, words)?)),
+        Err(error) => Some(Err(error)),
+    }
+}
+
+/// The command of this name whose fields are the tokens left, none of which is a word.
+fn with_fields(name: &[u8], mut tokens: Tokens) -> Option<Command>
+    ensures { result ≡ with_fields name.now tokens.entry }
 {
     let first = tokens.next()?;
     let Some(second) = tokens.next() else {
@@ -46,7 +68,12 @@ fn two_fields(name: &[u8], x: &[u8], y: &[u8]) -> Option<Command>
     if let Some(command) = register_and_width(name, first, number) {
         return Some(command);
     }
-    two_registers(name, first, read_register(y)?)
+    // a count is a number of 8 bits, as a register
+    let second = read_register(y)?;
+    if let Some(command) = two_registers(name, first, second) {
+        return Some(command);
+    }
+    register_and_count(name, first, second)
 }
 
 #[tactic(auto, using(crate::proofs::Fields::limits))]

@@ -1,6 +1,6 @@
 //! The fields of a command.
 ghost use Rattle.std.specs.Prelude.{◌≡◌};
-ghost use Rattle.enumset_run.specs.Lines.{register, bit, field};
+ghost use Rattle.enumset_run.specs.Lines.{register, bit, word, field};
 
 /// The number that a token of decimal digits writes, if it is a `u8`.
 #[tactic(auto, using(crate::proofs::Fields::limits))]
@@ -16,6 +16,14 @@ pub(super) fn read_bit(token: &[u8]) -> Option<u32>
     ensures { result ≡ bit token.now }
 {
     u32::try_from(read_number(token)?).ok()
+}
+
+/// The number that a token of decimal digits writes, if it is a `u64`.
+#[tactic(auto, using(crate::proofs::Fields::limits))]
+pub(super) fn read_word(token: &[u8]) -> Option<u64>
+    ensures { result ≡ word token.now }
+{
+    u64::try_from(read_number(token)?).ok()
 }
 
 /// The number that a token of decimal digits writes, if it is a `u128`. Every field is a smaller one.

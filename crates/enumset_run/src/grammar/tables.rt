@@ -1,10 +1,12 @@
 //! The names of the commands, by the fields that they take.
-ghost use Rattle.std.specs.Prelude.{◌≡◌, map};
+ghost use Rattle.std.specs.Prelude.{◌≡◌, map, option_map};
+ghost use Rattle.std.specs.Option.{is_some};
 ghost use Rattle.std.specs.Map.{lookup};
 ghost use Rattle.std.specs.Str.{bytes_eq};
-ghost use Rattle.enumset_run.specs.Tables.{one_register, register_and_bit, register_and_width, register_width_and_value, three_registers, two_registers};
+ghost use Rattle.enumset_run.specs.Tables.{one_register, register_and_bit, register_and_count, register_and_width, register_and_words, register_width_and_value, three_registers, two_registers};
 
 use crate::command::Command;
+use crate::word_list::WordList;
 
 /// The command of this name over one register.
 pub(super) fn one_register(name: &[u8], r: u8) -> Option<Command>
@@ -89,6 +91,35 @@ pub(super) fn register_width_and_value(
     Some(match name {
         _ if is(name, "from_number") => Command::FromNumber { r, width, value },
         _ if is(name, "from_number_cut") => Command::FromNumberCut { r, width, value },
+        _ => return None,
+    })
+}
+
+/// The command of this name over a register and a count.
+pub(super) fn register_and_count(name: &[u8], r: u8, count: u8) -> Option<Command>
+    ensures { result ≡ register_and_count name.now r count }
+{
+    Some(match name {
+        _ if is(name, "words") => Command::Words { r, count },
+        _ if is(name, "words_cut") => Command::WordsCut { r, count },
+        _ => return None,
+    })
+}
+
+/// Whether the command of this name takes words, any number of them.
+pub(super) fn takes_words(name: &[u8]) -> bool
+    ensures { result ≡ is_some (register_and_words name.now) }
+{
+    is(name, "from_words") || is(name, "from_words_cut")
+}
+
+/// The command of this name over a register and words.
+pub(super) fn register_and_words(name: &[u8], r: u8, words: WordList) -> Option<Command>
+    ensures { result ≡ option_map (λ command. command r words) (register_and_words name.now) }
+{
+    Some(match name {
+        _ if is(name, "from_words") => Command::FromWords { r, words },
+        _ if is(name, "from_words_cut") => Command::FromWordsCut { r, words },
         _ => return None,
     })
 }

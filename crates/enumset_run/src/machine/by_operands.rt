@@ -1,9 +1,9 @@
 //! What each command does, by its operands.
 
-ghost use Rattle.std.specs.Prelude.{◌≡◌, ◌<◌, ◌^◌, true};
+ghost use Rattle.std.specs.Prelude.{◌≡◌, ◌<◌, ◌^◌, true, false, IsOk, IfOk, OnOk, OnErr};
 ghost use Rattle.enumset_repr.specs.BitSet as set;
 ghost use Rattle.enumset_run.specs.States.{is_set_register, is_iterator_register};
-ghost use Rattle.enumset_run.specs.Plans.{is_width, names_registers, names_widths, names_bits};
+ghost use Rattle.enumset_run.specs.Plans.{is_width, takes_memory, names_registers, names_widths, names_bits};
 ghost use Rattle.enumset_run.specs.Operands.{named_by};
 ghost use Rattle.enumset_run.specs.Runs.{plan};
 
@@ -13,19 +13,29 @@ use super::run_set::RunSet;
 use super::runner::Runner;
 use crate::command::Command;
 use crate::reply::Reply;
+use std::alloc::{AllocError, Global};
 
 impl<S: RunSet> Runner<S> {
     /// Carries out a command that is not refused, by what it names.
-    pub(super) fn carry_out(&mut self, command: &Command, operands: Operands) -> Reply
+    pub(super) fn carry_out(
+        &mut self,
+        alloc: Global,
+        command: &Command,
+        operands: Operands,
+    ) -> Result<Reply, AllocError>
         requires names { named_by operands ≡ (plan command.now).named }
         requires registers { names_registers (named_by operands) ≡ true }
         requires widths { names_widths (named_by operands) ≡ true }
         requires bits { names_bits S.rules (named_by operands) ≡ true }
-        ensures reply { result ≡ (plan command.now).reply S.rules self.old }
-        ensures state { self.new ≡ (plan command.now).after S.rules self.old }
+        ensures succeeds { takes_memory ((plan command.now).reply S.rules self.old) ≡ false
+            → IsOk result }
+        ensures reply { IfOk result (λ reply.
+            reply ≡ (plan command.now).reply S.rules self.old) }
+        ensures state { OnOk result (self.new ≡ (plan command.now).after S.rules self.old) }
+        ensures err { OnErr result (self.new ≡ self.old) }
     {
-        match operands {
-            Operands::OneSet(r) => self.over_one_set(command, r),
+        Ok(match operands {
+            Operands::OneSet(r) => self.over_one_set(alloc, command, r)?,
             Operands::TwoSets(a, b) => self.over_two_sets(command, a, b),
             Operands::ThreeSets(to, a, b) => self.over_three_sets(command, to, a, b),
             Operands::SetAndBit(r, bit) => self.over_a_bit(command, r, bit),
@@ -33,25 +43,33 @@ impl<S: RunSet> Runner<S> {
             Operands::SetAndValue(r, width, value) => self.over_a_value(command, r, width, value),
             Operands::OneIterator(i) => self.over_an_iterator(command, i),
             Operands::IteratorAndSet(i, r) => self.over_an_iterator_and_a_set(command, i, r),
-        }
+        })
     }
 
     /// Carries out a command that names one set.
     #[tactic(auto, unfolding(crate::specs::Runs::plan))]
-    fn over_one_set(&mut self, command: &Command, r: u8) -> Reply
+    fn over_one_set(&mut self, alloc: Global, command: &Command, r: u8) -> Result<Reply, AllocError>
         requires names { named_by (Operands.OneSet r) ≡ (plan command.now).named }
         requires register { is_set_register r ≡ true }
-        ensures reply { result ≡ (plan command.now).reply S.rules self.old }
-        ensures state { self.new ≡ (plan command.now).after S.rules self.old }
+        ensures succeeds { takes_memory ((plan command.now).reply S.rules self.old) ≡ false
+            → IsOk result }
+        ensures reply { IfOk result (λ reply.
+            reply ≡ (plan command.now).reply S.rules self.old) }
+        ensures state { OnOk result (self.new ≡ (plan command.now).after S.rules self.old) }
+        ensures err { OnErr result (self.new ≡ self.old) }
     {
-        match command {
+        Ok(match command {
             Command::New { .. } => self.put(r, S::new()),
             Command::All { .. } => self.put(r, S::all()),
             Command::Clear { .. } => self.clear(r),
             Command::Len { .. } => Reply::Count(self.sets.get(r).len() as u64),
             Command::IsEmpty { .. } => Reply::Truth(self.sets.get(r).is_empty()),
+            Command::Words { count, .. } => self.words(alloc, r, *count)?,
+            Command::WordsCut { count, .. } => self.words_cut(alloc, r, *count)?,
+            Command::FromWords { words, .. } => self.put_words(r, words.as_slice()),
+            Command::FromWordsCut { words, .. } => self.put(r, S::from_words_cut(words.as_slice())),
             _ => unreachable!(),
-        }
+        })
     }
 
     /// Carries out a command that names two sets.

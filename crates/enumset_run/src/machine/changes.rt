@@ -1,11 +1,10 @@
 //! What commands do to the set in a register.
 
-ghost use Rattle.std.specs.Prelude.{◌≡◌, ◌<◌, ◌^◌, not, true, if◌then◌else◌};
+ghost use Rattle.std.specs.Prelude.{◌≡◌, not, true};
 ghost use Rattle.enumset_repr.specs.BitSet as set;
-ghost use Rattle.enumset_repr.specs.Number.{number, bits};
 ghost use Rattle.enumset_run.specs.States.{is_set_register, set_at, put_set};
-ghost use Rattle.enumset_run.specs.Plans.{is_width, where_below, given_or_absent};
-ghost use Rattle.enumset_run.specs.declared.reply.Reply.TheVariants.{Done, Truth, Number, Absent};
+ghost use Rattle.enumset_run.specs.Plans.{given_or_absent};
+ghost use Rattle.enumset_run.specs.declared.reply.Reply.TheVariants.{Done, Truth};
 
 use super::run_set::RunSet;
 use super::runner::Runner;
@@ -57,35 +56,6 @@ impl<S: RunSet> Runner<S> {
         let mut elements = self.sets.get(r);
         elements.clear();
         self.put(r, elements)
-    }
-
-    /// The number of the set in a register, where each member is below a width.
-    pub(super) fn number(&self, r: u8, width: u32) -> Reply
-        requires register { is_set_register r ≡ true }
-        requires width { is_width width ≡ true }
-        ensures { result ≡ where_below (set_at self.now r) width
-            (Number (number (set_at self.now r))) }
-    {
-        match self.sets.get(r).number(width) {
-            Some(number) => Reply::Number(number),
-            None => Reply::Absent,
-        }
-    }
-
-    /// Puts the bits of a number into a register, where a set may have each of them.
-    pub(super) fn put_number(&mut self, r: u8, width: u32, value: u128) -> Reply
-        requires register { is_set_register r ≡ true }
-        requires width { is_width width ≡ true }
-        requires fits { value < 2 ^ width }
-        ensures reply { result ≡ (
-            if set.is_subset (bits value) S.rules.allowed then Done else Absent) }
-        ensures state { self.new ≡ (if set.is_subset (bits value) S.rules.allowed
-            then put_set self.old r (bits value) else self.old) }
-    {
-        let Some(set) = S::from_number(width, value) else {
-            return Reply::Absent;
-        };
-        self.put(r, set)
     }
 }
 

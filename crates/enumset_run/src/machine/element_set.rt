@@ -157,6 +157,22 @@ impl<T: EnumSetType> RunSet for EnumSet<T> {
         }
     }
 
+    fn words(&self, slice: &mut [u64]) -> Option<()> {
+        EnumSet::<T>::try_copy_into_slice(self, slice)
+    }
+
+    fn words_cut(&self, slice: &mut [u64]) {
+        EnumSet::<T>::copy_into_slice_truncated(self, slice);
+    }
+
+    fn from_words(words: &[u64]) -> Option<EnumSet<T>> {
+        EnumSet::<T>::try_from_slice(words)
+    }
+
+    fn from_words_cut(words: &[u64]) -> EnumSet<T> {
+        EnumSet::<T>::from_slice_truncated(words)
+    }
+
     fn items(&self) -> EnumSetIter<T> {
         EnumSet::<T>::iter(self)
     }

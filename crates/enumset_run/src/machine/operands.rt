@@ -33,7 +33,11 @@ impl Operands {
             | Command::All { r }
             | Command::Clear { r }
             | Command::Len { r }
-            | Command::IsEmpty { r } => Operands::OneSet(*r),
+            | Command::IsEmpty { r }
+            | Command::Words { r, .. }
+            | Command::WordsCut { r, .. }
+            | Command::FromWords { r, .. }
+            | Command::FromWordsCut { r, .. } => Operands::OneSet(*r),
             Command::Only { r, bit }
             | Command::Insert { r, bit }
             | Command::Remove { r, bit }

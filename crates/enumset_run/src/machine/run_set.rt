@@ -1,9 +1,10 @@
 //! What a run asks of its sets.
 
-ghost use Rattle.std.specs.Prelude.{◌≡◌, ◌↔◌, ◌<◌, ◌^◌, ℕ, List, not, length, true, IsTrue, IsSome, IfSome};
+ghost use Rattle.std.specs.Prelude.{◌≡◌, ◌↔◌, ◌<◌, ◌*◌, ◌^◌, ℕ, List, not, length, true, IsTrue, IsSome, IfSome};
 ghost use Rattle.enumset_repr.specs.BitSet as set;
 ghost use Rattle.enumset_repr.specs.BitSet.{BitSet};
 ghost use Rattle.enumset_repr.specs.Number.{number as number_of, bits};
+ghost use Rattle.enumset_repr.specs.Words.{words as words_of, bits_of};
 ghost use Rattle.enumset_repr.specs.Ends.{first, last, without_first, without_last};
 ghost use Rattle.enumset_run.specs.Plans.{Rules, is_width};
 
@@ -140,6 +141,26 @@ pub(crate) trait RunSet: Copy {
         requires width { is_width width ≡ true }
         requires fits { value < 2 ^ width }
         ensures { members result ≡ set.intersection (bits value) rules.allowed };
+
+    /// Writes a word of the set to each place of a slice, if each member is in one of them.
+    fn words(&self, slice: &mut [u64]) -> Option<()>
+        ensures fits { IsSome result
+            ↔ IsTrue (set.is_subset (members self.now) (set.below (64 * length slice.old))) }
+        ensures words { IsSome result
+            → slice.new ≡ words_of (members self.now) (length slice.old) };
+
+    /// Writes a word of the set to each place of a slice.
+    fn words_cut(&self, slice: &mut [u64])
+        ensures { slice.new ≡ words_of (members self.now) (length slice.old) };
+
+    /// The set of words, if a set may have each of their bits.
+    fn from_words(words: &[u64]) -> Option<Self>
+        ensures allowed { IsSome result ↔ IsTrue (set.is_subset (bits_of words.now) rules.allowed) }
+        ensures value { IfSome result (λ s. members s ≡ bits_of words.now) };
+
+    /// The set of those bits of words that a set may have.
+    fn from_words_cut(words: &[u64]) -> Self
+        ensures { members result ≡ set.intersection (bits_of words.now) rules.allowed };
 
     /// The members as they are now, rising, from both ends.
     fn items(&self) -> Self::Items

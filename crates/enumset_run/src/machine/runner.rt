@@ -1,8 +1,8 @@
 //! A run over any sets: its registers, and its step.
 
-ghost use Rattle.std.specs.Prelude.{◌≡◌};
+ghost use Rattle.std.specs.Prelude.{◌≡◌, false, IsOk, IfOk, OnErr};
 ghost use Rattle.enumset_run.specs.States.{start};
-ghost use Rattle.enumset_run.specs.Plans.{outcome_of};
+ghost use Rattle.enumset_run.specs.Plans.{outcome_of, takes_memory};
 ghost use Rattle.enumset_run.specs.Runs.{plan};
 
 use super::operands::Operands;
@@ -10,6 +10,7 @@ use super::registers::{IteratorRegisters, Registers};
 use super::run_set::RunSet;
 use crate::command::Command;
 use crate::reply::{Refusal, Reply};
+use std::alloc::{AllocError, Global};
 use std::marker::Model;
 
 /// Four set registers and two iterator registers.
@@ -40,21 +41,24 @@ impl<S: RunSet> Runner<S> {
         }
     }
 
-    /// Carries out one command. A refused command changes nothing.
-    pub(super) fn step(&mut self, command: &Command) -> Reply
-        ensures { outcome_of S.rules self.old (plan command.now)
-            ≡ record { reply = result; state = self.new } }
+    /// Carries out one command. A refused command changes nothing. Memory is taken for a reply of words alone.
+    pub(super) fn step(&mut self, alloc: Global, command: &Command) -> Result<Reply, AllocError>
+        ensures succeeds { takes_memory (outcome_of S.rules self.old (plan command.now)).reply
+            ≡ false → IsOk result }
+        ensures step { IfOk result (λ reply. outcome_of S.rules self.old (plan command.now)
+            ≡ record { reply = reply; state = self.new }) }
+        ensures err { OnErr result (self.new ≡ self.old) }
     {
         let operands = Operands::of(command);
         if !operands.names_registers() {
-            return Reply::Refused(Refusal::NoRegister);
+            return Ok(Reply::Refused(Refusal::NoRegister));
         }
         if !operands.names_widths() {
-            return Reply::Refused(Refusal::NotAWidth);
+            return Ok(Reply::Refused(Refusal::NotAWidth));
         }
         if !operands.names_bits::<S>() {
-            return Reply::Refused(Refusal::NotABit);
+            return Ok(Reply::Refused(Refusal::NotABit));
         }
-        self.carry_out(command, operands)
+        self.carry_out(alloc, command, operands)
     }
 }

@@ -121,8 +121,10 @@ left 0
 next 0
 next_back 0
 next 0
+words 0 3
 number 0 64
 number_cut 0 64
+words 0 2
 ==
 ok
 ok
@@ -133,8 +135,10 @@ bit 130
 bit 64
 none
 none
+words 8 1 4
 none
 8
+none
 --
 letters
 new 4
@@ -143,7 +147,9 @@ from_number 0 8 256
 from_number 0 8 128
 from_number_cut 0 8 255
 number 0 8
+words 0 0
 clear 0
+words 0 0
 iter 2 0
 ==
 K1 no register
@@ -152,7 +158,9 @@ K3 not a width
 none
 ok
 127
+none
 ok
+words
 K1 no register
 --
 letters
@@ -226,6 +234,54 @@ ok
 none
 1
 --
+wide
+from_words 0 8 1 4 0
+words_cut 0 2
+words 0 4
+from_words 0 8 1 4 1
+len 0
+from_words 0 9
+len 0
+from_words_cut 0 9 1 4 1
+words 0 3
+from_words_cut 1 18446744073709551615 0 18446744073709551615
+words 1 3
+from_words 1
+words 1 0
+words 4 255
+words_cut 4 0
+from_words 4 9
+from_words_cut 255
+==
+ok
+words 8 1
+words 8 1 4 0
+none
+3
+none
+3
+ok
+words 8 1 4
+ok
+words 8 0 4
+ok
+words
+K1 no register
+K1 no register
+K1 no register
+K1 no register
+--
+letters
+from_words 0 127
+words 0 255
+from_words_cut 0
+words 0 1
+==
+ok
+words 127 0 0 0 0 0 0 0 0 0 0 0 0 0 0 0 0 0 0 0 0 0 0 0 0 0 0 0 0 0 0 0 0 0 0 0 0 0 0 0 0 0 0 0 0 0 0 0 0 0 0 0 0 0 0 0 0 0 0 0 0 0 0 0 0 0 0 0 0 0 0 0 0 0 0 0 0 0 0 0 0 0 0 0 0 0 0 0 0 0 0 0 0 0 0 0 0 0 0 0 0 0 0 0 0 0 0 0 0 0 0 0 0 0 0 0 0 0 0 0 0 0 0 0 0 0 0 0 0 0 0 0 0 0 0 0 0 0 0 0 0 0 0 0 0 0 0 0 0 0 0 0 0 0 0 0 0 0 0 0 0 0 0 0 0 0 0 0 0 0 0 0 0 0 0 0 0 0 0 0 0 0 0 0 0 0 0 0 0 0 0 0 0 0 0 0 0 0 0 0 0 0 0 0 0 0 0 0 0 0 0 0 0 0 0 0 0 0 0 0 0 0 0 0 0 0 0 0 0 0 0 0 0 0 0 0 0 0 0 0 0 0 0 0 0 0 0 0 0 0 0 0 0 0 0
+ok
+words 0
+--
 letters
 all 1
 len 1
@@ -256,6 +312,6 @@ fn each_run_has_its_output(rt: HostRuntime) -> Result<(), Fail> {
             }
         }
     }
-    assert!(rt; inputs == 105);
+    assert!(rt; inputs == 126);
     Ok(())
 }

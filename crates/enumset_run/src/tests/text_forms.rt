@@ -23,7 +23,9 @@ insert 256 6|insert 0 4294967296|insert 0 99999999999999999999999|insert 0\
 |insert 0 6\r \n|\r|insert 0 é|len\nlen 0\nlen\n\
 |number 0|number 0 8 8|number_cut 0 4294967296|from_number 0 8|from_number 0 8 1 1\
 |from_number 0 128 340282366920938463463374607431768211456|from_number 0 8 -1\
-|compare 0 1|words 0 1|has_bit 0 1==
+|words 0|words 0 256|words_cut 0 1 1|from_words|from_words 256|from_words 0 18446744073709551616\
+|from_words 0 1 2 3 4 5 x 6|from_words_cut\
+|compare 0 1|has_bit 0 1==
 !2 line 1: not a command
 --
 letters

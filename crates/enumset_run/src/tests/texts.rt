@@ -4,10 +4,12 @@ use crate::fault::ProgramFault;
 use crate::reply::{Refusal, Reply};
 use crate::text_fault::TextFault;
 use crate::transcript::write_replies;
+use crate::word_list::WordList;
 use std::test::Fail;
 
 #[test]
 fn replies_and_faults_have_their_texts(rt: HostRuntime) -> Result<(), Fail> {
+    let alloc = rt.alloc();
     let replies = [
         Reply::Done,
         Reply::Truth(true),
@@ -16,6 +18,8 @@ fn replies_and_faults_have_their_texts(rt: HostRuntime) -> Result<(), Fail> {
         Reply::Count(18446744073709551615),
         Reply::Number(0),
         Reply::Number(340282366920938463463374607431768211455),
+        Reply::Words(WordList::from(Vec::new(alloc))),
+        Reply::Words(WordList::from(Vec::from_slice(alloc, &[8, 18446744073709551615, 0])?)),
         Reply::Bit(3),
         Reply::Absent,
         Reply::Refused(Refusal::NoRegister),
@@ -32,11 +36,11 @@ fn replies_and_faults_have_their_texts(rt: HostRuntime) -> Result<(), Fail> {
         ProgramFault::Reading,
         ProgramFault::Writing,
     ];
-    let mut said = String::new(rt.alloc());
+    let mut said = String::new(alloc);
     for fault in &faults {
         writeln!(said, "{} {fault}", fault.status())?;
     }
-    let mut text = write_replies(rt.alloc(), &replies)?;
+    let mut text = write_replies(alloc, &replies)?;
     text.extend_from_slice(said.as_bytes())?;
     assert!(rt;
         text.as_slice()
@@ -48,6 +52,8 @@ false
 18446744073709551615
 0
 340282366920938463463374607431768211455
+words
+words 8 18446744073709551615 0
 bit 3
 none
 K1 no register

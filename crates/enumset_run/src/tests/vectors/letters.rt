@@ -1368,4 +1368,344 @@ none
 none
 ok
 0
+--
+letters
+from_number 2 64 2
+number_cut 3 8
+superset 2 0
+from_words 3 63
+from_words 1 68
+subset 1 3
+complement 2 0
+from_number 1 128 127
+from_number 0 8 32
+superset 1 0
+subset 1 0
+equal 1 0
+from_words 1 119 0
+from_words 0 11
+subset 0 1
+superset 1 0
+empty 1
+iter 1 0
+from_number 3 64 26
+from_words 0 127 0
+union 3 3 0
+words 3 3
+len 3
+from_words_cut 3 2
+contains 0 6
+from_number 3 8 2
+from_number 2 32 70
+intersection 2 3 2
+complement 2 2
+words 2 3
+insert_all 2 3
+equal 9 0
+from_number 9 129 1
+contains 0 5
+words 0 2
+from_number 0 256 340282366920938463463374607431768211455
+number_cut 255 64
+superset 255 255
+number 0 128
+from_number 2 64 181
+words 2 0
+words 2 1
+words 2 3
+equal 2 0
+remove 0 5
+from_number_cut 3 64 50
+==
+ok
+0
+true
+ok
+ok
+false
+ok
+ok
+ok
+true
+false
+false
+ok
+ok
+false
+false
+false
+ok
+ok
+ok
+ok
+words 127 0 0
+7
+ok
+true
+ok
+ok
+ok
+ok
+words 125 0 0
+ok
+K1 no register
+K1 no register
+true
+words 127 0
+K3 not a width
+K1 no register
+K1 no register
+127
+none
+none
+words 127
+words 127 0 0
+true
+true
+ok
+--
+letters
+words_cut 0 4
+next 0
+from_number 3 128 51
+iter 0 3
+next 0
+next 0
+next 0
+next_back 0
+next 0
+next 0
+next_back 0
+words 0 2
+insert 3 1
+from_words_cut 0 9223372036854775808
+from_words 0 25
+iter 1 0
+next_back 1
+next 1
+next 0
+remove 0 701637145
+from_number_cut 0 128 252
+next_back 1
+from_number_cut 0 128 340282366920938463463374607431768211455
+next 1
+new 0
+next 1
+remove_all 3 2
+iter 0 3
+superset 1 0
+iter 1 1
+next_back 1
+next_back 1
+all 1
+next 0
+insert 1 7
+next_back 1
+next 1
+from_number 3 8 15
+from_number 0 128 47
+equal 3 0
+superset 0 3
+subset 3 0
+remove 1 8
+left 0
+difference 2 3 1
+from_number 0 64 127
+number_cut 0 64
+words_cut 0 3
+words 0 3
+==
+words 0 0 0 0
+none
+ok
+ok
+bit 0
+bit 1
+bit 4
+bit 5
+none
+none
+none
+words 0 0
+false
+ok
+ok
+ok
+bit 4
+bit 0
+none
+K2 not a bit
+ok
+bit 3
+ok
+none
+ok
+none
+ok
+ok
+true
+ok
+none
+none
+ok
+bit 0
+K2 not a bit
+none
+none
+ok
+ok
+false
+true
+true
+K2 not a bit
+3
+ok
+ok
+127
+words 127 0 0
+words 127 0 0
+--
+letters
+clear 0
+from_number 3 64 33
+from_number 2 16 33
+superset 2 3
+from_number 2 128 70
+symmetric 2 2 2
+difference 0 0 1
+from_number_cut 1 64 127
+left 0
+insert 1 67
+remove 0 4294967232
+only 1 4
+subset 1 0
+remove_all 1 1
+from_number 1 16 60
+words_cut 1 0
+equal 1 0
+insert_all 1 1
+from_words 1 8 0
+difference 1 1 1
+remove_all 1 1
+len 1
+number 1 128
+from_words 1 33
+iter 1 0
+next_back 1
+next_back 1
+next_back 1
+==
+ok
+ok
+ok
+true
+ok
+ok
+ok
+ok
+0
+K2 not a bit
+K2 not a bit
+ok
+false
+ok
+ok
+words
+false
+ok
+ok
+ok
+ok
+0
+0
+ok
+ok
+none
+none
+none
+--
+letters
+from_words_cut 0 4294967296 255 127
+words 0 3
+words 0 0
+number 0 64
+complement 1 0
+iter 1 2
+next 1
+next_back 1
+next_back 1
+next_back 1
+left 1
+next_back 0
+next_back 1
+next_back 1
+next_back 1
+next_back 1
+next 1
+from_words 3 99 0
+number 3 16
+number 3 64
+words 3 2
+from_words 2
+words 2 1
+number 2 16
+number_cut 2 8
+len 0
+from_number 3 16 2
+from_words 2 26 0
+disjoint 2 3
+superset 2 3
+equal 3 2
+intersection 1 0 1
+from_number 0 128 62
+from_words 3 3 0
+subset 3 0
+subset 0 3
+disjoint 0 3
+superset 3 0
+empty 0
+number_cut 0 8
+from_words_cut 0 26 1 0 0
+==
+ok
+words 0 0 0
+words
+0
+ok
+ok
+none
+none
+none
+none
+0
+none
+none
+none
+none
+none
+none
+ok
+99
+99
+words 99 0
+ok
+words 0
+0
+0
+0
+ok
+ok
+false
+true
+false
+ok
+ok
+ok
+false
+false
+false
+false
+false
+62
+ok
 ";

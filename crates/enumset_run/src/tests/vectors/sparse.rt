@@ -810,4 +810,346 @@ ok
 ok
 bit 10
 ok
+--
+sparse
+union 3 3 0
+words 3 255
+from_words 2 1074791424 9223372036854775808
+iter 0 2
+next 0
+next 0
+next 0
+from_number_cut 2 128 340282366920938463463374607431768211455
+difference 1 0 1
+from_words_cut 1 1074791424 9223372036854775808
+number_cut 1 32
+words 1 4
+words 1 2
+from_words_cut 0 1073742848 9223372036854775808 0 0 0
+from_number 1 128 170141183460469231731687303716958896256
+superset 4 4
+only 1 4294967295
+from_number 0 63 340282366920938463463374607431768211455
+from_words 2 1024 9223372036854775808
+from_number 0 128 170141183460469231731687303715884105728
+union 1 2 0
+len 1
+complement 0 3
+from_words 3 1074791424 9223372036854775808 0
+from_words 2 1073741824 9223372036854775808
+equal 3 2
+remove 3 127
+insert 3 20
+insert 3 20
+iter 1 0
+next_back 1
+next 1
+iter 0 0
+remove 0 20
+empty 2
+remove 0 127
+insert 0 20
+insert 3 30
+insert 3 20
+insert 3 10
+remove 0 10
+clear 3
+iter 1 3
+new 3
+next 1
+left 1
+iter 0 3
+next 1
+next_back 1
+next_back 1
+next 1
+next_back 1
+iter 0 3
+next 1
+all 3
+==
+ok
+words 0 0 0 0 0 0 0 0 0 0 0 0 0 0 0 0 0 0 0 0 0 0 0 0 0 0 0 0 0 0 0 0 0 0 0 0 0 0 0 0 0 0 0 0 0 0 0 0 0 0 0 0 0 0 0 0 0 0 0 0 0 0 0 0 0 0 0 0 0 0 0 0 0 0 0 0 0 0 0 0 0 0 0 0 0 0 0 0 0 0 0 0 0 0 0 0 0 0 0 0 0 0 0 0 0 0 0 0 0 0 0 0 0 0 0 0 0 0 0 0 0 0 0 0 0 0 0 0 0 0 0 0 0 0 0 0 0 0 0 0 0 0 0 0 0 0 0 0 0 0 0 0 0 0 0 0 0 0 0 0 0 0 0 0 0 0 0 0 0 0 0 0 0 0 0 0 0 0 0 0 0 0 0 0 0 0 0 0 0 0 0 0 0 0 0 0 0 0 0 0 0 0 0 0 0 0 0 0 0 0 0 0 0 0 0 0 0 0 0 0 0 0 0 0 0 0 0 0 0 0 0 0 0 0 0 0 0 0 0 0 0 0 0 0 0 0 0 0 0 0 0 0 0 0 0
+ok
+ok
+bit 10
+bit 20
+bit 30
+ok
+ok
+ok
+1074791424
+words 1074791424 9223372036854775808 0 0
+words 1074791424 9223372036854775808
+ok
+none
+K1 no register
+K2 not a bit
+K3 not a width
+ok
+ok
+ok
+2
+ok
+ok
+ok
+false
+true
+false
+false
+ok
+bit 127
+bit 10
+ok
+true
+false
+true
+true
+false
+false
+false
+true
+ok
+ok
+ok
+none
+0
+ok
+none
+none
+none
+none
+none
+ok
+none
+ok
+--
+sparse
+insert 1 10
+insert 1 30
+insert 1 158
+insert 1 20
+remove 1 10
+remove 2 20
+insert 2 10
+insert 2 10
+insert 2 20
+remove 2 30
+remove 2 127
+superset 1 1
+from_words 0 1073741824 9223372036854775808
+from_words 3 1024 9223372036854775808
+disjoint 3 0
+equal 0 3
+disjoint 0 3
+number_cut 127 128
+insert 3 30
+disjoint 3 2
+from_number 3 64 1024
+clear 2
+insert 2 10
+equal 3 2
+superset 2 3
+superset 3 2
+subset 3 2
+remove 1 127
+from_words 3 1049600 9223372036854775808
+from_number 0 128 170141183460469231731687303715884105728
+superset 3 0
+disjoint 3 0
+superset 0 3
+subset 0 3
+disjoint 0 3
+difference 0 2 3
+from_words 1 17329726523359667184 0 18446744073709551615 4534876219644144689 0
+==
+true
+true
+K2 not a bit
+true
+true
+false
+true
+false
+true
+false
+false
+true
+ok
+ok
+false
+false
+false
+K1 no register
+true
+false
+ok
+ok
+true
+true
+true
+true
+true
+false
+ok
+ok
+true
+false
+false
+true
+false
+ok
+none
+--
+sparse
+remove_all 255 0
+equal 255 0
+len 255
+remove 0 20
+from_number 1 8 255
+union 0 0 4
+from_words 4
+words 1 2
+from_number_cut 1 128 1073742848
+next_back 1
+number_cut 1 32
+empty 0
+all 0
+new 0
+from_number 3 128 170141183460469231731687303715885155328
+difference 2 3 3
+number_cut 2 64
+words_cut 2 2
+from_words 3 1073742848 0
+from_number 1 128 0
+union 1 3 1
+number_cut 1 64
+len 1
+words 1 3
+insert 5 10
+contains 1 52
+superset 1 1
+symmetric 0 0 0
+iter 1 1
+from_words 0 1074791424 9223372036854775808
+==
+K1 no register
+K1 no register
+K1 no register
+false
+none
+K1 no register
+K1 no register
+words 0 0
+ok
+none
+1073742848
+true
+ok
+ok
+ok
+ok
+0
+words 0 0
+ok
+ok
+ok
+1073742848
+2
+words 1073742848 0 0
+K1 no register
+K2 not a bit
+true
+ok
+ok
+ok
+--
+sparse
+from_words_cut 2 128 128 4294967296 0 18446744073709551615
+number_cut 2 64
+words 2 4
+words_cut 2 4
+from_number 0 128 170141183460469231731687303715884105728
+words 0 3
+number_cut 0 32
+words 0 4
+from_number 3 128 170141183460469231731687303716957847552
+from_number 1 128 170141183460469231731687303716958896128
+disjoint 1 3
+superset 1 3
+subset 1 3
+superset 3 1
+only 2 10
+iter 1 3
+iter 0 3
+next_back 1
+next 1
+left 1
+next 1
+next_back 1
+union 1 1 0
+number 0 128
+len 2
+subset 0 0
+from_words 2 18446744073709551615 18446744073709551615
+number_cut 2 64
+words_cut 2 4
+number 2 64
+new 2
+from_words 3 1048576 9223372036854775809
+difference 3 1 1
+equal 0 3
+words 0 1
+from_number 2 128 1073742848
+from_words 3 1073742848 0
+disjoint 3 2
+superset 2 3
+superset 3 2
+disjoint 2 3
+from_words_cut 2 0 0 0 0 0 0 0 0 0 0 0 0 0 0 0 0 0 0 0 0 0 0 0 0 0 0 0 0 0 0 0 0 0 0 0 0 0 0 0 0 0 0 0 0 0 0 0 0 0 0 0 0 0 0 0 0 0 0 0 0 0 1 0 0 0 0 0 0 0 0 0 0 0 0 0 0 0 0 0 0 0 0 0 0 0 0 0 0 0 0 0 0 0 0 0 0 0 0 0 0 0 0 0 0 0 0 0 0 0 0 0 0 0 0 0 0 0 0 0 0 0 0 0 0 0 0 0 0 0 0 0 0 0 0 0 0 0 0 0 0 0 0 0 0 0 0 0 0 0 0 0 0 0 0 0 0 0 0 0 0 0 0 0 0 0 0 0 0 0 0 0 0 0 0 0 0 0 0 0 0 0 0 0 0 0 0 0 0 0 0 0 0 0 0 0 0 0 0 0 0 0 0 0 0 0 0 0 0 0 0 0 0 0 0 0 0 0 0 0 0 0 0 0 0 0 0 0 0 0 0 0 0 0 0 0 0 0 0 0 0 0 0 0 0 0 0 0 0 0 0 0 0 0 0 0 0 0 0 0 0 0 0 0 0 0 0 0 0 0 0 0 0 0 0 0 0 0 0 0 0 0 0 0 0 0 0 0 0 0 0 0 0 0 0 0 0 0 0 0 0
+disjoint 0 0
+==
+ok
+0
+words 0 0 0 0
+words 0 0 0 0
+ok
+words 0 9223372036854775808 0
+0
+words 0 9223372036854775808 0 0
+ok
+ok
+false
+true
+false
+false
+ok
+ok
+ok
+bit 127
+bit 30
+0
+none
+none
+ok
+170141183460469231731687303715884105728
+1
+true
+none
+1024
+words 1024 0 0 0
+1024
+ok
+none
+ok
+false
+none
+ok
+ok
+false
+true
+true
+false
+ok
+false
 ";

@@ -902,4 +902,312 @@ false
 ok
 ok
 K1 no register
+--
+wide
+remove 0 64
+superset 0 128
+all 1
+subset 1 1
+clear 0
+words_cut 0 5
+from_words 1 8
+insert 0 130
+intersection 0 1 1
+equal 0 1
+iter 1 4
+from_number 9 8 256
+from_number 1 8 255
+number 9 8
+only 255 146
+iter 3 255
+from_number_cut 3 128 340282366920938463463374607431768211455
+insert 0 3
+insert 0 3
+insert 0 3
+remove 0 64
+insert 0 64
+insert 0 130
+new 1
+left 1
+empty 1
+from_number_cut 0 128 340282366920938463463374607431768211455
+from_words 1 8 1
+from_number 2 8 8
+symmetric 2 1 2
+number_cut 2 64
+words_cut 2 2
+remove 2 3
+remove 2 130
+insert 2 3
+only 0 64
+symmetric 1 1 1
+next 1
+from_number 0 16 0
+iter 1 0
+left 1
+next_back 1
+next 1
+next 1
+next 1
+left 1
+left 1
+next_back 1
+clear 0
+insert 0 3
+insert 0 130
+iter 0 0
+==
+false
+K1 no register
+ok
+true
+ok
+words 0 0 0 0 0
+ok
+true
+ok
+true
+K1 no register
+K1 no register
+none
+K1 no register
+K1 no register
+K1 no register
+ok
+false
+false
+false
+false
+true
+true
+ok
+0
+true
+ok
+ok
+ok
+ok
+0
+words 0 1
+false
+false
+true
+ok
+ok
+none
+ok
+ok
+0
+none
+none
+none
+none
+0
+0
+none
+ok
+true
+true
+ok
+--
+wide
+clear 0
+insert 0 130
+from_words 3 8 0 4
+subset 3 0
+disjoint 0 3
+equal 0 3
+disjoint 3 0
+subset 0 3
+intersection 0 0 0
+from_number 1 128 18446744073709551616
+iter 1 1
+next 1
+next_back 1
+from_number_cut 1 64 18446744073709551617
+next 1
+next 1
+next 1
+left 1
+next 1
+next 1
+left 1
+next_back 1
+left 1
+disjoint 1 0
+from_words 2 0 0 4 0
+words 2 0
+number 2 64
+words_cut 2 4
+from_words_cut 1 8 0 4 0 1
+words 1 1
+number_cut 1 64
+number_cut 1 32
+only 1 3
+from_number 2 8 8
+iter 1 2
+iter 0 2
+iter 0 2
+next 1
+from_number_cut 2 8 128
+left 1
+from_number_cut 0 128 0
+number_cut 0 64
+words_cut 0 2
+number 0 32
+words 1 0
+iter 0 2
+from_number_cut 2 128 18446744073709551624
+next_back 0
+next_back 0
+next_back 1
+len 2
+remove 2 3
+left 0
+next_back 0
+==
+ok
+true
+ok
+false
+false
+false
+false
+true
+ok
+ok
+ok
+bit 64
+none
+K3 not a width
+none
+none
+none
+0
+none
+none
+0
+none
+0
+true
+ok
+none
+none
+words 0 0 4 0
+ok
+none
+8
+8
+ok
+ok
+ok
+ok
+ok
+bit 3
+ok
+0
+ok
+0
+words 0 0
+0
+none
+ok
+ok
+none
+none
+none
+2
+true
+0
+none
+--
+wide
+insert_all 3 1
+iter 255 0
+from_number 1 8 255
+remove 9 4294967295
+union 2 3 0
+next 0
+difference 2 0 1
+words 0 5
+left 0
+from_number 0 16 0
+number 0 64
+words_cut 0 4
+words 0 0
+from_words 1 8 0 4
+from_number 0 128 18446744073709551624
+subset 1 0
+subset 0 1
+disjoint 0 1
+superset 1 0
+subset 2 2
+insert 3 130
+from_words 1 8 1 4 0
+==
+ok
+K1 no register
+none
+K1 no register
+ok
+none
+ok
+words 0 0 0 0 0
+0
+ok
+0
+words 0 0 0 0
+words
+ok
+ok
+false
+false
+false
+false
+true
+true
+ok
+--
+wide
+iter 1 3
+next 1
+remove 3 4294967295
+new 3
+next_back 1
+next 1
+next_back 1
+iter 0 3
+next 1
+next_back 1
+next_back 1
+from_words 0 8 0 4
+iter 1 0
+new 0
+insert 0 3
+next_back 0
+iter 0 0
+all 0
+next 1
+left 1
+==
+ok
+none
+K2 not a bit
+ok
+none
+none
+none
+ok
+none
+none
+none
+ok
+ok
+ok
+true
+none
+ok
+ok
+bit 3
+1
 ";
