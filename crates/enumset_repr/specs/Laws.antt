@@ -6,6 +6,7 @@
 --     Equality      `is_same` is an equivalence
 --     Numbers      sets and numbers, over every width
 --     Ends      the least and the greatest member
+--     Order      the order of two sets
 --     Words      words of 64 bits
 --     Low      what a cut at a width leaves, and which sets and numbers fit one
 --     WordLists      lists of words of 64 bits, and the words of a set
@@ -18,6 +19,7 @@ pub mod Rising
 pub mod Equality
 pub mod Numbers
 pub mod Ends
+pub mod Order
 pub mod Steps
 pub mod Words
 pub mod Integers

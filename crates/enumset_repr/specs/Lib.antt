@@ -2,5 +2,6 @@ pub mod BitSet
 pub mod Number
 pub mod Words
 pub mod Ends
+pub mod Order
 pub mod Primitives
 pub mod Laws

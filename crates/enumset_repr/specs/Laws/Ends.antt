@@ -1,6 +1,7 @@
 -- The least and the greatest member.
 --     least-is, greatest-is      the member that has none before it, or none past it
 --     least-empty, greatest-empty      the empty set has neither
+--     greatest_facts      the greatest is a member, and none is past it
 --     rising-least, rising-greatest      the least comes first, and the greatest last
 --     trailing-least, leading-greatest      what `trailing_zeros` and `leading_zeros` count: `TrailingLaw` and `LeadingLaw`, over the width
 --     at_the_ends      the ends of a set, for `using`
@@ -95,7 +96,7 @@ last_facts : (k : ℕ) (xs : List ℕ) (m : ℕ) → RisesFrom k xs → last_or 
 last_facts k [] m rises last = absurd (no_item m last)
 last_facts k (x ∷ xs) m rises last = (last_or-is_in x xs m last, λ q one. last_or-from k x xs m q rises last one)
 
-greatest_facts : (s : BitSet) (m : ℕ) → greatest s ≡ Some m → (contains s m ≡ true) × ((q : ℕ) → m < q → contains s q ≡ false)
+pub greatest_facts : (s : BitSet) (m : ℕ) → greatest s ≡ Some m → (contains s m ≡ true) × ((q : ℕ) → m < q → contains s q ≡ false)
 unfolding greatest
 greatest_facts s m last =
     let facts = last_facts 0 (rising s) m (rising-rises s) last in (

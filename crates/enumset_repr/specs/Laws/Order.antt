@@ -1,0 +1,177 @@
+-- The order of two sets.
+--     compare-ranks      what `compare` answers, by the numbers of the sets
+--     compare-total, compare-same      it is a total order;  it is equal only for equal sets
+--     compare-number      the greater set has the greater number
+--     compare-subset      a proper subset is less
+--     compare-turned      for subsets of one set, taking each from it turns the order round
+--     same-compare, compare-partial      it goes with `is_same`
+--     compare-alike      sets with the same greatest difference, which the first holds in both or in none, compare alike
+use Rattle.std.proofs.Common.{◌≡◌, ◌≢◌, ◌<◌, ℕ, suc, ◌+◌, ◌*◌, ◌/◌, ◌%◌, ◌^◌, Bool, true, false, cond, not, ◌&&◌, ◌||◌, Option, Some, None, refl, sym, ap, subst, ◌∙◌, arith, true≢false, suc-mul}
+use Rattle.std.specs.Prelude.{◌==◌, ◌↔◌}
+use Rattle.std.specs.declared.cmp.Ordering.{Ordering}
+use Rattle.std.specs.declared.cmp.Ordering.TheVariants.{Less, Equal, Greater}
+use Rattle.std.specs.Ordering.{MatchOrdering, is_eq, nat_cmp}
+use Rattle.std.specs.Cmp.{IsTotalOrder, IsPartialOrder, strict, one_rank, ranks, below_irrefl, below_chain, partial_order_from_agreeing_total, Equal-is, tied_itself}
+use Rattle.std.specs.Bool.{one_answer}
+use Rattle.std.proofs.lemmas.Bool.{eqb-true}
+use Rattle.std.proofs.lemmas.Bool.Decides.{nat_tests}
+use Rattle.std.proofs.lemmas.Nat.{pow_pos, shr-shr, shr_split, mod_below}
+use Rattle.std.proofs.lemmas.Nat.Bits.{bit_at-lt}
+use Rattle.enumset_repr.specs.BitSet.{BitSet, contains, symmetric_difference, difference, is_subset, is_same}
+use Rattle.enumset_repr.specs.Ends.{greatest}
+use Rattle.enumset_repr.specs.Number.{number, bits}
+use Rattle.enumset_repr.specs.Order.{deciding, by_holder, compare}
+use Rattle.enumset_repr.specs.Laws.Members.{same_set, contains-empty, contains-symmetric_difference, contains-difference, is_subset-contains, is_same_iff}
+use Rattle.enumset_repr.specs.Laws.Ends.{greatest_facts, rising-no_greatest}
+use Rattle.enumset_repr.specs.Laws.Rising.{empty_of_rising}
+use Rattle.enumset_repr.specs.Laws.Numbers.{contains-bits, contains-bits-shifted, bits-number, number-bits}
+
+-- ---- by the bits of a number
+
+-- numbers with the same bits are one
+same_number : (n k : ℕ) → ((q : ℕ) → contains (bits n) q ≡ contains (bits k) q) → n ≡ k
+same_number n k same = sym (number-bits n) ∙ ap number (same_set _ _ same) ∙ number-bits k
+
+clear_digit : (d : ℕ) → d < 2 → (d == 1) ≡ false → d ≡ 0
+clear_digit d small clear = grind (arith, nat_tests)
+
+-- the lesser number has no bit m, which the other has, where they agree above it
+lesser : (n k m : ℕ) → contains (bits n) m ≡ false → contains (bits k) m ≡ true → ((q : ℕ) → m < q → contains (bits n) q ≡ contains (bits k) q) → n < k
+lesser n k m absent present alike =
+    let upper : n / 2 ^ (m + 1) ≡ k / 2 ^ (m + 1) = same_number _ _ (λ b. contains-bits-shifted n (m + 1) b ∙ alike (m + 1 + b) (omega arith) ∙ sym (contains-bits-shifted k (m + 1) b)) in
+    let halved : n / 2 ^ m / 2 ≡ k / 2 ^ m / 2 = shr-shr n m 1 ∙ upper ∙ sym (shr-shr k m 1) in
+    let clear : n / 2 ^ m % 2 ≡ 0 = clear_digit _ (bit_at-lt n m) (sym (contains-bits n m) ∙ absent) in
+    let one : k / 2 ^ m % 2 ≡ 1 = eqb-true _ 1 (sym (contains-bits k m) ∙ present) in
+    let next : k / 2 ^ m ≡ suc (n / 2 ^ m) = omega (arith, halved, clear, one) in
+    let more : k / 2 ^ m * 2 ^ m ≡ n / 2 ^ m * 2 ^ m + 2 ^ m = ap (λ q. q * 2 ^ m) next ∙ omega (arith, suc-mul (n / 2 ^ m) (2 ^ m)) in
+    omega (arith, more, shr_split n m, shr_split k m, mod_below n (2 ^ m) (pow_pos m))
+
+-- ---- by the members of two sets
+
+agrees : (a b : Bool) → ((a && not b) || (b && not a)) ≡ false → a ≡ b
+agrees true true none = refl
+agrees true false none = none
+agrees false true none = sym none
+agrees false false none = refl
+
+differs : (a b : Bool) → ((a && not b) || (b && not a)) ≡ true → b ≡ not a
+differs true true one = sym one
+differs true false one = refl
+differs false true one = refl
+differs false false one = absurd (true≢false (sym one))
+
+-- two sets compare by the number that one of them alone has, where they agree above it
+differs_at : (s t : BitSet) (m : ℕ) → deciding s t ≡ Some m → contains t m ≡ not (contains s m)
+differs_at s t m some = differs _ _ (sym (contains-symmetric_difference s t m) ∙ (greatest_facts _ m some).0)
+
+agrees_above : (s t : BitSet) (m : ℕ) → deciding s t ≡ Some m → (q : ℕ) → m < q → contains s q ≡ contains t q
+agrees_above s t m some q over = agrees _ _ (sym (contains-symmetric_difference s t q) ∙ (greatest_facts _ m some).1 q over)
+
+same_of_none : (s t : BitSet) → deciding s t ≡ None → s ≡ t
+same_of_none s t none = same_set s t (λ q. agrees _ _ (sym (contains-symmetric_difference s t q) ∙ ap (λ u. contains u q) (empty_of_rising _ (rising-no_greatest _ none)) ∙ contains-empty q))
+
+-- a set without m is the lesser, by its number, of two that agree above m
+lesser_set : (s t : BitSet) (m : ℕ) → contains s m ≡ false → contains t m ≡ true → ((q : ℕ) → m < q → contains s q ≡ contains t q) → number s < number t
+lesser_set s t m absent present alike =
+    lesser (number s) (number t) m (of s m ∙ absent) (of t m ∙ present) (λ q over. of s q ∙ alike q over ∙ sym (of t q))
+  where
+    of : (u : BitSet) (q : ℕ) → contains (bits (number u)) q ≡ contains u q
+    of u q = ap (λ v. contains v q) (bits-number u)
+
+ranks_by : (s t : BitSet) (o : Option ℕ) → deciding s t ≡ o → MatchOrdering (by_holder s o) (number s < number t) (s ≡ t) (number t < number s)
+ranks_by s t None none = same_of_none s t none
+ranks_by s t (Some m) some = elim (contains s m) as (λ b. contains s m ≡ b → MatchOrdering (cond b Greater Less) (number s < number t) (s ≡ t) (number t < number s)) [
+  | true ↦ λ held. lesser_set t s m (differs_at s t m some ∙ ap not held) held (λ q over. sym (agrees_above s t m some q over))
+  | false ↦ λ missed. lesser_set s t m missed (differs_at s t m some ∙ ap not missed) (agrees_above s t m some)
+] refl
+
+pub compare-ranks : (s t : BitSet) → MatchOrdering (compare s t) (number s < number t) (s ≡ t) (number t < number s)
+unfolding compare
+compare-ranks s t = ranks_by s t (deciding s t) refl
+
+-- ---- the laws
+
+irrefl_by_number : (s : BitSet) → ¬ (number s < number s)
+irrefl_by_number s = below_irrefl (number s)
+
+chain_by_number : (s t u : BitSet) → number s < number t → number t < number u → number s < number u
+chain_by_number s t u = below_chain (number s) (number t) (number u)
+
+pub compare-total : IsTotalOrder compare
+compare-total = strict (λ s t. number s < number t) irrefl_by_number chain_by_number compare compare-ranks
+
+compare-number_by : (s t : BitSet) (o : Ordering) → MatchOrdering o (number s < number t) (s ≡ t) (number t < number s) → MatchOrdering o (number s < number t) (number s ≡ number t) (number t < number s)
+compare-number_by s t Less less = less
+compare-number_by s t Equal same = ap number same
+compare-number_by s t Greater more = more
+
+pub compare-number : (s t : BitSet) → compare s t ≡ nat_cmp (number s) (number t)
+compare-number s t = one_rank (λ (x y : ℕ). x < y) below_irrefl below_chain (number s) (number t) _ _ (compare-number_by s t (compare s t) (compare-ranks s t)) (ranks (number s) (number t))
+
+-- two numbers compare as their sets do
+pub compare-bits : (n k : ℕ) → nat_cmp n k ≡ compare (bits n) (bits k)
+compare-bits n k = (λ i. nat_cmp (sym (number-bits n) i) (sym (number-bits k) i)) ∙ sym (compare-number (bits n) (bits k))
+
+pub compare-itself : (s : BitSet) → compare s s ≡ Equal
+compare-itself s = tied_itself compare-total s
+
+pub compare-same : (s t : BitSet) → compare s t ≡ Equal ↔ s ≡ t
+compare-same s t = (
+  λ tie. subst (λ o. MatchOrdering o (number s < number t) (s ≡ t) (number t < number s)) tie (compare-ranks s t),
+  λ same. ap (compare s) (sym same) ∙ compare-itself s,
+)
+
+-- ---- subsets
+
+-- a proper subset is less
+subset_by : (s t : BitSet) (o : Option ℕ) → deciding s t ≡ o → is_subset s t ≡ true → s ≢ t → by_holder s o ≡ Less
+subset_by s t None none sub apart = absurd (apart (same_of_none s t none))
+subset_by s t (Some m) some sub apart = elim (contains s m) as (λ b. contains s m ≡ b → cond b Greater Less ≡ Less) [
+  | true ↦ λ held. absurd (true≢false (sym (is_subset-contains s t sub m held) ∙ differs_at s t m some ∙ ap not held))
+  | false ↦ λ missed. refl
+] refl
+
+pub compare-subset : (s t : BitSet) → is_subset s t ≡ true → s ≢ t → compare s t ≡ Less
+unfolding compare
+compare-subset s t = subset_by s t (deciding s t) refl
+
+-- of two parts of u, what the one lacks and the other does not is what the other has and the one does not
+lacks_at : (a b c : Bool) → (a ≡ true → c ≡ true) → (b ≡ true → c ≡ true) → (((c && not a) && not (c && not b)) || ((c && not b) && not (c && not a))) ≡ ((b && not a) || (a && not b))
+lacks_at true true true p q = refl
+lacks_at true false true p q = refl
+lacks_at false true true p q = refl
+lacks_at false false true p q = refl
+lacks_at true b false p q = absurd (true≢false (sym (p refl)))
+lacks_at false true false p q = absurd (true≢false (sym (q refl)))
+lacks_at false false false p q = refl
+
+lacks : (u s t : BitSet) → is_subset s u ≡ true → is_subset t u ≡ true → symmetric_difference (difference u s) (difference u t) ≡ symmetric_difference t s
+lacks u s t sub also = same_set _ _
+    (λ q. contains-symmetric_difference _ _ q
+    ∙ (λ i. (contains-difference u s q i && not (contains-difference u t q i)) || (contains-difference u t q i && not (contains-difference u s q i)))
+    ∙ lacks_at _ _ _ (is_subset-contains s u sub q) (is_subset-contains t u also q) ∙ sym (contains-symmetric_difference t s q))
+
+-- what just one of two parts of u has, the rest of the other has
+held_at : (a b c : Bool) → (a ≡ true → c ≡ true) → (b ≡ true → c ≡ true) → a ≡ not b → (c && not a) ≡ b
+held_at true true c p q apart = absurd (true≢false apart)
+held_at true false c p q apart = ap (λ d. d && false) (p refl)
+held_at false true c p q apart = ap (λ d. d && true) (q refl)
+held_at false false c p q apart = absurd (true≢false (sym apart))
+
+turned_by : (u s t : BitSet) (o : Option ℕ) → deciding t s ≡ o → is_subset s u ≡ true → is_subset t u ≡ true → by_holder (difference u s) o ≡ by_holder t o
+turned_by u s t None none sub also = refl
+turned_by u s t (Some m) some sub also =
+    ap (λ b. cond b Greater Less) (contains-difference u s m ∙ held_at _ _ _ (is_subset-contains s u sub m) (is_subset-contains t u also m) (differs_at t s m some))
+
+-- for subsets of u, taking each from u turns the order round
+pub compare-turned : (u s t : BitSet) → is_subset s u ≡ true → is_subset t u ≡ true → compare (difference u s) (difference u t) ≡ compare t s
+unfolding compare
+compare-turned u s t sub also = ap (λ d. by_holder (difference u s) (greatest d)) (lacks u s t sub also) ∙ turned_by u s t (deciding t s) refl sub also
+
+-- ---- as `Ord` asks
+
+pub same-compare : (s t : BitSet) → is_same s t ≡ is_eq (compare s t)
+same-compare s t = one_answer (is_same s t) (is_eq (compare s t)) (λ tie. (compare-same s t).1 ((is_same_iff s t).0 tie), λ e. (is_same_iff s t).1 ((compare-same s t).0 e)) (Equal-is (compare s t))
+
+pub compare-partial : IsPartialOrder is_same (λ s t. Some (compare s t))
+compare-partial = partial_order_from_agreeing_total compare compare-total (λ s t. refl) same-compare
