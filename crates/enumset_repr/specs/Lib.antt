@@ -3,5 +3,4 @@ pub mod Number
 pub mod Words
 pub mod Ends
 pub mod Order
-pub mod Primitives
 pub mod Laws

@@ -1,4 +1,4 @@
-//! The five unsigned integers: a value is the set of the numbers of the bits that are set.
+//! The five unsigned integers as stores: a value is the set of the numbers of the bits that are set.
 
 mod on_u128;
 mod on_u16;

@@ -1,41 +1,46 @@
--- The integers as stores: the laws of `IsPrimitive`, proved once over the width, and what an integer's own calls want.
---     integer      the laws
+-- An integer of a width as a store: the laws of the store, in the form in which it asks for them, proved once over the width.
+--     within_width, number_of_bits, equal_bits      the members are below the width;  the number of a number's set;  numbers are equal if their sets are
+--     and_is, or_is, xor_is, not_is      the operators
 --     word-.., with_word-..      a word, and a number with a word replaced, at a width up to 64 bits and at 128
 --     on_8, .., on_128      what the calls of an integer want, for `using`
-use Rattle.std.proofs.Common.{◌≡◌, ◌<◌, ◌≤◌, ℕ, ◌*◌, ◌/◌, ◌%◌, ◌^◌, ◌-◌, sym, ap, ◌∙◌, arith, ◌↔◌}
-use Rattle.std.specs.Prelude.{◌==◌, IsTrue, ⊤}
+use Rattle.std.proofs.Common.{◌≡◌, ◌<◌, ◌≤◌, ℕ, ◌*◌, ◌/◌, ◌%◌, ◌^◌, ◌-◌, sym, ap, ◌∙◌, arith, ◌↔◌, not}
+use Rattle.std.specs.Prelude.{◌==◌, IsTrue}
 use Rattle.std.specs.Int.{bit_not, Width, w8, w16, w32, w64, w128}
 use Rattle.std.specs.Int.RustNames.{bit_and, bit_or, bit_xor}
 use mir.Val.{bits as width_bits}
 use Rattle.std.proofs.lemmas.Bool.{eqb-true, eq-eqb}
 use Rattle.std.proofs.lemmas.Nat.{and_mask}
-use Rattle.enumset_repr.specs.BitSet.{only}
+use Rattle.enumset_repr.specs.BitSet.{contains, insert, remove, intersection, union, symmetric_difference, difference, is_subset, below}
 use Rattle.enumset_repr.specs.Number.{number, bits}
 use Rattle.enumset_repr.specs.Words.{word, with_word}
-use Rattle.enumset_repr.specs.Primitives.{IsPrimitive}
-use Rattle.enumset_repr.specs.Laws.Numbers.{number-bits, bits-within, bits-zero, bits-and, bits-or, bits-xor, bits-not, bits-one, len-bits}
+use Rattle.enumset_repr.specs.Laws.Numbers.{number-bits, bits-within, bits-and, bits-or, bits-xor, bits-not, bits-and_not, bits-set, bits-clear, bits-test, on_numbers}
 use Rattle.enumset_repr.specs.Laws.Ends.{TrailingLaw, LeadingLaw, trailing-least, leading-greatest}
 use Rattle.enumset_repr.specs.Laws.Words.{word-bits, bits-put_low, bits-put_word}
 
-equal_bits : (a b : ℕ) → IsTrue (a == b) ↔ (bits a ≡ bits b)
-equal_bits a b = (λ same. ap bits (eqb-true a b same), λ same. eq-eqb a b (sym (number-bits a) ∙ ap number same ∙ number-bits b))
+module _ (w : Width) where
+  abbrev Fits : ℕ → Type 0
+  Fits n = n < 2 ^ width_bits w
 
--- a number of a width is the set of its bits
-pub integer : (w : Width) → IsPrimitive bits number (λ n. n < 2 ^ width_bits w) (width_bits w) 0 ◌==◌ (λ _ _. ⊤) (λ _ _. ⊤) (λ _ _. ⊤) (λ _. ⊤) (λ a b r. r ≡ bit_and a b) (λ a b r. r ≡ bit_or a b) (λ a b r. r ≡ bit_xor a b) (λ a r. r ≡ bit_not w a)
-integer w = record {
-  zero_is = bits-zero;
-  within = λ a fits. bits-within a (width_bits w) fits;
-  inverse = λ a fits. number-bits a;
-  eq_is = equal_bits;
-  can_and = λ _ _. tt;
-  can_or = λ _ _. tt;
-  can_xor = λ _ _. tt;
-  can_not = λ _. tt;
-  and_is = λ a b r e. ap bits e ∙ bits-and a b;
-  or_is = λ a b r e. ap bits e ∙ bits-or a b;
-  xor_is = λ a b r e. ap bits e ∙ bits-xor a b;
-  not_is = λ a r fits e. ap bits e ∙ bits-not w a fits;
-}
+  pub within_width : (a : ℕ) → Fits a → IsTrue (is_subset (bits a) (below (width_bits w)))
+  within_width a fits = bits-within a (width_bits w) fits
+
+  pub number_of_bits : (a : ℕ) → Fits a → number (bits a) ≡ a
+  number_of_bits a fits = number-bits a
+
+  pub equal_bits : (a b : ℕ) → Fits a → Fits b → IsTrue (a == b) ↔ (bits a ≡ bits b)
+  equal_bits a b p q = (λ same. ap bits (eqb-true a b same), λ same. eq-eqb a b (sym (number-bits a) ∙ ap number same ∙ number-bits b))
+
+  pub and_is : (a b r : ℕ) → Fits a → Fits b → r ≡ bit_and a b → bits r ≡ intersection (bits a) (bits b)
+  and_is a b r p q e = ap bits e ∙ bits-and a b
+
+  pub or_is : (a b r : ℕ) → Fits a → Fits b → r ≡ bit_or a b → bits r ≡ union (bits a) (bits b)
+  or_is a b r p q e = ap bits e ∙ bits-or a b
+
+  pub xor_is : (a b r : ℕ) → Fits a → Fits b → r ≡ bit_xor a b → bits r ≡ symmetric_difference (bits a) (bits b)
+  xor_is a b r p q e = ap bits e ∙ bits-xor a b
+
+  pub not_is : (a r : ℕ) → Fits a → r ≡ bit_not w a → bits r ≡ difference (below (width_bits w)) (bits a)
+  not_is a r p e = ap bits e ∙ bits-not w a p
 
 -- ---- words
 
@@ -76,11 +81,29 @@ pub ruleset words_wide = (word-shifted, with_word-wide)
 
 -- ---- what the calls of an integer want, at each width: a tactic reads no width off a numeral
 
-abbrev OneLaw : Width → Type 0
-OneLaw w = (k : ℕ) → k < width_bits w → bits (1 * 2 ^ k % 2 ^ width_bits w) ≡ only k
+abbrev SetLaw : Width → Type 0
+SetLaw w = (n k : ℕ) → n < 2 ^ width_bits w → k < width_bits w → bits (bit_or n (1 * 2 ^ k % 2 ^ width_bits w)) ≡ insert (bits n) k
 
-pub one_8 : OneLaw w8
-one_8 = bits-one w8
+abbrev ClearLaw : Width → Type 0
+ClearLaw w = (n k : ℕ) → n < 2 ^ width_bits w → k < width_bits w → bits (bit_and n (bit_not w (1 * 2 ^ k % 2 ^ width_bits w))) ≡ remove (bits n) k
+
+abbrev TestLaw : Width → Type 0
+TestLaw w = (n k : ℕ) → k < width_bits w → contains (bits n) k ≡ not (bit_and n (1 * 2 ^ k % 2 ^ width_bits w) == 0)
+
+abbrev AndNotLaw : Width → Type 0
+AndNotLaw w = (a b : ℕ) → a < 2 ^ width_bits w → b < 2 ^ width_bits w → bits (bit_and a (bit_not w b)) ≡ difference (bits a) (bits b)
+
+pub set_8 : SetLaw w8
+set_8 = bits-set w8
+
+pub clear_8 : ClearLaw w8
+clear_8 = bits-clear w8
+
+pub test_8 : TestLaw w8
+test_8 = bits-test w8
+
+pub and_not_8 : AndNotLaw w8
+and_not_8 = bits-and_not w8
 
 pub trailing_8 : TrailingLaw w8
 trailing_8 = trailing-least w8
@@ -88,10 +111,19 @@ trailing_8 = trailing-least w8
 pub leading_8 : LeadingLaw w8
 leading_8 = leading-greatest w8
 
-pub ruleset on_8 = (len-bits, one_8, trailing_8, leading_8, words_narrow)
+pub ruleset on_8 = (on_numbers, set_8, clear_8, test_8, and_not_8, trailing_8, leading_8, words_narrow)
 
-pub one_16 : OneLaw w16
-one_16 = bits-one w16
+pub set_16 : SetLaw w16
+set_16 = bits-set w16
+
+pub clear_16 : ClearLaw w16
+clear_16 = bits-clear w16
+
+pub test_16 : TestLaw w16
+test_16 = bits-test w16
+
+pub and_not_16 : AndNotLaw w16
+and_not_16 = bits-and_not w16
 
 pub trailing_16 : TrailingLaw w16
 trailing_16 = trailing-least w16
@@ -99,10 +131,19 @@ trailing_16 = trailing-least w16
 pub leading_16 : LeadingLaw w16
 leading_16 = leading-greatest w16
 
-pub ruleset on_16 = (len-bits, one_16, trailing_16, leading_16, words_narrow)
+pub ruleset on_16 = (on_numbers, set_16, clear_16, test_16, and_not_16, trailing_16, leading_16, words_narrow)
 
-pub one_32 : OneLaw w32
-one_32 = bits-one w32
+pub set_32 : SetLaw w32
+set_32 = bits-set w32
+
+pub clear_32 : ClearLaw w32
+clear_32 = bits-clear w32
+
+pub test_32 : TestLaw w32
+test_32 = bits-test w32
+
+pub and_not_32 : AndNotLaw w32
+and_not_32 = bits-and_not w32
 
 pub trailing_32 : TrailingLaw w32
 trailing_32 = trailing-least w32
@@ -110,10 +151,19 @@ trailing_32 = trailing-least w32
 pub leading_32 : LeadingLaw w32
 leading_32 = leading-greatest w32
 
-pub ruleset on_32 = (len-bits, one_32, trailing_32, leading_32, words_narrow)
+pub ruleset on_32 = (on_numbers, set_32, clear_32, test_32, and_not_32, trailing_32, leading_32, words_narrow)
 
-pub one_64 : OneLaw w64
-one_64 = bits-one w64
+pub set_64 : SetLaw w64
+set_64 = bits-set w64
+
+pub clear_64 : ClearLaw w64
+clear_64 = bits-clear w64
+
+pub test_64 : TestLaw w64
+test_64 = bits-test w64
+
+pub and_not_64 : AndNotLaw w64
+and_not_64 = bits-and_not w64
 
 pub trailing_64 : TrailingLaw w64
 trailing_64 = trailing-least w64
@@ -121,10 +171,19 @@ trailing_64 = trailing-least w64
 pub leading_64 : LeadingLaw w64
 leading_64 = leading-greatest w64
 
-pub ruleset on_64 = (len-bits, one_64, trailing_64, leading_64, words_narrow)
+pub ruleset on_64 = (on_numbers, set_64, clear_64, test_64, and_not_64, trailing_64, leading_64, words_narrow)
 
-pub one_128 : OneLaw w128
-one_128 = bits-one w128
+pub set_128 : SetLaw w128
+set_128 = bits-set w128
+
+pub clear_128 : ClearLaw w128
+clear_128 = bits-clear w128
+
+pub test_128 : TestLaw w128
+test_128 = bits-test w128
+
+pub and_not_128 : AndNotLaw w128
+and_not_128 = bits-and_not w128
 
 pub trailing_128 : TrailingLaw w128
 trailing_128 = trailing-least w128
@@ -132,4 +191,4 @@ trailing_128 = trailing-least w128
 pub leading_128 : LeadingLaw w128
 leading_128 = leading-greatest w128
 
-pub ruleset on_128 = (len-bits, one_128, trailing_128, leading_128, words_wide)
+pub ruleset on_128 = (on_numbers, set_128, clear_128, test_128, and_not_128, trailing_128, leading_128, words_wide)

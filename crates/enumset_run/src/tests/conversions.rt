@@ -1,5 +1,4 @@
-//! Sets to and from numbers, store values and words, at each worked type. Sets of `Wide` stand in functions over every
-//! element type alone, as no other function may hold one.
+//! Sets to and from numbers, store values and words, at each worked type.
 
 use super::sending::{as_byte, granted_by, sent_and_read};
 use crate::letters::Letters;

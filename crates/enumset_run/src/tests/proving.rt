@@ -4,6 +4,7 @@ ghost use Rattle.std.specs.Prelude.{◌≡◌, true, false};
 ghost use Rattle.enumset_repr.specs.BitSet as set;
 
 use crate::letters::Letters;
+use crate::wide::Wide;
 use enumset_sets::element::EnumSetType;
 use enumset_sets::enum_set::EnumSet;
 
@@ -37,10 +38,18 @@ pub fn copied<T: EnumSetType>(granted: &EnumSet<T>) -> EnumSet<T>
     copy
 }
 
+/// Whether all that is asked for was granted, at an enum over words.
+pub fn may(granted: &EnumSet<Wide>, asked: EnumSet<Wide>) -> bool
+    ensures { result ≡ set.is_subset asked granted.now }
+{
+    granted.is_superset(asked)
+}
+
 #[test]
 #[tactic(auto, using(enumset_repr::specs::Laws::Algebra::algebra))]
 fn users_functions_answer(rt: HostRuntime) {
     let mut granted = EnumSet::<Letters>::new();
     grant_then_revoke(&mut granted, Letters::C);
     assert!(rt; is_apart_from_the_rest(&granted) && copied(&granted).is_empty());
+    assert!(rt; may(&EnumSet::all(), EnumSet::only(Wide::Q)));
 }
