@@ -6,9 +6,11 @@
 #![tactic(auto)]
 
 pub mod conversions;
+mod folds;
 pub mod mixed_enum_set;
 pub mod mixed_enum_set_iter;
 pub mod mixed_value;
+mod operators;
 
 pub use conversions::convert_mixed;
 pub use mixed_enum_set::MixedEnumSet;

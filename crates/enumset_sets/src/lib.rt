@@ -7,9 +7,11 @@
 pub mod element;
 pub mod enum_set;
 pub mod enum_set_iter;
+mod folds;
 pub mod laws;
 mod macros;
 mod numbers;
+mod operators;
 pub mod raw;
 pub mod store;
 mod taken;

@@ -1,0 +1,7 @@
+use Rattle.std.proofs.Common.{◌≡◌}
+use Rattle.enumset_sets.specs.Folds.{union_all}
+use Rattle.enumset_sets.proofs.folds.EnumSetSum.sum.Given as goal
+
+-- the sets so far were put in
+abbrev pub invariant-loop-set : goal.invariant-loop-set
+invariant-loop-set g l = l.all ≡ union_all l.yielded

@@ -1,0 +1,42 @@
+-- Folds, as a loop takes them: over nothing, and over one thing more at the end.
+--     from_list_none, from_list_more, from_list_taken      the set of a list's numbers
+--     union_all_none, union_all_more      the members of any set of a list
+--     all_of_extended      what the empty set is extended to
+-- The ruleset `folds` holds them, and what a union is with nothing and with one number more.
+use Rattle.std.proofs.Common.{◌≡◌, ◌<◌, ◌+◌, ℕ, List, [], ◌∷◌, ◌++◌, length, take, get_or, map, refl, sym, ap, ◌∙◌}
+use Rattle.std.proofs.lemmas.List.{take_more}
+use Rattle.enumset_repr.specs.BitSet.{BitSet, empty, insert, from_list, union}
+use Rattle.enumset_repr.specs.Laws.Algebra.{union_empty, empty_union, union_insert, union_assoc, insert_comm}
+use Rattle.enumset_sets.specs.Folds.{union_all}
+
+pub from_list_none : from_list [] ≡ empty
+unfolding from_list
+from_list_none = refl
+
+pub from_list_more : {A : Type 0} (f : A → ℕ) (xs : List A) (x : A) → from_list (map f (xs ++ x ∷ [])) ≡ insert (from_list (map f xs)) (f x)
+unfolding from_list
+from_list_more f [] x = refl
+from_list_more f (y ∷ ys) x =
+    ap (λ s. insert s (f y)) (from_list_more f ys x) ∙ insert_comm (from_list (map f ys)) (f x) (f y)
+
+-- the same along a list, one place further
+pub from_list_taken : {A : Type 0} (f : A → ℕ) (xs : List A) (i : ℕ) (x : A) → i < length xs → x ≡ get_or xs i x → from_list (map f (take (i + 1) xs)) ≡ insert (from_list (map f (take i xs))) (f x)
+from_list_taken f xs i x within is =
+    ap (λ ys. from_list (map f ys)) (take_more xs i x within)
+    ∙ from_list_more f (take i xs) (get_or xs i x)
+    ∙ ap (λ y. insert (from_list (map f (take i xs))) (f y)) (sym is)
+
+pub union_all_none : union_all [] ≡ empty
+unfolding union_all
+union_all_none = refl
+
+pub union_all_more : (ss : List BitSet) (s : BitSet) → union_all (ss ++ s ∷ []) ≡ union (union_all ss) s
+unfolding union_all
+union_all_more [] s = union_empty s ∙ sym (empty_union s)
+union_all_more (t ∷ ts) s = ap (union t) (union_all_more ts s) ∙ sym (union_assoc t (union_all ts) s)
+
+-- nothing, extended by a set
+pub all_of_extended : (s t r : BitSet) → s ≡ empty → r ≡ union s t → r ≡ t
+all_of_extended s t r is_empty is = is ∙ ap (λ u. union u t) is_empty ∙ empty_union t
+
+pub ruleset folds = (from_list_none, from_list_more, from_list_taken, union_all_none, union_all_more, union_empty, union_insert)

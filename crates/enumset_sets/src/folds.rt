@@ -1,0 +1,113 @@
+//! Sets from elements and from sets, and the elements of a set, by the traits of std.
+
+ghost use Rattle.std.specs.Prelude.{◌≡◌, ⊤, List, map, IsOk, IfOk};
+ghost use Rattle.std.specs.Iterator.{ExtendsWithItems, DrainsIf, IsFiniteIterable};
+ghost use Rattle.enumset_repr.specs.BitSet as set;
+ghost use Rattle.enumset_sets.specs.Folds.{union_all};
+
+use crate::element::EnumSetType;
+use crate::enum_set::EnumSet;
+use crate::enum_set_iter::EnumSetIter;
+use std::alloc::{AllocError, Global};
+use std::iter::Sum;
+
+/// The set of one element, as [`only`](EnumSet::only).
+impl<T: EnumSetType> From<T> for EnumSet<T> {
+    ghost from_gives = { λ t r. r ≡ set.only (T.elements.bit t) };
+
+    fn from(value: T) -> EnumSet<T> {
+        EnumSet::only(value)
+    }
+}
+
+/// The elements, along their bits, rising, as [`iter`](EnumSet::iter).
+impl<T: EnumSetType> IntoIterator for EnumSet<T> {
+    type Item = T;
+
+    type IntoIter = EnumSetIter<T>;
+
+    ghost into_iter_gives = { λ s i. i ≡ set.rising s };
+
+    fn into_iter(self) -> EnumSetIter<T> {
+        self.iter()
+    }
+}
+
+/// Makes each element that an iterator gives a member. It takes no memory and is always `Ok`.
+impl<T: EnumSetType> Extend<T> for EnumSet<T> {
+    ghost extend_gives = { λ s ts r. r ≡ set.union s (set.from_list (map T.elements.bit ts)) };
+
+    #[tactic(auto, using(crate::specs::Laws::Folds::folds))]
+    fn extend<U: IntoIterator<Item = T>>(&mut self, iter: U) -> Result<(), AllocError>
+        requires { IsFiniteIterable U.into_iter_gives U.IntoIter.can_next
+            U.IntoIter.remaining iter }
+        ensures ran { ExtendsWithItems U.into_iter_gives U.IntoIter.next_gives
+            (λ s ts r. r ≡ set.union s (set.from_list (map T.elements.bit ts)))
+            iter self.old self.new result }
+        ensures total { IsOk result }
+    {
+        for element in iter {
+            self.insert(element);
+        }
+        Ok(())
+    }
+}
+
+/// The set of the elements that an iterator gives. It takes no memory and is always `Ok`.
+impl<T: EnumSetType> FromIterator<T> for EnumSet<T> {
+    type Alloc = Global;
+
+    ghost from_iter_gives = { λ ts r. r ≡ set.from_list (map T.elements.bit ts) };
+
+    #[tactic(auto, using(crate::specs::Laws::Folds::folds))]
+    fn from_iter<U: IntoIterator<Item = T>>(
+        _alloc: Global,
+        iter: U,
+    ) -> Result<EnumSet<T>, AllocError>
+        requires { IsFiniteIterable U.into_iter_gives U.IntoIter.can_next
+            U.IntoIter.remaining iter }
+        ensures ran { IfOk result (λ all. (items : U.IntoIter) × (ts : List T)
+            × U.into_iter_gives iter items × DrainsIf U.IntoIter.next_gives ⊤ items ts
+            × (all ≡ set.from_list (map T.elements.bit ts))) }
+        ensures total { IsOk result }
+    {
+        let mut all = EnumSet::new();
+        all.extend(iter)?;
+        Ok(all)
+    }
+}
+
+/// The members of any of the sets that an iterator gives.
+impl<T: EnumSetType> Sum<EnumSet<T>> for EnumSet<T> {
+    ghost sum_gives = { λ sets r. r ≡ union_all sets };
+
+    #[tactic(auto, using(crate::specs::Laws::Folds::folds))]
+    fn sum<I: Iterator<Item = EnumSet<T>> + Drop>(iter: I) -> EnumSet<T> {
+        let mut all = EnumSet::new();
+        for set in iter {
+            all.insert_all(set);
+        }
+        all
+    }
+}
+
+/// The set of the elements of an array.
+impl<T: EnumSetType, const N: usize> From<[T; N]> for EnumSet<T> {
+    ghost from_gives = { λ ts r. r ≡ set.from_list (map T.elements.bit ts) };
+
+    fn from(value: [T; N]) -> EnumSet<T> {
+        of_slice(&value)
+    }
+}
+
+// The set of the elements of a slice.
+#[tactic(auto, using(crate::specs::Laws::Folds::folds))]
+fn of_slice<T: EnumSetType>(values: &[T]) -> EnumSet<T>
+    ensures { result ≡ set.from_list (map T.elements.bit values.now) }
+{
+    let mut all = EnumSet::new();
+    for value in values {
+        all.insert(*value);
+    }
+    all
+}
