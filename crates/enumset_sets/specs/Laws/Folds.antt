@@ -1,12 +1,12 @@
 -- Folds, as a loop takes them: over nothing, and over one thing more at the end.
 --     from_list_none, from_list_more, from_list_taken      the set of a list's numbers
---     union_all_none, union_all_more      the members of any set of a list
+--     union_all_none, union_all_more, union_all_mapped      the members of any set of a list
 --     all_of_extended      what the empty set is extended to
 -- The ruleset `folds` holds them, and what a union is with nothing and with one number more.
 use Rattle.std.proofs.Common.{◌≡◌, ◌<◌, ◌+◌, ℕ, List, [], ◌∷◌, ◌++◌, length, take, get_or, map, refl, sym, ap, ◌∙◌}
 use Rattle.std.proofs.lemmas.List.{take_more}
 use Rattle.enumset_repr.specs.BitSet.{BitSet, empty, insert, from_list, union}
-use Rattle.enumset_repr.specs.Laws.Algebra.{union_empty, empty_union, union_insert, union_assoc, insert_comm}
+use Rattle.enumset_repr.specs.Laws.Algebra.{union_empty, empty_union, union_insert, union_assoc, union_comm, insert_comm}
 use Rattle.enumset_sets.specs.Folds.{union_all}
 
 pub from_list_none : from_list [] ≡ empty
@@ -35,8 +35,18 @@ unfolding union_all
 union_all_more [] s = union_empty s ∙ sym (empty_union s)
 union_all_more (t ∷ ts) s = ap (union t) (union_all_more ts s) ∙ sym (union_assoc t (union_all ts) s)
 
+-- the same along a list of what each set is of
+pub union_all_mapped : {A : Type 0} (f : A → BitSet) (xs : List A) (x : A) → union_all (map f (xs ++ x ∷ [])) ≡ union (f x) (union_all (map f xs))
+unfolding union_all
+union_all_mapped f [] x = refl
+union_all_mapped f (y ∷ ys) x =
+    ap (union (f y)) (union_all_mapped f ys x)
+    ∙ sym (union_assoc (f y) (f x) (union_all (map f ys)))
+    ∙ ap (λ s. union s (union_all (map f ys))) (union_comm (f y) (f x))
+    ∙ union_assoc (f x) (f y) (union_all (map f ys))
+
 -- nothing, extended by a set
 pub all_of_extended : (s t r : BitSet) → s ≡ empty → r ≡ union s t → r ≡ t
 all_of_extended s t r is_empty is = is ∙ ap (λ u. union u t) is_empty ∙ empty_union t
 
-pub ruleset folds = (from_list_none, from_list_more, from_list_taken, union_all_none, union_all_more, union_empty, union_insert)
+pub ruleset folds = (from_list_none, from_list_more, from_list_taken, union_all_none, union_all_more, union_all_mapped, union_empty, union_insert)

@@ -1,0 +1,8 @@
+-- What the folds say of the items that they took.
+--     OnAllItems      a fact of the list of all that an iterator gives
+use Rattle.std.specs.Prelude.{List, Option}
+use Rattle.std.specs.Iterator.{Drains}
+
+-- the calls of `next` gave the items of a list, and then `None`, and P holds of the list
+abbrev pub OnAllItems : {S A : Type 0} → (S → Option A → S → Type 0) → S → (List A → Type 0) → Type 0
+OnAllItems {A = A} steps items P = (xs : List A) × Drains steps items xs × P xs

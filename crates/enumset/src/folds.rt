@@ -1,0 +1,23 @@
+//! Folds of all that an iterator gives into a set: elements are inserted, sets are united.
+//!
+//! Each stands for a form of `Extend`, `FromIterator` or `Sum` of Rust's `enumset` that is not a form of the trait here.
+//! The functions named `extend` start from the set handed in, the others from the empty set. The iterator has to end; the
+//! order of its items and their repeats do not matter. None takes memory.
+
+mod into_mixed_sets;
+mod into_sets;
+mod of_enum_sets;
+
+pub use into_mixed_sets::{
+    mixed_extend_refs, mixed_extend_set_refs, mixed_extend_sets, mixed_from_refs,
+    mixed_from_set_refs, mixed_from_sets, mixed_sum_element_refs, mixed_sum_elements,
+    mixed_sum_set_refs,
+};
+pub use into_sets::{
+    extend_refs, extend_set_refs, extend_sets, from_refs, from_set_refs, from_sets,
+    sum_element_refs, sum_elements, sum_set_refs,
+};
+pub use of_enum_sets::{
+    mixed_extend_enumset_refs, mixed_extend_enumsets, mixed_from_enumset_refs, mixed_from_enumsets,
+    mixed_sum_enumset_refs, mixed_sum_enumsets,
+};

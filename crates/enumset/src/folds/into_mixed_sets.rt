@@ -1,0 +1,128 @@
+//! Folds into a mixed set, of elements and of mixed sets.
+
+ghost use Rattle.std.specs.Prelude.{◌≡◌, map};
+ghost use Rattle.std.specs.Iterator.{IsFinite};
+ghost use Rattle.enumset_repr.specs.BitSet.{union, from_list};
+ghost use Rattle.enumset_sets.specs.Folds.{union_all};
+ghost use Rattle.enumset.specs.Folds.{OnAllItems};
+
+use super::into_sets::{sum_element_refs, sum_elements};
+use enumset_mixed::conversions::convert_mixed;
+use enumset_mixed::mixed_enum_set::MixedEnumSet;
+use enumset_sets::with_repr::EnumSetTypeWithRepr;
+
+/// Makes each element a member. It stands for Rust's `Extend<&T>`.
+pub fn mixed_extend_refs<'a, T: EnumSetTypeWithRepr + 'a, I: Iterator<Item = &'a T> + Drop>(
+    set: &mut MixedEnumSet<T>,
+    items: I,
+)
+    requires can { I.can_next items }
+    requires finite { IsFinite (I.remaining items) }
+    ensures { OnAllItems I.next_gives items (λ ts.
+        set.new ≡ union set.old (from_list (map (λ t. T.elements.bit t.now) ts))) }
+{
+    set.insert_all(mixed_sum_element_refs(items));
+}
+
+/// The set of the elements. It stands for Rust's `FromIterator<&T>`.
+pub fn mixed_from_refs<'a, T: EnumSetTypeWithRepr + 'a, I: Iterator<Item = &'a T> + Drop>(
+    items: I,
+) -> MixedEnumSet<T>
+    requires can { I.can_next items }
+    requires finite { IsFinite (I.remaining items) }
+    ensures { OnAllItems I.next_gives items (λ ts.
+        result ≡ from_list (map (λ t. T.elements.bit t.now) ts)) }
+{
+    mixed_sum_element_refs(items)
+}
+
+/// Makes each member of each set a member. It stands for Rust's `Extend<MixedEnumSet<T>>`.
+pub fn mixed_extend_sets<T: EnumSetTypeWithRepr, I: Iterator<Item = MixedEnumSet<T>> + Drop>(
+    set: &mut MixedEnumSet<T>,
+    items: I,
+)
+    requires can { I.can_next items }
+    requires finite { IsFinite (I.remaining items) }
+    ensures { OnAllItems I.next_gives items (λ sets. set.new ≡ union set.old (union_all sets)) }
+{
+    set.insert_all(items.sum());
+}
+
+/// Makes each member of each set a member. It stands for Rust's `Extend<&MixedEnumSet<T>>`.
+pub fn mixed_extend_set_refs<
+    'a,
+    T: EnumSetTypeWithRepr + 'a,
+    I: Iterator<Item = &'a MixedEnumSet<T>> + Drop,
+>(set: &mut MixedEnumSet<T>, items: I)
+    requires can { I.can_next items }
+    requires finite { IsFinite (I.remaining items) }
+    ensures { OnAllItems I.next_gives items (λ sets.
+        set.new ≡ union set.old (union_all (map (λ s. s.now) sets))) }
+{
+    set.insert_all(mixed_sum_set_refs(items));
+}
+
+/// The members of any of the sets. It stands for Rust's `FromIterator<MixedEnumSet<T>>`.
+pub fn mixed_from_sets<T: EnumSetTypeWithRepr, I: Iterator<Item = MixedEnumSet<T>> + Drop>(
+    items: I,
+) -> MixedEnumSet<T>
+    requires can { I.can_next items }
+    requires finite { IsFinite (I.remaining items) }
+    ensures { OnAllItems I.next_gives items (λ sets. result ≡ union_all sets) }
+{
+    items.sum()
+}
+
+/// The members of any of the sets. It stands for Rust's `FromIterator<&MixedEnumSet<T>>`.
+pub fn mixed_from_set_refs<
+    'a,
+    T: EnumSetTypeWithRepr + 'a,
+    I: Iterator<Item = &'a MixedEnumSet<T>> + Drop,
+>(items: I) -> MixedEnumSet<T>
+    requires can { I.can_next items }
+    requires finite { IsFinite (I.remaining items) }
+    ensures { OnAllItems I.next_gives items (λ sets. result ≡ union_all (map (λ s. s.now) sets)) }
+{
+    mixed_sum_set_refs(items)
+}
+
+/// The members of any of the sets. It stands for Rust's `Sum<&MixedEnumSet<T>>`.
+#[tactic(auto, using(enumset_sets::specs::Laws::Folds::folds))]
+pub fn mixed_sum_set_refs<
+    'a,
+    T: EnumSetTypeWithRepr + 'a,
+    I: Iterator<Item = &'a MixedEnumSet<T>> + Drop,
+>(items: I) -> MixedEnumSet<T>
+    requires can { I.can_next items }
+    requires finite { IsFinite (I.remaining items) }
+    ensures { OnAllItems I.next_gives items (λ sets. result ≡ union_all (map (λ s. s.now) sets)) }
+{
+    let mut all = MixedEnumSet::new();
+    for set in items {
+        all = set.union(all);
+    }
+    all
+}
+
+/// The set of the elements. It stands for Rust's `Sum<T>`.
+pub fn mixed_sum_elements<T: EnumSetTypeWithRepr, I: Iterator<Item = T> + Drop>(
+    items: I,
+) -> MixedEnumSet<T>
+    requires can { I.can_next items }
+    requires finite { IsFinite (I.remaining items) }
+    ensures { OnAllItems I.next_gives items (λ ts. result ≡ from_list (map T.elements.bit ts)) }
+{
+    convert_mixed(sum_elements(items))
+}
+
+/// The set of the elements. It stands for Rust's `Sum<&T>`.
+pub fn mixed_sum_element_refs<'a, T: EnumSetTypeWithRepr + 'a, I: Iterator<Item = &'a T> + Drop>(
+    items: I,
+) -> MixedEnumSet<T>
+    requires can { I.can_next items }
+    requires finite { IsFinite (I.remaining items) }
+    ensures { OnAllItems I.next_gives items (λ ts.
+        result ≡ from_list (map (λ t. T.elements.bit t.now) ts)) }
+{
+    convert_mixed(sum_element_refs(items))
+}

@@ -1,0 +1,122 @@
+//! Folds into a set of elements.
+
+ghost use Rattle.std.specs.Prelude.{◌≡◌, map};
+ghost use Rattle.std.specs.Iterator.{IsFinite};
+ghost use Rattle.enumset_repr.specs.BitSet.{union, from_list};
+ghost use Rattle.enumset_sets.specs.Folds.{union_all};
+ghost use Rattle.enumset.specs.Folds.{OnAllItems};
+
+use enumset_sets::element::EnumSetType;
+use enumset_sets::enum_set::EnumSet;
+
+/// Makes each element a member. It stands for Rust's `Extend<&T>`.
+pub fn extend_refs<'a, T: EnumSetType + 'a, I: Iterator<Item = &'a T> + Drop>(
+    set: &mut EnumSet<T>,
+    items: I,
+)
+    requires can { I.can_next items }
+    requires finite { IsFinite (I.remaining items) }
+    ensures { OnAllItems I.next_gives items (λ ts.
+        set.new ≡ union set.old (from_list (map (λ t. T.elements.bit t.now) ts))) }
+{
+    set.insert_all(sum_element_refs(items));
+}
+
+/// The set of the elements. It stands for Rust's `FromIterator<&T>`.
+pub fn from_refs<'a, T: EnumSetType + 'a, I: Iterator<Item = &'a T> + Drop>(items: I) -> EnumSet<T>
+    requires can { I.can_next items }
+    requires finite { IsFinite (I.remaining items) }
+    ensures { OnAllItems I.next_gives items (λ ts.
+        result ≡ from_list (map (λ t. T.elements.bit t.now) ts)) }
+{
+    sum_element_refs(items)
+}
+
+/// Makes each member of each set a member. It stands for Rust's `Extend<EnumSet<T>>`.
+pub fn extend_sets<T: EnumSetType, I: Iterator<Item = EnumSet<T>> + Drop>(
+    set: &mut EnumSet<T>,
+    items: I,
+)
+    requires can { I.can_next items }
+    requires finite { IsFinite (I.remaining items) }
+    ensures { OnAllItems I.next_gives items (λ sets. set.new ≡ union set.old (union_all sets)) }
+{
+    set.insert_all(items.sum());
+}
+
+/// Makes each member of each set a member. It stands for Rust's `Extend<&EnumSet<T>>`.
+pub fn extend_set_refs<'a, T: EnumSetType + 'a, I: Iterator<Item = &'a EnumSet<T>> + Drop>(
+    set: &mut EnumSet<T>,
+    items: I,
+)
+    requires can { I.can_next items }
+    requires finite { IsFinite (I.remaining items) }
+    ensures { OnAllItems I.next_gives items (λ sets.
+        set.new ≡ union set.old (union_all (map (λ s. s.now) sets))) }
+{
+    set.insert_all(sum_set_refs(items));
+}
+
+/// The members of any of the sets. It stands for Rust's `FromIterator<EnumSet<T>>`.
+pub fn from_sets<T: EnumSetType, I: Iterator<Item = EnumSet<T>> + Drop>(items: I) -> EnumSet<T>
+    requires can { I.can_next items }
+    requires finite { IsFinite (I.remaining items) }
+    ensures { OnAllItems I.next_gives items (λ sets. result ≡ union_all sets) }
+{
+    items.sum()
+}
+
+/// The members of any of the sets. It stands for Rust's `FromIterator<&EnumSet<T>>`.
+pub fn from_set_refs<'a, T: EnumSetType + 'a, I: Iterator<Item = &'a EnumSet<T>> + Drop>(
+    items: I,
+) -> EnumSet<T>
+    requires can { I.can_next items }
+    requires finite { IsFinite (I.remaining items) }
+    ensures { OnAllItems I.next_gives items (λ sets. result ≡ union_all (map (λ s. s.now) sets)) }
+{
+    sum_set_refs(items)
+}
+
+/// The members of any of the sets. It stands for Rust's `Sum<&EnumSet<T>>`.
+#[tactic(auto, using(enumset_sets::specs::Laws::Folds::folds))]
+pub fn sum_set_refs<'a, T: EnumSetType + 'a, I: Iterator<Item = &'a EnumSet<T>> + Drop>(
+    items: I,
+) -> EnumSet<T>
+    requires can { I.can_next items }
+    requires finite { IsFinite (I.remaining items) }
+    ensures { OnAllItems I.next_gives items (λ sets. result ≡ union_all (map (λ s. s.now) sets)) }
+{
+    let mut all = EnumSet::new();
+    for set in items {
+        all = set.union(all);
+    }
+    all
+}
+
+/// The set of the elements. It stands for Rust's `Sum<T>`.
+pub fn sum_elements<T: EnumSetType, I: Iterator<Item = T> + Drop>(items: I) -> EnumSet<T>
+    requires can { I.can_next items }
+    requires finite { IsFinite (I.remaining items) }
+    ensures { OnAllItems I.next_gives items (λ ts. result ≡ from_list (map T.elements.bit ts)) }
+{
+    let mut all = EnumSet::new();
+    all.extend(items).unwrap();
+    all
+}
+
+/// The set of the elements. It stands for Rust's `Sum<&T>`.
+#[tactic(auto, using(enumset_sets::specs::Laws::Folds::folds))]
+pub fn sum_element_refs<'a, T: EnumSetType + 'a, I: Iterator<Item = &'a T> + Drop>(
+    items: I,
+) -> EnumSet<T>
+    requires can { I.can_next items }
+    requires finite { IsFinite (I.remaining items) }
+    ensures { OnAllItems I.next_gives items (λ ts.
+        result ≡ from_list (map (λ t. T.elements.bit t.now) ts)) }
+{
+    let mut all = EnumSet::new();
+    for element in items {
+        all.insert(*element);
+    }
+    all
+}

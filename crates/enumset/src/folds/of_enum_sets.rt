@@ -1,0 +1,87 @@
+//! Folds into a mixed set, of sets of elements.
+
+ghost use Rattle.std.specs.Prelude.{◌≡◌, map};
+ghost use Rattle.std.specs.Iterator.{IsFinite};
+ghost use Rattle.enumset_repr.specs.BitSet.{union};
+ghost use Rattle.enumset_sets.specs.Folds.{union_all};
+ghost use Rattle.enumset.specs.Folds.{OnAllItems};
+
+use super::into_sets::sum_set_refs;
+use enumset_mixed::conversions::convert_mixed;
+use enumset_mixed::mixed_enum_set::MixedEnumSet;
+use enumset_sets::enum_set::EnumSet;
+use enumset_sets::with_repr::EnumSetTypeWithRepr;
+
+/// Makes each member of each set a member. It stands for Rust's `Extend<EnumSet<T>>`.
+pub fn mixed_extend_enumsets<T: EnumSetTypeWithRepr, I: Iterator<Item = EnumSet<T>> + Drop>(
+    set: &mut MixedEnumSet<T>,
+    items: I,
+)
+    requires can { I.can_next items }
+    requires finite { IsFinite (I.remaining items) }
+    ensures { OnAllItems I.next_gives items (λ sets. set.new ≡ union set.old (union_all sets)) }
+{
+    set.insert_all(mixed_sum_enumsets(items));
+}
+
+/// Makes each member of each set a member. It stands for Rust's `Extend<&EnumSet<T>>`.
+pub fn mixed_extend_enumset_refs<
+    'a,
+    T: EnumSetTypeWithRepr + 'a,
+    I: Iterator<Item = &'a EnumSet<T>> + Drop,
+>(set: &mut MixedEnumSet<T>, items: I)
+    requires can { I.can_next items }
+    requires finite { IsFinite (I.remaining items) }
+    ensures { OnAllItems I.next_gives items (λ sets.
+        set.new ≡ union set.old (union_all (map (λ s. s.now) sets))) }
+{
+    set.insert_all(mixed_sum_enumset_refs(items));
+}
+
+/// The members of any of the sets. It stands for Rust's `FromIterator<EnumSet<T>>`.
+pub fn mixed_from_enumsets<T: EnumSetTypeWithRepr, I: Iterator<Item = EnumSet<T>> + Drop>(
+    items: I,
+) -> MixedEnumSet<T>
+    requires can { I.can_next items }
+    requires finite { IsFinite (I.remaining items) }
+    ensures { OnAllItems I.next_gives items (λ sets. result ≡ union_all sets) }
+{
+    mixed_sum_enumsets(items)
+}
+
+/// The members of any of the sets. It stands for Rust's `FromIterator<&EnumSet<T>>`.
+pub fn mixed_from_enumset_refs<
+    'a,
+    T: EnumSetTypeWithRepr + 'a,
+    I: Iterator<Item = &'a EnumSet<T>> + Drop,
+>(items: I) -> MixedEnumSet<T>
+    requires can { I.can_next items }
+    requires finite { IsFinite (I.remaining items) }
+    ensures { OnAllItems I.next_gives items (λ sets. result ≡ union_all (map (λ s. s.now) sets)) }
+{
+    mixed_sum_enumset_refs(items)
+}
+
+/// The members of any of the sets. It stands for Rust's `Sum<EnumSet<T>>`.
+pub fn mixed_sum_enumsets<T: EnumSetTypeWithRepr, I: Iterator<Item = EnumSet<T>> + Drop>(
+    items: I,
+) -> MixedEnumSet<T>
+    requires can { I.can_next items }
+    requires finite { IsFinite (I.remaining items) }
+    ensures { OnAllItems I.next_gives items (λ sets. result ≡ union_all sets) }
+{
+    convert_mixed(items.sum())
+}
+
+/// The members of any of the sets. It stands for Rust's `Sum<&EnumSet<T>>`.
+pub fn mixed_sum_enumset_refs<
+    'a,
+    T: EnumSetTypeWithRepr + 'a,
+    I: Iterator<Item = &'a EnumSet<T>> + Drop,
+>(items: I) -> MixedEnumSet<T>
+    requires can { I.can_next items }
+    requires finite { IsFinite (I.remaining items) }
+    ensures { OnAllItems I.next_gives items (λ sets. result ≡ union_all (map (λ s. s.now) sets)) }
+{
+    convert_mixed(sum_set_refs(items))
+}

@@ -1,0 +1,6 @@
+//! The stores, for who writes one, and what the macros call. It mirrors the module `__internal` of Rust's `enumset`.
+
+pub mod set;
+
+pub use enumset_array::array_repr::ArrayRepr;
+pub use enumset_repr::repr::EnumSetTypeRepr;

@@ -1,0 +1,4 @@
+//! Sets to and from their store's values. It mirrors the helper module `set` of Rust's `enumset`.
+
+pub use enumset_mixed::conversions::convert_mixed;
+pub use enumset_sets::raw::{get, new};

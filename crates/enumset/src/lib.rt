@@ -1,0 +1,16 @@
+//! Sets of an enum's variants, by the paths of Rust's crate `enumset`.
+//!
+//! What stands here comes from the crates below: [`EnumSet`] and the traits of its elements from `enumset_sets`,
+//! [`MixedEnumSet`](set::MixedEnumSet) from `enumset_mixed`, and the stores from `enumset_repr` and `enumset_array`.
+//! New here are the macros, as [`enum_set!`], and the module [`folds`].
+#![tactic(auto)]
+
+pub mod folds;
+pub mod internal;
+mod macros;
+pub mod set;
+
+pub use enumset_sets::element::EnumSetType;
+pub use enumset_sets::enum_set::EnumSet;
+pub use enumset_sets::enum_set_iter::EnumSetIter;
+pub use enumset_sets::with_repr::EnumSetTypeWithRepr;
