@@ -5,6 +5,7 @@ mod element_types;
 mod mixed;
 mod program;
 mod proving;
+mod refused;
 mod runs;
 mod sending;
 mod surroundings;

@@ -1,4 +1,4 @@
-//! Walks over rows that show their asks, and walks that are refused memory.
+//! Walks over rows that show their asks.
 
 use enumset_array::ArrayRepr;
 use enumset_array::cursors::{Cursors, step_back, step_front};
@@ -75,24 +75,6 @@ fn walks_of_fewer_ends_leave_the_rest(rt: HostRuntime) -> Result<(), Fail> {
     assert!(rt; answers.as_slice() == [Some(1), Some(66)].as_slice());
     assert!(rt; bits == [Some(2), None, Some(0)]);
     assert!(rt; (asked, row.shown(), row.word_count()) == (2, 5, 2));
-    Ok(())
-}
-
-/// With memory it answers at once. Where the first allocation is refused, the row is as it was and a second walk
-/// gives the whole answer.
-#[test]
-fn a_refused_walk_changes_nothing(rt: HostRuntime) -> Result<(), Fail> {
-    let mut row = ShownRow::new(ArrayRepr([8, 1, 4]));
-    let ends = [End::Front, End::Back, End::Front];
-    let answers = match walk(rt.alloc(), &mut row, &ends) {
-        Ok(answers) => answers,
-        Err(AllocError) => {
-            assert!(rt; row.shown() == 0);
-            walk(rt.alloc(), &mut row, &ends)?
-        }
-    };
-    assert!(rt; answers.as_slice() == [Some(3), Some(130), Some(64)].as_slice());
-    assert!(rt; row.shown() == 4);
     Ok(())
 }
 

@@ -8,7 +8,7 @@ use enumset_sets::element::EnumSetType;
 use enumset_sets::enum_set::EnumSet;
 use enumset_sets::with_repr::EnumSetTypeWithRepr;
 use enumset_sets::{laws, raw};
-use std::alloc::{AllocError, Global};
+use std::alloc::AllocError;
 use std::fmt;
 use std::test::Fail;
 
@@ -328,19 +328,4 @@ fn slices_of_rows(rt: HostRuntime) {
     assert!(rt;
         is_read_from_a_slice(Sparse::A, Sparse::D) && is_read_from_a_slice(Wide::P, Wide::R)
     );
-}
-
-fn words_of<T: EnumSetType>(alloc: Global, a: T, b: T) -> Result<Vec<u64>, AllocError> {
-    two_of(a, b).to_vec(alloc)
-}
-
-#[test]
-fn vectors_of_words(rt: HostRuntime) -> Result<(), Fail> {
-    let letters = words_of(rt.alloc(), Letters::A, Letters::C)?;
-    assert!(rt; letters.as_slice() == [5].as_slice());
-    let sparse = words_of(rt.alloc(), Sparse::A, Sparse::D)?;
-    assert!(rt; sparse.as_slice() == [1024, 9223372036854775808].as_slice());
-    let wide = words_of(rt.alloc(), Wide::P, Wide::R)?;
-    assert!(rt; wide.as_slice() == [8, 0, 4].as_slice());
-    Ok(())
 }
