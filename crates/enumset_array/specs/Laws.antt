@@ -1,7 +1,5 @@
 -- The laws of lists of words, each proved. Nothing here has to be believed: a contract cites the definitions alone.
---     Listed      the set of words whose bits are listed
 --     Zeros      lists of zeros
 --     Stored      the laws of a store of words
-pub mod Listed
 pub mod Zeros
 pub mod Stored

@@ -14,9 +14,8 @@ pub enum Wide {
 }
 
 impl EnumSetType for Wide {
-    ghost use Rattle.std.specs.Prelude.{◌∷◌, [], refl};
-    ghost use Rattle.enumset_array.specs.Laws.Listed.{words_listed};
-    ghost use Rattle.enumset_sets.specs.Laws.Elements.{with_bits, lawful_in};
+    ghost use Rattle.std.specs.Prelude.{◌∷◌, []};
+    ghost use Rattle.enumset_sets.specs.Laws.Elements.{with_bits, lawful_in_words};
     ghost use Rattle.enumset_run.specs.Kinds.{wide_bits};
     ghost use Rattle.enumset_run.specs.contracts.wide.Wide.{the_type};
 
@@ -44,7 +43,7 @@ impl EnumSetType for Wide {
         variant_of!(val, Wide: P Q R)
     }
 
-    ghost lawful = { lawful_in the_type (words_listed _ _ refl) tt };
+    ghost lawful = { lawful_in_words the_type _ tt };
 }
 
 /// The name of the variant.

@@ -1,6 +1,6 @@
 -- The laws of an enum without fields as an element type, from one test of its bits and its constants.
---     IsLawful, IsLawfulNumber      the test; where it fails it is the fault, by a name that says what to mend
---     lawful_in, lawful_in_integer      the laws, over any store; over an integer
+--     IsLawful, IsLawfulNumber, IsLawfulWords      the test; where it fails it is the fault, by a name that says what to mend
+--     lawful_in, lawful_in_integer, lawful_in_words      the laws, over any store; over an integer; over words
 --     derived_eq      what a derived `==` of such an enum answers
 -- An element type imports the makers of its elements from here too.
 use Rattle.std.proofs.Common.{◌≡◌, ◌<◌, ◌≤◌, ℕ, suc, zero, ◌+◌, ◌^◌, Bool, true, false, cond, eqb, List, Some, sym, ap, ◌∙◌, length, get_or, max, sum_by, arith, true≢false, inl, inr}
@@ -16,7 +16,8 @@ use Rattle.enumset_repr.specs.Number.{bits, is_distinct}
 use Rattle.enumset_repr.specs.Ends.{last, greatest}
 use Rattle.enumset_repr.specs.Laws.Members.{contains-from_list, contains-rising, list_all-each, is_subset-contains}
 use Rattle.enumset_repr.specs.Laws.Rising.{len-empty, len-insert, rising-rises, RisesFrom}
-use Rattle.enumset_repr.specs.Laws.Listed.{bits_listed}
+use Rattle.enumset_repr.specs.Words.{bits_of, in_first_word, in_later_words, lists_words}
+use Rattle.enumset_repr.specs.Laws.Listed.{bits_listed, words_listed}
 use Rattle.std.specs.Prelude.{[], ◌∷◌, refl}
 pub use Rattle.enumset_sets.specs.Elements.{with_bits, in_order}
 use Rattle.enumset_sets.specs.Elements.{one_past, one_past_greatest, IsElementType, AreBitsOf}
@@ -133,6 +134,8 @@ pub data VariantCountShouldBe (count : ℕ) : Type 0 where
 
 pub data AllBitsShouldBe (number : ℕ) : Type 0 where
 
+pub data AllBitsShouldBeWords (words : List ℕ) : Type 0 where
+
 -- the fault where the test fails, else what comes next
 abbrev pub or_else : Bool → Type 0 → Type 0 → Type 0
 or_else true fault next = next
@@ -151,6 +154,15 @@ IsLawful D bs valid fault width count =
 abbrev pub IsLawfulNumber : (D : Declared) → List ℕ → ℕ → ℕ → ℕ → Type 0
 IsLawfulNumber D bs n width count =
     IsLawful D bs (sum_by (λ b. 2 ^ b) bs == n) (AllBitsShouldBe (sum_by (λ b. 2 ^ b) bs)) width count
+
+-- as many words as ns, with the bits that a list names
+abbrev pub words_naming : List ℕ → List ℕ → List ℕ
+words_naming bs [] = []
+words_naming bs (n ∷ ns) = sum_by (λ b. 2 ^ b) (in_first_word bs) ∷ words_naming (in_later_words bs) ns
+
+-- the same over words: those of ALL_BITS have just the bits of the list
+abbrev pub IsLawfulWords : (D : Declared) → List ℕ → List ℕ → ℕ → ℕ → Type 0
+IsLawfulWords D bs ns width count = IsLawful D bs (lists_words bs ns) (AllBitsShouldBeWords (words_naming bs ns)) width count
 
 passed : (test : Bool) (fault next : Type 0) → (fault → ⊥) → or_else test fault next → (test ≡ true) × next
 passed true fault next none h = (refl, h)
@@ -197,6 +209,12 @@ pub lawful_in_integer : {bs : List ℕ} {width count : ℕ} (D : Declared) (n : 
 lawful_in_integer {bs} {width} {count} D n test =
     let p = IsLawful-passes D bs (sum_by (λ b. 2 ^ b) bs == n) _ width count (λ h. elim h [ ]) test in
     laws D bs _ (bits n) width count (bits_listed bs n (and_from _ _ p.distinct p.is_valid)) p
+
+-- The same over words, which are those of ALL_BITS.
+pub lawful_in_words : {bs : List ℕ} {width count : ℕ} (D : Declared) (ns : List ℕ) → IsLawfulWords D bs ns width count → IsElementType (with_bits D bs) (derived_eq D) (bits_of ns) width count
+lawful_in_words {bs} {width} {count} D ns test =
+    let p = IsLawful-passes D bs (lists_words bs ns) _ width count (λ h. elim h [ ]) test in
+    laws D bs _ (bits_of ns) width count (words_listed bs ns p.is_valid) p
 
 -- ---- what the laws give
 
