@@ -1,7 +1,7 @@
 -- Folds, as a loop takes them: over nothing, and over one thing more at the end.
 --     from_list_none, from_list_more, from_list_taken      the set of a list's numbers
 --     union_all_none, union_all_more, union_all_mapped      the members of any set of a list
---     all_of_extended      what the empty set is extended to
+--     union_none, all_of_extended      a set extended by nothing;  what the empty set is extended to
 -- The ruleset `folds` holds them, and what a union is with nothing and with one number more.
 use Rattle.std.proofs.Common.{◌≡◌, ◌<◌, ◌+◌, ℕ, List, [], ◌∷◌, ◌++◌, length, take, get_or, map, refl, sym, ap, ◌∙◌}
 use Rattle.std.proofs.lemmas.List.{take_more}
@@ -44,6 +44,10 @@ union_all_mapped f (y ∷ ys) x =
     ∙ sym (union_assoc (f y) (f x) (union_all (map f ys)))
     ∙ ap (λ s. union s (union_all (map f ys))) (union_comm (f y) (f x))
     ∙ union_assoc (f x) (f y) (union_all (map f ys))
+
+-- a set, extended by nothing
+pub union_none : (s : BitSet) → union s (from_list []) ≡ s
+union_none s = ap (union s) from_list_none ∙ union_empty s
 
 -- nothing, extended by a set
 pub all_of_extended : (s t r : BitSet) → s ≡ empty → r ≡ union s t → r ≡ t
