@@ -5,10 +5,16 @@ use Rattle.std.specs.Io.KnownBytes.{Appends, Consumes, IsAtEnd}
 use Rattle.std.proofs.KnownBytes.{Consumes-trans, Consumes-whole}
 use Rattle.std.proofs.lemmas.List.{length-take, take_all}
 use Rattle.std.proofs.lemmas.Bool.Decides.{nat_tests}
-use Rattle.enumset_repr.specs.BitSet.{BitSet}
-use Rattle.enumset_run.specs.Answers.{answer_to, answer_to_lines, IsFaultOf, AppendsFrontOf}
+use Rattle.enumset_repr.specs.BitSet.{BitSet, from_list}
+use Rattle.enumset_run.specs.Answers.{commands_of, answer_by, answer_to, mixed_answer_to, IsFaultOf, AppendsFrontOf}
 use Rattle.enumset_run.specs.Faults.{IsFaultOver}
-use Rattle.enumset_run.specs.Lines.{lines}
+use Rattle.enumset_run.specs.Kinds.{answer_over, letters_bits, sparse_bits, marks_bits, wide_bits}
+use Rattle.enumset_run.specs.Lines.{command_of, lines}
+use Rattle.enumset_run.specs.MixedLines.{mixed_command_of}
+use Rattle.enumset_run.specs.Runs.{replies}
+use Rattle.enumset_run.specs.MixedRuns.{mixed_replies}
+use Rattle.enumset_run.specs.declared.worked.Worked.{Worked}
+use Rattle.enumset_run.specs.declared.worked.Worked.TheVariants.{Letters, Sparse, Marks, Wide, MixedLetters, MixedSparse, MixedMarks}
 use Rattle.enumset_run.specs.declared.serve.TheConstants.{INPUT_LIMIT}
 use Rattle.enumset_run.specs.declared.program.TheConstants.{READ_LIMIT}
 use Rattle.enumset_run.specs.declared.text_fault.TextFault.{TextFault}
@@ -34,43 +40,58 @@ tested-take : {X : Type 0} (limit : ℕ) (bytes : List ℕ) (long : X) (f : List
 tested-take limit bytes long f true h = rw (longer-take limit bytes h, h) refl
 tested-take limit bytes long f false h = rw (within limit bytes h) refl
 
--- what is read has the answer to the whole input
-answer_to-take : (valid : BitSet) (bytes : List ℕ) → answer_to valid (take READ_LIMIT bytes) ≡ answer_to valid bytes
-answer_to-take valid bytes =
-    tested-take INPUT_LIMIT bytes (Err TooLong) (λ input. answer_to_lines valid (lines input)) (nat_lt INPUT_LIMIT (length bytes)) refl
+-- what is read has the commands of the whole input, and so the answer to it
+commands_of-take : {C : Type 0} (command : List (List ℕ) → Option C) (bytes : List ℕ) → commands_of command (take READ_LIMIT bytes) ≡ commands_of command bytes
+commands_of-take command bytes =
+    tested-take INPUT_LIMIT bytes (Err TooLong) (lines command) (nat_lt INPUT_LIMIT (length bytes)) refl
 
-same_answer : (valid : BitSet) (bytes input : List ℕ) → input ≡ take READ_LIMIT bytes → answer_to valid input ≡ answer_to valid bytes
-same_answer valid bytes input read = ap (answer_to valid) read ∙ answer_to-take valid bytes
+answer_to-take : (valid : BitSet) (bytes : List ℕ) → answer_to valid (take READ_LIMIT bytes) ≡ answer_to valid bytes
+answer_to-take valid bytes = ap (answer_by (replies valid)) (commands_of-take command_of bytes)
+
+mixed_answer_to-take : (valid : BitSet) (width : ℕ) (bytes : List ℕ) → mixed_answer_to valid width (take READ_LIMIT bytes) ≡ mixed_answer_to valid width bytes
+mixed_answer_to-take valid width bytes = ap (answer_by (mixed_replies valid width)) (commands_of-take mixed_command_of bytes)
+
+answer_over-take : (kind : Worked) (bytes : List ℕ) → answer_over kind (take READ_LIMIT bytes) ≡ answer_over kind bytes
+answer_over-take Letters bytes = answer_to-take (from_list letters_bits) bytes
+answer_over-take Sparse bytes = answer_to-take (from_list sparse_bits) bytes
+answer_over-take Marks bytes = answer_to-take (from_list marks_bits) bytes
+answer_over-take Wide bytes = answer_to-take (from_list wide_bits) bytes
+answer_over-take MixedLetters bytes = mixed_answer_to-take (from_list letters_bits) 8 bytes
+answer_over-take MixedSparse bytes = mixed_answer_to-take (from_list sparse_bits) 128 bytes
+answer_over-take MixedMarks bytes = mixed_answer_to-take (from_list marks_bits) 8 bytes
+
+same_answer : (kind : Worked) (bytes input : List ℕ) → input ≡ take READ_LIMIT bytes → answer_over kind input ≡ answer_over kind bytes
+same_answer kind bytes input read = ap (answer_over kind) read ∙ answer_over-take kind bytes
 
 -- what is true of the text of the answer to what was read is true of that to the input
-on_answer : (P : List ℕ → Type 0) (valid : BitSet) (bytes input text : List ℕ) → input ≡ take READ_LIMIT bytes → answer_to valid input ≡ Ok text → P text → IsOkAnd (answer_to valid bytes) P
-on_answer P valid bytes input text read answer holds =
-    subst (λ a. IsOkAnd a P) (sym answer ∙ same_answer valid bytes input read) holds
+on_answer : (P : List ℕ → Type 0) (kind : Worked) (bytes input text : List ℕ) → input ≡ take READ_LIMIT bytes → answer_over kind input ≡ Ok text → P text → IsOkAnd (answer_over kind bytes) P
+on_answer P kind bytes input text read answer holds =
+    subst (λ a. IsOkAnd a P) (sym answer ∙ same_answer kind bytes input read) holds
 
 -- a writer that got the answer to what was read got that to the input
-pub answered : {E : Type 0} (valid : BitSet) (known old new : Option (List ℕ)) (input text : List ℕ) (r : Result (Unit {0}) E) → IfSome known (λ bytes. input ≡ take READ_LIMIT bytes) → answer_to valid input ≡ Ok text
-    → OnOk r (Appends old new text) → OnOk r (IfSome known (λ bytes. IsOkAnd (answer_to valid bytes) (Appends old new)))
-answered valid known old new input text (Err e) read answer written = tt
-answered valid None old new input text (Ok u) read answer written = tt
-answered valid (Some bytes) old new input text (Ok u) read answer written = on_answer (Appends old new) valid bytes input text read answer written
+pub answered : {E : Type 0} (kind : Worked) (known old new : Option (List ℕ)) (input text : List ℕ) (r : Result (Unit {0}) E) → IfSome known (λ bytes. input ≡ take READ_LIMIT bytes) → answer_over kind input ≡ Ok text
+    → OnOk r (Appends old new text) → OnOk r (IfSome known (λ bytes. IsOkAnd (answer_over kind bytes) (Appends old new)))
+answered kind known old new input text (Err e) read answer written = tt
+answered kind None old new input text (Ok u) read answer written = tt
+answered kind (Some bytes) old new input text (Ok u) read answer written = on_answer (Appends old new) kind bytes input text read answer written
 
 -- one that got a front part of it got one of that to the input
-pub begun : {E : Type 0} (valid : BitSet) (known old new : Option (List ℕ)) (input text : List ℕ) (r : Result (Unit {0}) E) (e : E) → IfSome known (λ bytes. input ≡ take READ_LIMIT bytes) → answer_to valid input ≡ Ok text
-    → OnErr r (AppendsFrontOf old new text) → r ≡ Err e → IfSome known (λ bytes. IsOkAnd (answer_to valid bytes) (AppendsFrontOf old new))
-begun valid known old new input text (Ok u) e read answer written failed = absurd (cc)
-begun valid None old new input text (Err e) f read answer written failed = tt
-begun valid (Some bytes) old new input text (Err e) f read answer written failed = on_answer (AppendsFrontOf old new) valid bytes input text read answer written
+pub begun : {E : Type 0} (kind : Worked) (known old new : Option (List ℕ)) (input text : List ℕ) (r : Result (Unit {0}) E) (e : E) → IfSome known (λ bytes. input ≡ take READ_LIMIT bytes) → answer_over kind input ≡ Ok text
+    → OnErr r (AppendsFrontOf old new text) → r ≡ Err e → IfSome known (λ bytes. IsOkAnd (answer_over kind bytes) (AppendsFrontOf old new))
+begun kind known old new input text (Ok u) e read answer written failed = absurd (cc)
+begun kind None old new input text (Err e) f read answer written failed = tt
+begun kind (Some bytes) old new input text (Err e) f read answer written failed = on_answer (AppendsFrontOf old new) kind bytes input text read answer written
 
 -- a fault of the text that was read is one of the input
-pub text_fault : (valid : BitSet) (known : Option (List ℕ)) (input : List ℕ) (fault : TextFault) → IfSome known (λ bytes. input ≡ take READ_LIMIT bytes) → IsFaultOf (answer_to valid input) fault
-    → IfSome known (λ bytes. IsFaultOver (answer_to valid bytes) (Text fault))
-text_fault valid None input fault read why = tt
-text_fault valid (Some bytes) input fault read why = subst (λ a. IsFaultOf a fault) (same_answer valid bytes input read) why
+pub text_fault : (kind : Worked) (known : Option (List ℕ)) (input : List ℕ) (fault : TextFault) → IfSome known (λ bytes. input ≡ take READ_LIMIT bytes) → IsFaultOf (answer_over kind input) fault
+    → IfSome known (λ bytes. IsFaultOver (answer_over kind bytes) (Text fault))
+text_fault kind None input fault read why = tt
+text_fault kind (Some bytes) input fault read why = subst (λ a. IsFaultOf a fault) (same_answer kind bytes input read) why
 
 -- writing fails only where there is something to write
-pub writing_fault : (valid : BitSet) (known : Option (List ℕ)) (input text : List ℕ) (r : Result (Unit {0}) ProgramFault) → IfSome known (λ bytes. input ≡ take READ_LIMIT bytes) → answer_to valid input ≡ Ok text
-    → IfErr r (λ fault. fault ≡ Writing) → (text ≡ [] → IsOk r) → IfErr r (λ fault. IfSome known (λ bytes. IsFaultOver (answer_to valid bytes) fault))
-writing_fault valid known input text (Ok u) read answer why empty = tt
-writing_fault valid None input text (Err fault) read answer why empty = tt
-writing_fault valid (Some bytes) input text (Err fault) read answer why empty =
-    rw why (on_answer (λ t. t ≢ []) valid bytes input text read answer (λ none. let written : false ≡ true = empty none in absurd (cc)))
+pub writing_fault : (kind : Worked) (known : Option (List ℕ)) (input text : List ℕ) (r : Result (Unit {0}) ProgramFault) → IfSome known (λ bytes. input ≡ take READ_LIMIT bytes) → answer_over kind input ≡ Ok text
+    → IfErr r (λ fault. fault ≡ Writing) → (text ≡ [] → IsOk r) → IfErr r (λ fault. IfSome known (λ bytes. IsFaultOver (answer_over kind bytes) fault))
+writing_fault kind known input text (Ok u) read answer why empty = tt
+writing_fault kind None input text (Err fault) read answer why empty = tt
+writing_fault kind (Some bytes) input text (Err fault) read answer why empty =
+    rw why (on_answer (λ t. t ≢ []) kind bytes input text read answer (λ none. let written : false ≡ true = empty none in absurd (cc)))

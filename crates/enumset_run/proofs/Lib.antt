@@ -7,3 +7,6 @@ pub mod Replies
 pub mod Inputs
 pub mod Names
 pub mod Transcripts
+pub mod Cuts
+pub mod MixedItems
+pub mod OneTranscript

@@ -1,6 +1,9 @@
 -- The names of types are texts.
-use Rattle.std.proofs.Common.{◌≡◌, ℕ, Bool, true, false, List, codes, None, refl, sym, subst, rules}
+use Rattle.std.proofs.Common.{◌≡◌, ℕ, Bool, true, false, ltb, List, codes, slice_index_or, None, refl, sym, subst}
+use Rattle.std.specs.List.{list_all, AllPass}
 use Rattle.std.specs.Str.{IsUtf8, bytes_eq}
+use Rattle.std.proofs.lemmas.Bool.{ltb-true}
+use Rattle.std.proofs.lemmas.List.Sums.{AllPass-from_list_all}
 use Rattle.std.proofs.lemmas.Slice.Eq.{bytes_eq-Decides}
 use Rattle.std.proofs.lemmas.Str.{IsUtf8-from_ascii}
 use Rattle.std.proofs.lemmas.Str.Ascii.{IsAscii-from_all}
@@ -13,13 +16,22 @@ bytes_eq-other bytes name false same text other = refl
 bytes_eq-text : (bytes name : List ℕ) → IsUtf8 name → ¬ (IsUtf8 bytes) → bytes_eq bytes name ≡ false
 bytes_eq-text bytes name text other = bytes_eq-other bytes name (bytes_eq bytes name) refl text other
 
+-- a name of ASCII is a text; at a name that is written out the test computes
+bytes_eq-name : (bytes name : List ℕ) → list_all (λ b. ltb b 128) name ≡ true → ¬ (IsUtf8 bytes) → bytes_eq bytes name ≡ false
+bytes_eq-name bytes name ascii other =
+    let each : AllPass (λ b. ltb b 128) name = AllPass-from_list_all (λ b. ltb b 128) name ascii in
+    bytes_eq-text bytes name (IsUtf8-from_ascii name (IsAscii-from_all name (λ k d within. ltb-true (slice_index_or name k d) 128 (each k d within)))) other
+
 -- bytes that are no text name no type
 pub worked_of-other : (bytes : List ℕ) → ¬ (IsUtf8 bytes) → worked_of bytes ≡ None
 worked_of-other bytes other =
-    let letters = bytes_eq-text bytes (codes "letters") (IsUtf8-from_ascii (codes "letters") (IsAscii-from_all (codes "letters") (search rules))) other in
-    let sparse = bytes_eq-text bytes (codes "sparse") (IsUtf8-from_ascii (codes "sparse") (IsAscii-from_all (codes "sparse") (search rules))) other in
-    let marks = bytes_eq-text bytes (codes "marks") (IsUtf8-from_ascii (codes "marks") (IsAscii-from_all (codes "marks") (search rules))) other in
-    let wide = bytes_eq-text bytes (codes "wide") (IsUtf8-from_ascii (codes "wide") (IsAscii-from_all (codes "wide") (search rules))) other in
-    rw (letters, sparse, marks, wide) refl
+    let letters = bytes_eq-name bytes (codes "letters") refl other in
+    let sparse = bytes_eq-name bytes (codes "sparse") refl other in
+    let marks = bytes_eq-name bytes (codes "marks") refl other in
+    let wide = bytes_eq-name bytes (codes "wide") refl other in
+    let mixed_letters = bytes_eq-name bytes (codes "mixed-letters") refl other in
+    let mixed_sparse = bytes_eq-name bytes (codes "mixed-sparse") refl other in
+    let mixed_marks = bytes_eq-name bytes (codes "mixed-marks") refl other in
+    rw (letters, sparse, marks, wide, mixed_letters, mixed_sparse, mixed_marks) refl
 
 pub ruleset name_steps = (worked_of-other)

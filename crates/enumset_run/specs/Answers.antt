@@ -1,6 +1,7 @@
 -- The answer to an input: the text of the replies to the commands of its lines, or why there is none.
---     answer_to_lines      the answer, where it is known what the lines come to
---     answer_to      the answer to an input
+--     commands_of      the commands of an input, or its fault
+--     answer_by      the answer, where it is known what commands an input has and what they reply
+--     answer_to, mixed_answer_to      the answer to an input of commands;  to one of commands of mixed sets
 --     IsFaultOf      what has this answer may fail so
 --     IsReadAs      reading what writes this, or nothing, came to this: it, nothing, or want of memory
 --     AppendsFrontOf      what a writer holds grows by a front part of a text
@@ -8,22 +9,32 @@ use Rattle.std.specs.Prelude.{◌≡◌, ℕ, nat_lt, List, length, take, Option
 use Rattle.std.specs.Option.{IsSome}
 use Rattle.std.specs.Io.KnownBytes.{Appends}
 use Rattle.enumset_repr.specs.BitSet.{BitSet}
-use Rattle.enumset_run.specs.declared.command.Command.{Command}
+use Rattle.enumset_run.specs.declared.reply.Reply.{Reply}
 use Rattle.enumset_run.specs.declared.text_fault.TextFault.{TextFault}
 use Rattle.enumset_run.specs.declared.text_fault.TextFault.TheVariants.{TooLong, OutOfMemory}
 use Rattle.enumset_run.specs.declared.serve.TheConstants.{INPUT_LIMIT}
 use Rattle.enumset_run.specs.Runs.{replies}
-use Rattle.enumset_run.specs.Lines.{lines}
+use Rattle.enumset_run.specs.MixedRuns.{mixed_replies}
+use Rattle.enumset_run.specs.Lines.{command_of, lines}
+use Rattle.enumset_run.specs.MixedLines.{mixed_command_of}
 use Rattle.enumset_run.specs.Texts.{text}
 
--- the text of the replies to the commands that lines stand for
-abbrev pub answer_to_lines : BitSet → Result (List Command) TextFault → Result (List ℕ) TextFault
-answer_to_lines valid (Ok commands) = Ok (text (replies valid commands))
-answer_to_lines valid (Err fault) = Err fault
-
 -- the length is tested first
+abbrev pub commands_of : {C : Type 0} → (List (List ℕ) → Option C) → List ℕ → Result (List C) TextFault
+commands_of command input = if nat_lt INPUT_LIMIT (length input) then Err TooLong else lines command input
+
+-- the text of the replies to the commands that an input has
+abbrev pub answer_by : {C : Type 0} → (List C → List Reply) → Result (List C) TextFault → Result (List ℕ) TextFault
+answer_by replies (Ok commands) = Ok (text (replies commands))
+answer_by replies (Err fault) = Err fault
+
+-- over sets of valid bits
 abbrev pub answer_to : BitSet → List ℕ → Result (List ℕ) TextFault
-answer_to valid input = if nat_lt INPUT_LIMIT (length input) then Err TooLong else answer_to_lines valid (lines input)
+answer_to valid input = answer_by (replies valid) (commands_of command_of input)
+
+-- over sets of bits below a width, of which some are valid
+abbrev pub mixed_answer_to : BitSet → ℕ → List ℕ → Result (List ℕ) TextFault
+mixed_answer_to valid width input = answer_by (mixed_replies valid width) (commands_of mixed_command_of input)
 
 -- what has a value fails for want of memory alone, and what has none by its own fault alone
 abbrev pub IsFaultOf : {A : Type 0} → Result A TextFault → TextFault → Type 0

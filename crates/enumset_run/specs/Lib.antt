@@ -1,9 +1,12 @@
 pub mod States
 pub mod Plans
 pub mod Runs
+pub mod MixedRuns
+pub mod Transcripts
 pub mod Operands
 pub mod Tables
 pub mod Lines
+pub mod MixedLines
 pub mod Texts
 pub mod Answers
 pub mod Faults

@@ -11,7 +11,7 @@
 --     command_of      the command that the tokens of a line write
 --     before      a command before those of the lines after it, or the fault of a line that is no command
 --     line_then, commands_from      what a line and those after it come to;  what lines come to
---     lines      the commands of an input, or the fault of its first line that is no command
+--     lines      the commands of an input, or the fault of its first line that is no command, where it is known what the tokens of a line write
 use Rattle.std.specs.Prelude.{◌==◌, ℕ, ◌+◌, ◌^◌, Bool, true, false, not, ◌&&◌, nat_lt, List, [], ◌∷◌, filter, Option, Some, None, option_map, option_and_then, Result, Ok, Err, if◌then◌else◌}
 use Rattle.std.specs.List.{slice_split}
 use Rattle.std.specs.Str.{all_ascii_digits, byte}
@@ -69,13 +69,13 @@ words_of [] = Some []
 words_of (token ∷ tokens) = option_and_then (λ w. option_map (λ ws. w ∷ ws) (words_of tokens)) (word token)
 
 -- a command over one field, if the field is there, over two and over three
-abbrev pub with_one : (ℕ → Option Command) → Option ℕ → Option Command
+abbrev pub with_one : {C : Type 0} → (ℕ → Option C) → Option ℕ → Option C
 with_one command x = option_and_then command x
 
-abbrev pub with_two : (ℕ → ℕ → Option Command) → Option ℕ → Option ℕ → Option Command
+abbrev pub with_two : {C : Type 0} → (ℕ → ℕ → Option C) → Option ℕ → Option ℕ → Option C
 with_two command x y = option_and_then (λ a. with_one (command a) y) x
 
-abbrev pub with_three : (ℕ → ℕ → ℕ → Option Command) → Option ℕ → Option ℕ → Option ℕ → Option Command
+abbrev pub with_three : {C : Type 0} → (ℕ → ℕ → ℕ → Option C) → Option ℕ → Option ℕ → Option ℕ → Option C
 with_three command x y z = option_and_then (λ a. with_two (command a) y z) x
 
 -- the command that a name and one field write
@@ -121,21 +121,21 @@ command_of [] = None
 command_of (name ∷ fields) = command_by (register_and_words name) name fields
 
 -- the command of line n, if it is one, before those of the lines after it
-abbrev pub before : Option Command → ℕ → Result (List Command) TextFault → Result (List Command) TextFault
+abbrev pub before : {C : Type 0} → Option C → ℕ → Result (List C) TextFault → Result (List C) TextFault
 before None n rest = Err (BadLine n)
 before (Some c) n (Ok cs) = Ok (c ∷ cs)
 before (Some c) n (Err later) = Err later
 
 -- what line n, of these tokens, and the lines after it come to: a line without tokens is passed over, and counts
-abbrev pub line_then : ℕ → List (List ℕ) → Result (List Command) TextFault → Result (List Command) TextFault
-line_then n [] rest = rest
-line_then n (token ∷ tokens) rest = before (command_of (token ∷ tokens)) n rest
+abbrev pub line_then : {C : Type 0} → (List (List ℕ) → Option C) → ℕ → List (List ℕ) → Result (List C) TextFault → Result (List C) TextFault
+line_then command n [] rest = rest
+line_then command n (token ∷ tokens) rest = before (command (token ∷ tokens)) n rest
 
 -- the commands of lines that are counted from n
-abbrev pub commands_from : ℕ → List (List ℕ) → Result (List Command) TextFault
-commands_from n [] = Ok []
-commands_from n (line ∷ more) = line_then n (tokens_of line) (commands_from (n + 1) more)
+abbrev pub commands_from : {C : Type 0} → (List (List ℕ) → Option C) → ℕ → List (List ℕ) → Result (List C) TextFault
+commands_from command n [] = Ok []
+commands_from command n (line ∷ more) = line_then command n (tokens_of line) (commands_from command (n + 1) more)
 
 -- lines are counted from 1
-abbrev pub lines : List ℕ → Result (List Command) TextFault
-lines input = commands_from 1 (lines_of input)
+abbrev pub lines : {C : Type 0} → (List (List ℕ) → Option C) → List ℕ → Result (List C) TextFault
+lines command input = commands_from command 1 (lines_of input)

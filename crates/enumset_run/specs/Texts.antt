@@ -7,7 +7,7 @@ use Rattle.std.specs.Prelude.{ℕ, Bool, true, false, List, ◌++◌, codes}
 use Rattle.std.specs.List.{flat_map}
 use Rattle.std.specs.Fmt.{decimal}
 use Rattle.enumset_run.specs.declared.reply.Reply.{Reply}
-use Rattle.enumset_run.specs.declared.reply.Reply.TheVariants.{Done, Truth, Count, Number, Words, Bit, Absent, Refused}
+use Rattle.enumset_run.specs.declared.reply.Reply.TheVariants.{Done, Truth, Count, Number, Words, Bit, Unknown, Absent, Refused}
 use Rattle.enumset_run.specs.declared.reply.Refusal.{Refusal}
 use Rattle.enumset_run.specs.declared.reply.Refusal.TheVariants.{NoRegister, NotABit, NotAWidth}
 
@@ -30,6 +30,7 @@ text_of (Count n) = decimal n
 text_of (Number n) = decimal n
 text_of (Words ws) = codes "words" ++ words_text ws
 text_of (Bit b) = codes "bit " ++ decimal b
+text_of (Unknown b) = codes "unknown " ++ decimal b
 text_of Absent = codes "none"
 text_of (Refused r) = refusal_text r
 

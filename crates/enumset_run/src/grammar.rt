@@ -5,26 +5,29 @@ ghost use Rattle.enumset_run.specs.Lines.{lines};
 
 mod commands;
 mod fields;
+pub mod line_command;
 mod lines;
+mod mixed_commands;
+mod mixed_tables;
 mod tables;
 mod tokens;
 mod words;
 
-use crate::command::Command;
 use crate::text_fault::TextFault;
-use commands::read_command;
+use line_command::LineCommand;
 use lines::Lines;
 use std::alloc::Global;
 use tokens::Tokens;
 
-/// The commands that the lines of an input write, or the fault of the first line that is no command.
+/// The commands of a kind that the lines of an input write, or the fault of the first line that is no such command.
 ///
 /// Memory is needed for the commands and their words alone. Where it is refused the rest of the lines is still
 /// read, so that want of memory is the error of no input that has a line which is no command.
 #[tactic(auto, using(crate::proofs::Commands::command_steps))]
-pub fn read_commands(alloc: Global, input: &[u8]) -> Result<Vec<Command>, TextFault>
-    ensures commands { IfOk result (λ commands. lines input.now ≡ Ok commands.items) }
-    ensures fault { IfErr result (λ fault. IsFaultOf (lines input.now) fault) }
+pub fn read_commands<C: LineCommand>(alloc: Global, input: &[u8]) -> Result<Vec<C>, TextFault>
+    ensures commands { IfOk result (λ commands.
+        lines C.command_of input.now ≡ Ok commands.items) }
+    ensures fault { IfErr result (λ fault. IsFaultOf (lines C.command_of input.now) fault) }
 {
     let mut commands = Vec::new(alloc);
     let mut has_room = true;
@@ -33,7 +36,7 @@ pub fn read_commands(alloc: Global, input: &[u8]) -> Result<Vec<Command>, TextFa
         number += 1;
         let mut tokens = Tokens::new(line);
         if let Some(name) = tokens.next() {
-            let command = read_command(alloc, name, tokens).ok_or(TextFault::BadLine(number))?;
+            let command = C::read(alloc, name, tokens).ok_or(TextFault::BadLine(number))?;
             has_room = match command {
                 Ok(command) => has_room && commands.push(command).is_ok(),
                 Err(_) => false,

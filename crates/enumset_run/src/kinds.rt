@@ -1,12 +1,12 @@
 //! The worked types by their names, and the answer to an input over each.
 
 ghost use Rattle.std.specs.Prelude.{◌≡◌, IfOk, IfErr, Ok};
-ghost use Rattle.enumset_run.specs.Kinds.{worked_of, valid_bits_of};
-ghost use Rattle.enumset_run.specs.Answers.{answer_to, IsFaultOf};
+ghost use Rattle.enumset_run.specs.Kinds.{worked_of, answer_over};
+ghost use Rattle.enumset_run.specs.Answers.{IsFaultOf};
 
 use crate::letters::Letters;
 use crate::marks::Marks;
-use crate::serve::serve_text;
+use crate::serve::{serve_mixed_text, serve_text};
 use crate::sparse::Sparse;
 use crate::text_fault::TextFault;
 use crate::wide::Wide;
@@ -22,22 +22,27 @@ pub fn worked(name: &str) -> Option<Worked>
         "sparse" => Some(Worked::Sparse),
         "marks" => Some(Worked::Marks),
         "wide" => Some(Worked::Wide),
+        "mixed-letters" => Some(Worked::MixedLetters),
+        "mixed-sparse" => Some(Worked::MixedSparse),
+        "mixed-marks" => Some(Worked::MixedMarks),
         _ => None,
     }
 }
 
-/// The text of the replies to the commands of an input, over the type of that kind.
+/// The text of the replies to the commands of an input, over the sets of the type of that kind, or its mixed sets.
 ///
 /// The errors are those of [`serve_text`].
 pub fn serve_worked(alloc: Global, kind: Worked, input: &[u8]) -> Result<Vec<u8>, TextFault>
-    ensures answer { IfOk result (λ out. answer_to (valid_bits_of kind) input.now ≡ Ok out.items) }
-    ensures fault { IfErr result (λ fault.
-        IsFaultOf (answer_to (valid_bits_of kind) input.now) fault) }
+    ensures answer { IfOk result (λ out. answer_over kind input.now ≡ Ok out.items) }
+    ensures fault { IfErr result (λ fault. IsFaultOf (answer_over kind input.now) fault) }
 {
     match kind {
         Worked::Letters => serve_text::<Letters>(alloc, input),
         Worked::Sparse => serve_text::<Sparse>(alloc, input),
         Worked::Marks => serve_text::<Marks>(alloc, input),
         Worked::Wide => serve_text::<Wide>(alloc, input),
+        Worked::MixedLetters => serve_mixed_text::<Letters>(alloc, input),
+        Worked::MixedSparse => serve_mixed_text::<Sparse>(alloc, input),
+        Worked::MixedMarks => serve_mixed_text::<Marks>(alloc, input),
     }
 }

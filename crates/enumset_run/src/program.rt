@@ -2,10 +2,10 @@
 
 ghost use Rattle.std.specs.Prelude.{◌≡◌, ◌≢◌, ◌⊎◌, ◌+◌, ◌≤◌, [], length, ok_or, take, IfOk, IfErr, IfSome, OnOk, OnErr, IsOk, IsOkAnd, vec_capacity};
 ghost use Rattle.std.specs.Io.KnownBytes.{Appends};
-ghost use Rattle.enumset_run.specs.Answers.{answer_to, AppendsFrontOf};
+ghost use Rattle.enumset_run.specs.Answers.{AppendsFrontOf};
 ghost use Rattle.enumset_run.specs.Arguments.{requested};
 ghost use Rattle.enumset_run.specs.Faults.{IsFaultOver};
-ghost use Rattle.enumset_run.specs.Kinds.{valid_bits_of, worked_of};
+ghost use Rattle.enumset_run.specs.Kinds.{answer_over, worked_of};
 
 use crate::fault::ProgramFault;
 use crate::kinds::{serve_worked, worked};
@@ -83,13 +83,13 @@ pub(crate) fn answer_input<R: Read + Drop, W: Write>(
     // Where the bytes of the reader are known, the writer gets the answer to them, and a fault is one that
     // they may have.
     ensures answer { OnOk result (IfSome (R.remaining reader) (λ input.
-        IsOkAnd (answer_to (valid_bits_of kind) input)
+        IsOkAnd (answer_over kind input)
         (Appends (W.contents writer.old) (W.contents writer.new)))) }
     ensures fault { IfErr result (λ fault. IfSome (R.remaining reader) (λ input.
-        IsFaultOver (answer_to (valid_bits_of kind) input) fault)) }
+        IsFaultOver (answer_over kind input) fault)) }
     // Where writing fails, a front part of the answer was written, and before any other fault nothing.
     ensures begun { result ≡ Err ProgramFault.Writing → IfSome (R.remaining reader) (λ input.
-        IsOkAnd (answer_to (valid_bits_of kind) input)
+        IsOkAnd (answer_over kind input)
         (AppendsFrontOf (W.contents writer.old) (W.contents writer.new))) }
     ensures untouched { IfErr result (λ fault.
         fault ≢ ProgramFault.Writing → writer.new ≡ writer.old) }

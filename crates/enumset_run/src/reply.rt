@@ -17,6 +17,8 @@ pub enum Reply {
     Words(WordList),
     /// The number of a valid bit.
     Bit(u32),
+    /// The number of a bit that is not valid.
+    Unknown(u32),
     /// There is nothing to give.
     Absent,
     /// The command was refused, and nothing changed.
@@ -28,7 +30,7 @@ pub enum Reply {
 pub enum Refusal {
     /// It names a set register past 3, or an iterator register past 1.
     NoRegister,
-    /// It names a bit that is not valid.
+    /// It names a bit that is not valid; `InsertBit` one that is not below the width of the store.
     NotABit,
     /// It names a width other than 8, 16, 32, 64 and 128, or a value that does not fit the width.
     NotAWidth,
@@ -48,6 +50,7 @@ impl fmt::Display for Reply {
             Reply::Number(number) => write!(f, "{number}"),
             Reply::Words(words) => write!(f, "words{words}"),
             Reply::Bit(bit) => write!(f, "bit {bit}"),
+            Reply::Unknown(bit) => write!(f, "unknown {bit}"),
             Reply::Absent => write!(f, "none"),
             Reply::Refused(refusal) => write!(f, "{refusal}"),
         }

@@ -1,13 +1,18 @@
 //! Answers a text of commands by the text of their replies.
 ghost use Rattle.std.specs.Prelude.{◌≡◌, IfOk, IfErr, Ok};
-ghost use Rattle.enumset_run.specs.Answers.{answer_to, IsFaultOf};
+ghost use Rattle.enumset_run.specs.Answers.{answer_to, mixed_answer_to, commands_of, IsFaultOf};
 
+use crate::command::Command;
+use crate::grammar::line_command::LineCommand;
 use crate::grammar::read_commands;
+use crate::mixed_command::MixedCommand;
+use crate::mixed_runs::run_mixed;
 use crate::runs::run;
 use crate::text_fault::TextFault;
 use crate::transcript::write_replies;
 use enumset_repr::EnumSetTypeRepr;
 use enumset_sets::element::EnumSetType;
+use enumset_sets::with_repr::EnumSetTypeWithRepr;
 use std::alloc::Global;
 
 /// The most bytes that an input may have.
@@ -26,10 +31,38 @@ pub fn serve_text<T: EnumSetType>(alloc: Global, input: &[u8]) -> Result<Vec<u8>
     ensures fault { IfErr result (λ fault.
         IsFaultOf (answer_to (T.Repr.members T.ALL_BITS) input.now) fault) }
 {
+    let commands = commands_of::<Command>(alloc, input)?;
+    let replies = run::<T>(alloc, &commands)?;
+    Ok(write_replies(alloc, &replies)?)
+}
+
+/// The text of the replies to the commands of mixed sets of an input.
+///
+/// The errors are those of [`serve_text`].
+pub fn serve_mixed_text<T: EnumSetTypeWithRepr>(
+    alloc: Global,
+    input: &[u8],
+) -> Result<Vec<u8>, TextFault>
+    // The replies are those of finite sets of bit numbers below the store's width.
+    ensures answer { IfOk result (λ out.
+        mixed_answer_to (T.Repr.members T.ALL_BITS) T.Repr.WIDTH input.now ≡ Ok out.items) }
+    // A fault is the input's own where it has one, and else want of memory.
+    ensures fault { IfErr result (λ fault.
+        IsFaultOf (mixed_answer_to (T.Repr.members T.ALL_BITS) T.Repr.WIDTH input.now) fault) }
+{
+    let commands = commands_of::<MixedCommand>(alloc, input)?;
+    let replies = run_mixed::<T>(alloc, &commands)?;
+    Ok(write_replies(alloc, &replies)?)
+}
+
+/// The commands of an input, of which the length is tested first.
+fn commands_of<C: LineCommand>(alloc: Global, input: &[u8]) -> Result<Vec<C>, TextFault>
+    ensures commands { IfOk result (λ commands.
+        commands_of C.command_of input.now ≡ Ok commands.items) }
+    ensures fault { IfErr result (λ fault. IsFaultOf (commands_of C.command_of input.now) fault) }
+{
     if input.len() > INPUT_LIMIT {
         return Err(TextFault::TooLong);
     }
-    let commands = read_commands(alloc, input)?;
-    let replies = run::<T>(alloc, &commands)?;
-    Ok(write_replies(alloc, &replies)?)
+    read_commands(alloc, input)
 }

@@ -1,6 +1,6 @@
 //! The worked types.
 
-/// A type whose sets the program runs commands over.
+/// A type whose sets, or mixed sets, the program runs commands over.
 #[derive(Clone, Copy, Debug, PartialEq, Eq)]
 pub enum Worked {
     /// `letters`: bits 0 to 6, in a `u8`.
@@ -11,4 +11,10 @@ pub enum Worked {
     Marks,
     /// `wide`: bits 3, 64 and 130, in three words.
     Wide,
+    /// `mixed-letters`: mixed sets of `letters`.
+    MixedLetters,
+    /// `mixed-sparse`: mixed sets of `sparse`.
+    MixedSparse,
+    /// `mixed-marks`: mixed sets of `marks`.
+    MixedMarks,
 }

@@ -1,9 +1,9 @@
 //! The command that a name and its fields write.
-ghost use Rattle.std.specs.Prelude.{◌≡◌, ◌∷◌};
+ghost use Rattle.std.specs.Prelude.{◌≡◌};
 ghost use Rattle.enumset_run.specs.Lines.{command_of, with_fields, one_field, two_fields, three_fields};
-ghost use Rattle.enumset_run.specs.Answers.{IsReadAs};
 
 use super::fields::{read_bit, read_number, read_register};
+use super::line_command::LineCommand;
 use super::tables::{
     one_register, register_and_bit, register_and_count, register_and_width, register_and_words,
     register_width_and_value, takes_words, three_registers, two_registers,
@@ -13,22 +13,18 @@ use super::words::read_words;
 use crate::command::Command;
 use std::alloc::{AllocError, Global};
 
-/// The command of this name whose fields are the tokens left, or `None` where they write no command. The error is
-/// want of memory for the words of one.
-pub(super) fn read_command(
-    alloc: Global,
-    name: &[u8],
-    mut tokens: Tokens,
-) -> Option<Result<Command, AllocError>>
-    ensures { IsReadAs (command_of (name.now ∷ tokens.entry)) result }
-{
-    if !takes_words(name) {
-        return Some(Ok(with_fields(name, tokens)?));
-    }
-    let r = read_register(tokens.next()?)?;
-    match read_words(alloc, tokens)? {
-        Ok(words) => Some(Ok(register_and_words(name, r, words)?)),
-        Err(error) => Some(Err(error)),
+impl LineCommand for Command {
+    ghost command_of = { command_of };
+
+    fn read(alloc: Global, name: &[u8], mut tokens: Tokens) -> Option<Result<Command, AllocError>> {
+        if !takes_words(name) {
+            return Some(Ok(with_fields(name, tokens)?));
+        }
+        let r = read_register(tokens.next()?)?;
+        match read_words(alloc, tokens)? {
+            Ok(words) => Some(Ok(register_and_words(name, r, words)?)),
+            Err(error) => Some(Err(error)),
+        }
     }
 }
 

@@ -125,7 +125,7 @@ pub(super) fn register_and_words(name: &[u8], r: u8, words: WordList) -> Option<
 }
 
 /// Whether a name is this word.
-fn is(name: &[u8], word: &str) -> bool
+pub(super) fn is(name: &[u8], word: &str) -> bool
     ensures { result ≡ bytes_eq name.now word.now }
 {
     name == word.as_bytes()

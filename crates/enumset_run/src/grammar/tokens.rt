@@ -6,7 +6,7 @@ use std::marker::Model;
 
 /// The tokens of a line that are still to come.
 #[derive(Drop)]
-pub(super) struct Tokens<'a> {
+pub(crate) struct Tokens<'a> {
     rest: &'a [u8],
 }
 
@@ -27,6 +27,13 @@ impl<'a> Tokens<'a> {
         ensures { result ≡ tokens_of line.now }
     {
         Tokens { rest: line }
+    }
+
+    /// The same tokens once more.
+    pub(super) fn same(&self) -> Tokens<'a>
+        ensures { result ≡ self.now }
+    {
+        Tokens { rest: self.rest }
     }
 }
 

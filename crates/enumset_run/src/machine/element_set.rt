@@ -11,7 +11,7 @@ use enumset_sets::enum_set::EnumSet;
 use enumset_sets::enum_set_iter::EnumSetIter;
 
 /// The element of a valid bit.
-fn element_of<T: EnumSetType>(bit: u32) -> T
+pub(super) fn element_of<T: EnumSetType>(bit: u32) -> T
     requires { set.contains (T.Repr.members T.ALL_BITS) bit ≡ true }
     ensures { T.elements.bit result ≡ bit }
 {

@@ -37,6 +37,18 @@ program,letterssparse|reading||!2 unknown type
 --
 program,lettersletterslettersletterslettersletterslettersletterslettersletters|reading||!2 unknown type
 --
+program,mixed-wide|reading||!2 unknown type
+--
+program,mixed-|reading||!2 unknown type
+--
+program,Mixed-letters|reading||!2 unknown type
+--
+program,letters||has_bit 0 0
+|!2 line 1: not a command
+--
+program,mixed-letters||has_bit 0 0
+|false
+--
 program,letters||all 0
 len 0
 |ok
@@ -111,7 +123,7 @@ fn each_row_has_its_outcome(rt: HostRuntime) -> Result<(), Fail> {
         assert!(rt; outcome.as_slice() == expected.as_bytes(), "{row}");
         rows = rows.saturating_add(1);
     }
-    assert!(rt; rows == 23);
+    assert!(rt; rows == 28);
     Ok(())
 }
 

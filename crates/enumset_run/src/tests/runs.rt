@@ -2,7 +2,7 @@
 
 use super::surroundings::{Source, outcome};
 use super::text_forms::TEXT_FORMS;
-use super::vectors;
+use super::vectors::{letters, marks, mixed_letters, mixed_marks, mixed_sparse, sparse, wide};
 use std::test::Fail;
 
 const WORKED_RUNS: &str = "\
@@ -293,14 +293,183 @@ K1 no register
 --
 letters
 ==
+--
+mixed-marks
+from_number 0 8 9
+len 0
+valid_len 0
+unknown 0
+as_enumset 1 0
+full_complement 1 0
+number 1 8
+iter 0 0
+next 0
+next 0
+next 0
+has_bit 0 256
+insert_bit 0 8
+remove_bit 0 256
+truncate 2 0
+number 2 8
+==
+ok
+2
+1
+true
+none
+ok
+246
+ok
+bit 0
+unknown 3
+none
+false
+K2 not a bit
+false
+ok
+1
+--
+mixed-marks
+insert_bit 4 8
+has_bit 4 9
+remove_bit 4 9
+full_complement 0 4
+full_complement 4 0
+valid_len 4
+unknown 255
+as_enumset 0 4
+as_enumset 4 0
+truncate 0 4
+truncate 4 0
+==
+K1 no register
+K1 no register
+K1 no register
+K1 no register
+K1 no register
+K1 no register
+K1 no register
+K1 no register
+K1 no register
+K1 no register
+K1 no register
+--
+mixed-marks
+insert_bit 0 7
+insert_bit 0 7
+insert_bit 0 4294967295
+has_bit 0 7
+has_bit 0 8
+has_bit 0 4294967295
+iter 0 0
+remove_bit 0 7
+remove_bit 0 7
+remove_bit 0 8
+remove_bit 0 4294967295
+left 0
+next_back 0
+==
+true
+false
+K2 not a bit
+true
+false
+false
+ok
+true
+false
+false
+false
+1
+unknown 7
+--
+mixed-marks
+only 0 3
+insert 0 3
+remove 0 3
+contains 0 3
+all 0
+number 0 8
+from_number_cut 1 16 65535
+number 1 8
+from_number 1 16 256
+number 1 8
+from_words 1 256
+from_words_cut 1 257 1
+words 1 1
+as_enumset 2 0
+equal 2 0
+complement 2 1
+number 2 8
+==
+K2 not a bit
+K2 not a bit
+K2 not a bit
+K2 not a bit
+ok
+7
+ok
+255
+none
+255
+none
+ok
+words 1
+ok
+true
+ok
+6
+--
+mixed-sparse
+insert_bit 0 127
+insert_bit 0 126
+insert_bit 0 128
+unknown 0
+valid_len 0
+number 0 64
+words 0 2
+truncate 0 0
+words 0 2
+==
+true
+true
+K2 not a bit
+true
+1
+none
+words 0 13835058055282163712
+ok
+words 0 9223372036854775808
+--
+mixed-letters
+full_complement 0 0
+number 0 8
+complement 0 0
+len 0
+==
+ok
+255
+ok
+0
 ";
+
+const TABLES: [&str; 9] = [
+    WORKED_RUNS,
+    TEXT_FORMS,
+    letters::RUNS,
+    sparse::RUNS,
+    marks::RUNS,
+    wide::RUNS,
+    mixed_letters::RUNS,
+    mixed_sparse::RUNS,
+    mixed_marks::RUNS,
+];
 
 // A run has the name of a type, the inputs, and what the program makes of each of them.
 #[test]
 fn each_run_has_its_output(rt: HostRuntime) -> Result<(), Fail> {
-    let [letters, sparse, wide] = vectors::RUNS;
     let mut inputs = 0usize;
-    for runs in [WORKED_RUNS, TEXT_FORMS, letters, sparse, wide] {
+    for runs in TABLES {
         for run in runs.split("--\n").skip(1) {
             let (asked, expected) = run.split_once("==\n").unwrap_or((run, ""));
             let (name, texts) = asked.split_once("\n").unwrap_or((asked, ""));
@@ -312,6 +481,6 @@ fn each_run_has_its_output(rt: HostRuntime) -> Result<(), Fail> {
             }
         }
     }
-    assert!(rt; inputs == 126);
+    assert!(rt; inputs == 170);
     Ok(())
 }

@@ -28,6 +28,21 @@ insert 256 6|insert 0 4294967296|insert 0 99999999999999999999999|insert 0\
 |compare 0 1|has_bit 0 1==
 !2 line 1: not a command
 --
+mixed-marks
+has_bit 0|has_bit 0 4294967296|has_bit 0 1 1|insert_bit 256 1|remove_bit 0 x|full_complement 0\
+|full_complement 0 256|valid_len|valid_len 0 0|unknown 256|unknown|as_enumset 0|truncate 0 1 2\
+|Has_bit 0 1|hasbit 0 1|insert 0|from_words 0 x==
+!2 line 1: not a command
+--
+mixed-marks
+has_bit 0 1|  has_bit   000  00000000004294967295 \r\n|remove_bit 0 7\n|unknown 3==
+false
+--
+mixed-marks
+valid_len 0\n\nlen 0==
+0
+0
+--
 letters
 \nlen==
 !2 line 2: not a command

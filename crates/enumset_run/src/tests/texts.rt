@@ -21,6 +21,7 @@ fn replies_and_faults_have_their_texts(rt: HostRuntime) -> Result<(), Fail> {
         Reply::Words(WordList::from(Vec::new(alloc))),
         Reply::Words(WordList::from(Vec::from_slice(alloc, &[8, 18446744073709551615, 0])?)),
         Reply::Bit(3),
+        Reply::Unknown(3),
         Reply::Absent,
         Reply::Refused(Refusal::NoRegister),
         Reply::Refused(Refusal::NotABit),
@@ -55,6 +56,7 @@ false
 words
 words 8 18446744073709551615 0
 bit 3
+unknown 3
 none
 K1 no register
 K2 not a bit

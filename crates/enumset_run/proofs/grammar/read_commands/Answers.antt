@@ -1,16 +1,17 @@
 use Rattle.std.proofs.Common.{rules, ◌≡◌, ◌+◌, ◌∷◌, [], ◌++◌, true, Some, ap, sym, ◌∙◌}
 use Rattle.std.specs.Result.{result_err, is_ok}
-use Rattle.enumset_run.specs.Lines.{before, command_of, commands_from}
+use Rattle.enumset_run.specs.Lines.{before, commands_from}
 use Rattle.enumset_run.proofs.Commands.{preceded_by-before, result_err-before}
 use Rattle.enumset_run.proofs.grammar.read_commands.Goals as goal
 
 pub loop-line-preserved-then-has_room : goal.loop-line-preserved-then-has_room
-loop-line-preserved-then-has_room c =
+loop-line-preserved-then-has_room g c =
+    let command_of = g.C.LineCommand.command_of in
     let n = c.loop-line.number + 1 in
     let command = c.in-Ok.command in
-    let rest = commands_from (n + 1) c.next.new.self in
+    let rest = commands_from command_of (n + 1) c.next.new.self in
     let own : command_of (c.in-Some-next.name.now ∷ c.next-in-loop-line.new.self) ≡ Some command = search rules in
-    let line : commands_from n c.loop-line.line-iterator ≡ before (Some command) n rest = search rules in
+    let line : commands_from command_of n c.loop-line.line-iterator ≡ before (Some command) n rest = search rules in
     record {
       commands = λ pushed.
           let kept : is_ok c.push.result ≡ true = search rules in

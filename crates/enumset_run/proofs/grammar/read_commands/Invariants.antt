@@ -7,8 +7,10 @@ use Rattle.enumset_run.proofs.grammar.read_commands.Given as goal
 -- Until memory is refused the commands so far, before those of what is left, are those of the input. The fault
 -- of what is left is that of the input.
 abbrev pub invariant-loop-line : goal.invariant-loop-line
-invariant-loop-line l = record {
-  commands : l.has_room ≡ true → preceded_by l.commands.items (commands_from (l.number + 1) l.line-iterator) ≡ lines l.input;
-  fault : result_err (commands_from (l.number + 1) l.line-iterator) ≡ result_err (lines l.input);
-  counted : l.number + length l.line-iterator < 2 ^ 64;
-}
+invariant-loop-line g l =
+    let command_of = g.C.LineCommand.command_of in
+    record {
+      commands : l.has_room ≡ true → preceded_by l.commands.items (commands_from command_of (l.number + 1) l.line-iterator) ≡ lines command_of l.input;
+      fault : result_err (commands_from command_of (l.number + 1) l.line-iterator) ≡ result_err (lines command_of l.input);
+      counted : l.number + length l.line-iterator < 2 ^ 64;
+    }

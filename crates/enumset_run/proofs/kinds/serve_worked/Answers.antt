@@ -18,3 +18,15 @@ returns-in-Marks-clause-answer c =
 pub returns-in-Wide-clause-answer : goal.returns-in-Wide-clause-answer
 returns-in-Wide-clause-answer c =
     rw (c.in-Wide.is, ← words_listed wide_bits (8 ∷ 1 ∷ 4 ∷ []) refl) c.serve_text-in-Wide.ensures.answer
+
+pub returns-in-MixedLetters-clause-answer : goal.returns-in-MixedLetters-clause-answer
+returns-in-MixedLetters-clause-answer c =
+    rw (c.in-MixedLetters.is, ← bits_listed letters_bits 127 refl) c.serve_mixed_text.ensures.answer
+
+pub returns-in-MixedSparse-clause-answer : goal.returns-in-MixedSparse-clause-answer
+returns-in-MixedSparse-clause-answer c =
+    rw (c.in-MixedSparse.is, ← bits_listed sparse_bits 170141183460469231731687303716958897152 refl) c.serve_mixed_text-in-MixedSparse.ensures.answer
+
+pub returns-in-MixedMarks-clause-answer : goal.returns-in-MixedMarks-clause-answer
+returns-in-MixedMarks-clause-answer c =
+    rw (c.in-MixedMarks.is, ← bits_listed marks_bits 7 refl) c.serve_mixed_text-in-MixedMarks.ensures.answer

@@ -1,7 +1,7 @@
 //! The replies of the Rust crate to commands over `sparse`.
 
-/// The runs, in the form of [`super::RUNS`].
-pub(super) const RUNS: &str = "\
+/// The runs, in the form of the other tables.
+pub(crate) const RUNS: &str = "\
 --
 sparse
 clear 1

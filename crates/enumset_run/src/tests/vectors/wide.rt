@@ -1,7 +1,7 @@
 //! The replies of the Rust crate to commands over `wide`.
 
-/// The runs, in the form of [`super::RUNS`].
-pub(super) const RUNS: &str = "\
+/// The runs, in the form of the other tables.
+pub(crate) const RUNS: &str = "\
 --
 wide
 only 0 4294967295

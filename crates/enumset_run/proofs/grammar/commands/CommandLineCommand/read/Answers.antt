@@ -2,7 +2,7 @@ use Rattle.std.proofs.Common.{rules, ◌≡◌, ◌∷◌, Some}
 use Rattle.enumset_run.specs.Lines.{register, words_of}
 use Rattle.enumset_run.specs.Tables.{register_and_words}
 use Rattle.enumset_run.proofs.WordTokens.{command_by-words}
-use Rattle.enumset_run.proofs.grammar.commands.read_command.Goals as goal
+use Rattle.enumset_run.proofs.grammar.commands.CommandLineCommand.read.Goals as goal
 
 pub returns-in_ok-register_and_words-in-Ok : goal.returns-in_ok-register_and_words-in-Ok
 returns-in_ok-register_and_words-in-Ok c =

@@ -1,0 +1,28 @@
+//! The commands of a run of mixed sets.
+
+use crate::command::Command;
+
+/// One command of a run of mixed sets: one that every run has, or one on bits that need not be valid.
+///
+/// The fields are those of a [`Command`]. Bits below the width of the type's store may be members.
+#[derive(Drop)]
+pub enum MixedCommand {
+    /// A command that every run has.
+    Common(Command),
+    /// `has_bit r bit`: replies whether the bit is a member.
+    HasBit { r: u8, bit: u32 },
+    /// `insert_bit r bit`: puts a bit below the width into a set, and replies whether it was absent.
+    InsertBit { r: u8, bit: u32 },
+    /// `remove_bit r bit`: takes the bit out of a set, and replies whether it was present.
+    RemoveBit { r: u8, bit: u32 },
+    /// `full_complement to a`: puts the bits below the width that are not in `a` into `to`.
+    FullComplement { to: u8, a: u8 },
+    /// `valid_len r`: replies how many members of a set are valid bits.
+    ValidLen { r: u8 },
+    /// `unknown r`: replies whether some member of a set is no valid bit.
+    Unknown { r: u8 },
+    /// `as_enumset to a`: puts the members of `a` into `to`, if each of them is a valid bit.
+    AsEnumset { to: u8, a: u8 },
+    /// `truncate to a`: puts those members of `a` that are valid bits into `to`.
+    Truncate { to: u8, a: u8 },
+}
