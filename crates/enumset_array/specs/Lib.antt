@@ -2,6 +2,7 @@ pub mod Cursors
 pub mod Laws
 pub mod OneStep
 pub mod Stored
+pub mod Order
 pub mod Views
 pub mod Walks
 pub mod WordList

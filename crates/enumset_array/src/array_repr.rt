@@ -19,7 +19,7 @@ pub(crate) const WORD_LIMIT: usize = 67108864;
 ///
 /// It mirrors `ArrayRepr` of Rust's `enumset`. The words past the first [`LEN`](ArrayRepr::LEN) are 0: a
 /// value is built with a proof of that, which is none up to 67108863 words, where all are in use.
-#[derive(Clone, Copy, Debug, PartialEq, Eq)]
+#[derive(Clone, Copy, Debug, PartialEq, Eq, Hash)]
 pub struct ArrayRepr<const N: usize>(pub [u64; N]);
 
 impl<const N: usize> Model for ArrayRepr<N> {

@@ -17,6 +17,7 @@ pub mod array_repr;
 mod asks;
 pub mod cursors;
 mod operators;
+mod order;
 pub mod row;
 mod rows;
 pub mod shown_row;
