@@ -6,6 +6,7 @@ ghost use Rattle.enumset_repr.specs.BitSet.{rising, len};
 ghost use Rattle.enumset_repr.specs.Number.{bits};
 ghost use Rattle.enumset_array.specs.Stored.{in_use, set_of, IsStore};
 ghost use Rattle.enumset_repr.specs.Words.{words as words_of_set};
+ghost use Rattle.enumset_array.specs.Laws.Order.{compare_is};
 ghost use Rattle.enumset_array.specs.Laws.Stored.{set_of_none, within, inverse, width_words, equal};
 
 use crate::array_iter::ArrayIter;
@@ -136,6 +137,8 @@ impl<const N: usize> EnumSetTypeRepr for ArrayRepr<N> {
     ghost words = { width_words N };
 
     ghost eq_is = { equal N };
+
+    ghost cmp_is = { compare_is N };
 
     ghost can_bitand = { λ _ _. tt };
 

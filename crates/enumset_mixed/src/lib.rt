@@ -7,10 +7,12 @@
 
 pub mod conversions;
 mod folds;
+mod hash;
 pub mod mixed_enum_set;
 pub mod mixed_enum_set_iter;
 pub mod mixed_value;
 mod operators;
+mod order;
 
 pub use conversions::convert_mixed;
 pub use mixed_enum_set::MixedEnumSet;

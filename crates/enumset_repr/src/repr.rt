@@ -5,10 +5,12 @@ ghost use Rattle.std.specs.Iterator.{YieldsFirst, YieldsLast, item_count};
 ghost use Rattle.enumset_repr.specs.BitSet as set;
 ghost use Rattle.enumset_repr.specs.BitSet.{BitSet};
 ghost use Rattle.enumset_repr.specs.Number.{bits, number};
+ghost use Rattle.enumset_repr.specs.Order.{compare};
 ghost use Rattle.enumset_repr.specs.Words.{word as word_of, with_word, words as words_of, bits_of};
 
 use crate::halves::{halves_of, joined};
 use std::fmt::Debug;
+use std::hash::Hash;
 use std::ops::{BitAnd, BitOr, BitXor, Not};
 
 /// A store of bits: a set of bit numbers below [`WIDTH`](EnumSetTypeRepr::WIDTH).
@@ -19,6 +21,8 @@ use std::ops::{BitAnd, BitOr, BitXor, Not};
 #[tactic(auto, using(crate::specs::Laws::Low::cuts_to))]
 pub trait EnumSetTypeRepr: Copy
     + Eq
+    + Ord
+    + Hash
     + Debug
     + BitAnd<Output = Self>
     + BitOr<Output = Self>
@@ -442,6 +446,10 @@ pub trait EnumSetTypeRepr: Copy
     // Two values are equal exactly if their sets are.
     ghost eq_is: { (a b : Self) → is_value a → is_value b
         → (IsTrue (Self.PartialEq.eq a b) ↔ (members a ≡ members b)) };
+
+    // Two values compare as their sets do.
+    ghost cmp_is: { (a b : Self) → is_value a → is_value b
+        → Self.Ord.cmp a b ≡ compare (members a) (members b) };
 
     // The operators are allowed at all values.
     ghost can_bitand: { (a b : Self) → Self.BitAnd.can_bitand a b };

@@ -3,8 +3,10 @@
 
 ghost use Rattle.std.specs.Prelude.{◌≡◌};
 ghost use Rattle.enumset_repr.specs.BitSet as set;
+ghost use Rattle.enumset_repr.specs.Order.{compare};
 
 use enumset_repr::repr::EnumSetTypeRepr;
+use std::cmp::Ordering;
 
 /// The members of both.
 pub fn intersection_of<R: EnumSetTypeRepr>(a: R, b: R) -> R
@@ -48,6 +50,15 @@ pub fn are_same<R: EnumSetTypeRepr>(a: R, b: R) -> bool
     a.known();
     b.known();
     a == b
+}
+
+/// How their sets compare: the one that holds the greatest number that is in just one of them is the greater.
+pub fn order_of<R: EnumSetTypeRepr>(a: R, b: R) -> Ordering
+    ensures { result ≡ compare (R.members a) (R.members b) }
+{
+    a.known();
+    b.known();
+    a.cmp(&b)
 }
 
 /// Whether there is no member.

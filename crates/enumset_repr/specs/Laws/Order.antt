@@ -1,11 +1,10 @@
 -- The order of two sets.
 --     compare-ranks      what `compare` answers, by the numbers of the sets
---     compare-total, compare-same      it is a total order;  it is equal only for equal sets
---     compare-number      the greater set has the greater number
+--     compare-total, compare-same, compare-itself      it is a total order, and equal only for equal sets
+--     compare-number, compare-bits      it is the order of the sets' numbers
 --     compare-subset      a proper subset is less
 --     compare-turned      for subsets of one set, taking each from it turns the order round
---     same-compare, compare-partial      it goes with `is_same`
---     compare-alike      sets with the same greatest difference, which the first holds in both or in none, compare alike
+--     same-compare, compare-partial      what `PartialOrd` and `Ord` ask besides
 use Rattle.std.proofs.Common.{◌≡◌, ◌≢◌, ◌<◌, ℕ, suc, ◌+◌, ◌*◌, ◌/◌, ◌%◌, ◌^◌, Bool, true, false, cond, not, ◌&&◌, ◌||◌, Option, Some, None, refl, sym, ap, subst, ◌∙◌, arith, true≢false, suc-mul}
 use Rattle.std.specs.Prelude.{◌==◌, ◌↔◌}
 use Rattle.std.specs.declared.cmp.Ordering.{Ordering}

@@ -5,6 +5,7 @@ ghost use Rattle.std.specs.Int.{w128};
 ghost use Rattle.enumset_repr.specs.BitSet as set;
 ghost use Rattle.enumset_repr.specs.Number.{bits, number};
 ghost use Rattle.enumset_repr.specs.Laws.Numbers.{bits-zero};
+ghost use Rattle.enumset_repr.specs.Laws.Order.{compare-bits};
 ghost use Rattle.enumset_repr.specs.Laws.Integers.{within_width, number_of_bits, equal_bits, and_is, or_is, xor_is, not_is};
 
 use crate::primitive::Primitive;
@@ -116,6 +117,8 @@ impl EnumSetTypeRepr for u128 {
     ghost words = { refl };
 
     ghost eq_is = { equal_bits w128 };
+
+    ghost cmp_is = { λ a b _ _. compare-bits a b };
 
     ghost can_bitand = { λ _ _. tt };
 

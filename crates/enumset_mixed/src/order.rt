@@ -1,0 +1,36 @@
+//! The order of mixed sets: that of their members' bits, known and unknown, whatever the store.
+
+ghost use Rattle.std.specs.Prelude.{Some, refl};
+ghost use Rattle.enumset_repr.specs.Order.{compare};
+ghost use Rattle.enumset_repr.specs.Laws.Order.{compare-partial, compare-total, same-compare};
+
+use crate::mixed_enum_set::MixedEnumSet;
+use enumset_sets::store::order_of;
+use enumset_sets::with_repr::EnumSetTypeWithRepr;
+use std::cmp::Ordering;
+
+impl<T: EnumSetTypeWithRepr> PartialOrd for MixedEnumSet<T> {
+    ghost partial_cmp = { λ s t. Some (compare s t) };
+
+    ghost laws = { compare-partial };
+
+    fn partial_cmp(&self, other: &MixedEnumSet<T>) -> Option<Ordering> {
+        Some(self.cmp(other))
+    }
+}
+
+/// Of two sets that differ, the greater is the one that holds the greatest bit that just one of them has. So it has the
+/// greater number, and a proper subset is less.
+impl<T: EnumSetTypeWithRepr> Ord for MixedEnumSet<T> {
+    ghost cmp = { compare };
+
+    ghost total = { compare-total };
+
+    ghost matches_partial_cmp = { λ _ _. refl };
+
+    ghost matches_eq = { same-compare };
+
+    fn cmp(&self, other: &MixedEnumSet<T>) -> Ordering {
+        order_of(self.repr, other.repr)
+    }
+}

@@ -1,0 +1,36 @@
+//! The order of sets of elements: that of their members' bits, whatever the store.
+
+ghost use Rattle.std.specs.Prelude.{Some, refl};
+ghost use Rattle.enumset_repr.specs.Order.{compare};
+ghost use Rattle.enumset_repr.specs.Laws.Order.{compare-partial, compare-total, same-compare};
+
+use crate::element::EnumSetType;
+use crate::enum_set::EnumSet;
+use crate::store::order_of;
+use std::cmp::Ordering;
+
+impl<T: EnumSetType> PartialOrd for EnumSet<T> {
+    ghost partial_cmp = { λ s t. Some (compare s t) };
+
+    ghost laws = { compare-partial };
+
+    fn partial_cmp(&self, other: &EnumSet<T>) -> Option<Ordering> {
+        Some(self.cmp(other))
+    }
+}
+
+/// Of two sets that differ, the greater is the one that holds the greatest bit that just one of them has. So it has the
+/// greater number, and a proper subset is less.
+impl<T: EnumSetType> Ord for EnumSet<T> {
+    ghost cmp = { compare };
+
+    ghost total = { compare-total };
+
+    ghost matches_partial_cmp = { λ _ _. refl };
+
+    ghost matches_eq = { same-compare };
+
+    fn cmp(&self, other: &EnumSet<T>) -> Ordering {
+        order_of(self.repr, other.repr)
+    }
+}
