@@ -13,6 +13,7 @@ pub mod mixed_enum_set_iter;
 pub mod mixed_value;
 mod operators;
 mod order;
+mod text;
 
 pub use conversions::convert_mixed;
 pub use mixed_enum_set::MixedEnumSet;

@@ -2,3 +2,4 @@ pub mod Elements
 pub mod Folds
 pub mod Held
 pub mod Laws
+pub mod Texts

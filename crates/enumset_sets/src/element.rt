@@ -1,6 +1,6 @@
 //! The trait of element types.
 
-ghost use Rattle.std.specs.Prelude.{◌≡◌, ℕ, IsTrue};
+ghost use Rattle.std.specs.Prelude.{◌≡◌, ℕ, IsTrue, List, []};
 ghost use Rattle.enumset_repr.specs.BitSet.{is_in};
 ghost use Rattle.enumset_sets.specs.Elements.{Elements, IsElementType};
 
@@ -16,6 +16,10 @@ pub trait EnumSetType: Copy + Eq {
 
     // The bit of each value, and the list of the valid bits, one for each variant.
     ghost elements: { Elements Self };
+
+    // The values, in any order. Where they are listed and their texts are stated, so are those of sets; without a list
+    // it is that of the empty set alone.
+    ghost values: { List Self } = { [] };
 
     ghost ALL_BITS: { Self.Repr };
 

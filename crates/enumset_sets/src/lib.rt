@@ -17,6 +17,7 @@ mod order;
 pub mod raw;
 pub mod store;
 mod taken;
+pub mod text;
 pub mod with_repr;
 mod words;
 
