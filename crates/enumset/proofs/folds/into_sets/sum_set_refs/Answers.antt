@@ -1,0 +1,10 @@
+use Rattle.std.proofs.Common.{ap, sym, ◌∙◌}
+use Rattle.enumset_repr.specs.BitSet.{union}
+use Rattle.enumset_sets.specs.Laws.Folds.{union_all_mapped}
+use Rattle.enumset.proofs.folds.into_sets.sum_set_refs.Goals as goal
+
+pub loop-set-preserved : goal.loop-set-preserved
+loop-set-preserved g c =
+    c.union-all.ensures
+    ∙ ap (union c.in-Some.set.now) c.loop-set.invariant
+    ∙ sym (union_all_mapped _ c.loop-set.yielded c.in-Some.set)
