@@ -1,4 +1,4 @@
-use Rattle.std.proofs.Common.{◌<◌, ◌∙◌, length, arith}
+use Rattle.std.proofs.Common.{◌<◌, ◌∙◌, length, refl, arith}
 use Rattle.enumset_run.specs.Runs.{outcome}
 use Rattle.enumset_run.proofs.Replies.{replies_by-next}
 use Rattle.enumset_run.proofs.runs.run_over_room.Goals as goal
@@ -13,3 +13,6 @@ loop-command-preserved g c =
       counted = omega arith;
       room = omega arith;
     }
+
+pub returns-clause-succeeds : goal.returns-clause-succeeds
+returns-clause-succeeds g c = λ _. refl
