@@ -20,3 +20,15 @@ loop-line-preserved-then-has_room g c =
       fault = sym (result_err-before command n rest) ∙ ap result_err (sym line) ∙ c.loop-line.invariant.fault;
       counted = search rules;
     }
+
+-- a line without tokens
+pub loop-line-preserved : goal.loop-line-preserved
+loop-line-preserved g c =
+    let command_of = g.C.LineCommand.command_of in
+    let n = c.loop-line.number + 1 in
+    let passed : commands_from command_of n c.loop-line.line-iterator ≡ commands_from command_of (n + 1) c.next.new.self = search rules in
+    record {
+      commands = rw passed at c.loop-line.invariant.commands;
+      fault = rw passed at c.loop-line.invariant.fault;
+      counted = search rules;
+    }
