@@ -18,13 +18,17 @@ pub enum Letters {
 }
 
 impl EnumSetType for Letters {
+    ghost use Rattle.std.specs.Prelude.{◌∷◌, []};
     ghost use Rattle.enumset_sets.specs.Laws.Elements.{with_bits, lawful_in_integer};
     ghost use Rattle.enumset_run.specs.Kinds.{letters_bits};
     ghost use Rattle.enumset_run.specs.contracts.letters.Letters.{the_type};
+    ghost use Rattle.enumset_run.specs.declared.letters.Letters.TheVariants.{A, B, C, D, E, F, G};
 
     type Repr = u8;
 
     ghost elements = { with_bits the_type letters_bits };
+
+    ghost values = { A ∷ B ∷ C ∷ D ∷ E ∷ F ∷ G ∷ [] };
 
     ghost ALL_BITS = { 127 };
 

@@ -14,13 +14,17 @@ pub enum Marks {
 }
 
 impl EnumSetType for Marks {
+    ghost use Rattle.std.specs.Prelude.{◌∷◌, []};
     ghost use Rattle.enumset_sets.specs.Laws.Elements.{with_bits, lawful_in_integer};
     ghost use Rattle.enumset_run.specs.Kinds.{marks_bits};
     ghost use Rattle.enumset_run.specs.contracts.marks.Marks.{the_type};
+    ghost use Rattle.enumset_run.specs.declared.marks.Marks.TheVariants.{A, B, C};
 
     type Repr = u8;
 
     ghost elements = { with_bits the_type marks_bits };
+
+    ghost values = { A ∷ B ∷ C ∷ [] };
 
     ghost ALL_BITS = { 7 };
 

@@ -15,13 +15,17 @@ pub enum Sparse {
 }
 
 impl EnumSetType for Sparse {
+    ghost use Rattle.std.specs.Prelude.{◌∷◌, []};
     ghost use Rattle.enumset_sets.specs.Laws.Elements.{with_bits, lawful_in_integer};
     ghost use Rattle.enumset_run.specs.Kinds.{sparse_bits};
     ghost use Rattle.enumset_run.specs.contracts.sparse.Sparse.{the_type};
+    ghost use Rattle.enumset_run.specs.declared.sparse.Sparse.TheVariants.{A, B, C, D};
 
     type Repr = u128;
 
     ghost elements = { with_bits the_type sparse_bits };
+
+    ghost values = { A ∷ B ∷ C ∷ D ∷ [] };
 
     ghost ALL_BITS = { 170141183460469231731687303716958897152 };
 

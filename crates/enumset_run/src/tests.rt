@@ -3,11 +3,13 @@
 mod conversions;
 mod element_types;
 mod mixed;
+mod order;
 mod program;
 mod proving;
 mod refused;
 mod runs;
 mod sending;
+mod set_texts;
 mod surroundings;
 mod text_forms;
 mod texts;

@@ -18,10 +18,13 @@ impl EnumSetType for Wide {
     ghost use Rattle.enumset_sets.specs.Laws.Elements.{with_bits, lawful_in_words};
     ghost use Rattle.enumset_run.specs.Kinds.{wide_bits};
     ghost use Rattle.enumset_run.specs.contracts.wide.Wide.{the_type};
+    ghost use Rattle.enumset_run.specs.declared.wide.Wide.TheVariants.{P, Q, R};
 
     type Repr = ArrayRepr<3>;
 
     ghost elements = { with_bits the_type wide_bits };
+
+    ghost values = { P ∷ Q ∷ R ∷ [] };
 
     ghost ALL_BITS = { 8 ∷ 1 ∷ 4 ∷ [] };
 

@@ -12,6 +12,8 @@ mod integers;
 #[cfg(test)]
 mod numbers;
 #[cfg(test)]
+mod orders;
+#[cfg(test)]
 mod refused;
 #[cfg(test)]
 mod stores;
