@@ -1,8 +1,7 @@
-use Rattle.std.proofs.Common.{ℕ, List, Option, ◌==◌, ◌+◌, length, map, refl, ap, inr, ◌∙◌, arith}
+use Rattle.std.proofs.Common.{ℕ, List, Option, refl, ap, inr, ◌∙◌, arith}
 use Rattle.std.proofs.lemmas.List.{length_push}
 use Rattle.std.proofs.lemmas.Bool.Decides.{nat_tests}
 use Rattle.std.proofs.lemmas.Iterator.Consumers.{YieldsList-from_first, YieldsList-end}
-use Rattle.enumset_repr.specs.BitSet.{BitSet, rising}
 use Rattle.enumset_sets.specs.Texts.{text_at}
 use Rattle.enumset_sets.specs.Laws.Texts.{Tells, writes_one_more, writes_at, text_at-tells}
 use Rattle.enumset_mixed.specs.declared.mixed_value.MixedValue.{MixedValue}

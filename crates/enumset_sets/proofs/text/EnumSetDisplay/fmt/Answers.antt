@@ -1,9 +1,7 @@
-use Rattle.std.proofs.Common.{◌==◌, ◌+◌, length, map, sym, ◌∙◌, arith}
+use Rattle.std.proofs.Common.{◌∙◌, arith}
 use Rattle.std.proofs.lemmas.List.{length_push}
 use Rattle.std.proofs.lemmas.Bool.Decides.{nat_tests}
 use Rattle.std.proofs.lemmas.Iterator.Consumers.{YieldsList-from_first, YieldsList-end}
-use Rattle.enumset_repr.specs.BitSet.{rising}
-use Rattle.enumset_sets.specs.Texts.{text_at, separator, joined}
 use Rattle.enumset_sets.specs.Laws.Texts.{writes_one_more, writes_at, text_at-tells}
 use Rattle.enumset_sets.proofs.text.EnumSetDisplay.fmt.Goals as goal
 
