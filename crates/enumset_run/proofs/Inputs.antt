@@ -8,13 +8,13 @@ use Rattle.std.proofs.lemmas.Bool.Decides.{nat_tests}
 use Rattle.enumset_repr.specs.BitSet.{BitSet, from_list}
 use Rattle.enumset_run.specs.Answers.{commands_of, answer_by, answer_to, mixed_answer_to, IsFaultOf, AppendsFrontOf}
 use Rattle.enumset_run.specs.Faults.{IsFaultOver}
-use Rattle.enumset_run.specs.Kinds.{answer_over, letters_bits, sparse_bits, marks_bits, wide_bits}
+use Rattle.enumset_run.specs.Kinds.{answer_over, letters_bits, four_bits, sparse_bits, marks_bits, wide_bits}
 use Rattle.enumset_run.specs.Lines.{command_of, lines}
 use Rattle.enumset_run.specs.MixedLines.{mixed_command_of}
 use Rattle.enumset_run.specs.Runs.{replies}
 use Rattle.enumset_run.specs.MixedRuns.{mixed_replies}
 use Rattle.enumset_run.specs.declared.worked.Worked.{Worked}
-use Rattle.enumset_run.specs.declared.worked.Worked.TheVariants.{Letters, Sparse, Marks, Wide, MixedLetters, MixedSparse, MixedMarks}
+use Rattle.enumset_run.specs.declared.worked.Worked.TheVariants.{Letters, Four, Sparse, Marks, Wide, MixedLetters, MixedFour, MixedSparse, MixedMarks}
 use Rattle.enumset_run.specs.declared.serve.TheConstants.{INPUT_LIMIT}
 use Rattle.enumset_run.specs.declared.program.TheConstants.{READ_LIMIT}
 use Rattle.enumset_run.specs.declared.text_fault.TextFault.{TextFault}
@@ -53,10 +53,12 @@ mixed_answer_to-take valid width bytes = ap (answer_by (mixed_replies valid widt
 
 answer_over-take : (kind : Worked) (bytes : List ℕ) → answer_over kind (take READ_LIMIT bytes) ≡ answer_over kind bytes
 answer_over-take Letters bytes = answer_to-take (from_list letters_bits) bytes
+answer_over-take Four bytes = answer_to-take (from_list four_bits) bytes
 answer_over-take Sparse bytes = answer_to-take (from_list sparse_bits) bytes
 answer_over-take Marks bytes = answer_to-take (from_list marks_bits) bytes
 answer_over-take Wide bytes = answer_to-take (from_list wide_bits) bytes
 answer_over-take MixedLetters bytes = mixed_answer_to-take (from_list letters_bits) 8 bytes
+answer_over-take MixedFour bytes = mixed_answer_to-take (from_list four_bits) 8 bytes
 answer_over-take MixedSparse bytes = mixed_answer_to-take (from_list sparse_bits) 128 bytes
 answer_over-take MixedMarks bytes = mixed_answer_to-take (from_list marks_bits) 8 bytes
 

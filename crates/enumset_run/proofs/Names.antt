@@ -26,12 +26,14 @@ bytes_eq-name bytes name ascii other =
 pub worked_of-other : (bytes : List ℕ) → ¬ (IsUtf8 bytes) → worked_of bytes ≡ None
 worked_of-other bytes other =
     let letters = bytes_eq-name bytes (codes "letters") refl other in
+    let four = bytes_eq-name bytes (codes "four") refl other in
     let sparse = bytes_eq-name bytes (codes "sparse") refl other in
     let marks = bytes_eq-name bytes (codes "marks") refl other in
     let wide = bytes_eq-name bytes (codes "wide") refl other in
     let mixed_letters = bytes_eq-name bytes (codes "mixed-letters") refl other in
+    let mixed_four = bytes_eq-name bytes (codes "mixed-four") refl other in
     let mixed_sparse = bytes_eq-name bytes (codes "mixed-sparse") refl other in
     let mixed_marks = bytes_eq-name bytes (codes "mixed-marks") refl other in
-    rw (letters, sparse, marks, wide, mixed_letters, mixed_sparse, mixed_marks) refl
+    rw (letters, four, sparse, marks, wide, mixed_letters, mixed_four, mixed_sparse, mixed_marks) refl
 
 pub ruleset name_steps = (worked_of-other)

@@ -1,13 +1,13 @@
 -- The worked types: their names and their bits, and the answer to an input over each.
 --     worked_of      the type of a name, byte by byte
---     letters_bits, sparse_bits, marks_bits, wide_bits      the bits of its variants, in the order of their declaration
+--     letters_bits, four_bits, sparse_bits, marks_bits, wide_bits      the bits of its variants, in the order of their declaration
 --     answer_over      the answer to an input over a type's sets, by its bits; over mixed sets by the width of its store too
 use Rattle.std.specs.Prelude.{ℕ, List, [], ◌∷◌, codes, Option, Result}
 use Rattle.std.specs.Map.{lookup}
 use Rattle.std.specs.Str.{bytes_eq}
 use Rattle.enumset_repr.specs.BitSet.{from_list}
 use Rattle.enumset_run.specs.declared.worked.Worked.{Worked}
-use Rattle.enumset_run.specs.declared.worked.Worked.TheVariants.{Letters, Sparse, Marks, Wide, MixedLetters, MixedSparse, MixedMarks}
+use Rattle.enumset_run.specs.declared.worked.Worked.TheVariants.{Letters, Four, Sparse, Marks, Wide, MixedLetters, MixedFour, MixedSparse, MixedMarks}
 use Rattle.enumset_run.specs.declared.text_fault.TextFault.{TextFault}
 use Rattle.enumset_run.specs.Answers.{answer_to, mixed_answer_to}
 
@@ -16,10 +16,12 @@ abbrev pub worked_of : List ℕ → Option Worked
 worked_of name =
     lookup (bytes_eq name) (
     (codes "letters", Letters)
+    ∷ (codes "four", Four)
     ∷ (codes "sparse", Sparse)
     ∷ (codes "marks", Marks)
     ∷ (codes "wide", Wide)
     ∷ (codes "mixed-letters", MixedLetters)
+    ∷ (codes "mixed-four", MixedFour)
     ∷ (codes "mixed-sparse", MixedSparse)
     ∷ (codes "mixed-marks", MixedMarks)
     ∷ []
@@ -28,6 +30,9 @@ worked_of name =
 -- the bits of each type's variants, in the order of their declaration
 abbrev pub letters_bits : List ℕ
 letters_bits = 0 ∷ 1 ∷ 2 ∷ 3 ∷ 4 ∷ 5 ∷ 6 ∷ []
+
+abbrev pub four_bits : List ℕ
+four_bits = 0 ∷ 1 ∷ 2 ∷ 3 ∷ []
 
 abbrev pub sparse_bits : List ℕ
 sparse_bits = 10 ∷ 20 ∷ 30 ∷ 127 ∷ []
@@ -38,12 +43,14 @@ marks_bits = 0 ∷ 1 ∷ 2 ∷ []
 abbrev pub wide_bits : List ℕ
 wide_bits = 3 ∷ 64 ∷ 130 ∷ []
 
--- of the mixed ones the store has 8, 128 and 8 bits
+-- of the mixed ones the store has 8, 8, 128 and 8 bits
 abbrev pub answer_over : Worked → List ℕ → Result (List ℕ) TextFault
 answer_over Letters input = answer_to (from_list letters_bits) input
+answer_over Four input = answer_to (from_list four_bits) input
 answer_over Sparse input = answer_to (from_list sparse_bits) input
 answer_over Marks input = answer_to (from_list marks_bits) input
 answer_over Wide input = answer_to (from_list wide_bits) input
 answer_over MixedLetters input = mixed_answer_to (from_list letters_bits) 8 input
+answer_over MixedFour input = mixed_answer_to (from_list four_bits) 8 input
 answer_over MixedSparse input = mixed_answer_to (from_list sparse_bits) 128 input
 answer_over MixedMarks input = mixed_answer_to (from_list marks_bits) 8 input

@@ -4,6 +4,7 @@ ghost use Rattle.std.specs.Prelude.{◌≡◌, IfOk, IfErr, Ok};
 ghost use Rattle.enumset_run.specs.Kinds.{worked_of, answer_over};
 ghost use Rattle.enumset_run.specs.Answers.{IsFaultOf};
 
+use crate::four::Four;
 use crate::letters::Letters;
 use crate::marks::Marks;
 use crate::serve::{serve_mixed_text, serve_text};
@@ -19,10 +20,12 @@ pub fn worked(name: &str) -> Option<Worked>
 {
     match name {
         "letters" => Some(Worked::Letters),
+        "four" => Some(Worked::Four),
         "sparse" => Some(Worked::Sparse),
         "marks" => Some(Worked::Marks),
         "wide" => Some(Worked::Wide),
         "mixed-letters" => Some(Worked::MixedLetters),
+        "mixed-four" => Some(Worked::MixedFour),
         "mixed-sparse" => Some(Worked::MixedSparse),
         "mixed-marks" => Some(Worked::MixedMarks),
         _ => None,
@@ -38,10 +41,12 @@ pub fn serve_worked(alloc: Global, kind: Worked, input: &[u8]) -> Result<Vec<u8>
 {
     match kind {
         Worked::Letters => serve_text::<Letters>(alloc, input),
+        Worked::Four => serve_text::<Four>(alloc, input),
         Worked::Sparse => serve_text::<Sparse>(alloc, input),
         Worked::Marks => serve_text::<Marks>(alloc, input),
         Worked::Wide => serve_text::<Wide>(alloc, input),
         Worked::MixedLetters => serve_mixed_text::<Letters>(alloc, input),
+        Worked::MixedFour => serve_mixed_text::<Four>(alloc, input),
         Worked::MixedSparse => serve_mixed_text::<Sparse>(alloc, input),
         Worked::MixedMarks => serve_mixed_text::<Marks>(alloc, input),
     }

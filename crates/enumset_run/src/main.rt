@@ -6,6 +6,7 @@
 
 mod command;
 mod fault;
+mod four;
 mod grammar;
 mod kinds;
 mod laws;
@@ -14,6 +15,7 @@ mod machine;
 mod marks;
 mod mixed_command;
 mod mixed_runs;
+mod operators;
 mod program;
 mod reply;
 mod runs;

@@ -2,7 +2,10 @@
 
 mod conversions;
 mod element_types;
+mod folds;
+mod macros;
 mod mixed;
+mod operators;
 mod order;
 mod program;
 mod proving;

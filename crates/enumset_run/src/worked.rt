@@ -5,6 +5,8 @@
 pub enum Worked {
     /// `letters`: bits 0 to 6, in a `u8`.
     Letters,
+    /// `four`: bits 0 to 3, in a `u8`.
+    Four,
     /// `sparse`: bits 10, 20, 30 and 127, in a `u128`.
     Sparse,
     /// `marks`: bits 0, 1 and 2, in a `u8`.
@@ -13,6 +15,8 @@ pub enum Worked {
     Wide,
     /// `mixed-letters`: mixed sets of `letters`.
     MixedLetters,
+    /// `mixed-four`: mixed sets of `four`.
+    MixedFour,
     /// `mixed-sparse`: mixed sets of `sparse`.
     MixedSparse,
     /// `mixed-marks`: mixed sets of `marks`.

@@ -2,7 +2,9 @@
 
 use super::surroundings::{Source, outcome};
 use super::text_forms::TEXT_FORMS;
-use super::vectors::{letters, marks, mixed_letters, mixed_marks, mixed_sparse, sparse, wide};
+use super::vectors::{
+    four, letters, marks, mixed_four, mixed_letters, mixed_marks, mixed_sparse, sparse, wide,
+};
 use std::test::Fail;
 
 const WORKED_RUNS: &str = "\
@@ -453,14 +455,16 @@ ok
 0
 ";
 
-const TABLES: [&str; 9] = [
+const TABLES: [&str; 11] = [
     WORKED_RUNS,
     TEXT_FORMS,
     letters::RUNS,
+    four::RUNS,
     sparse::RUNS,
     marks::RUNS,
     wide::RUNS,
     mixed_letters::RUNS,
+    mixed_four::RUNS,
     mixed_sparse::RUNS,
     mixed_marks::RUNS,
 ];
@@ -481,6 +485,6 @@ fn each_run_has_its_output(rt: HostRuntime) -> Result<(), Fail> {
             }
         }
     }
-    assert!(rt; inputs == 170);
+    assert!(rt; inputs == 176);
     Ok(())
 }

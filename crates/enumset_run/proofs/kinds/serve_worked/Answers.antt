@@ -1,11 +1,15 @@
 use Rattle.std.proofs.Common.{refl, ◌∷◌, []}
 use Rattle.enumset_repr.specs.Laws.Listed.{bits_listed, words_listed}
-use Rattle.enumset_run.specs.Kinds.{letters_bits, sparse_bits, marks_bits, wide_bits}
+use Rattle.enumset_run.specs.Kinds.{letters_bits, four_bits, sparse_bits, marks_bits, wide_bits}
 use Rattle.enumset_run.proofs.kinds.serve_worked.Goals as goal
 
 pub returns-in-Letters-clause-answer : goal.returns-in-Letters-clause-answer
 returns-in-Letters-clause-answer c =
     rw (c.in-Letters.is, ← bits_listed letters_bits 127 refl) c.serve_text.ensures.answer
+
+pub returns-in-Four-clause-answer : goal.returns-in-Four-clause-answer
+returns-in-Four-clause-answer c =
+    rw (c.in-Four.is, ← bits_listed four_bits 15 refl) c.serve_text-in-Four.ensures.answer
 
 pub returns-in-Sparse-clause-answer : goal.returns-in-Sparse-clause-answer
 returns-in-Sparse-clause-answer c =
@@ -22,6 +26,10 @@ returns-in-Wide-clause-answer c =
 pub returns-in-MixedLetters-clause-answer : goal.returns-in-MixedLetters-clause-answer
 returns-in-MixedLetters-clause-answer c =
     rw (c.in-MixedLetters.is, ← bits_listed letters_bits 127 refl) c.serve_mixed_text.ensures.answer
+
+pub returns-in-MixedFour-clause-answer : goal.returns-in-MixedFour-clause-answer
+returns-in-MixedFour-clause-answer c =
+    rw (c.in-MixedFour.is, ← bits_listed four_bits 15 refl) c.serve_mixed_text-in-MixedFour.ensures.answer
 
 pub returns-in-MixedSparse-clause-answer : goal.returns-in-MixedSparse-clause-answer
 returns-in-MixedSparse-clause-answer c =

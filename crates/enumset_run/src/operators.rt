@@ -1,0 +1,131 @@
+//! The operators on the elements of `letters` and of `four`: those of the sets of one.
+
+ghost use Rattle.std.specs.Prelude.{◌≡◌};
+ghost use Rattle.enumset_repr.specs.BitSet as set;
+
+use crate::four::Four;
+use crate::letters::Letters;
+use enumset_repr::repr::EnumSetTypeRepr;
+use enumset_sets::element::EnumSetType;
+use enumset_sets::enum_set::EnumSet;
+use std::ops::{BitAnd, BitOr, BitXor, Not, Sub};
+
+impl BitAnd for Letters {
+    type Output = EnumSet<Letters>;
+
+    ghost bitand_gives = { λ a b r. r ≡ set.intersection
+        (set.only (⟦<Letters as EnumSetType>⟧.elements.bit a))
+        (set.only (⟦<Letters as EnumSetType>⟧.elements.bit b)) };
+
+    fn bitand(self, rhs: Letters) -> EnumSet<Letters> {
+        EnumSet::only(self) & EnumSet::only(rhs)
+    }
+}
+
+impl BitOr for Letters {
+    type Output = EnumSet<Letters>;
+
+    ghost bitor_gives = { λ a b r. r ≡ set.union
+        (set.only (⟦<Letters as EnumSetType>⟧.elements.bit a))
+        (set.only (⟦<Letters as EnumSetType>⟧.elements.bit b)) };
+
+    fn bitor(self, rhs: Letters) -> EnumSet<Letters> {
+        EnumSet::only(self) | EnumSet::only(rhs)
+    }
+}
+
+impl BitXor for Letters {
+    type Output = EnumSet<Letters>;
+
+    ghost bitxor_gives = { λ a b r. r ≡ set.symmetric_difference
+        (set.only (⟦<Letters as EnumSetType>⟧.elements.bit a))
+        (set.only (⟦<Letters as EnumSetType>⟧.elements.bit b)) };
+
+    fn bitxor(self, rhs: Letters) -> EnumSet<Letters> {
+        EnumSet::only(self) ^ EnumSet::only(rhs)
+    }
+}
+
+impl Sub for Letters {
+    type Output = EnumSet<Letters>;
+
+    ghost sub_gives = { λ a b r. r ≡ set.difference
+        (set.only (⟦<Letters as EnumSetType>⟧.elements.bit a))
+        (set.only (⟦<Letters as EnumSetType>⟧.elements.bit b)) };
+
+    fn sub(self, rhs: Letters) -> EnumSet<Letters> {
+        EnumSet::only(self) - EnumSet::only(rhs)
+    }
+}
+
+impl Not for Letters {
+    type Output = EnumSet<Letters>;
+
+    ghost not_gives = { λ a r. r ≡ set.difference
+        (⟦<u8 as EnumSetTypeRepr>⟧.members ⟦<Letters as EnumSetType>⟧.ALL_BITS)
+        (set.only (⟦<Letters as EnumSetType>⟧.elements.bit a)) };
+
+    fn not(self) -> EnumSet<Letters> {
+        !EnumSet::only(self)
+    }
+}
+
+impl BitAnd for Four {
+    type Output = EnumSet<Four>;
+
+    ghost bitand_gives = { λ a b r. r ≡ set.intersection
+        (set.only (⟦<Four as EnumSetType>⟧.elements.bit a))
+        (set.only (⟦<Four as EnumSetType>⟧.elements.bit b)) };
+
+    fn bitand(self, rhs: Four) -> EnumSet<Four> {
+        EnumSet::only(self) & EnumSet::only(rhs)
+    }
+}
+
+impl BitOr for Four {
+    type Output = EnumSet<Four>;
+
+    ghost bitor_gives = { λ a b r. r ≡ set.union
+        (set.only (⟦<Four as EnumSetType>⟧.elements.bit a))
+        (set.only (⟦<Four as EnumSetType>⟧.elements.bit b)) };
+
+    fn bitor(self, rhs: Four) -> EnumSet<Four> {
+        EnumSet::only(self) | EnumSet::only(rhs)
+    }
+}
+
+impl BitXor for Four {
+    type Output = EnumSet<Four>;
+
+    ghost bitxor_gives = { λ a b r. r ≡ set.symmetric_difference
+        (set.only (⟦<Four as EnumSetType>⟧.elements.bit a))
+        (set.only (⟦<Four as EnumSetType>⟧.elements.bit b)) };
+
+    fn bitxor(self, rhs: Four) -> EnumSet<Four> {
+        EnumSet::only(self) ^ EnumSet::only(rhs)
+    }
+}
+
+impl Sub for Four {
+    type Output = EnumSet<Four>;
+
+    ghost sub_gives = { λ a b r. r ≡ set.difference
+        (set.only (⟦<Four as EnumSetType>⟧.elements.bit a))
+        (set.only (⟦<Four as EnumSetType>⟧.elements.bit b)) };
+
+    fn sub(self, rhs: Four) -> EnumSet<Four> {
+        EnumSet::only(self) - EnumSet::only(rhs)
+    }
+}
+
+impl Not for Four {
+    type Output = EnumSet<Four>;
+
+    ghost not_gives = { λ a r. r ≡ set.difference
+        (⟦<u8 as EnumSetTypeRepr>⟧.members ⟦<Four as EnumSetType>⟧.ALL_BITS)
+        (set.only (⟦<Four as EnumSetType>⟧.elements.bit a)) };
+
+    fn not(self) -> EnumSet<Four> {
+        !EnumSet::only(self)
+    }
+}
