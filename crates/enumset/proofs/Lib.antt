@@ -1,1 +1,3 @@
 mod Results
+pub mod JsonNumbers
+pub mod JsonWords

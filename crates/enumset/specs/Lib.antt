@@ -1,1 +1,3 @@
 pub mod Folds
+pub mod Json
+pub mod JsonTexts

@@ -9,6 +9,7 @@ pub mod folds;
 pub mod internal;
 mod macros;
 pub mod set;
+pub mod set_json;
 
 pub use enumset_sets::element::EnumSetType;
 pub use enumset_sets::enum_set::EnumSet;

@@ -1,36 +1,13 @@
--- Loops over the words of a store and the places of a slice.
-use Rattle.std.proofs.Common.{◌≡◌, ◌<◌, ◌≤◌, ℕ, ◌+◌, ◌*◌, ◌/◌, ◌^◌, true, min, inl, inr, List, [], ◌∷◌, ◌++◌, length, take, set, sym, ap, subst, ◌∙◌, arith, slice_index}
-use Rattle.std.proofs.lemmas.Bool.{cases_lt}
-use Rattle.std.proofs.lemmas.Bool.Decides.{nat_tests}
+-- Loops over the places of a slice.
+use Rattle.std.proofs.Common.{◌≡◌, ◌<◌, ℕ, ◌+◌, List, [], ◌∷◌, ◌++◌, length, take, set, sym, subst, ◌∙◌}
 use Rattle.std.proofs.lemmas.List.{take_more_set}
-use Rattle.enumset_repr.specs.BitSet.{BitSet, empty, is_subset, below, low}
-use Rattle.enumset_repr.specs.Words.{word, words, bits_of}
-use Rattle.enumset_repr.specs.Laws.Members.{members, same_set}
-use Rattle.enumset_repr.specs.Laws.Low.{low_within, low_narrow, is_subset_wider}
-use Rattle.enumset_repr.specs.Laws.WordLists.{words-more, word-bits_of, word-past, bits_of-within, low-same_words}
+use Rattle.enumset_repr.specs.BitSet.{BitSet}
+use Rattle.enumset_repr.specs.Words.{word, words}
+use Rattle.enumset_repr.specs.Laws.WordLists.{words-more}
 
 -- the place at i gets its word
 pub placed : (s : BitSet) (out : List ℕ) (i x : ℕ) → i < length out → take i out ≡ words s i → x ≡ word s i → take (i + 1) (set out i x) ≡ words s (i + 1)
 placed s out i x within before is = take_more_set out i x within ∙ (λ j. before j ++ is j ∷ []) ∙ sym (words-more s i)
 
--- a store has no word from the number of its words on
-pub word_past_store : (s : BitSet) (width n w : ℕ) → is_subset s (below width) ≡ true → n ≡ (width + 63) / 64 → n ≤ w → word s w ≡ 0
-word_past_store s width n w within count past = word-past s width w within (omega (arith, count, past))
-
--- the words up to the last of the list or of the store are all
-pub all_put : (ws : List ℕ) (width n i : ℕ) → ((k : ℕ) → slice_index ws k < 2 ^ 64) → n ≡ (width + 63) / 64 → min (length ws) n ≤ i → low (low (bits_of ws) (64 * i)) width ≡ low (bits_of ws) width
-all_put ws width n i fit count done = elim (cases_lt i (length ws)) [
-  | inl under ↦ low_narrow (bits_of ws) (64 * i) width (omega (arith, count, done, under))
-  | inr past ↦ ap (λ s. low s width) (low_within (bits_of ws) (64 * i) (is_subset_wider (bits_of ws) (64 * length ws) (64 * i) (omega (arith, past)) (bits_of-within ws fit)))
-]
-
--- before the first word nothing is put in
-pub none_put : (s : BitSet) (width : ℕ) → low (low s (64 * 0)) width ≡ empty
-none_put s width = same_set _ _ (λ q. grind (arith, members, nat_tests))
-
 pub same_at : (f g : ℕ → ℕ) (i w : ℕ) → i ≡ w → f i ≡ g i → f w ≡ g w
 same_at f g i w here same = subst (λ k. f k ≡ g k) here same
-
--- where a cut leaves each word of a list as it is, it leaves out no bit
-pub all_kept : (ws : List ℕ) (width : ℕ) → ((k : ℕ) → slice_index ws k < 2 ^ 64) → ((w : ℕ) → w < length ws → word (low (bits_of ws) width) w ≡ slice_index ws w) → is_subset (bits_of ws) (below width) ≡ true
-all_kept ws width fit kept = low-same_words (bits_of ws) width (length ws) (bits_of-within ws fit) (λ w under. kept w under ∙ sym (word-bits_of ws w fit))

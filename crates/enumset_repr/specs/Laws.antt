@@ -10,7 +10,8 @@
 --     Words      words of 64 bits
 --     Low      what a cut at a width leaves, and which sets and numbers fit one
 --     WordLists      lists of words of 64 bits, and the words of a set
---     Listed      the set of a number whose bits are listed
+--     Filled      a store that is filled with the words of a list
+--     Listed      the sets of a number and of words whose bits are listed
 --     Steps      a step from an end of a list: the item that it gives and the others
 --     Integers      the laws of an integer as a store
 pub mod Members
@@ -26,3 +27,4 @@ pub mod Integers
 pub mod Listed
 pub mod Low
 pub mod WordLists
+pub mod Filled

@@ -494,8 +494,10 @@ pub trait EnumSetTypeRepr: Copy
     ghost left: { (i : Self.Iter) → Self.Iter.Iterator.remaining i ≡ item_count rest i };
 }
 
-// The word of a set at any place: 0 past the words of the store.
-fn word_or_zero<R: EnumSetTypeRepr>(repr: &R, i: usize) -> u64
+/// The word of 64 bits of a set at any place: 0 past the words of the store.
+///
+/// Rust's `enumset` has no such call.
+pub fn word_or_zero<R: EnumSetTypeRepr>(repr: &R, i: usize) -> u64
     ensures { result ≡ word_of (R.members repr.now) i }
 {
     repr.known();

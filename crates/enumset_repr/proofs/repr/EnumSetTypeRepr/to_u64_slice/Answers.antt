@@ -1,6 +1,7 @@
 use Rattle.std.proofs.Common.{sym, arith}
 use Rattle.enumset_repr.specs.Laws.WordLists.{words-none}
-use Rattle.enumset_repr.proofs.Slices.{placed, word_past_store}
+use Rattle.enumset_repr.specs.Laws.Filled.{word_past_store}
+use Rattle.enumset_repr.proofs.Slices.{placed}
 use Rattle.enumset_repr.proofs.repr.EnumSetTypeRepr.to_u64_slice.Goals as goal
 
 pub loop-i-init : goal.loop-i-init

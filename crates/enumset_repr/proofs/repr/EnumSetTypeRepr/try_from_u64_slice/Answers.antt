@@ -3,7 +3,8 @@ use Rattle.std.proofs.lemmas.Bool.{cases_lt}
 use Rattle.enumset_repr.specs.Words.{word}
 use Rattle.enumset_repr.specs.Laws.Low.{low_within}
 use Rattle.enumset_repr.specs.Laws.WordLists.{word-bits_of}
-use Rattle.enumset_repr.proofs.Slices.{same_at, all_kept}
+use Rattle.enumset_repr.specs.Laws.Filled.{all_kept}
+use Rattle.enumset_repr.proofs.Slices.{same_at}
 use Rattle.enumset_repr.proofs.repr.EnumSetTypeRepr.try_from_u64_slice.Goals as goal
 
 pub returns-then-word_or_zero-v-clause-fits : goal.returns-then-word_or_zero-v-clause-fits

@@ -2,7 +2,8 @@ use Rattle.std.proofs.Common.{refl, sym, ◌∙◌, arith, true≢false, inl, in
 use Rattle.std.proofs.lemmas.Bool.{cases_lt}
 use Rattle.enumset_repr.specs.Words.{word}
 use Rattle.enumset_repr.specs.Laws.WordLists.{word-past, within_words}
-use Rattle.enumset_repr.proofs.Slices.{word_past_store, same_at}
+use Rattle.enumset_repr.specs.Laws.Filled.{word_past_store}
+use Rattle.enumset_repr.proofs.Slices.{same_at}
 use Rattle.enumset_repr.proofs.repr.EnumSetTypeRepr.try_to_u64_slice.Goals as goal
 
 pub returns-then-word-ne0-clause-fits : goal.returns-then-word-ne0-clause-fits

@@ -1,0 +1,11 @@
+use Rattle.std.proofs.Common.{Ok, ap, subst, ◌<◌, ◌^◌, ◌∙◌}
+use Rattle.enumset_repr.specs.Laws.Low.{low_within}
+use Rattle.enumset_repr.specs.Laws.Numbers.{bits-within}
+use Rattle.enumset.specs.Json.{all_bits, number_below}
+use Rattle.serde_json.specs.View.{view}
+use Rattle.enumset.proofs.set_json.mixed.mixed_from_number.Goals as goal
+
+pub returns : goal.returns
+returns g c =
+    ap Ok (c.from_repr.ensures ∙ c.from_u64.ensures ∙ low_within _ _ (bits-within c.in_ok-number.number g.T.Repr.EnumSetTypeRepr.WIDTH (subst (λ w. c.in_ok-number.number < 2 ^ w) c.WIDTH.ensures c.in_ok-number.ensures.small)))
+    ∙ ap all_bits (c.in_ok-number.ensures.read ∙ ap (λ w. number_below w (view c.args.value.now)) c.WIDTH.ensures)

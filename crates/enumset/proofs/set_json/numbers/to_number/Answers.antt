@@ -1,0 +1,22 @@
+use Rattle.std.proofs.Common.{◌<◌, ◌^◌, refl, sym, subst, ◌∙◌, true≢false}
+use Rattle.std.proofs.lemmas.Bool.{ltb-true, lt-ltb}
+use Rattle.enumset_repr.specs.Laws.Low.{number_fits, fits_number, is_subset_wider}
+use Rattle.enumset.specs.Json.{width_of}
+use Rattle.enumset.proofs.set_json.numbers.to_number.Goals as goal
+
+pub returns-in-None-clause-fits : goal.returns-in-None-clause-fits
+returns-in-None-clause-fits g c = (
+  λ ok. absurd (true≢false (sym ok)),
+  λ within. absurd (true≢false (sym (c.in-None.ensures.fits.1 (is_subset_wider _ (width_of c.args.width) 64 c.bits-bits.ensures.narrow within)))),
+)
+
+pub returns-then-fits-clause-fits : goal.returns-then-fits-clause-fits
+returns-then-fits-clause-fits g c =
+    let small : c.in-Some.number < 2 ^ c.bits-bits.result = ltb-true _ _ (sym c.fits.ensures ∙ c.if-fits.true) in
+    (λ _. fits_number _ (width_of c.args.width) (subst (λ n. n < 2 ^ width_of c.args.width) c.in-Some.ensures.value (subst (λ k. c.in-Some.number < 2 ^ k) c.bits-bits.ensures.bits small)), λ _. refl)
+
+pub returns-else-fits-clause-fits : goal.returns-else-fits-clause-fits
+returns-else-fits-clause-fits g c = (
+  λ ok. absurd (true≢false (sym ok)),
+  λ within. absurd (true≢false (sym (lt-ltb _ _ (subst (λ k. c.in-Some.number < 2 ^ k) (sym c.bits-bits.ensures.bits) (subst (λ n. n < 2 ^ width_of c.args.width) (sym c.in-Some.ensures.value) (number_fits _ (width_of c.args.width) within)))) ∙ sym c.fits.ensures ∙ c.if-fits.false)),
+)

@@ -1,0 +1,102 @@
+-- JSON values as sets, and what is wrong with one that is none.
+--     width_of      how many bits a width has
+--     whole_number      the whole number from 0 to 2 ^ 64 - 1 that a value holds, or the fault
+--     number_below      the same, below 2 ^ width
+--     word_of, words_of      the word that an element holds, if it holds one;  those of all elements, 0 where one holds none
+--     first_other      the first place whose element holds no word, where the first element is at a place
+--     words_in      the words that a value holds, or the fault
+--     accepted      the set of valid bits that is taken of a set, or the fault
+--     set_of_number, mixed_set_of_number, set_of_words      the set that a value is read as, or the fault
+--     number_value, words_value      the values that a number and words are written as
+use Rattle.std.specs.Prelude.{ℕ, ◌+◌, ◌^◌, List, [], ◌∷◌, map, nat_lt, Option, Some, None, is_some, unwrap_or, option_and_then, Result, Ok, Err, if◌then◌else◌}
+use Rattle.enumset_repr.specs.BitSet.{BitSet, intersection, is_subset}
+use Rattle.enumset_repr.specs.Number.{bits}
+use Rattle.enumset_repr.specs.Words.{bits_of}
+use Rattle.serde_json.specs.Data.{Data, null, boolean, number, string, array, object, Items, no_items, item, unsigned, negative, float}
+use Rattle.serde_json.specs.Find.{as_number, as_u64}
+use Rattle.serde_json.specs.View.{items_of}
+use Rattle.enumset.specs.declared.set_json.width.JsonWidth.{JsonWidth}
+use Rattle.enumset.specs.declared.set_json.width.JsonWidth.TheVariants.{U8, U16, U32, U64}
+use Rattle.enumset.specs.declared.set_json.unknown.Unknown.{Unknown}
+use Rattle.enumset.specs.declared.set_json.unknown.Unknown.TheVariants.{Drop, Refuse}
+use Rattle.enumset.specs.declared.set_json.fault.JsonFault.{JsonFault}
+use Rattle.enumset.specs.declared.set_json.fault.JsonFault.TheVariants.{NotANumber, NotWhole, OutOfRange, NotAnArray, NotAWord, UnknownBits}
+
+abbrev pub width_of : JsonWidth → ℕ
+width_of U8 = 8
+width_of U16 = 16
+width_of U32 = 32
+width_of U64 = 64
+
+-- ---- what is read
+
+abbrev pub whole_number : Data → Result ℕ JsonFault
+whole_number (number (unsigned n)) = Ok n
+whole_number (number (negative z)) = Err NotWhole
+whole_number (number (float x)) = Err NotWhole
+whole_number null = Err NotANumber
+whole_number (boolean b) = Err NotANumber
+whole_number (string s) = Err NotANumber
+whole_number (array items) = Err NotANumber
+whole_number (object ms) = Err NotANumber
+
+abbrev pub below_power : ℕ → Result ℕ JsonFault → Result ℕ JsonFault
+below_power width (Ok n) = if nat_lt n (2 ^ width) then Ok n else Err OutOfRange
+below_power width (Err fault) = Err fault
+
+abbrev pub number_below : ℕ → Data → Result ℕ JsonFault
+number_below width value = below_power width (whole_number value)
+
+-- what `as_u64` gives
+abbrev pub word_of : Data → Option ℕ
+word_of value = option_and_then as_u64 (as_number value)
+
+abbrev pub words_of : Items → List ℕ
+words_of no_items = []
+words_of (item value items) = unwrap_or (word_of value) 0 ∷ words_of items
+
+abbrev pub first_other : ℕ → Items → Option ℕ
+first_other place no_items = None
+first_other place (item value items) = if is_some (word_of value) then first_other (place + 1) items else Some place
+
+abbrev pub words_unless : Option ℕ → Items → Result (List ℕ) JsonFault
+words_unless None items = Ok (words_of items)
+words_unless (Some place) items = Err (NotAWord place)
+
+abbrev pub words_in : Data → Result (List ℕ) JsonFault
+words_in (array items) = words_unless (first_other 0 items) items
+words_in null = Err NotAnArray
+words_in (boolean b) = Err NotAnArray
+words_in (number n) = Err NotAnArray
+words_in (string s) = Err NotAnArray
+words_in (object ms) = Err NotAnArray
+
+-- bits that are not valid are left out, or refused
+abbrev pub accepted : BitSet → Unknown → BitSet → Result BitSet JsonFault
+accepted valid Drop s = Ok (intersection s valid)
+accepted valid Refuse s = if is_subset s valid then Ok s else Err UnknownBits
+
+abbrev pub accepted_of : {A : Type 0} → (A → BitSet) → BitSet → Unknown → Result A JsonFault → Result BitSet JsonFault
+accepted_of set valid unknown (Ok read) = accepted valid unknown (set read)
+accepted_of set valid unknown (Err fault) = Err fault
+
+abbrev pub set_of_number : BitSet → ℕ → Unknown → Data → Result BitSet JsonFault
+set_of_number valid width unknown value = accepted_of bits valid unknown (number_below width value)
+
+abbrev pub set_of_words : BitSet → Unknown → Data → Result BitSet JsonFault
+set_of_words valid unknown value = accepted_of bits_of valid unknown (words_in value)
+
+abbrev pub all_bits : Result ℕ JsonFault → Result BitSet JsonFault
+all_bits (Ok n) = Ok (bits n)
+all_bits (Err fault) = Err fault
+
+abbrev pub mixed_set_of_number : ℕ → Data → Result BitSet JsonFault
+mixed_set_of_number width value = all_bits (number_below width value)
+
+-- ---- what is written
+
+abbrev pub number_value : ℕ → Data
+number_value n = number (unsigned n)
+
+abbrev pub words_value : List ℕ → Data
+words_value ns = array (items_of (map number_value ns))

@@ -1,0 +1,72 @@
+//! Why a set has no JSON value, or a JSON value no set.
+
+use std::alloc::{AllocError, AllocFailed};
+use std::error::Error;
+use std::fmt;
+
+/// Why a set was not written as a JSON value, or a JSON value not read as a set.
+#[derive(Clone, Copy, Debug, PartialEq, Eq)]
+pub enum JsonFault {
+    /// A member is at or past the width.
+    TooWide,
+    /// The value is not a JSON number.
+    NotANumber,
+    /// The number is not held as a whole number from 0 to 2^64 - 1.
+    NotWhole,
+    /// The number has a bit at or past the width.
+    OutOfRange,
+    /// The value is not a JSON array.
+    NotAnArray,
+    /// The element at this place, counted from 0, is the first that is not a whole number from 0 to 2^64 - 1.
+    NotAWord(usize),
+    /// A bit is not valid, and such bits are refused.
+    UnknownBits,
+    /// There is no memory left.
+    OutOfMemory,
+}
+
+impl fmt::Display for JsonFault {
+    ghost use Rattle.std.specs.Prelude.{Some};
+    ghost use Rattle.enumset.specs.JsonTexts.{json_fault_text};
+
+    ghost output = { λ fault. Some (json_fault_text fault) };
+
+    fn fmt<W: fmt::Write>(&self, f: &mut fmt::Formatter<W>) -> fmt::Result {
+        match self {
+            JsonFault::TooWide => write!(f, "a member is too large for the width"),
+            JsonFault::NotANumber => write!(f, "not a number"),
+            JsonFault::NotWhole => write!(f, "not a whole number of 64 bits"),
+            JsonFault::OutOfRange => write!(f, "number out of range"),
+            JsonFault::NotAnArray => write!(f, "not an array"),
+            JsonFault::NotAWord(place) => {
+                write!(f, "element {place}: not a whole number of 64 bits")
+            }
+            JsonFault::UnknownBits => write!(f, "unknown bits"),
+            JsonFault::OutOfMemory => write!(f, "out of memory"),
+        }
+    }
+}
+
+impl Error for JsonFault {}
+
+impl From<AllocError> for JsonFault {
+    ghost use Rattle.std.specs.Prelude.{◌≡◌};
+    ghost use Rattle.enumset.specs.declared.set_json.fault.JsonFault.TheVariants.{OutOfMemory};
+
+    ghost from_gives = { λ _ fault. fault ≡ OutOfMemory };
+
+    fn from(_error: AllocError) -> JsonFault {
+        JsonFault::OutOfMemory
+    }
+}
+
+impl<T: Drop> From<AllocFailed<T>> for JsonFault {
+    ghost use Rattle.std.specs.Prelude.{◌≡◌};
+    ghost use Rattle.enumset.specs.declared.set_json.fault.JsonFault.TheVariants.{OutOfMemory};
+
+    ghost from_gives = { λ _ fault. fault ≡ OutOfMemory };
+
+    fn from(_error: AllocFailed<T>) -> JsonFault {
+        JsonFault::OutOfMemory
+    }
+}

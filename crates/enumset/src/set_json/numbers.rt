@@ -1,0 +1,59 @@
+//! Sets as JSON numbers.
+
+ghost use Rattle.std.specs.Prelude.{◌≡◌, ◌↔◌, IsOk, IfOk, IfErr, IsTrue};
+ghost use Rattle.enumset_repr.specs.BitSet.{is_subset, below};
+ghost use Rattle.enumset_repr.specs.Number.{number};
+ghost use Rattle.serde_json.specs.View.{view};
+ghost use Rattle.enumset.specs.Json.{width_of, number_value, set_of_number};
+ghost use Rattle.enumset.specs.declared.set_json.fault.JsonFault.TheVariants.{TooWide};
+
+use super::fault::JsonFault;
+use super::unknown::Unknown;
+use super::whole::{fits, number_below};
+use super::width::JsonWidth;
+use enumset_sets::element::EnumSetType;
+use enumset_sets::enum_set::EnumSet;
+use serde_json::Value;
+use std::alloc::Global;
+
+/// The set's number, if each member is below the width, else [`JsonFault::TooWide`]. It takes no memory.
+pub fn to_number<T: EnumSetType>(
+    _alloc: Global,
+    set: &EnumSet<T>,
+    width: JsonWidth,
+) -> Result<Value, JsonFault>
+    ensures fits { IsOk result ↔ IsTrue (is_subset set.now (below (width_of width))) }
+    ensures value { IfOk result (λ value. view value ≡ number_value (number set.now)) }
+    ensures fault { IfErr result (λ fault. fault ≡ TooWide) }
+{
+    let bits = width.bits();
+    match set.try_as_u64() {
+        Some(number) => {
+            if fits(number, bits) {
+                Ok(Value::from(number))
+            } else {
+                Err(JsonFault::TooWide)
+            }
+        }
+        None => Err(JsonFault::TooWide),
+    }
+}
+
+/// The set of the valid bits of a number below two to the width.
+///
+/// The errors are [`JsonFault::NotANumber`], [`JsonFault::NotWhole`], [`JsonFault::OutOfRange`] and, where unknown
+/// bits are refused, [`JsonFault::UnknownBits`], tested in this order. It takes no memory.
+pub fn from_number<T: EnumSetType>(
+    value: &Value,
+    width: JsonWidth,
+    unknown: Unknown,
+) -> Result<EnumSet<T>, JsonFault>
+    ensures { result
+        ≡ set_of_number (T.Repr.members T.ALL_BITS) (width_of width) unknown (view value.now) }
+{
+    let number = number_below(value, width.bits())?;
+    match unknown {
+        Unknown::Drop => Ok(EnumSet::from_u64_truncated(number)),
+        Unknown::Refuse => EnumSet::try_from_u64(number).ok_or(JsonFault::UnknownBits),
+    }
+}

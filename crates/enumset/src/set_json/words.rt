@@ -1,0 +1,96 @@
+//! Sets as JSON arrays of words.
+
+ghost use Rattle.std.specs.Prelude.{◌≡◌, ◌<◌, ◌^◌, ℕ, IfOk, IfErr};
+ghost use Rattle.std.specs.List.{slice_index};
+ghost use Rattle.enumset_repr.specs.BitSet.{low, is_subset, below};
+ghost use Rattle.enumset_repr.specs.Words.{words, bits_of};
+ghost use Rattle.serde_json.specs.View.{view, items_view};
+ghost use Rattle.enumset.specs.Json.{words_value, words_of, set_of_words};
+ghost use Rattle.enumset.specs.declared.set_json.fault.JsonFault.TheVariants.{OutOfMemory};
+
+use super::elements::{word_at, words_in};
+use super::fault::JsonFault;
+use super::unknown::Unknown;
+use enumset_repr::repr::{EnumSetTypeRepr, word_or_zero};
+use enumset_sets::element::EnumSetType;
+use enumset_sets::enum_set::EnumSet;
+use enumset_sets::{raw, store};
+use serde_json::Value;
+use std::alloc::Global;
+
+/// The set's words of 64 bits, the lowest first, as many as its store has. The only fault is
+/// [`JsonFault::OutOfMemory`], where room for them was refused.
+pub fn to_words<T: EnumSetType>(alloc: Global, set: &EnumSet<T>) -> Result<Value, JsonFault>
+    ensures value { IfOk result (λ value.
+        view value ≡ words_value (words set.now T.Repr.PREFERRED_ARRAY_LEN)) }
+    ensures fault { IfErr result (λ fault. fault ≡ OutOfMemory) }
+{
+    let repr = raw::get(set.clone()?);
+    let mut all = Vec::with_capacity(alloc, T::Repr::PREFERRED_ARRAY_LEN)?;
+    for i in 0..T::Repr::PREFERRED_ARRAY_LEN {
+        all.push(Value::from(repr.word(i)))?;
+    }
+    Ok(Value::from(all))
+}
+
+/// The set of the valid bits of an array of words of 64 bits, the lowest first. There may be any number of them.
+///
+/// The errors are [`JsonFault::NotAnArray`], [`JsonFault::NotAWord`] of the first element that is none and, where
+/// unknown bits are refused, [`JsonFault::UnknownBits`], tested in this order. It takes no memory.
+pub fn from_words<T: EnumSetType>(value: &Value, unknown: Unknown) -> Result<EnumSet<T>, JsonFault>
+    ensures { result ≡ set_of_words (T.Repr.members T.ALL_BITS) unknown (view value.now) }
+{
+    let items = words_in(value)?;
+    let repr: T::Repr = set_of_low_words(items);
+    let all = T::ALL_BITS;
+    all.known();
+    match unknown {
+        Unknown::Drop => Ok(raw::new(store::intersection_of(repr, all))),
+        Unknown::Refuse => {
+            if are_valid::<T>(&repr, items) {
+                Ok(raw::new(repr))
+            } else {
+                Err(JsonFault::UnknownBits)
+            }
+        }
+    }
+}
+
+// The set of the bits of the elements' words below the store's width.
+fn set_of_low_words<R: EnumSetTypeRepr>(items: &[Value]) -> R
+    requires small { (i : ℕ) → slice_index (words_of (items_view items.now)) i < 2 ^ 64 }
+    ensures { R.members result ≡ low (bits_of (words_of (items_view items.now))) R.WIDTH }
+{
+    let mut repr = R::EMPTY;
+    for i in 0..items.len().min(R::PREFERRED_ARRAY_LEN) {
+        repr.put_word(i, word_at(items, i));
+    }
+    repr
+}
+
+// Whether no bit of the elements' words was left out of the set of those below the width.
+fn has_all_words<R: EnumSetTypeRepr>(repr: &R, items: &[Value]) -> bool
+    requires small { (i : ℕ) → slice_index (words_of (items_view items.now)) i < 2 ^ 64 }
+    requires low { R.members repr.now ≡ low (bits_of (words_of (items_view items.now))) R.WIDTH }
+    ensures { result ≡ is_subset (bits_of (words_of (items_view items.now))) (below R.WIDTH) }
+{
+    for i in 0..items.len() {
+        if word_or_zero(repr, i) != word_at(items, i) {
+            return false;
+        }
+    }
+    true
+}
+
+// Whether each bit of the elements' words is valid.
+fn are_valid<T: EnumSetType>(repr: &T::Repr, items: &[Value]) -> bool
+    requires small { (i : ℕ) → slice_index (words_of (items_view items.now)) i < 2 ^ 64 }
+    requires low { T.Repr.members repr.now
+        ≡ low (bits_of (words_of (items_view items.now))) T.Repr.WIDTH }
+    ensures { result
+        ≡ is_subset (bits_of (words_of (items_view items.now))) (T.Repr.members T.ALL_BITS) }
+{
+    let all = T::ALL_BITS;
+    all.known();
+    has_all_words(repr, items) && store::is_subset_of(*repr, all)
+}
