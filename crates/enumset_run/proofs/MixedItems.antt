@@ -2,8 +2,6 @@
 use Rattle.std.proofs.Common.{◌≡◌, ℕ, Bool, List, [], ◌∷◌, ◌++◌, map, refl, sym, ap, ◌∙◌}
 use Rattle.std.proofs.lemmas.List.{map-append}
 use Rattle.enumset_repr.specs.BitSet.{BitSet}
-use Rattle.enumset_repr.specs.Ends.{first, last, without_first, without_last}
-use Rattle.enumset_repr.specs.Laws.Steps.{last-push, without_last-push}
 use Rattle.enumset_mixed.specs.Mixed.{with_validity}
 
 -- the bits of a list, without what is said of each

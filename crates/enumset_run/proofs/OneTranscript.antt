@@ -12,7 +12,6 @@ use Rattle.enumset_run.specs.declared.command.Command.{Command}
 use Rattle.enumset_run.specs.declared.command.Command.TheVariants.{FromNumber, FromNumberCut, FromWords, FromWordsCut}
 use Rattle.enumset_run.specs.declared.mixed_command.MixedCommand.{MixedCommand}
 use Rattle.enumset_run.specs.declared.mixed_command.MixedCommand.TheVariants.{Common, InsertBit, FullComplement}
-use Rattle.enumset_run.specs.declared.reply.Reply.{Reply}
 use Rattle.enumset_run.specs.declared.reply.Reply.TheVariants.{Done, Absent}
 use Rattle.enumset_run.specs.declared.reply.Refusal.{Refusal}
 use Rattle.enumset_run.specs.declared.reply.Refusal.TheVariants.{NoRegister, NotABit, NotAWidth}
