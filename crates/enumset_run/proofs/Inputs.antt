@@ -6,19 +6,22 @@ use Rattle.std.proofs.KnownBytes.{Consumes-trans, Consumes-whole}
 use Rattle.std.proofs.lemmas.List.{length-take, take_all}
 use Rattle.std.proofs.lemmas.Bool.Decides.{nat_tests}
 use Rattle.enumset_repr.specs.BitSet.{BitSet, from_list}
-use Rattle.enumset_run.specs.Answers.{commands_of, answer_by, answer_to, mixed_answer_to, IsFaultOf, AppendsFrontOf}
+use Rattle.enumset_machine.specs.Answers.{commands_of, answer_by, answer_to, mixed_answer_to}
+use Rattle.enumset_commands.specs.TextFaults.{IsFaultOf}
+use Rattle.enumset_run.specs.Written.{AppendsFrontOf}
 use Rattle.enumset_run.specs.Faults.{IsFaultOver}
-use Rattle.enumset_run.specs.Kinds.{answer_over, letters_bits, four_bits, sparse_bits, marks_bits, wide_bits}
-use Rattle.enumset_run.specs.Lines.{command_of, lines}
-use Rattle.enumset_run.specs.MixedLines.{mixed_command_of}
-use Rattle.enumset_run.specs.Runs.{replies}
-use Rattle.enumset_run.specs.MixedRuns.{mixed_replies}
+use Rattle.enumset_run.specs.Kinds.{answer_over}
+use Rattle.enumset_worked.specs.Bits.{letters_bits, four_bits, sparse_bits, marks_bits, wide_bits}
+use Rattle.enumset_commands.specs.Lines.{command_of, lines}
+use Rattle.enumset_commands.specs.MixedLines.{mixed_command_of}
+use Rattle.enumset_machine.specs.Runs.{replies}
+use Rattle.enumset_machine.specs.MixedRuns.{mixed_replies}
 use Rattle.enumset_run.specs.declared.worked.Worked.{Worked}
 use Rattle.enumset_run.specs.declared.worked.Worked.TheVariants.{Letters, Four, Sparse, Marks, Wide, MixedLetters, MixedFour, MixedSparse, MixedMarks}
-use Rattle.enumset_run.specs.declared.serve.TheConstants.{INPUT_LIMIT}
+use Rattle.enumset_machine.specs.declared.serve.TheConstants.{INPUT_LIMIT}
 use Rattle.enumset_run.specs.declared.program.TheConstants.{READ_LIMIT}
-use Rattle.enumset_run.specs.declared.text_fault.TextFault.{TextFault}
-use Rattle.enumset_run.specs.declared.text_fault.TextFault.TheVariants.{TooLong}
+use Rattle.enumset_commands.specs.declared.text_fault.TextFault.{TextFault}
+use Rattle.enumset_commands.specs.declared.text_fault.TextFault.TheVariants.{TooLong}
 use Rattle.enumset_run.specs.declared.fault.ProgramFault.{ProgramFault}
 use Rattle.enumset_run.specs.declared.fault.ProgramFault.TheVariants.{Text, Writing}
 

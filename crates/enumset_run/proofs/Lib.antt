@@ -1,12 +1,2 @@
-pub mod Lines
-pub mod Tokens
-pub mod Fields
-pub mod Commands
-pub mod WordTokens
-pub mod Replies
 pub mod Inputs
 pub mod Names
-pub mod Transcripts
-pub mod Cuts
-pub mod MixedItems
-pub mod OneTranscript

@@ -1,19 +1,12 @@
--- The texts of faults, and the exit statuses of the program's.
---     fault_text      the text of why a text of commands has no answer
+-- The faults of the program: their texts and exit statuses, and where they may come.
 --     program_fault_text, status_of      the text and the exit status of a fault of the program
 --     IsFaultOver      the program may fail so, over an input whose answer is given
-use Rattle.std.specs.Prelude.{◌≢◌, ℕ, List, [], ◌++◌, codes, Result, IsOkAnd, ⊤}
-use Rattle.std.specs.Fmt.{decimal}
-use Rattle.enumset_run.specs.declared.text_fault.TextFault.{TextFault}
-use Rattle.enumset_run.specs.declared.text_fault.TextFault.TheVariants.{TooLong, BadLine, OutOfMemory}
+use Rattle.std.specs.Prelude.{◌≢◌, ℕ, List, [], codes, Result, IsOkAnd, ⊤}
+use Rattle.enumset_commands.specs.declared.text_fault.TextFault.{TextFault}
+use Rattle.enumset_commands.specs.declared.text_fault.TextFault.TheVariants.{TooLong, BadLine, OutOfMemory}
 use Rattle.enumset_run.specs.declared.fault.ProgramFault.{ProgramFault}
 use Rattle.enumset_run.specs.declared.fault.ProgramFault.TheVariants.{OneArgument, UnknownType, Text, Reading, Writing}
-use Rattle.enumset_run.specs.Answers.{IsFaultOf}
-
-abbrev pub fault_text : TextFault → List ℕ
-fault_text TooLong = codes "input too long"
-fault_text (BadLine n) = codes "line " ++ decimal n ++ codes ": not a command"
-fault_text OutOfMemory = codes "out of memory"
+use Rattle.enumset_commands.specs.TextFaults.{fault_text, IsFaultOf}
 
 abbrev pub program_fault_text : ProgramFault → List ℕ
 program_fault_text OneArgument = codes "one argument: the name of a type"

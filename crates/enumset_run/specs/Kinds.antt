@@ -1,6 +1,5 @@
--- The worked types: their names and their bits, and the answer to an input over each.
+-- The worked types: their names, and the answer to an input over each.
 --     worked_of      the type of a name, byte by byte
---     letters_bits, four_bits, sparse_bits, marks_bits, wide_bits      the bits of its variants, in the order of their declaration
 --     answer_over      the answer to an input over a type's sets, by its bits; over mixed sets by the width of its store too
 use Rattle.std.specs.Prelude.{ℕ, List, [], ◌∷◌, codes, Option, Result}
 use Rattle.std.specs.Map.{lookup}
@@ -8,8 +7,9 @@ use Rattle.std.specs.Str.{bytes_eq}
 use Rattle.enumset_repr.specs.BitSet.{from_list}
 use Rattle.enumset_run.specs.declared.worked.Worked.{Worked}
 use Rattle.enumset_run.specs.declared.worked.Worked.TheVariants.{Letters, Four, Sparse, Marks, Wide, MixedLetters, MixedFour, MixedSparse, MixedMarks}
-use Rattle.enumset_run.specs.declared.text_fault.TextFault.{TextFault}
-use Rattle.enumset_run.specs.Answers.{answer_to, mixed_answer_to}
+use Rattle.enumset_commands.specs.declared.text_fault.TextFault.{TextFault}
+use Rattle.enumset_machine.specs.Answers.{answer_to, mixed_answer_to}
+use Rattle.enumset_worked.specs.Bits.{letters_bits, four_bits, sparse_bits, marks_bits, wide_bits}
 
 -- the type of a name, byte by byte
 abbrev pub worked_of : List ℕ → Option Worked
@@ -26,22 +26,6 @@ worked_of name =
     ∷ (codes "mixed-marks", MixedMarks)
     ∷ []
     )
-
--- the bits of each type's variants, in the order of their declaration
-abbrev pub letters_bits : List ℕ
-letters_bits = 0 ∷ 1 ∷ 2 ∷ 3 ∷ 4 ∷ 5 ∷ 6 ∷ []
-
-abbrev pub four_bits : List ℕ
-four_bits = 0 ∷ 1 ∷ 2 ∷ 3 ∷ []
-
-abbrev pub sparse_bits : List ℕ
-sparse_bits = 10 ∷ 20 ∷ 30 ∷ 127 ∷ []
-
-abbrev pub marks_bits : List ℕ
-marks_bits = 0 ∷ 1 ∷ 2 ∷ []
-
-abbrev pub wide_bits : List ℕ
-wide_bits = 3 ∷ 64 ∷ 130 ∷ []
 
 -- of the mixed ones the store has 8, 8, 128 and 8 bits
 abbrev pub answer_over : Worked → List ℕ → Result (List ℕ) TextFault

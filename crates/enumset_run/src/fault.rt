@@ -2,7 +2,7 @@
 
 ghost use Rattle.std.specs.Prelude.{◌≡◌};
 
-use crate::text_fault::TextFault;
+use enumset_commands::text_fault::TextFault;
 use std::error::Error;
 use std::fmt;
 

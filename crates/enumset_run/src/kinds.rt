@@ -2,16 +2,16 @@
 
 ghost use Rattle.std.specs.Prelude.{◌≡◌, IfOk, IfErr, Ok};
 ghost use Rattle.enumset_run.specs.Kinds.{worked_of, answer_over};
-ghost use Rattle.enumset_run.specs.Answers.{IsFaultOf};
+ghost use Rattle.enumset_commands.specs.TextFaults.{IsFaultOf};
 
-use crate::four::Four;
-use crate::letters::Letters;
-use crate::marks::Marks;
-use crate::serve::{serve_mixed_text, serve_text};
-use crate::sparse::Sparse;
-use crate::text_fault::TextFault;
-use crate::wide::Wide;
 use crate::worked::Worked;
+use enumset_commands::text_fault::TextFault;
+use enumset_machine::serve::{serve_mixed_text, serve_text};
+use enumset_worked::four::Four;
+use enumset_worked::letters::Letters;
+use enumset_worked::marks::Marks;
+use enumset_worked::sparse::Sparse;
+use enumset_worked::wide::Wide;
 use std::alloc::Global;
 
 /// The type of this name, byte by byte, or `None` where no type has that name.

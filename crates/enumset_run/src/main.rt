@@ -4,29 +4,11 @@
 //! and prints one reply a line.
 #![tactic(auto)]
 
-mod command;
 mod fault;
-mod four;
-mod grammar;
 mod kinds;
-mod laws;
-mod letters;
-mod machine;
-mod marks;
-mod mixed_command;
-mod mixed_runs;
-mod operators;
 mod program;
-mod reply;
-mod runs;
-mod serve;
-mod sparse;
 #[cfg(test)]
 mod tests;
-mod text_fault;
-mod transcript;
-mod wide;
-mod word_list;
 mod worked;
 
 use std::process::ExitCode;

@@ -2,16 +2,16 @@
 
 ghost use Rattle.std.specs.Prelude.{◌≡◌, ◌≢◌, ◌⊎◌, ◌+◌, ◌≤◌, [], length, ok_or, take, IfOk, IfErr, IfSome, OnOk, OnErr, IsOk, IsOkAnd, vec_capacity};
 ghost use Rattle.std.specs.Io.KnownBytes.{Appends};
-ghost use Rattle.enumset_run.specs.Answers.{AppendsFrontOf};
+ghost use Rattle.enumset_run.specs.Written.{AppendsFrontOf};
 ghost use Rattle.enumset_run.specs.Arguments.{requested};
 ghost use Rattle.enumset_run.specs.Faults.{IsFaultOver};
 ghost use Rattle.enumset_run.specs.Kinds.{answer_over, worked_of};
 
 use crate::fault::ProgramFault;
 use crate::kinds::{serve_worked, worked};
-use crate::serve::INPUT_LIMIT;
-use crate::text_fault::TextFault;
 use crate::worked::Worked;
+use enumset_commands::text_fault::TextFault;
+use enumset_machine::serve::INPUT_LIMIT;
 use std::alloc::Global;
 use std::env::{Env, FillError};
 use std::io::{self, ErrorKind, Input, Print, Read, Write};

@@ -2,8 +2,8 @@
 
 use super::surroundings::{Source, outcome};
 use crate::program::answer_input;
-use crate::serve::INPUT_LIMIT;
 use crate::worked::Worked;
+use enumset_machine::serve::INPUT_LIMIT;
 use std::alloc::{AllocError, Global};
 use std::test::Fail;
 

@@ -1,10 +1,10 @@
 //! The texts of replies and of faults.
 
 use crate::fault::ProgramFault;
-use crate::reply::{Refusal, Reply};
-use crate::text_fault::TextFault;
-use crate::transcript::write_replies;
-use crate::word_list::WordList;
+use enumset_commands::reply::{Refusal, Reply};
+use enumset_commands::text_fault::TextFault;
+use enumset_commands::transcript::write_replies;
+use enumset_commands::word_list::WordList;
 use std::test::Fail;
 
 #[test]

@@ -1,6 +1,6 @@
 use Rattle.std.proofs.Common.{refl, ◌∷◌, []}
 use Rattle.enumset_repr.specs.Laws.Listed.{bits_listed, words_listed}
-use Rattle.enumset_run.specs.Kinds.{letters_bits, four_bits, sparse_bits, marks_bits, wide_bits}
+use Rattle.enumset_worked.specs.Bits.{letters_bits, four_bits, sparse_bits, marks_bits, wide_bits}
 use Rattle.enumset_run.proofs.kinds.serve_worked.Goals as goal
 
 pub returns-in-Letters-clause-answer : goal.returns-in-Letters-clause-answer

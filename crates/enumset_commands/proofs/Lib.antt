@@ -1,0 +1,6 @@
+pub mod Lines
+pub mod Tokens
+pub mod Fields
+pub mod Commands
+pub mod WordTokens
+pub mod Transcripts

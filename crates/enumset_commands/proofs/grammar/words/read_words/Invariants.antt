@@ -1,0 +1,13 @@
+use Rattle.std.proofs.Common.{◌≡◌, true}
+use Rattle.std.specs.Option.{is_some}
+use Rattle.enumset_commands.specs.Lines.{words_of}
+use Rattle.enumset_commands.proofs.WordTokens.{after_words}
+use Rattle.enumset_commands.proofs.grammar.words.read_words.Given as goal
+
+-- Until memory is refused the words so far, before those of what is left, are those of the tokens. Whether the
+-- tokens are words is decided by what is left.
+abbrev pub invariant-loop-token : goal.invariant-loop-token
+invariant-loop-token l = record {
+  words : l.has_room ≡ true → after_words l.words.items (words_of l.token-iterator) ≡ words_of l.fn.tokens;
+  some : is_some (words_of l.token-iterator) ≡ is_some (words_of l.fn.tokens);
+}

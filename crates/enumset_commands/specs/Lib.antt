@@ -1,0 +1,5 @@
+pub mod TextFaults
+pub mod Tables
+pub mod Lines
+pub mod MixedLines
+pub mod Texts

@@ -1,0 +1,25 @@
+-- The faults of a text of commands: their texts, and where they may come.
+--     fault_text      the text of why a text of commands has no answer
+--     IsFaultOf      what has this answer may fail so
+--     IsReadAs      reading what writes this, or nothing, came to this: it, nothing, or want of memory
+use Rattle.std.specs.Prelude.{◌≡◌, ℕ, List, ◌++◌, codes, Option, Some, None, Result, Ok, Err}
+use Rattle.std.specs.Option.{IsSome}
+use Rattle.std.specs.Fmt.{decimal}
+use Rattle.enumset_commands.specs.declared.text_fault.TextFault.{TextFault}
+use Rattle.enumset_commands.specs.declared.text_fault.TextFault.TheVariants.{TooLong, BadLine, OutOfMemory}
+
+abbrev pub fault_text : TextFault → List ℕ
+fault_text TooLong = codes "input too long"
+fault_text (BadLine n) = codes "line " ++ decimal n ++ codes ": not a command"
+fault_text OutOfMemory = codes "out of memory"
+
+-- what has a value fails for want of memory alone, and what has none by its own fault alone
+abbrev pub IsFaultOf : {A : Type 0} → Result A TextFault → TextFault → Type 0
+IsFaultOf (Ok value) fault = fault ≡ OutOfMemory
+IsFaultOf (Err own) fault = fault ≡ own
+
+-- what is nothing is read as nothing, whatever memory is refused
+abbrev pub IsReadAs : {A E : Type 0} → Option A → Option (Result A E) → Type 0
+IsReadAs own None = own ≡ None
+IsReadAs own (Some (Ok value)) = own ≡ Some value
+IsReadAs own (Some (Err error)) = IsSome own

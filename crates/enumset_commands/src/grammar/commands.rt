@@ -1,0 +1,85 @@
+//! The command that a name and its fields write.
+ghost use Rattle.std.specs.Prelude.{◌≡◌};
+ghost use Rattle.enumset_commands.specs.Lines.{command_of, with_fields, one_field, two_fields, three_fields};
+
+use super::fields::{read_bit, read_number, read_register};
+use super::line_command::LineCommand;
+use super::tables::{
+    one_register, register_and_bit, register_and_count, register_and_width, register_and_words,
+    register_width_and_value, takes_words, three_registers, two_registers,
+};
+use super::tokens::Tokens;
+use super::words::read_words;
+use crate::command::Command;
+use std::alloc::{AllocError, Global};
+
+impl LineCommand for Command {
+    ghost command_of = { command_of };
+
+    fn read(alloc: Global, name: &[u8], mut tokens: Tokens) -> Option<Result<Command, AllocError>> {
+        if !takes_words(name) {
+            return Some(Ok(with_fields(name, tokens)?));
+        }
+        let r = read_register(tokens.next()?)?;
+        match read_words(alloc, tokens)? {
+            Ok(words) => Some(Ok(register_and_words(name, r, words)?)),
+            Err(error) => Some(Err(error)),
+        }
+    }
+}
+
+/// The command of this name whose fields are the tokens left, none of which is a word.
+fn with_fields(name: &[u8], mut tokens: Tokens) -> Option<Command>
+    ensures { result ≡ with_fields name.now tokens.entry }
+{
+    let first = tokens.next()?;
+    let Some(second) = tokens.next() else {
+        return one_field(name, first);
+    };
+    let Some(third) = tokens.next() else {
+        return two_fields(name, first, second);
+    };
+    match tokens.next() {
+        None => three_fields(name, first, second, third),
+        Some(_) => None,
+    }
+}
+
+fn one_field(name: &[u8], x: &[u8]) -> Option<Command>
+    ensures { result ≡ one_field name.now x.now }
+{
+    one_register(name, read_register(x)?)
+}
+
+#[tactic(auto, using(crate::proofs::Fields::limits))]
+fn two_fields(name: &[u8], x: &[u8], y: &[u8]) -> Option<Command>
+    ensures { result ≡ two_fields name.now x.now y.now }
+{
+    let first = read_register(x)?;
+    // a bit and a width are numbers of 32 bits
+    let number = read_bit(y)?;
+    if let Some(command) = register_and_bit(name, first, number) {
+        return Some(command);
+    }
+    if let Some(command) = register_and_width(name, first, number) {
+        return Some(command);
+    }
+    // a count is a number of 8 bits, as a register
+    let second = read_register(y)?;
+    if let Some(command) = two_registers(name, first, second) {
+        return Some(command);
+    }
+    register_and_count(name, first, second)
+}
+
+#[tactic(auto, using(crate::proofs::Fields::limits))]
+fn three_fields(name: &[u8], x: &[u8], y: &[u8], z: &[u8]) -> Option<Command>
+    ensures { result ≡ three_fields name.now x.now y.now z.now }
+{
+    let first = read_register(x)?;
+    let width = read_bit(y)?;
+    if let Some(command) = register_width_and_value(name, first, width, read_number(z)?) {
+        return Some(command);
+    }
+    three_registers(name, first, read_register(y)?, read_register(z)?)
+}

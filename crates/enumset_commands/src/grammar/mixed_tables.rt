@@ -1,0 +1,41 @@
+//! The names of the commands that mixed sets alone have, by the fields that they take.
+ghost use Rattle.std.specs.Prelude.{◌≡◌};
+ghost use Rattle.enumset_commands.specs.MixedLines.{mixed_one_register, mixed_two_registers, mixed_register_and_bit};
+
+use super::tables::is;
+use crate::mixed_command::MixedCommand;
+
+/// The command of this name over one register.
+pub(super) fn mixed_one_register(name: &[u8], r: u8) -> Option<MixedCommand>
+    ensures { result ≡ mixed_one_register name.now r }
+{
+    Some(match name {
+        _ if is(name, "valid_len") => MixedCommand::ValidLen { r },
+        _ if is(name, "unknown") => MixedCommand::Unknown { r },
+        _ => return None,
+    })
+}
+
+/// The command of this name over two registers.
+pub(super) fn mixed_two_registers(name: &[u8], to: u8, a: u8) -> Option<MixedCommand>
+    ensures { result ≡ mixed_two_registers name.now to a }
+{
+    Some(match name {
+        _ if is(name, "full_complement") => MixedCommand::FullComplement { to, a },
+        _ if is(name, "as_enumset") => MixedCommand::AsEnumset { to, a },
+        _ if is(name, "truncate") => MixedCommand::Truncate { to, a },
+        _ => return None,
+    })
+}
+
+/// The command of this name over a register and a bit.
+pub(super) fn mixed_register_and_bit(name: &[u8], r: u8, bit: u32) -> Option<MixedCommand>
+    ensures { result ≡ mixed_register_and_bit name.now r bit }
+{
+    Some(match name {
+        _ if is(name, "has_bit") => MixedCommand::HasBit { r, bit },
+        _ if is(name, "insert_bit") => MixedCommand::InsertBit { r, bit },
+        _ if is(name, "remove_bit") => MixedCommand::RemoveBit { r, bit },
+        _ => return None,
+    })
+}

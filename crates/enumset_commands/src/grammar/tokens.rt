@@ -1,0 +1,79 @@
+//! The tokens of a line.
+ghost use Rattle.std.specs.Prelude.{◌≡◌, ◌==◌, not};
+ghost use Rattle.std.specs.List.{position};
+
+use std::marker::Model;
+
+/// The tokens of a line that are still to come.
+#[derive(Drop)]
+pub struct Tokens<'a> {
+    rest: &'a [u8],
+}
+
+impl<'a> Model for Tokens<'a> {
+    ghost use Rattle.std.specs.Prelude.{List, ℕ};
+    ghost use Rattle.enumset_commands.specs.Lines.{tokens_of};
+
+    ghost Value = { List (List ℕ) };
+
+    ghost view = { λ tokens. tokens_of tokens.rest.now };
+}
+
+impl<'a> Tokens<'a> {
+    ghost use Rattle.enumset_commands.specs.Lines.{tokens_of};
+
+    /// The tokens of a line, which spaces part.
+    pub(super) fn new(line: &'a [u8]) -> Tokens<'a>
+        ensures { result ≡ tokens_of line.now }
+    {
+        Tokens { rest: line }
+    }
+
+    /// The same tokens once more.
+    pub(super) fn same(&self) -> Tokens<'a>
+        ensures { result ≡ self.now }
+    {
+        Tokens { rest: self.rest }
+    }
+}
+
+impl<'a> Iterator for Tokens<'a> {
+    ghost use Rattle.std.specs.Iterator.{YieldsFirstRef, item_count};
+
+    type Item = &'a [u8];
+
+    ghost next_gives = { YieldsFirstRef (λ tokens. tokens) };
+
+    ghost remaining = { item_count (λ tokens. tokens) };
+
+    #[tactic(auto, using(crate::proofs::Tokens::token_steps))]
+    fn next(&mut self) -> Option<&'a [u8]> {
+        let start = token_start(self.rest)?;
+        let line = &self.rest[start..];
+        match token_end(line) {
+            Some(end) => {
+                let (token, rest) = line.split_at(end);
+                self.rest = rest;
+                Some(token)
+            }
+            None => {
+                self.rest = &[];
+                Some(line)
+            }
+        }
+    }
+}
+
+/// Where the first byte that is no space stands.
+fn token_start(line: &[u8]) -> Option<usize>
+    ensures { result ≡ position (λ b. not (b == 32)) line.now }
+{
+    line.iter().position(|byte| *byte != b' ')
+}
+
+/// Where the first space stands.
+fn token_end(line: &[u8]) -> Option<usize>
+    ensures { result ≡ position (λ b. b == 32) line.now }
+{
+    line.iter().position(|byte| *byte == b' ')
+}

@@ -1,0 +1,28 @@
+//! The words of a command.
+ghost use Rattle.enumset_commands.specs.Lines.{words_of};
+ghost use Rattle.enumset_commands.specs.TextFaults.{IsReadAs};
+
+use super::fields::read_word;
+use super::tokens::Tokens;
+use crate::word_list::WordList;
+use std::alloc::{AllocError, Global};
+
+/// The words that tokens write, or `None` where some token is no word. The error is want of memory for them.
+///
+/// Where memory is refused the rest of the tokens is still read.
+#[tactic(auto, using(crate::proofs::WordTokens::word_steps))]
+pub(super) fn read_words(alloc: Global, tokens: Tokens) -> Option<Result<WordList, AllocError>>
+    ensures { IsReadAs (words_of tokens.entry) result }
+{
+    let mut words = Vec::new(alloc);
+    let mut has_room = true;
+    for token in tokens {
+        let word = read_word(token)?;
+        has_room = has_room && words.push(word).is_ok();
+    }
+    if has_room {
+        Some(Ok(WordList::from(words)))
+    } else {
+        Some(Err(AllocError))
+    }
+}

@@ -1,0 +1,73 @@
+//! The replies of a run.
+use crate::word_list::WordList;
+use std::fmt;
+
+/// The answer to one command.
+#[derive(Debug, Drop)]
+pub enum Reply {
+    /// The command was carried out.
+    Done,
+    /// Yes or no.
+    Truth(bool),
+    /// How many members or items there are.
+    Count(u64),
+    /// The number of a set: the sum of the powers of two of its members.
+    Number(u128),
+    /// Words of a set, the lowest first.
+    Words(WordList),
+    /// The number of a valid bit.
+    Bit(u32),
+    /// The number of a bit that is not valid.
+    Unknown(u32),
+    /// There is nothing to give.
+    Absent,
+    /// The command was refused, and nothing changed.
+    Refused(Refusal),
+}
+
+/// Why a command was refused.
+#[derive(Clone, Copy, Debug, PartialEq, Eq)]
+pub enum Refusal {
+    /// It names a set register past 3, or an iterator register past 1.
+    NoRegister,
+    /// It names a bit that is not valid; `InsertBit` one that is not below the width of the store.
+    NotABit,
+    /// It names a width other than 8, 16, 32, 64 and 128, or a value that does not fit the width.
+    NotAWidth,
+}
+
+impl fmt::Display for Reply {
+    ghost use Rattle.std.specs.Prelude.{Some};
+    ghost use Rattle.enumset_commands.specs.Texts.{text_of};
+
+    ghost output = { λ reply. Some (text_of reply) };
+
+    fn fmt<W: fmt::Write>(&self, f: &mut fmt::Formatter<W>) -> fmt::Result {
+        match self {
+            Reply::Done => write!(f, "ok"),
+            Reply::Truth(truth) => write!(f, "{truth}"),
+            Reply::Count(count) => write!(f, "{count}"),
+            Reply::Number(number) => write!(f, "{number}"),
+            Reply::Words(words) => write!(f, "words{words}"),
+            Reply::Bit(bit) => write!(f, "bit {bit}"),
+            Reply::Unknown(bit) => write!(f, "unknown {bit}"),
+            Reply::Absent => write!(f, "none"),
+            Reply::Refused(refusal) => write!(f, "{refusal}"),
+        }
+    }
+}
+
+impl fmt::Display for Refusal {
+    ghost use Rattle.std.specs.Prelude.{Some};
+    ghost use Rattle.enumset_commands.specs.Texts.{refusal_text};
+
+    ghost output = { λ refusal. Some (refusal_text refusal) };
+
+    fn fmt<W: fmt::Write>(&self, f: &mut fmt::Formatter<W>) -> fmt::Result {
+        match self {
+            Refusal::NoRegister => write!(f, "K1 no register"),
+            Refusal::NotABit => write!(f, "K2 not a bit"),
+            Refusal::NotAWidth => write!(f, "K3 not a width"),
+        }
+    }
+}

@@ -1,0 +1,4 @@
+pub mod Replies
+pub mod Cuts
+pub mod MixedItems
+pub mod OneTranscript

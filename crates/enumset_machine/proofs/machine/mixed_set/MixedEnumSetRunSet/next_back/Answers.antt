@@ -1,0 +1,25 @@
+use Rattle.std.proofs.Common.{Some, ap, sym, ◌∙◌}
+use Rattle.enumset_repr.specs.Ends.{last, without_last}
+use Rattle.enumset_repr.specs.Laws.Steps.{last-push, without_last-push}
+use Rattle.enumset_mixed.specs.Mixed.{bit_with_validity}
+use Rattle.enumset_machine.proofs.MixedItems.{none_left, gave_last}
+use Rattle.enumset_machine.proofs.machine.mixed_set.MixedEnumSetRunSet.next_back.Goals as goal
+
+pub returns-in_err-value-clause-given : goal.returns-in_err-value-clause-given
+returns-in_err-value-clause-given g c =
+    let valid = g.T.Repr.EnumSetTypeRepr.members g.T.EnumSetType.ALL_BITS in
+    c.from_residual.ensures ∙ sym (ap last (none_left valid c.args.items.now c.in_err-value.ensures.steps.0))
+
+pub returns-clause-given : goal.returns-clause-given
+returns-clause-given g c =
+    let valid = g.T.Repr.EnumSetTypeRepr.members g.T.EnumSetType.ALL_BITS in
+    let item = bit_with_validity g.T.EnumSetType.elements.bit c.in_ok-value.value in
+    let left = c.next_back.new.self in
+    ap Some c.bit_of.ensures ∙ sym (ap last (gave_last valid c.args.items.now left item c.in_ok-value.ensures.steps) ∙ last-push left item.0)
+
+pub returns-clause-rest : goal.returns-clause-rest
+returns-clause-rest g c =
+    let valid = g.T.Repr.EnumSetTypeRepr.members g.T.EnumSetType.ALL_BITS in
+    let item = bit_with_validity g.T.EnumSetType.elements.bit c.in_ok-value.value in
+    let left = c.next_back.new.self in
+    sym (ap without_last (gave_last valid c.args.items.now left item c.in_ok-value.ensures.steps) ∙ without_last-push left item.0)

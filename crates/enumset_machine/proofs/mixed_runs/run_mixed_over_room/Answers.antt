@@ -1,0 +1,15 @@
+use Rattle.std.proofs.Common.{◌<◌, ◌∙◌, length, arith}
+use Rattle.enumset_machine.specs.MixedRuns.{mixed_outcome}
+use Rattle.enumset_machine.proofs.Replies.{replies_by-next}
+use Rattle.enumset_machine.proofs.mixed_runs.run_mixed_over_room.Goals as goal
+
+pub loop-command-preserved : goal.loop-command-preserved
+loop-command-preserved g c =
+    let next = replies_by-next (mixed_outcome (g.T.Repr.EnumSetTypeRepr.members g.T.EnumSetType.ALL_BITS) g.T.Repr.EnumSetTypeRepr.WIDTH) in
+    let kept = c.loop-command.invariant in
+    let within : c.loop-command.command-index < length c.args.commands.now = omega arith in
+    record {
+      replies = rw c.push_reserved.ensures.items (next _ _ _ _ _ _ _ within c.command-item.is c.in_ok-step.ensures.step ∙ kept.replies);
+      counted = omega arith;
+      room = omega arith;
+    }

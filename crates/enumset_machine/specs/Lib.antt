@@ -1,0 +1,7 @@
+pub mod States
+pub mod Plans
+pub mod Runs
+pub mod MixedRuns
+pub mod Transcripts
+pub mod Operands
+pub mod Answers

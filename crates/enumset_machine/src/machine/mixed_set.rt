@@ -1,0 +1,207 @@
+//! Mixed sets, as a run asks of them.
+
+ghost use Rattle.std.specs.Prelude.{◌≡◌};
+ghost use Rattle.enumset_mixed.specs.Mixed.{bit_with_validity};
+
+use super::element_set::element_of;
+use super::run_set::RunSet;
+use enumset_commands::reply::Reply;
+use enumset_mixed::mixed_enum_set::MixedEnumSet;
+use enumset_mixed::mixed_enum_set_iter::MixedEnumSetIter;
+use enumset_mixed::mixed_value::MixedValue;
+use enumset_repr::repr::EnumSetTypeRepr;
+use enumset_sets::element::EnumSetType;
+use enumset_sets::with_repr::EnumSetTypeWithRepr;
+
+impl<T: EnumSetTypeWithRepr> RunSet for MixedEnumSet<T> {
+    ghost use Rattle.enumset_machine.specs.Plans.{of_width};
+
+    ghost members = { λ s. s };
+
+    ghost rules = { of_width (T.Repr.members T.ALL_BITS) T.Repr.WIDTH };
+
+    type Items = MixedEnumSetIter<T>;
+
+    ghost rest = { λ items. items };
+
+    fn is_bit_valid(bit: u32) -> bool {
+        MixedEnumSet::<T>::is_bit_valid(bit)
+    }
+
+    fn given(bit: u32) -> Reply {
+        if MixedEnumSet::<T>::is_bit_valid(bit) {
+            Reply::Bit(bit)
+        } else {
+            Reply::Unknown(bit)
+        }
+    }
+
+    fn new() -> MixedEnumSet<T> {
+        MixedEnumSet::<T>::new()
+    }
+
+    fn all() -> MixedEnumSet<T> {
+        MixedEnumSet::<T>::all()
+    }
+
+    fn only(bit: u32) -> MixedEnumSet<T> {
+        MixedEnumSet::<T>::only(element_of(bit))
+    }
+
+    fn insert(&mut self, bit: u32) -> bool {
+        MixedEnumSet::<T>::insert(self, element_of(bit))
+    }
+
+    fn remove(&mut self, bit: u32) -> bool {
+        MixedEnumSet::<T>::remove(self, element_of(bit))
+    }
+
+    fn contains(&self, bit: u32) -> bool {
+        MixedEnumSet::<T>::contains(self, element_of(bit))
+    }
+
+    fn clear(&mut self) {
+        MixedEnumSet::<T>::clear(self);
+    }
+
+    fn len(&self) -> usize {
+        MixedEnumSet::<T>::len(self)
+    }
+
+    fn is_empty(&self) -> bool {
+        MixedEnumSet::<T>::is_empty(self)
+    }
+
+    fn union(&self, other: MixedEnumSet<T>) -> MixedEnumSet<T> {
+        MixedEnumSet::<T>::union(self, other)
+    }
+
+    fn intersection(&self, other: MixedEnumSet<T>) -> MixedEnumSet<T> {
+        MixedEnumSet::<T>::intersection(self, other)
+    }
+
+    fn difference(&self, other: MixedEnumSet<T>) -> MixedEnumSet<T> {
+        MixedEnumSet::<T>::difference(self, other)
+    }
+
+    fn symmetric_difference(&self, other: MixedEnumSet<T>) -> MixedEnumSet<T> {
+        MixedEnumSet::<T>::symmetric_difference(self, other)
+    }
+
+    fn complement(&self) -> MixedEnumSet<T> {
+        MixedEnumSet::<T>::complement(self)
+    }
+
+    fn insert_all(&mut self, other: MixedEnumSet<T>) {
+        MixedEnumSet::<T>::insert_all(self, other);
+    }
+
+    fn remove_all(&mut self, other: MixedEnumSet<T>) {
+        MixedEnumSet::<T>::remove_all(self, other);
+    }
+
+    fn is_disjoint(&self, other: MixedEnumSet<T>) -> bool {
+        MixedEnumSet::<T>::is_disjoint(self, other)
+    }
+
+    fn is_superset(&self, other: MixedEnumSet<T>) -> bool {
+        MixedEnumSet::<T>::is_superset(self, other)
+    }
+
+    fn is_subset(&self, other: MixedEnumSet<T>) -> bool {
+        MixedEnumSet::<T>::is_subset(self, other)
+    }
+
+    fn is_same(&self, other: MixedEnumSet<T>) -> bool {
+        *self == other
+    }
+
+    fn number(&self, width: u32) -> Option<u128> {
+        let repr = self.as_repr();
+        Some(match width {
+            8 => u128::from(repr.try_to_u8()?),
+            16 => u128::from(repr.try_to_u16()?),
+            32 => u128::from(repr.try_to_u32()?),
+            64 => u128::from(repr.try_to_u64()?),
+            _ => repr.try_to_u128()?,
+        })
+    }
+
+    fn number_cut(&self, width: u32) -> u128 {
+        let repr = self.as_repr();
+        match width {
+            8 => u128::from(repr.to_u8()),
+            16 => u128::from(repr.to_u16()),
+            32 => u128::from(repr.to_u32()),
+            64 => u128::from(repr.to_u64()),
+            _ => repr.to_u128(),
+        }
+    }
+
+    fn from_number(width: u32, value: u128) -> Option<MixedEnumSet<T>> {
+        let repr = match width {
+            8 => T::Repr::try_from_u8(value as u8)?,
+            16 => T::Repr::try_from_u16(value as u16)?,
+            32 => T::Repr::try_from_u32(value as u32)?,
+            64 => T::Repr::try_from_u64(value as u64)?,
+            _ => T::Repr::try_from_u128(value)?,
+        };
+        Some(MixedEnumSet::from_repr(repr))
+    }
+
+    #[tactic(auto, using(crate::proofs::Cuts::low_below))]
+    fn from_number_cut(width: u32, value: u128) -> MixedEnumSet<T> {
+        MixedEnumSet::from_repr(match width {
+            8 => T::Repr::from_u8(value as u8),
+            16 => T::Repr::from_u16(value as u16),
+            32 => T::Repr::from_u32(value as u32),
+            64 => T::Repr::from_u64(value as u64),
+            _ => T::Repr::from_u128(value),
+        })
+    }
+
+    fn words(&self, slice: &mut [u64]) -> Option<()> {
+        self.as_repr().try_to_u64_slice(slice)
+    }
+
+    fn words_cut(&self, slice: &mut [u64]) {
+        self.as_repr().to_u64_slice(slice);
+    }
+
+    fn from_words(words: &[u64]) -> Option<MixedEnumSet<T>> {
+        Some(MixedEnumSet::from_repr(T::Repr::try_from_u64_slice(words)?))
+    }
+
+    #[tactic(auto, using(crate::proofs::Cuts::low_below))]
+    fn from_words_cut(words: &[u64]) -> MixedEnumSet<T> {
+        MixedEnumSet::from_repr(T::Repr::from_u64_slice(words))
+    }
+
+    fn items(&self) -> MixedEnumSetIter<T> {
+        MixedEnumSet::<T>::iter(self)
+    }
+
+    fn next(items: &mut MixedEnumSetIter<T>) -> Option<u32> {
+        let value = items.next()?;
+        Some(bit_of(value))
+    }
+
+    fn next_back(items: &mut MixedEnumSetIter<T>) -> Option<u32> {
+        let value = items.next_back()?;
+        Some(bit_of(value))
+    }
+
+    fn items_left(items: &MixedEnumSetIter<T>) -> usize {
+        items.len()
+    }
+}
+
+/// The bit of an item.
+fn bit_of<T: EnumSetType>(value: MixedValue<T>) -> u32
+    ensures { result ≡ (bit_with_validity T.elements.bit value).0 }
+{
+    match value {
+        MixedValue::Valid(element) => element.enum_into_u32(),
+        MixedValue::Invalid(bit) => bit,
+    }
+}

@@ -1,0 +1,331 @@
+//! Sets to and from numbers, store values and words, at each worked type.
+
+use super::sending::{as_byte, granted_by, sent_and_read};
+use enumset_sets::element::EnumSetType;
+use enumset_sets::enum_set::EnumSet;
+use enumset_sets::with_repr::EnumSetTypeWithRepr;
+use enumset_sets::{laws, raw};
+use enumset_worked::letters::Letters;
+use enumset_worked::sparse::Sparse;
+use enumset_worked::wide::Wide;
+use std::alloc::AllocError;
+use std::fmt;
+use std::test::Fail;
+
+fn two_of<T: EnumSetType>(a: T, b: T) -> EnumSet<T> {
+    EnumSet::only(a).union(EnumSet::only(b))
+}
+
+// Writes a line of the seven calls of a type of numbers: the number of a set, the number of its members below the
+// type's width, the set of a number whose bits are valid, and what comes of another number. The calls that ask are made
+// where their tests pass, and what they answer is compared.
+macro_rules! write_line {
+    ($text:ident, $set:ident, $valid:ident, $other:ident:
+        $as_x:ident $try_as_x:ident $as_x_truncated:ident,
+        $from_x:ident $try_from_x:ident $from_x_truncated:ident $from_x_unchecked:ident) => {{
+        let number = $set.$try_as_x();
+        let is_same_number = match number {
+            Some(n) => $set.$as_x() == n,
+            None => true,
+        };
+        let is_same_set = match EnumSet::<T>::$try_from_x($valid) {
+            Some(s) => {
+                EnumSet::<T>::$from_x($valid) == s && EnumSet::<T>::$from_x_unchecked($valid) == s
+            }
+            None => false,
+        };
+        writeln!(
+            $text,
+            "{number:?} {} {:?} {:?} {:?} {is_same_number} {is_same_set}",
+            $set.$as_x_truncated(),
+            EnumSet::<T>::$try_from_x($valid),
+            EnumSet::<T>::$try_from_x($other),
+            EnumSet::<T>::$from_x_truncated($other)
+        )
+    }};
+}
+
+fn write_u8<T: EnumSetType + fmt::Debug>(
+    text: &mut String,
+    set: &EnumSet<T>,
+    valid: u8,
+    other: u8,
+) -> Result<(), AllocError> {
+    write_line!(text, set, valid, other:
+        as_u8 try_as_u8 as_u8_truncated,
+        from_u8 try_from_u8 from_u8_truncated from_u8_unchecked)
+}
+
+fn write_u16<T: EnumSetType + fmt::Debug>(
+    text: &mut String,
+    set: &EnumSet<T>,
+    valid: u16,
+    other: u16,
+) -> Result<(), AllocError> {
+    write_line!(text, set, valid, other:
+        as_u16 try_as_u16 as_u16_truncated,
+        from_u16 try_from_u16 from_u16_truncated from_u16_unchecked)
+}
+
+fn write_u32<T: EnumSetType + fmt::Debug>(
+    text: &mut String,
+    set: &EnumSet<T>,
+    valid: u32,
+    other: u32,
+) -> Result<(), AllocError> {
+    write_line!(text, set, valid, other:
+        as_u32 try_as_u32 as_u32_truncated,
+        from_u32 try_from_u32 from_u32_truncated from_u32_unchecked)
+}
+
+fn write_u64<T: EnumSetType + fmt::Debug>(
+    text: &mut String,
+    set: &EnumSet<T>,
+    valid: u64,
+    other: u64,
+) -> Result<(), AllocError> {
+    write_line!(text, set, valid, other:
+        as_u64 try_as_u64 as_u64_truncated,
+        from_u64 try_from_u64 from_u64_truncated from_u64_unchecked)
+}
+
+fn write_u128<T: EnumSetType + fmt::Debug>(
+    text: &mut String,
+    set: &EnumSet<T>,
+    valid: u128,
+    other: u128,
+) -> Result<(), AllocError> {
+    write_line!(text, set, valid, other:
+        as_u128 try_as_u128 as_u128_truncated,
+        from_u128 try_from_u128 from_u128_truncated from_u128_unchecked)
+}
+
+fn write_usize<T: EnumSetType + fmt::Debug>(
+    text: &mut String,
+    set: &EnumSet<T>,
+    valid: usize,
+    other: usize,
+) -> Result<(), AllocError> {
+    write_line!(text, set, valid, other:
+        as_usize try_as_usize as_usize_truncated,
+        from_usize try_from_usize from_usize_truncated from_usize_unchecked)
+}
+
+// A number of each type.
+type Numbers = (u8, u16, u32, u64, u128, usize);
+
+// A line of each type of numbers, about the set of two elements.
+fn write_numbers<T: EnumSetType + fmt::Debug>(
+    text: &mut String,
+    a: T,
+    b: T,
+    valid: Numbers,
+    other: Numbers,
+) -> Result<(), AllocError> {
+    let set = two_of(a, b);
+    write_u8(text, &set, valid.0, other.0)?;
+    write_u16(text, &set, valid.1, other.1)?;
+    write_u32(text, &set, valid.2, other.2)?;
+    write_u64(text, &set, valid.3, other.3)?;
+    write_u128(text, &set, valid.4, other.4)?;
+    write_usize(text, &set, valid.5, other.5)
+}
+
+#[test]
+fn numbers_of_each_type(rt: HostRuntime) -> Result<(), Fail> {
+    let mut text = String::new(rt.alloc());
+    let valid = (69, 3, 127, 0, 5, 64);
+    let other = (200, 256, 4294967295, 1 << 63 | 1, 1 << 127 | 2, 128);
+    write_numbers(&mut text, Letters::A, Letters::G, valid, other)?;
+    let valid = (
+        0,
+        1024,
+        1 << 10 | 1 << 30,
+        1024,
+        1 << 127 | 1 << 20,
+        1 << 30,
+    );
+    let other = (255, 1025, 4294967295, 1025, 1 << 127 | 1, 1 << 31);
+    write_numbers(&mut text, Sparse::A, Sparse::D, valid, other)?;
+    let valid = (8, 0, 8, 8, 1 << 64 | 8, 8);
+    let other = (9, 65535, 7, 16, 1 << 64 | 1, 12);
+    write_numbers(&mut text, Wide::P, Wide::Q, valid, other)?;
+    assert!(rt; text.as_str() == NUMBERS);
+    Ok(())
+}
+
+const NUMBERS: &str = "\
+Some(65) 65 Some(EnumSet(A | C | G)) None EnumSet(D | G) true true
+Some(65) 65 Some(EnumSet(A | B)) None EnumSet() true true
+Some(65) 65 Some(EnumSet(A | B | C | D | E | F | G)) None EnumSet(A | B | C | D | E | F | G) true true
+Some(65) 65 Some(EnumSet()) None EnumSet(A) true true
+Some(65) 65 Some(EnumSet(A | C)) None EnumSet(B) true true
+Some(65) 65 Some(EnumSet(G)) None EnumSet() true true
+None 0 Some(EnumSet()) None EnumSet() true true
+None 1024 Some(EnumSet(A)) None EnumSet(A) true true
+None 1024 Some(EnumSet(A | C)) None EnumSet(A | B | C) true true
+None 1024 Some(EnumSet(A)) None EnumSet(A) true true
+Some(170141183460469231731687303715884106752) 170141183460469231731687303715884106752 \
+Some(EnumSet(B | D)) None EnumSet(D) true true
+None 1024 Some(EnumSet(C)) None EnumSet() true true
+None 8 Some(EnumSet(P)) None EnumSet(P) true true
+None 8 Some(EnumSet()) None EnumSet(P) true true
+None 8 Some(EnumSet(P)) None EnumSet() true true
+None 8 Some(EnumSet(P)) None EnumSet() true true
+Some(18446744073709551624) 18446744073709551624 Some(EnumSet(P | Q)) None EnumSet(Q) true true
+None 8 Some(EnumSet(P)) None EnumSet(P) true true
+";
+
+#[test]
+fn numbers_of_rows(rt: HostRuntime) {
+    let letters = two_of(Letters::A, Letters::C).union(EnumSet::only(Letters::G));
+    let rest = two_of(Letters::E, Letters::G).complement();
+    let numbers = [
+        letters.len(),
+        as_byte(&letters) as usize,
+        rest.len(),
+        as_byte(&rest) as usize,
+    ];
+    assert!(rt; numbers == [3, 69, 5, 47]);
+    let refused = [
+        EnumSet::<Letters>::try_from_u8(128),
+        EnumSet::<Letters>::try_from_u16(256),
+    ];
+    assert!(rt; refused == [None, None]);
+    let all = EnumSet::<Letters>::from_u8_truncated(255);
+    assert!(rt; all.try_as_u8() == Some(127) && all == EnumSet::all());
+    assert!(rt; granted_by::<Letters>(69) == letters && granted_by::<Letters>(200).is_empty());
+    assert!(rt; EnumSet::<Sparse>::all().as_u64_truncated() == 1074791424);
+    assert!(rt;
+        sent_and_read(&letters) == Some(letters) && sent_and_read(&EnumSet::only(Sparse::A)) == None
+    );
+}
+
+// Whether the store's value of a set is taken back to it.
+fn is_taken_back<T: EnumSetType>(a: T, b: T) -> bool {
+    let set = two_of(a, b);
+    laws::number_and_back(&set);
+    raw::new(raw::get(set)) == two_of(a, b)
+}
+
+fn repr_is_taken_back<T: EnumSetTypeWithRepr>(a: T, b: T) -> bool {
+    let set = two_of(a, b);
+    laws::number_and_back(&set);
+    EnumSet::<T>::from_repr(set.as_repr()) == set
+        && EnumSet::<T>::from_repr_unchecked(set.as_repr()) == set
+}
+
+#[test]
+fn values_of_stores(rt: HostRuntime) {
+    let set = two_of(Letters::A, Letters::C);
+    let read = [
+        EnumSet::<Letters>::try_from_repr(set.as_repr()),
+        EnumSet::<Letters>::try_from_repr(128),
+        Some(EnumSet::from_repr_truncated(133)),
+    ];
+    assert!(rt; set.as_repr() == 5 && read == [Some(set), None, Some(set)]);
+    assert!(rt; two_of(Sparse::A, Sparse::D).as_repr() == 1 << 127 | 1 << 10);
+    assert!(rt;
+        repr_is_taken_back(Letters::A, Letters::G) && repr_is_taken_back(Sparse::B, Sparse::D)
+    );
+    assert!(rt; is_taken_back(Letters::A, Letters::G) && is_taken_back(Wide::P, Wide::R));
+}
+
+// Whether a set's words in an array, by the call that asks, are read as the set by those that ask.
+fn is_read_from_an_array<T: EnumSetType>(a: T, b: T) -> bool {
+    let set = two_of(a, b);
+    let Some(array) = set.try_as_array::<4>() else {
+        return false;
+    };
+    let Some(read) = EnumSet::<T>::try_from_array(array) else {
+        return false;
+    };
+    set.as_array::<4>() == array
+        && read == set
+        && EnumSet::<T>::from_array(array) == read
+        && EnumSet::<T>::from_array_unchecked(array) == read
+}
+
+// The words of all elements: in an array of 2 if they fit, cut at 2, and in an array of 4.
+fn arrays_of_all<T: EnumSetType>() -> (Option<[u64; 2]>, [u64; 2], Option<[u64; 4]>) {
+    let all = EnumSet::<T>::all();
+    (
+        all.try_as_array(),
+        all.as_array_truncated(),
+        all.try_as_array(),
+    )
+}
+
+// Whether an array is read, and then as all elements; and whether what is valid of it is all elements.
+fn reads_all<T: EnumSetType>(array: [u64; 4]) -> (Option<bool>, bool) {
+    let read = match EnumSet::<T>::try_from_array(array) {
+        Some(set) => Some(set == EnumSet::all()),
+        None => None,
+    };
+    (
+        read,
+        EnumSet::<T>::from_array_truncated(array) == EnumSet::all(),
+    )
+}
+
+#[test]
+fn arrays_of_rows(rt: HostRuntime) {
+    let sparse = two_of(Sparse::A, Sparse::D);
+    assert!(rt; sparse.try_as_array() == Some([1024, 9223372036854775808]));
+    assert!(rt; EnumSet::<Sparse>::new().try_as_array::<0>() == Some([]));
+    assert!(rt; EnumSet::only(Sparse::A).try_as_array::<0>() == None);
+    assert!(rt; arrays_of_all::<Wide>() == (None, [8, 1], Some([8, 1, 4, 0])));
+    let read = [
+        reads_all::<Wide>([8, 1, 4, 0]),
+        reads_all::<Wide>([8, 1, 4, 1]),
+        reads_all::<Wide>([9, 1, 4, 0]),
+        reads_all::<Wide>([9, 1, 4, 1]),
+    ];
+    assert!(rt; read == [(Some(true), true), (None, true), (None, true), (None, true)]);
+    assert!(rt; is_read_from_an_array(Letters::A, Letters::C));
+    assert!(rt; is_read_from_an_array(Sparse::A, Sparse::D));
+    assert!(rt; is_read_from_an_array(Wide::P, Wide::R));
+}
+
+// Whether a set's words, written to a slice that has room for them by the call that tests and by the call that asks, are
+// read as the set by those that ask.
+fn is_read_from_a_slice<T: EnumSetType>(a: T, b: T) -> bool {
+    let set = two_of(a, b);
+    let (mut tested, mut asked) = ([7; 3], [7; 3]);
+    if set.try_copy_into_slice(&mut tested).is_none() {
+        return false;
+    }
+    set.copy_into_slice(&mut asked);
+    let Some(read) = EnumSet::<T>::try_from_slice(&asked) else {
+        return false;
+    };
+    asked == tested
+        && read == set
+        && EnumSet::<T>::from_slice(&asked) == read
+        && EnumSet::<T>::from_slice_unchecked(&asked) == read
+}
+
+#[test]
+fn slices_of_rows(rt: HostRuntime) {
+    let sparse = two_of(Sparse::A, Sparse::D);
+    let letter = EnumSet::only(Letters::A);
+    let (mut one, mut two, mut three) = ([7], [7; 2], [7; 3]);
+    assert!(rt; sparse.try_copy_into_slice(&mut one) == None && one == [7]);
+    sparse.copy_into_slice_truncated(&mut three);
+    assert!(rt; three == [1024, 9223372036854775808, 0]);
+    assert!(rt; letter.try_copy_into_slice(&mut []) == None);
+    letter.copy_into_slice_truncated(&mut two);
+    assert!(rt; two == [1, 0]);
+    let read = [
+        EnumSet::<Letters>::try_from_slice(&[5, 0, 0]),
+        EnumSet::<Letters>::try_from_slice(&[5, 1]),
+        Some(EnumSet::from_slice_truncated(&[133, 1])),
+        EnumSet::<Letters>::try_from_slice(&[]),
+    ];
+    let set = two_of(Letters::A, Letters::C);
+    assert!(rt; read == [Some(set), None, Some(set), Some(EnumSet::new())]);
+    assert!(rt; is_read_from_a_slice(Letters::A, Letters::C));
+    assert!(rt;
+        is_read_from_a_slice(Sparse::A, Sparse::D) && is_read_from_a_slice(Wide::P, Wide::R)
+    );
+}

@@ -1,0 +1,27 @@
+//! Tests of sets, mixed sets, folds and macros at the worked types, and users' code with its proofs.
+//!
+//! They stand apart from the crates that they test, so that the proofs of those are made once.
+#![tactic(auto)]
+
+#[cfg(test)]
+mod conversions;
+#[cfg(test)]
+mod element_types;
+#[cfg(test)]
+mod folds;
+#[cfg(test)]
+mod macros;
+#[cfg(test)]
+mod mixed;
+#[cfg(test)]
+mod operators;
+#[cfg(test)]
+mod order;
+#[cfg(test)]
+mod proving;
+#[cfg(test)]
+mod refused;
+#[cfg(test)]
+mod sending;
+#[cfg(test)]
+mod set_texts;

@@ -1,0 +1,147 @@
+// The operators on sets and on elements, and the folds by the traits of std, as users write them.
+
+ghost use Rattle.std.specs.Prelude.{◌≡◌};
+ghost use Rattle.enumset_repr.specs.BitSet as set;
+
+use enumset_mixed::mixed_enum_set::MixedEnumSet;
+use enumset_sets::enum_set::EnumSet;
+use enumset_worked::four::Four;
+use enumset_worked::letters::Letters;
+use enumset_worked::marks::Marks;
+use std::test::Fail;
+
+// The numbers of what the operators make of two sets, and of the first where they assign to it.
+macro_rules! numbers {
+    ($a:expr, $b:expr, $number:ident) => {{
+        let (a, b) = ($a, $b);
+        let (mut and, mut or, mut xor, mut sub) = (a, a, a, a);
+        and &= b;
+        or |= b;
+        xor ^= b;
+        sub -= b;
+        [
+            (a & b).$number(),
+            (a | b).$number(),
+            (a ^ b).$number(),
+            (a - b).$number(),
+            (!a).$number(),
+            and.$number(),
+            or.$number(),
+            xor.$number(),
+            sub.$number(),
+        ]
+    }};
+}
+
+// A user's function over two sets: what operators do in it is known with no lemma.
+fn in_one_alone(a: EnumSet<Letters>, b: EnumSet<Letters>) -> EnumSet<Letters>
+    ensures { result ≡ set.difference (set.union a b) (set.intersection a b) }
+{
+    (a | b) - (a & b)
+}
+
+#[test]
+fn sets_have_operators(rt: HostRuntime) {
+    let (a, b) = (Letters::A | Letters::B, Letters::B | Letters::C);
+    let letters = numbers!(a, b, as_u8_truncated);
+    assert!(rt; letters == [2, 7, 5, 1, 124, 2, 7, 5, 1] && in_one_alone(a, b) == a ^ b);
+    let (a, b) = (Four::A | Four::B, Four::B | Four::D);
+    let four = numbers!(a, b, as_u8_truncated);
+    assert!(rt; four == [2, 11, 9, 1, 12, 2, 11, 9, 1]);
+}
+
+#[test]
+fn mixed_sets_have_operators(rt: HostRuntime) {
+    let (nine, ten) = (
+        MixedEnumSet::<Marks>::from_repr(9),
+        MixedEnumSet::from_repr(10),
+    );
+    assert!(rt; numbers!(nine, ten, as_repr) == [8, 11, 3, 1, 6, 8, 11, 3, 1]);
+    let (all, one) = (
+        MixedEnumSet::<Letters>::from_repr(255),
+        MixedEnumSet::from_repr(1),
+    );
+    assert!(rt; numbers!(all, one, as_repr) == [1, 255, 254, 254, 0, 1, 255, 254, 254]);
+    assert!(rt; (nine - MixedEnumSet::from_repr(1)).as_repr() == 8);
+}
+
+#[test]
+fn elements_have_operators(rt: HostRuntime) {
+    let letters = [
+        Letters::A & Letters::B,
+        Letters::A | Letters::B,
+        Letters::A ^ Letters::A,
+        Letters::A - Letters::B,
+        !Letters::A,
+        !(Letters::E | Letters::G),
+        (Letters::A | Letters::B) & EnumSet::only(Letters::C),
+        (Letters::A | Letters::B) ^ (Letters::B | Letters::C),
+        (Letters::A | Letters::B | EnumSet::only(Letters::C)) - EnumSet::only(Letters::B),
+    ];
+    let expected = [0, 3, 0, 1, 126, 47, 0, 5, 5];
+    for (set, number) in letters.iter().zip(expected) {
+        assert!(rt; set.as_u8_truncated() == number);
+    }
+    let four = [
+        Four::A & Four::A,
+        Four::A | Four::D,
+        Four::A ^ Four::D,
+        Four::D - Four::D,
+        !Four::D,
+    ];
+    for (set, number) in four.iter().zip([1, 9, 9, 0, 7]) {
+        assert!(rt; set.as_u8_truncated() == number);
+    }
+}
+
+#[test]
+fn sets_are_made_of_items(rt: HostRuntime) -> Result<(), Fail> {
+    let letters = [Letters::A, Letters::C, Letters::A];
+    let sets = [
+        EnumSet::only(Letters::A),
+        EnumSet::from(Letters::A),
+        Letters::C | Letters::C,
+    ];
+    let mut extended = EnumSet::from(Letters::B);
+    extended.extend(letters)?;
+    let collected: EnumSet<Letters> = letters.iter().copied().collect(rt.alloc())?;
+    let sum: EnumSet<Letters> = sets.iter().copied().sum();
+    let mut text = String::new(rt.alloc());
+    for letter in EnumSet::from(letters) {
+        write!(text, "{letter}")?;
+    }
+    for letter in extended.iter().rev() {
+        write!(text, "{letter}")?;
+    }
+    assert!(rt; extended.as_u8_truncated() == 7 && collected.as_u8_truncated() == 5);
+    assert!(rt; sum == collected && text.as_str() == "ACCBA");
+    let mut set = EnumSet::<Letters>::new();
+    let changes = [
+        set.insert(Letters::A),
+        set.insert(Letters::A),
+        set.remove(Letters::B),
+    ];
+    assert!(rt; changes == [true, false, false]);
+    Ok(())
+}
+
+#[test]
+fn mixed_sets_are_made_of_items(rt: HostRuntime) -> Result<(), Fail> {
+    let marks = [Marks::A, Marks::C, Marks::A];
+    let sets = [MixedEnumSet::from(Marks::B), MixedEnumSet::from_repr(8)];
+    let mut extended = MixedEnumSet::<Marks>::from_repr(128);
+    extended.extend(marks)?;
+    let collected: MixedEnumSet<Marks> = marks.iter().copied().collect(rt.alloc())?;
+    let sum: MixedEnumSet<Marks> = sets.iter().copied().sum();
+    let same = MixedEnumSet::from(EnumSet::from(marks)) == MixedEnumSet::from(marks);
+    let mut text = String::new(rt.alloc());
+    for member in extended {
+        write!(text, "{member:?} ")?;
+    }
+    for member in sum.iter().rev() {
+        write!(text, "{member:?} ")?;
+    }
+    assert!(rt; extended.as_repr() == 133 && collected.as_repr() == 5 && sum.as_repr() == 10);
+    assert!(rt; same && text.as_str() == "A C [7] [3] B ");
+    Ok(())
+}

@@ -1,0 +1,9 @@
+//! The worked types: the element types that the program runs commands over.
+#![tactic(auto)]
+
+pub mod four;
+pub mod letters;
+pub mod marks;
+pub mod operators;
+pub mod sparse;
+pub mod wide;

@@ -1,0 +1,67 @@
+//! The worked type `wide`.
+
+use enumset_array::ArrayRepr;
+use enumset_sets::element::EnumSetType;
+use enumset_sets::variant_of;
+use std::fmt;
+
+/// Three variants, on bits 3, 64 and 130, each in a word of its own.
+#[derive(Clone, Copy, Debug, PartialEq, Eq, PartialOrd, Ord, Hash)]
+pub enum Wide {
+    P = 3,
+    Q = 64,
+    R = 130,
+}
+
+impl EnumSetType for Wide {
+    ghost use Rattle.std.specs.Prelude.{◌∷◌, []};
+    ghost use Rattle.enumset_sets.specs.Laws.Elements.{with_bits, lawful_in_words};
+    ghost use Rattle.enumset_worked.specs.Bits.{wide_bits};
+    ghost use Rattle.enumset_worked.specs.contracts.wide.Wide.{the_type};
+    ghost use Rattle.enumset_worked.specs.declared.wide.Wide.TheVariants.{P, Q, R};
+
+    type Repr = ArrayRepr<3>;
+
+    ghost elements = { with_bits the_type wide_bits };
+
+    ghost values = { P ∷ Q ∷ R ∷ [] };
+
+    ghost ALL_BITS = { 8 ∷ 1 ∷ 4 ∷ [] };
+
+    const ALL_BITS: ArrayRepr<3> = ArrayRepr([8, 1, 4]);
+
+    ghost BIT_WIDTH = { 131 };
+
+    const BIT_WIDTH: u32 = 131;
+
+    ghost VARIANT_COUNT = { 3 };
+
+    const VARIANT_COUNT: u32 = 3;
+
+    fn enum_into_u32(self) -> u32 {
+        self as u32
+    }
+
+    fn enum_from_u32(val: u32) -> Wide {
+        variant_of!(val, Wide: P Q R)
+    }
+
+    ghost lawful = { lawful_in_words the_type _ tt };
+}
+
+/// The name of the variant.
+impl fmt::Display for Wide {
+    ghost use Rattle.std.specs.Prelude.{Some, ◌∷◌, [], codes};
+    ghost use Rattle.enumset_worked.specs.Names.{name_of};
+    ghost use Rattle.enumset_worked.specs.contracts.wide.Wide.{the_type};
+
+    ghost output = { λ v. Some (name_of the_type (codes "P" ∷ codes "Q" ∷ codes "R" ∷ []) v) };
+
+    fn fmt<W: fmt::Write>(&self, f: &mut fmt::Formatter<W>) -> fmt::Result {
+        match self {
+            Wide::P => write!(f, "P"),
+            Wide::Q => write!(f, "Q"),
+            Wide::R => write!(f, "R"),
+        }
+    }
+}
