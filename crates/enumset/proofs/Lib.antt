@@ -1,3 +1,4 @@
 mod Results
 pub mod JsonNumbers
 pub mod JsonWords
+pub mod JsonLaws
