@@ -33,7 +33,7 @@ module _ (n : ℕ) (ws : List ℕ) (i x : ℕ) (store : IsStore n ws) (low : i <
   kept : (k : ℕ) → k ≢ i → slice_index (set ws i x) k ≡ slice_index ws k
   kept k apart = get_or-set_other ws i k x 0 apart
 
-  set_store : IsStore n (set ws i x)
+  pub set_store : IsStore n (set ws i x)
   set_store = record {
     long = length-set ws i x ∙ store.long;
     fit = λ k. elim (k == i) as (λ t. (k == i) ≡ t → slice_index (set ws i x) k < 2 ^ 64) [

@@ -1,33 +1,34 @@
 //! The row of an iterator.
 
-ghost use Rattle.std.specs.Prelude.{◌≡◌, length, map};
+ghost use Rattle.std.specs.Prelude.{◌≡◌, ◌∷◌, [], ◌++◌, length, MatchOption};
+ghost use Rattle.enumset_repr.specs.BitSet.{rising};
+ghost use Rattle.enumset_repr.specs.Number.{bits};
 ghost use Rattle.enumset_array.specs.Stored.{used};
-ghost use Rattle.enumset_array.specs.Views.{AreWords};
 ghost use Rattle.enumset_array.specs.WordList.{items_of};
 
 use crate::array_repr::{ArrayRepr, WORD_LIMIT};
 use crate::asks::Asks;
 use crate::row::Row;
 use enumset_repr::{EnumSetTypeRepr, PrimitiveIter};
+use std::fmt::{Debug, Error, Formatter, Write};
 use std::marker::Model;
 
 /// The words in use of a store, out of which an iterator takes the bits.
-#[derive(Drop, Debug)]
+#[derive(Drop)]
 pub(crate) struct Words<const N: usize> {
-    words: [PrimitiveIter<u64>; N],
+    repr: ArrayRepr<N>,
     asks: Asks,
 }
 
 impl<const N: usize> Model for Words<N> {
-    ghost use Rattle.std.specs.Prelude.{map};
-    ghost use Rattle.enumset_array.specs.Views.{RowView, AreWords};
-    ghost use Rattle.enumset_array.specs.Stored.{used};
+    ghost use Rattle.enumset_array.specs.Views.{RowView};
+    ghost use Rattle.enumset_array.specs.Stored.{used, IsStore};
 
     ghost Value = { RowView };
 
-    ghost view = { λ r. record { words = used N (map (λ i. i.0) r.words); asks = r.asks } };
+    ghost view = { λ r. record { words = used N r.repr; asks = r.asks } };
 
-    ghost invariant = { λ r. AreWords (used N (map (λ i. i.0) r.words)) };
+    ghost invariant = { λ r. IsStore N r.repr };
 }
 
 impl<const N: usize> Words<N> {
@@ -36,12 +37,8 @@ impl<const N: usize> Words<N> {
         ensures { result ≡ record { words = used N repr.entry; asks = 0 } }
     {
         repr.known();
-        let mut words = [PrimitiveIter(0); N];
-        for i in 0..N {
-            words[i] = PrimitiveIter(repr.0[i]);
-        }
         Words {
-            words,
+            repr,
             asks: Asks::new(),
         }
     }
@@ -51,7 +48,7 @@ impl<const N: usize> Words<N> {
         ensures { result ≡ self.now }
     {
         Words {
-            words: self.words,
+            repr: self.repr,
             asks: self.asks.same(),
         }
     }
@@ -60,7 +57,7 @@ impl<const N: usize> Words<N> {
     pub(crate) fn bits_left(&self) -> usize
         ensures { result ≡ length (items_of self.now.words) }
     {
-        bits_in(&self.words[..N % WORD_LIMIT])
+        self.repr.count_ones() as usize
     }
 }
 
@@ -70,29 +67,59 @@ impl<const N: usize> Row for Words<N> {
     ghost asks = { λ r. r.asks };
 
     fn word_count(&self) -> usize {
-        let _words = &self.words;
+        let _words = &self.repr;
         N % WORD_LIMIT
     }
 
     fn ask_front(&mut self, i: usize) -> Option<u32> {
         self.asks.raise();
-        self.words[i].next()
+        take_least(&mut self.repr.0[i])
     }
 
     fn ask_back(&mut self, i: usize) -> Option<u32> {
         self.asks.raise();
-        self.words[i].next_back()
+        take_greatest(&mut self.repr.0[i])
     }
 }
 
-/// How many bits are left in words.
-fn bits_in(words: &[PrimitiveIter<u64>]) -> usize
-    requires { AreWords (map (λ w. w.0) words.now) }
-    ensures { result ≡ length (items_of (map (λ w. w.0) words.now)) }
-{
-    let mut bits = 0;
-    for word in words {
-        bits += word.len();
+impl<const N: usize> Debug for Words<N> {
+    /// Each word is written as the iterator over its bits.
+    fn fmt<W: Write>(&self, f: &mut Formatter<W>) -> Result<(), Error> {
+        let mut words = [PrimitiveIter(0); N];
+        for i in 0..N {
+            words[i] = PrimitiveIter(self.repr.0[i]);
+        }
+        f.debug_struct("Words")
+            .field("words", &words)
+            .field("asks", &self.asks)
+            .finish()
     }
-    bits
+}
+
+/// The least bit of a word, which is taken out, or `None` if it has none.
+fn take_least(word: &mut u64) -> Option<u32>
+    ensures { MatchOption result ((word.old ≡ 0) × (word.new ≡ word.old))
+        (λ b. rising (bits word.old) ≡ b ∷ rising (bits word.new)) }
+{
+    let bits = *word;
+    if bits == 0 {
+        return None;
+    }
+    let least = bits.trailing_zeros();
+    *word = bits & !(1 << least);
+    Some(least)
+}
+
+/// The greatest bit of a word, which is taken out, or `None` if it has none.
+fn take_greatest(word: &mut u64) -> Option<u32>
+    ensures { MatchOption result ((word.old ≡ 0) × (word.new ≡ word.old))
+        (λ b. rising (bits word.old) ≡ rising (bits word.new) ++ b ∷ []) }
+{
+    let bits = *word;
+    if bits == 0 {
+        return None;
+    }
+    let greatest = 63 - bits.leading_zeros();
+    *word = bits & !(1 << greatest);
+    Some(greatest)
 }

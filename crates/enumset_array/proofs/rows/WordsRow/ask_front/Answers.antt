@@ -1,32 +1,19 @@
-use Rattle.std.proofs.Common.{◌≡◌, ap, ◌∷◌, ◌<◌, length}
-use Rattle.enumset_array.specs.Views.{RowView}
-use Rattle.enumset_array.specs.Stored.{used}
-use Rattle.enumset_array.proofs.RowWords.{numbers, row_empty, row_taken, row_others, front_words}
+use Rattle.std.proofs.Common.{◌≡◌, ◌<◌, ◌∙◌, length}
+use Rattle.enumset_array.specs.Stored.{used, IsStore}
+use Rattle.enumset_array.proofs.RowWords.{row_others, row_store, front_fits}
+use Rattle.enumset_array.proofs.rows.WordsRow.ask_front.Given.{Over}
 use Rattle.enumset_array.proofs.rows.WordsRow.ask_front.Goals as goal
+
+same_words : (g : Over) (c : goal.After-take_least g) → used g.row.N c.self-inside.inside.0.0.0 ≡ c.args.self.now.words
+same_words g c = (λ j. used g.row.N (c.self-inside.view_is j).repr) ∙ (λ j. (c.self.view_is j).words)
+
+within : (g : Over) (c : goal.After-take_least g) → c.args.i < length (used g.row.N c.self-inside.inside.0.0.0)
+within g c = rw (same_words g c) c.requires
 
 pub invariant_of-self : goal.invariant_of-self
 invariant_of-self g c =
-    let same : used g.row.N (numbers c.self.inside.words) ≡ c.args.self.now.words = ap (λ (v : RowView). v.words) c.self.view_is in
-    let low : c.args.i < length (used g.row.N (numbers c.self.inside.words)) = rw same c.requires in
-    front_words _ _ _ c.next.new.self _ low c.next.result c.self.invariant c.next.ensures.steps
-
-pub returns-clause-empty : goal.returns-clause-empty
-returns-clause-empty g c =
-    let same : used g.row.N (numbers c.self.inside.words) ≡ c.args.self.now.words = ap (λ (v : RowView). v.words) c.self.view_is in
-    let low : c.args.i < length (used g.row.N (numbers c.self.inside.words)) = rw same c.requires in
-    rw (← same) (row_empty _ _ _ c.next.new.self _ low (λ x xs. x ∷ xs) c.next.result c.next.ensures.steps)
-
-pub returns-clause-taken : goal.returns-clause-taken
-returns-clause-taken g c =
-    let same : used g.row.N (numbers c.self.inside.words) ≡ c.args.self.now.words = ap (λ (v : RowView). v.words) c.self.view_is in
-    let low : c.args.i < length (used g.row.N (numbers c.self.inside.words)) = rw same c.requires in
-    rw (← same) (row_taken _ _ _ c.next.new.self _ low (λ x xs. x ∷ xs) c.next.result c.next.ensures.steps)
+    let store : IsStore g.row.N c.self-inside.inside.0.0.0 = rw (← c.self-inside.view_is) at c.self.invariant in
+    row_store _ _ _ _ (within g c) store (front_fits _ _ c.take_least.result (store.fit c.args.i) c.take_least.ensures)
 
 pub returns-clause-others : goal.returns-clause-others
-returns-clause-others g c =
-    let same : used g.row.N (numbers c.self.inside.words) ≡ c.args.self.now.words = ap (λ (v : RowView). v.words) c.self.view_is in
-    let low : c.args.i < length (used g.row.N (numbers c.self.inside.words)) = rw same c.requires in
-    rw (← same) (row_others _ _ _ c.next.new.self c.next.new.self low)
-
-pub returns-clause-counted : goal.returns-clause-counted
-returns-clause-counted g c = rw (← c.self.view_is) c.raise.ensures
+returns-clause-others g c = rw (← same_words g c) (row_others _ _ _ c.take_least.new.word (within g c))
