@@ -1,6 +1,7 @@
 //! Tests of the program and of its parts together.
 
 mod program;
+mod refused;
 mod runs;
 mod surroundings;
 mod text_forms;

@@ -1,0 +1,137 @@
+//! Runs where memory may be refused.
+//!
+//! Where its call is refused, a test sees that nothing changed and that the same call with memory gives the whole
+//! answer, and ends with the refusal. `scripts/refused-memory` refuses each allocation in turn, and says how each test
+//! has to end.
+
+use crate::kinds::serve_worked;
+use crate::worked::Worked;
+use enumset_commands::command::Command;
+use enumset_commands::mixed_command::MixedCommand;
+use enumset_commands::reply::Reply;
+use enumset_commands::text_fault::TextFault;
+use enumset_machine::machine::Machine;
+use enumset_machine::machine::mixed_machine::MixedMachine;
+use enumset_machine::mixed_runs::run_mixed;
+use enumset_machine::runs::run;
+use enumset_machine::serve::{serve_mixed_text, serve_text};
+use enumset_worked::letters::Letters;
+use enumset_worked::marks::Marks;
+use std::alloc::AllocError;
+use std::process::Abort;
+use std::test::Fail;
+
+// Whether a reply is these words.
+fn is_words(reply: &Reply, wanted: &[u64]) -> bool {
+    match reply {
+        Reply::Words(words) => words.as_slice() == wanted,
+        _ => false,
+    }
+}
+
+#[test]
+fn a_step_leaves_its_machine(rt: HostRuntime) -> Result<(), Fail> {
+    let mut machine = Machine::<Letters>::new();
+    machine.step(rt.alloc(), &Command::Insert { r: 0, bit: 2 })?;
+    let asks = Command::Words { r: 0, count: 2 };
+    let (reply, ended) = match machine.step(rt.alloc(), &asks) {
+        Ok(reply) => (reply, Ok(())),
+        Err(refused) => {
+            let again = machine.step(rt.alloc(), &asks);
+            (again.expect(&rt, "refused once more"), Err(refused))
+        }
+    };
+    assert!(rt; is_words(&reply, [4, 0].as_slice()));
+    Ok(ended?)
+}
+
+#[test]
+fn a_mixed_step_leaves_its_machine(rt: HostRuntime) -> Result<(), Fail> {
+    let mut machine = MixedMachine::<Marks>::new();
+    machine.step(rt.alloc(), &MixedCommand::InsertBit { r: 0, bit: 7 })?;
+    let asks = MixedCommand::Common(Command::Words { r: 0, count: 2 });
+    let (reply, ended) = match machine.step(rt.alloc(), &asks) {
+        Ok(reply) => (reply, Ok(())),
+        Err(refused) => {
+            let again = machine.step(rt.alloc(), &asks);
+            (again.expect(&rt, "refused once more"), Err(refused))
+        }
+    };
+    assert!(rt; is_words(&reply, [128, 0].as_slice()));
+    Ok(ended?)
+}
+
+#[test]
+fn runs(rt: HostRuntime) -> Result<(), Fail> {
+    let commands = [
+        Command::Insert { r: 0, bit: 2 },
+        Command::WordsCut { r: 0, count: 1 },
+    ];
+    let (replies, ended) = match run::<Letters>(rt.alloc(), &commands) {
+        Ok(replies) => (replies, Ok(())),
+        Err(refused) => {
+            let again = run::<Letters>(rt.alloc(), &commands);
+            (again.expect(&rt, "refused once more"), Err(refused))
+        }
+    };
+    assert!(rt; replies.len() == 2 && is_words(&replies[1], [4].as_slice()));
+    Ok(ended?)
+}
+
+#[test]
+fn mixed_runs(rt: HostRuntime) -> Result<(), Fail> {
+    let commands = [
+        MixedCommand::InsertBit { r: 0, bit: 7 },
+        MixedCommand::Common(Command::WordsCut { r: 0, count: 1 }),
+    ];
+    let (replies, ended) = match run_mixed::<Marks>(rt.alloc(), &commands) {
+        Ok(replies) => (replies, Ok(())),
+        Err(refused) => {
+            let again = run_mixed::<Marks>(rt.alloc(), &commands);
+            (again.expect(&rt, "refused once more"), Err(refused))
+        }
+    };
+    assert!(rt; replies.len() == 2 && is_words(&replies[1], [128].as_slice()));
+    Ok(ended?)
+}
+
+// The text of an answer, and the refusal that came before it, where the only fault that comes is want of memory.
+fn text_and_refusal<F: Fn() -> Result<Vec<u8>, TextFault>>(
+    rt: &impl Abort,
+    serve: F,
+) -> (Vec<u8>, Result<(), AllocError>)
+    requires { F.IsAlwaysCallable serve }
+{
+    match serve() {
+        Ok(text) => (text, Ok(())),
+        Err(fault) => {
+            assert!(rt; fault == TextFault::OutOfMemory);
+            (serve().expect(rt, "refused once more"), Err(AllocError))
+        }
+    }
+}
+
+const INPUT: &[u8] = b"from_words 0 5\nwords 0 2\n";
+
+const OUTPUT: &[u8] = b"ok\nwords 5 0\n";
+
+#[test]
+fn texts(rt: HostRuntime) -> Result<(), Fail> {
+    let (text, ended) = text_and_refusal(&rt, || serve_text::<Letters>(rt.alloc(), INPUT));
+    assert!(rt; text.as_slice() == OUTPUT);
+    Ok(ended?)
+}
+
+#[test]
+fn mixed_texts(rt: HostRuntime) -> Result<(), Fail> {
+    let (text, ended) = text_and_refusal(&rt, || serve_mixed_text::<Marks>(rt.alloc(), INPUT));
+    assert!(rt; text.as_slice() == OUTPUT);
+    Ok(ended?)
+}
+
+#[test]
+fn worked_texts(rt: HostRuntime) -> Result<(), Fail> {
+    let (text, ended) = text_and_refusal(&rt, || serve_worked(rt.alloc(), Worked::Letters, INPUT));
+    assert!(rt; text.as_slice() == OUTPUT);
+    Ok(ended?)
+}
