@@ -23,7 +23,7 @@ use enumset_sets::with_repr::EnumSetTypeWithRepr;
 pub fn json_number_and_back<T: EnumSetType>(set: &EnumSet<T>, width: JsonWidth, unknown: Unknown)
     ensures { IsTrue (is_subset set.now (below (width_of width)))
         → set_of_number (T.Repr.members T.ALL_BITS) (width_of width) unknown
-            (number_value (number set.now))
+        (number_value (number set.now))
         ≡ Ok set.now }
 {
     laws::number_and_back(set);
@@ -33,7 +33,7 @@ pub fn json_number_and_back<T: EnumSetType>(set: &EnumSet<T>, width: JsonWidth, 
 /// `from_words(&value, unknown)` is `Ok` of the same set, under `Drop` as under `Refuse`.
 pub fn json_words_and_back<T: EnumSetType>(set: &EnumSet<T>, unknown: Unknown)
     ensures { set_of_words (T.Repr.members T.ALL_BITS) unknown
-            (words_value (words set.now T.Repr.PREFERRED_ARRAY_LEN))
+        (words_value (words set.now T.Repr.PREFERRED_ARRAY_LEN))
         ≡ Ok set.now }
 {
     laws::all_words_and_back(set);
