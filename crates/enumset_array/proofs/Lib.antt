@@ -1,4 +1,5 @@
 pub mod Counts
+pub mod WordLanes
 pub mod Covers
 pub mod Walks
 pub mod Wordwise

@@ -1,5 +1,6 @@
 -- The words of a row, one of which was replaced, and the bits of words counted one by one.
-use Rattle.std.proofs.Common.{◌≡◌, ◌<◌, ◌≤◌, ℕ, ◌+◌, ◌^◌, List, [], ◌∷◌, ◌++◌, length, take, set, sym, ap, subst, ◌∙◌, arith, add-one, zero-add}
+use Rattle.std.proofs.Common.{◌≡◌, ◌<◌, ◌≤◌, ℕ, ◌+◌, ◌^◌, List, [], ◌∷◌, ◌++◌, length, take, set, refl, sym, ap, subst, ◌∙◌, arith, add-one, zero-add}
+use Rattle.std.specs.Int.RustNames.{count_ones}
 use Rattle.std.specs.Prelude.{slice_index, sum_by, Option, Some, None, MatchOption}
 use Rattle.std.proofs.Math.Seq.{take-set-lt, take-suc}
 use Rattle.std.proofs.lemmas.List.Sums.{sum_by-append}
@@ -7,7 +8,7 @@ use Rattle.std.proofs.lemmas.List.{length-take, get_or-set_same}
 use Rattle.enumset_repr.specs.BitSet.{len, rising}
 use Rattle.enumset_repr.specs.Number.{bits}
 use Rattle.enumset_repr.specs.Laws.Rising.{len-below}
-use Rattle.enumset_repr.specs.Laws.Numbers.{bits-within}
+use Rattle.enumset_repr.specs.Laws.Numbers.{bits-within, len-bits}
 use Rattle.enumset_array.specs.Stored.{in_use, used, IsStore}
 use Rattle.enumset_array.proofs.Places.{set_store}
 use Rattle.enumset_array.proofs.Taken.{taken_small, taken_first, taken_last}
@@ -42,11 +43,26 @@ back_fits x y (Some b) fits last = taken_small x y 64 b fits (taken_last _ _ b l
 
 -- ---- the bits counted word by word
 
-pub few : (x : ℕ) → x < 2 ^ 64 → len (bits x) ≤ 64
+few : (x : ℕ) → x < 2 ^ 64 → len (bits x) ≤ 64
 few x small = len-below (bits x) 64 (bits-within x 64 small)
 
-pub one_more : (ws : List ℕ) (i : ℕ) → i < length ws → sum_by (λ w. len (bits w)) (take (i + 1) ws) ≡ sum_by (λ w. len (bits w)) (take i ws) + len (bits (slice_index ws i))
-one_more ws i low =
-    ap (λ j. sum_by (λ w. len (bits w)) (take j ws)) (add-one i) ∙ ap (sum_by (λ w. len (bits w))) (take-suc ws i 0 low)
+pub few_ones : (x : ℕ) → x < 2 ^ 64 → count_ones x ≤ 64
+few_ones x small = omega (arith, few x small, len-bits x)
+
+abbrev pub bits_in : List ℕ → ℕ
+bits_in ws = sum_by (λ w. len (bits w)) ws
+
+pub one_more : (ws : List ℕ) (i j : ℕ) → j ≡ i + 1 → i < length ws → bits_in (take j ws) ≡ bits_in (take i ws) + count_ones (slice_index ws i)
+one_more ws i j next low =
+    ap (λ k. bits_in (take k ws)) (next ∙ add-one i) ∙ ap bits_in (take-suc ws i 0 low)
     ∙ sum_by-append (λ w. len (bits w)) (take i ws) (slice_index ws i ∷ [])
-    ∙ ap (λ m. sum_by (λ w. len (bits w)) (take i ws) + m) (zero-add (len (bits (slice_index ws i))))
+    ∙ ap (λ m. bits_in (take i ws) + m) (zero-add (len (bits (slice_index ws i))) ∙ len-bits (slice_index ws i))
+
+pub four_more : (ws : List ℕ) (i j : ℕ) → j ≡ i + 4 → j ≤ length ws
+    → bits_in (take j ws) ≡ bits_in (take i ws) + (count_ones (slice_index ws i) + count_ones (slice_index ws (i + 1)) + count_ones (slice_index ws (i + 2)) + count_ones (slice_index ws (i + 3)))
+four_more ws i j next long =
+    let first = one_more ws i (i + 1) refl (omega (arith, next, long)) in
+    let second = one_more ws (i + 1) (i + 2) (omega arith) (omega (arith, next, long)) in
+    let third = one_more ws (i + 2) (i + 3) (omega arith) (omega (arith, next, long)) in
+    let fourth = one_more ws (i + 3) j (omega (arith, next)) (omega (arith, next, long)) in
+    omega (arith, first, second, third, fourth)

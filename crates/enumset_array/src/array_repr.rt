@@ -10,6 +10,7 @@ ghost use Rattle.enumset_array.specs.Laws.Order.{compare_is};
 ghost use Rattle.enumset_array.specs.Laws.Stored.{set_of_none, within, inverse, width_words, equal};
 
 use crate::array_iter::ArrayIter;
+use crate::lanes::{AndNot, are_empty, combine, ones_of};
 use enumset_repr::EnumSetTypeRepr;
 use std::marker::Model;
 
@@ -95,9 +96,7 @@ impl<const N: usize> EnumSetTypeRepr for ArrayRepr<N> {
     fn and_not(&self, other: ArrayRepr<N>) -> ArrayRepr<N> {
         self.known();
         let mut words = self.0;
-        for i in 0..N {
-            words[i] &= !other.0[i];
-        }
+        combine::<AndNot>(&mut words, &other.0);
         ArrayRepr(words)
     }
 
@@ -167,23 +166,4 @@ impl<const N: usize> EnumSetTypeRepr for ArrayRepr<N> {
     ghost clones = { λ i j copy k. (copy k).items };
 
     ghost left = { λ _. refl };
-}
-
-/// Whether all words are 0.
-fn are_empty(words: &[u64]) -> bool
-    ensures { result ≡ list_all (λ w. w == 0) words.now }
-{
-    words.iter().all(|word| *word == 0)
-}
-
-/// How many bits are set in words.
-fn ones_of(words: &[u64]) -> u32
-    requires { length words.now < WORD_LIMIT }
-    ensures { result ≡ sum_by (λ w. len (bits w)) words.now }
-{
-    let mut ones = 0;
-    for word in words {
-        ones += word.count_ones();
-    }
-    ones
 }

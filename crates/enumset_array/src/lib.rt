@@ -16,6 +16,7 @@ pub mod array_iter;
 pub mod array_repr;
 mod asks;
 pub mod cursors;
+mod lanes;
 mod operators;
 mod order;
 pub mod row;

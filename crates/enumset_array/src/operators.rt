@@ -5,6 +5,7 @@ ghost use Rattle.enumset_repr.specs.BitSet as set;
 ghost use Rattle.enumset_array.specs.Stored.{in_use, set_of};
 
 use crate::array_repr::{ArrayRepr, WORD_LIMIT};
+use crate::lanes::{And, Inverse, Or, Xor, combine};
 use std::ops::{BitAnd, BitOr, BitXor, Not};
 
 impl<const N: usize> BitAnd for ArrayRepr<N> {
@@ -15,9 +16,7 @@ impl<const N: usize> BitAnd for ArrayRepr<N> {
     /// The members of both.
     fn bitand(self, other: ArrayRepr<N>) -> ArrayRepr<N> {
         let mut words = self.0;
-        for i in 0..N {
-            words[i] &= other.0[i];
-        }
+        combine::<And>(&mut words, &other.0);
         ArrayRepr(words)
     }
 }
@@ -30,9 +29,7 @@ impl<const N: usize> BitOr for ArrayRepr<N> {
     /// The members of either.
     fn bitor(self, other: ArrayRepr<N>) -> ArrayRepr<N> {
         let mut words = self.0;
-        for i in 0..N {
-            words[i] |= other.0[i];
-        }
+        combine::<Or>(&mut words, &other.0);
         ArrayRepr(words)
     }
 }
@@ -45,9 +42,7 @@ impl<const N: usize> BitXor for ArrayRepr<N> {
     /// The members of just one.
     fn bitxor(self, other: ArrayRepr<N>) -> ArrayRepr<N> {
         let mut words = self.0;
-        for i in 0..N {
-            words[i] ^= other.0[i];
-        }
+        combine::<Xor>(&mut words, &other.0);
         ArrayRepr(words)
     }
 }
@@ -60,8 +55,9 @@ impl<const N: usize> Not for ArrayRepr<N> {
     /// The numbers below the width that are no members.
     fn not(self) -> ArrayRepr<N> {
         let mut words = self.0;
-        for i in 0..N % WORD_LIMIT {
-            words[i] = !words[i];
+        combine::<Inverse>(&mut words, &self.0);
+        for i in N % WORD_LIMIT..N {
+            words[i] = 0;
         }
         ArrayRepr(words)
     }

@@ -1,12 +1,12 @@
-use Rattle.std.proofs.Common.{◌≡◌, ◌≤◌, ◌<◌, ℕ, length, w64}
+use Rattle.std.proofs.Common.{◌≡◌, ◌≤◌, ◌<◌, ℕ, length}
 use Rattle.std.specs.Prelude.{slice_index}
-use Rattle.std.specs.Int.{bit_not}
+use Rattle.enumset_array.specs.Stored.{in_use}
 use Rattle.enumset_array.proofs.operators.ArrayReprNot.not.Given as goal
 
--- the words before i are done, and the others are as they were
+-- the words in use are as they were, and of the others those before i are 0
 abbrev pub invariant-loop-i : goal.invariant-loop-i
 invariant-loop-i g l = record {
   long : length l.words ≡ g.row.N;
-  done : (k : ℕ) → k < l.i → slice_index l.words k ≡ bit_not w64 (slice_index l.initial.words k);
-  rest : (k : ℕ) → l.i ≤ k → slice_index l.words k ≡ slice_index l.initial.words k;
+  kept : (k : ℕ) → k < in_use g.row.N → slice_index l.words k ≡ slice_index l.initial.words k;
+  cleared : (k : ℕ) → in_use g.row.N ≤ k → k < l.i → slice_index l.words k ≡ 0;
 }

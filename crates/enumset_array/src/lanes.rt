@@ -1,0 +1,167 @@
+//! Lists of words, taken four at a time.
+
+ghost use Rattle.std.specs.Prelude.{◌≡◌, ◌<◌, ◌==◌, ℕ, bit_and, bit_or, bit_xor, length, sum_by};
+ghost use Rattle.std.specs.Int.{w64, bit_not};
+ghost use Rattle.std.specs.List.{list_all};
+ghost use Rattle.std.specs.Simd.Lanes.{zip2};
+ghost use Rattle.enumset_repr.specs.BitSet.{len};
+ghost use Rattle.enumset_repr.specs.Number.{bits};
+
+use crate::array_repr::WORD_LIMIT;
+use std::simd::prelude::*;
+
+/// An operation on two words, and on four pairs of words at once.
+pub(crate) trait WordOperation {
+    // What it answers of two words.
+    ghost of_two: { ℕ → ℕ → ℕ };
+
+    /// Of two words.
+    fn on_words(a: u64, b: u64) -> u64
+        ensures { result ≡ of_two a b };
+
+    /// Of four words and four others, each with the one in its place.
+    fn on_lanes(a: u64x4, b: u64x4) -> u64x4
+        requires { length a ≡ length b }
+        ensures { result ≡ zip2 of_two a b };
+}
+
+/// `a & b`.
+pub(crate) struct And;
+
+/// `a | b`.
+pub(crate) struct Or;
+
+/// `a ^ b`.
+pub(crate) struct Xor;
+
+/// `a & !b`.
+pub(crate) struct AndNot;
+
+/// `!a`, whatever b is.
+pub(crate) struct Inverse;
+
+impl WordOperation for And {
+    ghost of_two = { bit_and };
+
+    fn on_words(a: u64, b: u64) -> u64 {
+        a & b
+    }
+
+    fn on_lanes(a: u64x4, b: u64x4) -> u64x4 {
+        a & b
+    }
+}
+
+impl WordOperation for Or {
+    ghost of_two = { bit_or };
+
+    fn on_words(a: u64, b: u64) -> u64 {
+        a | b
+    }
+
+    fn on_lanes(a: u64x4, b: u64x4) -> u64x4 {
+        a | b
+    }
+}
+
+impl WordOperation for Xor {
+    ghost of_two = { bit_xor };
+
+    fn on_words(a: u64, b: u64) -> u64 {
+        a ^ b
+    }
+
+    fn on_lanes(a: u64x4, b: u64x4) -> u64x4 {
+        a ^ b
+    }
+}
+
+impl WordOperation for AndNot {
+    ghost of_two = { λ a b. bit_and a (bit_not w64 b) };
+
+    fn on_words(a: u64, b: u64) -> u64 {
+        a & !b
+    }
+
+    fn on_lanes(a: u64x4, b: u64x4) -> u64x4 {
+        a & !b
+    }
+}
+
+impl WordOperation for Inverse {
+    ghost of_two = { λ a _. bit_not w64 a };
+
+    fn on_words(a: u64, _b: u64) -> u64 {
+        !a
+    }
+
+    fn on_lanes(a: u64x4, _b: u64x4) -> u64x4 {
+        !a
+    }
+}
+
+/// Makes each word what the operation answers of it and of the other in its place.
+///
+/// It asks that there are as many others.
+pub(crate) fn combine<O: WordOperation>(words: &mut [u64], others: &[u64])
+    requires { length words.old ≡ length others.now }
+    ensures { words.new ≡ zip2 O.of_two words.old others.now }
+{
+    for k in 0..words.len() / 4 {
+        let i = 4 * k;
+        let lanes = O::on_lanes(
+            u64x4::from_slice(&words[i..]),
+            u64x4::from_slice(&others[i..]),
+        );
+        lanes.copy_to_slice(&mut words[i..]);
+    }
+    for i in words.len() / 4 * 4..words.len() {
+        words[i] = O::on_words(words[i], others[i]);
+    }
+}
+
+/// Whether all words are 0. It stops at the first sixteen of which one is not.
+pub(crate) fn are_empty(words: &[u64]) -> bool
+    ensures { result ≡ list_all (λ w. w == 0) words.now }
+{
+    for k in 0..words.len() / 16 {
+        if any_of(&words[16 * k..16 * k + 16]) != 0 {
+            return false;
+        }
+    }
+    any_of(&words[words.len() / 16 * 16..]) == 0
+}
+
+/// The words or'ed together, which is 0 exactly where each of them is.
+fn any_of(words: &[u64]) -> u64
+    ensures { (result == 0) ≡ list_all (λ w. w == 0) words.now }
+{
+    let mut lanes = u64x4::splat(0);
+    for k in 0..words.len() / 4 {
+        lanes |= u64x4::from_slice(&words[4 * k..]);
+    }
+    let mut any = lanes.reduce_or();
+    for i in words.len() / 4 * 4..words.len() {
+        any |= words[i];
+    }
+    any
+}
+
+/// How many bits are set in words.
+pub(crate) fn ones_of(words: &[u64]) -> u32
+    requires { length words.now < WORD_LIMIT }
+    ensures { result ≡ sum_by (λ w. len (bits w)) words.now }
+{
+    let mut ones = 0;
+    for k in 0..words.len() / 4 {
+        let i = 4 * k;
+        ones += words[i].count_ones()
+            + words[i + 1].count_ones()
+            + words[i + 2].count_ones()
+            + words[i + 3].count_ones();
+    }
+    for i in words.len() / 4 * 4..words.len() {
+        ones += words[i].count_ones();
+    }
+    ones
+}
