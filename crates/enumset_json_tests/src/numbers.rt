@@ -5,6 +5,8 @@ use enumset::set_json::{JsonWidth, Unknown, from_number};
 use enumset_worked::four::Four;
 use enumset_worked::letters::Letters;
 use enumset_worked::marks::Marks;
+use enumset_worked::pair_number::PairNumber;
+use enumset_worked::pair_words::PairWords;
 use enumset_worked::sparse::Sparse;
 use enumset_worked::wide::Wide;
 use serde_json::Value;
@@ -134,6 +136,9 @@ fn numbers_of_each_type(rt: HostRuntime) -> Result<(), Fail> {
     let in_u64 = ["0", "8", "9", "18446744073709551615"];
     write_read::<Wide>(alloc, &mut text, JsonWidth::U64, Unknown::Drop, &in_u64)?;
     write_read::<Wide>(alloc, &mut text, JsonWidth::U64, Unknown::Refuse, &in_u64)?;
+    let of_pair = ["1", "3"];
+    write_read::<PairWords>(alloc, &mut text, JsonWidth::U64, Unknown::Refuse, &of_pair)?;
+    write_read::<PairNumber>(alloc, &mut text, JsonWidth::U64, Unknown::Refuse, &of_pair)?;
     assert!(rt;
         text.as_str()
             == "\
@@ -166,6 +171,12 @@ U64 Refuse
 8 Ok(EnumSet(P))
 9 Err(UnknownBits)
 18446744073709551615 Err(UnknownBits)
+U64 Refuse
+1 Ok(EnumSet(A))
+3 Err(UnknownBits)
+U64 Refuse
+1 Ok(EnumSet(A))
+3 Err(UnknownBits)
 "
     );
     Ok(())

@@ -5,6 +5,8 @@ use enumset::set_json::{Unknown, from_words};
 use enumset_worked::four::Four;
 use enumset_worked::letters::Letters;
 use enumset_worked::marks::Marks;
+use enumset_worked::pair_number::PairNumber;
+use enumset_worked::pair_words::PairWords;
 use enumset_worked::sparse::Sparse;
 use enumset_worked::wide::Wide;
 use serde_json::Value;
@@ -115,6 +117,9 @@ fn words_of_each_type(rt: HostRuntime) -> Result<(), Fail> {
         "[0,0,5]",
     ];
     write_read::<Wide>(alloc, &mut text, &of_wide)?;
+    let of_pair = ["[1,1]", "[0,1,0]", "[1,2]"];
+    write_read::<PairWords>(alloc, &mut text, &of_pair)?;
+    write_read::<PairNumber>(alloc, &mut text, &of_pair)?;
     assert!(rt;
         text.as_str()
             == "\
@@ -138,6 +143,12 @@ fn words_of_each_type(rt: HostRuntime) -> Result<(), Fail> {
 [8,1,4,1] Ok(EnumSet(P | Q | R)) Err(UnknownBits)
 [0,0,8] Ok(EnumSet()) Err(UnknownBits)
 [0,0,5] Ok(EnumSet(R)) Err(UnknownBits)
+[1,1] Ok(EnumSet(A | B)) Ok(EnumSet(A | B))
+[0,1,0] Ok(EnumSet(B)) Ok(EnumSet(B))
+[1,2] Ok(EnumSet(A)) Err(UnknownBits)
+[1,1] Ok(EnumSet(A | B)) Ok(EnumSet(A | B))
+[0,1,0] Ok(EnumSet(B)) Ok(EnumSet(B))
+[1,2] Ok(EnumSet(A)) Err(UnknownBits)
 "
     );
     Ok(())

@@ -5,6 +5,8 @@ use enumset::{EnumSet, EnumSetType};
 use enumset_worked::four::Four;
 use enumset_worked::letters::Letters;
 use enumset_worked::marks::Marks;
+use enumset_worked::pair_number::PairNumber;
+use enumset_worked::pair_words::PairWords;
 use enumset_worked::sparse::Sparse;
 use enumset_worked::wide::Wide;
 use std::alloc::Global;
@@ -61,6 +63,8 @@ fn sets_of_each_type(rt: HostRuntime) -> Result<(), Fail> {
         EnumSet::all(),
     ];
     write_sets(alloc, &mut text, &wide)?;
+    write_sets(alloc, &mut text, &[EnumSet::<PairWords>::all()])?;
+    write_sets(alloc, &mut text, &[EnumSet::<PairNumber>::all()])?;
     assert!(rt;
         text.as_str()
             == "\
@@ -77,6 +81,8 @@ EnumSet() 0 0 0 0 [0,0,0]
 EnumSet(P) 8 8 8 8 [8,0,0]
 EnumSet(P | Q) TooWide TooWide TooWide TooWide [8,1,0]
 EnumSet(P | Q | R) TooWide TooWide TooWide TooWide [8,1,4]
+EnumSet(A | B) TooWide TooWide TooWide TooWide [1,1]
+EnumSet(A | B) TooWide TooWide TooWide TooWide [1,1]
 "
     );
     Ok(())

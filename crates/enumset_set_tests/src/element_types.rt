@@ -4,6 +4,8 @@ use enumset_sets::element::EnumSetType;
 use enumset_sets::enum_set::EnumSet;
 use enumset_worked::letters::Letters;
 use enumset_worked::marks::Marks;
+use enumset_worked::pair_number::PairNumber;
+use enumset_worked::pair_words::PairWords;
 use enumset_worked::sparse::Sparse;
 use enumset_worked::wide::Wide;
 use std::alloc::AllocError;
@@ -53,8 +55,12 @@ fn each_call_answers(rt: HostRuntime) {
         EnumSet::<Marks>::variant_count(),
         EnumSet::<Wide>::bit_width(),
         EnumSet::<Wide>::variant_count(),
+        EnumSet::<PairWords>::bit_width(),
+        EnumSet::<PairWords>::variant_count(),
+        EnumSet::<PairNumber>::bit_width(),
+        EnumSet::<PairNumber>::variant_count(),
     ];
-    assert!(rt; numbers == [7, 7, 128, 4, 3, 3, 131, 3]);
+    assert!(rt; numbers == [7, 7, 128, 4, 3, 3, 131, 3, 65, 2, 65, 2]);
     let valid = [
         EnumSet::<Sparse>::is_bit_valid(127),
         EnumSet::<Sparse>::is_bit_valid(128),
@@ -65,6 +71,8 @@ fn each_call_answers(rt: HostRuntime) {
     assert!(rt; answers(Sparse::B, Sparse::D));
     assert!(rt; answers(Marks::A, Marks::C));
     assert!(rt; answers(Wide::P, Wide::R));
+    assert!(rt; answers(PairWords::A, PairWords::B));
+    assert!(rt; answers(PairNumber::A, PairNumber::B));
 }
 
 // A line of each element's bit and its texts, along the bits, and the text of their set.
@@ -88,6 +96,8 @@ fn texts_name_the_elements(rt: HostRuntime) -> Result<(), Fail> {
     write_texts::<Sparse>(&mut text)?;
     write_texts::<Marks>(&mut text)?;
     write_texts::<Wide>(&mut text)?;
+    write_texts::<PairWords>(&mut text)?;
+    write_texts::<PairNumber>(&mut text)?;
     let (none, one) = (EnumSet::<Letters>::new(), EnumSet::only(Letters::C));
     writeln!(text, "{none:?} {one:?} {:?}", one.iter())?;
     assert!(rt;
@@ -97,6 +107,8 @@ fn texts_name_the_elements(rt: HostRuntime) -> Result<(), Fail> {
 10 A A, 20 B B, 30 C C, 127 D D, EnumSet(A | B | C | D)
 0 A A, 1 B B, 2 C C, EnumSet(A | B | C)
 3 P P, 64 Q Q, 130 R R, EnumSet(P | Q | R)
+0 A A, 64 B B, EnumSet(A | B)
+0 A A, 64 B B, EnumSet(A | B)
 EnumSet() EnumSet(C) EnumSetIter { iter: PrimitiveIter(4) }
 "
     );

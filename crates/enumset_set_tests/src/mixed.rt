@@ -10,6 +10,8 @@ use enumset_sets::enum_set::EnumSet;
 use enumset_sets::with_repr::EnumSetTypeWithRepr;
 use enumset_worked::letters::Letters;
 use enumset_worked::marks::Marks;
+use enumset_worked::pair_number::PairNumber;
+use enumset_worked::pair_words::PairWords;
 use enumset_worked::sparse::Sparse;
 use std::alloc::AllocError;
 use std::fmt;
@@ -66,6 +68,8 @@ fn known_and_unknown_bits_are_told_apart(rt: HostRuntime) -> Result<(), Fail> {
     write_all_answers(&mut text, Marks::A, 3)?;
     write_all_answers(&mut text, Letters::G, 7)?;
     write_all_answers(&mut text, Sparse::D, 126)?;
+    write_all_answers(&mut text, PairWords::B, 63)?;
+    write_all_answers(&mut text, PairNumber::B, 63)?;
     assert!(rt;
         text.as_str()
             == "\
@@ -84,6 +88,16 @@ fn known_and_unknown_bits_are_told_apart(rt: HostRuntime) -> Result<(), Fail> {
 1 0 false true MixedEnumSet(A | B | C | D) 127 EnumSet() None
 2 1 false true MixedEnumSet(A | B | C) 126 EnumSet(D) None
 128 4 false true MixedEnumSet() 0 EnumSet(A | B | C | D) None
+0 0 true false MixedEnumSet(A | B) 128 EnumSet() Some(EnumSet())
+1 1 false false MixedEnumSet(A) 127 EnumSet(B) Some(EnumSet(B))
+1 0 false true MixedEnumSet(A | B) 127 EnumSet() None
+2 1 false true MixedEnumSet(A) 126 EnumSet(B) None
+128 2 false true MixedEnumSet() 0 EnumSet(A | B) None
+0 0 true false MixedEnumSet(A | B) 128 EnumSet() Some(EnumSet())
+1 1 false false MixedEnumSet(A) 127 EnumSet(B) Some(EnumSet(B))
+1 0 false true MixedEnumSet(A | B) 127 EnumSet() None
+2 1 false true MixedEnumSet(A) 126 EnumSet(B) None
+128 2 false true MixedEnumSet() 0 EnumSet(A | B) None
 "
     );
     Ok(())
@@ -120,6 +134,8 @@ fn operations_keep_unknown_bits(rt: HostRuntime) -> Result<(), Fail> {
     write_operations(&mut text, Marks::A, Marks::C, 3)?;
     write_operations(&mut text, Letters::A, Letters::G, 7)?;
     write_operations(&mut text, Sparse::A, Sparse::D, 126)?;
+    write_operations(&mut text, PairWords::A, PairWords::B, 65)?;
+    write_operations(&mut text, PairNumber::A, PairNumber::B, 65)?;
     let set = of_both(Marks::B, 4);
     writeln!(
         text,
@@ -136,6 +152,10 @@ MixedEnumSet(A | G | [7]) MixedEnumSet([7]) MixedEnumSet(A) MixedEnumSet(A | G) 
 MixedEnumSet(A | G | [7]) MixedEnumSet(G)
 MixedEnumSet(A | [126] | D) MixedEnumSet([126]) MixedEnumSet(A) MixedEnumSet(A | D) MixedEnumSet(A | D) \
 MixedEnumSet(A | [126] | D) MixedEnumSet(D)
+MixedEnumSet(A | B | [65]) MixedEnumSet([65]) MixedEnumSet(A) MixedEnumSet(A | B) MixedEnumSet(A | B) \
+MixedEnumSet(A | B | [65]) MixedEnumSet(B)
+MixedEnumSet(A | B | [65]) MixedEnumSet([65]) MixedEnumSet(A) MixedEnumSet(A | B) MixedEnumSet(A | B) \
+MixedEnumSet(A | B | [65]) MixedEnumSet(B)
 MixedEnumSet(B | [4]) MixedEnumSet() MixedEnumSetIter { iter: PrimitiveIter(18) }
 "
     );
@@ -190,9 +210,13 @@ fn one_member_changes_alone(rt: HostRuntime) {
     assert!(rt; changes(Marks::A, 3) == CHANGES);
     assert!(rt; changes(Letters::D, 7) == CHANGES);
     assert!(rt; changes(Sparse::D, 0) == CHANGES);
+    assert!(rt; changes(PairWords::B, 127) == CHANGES);
+    assert!(rt; changes(PairNumber::B, 127) == CHANGES);
     assert!(rt; relations(Marks::A, 3) == [false, true, false, true]);
     assert!(rt; relations(Letters::D, 7) == [false, true, false, true]);
     assert!(rt; relations(Sparse::D, 0) == [false, true, false, true]);
+    assert!(rt; relations(PairWords::A, 63) == [false, true, false, true]);
+    assert!(rt; relations(PairNumber::A, 63) == [false, true, false, true]);
 }
 
 // What is answered of a bit at the width, one past it, and the greatest number, and whether the set stays.
@@ -216,6 +240,8 @@ fn bits_past_the_width_are_absent(rt: HostRuntime) {
     assert!(rt; past_the_width(Marks::A, 8) == absent);
     assert!(rt; past_the_width(Letters::A, 8) == absent);
     assert!(rt; past_the_width(Sparse::A, 128) == absent);
+    assert!(rt; past_the_width(PairWords::A, 128) == absent);
+    assert!(rt; past_the_width(PairNumber::A, 128) == absent);
     let mut one = MixedEnumSet::<Marks>::from_repr(1);
     assert!(rt; [one.has_bit(256), one.has_bit(8), one.remove_bit(256)] == [false, false, false]);
     assert!(rt; one.as_repr() == 1);

@@ -1,10 +1,15 @@
 // The order of sets, and what they feed a hasher, at worked types over an integer and over words.
 
 use enumset_mixed::mixed_enum_set::MixedEnumSet;
+use enumset_repr::EnumSetTypeRepr;
 use enumset_sets::enum_set::EnumSet;
+use enumset_sets::with_repr::EnumSetTypeWithRepr;
 use enumset_worked::letters::Letters;
 use enumset_worked::marks::Marks;
+use enumset_worked::pair_number::PairNumber;
+use enumset_worked::pair_words::PairWords;
 use enumset_worked::wide::Wide;
+use std::alloc::{AllocError, Global};
 use std::hash::{Hash, Hasher};
 use std::test::Fail;
 
@@ -54,6 +59,46 @@ fn sets_over_words_are_sorted(rt: HostRuntime) -> Result<(), Fail> {
         write!(text, "{{{set}}} ")?;
     }
     assert!(rt; text.as_str() == "{} {P} {Q} {P | Q} {R} {P | R} {Q | R} {P | Q | R} ");
+    Ok(())
+}
+
+/// 100 numbers, in no order.
+fn numbers(alloc: Global) -> Result<Vec<u128>, AllocError> {
+    let mut numbers = Vec::new(alloc);
+    let mut last: u128 = 1;
+    for _ in 0..100 {
+        last = last
+            .wrapping_mul(47026247687942121848144207491837523525)
+            .wrapping_add(1);
+        numbers.push(last)?;
+    }
+    Ok(numbers)
+}
+
+/// The mixed sets of numbers over a type, sorted, as numbers again.
+fn sorted_over<T: EnumSetTypeWithRepr>(
+    alloc: Global,
+    numbers: &[u128],
+) -> Result<Vec<u128>, AllocError> {
+    let mut sets = Vec::new(alloc);
+    for number in numbers {
+        sets.push(MixedEnumSet::<T>::from_repr(T::Repr::from_u128(*number)))?;
+    }
+    sets.sort()?;
+    let mut sorted = Vec::new(alloc);
+    for set in &sets {
+        sorted.push(set.as_repr().to_u128())?;
+    }
+    Ok(sorted)
+}
+
+#[test]
+fn sets_over_words_and_over_an_integer_sort_alike(rt: HostRuntime) -> Result<(), Fail> {
+    let mut numbers = numbers(rt.alloc())?;
+    let over_words = sorted_over::<PairWords>(rt.alloc(), &numbers)?;
+    let over_an_integer = sorted_over::<PairNumber>(rt.alloc(), &numbers)?;
+    numbers.sort()?;
+    assert!(rt; over_words == numbers && over_an_integer == numbers);
     Ok(())
 }
 

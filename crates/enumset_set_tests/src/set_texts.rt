@@ -5,6 +5,8 @@ use enumset_mixed::mixed_value::MixedValue;
 use enumset_sets::enum_set::EnumSet;
 use enumset_worked::letters::Letters;
 use enumset_worked::marks::Marks;
+use enumset_worked::pair_number::PairNumber;
+use enumset_worked::pair_words::PairWords;
 use enumset_worked::sparse::Sparse;
 use enumset_worked::wide::Wide;
 use std::test::Fail;
@@ -19,6 +21,8 @@ fn sets_are_written_along_their_bits(rt: HostRuntime) -> Result<(), Fail> {
     writeln!(text, "{}", EnumSet::<Sparse>::all())?;
     writeln!(text, "{}", EnumSet::<Marks>::all())?;
     writeln!(text, "{}", EnumSet::<Wide>::all())?;
+    writeln!(text, "{}", EnumSet::<PairWords>::all())?;
+    writeln!(text, "{}", EnumSet::<PairNumber>::all())?;
     assert!(rt;
         text.as_str()
             == "\
@@ -27,6 +31,8 @@ A | B | C | D | E | F | G
 A | B | C | D
 A | B | C
 P | Q | R
+A | B
+A | B
 "
     );
     Ok(())

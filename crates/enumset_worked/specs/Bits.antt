@@ -15,3 +15,7 @@ marks_bits = 0 ∷ 1 ∷ 2 ∷ []
 
 abbrev pub wide_bits : List ℕ
 wide_bits = 3 ∷ 64 ∷ 130 ∷ []
+
+-- of `pair-words` and of `pair-number`
+abbrev pub pair_bits : List ℕ
+pair_bits = 0 ∷ 64 ∷ []
