@@ -5,7 +5,7 @@ use Rattle.std.specs.Prelude.{ℕ, List, [], ◌∷◌, codes, Option}
 use Rattle.std.specs.Map.{lookup}
 use Rattle.std.specs.Str.{bytes_eq}
 use Rattle.enumset_commands.specs.declared.command.Command.{Command}
-use Rattle.enumset_commands.specs.declared.command.Command.TheVariants.{New, All, Clear, Len, IsEmpty, Next, NextBack, Left, Complement, InsertAll, RemoveAll, Disjoint, Superset, Subset, Equal, Iter, Union, Intersection, Difference, SymmetricDifference, Only, Insert, Remove, Contains, Number, NumberCut, FromNumber, FromNumberCut, Words, WordsCut, FromWords, FromWordsCut}
+use Rattle.enumset_commands.specs.declared.command.Command.TheVariants.{New, All, Clear, Len, IsEmpty, Next, NextBack, Left, Complement, InsertAll, RemoveAll, Disjoint, Superset, Subset, Equal, Compare, Iter, Union, Intersection, Difference, SymmetricDifference, Only, Insert, Remove, Contains, Number, NumberCut, FromNumber, FromNumberCut, Words, WordsCut, FromWords, FromWordsCut}
 
 abbrev pub one_register : List ℕ → ℕ → Option Command
 one_register name r =
@@ -31,6 +31,7 @@ two_registers name x y =
     ∷ (codes "superset", Superset x y)
     ∷ (codes "subset", Subset x y)
     ∷ (codes "equal", Equal x y)
+    ∷ (codes "compare", Compare x y)
     ∷ (codes "iter", Iter x y)
     ∷ []
     )

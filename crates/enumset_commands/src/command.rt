@@ -48,6 +48,9 @@ pub enum Command {
     Subset { a: u8, b: u8 },
     /// `equal a b`: replies whether the two have the same members.
     Equal { a: u8, b: u8 },
+    /// `compare a b`: replies how `a` compares with `b`: the one that holds the greatest bit that just one of them
+    /// has is the greater.
+    Compare { a: u8, b: u8 },
     /// `number r width`: replies the number of a set, if each member is below the width.
     Number { r: u8, width: u32 },
     /// `number_cut r width`: replies the number of the members below the width.

@@ -1,5 +1,6 @@
 //! The replies of a run.
 use crate::word_list::WordList;
+use std::cmp::Ordering;
 use std::fmt;
 
 /// The answer to one command.
@@ -15,6 +16,8 @@ pub enum Reply {
     Number(u128),
     /// Words of a set, the lowest first.
     Words(WordList),
+    /// How one set compares with another.
+    Order(Ordering),
     /// The number of a valid bit.
     Bit(u32),
     /// The number of a bit that is not valid.
@@ -49,6 +52,9 @@ impl fmt::Display for Reply {
             Reply::Count(count) => write!(f, "{count}"),
             Reply::Number(number) => write!(f, "{number}"),
             Reply::Words(words) => write!(f, "words{words}"),
+            Reply::Order(Ordering::Less) => write!(f, "less"),
+            Reply::Order(Ordering::Equal) => write!(f, "equal"),
+            Reply::Order(Ordering::Greater) => write!(f, "greater"),
             Reply::Bit(bit) => write!(f, "bit {bit}"),
             Reply::Unknown(bit) => write!(f, "unknown {bit}"),
             Reply::Absent => write!(f, "none"),

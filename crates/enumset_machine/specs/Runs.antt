@@ -8,12 +8,13 @@ use Rattle.enumset_repr.specs.BitSet.{BitSet}
 use Rattle.enumset_repr.specs.Number.{number, bits}
 use Rattle.enumset_repr.specs.Words.{words, bits_of}
 use Rattle.enumset_repr.specs.Ends.{first, last, without_first, without_last}
+use Rattle.enumset_repr.specs.Order.{compare}
 use Rattle.enumset_machine.specs.States.{State, start, set_at, list_at, put_list}
 use Rattle.enumset_machine.specs.Plans.{Plan, asks, puts, puts_allowed, changes, steps, over_bit, over_width, over_value, where_below, given_or_absent, of_valid, Outcome, outcome_of, replies_by}
 use Rattle.enumset_commands.specs.declared.command.Command.{Command}
-use Rattle.enumset_commands.specs.declared.command.Command.TheVariants.{New, All, Only, Insert, Remove, Contains, Clear, Len, IsEmpty, Union, Intersection, Difference, SymmetricDifference, Complement, InsertAll, RemoveAll, Disjoint, Superset, Subset, Equal, Number, NumberCut, FromNumber, FromNumberCut, Words, WordsCut, FromWords, FromWordsCut, Iter, Next, NextBack, Left}
+use Rattle.enumset_commands.specs.declared.command.Command.TheVariants.{New, All, Only, Insert, Remove, Contains, Clear, Len, IsEmpty, Union, Intersection, Difference, SymmetricDifference, Complement, InsertAll, RemoveAll, Disjoint, Superset, Subset, Equal, Compare, Number, NumberCut, FromNumber, FromNumberCut, Words, WordsCut, FromWords, FromWordsCut, Iter, Next, NextBack, Left}
 use Rattle.enumset_commands.specs.declared.reply.Reply.{Reply}
-use Rattle.enumset_commands.specs.declared.reply.Reply.TheVariants.{Done, Truth, Count, Number as NumberIs, Words as WordsAre}
+use Rattle.enumset_commands.specs.declared.reply.Reply.TheVariants.{Done, Truth, Count, Number as NumberIs, Words as WordsAre, Order}
 
 -- the sets and the lists are those before the command
 unfoldable pub plan : Command → Plan
@@ -39,6 +40,7 @@ plan (Disjoint a b) = asks (a ∷ b ∷ []) (λ rules s. Truth (set.is_disjoint 
 plan (Superset a b) = asks (a ∷ b ∷ []) (λ rules s. Truth (set.is_subset (set_at s b) (set_at s a)))
 plan (Subset a b) = asks (a ∷ b ∷ []) (λ rules s. Truth (set.is_subset (set_at s a) (set_at s b)))
 plan (Equal a b) = asks (a ∷ b ∷ []) (λ rules s. Truth (set.is_same (set_at s a) (set_at s b)))
+plan (Compare a b) = asks (a ∷ b ∷ []) (λ rules s. Order (compare (set_at s a) (set_at s b)))
 plan (Number r width) = over_width width (asks (r ∷ []) (λ rules s. where_below (set_at s r) width (NumberIs (number (set_at s r)))))
 plan (NumberCut r width) = over_width width (asks (r ∷ []) (λ rules s. NumberIs (number (set.low (set_at s r) width))))
 plan (FromNumber r width value) = over_value width value (puts_allowed r (bits value))

@@ -30,10 +30,14 @@ worked_of-other bytes other =
     let sparse = bytes_eq-name bytes (codes "sparse") refl other in
     let marks = bytes_eq-name bytes (codes "marks") refl other in
     let wide = bytes_eq-name bytes (codes "wide") refl other in
+    let pair_words = bytes_eq-name bytes (codes "pair-words") refl other in
+    let pair_number = bytes_eq-name bytes (codes "pair-number") refl other in
     let mixed_letters = bytes_eq-name bytes (codes "mixed-letters") refl other in
     let mixed_four = bytes_eq-name bytes (codes "mixed-four") refl other in
     let mixed_sparse = bytes_eq-name bytes (codes "mixed-sparse") refl other in
     let mixed_marks = bytes_eq-name bytes (codes "mixed-marks") refl other in
-    rw (letters, four, sparse, marks, wide, mixed_letters, mixed_four, mixed_sparse, mixed_marks) refl
+    let mixed_pair_words = bytes_eq-name bytes (codes "mixed-pair-words") refl other in
+    let mixed_pair_number = bytes_eq-name bytes (codes "mixed-pair-number") refl other in
+    rw (letters, four, sparse, marks, wide, pair_words, pair_number, mixed_letters, mixed_four, mixed_sparse, mixed_marks, mixed_pair_words, mixed_pair_number) refl
 
 pub ruleset name_steps = (worked_of-other)

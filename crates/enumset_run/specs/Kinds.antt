@@ -6,10 +6,10 @@ use Rattle.std.specs.Map.{lookup}
 use Rattle.std.specs.Str.{bytes_eq}
 use Rattle.enumset_repr.specs.BitSet.{from_list}
 use Rattle.enumset_run.specs.declared.worked.Worked.{Worked}
-use Rattle.enumset_run.specs.declared.worked.Worked.TheVariants.{Letters, Four, Sparse, Marks, Wide, MixedLetters, MixedFour, MixedSparse, MixedMarks}
+use Rattle.enumset_run.specs.declared.worked.Worked.TheVariants.{Letters, Four, Sparse, Marks, Wide, PairWords, PairNumber, MixedLetters, MixedFour, MixedSparse, MixedMarks, MixedPairWords, MixedPairNumber}
 use Rattle.enumset_commands.specs.declared.text_fault.TextFault.{TextFault}
 use Rattle.enumset_machine.specs.Answers.{answer_to, mixed_answer_to}
-use Rattle.enumset_worked.specs.Bits.{letters_bits, four_bits, sparse_bits, marks_bits, wide_bits}
+use Rattle.enumset_worked.specs.Bits.{letters_bits, four_bits, sparse_bits, marks_bits, wide_bits, pair_bits}
 
 -- the type of a name, byte by byte
 abbrev pub worked_of : List ℕ → Option Worked
@@ -20,21 +20,29 @@ worked_of name =
     ∷ (codes "sparse", Sparse)
     ∷ (codes "marks", Marks)
     ∷ (codes "wide", Wide)
+    ∷ (codes "pair-words", PairWords)
+    ∷ (codes "pair-number", PairNumber)
     ∷ (codes "mixed-letters", MixedLetters)
     ∷ (codes "mixed-four", MixedFour)
     ∷ (codes "mixed-sparse", MixedSparse)
     ∷ (codes "mixed-marks", MixedMarks)
+    ∷ (codes "mixed-pair-words", MixedPairWords)
+    ∷ (codes "mixed-pair-number", MixedPairNumber)
     ∷ []
     )
 
--- of the mixed ones the store has 8, 8, 128 and 8 bits
+-- of the mixed ones the store has 8, 8, 128, 8, 128 and 128 bits
 abbrev pub answer_over : Worked → List ℕ → Result (List ℕ) TextFault
 answer_over Letters input = answer_to (from_list letters_bits) input
 answer_over Four input = answer_to (from_list four_bits) input
 answer_over Sparse input = answer_to (from_list sparse_bits) input
 answer_over Marks input = answer_to (from_list marks_bits) input
 answer_over Wide input = answer_to (from_list wide_bits) input
+answer_over PairWords input = answer_to (from_list pair_bits) input
+answer_over PairNumber input = answer_to (from_list pair_bits) input
 answer_over MixedLetters input = mixed_answer_to (from_list letters_bits) 8 input
 answer_over MixedFour input = mixed_answer_to (from_list four_bits) 8 input
 answer_over MixedSparse input = mixed_answer_to (from_list sparse_bits) 128 input
 answer_over MixedMarks input = mixed_answer_to (from_list marks_bits) 8 input
+answer_over MixedPairWords input = mixed_answer_to (from_list pair_bits) 128 input
+answer_over MixedPairNumber input = mixed_answer_to (from_list pair_bits) 128 input

@@ -10,6 +10,8 @@ use enumset_machine::serve::{serve_mixed_text, serve_text};
 use enumset_worked::four::Four;
 use enumset_worked::letters::Letters;
 use enumset_worked::marks::Marks;
+use enumset_worked::pair_number::PairNumber;
+use enumset_worked::pair_words::PairWords;
 use enumset_worked::sparse::Sparse;
 use enumset_worked::wide::Wide;
 use std::alloc::Global;
@@ -24,10 +26,14 @@ pub fn worked(name: &str) -> Option<Worked>
         "sparse" => Some(Worked::Sparse),
         "marks" => Some(Worked::Marks),
         "wide" => Some(Worked::Wide),
+        "pair-words" => Some(Worked::PairWords),
+        "pair-number" => Some(Worked::PairNumber),
         "mixed-letters" => Some(Worked::MixedLetters),
         "mixed-four" => Some(Worked::MixedFour),
         "mixed-sparse" => Some(Worked::MixedSparse),
         "mixed-marks" => Some(Worked::MixedMarks),
+        "mixed-pair-words" => Some(Worked::MixedPairWords),
+        "mixed-pair-number" => Some(Worked::MixedPairNumber),
         _ => None,
     }
 }
@@ -45,9 +51,13 @@ pub fn serve_worked(alloc: Global, kind: Worked, input: &[u8]) -> Result<Vec<u8>
         Worked::Sparse => serve_text::<Sparse>(alloc, input),
         Worked::Marks => serve_text::<Marks>(alloc, input),
         Worked::Wide => serve_text::<Wide>(alloc, input),
+        Worked::PairWords => serve_text::<PairWords>(alloc, input),
+        Worked::PairNumber => serve_text::<PairNumber>(alloc, input),
         Worked::MixedLetters => serve_mixed_text::<Letters>(alloc, input),
         Worked::MixedFour => serve_mixed_text::<Four>(alloc, input),
         Worked::MixedSparse => serve_mixed_text::<Sparse>(alloc, input),
         Worked::MixedMarks => serve_mixed_text::<Marks>(alloc, input),
+        Worked::MixedPairWords => serve_mixed_text::<PairWords>(alloc, input),
+        Worked::MixedPairNumber => serve_mixed_text::<PairNumber>(alloc, input),
     }
 }

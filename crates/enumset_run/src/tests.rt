@@ -6,4 +6,5 @@ mod runs;
 mod surroundings;
 mod text_forms;
 mod texts;
+mod transcripts;
 mod vectors;

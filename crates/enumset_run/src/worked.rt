@@ -13,6 +13,10 @@ pub enum Worked {
     Marks,
     /// `wide`: bits 3, 64 and 130, in three words.
     Wide,
+    /// `pair-words`: bits 0 and 64, in two words.
+    PairWords,
+    /// `pair-number`: bits 0 and 64, in a `u128`.
+    PairNumber,
     /// `mixed-letters`: mixed sets of `letters`.
     MixedLetters,
     /// `mixed-four`: mixed sets of `four`.
@@ -21,4 +25,8 @@ pub enum Worked {
     MixedSparse,
     /// `mixed-marks`: mixed sets of `marks`.
     MixedMarks,
+    /// `mixed-pair-words`: mixed sets of `pair-words`.
+    MixedPairWords,
+    /// `mixed-pair-number`: mixed sets of `pair-number`.
+    MixedPairNumber,
 }

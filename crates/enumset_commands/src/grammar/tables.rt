@@ -37,6 +37,7 @@ pub(super) fn two_registers(name: &[u8], x: u8, y: u8) -> Option<Command>
         _ if is(name, "superset") => Command::Superset { a: x, b: y },
         _ if is(name, "subset") => Command::Subset { a: x, b: y },
         _ if is(name, "equal") => Command::Equal { a: x, b: y },
+        _ if is(name, "compare") => Command::Compare { a: x, b: y },
         _ if is(name, "iter") => Command::Iter { i: x, r: y },
         _ => return None,
     })

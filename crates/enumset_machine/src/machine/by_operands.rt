@@ -88,6 +88,7 @@ impl<S: RunSet> Runner<S> {
             Command::Superset { .. } => Reply::Truth(self.sets.get(x).is_superset(other)),
             Command::Subset { .. } => Reply::Truth(self.sets.get(x).is_subset(other)),
             Command::Equal { .. } => Reply::Truth(self.sets.get(x).is_same(other)),
+            Command::Compare { .. } => Reply::Order(self.sets.get(x).compare(other)),
             _ => unreachable!(),
         }
     }

@@ -9,6 +9,7 @@ use enumset_repr::repr::EnumSetTypeRepr;
 use enumset_sets::element::EnumSetType;
 use enumset_sets::enum_set::EnumSet;
 use enumset_sets::enum_set_iter::EnumSetIter;
+use std::cmp::Ordering;
 
 /// The element of a valid bit.
 pub(super) fn element_of<T: EnumSetType>(bit: u32) -> T
@@ -115,6 +116,10 @@ impl<T: EnumSetType> RunSet for EnumSet<T> {
 
     fn is_same(&self, other: EnumSet<T>) -> bool {
         *self == other
+    }
+
+    fn compare(&self, other: EnumSet<T>) -> Ordering {
+        self.cmp(&other)
     }
 
     fn number(&self, width: u32) -> Option<u128> {

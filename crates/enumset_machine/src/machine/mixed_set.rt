@@ -12,6 +12,7 @@ use enumset_mixed::mixed_value::MixedValue;
 use enumset_repr::repr::EnumSetTypeRepr;
 use enumset_sets::element::EnumSetType;
 use enumset_sets::with_repr::EnumSetTypeWithRepr;
+use std::cmp::Ordering;
 
 impl<T: EnumSetTypeWithRepr> RunSet for MixedEnumSet<T> {
     ghost use Rattle.enumset_machine.specs.Plans.{of_width};
@@ -114,6 +115,10 @@ impl<T: EnumSetTypeWithRepr> RunSet for MixedEnumSet<T> {
 
     fn is_same(&self, other: MixedEnumSet<T>) -> bool {
         *self == other
+    }
+
+    fn compare(&self, other: MixedEnumSet<T>) -> Ordering {
+        self.cmp(&other)
     }
 
     fn number(&self, width: u32) -> Option<u128> {

@@ -53,7 +53,8 @@ impl Operands {
             | Command::Disjoint { a, b }
             | Command::Superset { a, b }
             | Command::Subset { a, b }
-            | Command::Equal { a, b } => Operands::TwoSets(*a, *b),
+            | Command::Equal { a, b }
+            | Command::Compare { a, b } => Operands::TwoSets(*a, *b),
             Command::Number { r, width } | Command::NumberCut { r, width } => {
                 Operands::SetAndWidth(*r, *width)
             }

@@ -6,9 +6,11 @@ ghost use Rattle.enumset_repr.specs.BitSet.{BitSet};
 ghost use Rattle.enumset_repr.specs.Number.{number as number_of, bits};
 ghost use Rattle.enumset_repr.specs.Words.{words as words_of, bits_of};
 ghost use Rattle.enumset_repr.specs.Ends.{first, last, without_first, without_last};
+ghost use Rattle.enumset_repr.specs.Order.{compare};
 ghost use Rattle.enumset_machine.specs.Plans.{Rules, is_width};
 
 use enumset_commands::reply::Reply;
+use std::cmp::Ordering;
 
 /// A set of a run. Its elements are named by their bits, and so a run knows no element type.
 pub(crate) trait RunSet: Copy {
@@ -117,6 +119,10 @@ pub(crate) trait RunSet: Copy {
     /// Whether both have the same members.
     fn is_same(&self, other: Self) -> bool
         ensures { result ≡ set.is_same (members self.now) (members other) };
+
+    /// How this compares with the other: the greatest bit that just one of them has decides.
+    fn compare(&self, other: Self) -> Ordering
+        ensures { result ≡ compare (members self.now) (members other) };
 
     /// The number of the set, if each member is below a width.
     fn number(&self, width: u32) -> Option<u128>

@@ -3,7 +3,8 @@
 use super::surroundings::{Source, outcome};
 use super::text_forms::TEXT_FORMS;
 use super::vectors::{
-    four, letters, marks, mixed_four, mixed_letters, mixed_marks, mixed_sparse, sparse, wide,
+    four, letters, marks, mixed_four, mixed_letters, mixed_marks, mixed_pair_number, mixed_sparse,
+    pair_number, pair_words, sparse, wide,
 };
 use std::test::Fail;
 
@@ -453,9 +454,261 @@ ok
 255
 ok
 0
+--
+wide
+only 0 130
+from_words 1 8 1
+compare 0 1
+compare 1 0
+from_words 0 8 0 4
+from_words 1 0 1 4
+compare 0 1
+compare 1 0
+compare 1 1
+only 2 3
+compare 2 0
+all 3
+from_words 1 8 1
+compare 1 3
+compare 3 1
+==
+ok
+ok
+greater
+less
+ok
+ok
+less
+greater
+equal
+ok
+less
+ok
+ok
+less
+greater
+--
+wide
+new 0
+from_words 1 8
+compare 0 1
+from_words 0 0 1
+compare 1 0
+from_words 1 8 1
+compare 0 1
+from_words 0 0 0 4
+compare 1 0
+from_words 1 8 0 4
+compare 0 1
+from_words 0 0 1 4
+compare 1 0
+from_words 1 8 1 4
+compare 0 1
+==
+ok
+ok
+less
+ok
+less
+ok
+less
+ok
+less
+ok
+less
+ok
+less
+ok
+less
+--
+letters
+compare 0 1
+compare 4 0
+compare 0 255
+all 0
+compare 0 1
+==
+equal
+K1 no register
+K1 no register
+ok
+greater
+--
+mixed-marks
+from_number 0 8 8
+all 1
+compare 0 1
+compare 1 0
+insert_bit 1 3
+compare 0 1
+compare 1 1
+==
+ok
+ok
+greater
+less
+true
+less
+equal
+--
+pair-words pair-number
+all 0
+iter 0 0
+next_back 0
+left 0
+words 0 2
+==
+ok
+ok
+bit 64
+1
+words 1 1
+--
+pair-words pair-number
+only 0 0
+only 1 64
+compare 0 1
+compare 1 0
+compare 0 0
+==
+ok
+ok
+less
+greater
+equal
+--
+pair-words pair-number
+all 0
+iter 0 0
+next_back 0
+left 0
+words 0 2
+only 0 0
+only 1 64
+compare 0 1
+compare 1 0
+compare 0 0
+==
+ok
+ok
+bit 64
+1
+words 1 1
+ok
+ok
+less
+greater
+equal
+--
+pair-words pair-number
+from_number 0 128 0
+from_number 1 128 1
+from_number 2 128 18446744073709551616
+from_number 3 128 18446744073709551617
+compare 0 0
+compare 0 1
+compare 0 2
+compare 0 3
+compare 1 0
+compare 1 1
+compare 1 2
+compare 1 3
+compare 2 0
+compare 2 1
+compare 2 2
+compare 2 3
+compare 3 0
+compare 3 1
+compare 3 2
+compare 3 3
+==
+ok
+ok
+ok
+ok
+equal
+less
+less
+less
+greater
+equal
+less
+less
+greater
+greater
+equal
+less
+greater
+greater
+greater
+equal
+--
+mixed-pair-words mixed-pair-number
+insert_bit 0 63
+insert_bit 1 64
+compare 0 1
+unknown 0
+unknown 1
+full_complement 2 0
+len 2
+==
+true
+true
+less
+true
+false
+ok
+127
+--
+mixed-pair-words mixed-pair-number
+from_number 0 128 9223372036854775808
+from_number 1 128 18446744073709551616
+compare 0 1
+insert_bit 0 127
+compare 0 1
+insert_bit 1 127
+compare 0 1
+insert 1 0
+insert_bit 0 64
+compare 0 1
+compare 0 0
+remove_bit 0 63
+compare 0 1
+insert 0 0
+compare 0 1
+full_complement 2 0
+full_complement 3 1
+compare 2 3
+unknown 0
+compare 0 2
+truncate 3 0
+compare 3 0
+==
+ok
+ok
+less
+true
+greater
+true
+less
+true
+true
+greater
+equal
+true
+less
+true
+equal
+ok
+ok
+equal
+true
+greater
+ok
+less
 ";
 
-const TABLES: [&str; 11] = [
+const TABLES: [&str; 14] = [
     WORKED_RUNS,
     TEXT_FORMS,
     letters::RUNS,
@@ -463,28 +716,33 @@ const TABLES: [&str; 11] = [
     sparse::RUNS,
     marks::RUNS,
     wide::RUNS,
+    pair_words::RUNS,
+    pair_number::RUNS,
     mixed_letters::RUNS,
     mixed_four::RUNS,
     mixed_sparse::RUNS,
     mixed_marks::RUNS,
+    mixed_pair_number::RUNS,
 ];
 
-// A run has the name of a type, the inputs, and what the program makes of each of them.
+// A run has the names of types, the inputs, and what the program makes of each of them over each type.
 #[test]
 fn each_run_has_its_output(rt: HostRuntime) -> Result<(), Fail> {
     let mut inputs = 0usize;
     for runs in TABLES {
         for run in runs.split("--\n").skip(1) {
             let (asked, expected) = run.split_once("==\n").unwrap_or((run, ""));
-            let (name, texts) = asked.split_once("\n").unwrap_or((asked, ""));
-            let arguments = format!(in rt.alloc(); "program,{name}")?;
-            for text in texts.split('|') {
-                let output = outcome(rt.alloc(), &arguments, Source::new(text), usize::MAX)?;
-                assert!(rt; output.as_slice() == expected.as_bytes(), "{text}");
-                inputs = inputs.saturating_add(1);
+            let (names, texts) = asked.split_once("\n").unwrap_or((asked, ""));
+            for name in names.split(' ') {
+                let arguments = format!(in rt.alloc(); "program,{name}")?;
+                for text in texts.split('|') {
+                    let output = outcome(rt.alloc(), &arguments, Source::new(text), usize::MAX)?;
+                    assert!(rt; output.as_slice() == expected.as_bytes(), "{name}: {text}");
+                    inputs = inputs.saturating_add(1);
+                }
             }
         }
     }
-    assert!(rt; inputs == 176);
+    assert!(rt; inputs == 234);
     Ok(())
 }

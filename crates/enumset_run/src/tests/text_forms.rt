@@ -25,7 +25,7 @@ insert 256 6|insert 0 4294967296|insert 0 99999999999999999999999|insert 0\
 |from_number 0 128 340282366920938463463374607431768211456|from_number 0 8 -1\
 |words 0|words 0 256|words_cut 0 1 1|from_words|from_words 256|from_words 0 18446744073709551616\
 |from_words 0 1 2 3 4 5 x 6|from_words_cut\
-|compare 0 1|has_bit 0 1==
+|compare 0|compare 0 1 2|compare 0 256|Compare 0 1|has_bit 0 1==
 !2 line 1: not a command
 --
 mixed-marks
@@ -54,11 +54,4 @@ len 0\n\ninsert 0\n==
 letters
 len 0\n\n \r\nlen\nleft\n==
 !2 line 4: not a command
---
-letters
-clear 1\ninsert 1 10\ninsert 1 127\nclear 2\ninsert 2 20\ninsert 2 30\ninsert 2 10\n\
-insert 2 127\ndifference 3 1 2\nremove_all 1 2\nremove 0 30\nclear 3\ninsert 3 30\niter 0 3\n\
-next 0\nnext 0\nleft 0\nnew 1\nonly 1 2147483647\ninsert 255 2147483647\nsubset 0 255\n\
-compare 1 1\nclear 0\n==
-!2 line 22: not a command
 ";

@@ -5,6 +5,7 @@ use enumset_commands::reply::{Refusal, Reply};
 use enumset_commands::text_fault::TextFault;
 use enumset_commands::transcript::write_replies;
 use enumset_commands::word_list::WordList;
+use std::cmp::Ordering;
 use std::test::Fail;
 
 #[test]
@@ -20,6 +21,9 @@ fn replies_and_faults_have_their_texts(rt: HostRuntime) -> Result<(), Fail> {
         Reply::Number(340282366920938463463374607431768211455),
         Reply::Words(WordList::from(Vec::new(alloc))),
         Reply::Words(WordList::from(Vec::from_slice(alloc, &[8, 18446744073709551615, 0])?)),
+        Reply::Order(Ordering::Less),
+        Reply::Order(Ordering::Equal),
+        Reply::Order(Ordering::Greater),
         Reply::Bit(3),
         Reply::Unknown(3),
         Reply::Absent,
@@ -55,6 +59,9 @@ false
 340282366920938463463374607431768211455
 words
 words 8 18446744073709551615 0
+less
+equal
+greater
 bit 3
 unknown 3
 none

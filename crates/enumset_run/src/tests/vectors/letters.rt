@@ -1708,4 +1708,234 @@ false
 false
 62
 ok
+--
+letters
+number 4 8
+words 0 4
+from_words_cut 1
+from_number_cut 0 128 127
+difference 255 1 1
+insert 2 5
+insert 2 7
+from_number 3 16 32
+from_number 1 32 22
+superset 1 3
+subset 3 1
+disjoint 1 3
+compare 3 3
+from_words 1 10275252209498332046 2 18320721530210734789
+contains 1 92736133
+superset 0 0
+disjoint 1 0
+from_number_cut 3 64 41
+number 3 32
+words 3 2
+words 3 4
+from_number 2 8 99
+number 2 32
+number_cut 2 128
+words 2 4
+from_words 0 18446744073709551615
+union 0 4 0
+next 2
+subset 1 1
+clear 3
+insert 3 5
+insert 3 2
+insert 3 3
+from_words 1 40 0
+union 3 3 1
+insert_all 3 1
+len 3
+==
+K1 no register
+words 0 0 0 0
+ok
+ok
+K1 no register
+true
+K2 not a bit
+ok
+ok
+false
+false
+true
+equal
+none
+K2 not a bit
+true
+false
+ok
+41
+words 41 0
+words 41 0 0 0
+ok
+99
+99
+words 99 0 0 0
+none
+K1 no register
+K1 no register
+true
+ok
+true
+true
+true
+ok
+ok
+ok
+3
+--
+letters
+iter 1 1
+union 0 0 1
+left 0
+difference 0 1 0
+remove 2 5
+remove 2 1
+insert 2 6
+insert 2 2
+from_number 0 16 6
+from_words 3 39 0
+symmetric 1 0 3
+len 1
+all 0
+from_number 3 32 0
+from_number 0 8 3
+subset 0 3
+superset 3 0
+compare 0 3
+subset 3 0
+superset 0 3
+disjoint 3 0
+==
+ok
+ok
+0
+ok
+false
+false
+true
+true
+ok
+ok
+ok
+2
+ok
+ok
+ok
+false
+false
+greater
+true
+true
+true
+--
+letters
+compare 0 3
+insert 3 6
+remove 3 0
+remove 3 4
+insert 3 2
+insert 3 0
+insert 3 6
+remove 2 6
+only 3 1
+from_number_cut 3 128 340282366920938463463374607431768211455
+words_cut 9 255
+from_number 9 8 256
+difference 3 1 3
+new 2
+equal 0 1
+contains 3 1
+from_words_cut 0 12736821906535777406 8 256 256 4294967296
+from_words 2 109 0
+from_number 3 32 109
+disjoint 3 2
+subset 2 3
+equal 2 3
+compare 3 2
+compare 2 3
+disjoint 2 3
+clear 1
+==
+equal
+true
+false
+false
+true
+true
+false
+false
+ok
+ok
+K1 no register
+K1 no register
+ok
+ok
+true
+false
+ok
+ok
+ok
+false
+true
+true
+equal
+equal
+false
+ok
+--
+letters
+compare 2 1
+insert_all 0 3
+clear 2
+iter 1 2
+next_back 1
+next_back 1
+left 1
+from_number 0 16 75
+iter 1 0
+next_back 1
+new 0
+next 1
+iter 0 0
+iter 1 0
+next_back 1
+next_back 1
+left 1
+iter 0 0
+from_words 1 97 0
+from_number 3 8 107
+superset 1 3
+subset 1 3
+compare 1 1
+compare 1 3
+from_words 3 97
+==
+equal
+ok
+ok
+ok
+none
+none
+0
+ok
+ok
+bit 6
+ok
+bit 0
+ok
+ok
+none
+none
+0
+ok
+ok
+ok
+false
+true
+equal
+less
+ok
 ";

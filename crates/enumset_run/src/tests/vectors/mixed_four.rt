@@ -11,7 +11,10 @@ unknown 1
 len 1
 from_number 3 16 240
 from_number 1 16 240
+compare 3 3
+compare 3 1
 disjoint 1 3
+compare 1 3
 superset 1 3
 subset 3 1
 subset 1 3
@@ -65,7 +68,10 @@ false
 0
 ok
 ok
+equal
+equal
 false
+equal
 true
 true
 true
@@ -120,10 +126,12 @@ number 1 64
 subset 0 0
 from_number 2 32 0
 from_number 3 16 7
+compare 2 2
 disjoint 3 2
 superset 2 3
 superset 3 2
 disjoint 2 3
+compare 2 3
 from_number 3 128 256
 words 3 1
 number 3 64
@@ -151,7 +159,10 @@ number_cut 0 64
 iter 0 1
 from_words 0 226 0
 from_words 2 226 0
+compare 2 0
+compare 0 0
 equal 0 2
+compare 0 2
 ==
 ok
 ok
@@ -160,10 +171,12 @@ ok
 true
 ok
 ok
+equal
 true
 false
 true
 true
+less
 none
 words 7
 7
@@ -191,7 +204,10 @@ ok
 ok
 ok
 ok
+equal
+equal
 true
+equal
 --
 mixed-four
 only 3 259

@@ -25,6 +25,7 @@ new 1
 only 1 2147483647
 insert 255 2147483647
 subset 0 255
+compare 1 1
 clear 0
 clear 1
 insert 1 127
@@ -70,6 +71,7 @@ ok
 K2 not a bit
 K1 no register
 K1 no register
+equal
 ok
 ok
 true
@@ -1152,4 +1154,412 @@ true
 false
 ok
 false
+--
+sparse
+words_cut 1 3
+from_words 2 1049600 9223372036854775808
+iter 0 2
+next_back 0
+next 0
+next_back 0
+next_back 0
+clear 2
+next_back 0
+next 0
+next 0
+next_back 0
+next 0
+next 0
+from_number 1 128 1073742848
+from_words 0 1073742848
+union 0 1 0
+insert_all 1 0
+words_cut 0 2
+empty 0
+left 1
+insert 2 30
+only 0 20
+number 4 8
+contains 4 1266069556
+from_number_cut 2 64 18446744073709551616
+from_words_cut 0 1074791424 9223372036854775808 0
+from_number_cut 0 64 1048576
+words_cut 0 1
+words_cut 0 4
+number_cut 0 128
+iter 1 1
+equal 0 0
+empty 0
+intersection 1 0 0
+new 252
+difference 1 255 2
+contains 0 4294967295
+insert 255 4294967295
+from_words 0
+from_words 2 1073742848
+from_words 1 0
+superset 2 1
+disjoint 2 1
+superset 1 2
+compare 2 2
+from_words 1 1024
+from_number 2 16 1024
+subset 1 2
+disjoint 2 1
+disjoint 1 2
+superset 2 1
+len 1
+words 0 3
+disjoint 1 1
+==
+words 0 0 0
+ok
+ok
+bit 127
+bit 10
+bit 20
+none
+ok
+none
+none
+none
+none
+none
+none
+ok
+ok
+ok
+ok
+words 1073742848 0
+false
+0
+true
+ok
+K1 no register
+K1 no register
+K3 not a width
+ok
+ok
+words 1048576
+words 1048576 0 0 0
+1048576
+ok
+true
+false
+ok
+K1 no register
+K1 no register
+K2 not a bit
+K1 no register
+ok
+ok
+ok
+true
+true
+false
+equal
+ok
+ok
+true
+false
+false
+true
+1
+words 0 0 0
+false
+--
+sparse
+remove 2 20
+symmetric 3 2 1
+len 3
+from_number_cut 2 64 18446744073709551616
+all 4
+from_number 4 8 256
+new 1
+from_words 1 1074791424 9223372036854775808
+from_number 2 128 170141183460469231731687303716958896128
+intersection 3 1 2
+empty 3
+words_cut 3 2
+insert 3 129
+union 0 2 2
+from_number 2 32 1074790400
+number 2 64
+words_cut 2 3
+number_cut 2 128
+contains 3 30
+from_number 1 64 1048576
+number 1 8
+words 1 0
+words_cut 1 4
+left 1
+from_number_cut 1 128 170141183460469231731687303716958897152
+words_cut 1 3
+number_cut 1 16
+number 1 64
+from_number 0 128 170141183460469231731687303715885154304
+union 2 0 0
+from_words_cut 255 18446744073709551615
+len 255
+number 0 0
+empty 0
+insert 3 30
+remove 3 20
+insert 3 127
+insert 3 20
+number 3 128
+all 3
+clear 2
+from_words 2 1048576 9223372036854775808
+==
+false
+ok
+0
+K3 not a width
+K1 no register
+K1 no register
+ok
+ok
+ok
+ok
+false
+words 1074790400 9223372036854775808
+K2 not a bit
+ok
+ok
+1074790400
+words 1074790400 0 0
+1074790400
+true
+ok
+none
+none
+words 1048576 0 0 0
+0
+ok
+words 1074791424 9223372036854775808 0
+1024
+none
+ok
+ok
+K1 no register
+K1 no register
+K3 not a width
+false
+false
+true
+false
+true
+170141183460469231731687303716958896128
+ok
+ok
+ok
+--
+sparse
+from_number 3 64 0
+from_number 1 8 0
+subset 1 3
+superset 3 1
+disjoint 3 1
+equal 3 1
+subset 3 1
+clear 3
+union 0 3 3
+symmetric 2 3 0
+from_words 2 0 8 256 14691025395407501233
+iter 0 0
+left 0
+clear 0
+next 0
+next 0
+next 0
+iter 1 0
+next 0
+all 0
+remove 0 2147483668
+next_back 0
+next_back 0
+from_number_cut 0 128 170141183460469231731687303716957848576
+from_words 0 1074791424 9223372036854775808
+from_words 1 1073741824 0
+superset 0 1
+superset 1 0
+words_cut 0 3
+new 0
+insert 1 16
+iter 0 2
+next 0
+next 0
+next_back 0
+next_back 0
+from_words 0 1074791424 9223372036854775808
+intersection 0 0 0
+remove_all 0 0
+len 0
+words_cut 0 2
+intersection 3 1 0
+from_number 0 64 1074791424
+complement 0 3
+number_cut 1 16
+left 1
+from_number 0 128 170141183460469231731687303715885154304
+==
+ok
+ok
+true
+true
+true
+true
+true
+ok
+ok
+ok
+none
+ok
+0
+ok
+none
+none
+none
+ok
+none
+ok
+K2 not a bit
+none
+none
+ok
+ok
+ok
+true
+false
+words 1074791424 9223372036854775808 0
+ok
+K2 not a bit
+ok
+none
+none
+none
+none
+ok
+ok
+ok
+0
+words 0 0
+ok
+ok
+ok
+0
+0
+ok
+--
+sparse
+insert 2 10
+words 1 254
+from_words 2
+all 3
+from_number 1 128 170141183460469231731687303716958897152
+from_words 2 1074791424 9223372036854775808
+from_words 1 1073741824 9223372036854775808
+union 0 2 1
+clear 1
+insert 1 127
+insert 1 10
+union 2 1 1
+len 2
+iter 1 2
+from_number 0 128 1048576
+from_number 1 128 170141183460469231731687303715884106752
+symmetric 1 0 1
+empty 1
+number_cut 1 64
+insert_all 2 1
+from_words 2 256 16609695990756336575 18446744073709551614 255 3157539325402181978
+words_cut 2 3
+words_cut 2 1
+number 2 128
+intersection 0 3 1
+insert 3 10
+remove 3 10
+insert 3 127
+insert 3 127
+remove 3 30
+iter 1 3
+next 1
+next 1
+next_back 1
+iter 0 3
+next_back 1
+left 1
+next_back 1
+next_back 1
+next 1
+next_back 1
+next 1
+remove 0 30
+insert 0 10
+insert 0 20
+remove 0 20
+insert 0 10
+remove 0 20
+number 0 8
+insert 1 10
+insert 1 127
+insert 2 30
+remove 2 30
+remove 2 20
+==
+true
+words 0 0 0 0 0 0 0 0 0 0 0 0 0 0 0 0 0 0 0 0 0 0 0 0 0 0 0 0 0 0 0 0 0 0 0 0 0 0 0 0 0 0 0 0 0 0 0 0 0 0 0 0 0 0 0 0 0 0 0 0 0 0 0 0 0 0 0 0 0 0 0 0 0 0 0 0 0 0 0 0 0 0 0 0 0 0 0 0 0 0 0 0 0 0 0 0 0 0 0 0 0 0 0 0 0 0 0 0 0 0 0 0 0 0 0 0 0 0 0 0 0 0 0 0 0 0 0 0 0 0 0 0 0 0 0 0 0 0 0 0 0 0 0 0 0 0 0 0 0 0 0 0 0 0 0 0 0 0 0 0 0 0 0 0 0 0 0 0 0 0 0 0 0 0 0 0 0 0 0 0 0 0 0 0 0 0 0 0 0 0 0 0 0 0 0 0 0 0 0 0 0 0 0 0 0 0 0 0 0 0 0 0 0 0 0 0 0 0 0 0 0 0 0 0 0 0 0 0 0 0 0 0 0 0 0 0 0 0 0 0 0 0 0 0 0 0 0 0 0 0 0 0 0 0
+ok
+ok
+ok
+ok
+ok
+ok
+ok
+true
+true
+ok
+2
+ok
+ok
+ok
+ok
+false
+1049600
+ok
+none
+words 1049600 9223372036854775808 0
+words 1049600
+170141183460469231731687303715885155328
+ok
+false
+true
+false
+false
+true
+ok
+bit 20
+bit 127
+none
+ok
+none
+0
+none
+none
+none
+none
+none
+false
+false
+false
+true
+false
+false
+none
+false
+false
+true
+true
+true
 ";

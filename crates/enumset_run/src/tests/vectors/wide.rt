@@ -1210,4 +1210,346 @@ ok
 ok
 bit 3
 1
+--
+wide
+equal 2 2
+difference 3 1 0
+words 1 4
+remove 0 130
+remove 0 3
+from_number 1 16 256
+complement 0 1
+from_number_cut 0 32 18446744073709551624
+number_cut 0 64
+words 0 3
+number 0 8
+left 0
+only 1 130
+iter 1 2
+from_words 0 8 1 0 0 0
+number 0 64
+words_cut 0 1
+number_cut 0 64
+all 0
+insert 2 64
+insert 2 32
+iter 0 0
+next 0
+next 0
+next 0
+left 0
+next_back 0
+next_back 0
+remove 0 130
+insert 0 387
+next 1
+next_back 0
+left 1
+iter 1 0
+next 0
+from_words 3 0 1 4 0
+from_number 0 128 18446744073709551616
+symmetric 2 3 0
+complement 2 2
+number_cut 2 64
+from_words 2
+from_words 0 8 1 4 0
+difference 1 2 0
+words_cut 1 2
+number_cut 1 64
+len 1
+from_words 3 8 1 4 0
+difference 3 3 3
+remove_all 3 3
+empty 3
+intersection 0 1 3
+insert 3 322
+from_words 0 8 0 4 0
+from_number_cut 3 64 8
+number 3 64
+number_cut 3 8
+words 3 3
+insert_all 0 0
+number 3 64
+clear 2
+==
+true
+ok
+words 0 0 0 0
+false
+false
+none
+ok
+K3 not a width
+8
+words 8 1 4
+none
+0
+ok
+ok
+ok
+none
+words 8
+8
+ok
+true
+K2 not a bit
+ok
+bit 3
+bit 64
+bit 130
+0
+none
+none
+true
+K2 not a bit
+none
+none
+0
+ok
+none
+ok
+ok
+ok
+ok
+8
+ok
+ok
+ok
+words 0 0
+0
+0
+ok
+ok
+ok
+true
+ok
+K2 not a bit
+ok
+ok
+8
+8
+words 8 0 0
+ok
+8
+ok
+--
+wide
+next_back 4
+remove 0 3808676934
+new 2
+only 1 4294967294
+iter 2 9
+from_number_cut 1 8 256
+number 0 128
+clear 1
+insert 1 130
+from_number 0 8 0
+subset 0 1
+subset 1 0
+compare 1 0
+words 1 1
+equal 2 7
+number 4 256
+from_number 1 8 255
+from_number_cut 3 128 340282366920938463463374607431768211455
+iter 0 1
+next 0
+len 1
+next 0
+iter 1 1
+iter 1 1
+next 0
+left 0
+next_back 0
+next_back 0
+next_back 1
+compare 8 1
+contains 2 64
+from_number 2 64 0
+from_words 1 8 1 4
+from_words 2 8 0 4
+compare 2 1
+subset 2 1
+disjoint 1 2
+from_words_cut 0 0 0 0 0
+superset 1 0
+from_words_cut 4 18446744073709551615
+iter 255 4
+union 4 0 0
+next 1
+intersection 1 2 2
+remove 2 64
+==
+K1 no register
+K2 not a bit
+ok
+K2 not a bit
+K1 no register
+K3 not a width
+0
+ok
+true
+ok
+true
+false
+greater
+none
+K1 no register
+K1 no register
+none
+ok
+ok
+bit 130
+1
+none
+ok
+ok
+none
+0
+none
+none
+bit 130
+K1 no register
+false
+ok
+ok
+ok
+less
+true
+false
+ok
+true
+K1 no register
+K1 no register
+K1 no register
+none
+ok
+false
+--
+wide
+remove 3 3
+remove 3 64
+remove 3 130
+insert 3 130
+remove 3 64
+from_words 0 8
+iter 0 0
+next 0
+insert 0 64
+next 0
+complement 252 2
+symmetric 1 4 252
+disjoint 1 2
+remove 3 130
+next 0
+from_words 0 0 0 4 0
+from_words 1 0 1 4 0
+subset 0 1
+compare 0 1
+disjoint 1 0
+subset 1 0
+compare 0 0
+superset 1 0
+compare 1 0
+clear 16
+insert 0 3
+insert 0 130
+insert 0 3
+remove 0 130
+remove 0 64
+insert 0 75
+==
+false
+false
+false
+true
+false
+ok
+ok
+bit 3
+true
+none
+K1 no register
+K1 no register
+true
+true
+none
+ok
+ok
+true
+less
+false
+false
+equal
+true
+greater
+K1 no register
+true
+false
+false
+true
+false
+K2 not a bit
+--
+wide
+from_words_cut 2 2585357140404031027 8 2 7084161097539881205
+from_words 2 0 0 0 0 0
+from_number 2 128 18446744073709551616
+from_words 3 0 1 0
+subset 2 3
+compare 2 3
+subset 3 2
+compare 3 2
+equal 2 3
+from_words 0 8 1 4 0
+from_words 2 8
+superset 2 0
+subset 0 2
+next_back 1
+clear 3
+insert 3 3
+insert 3 130
+from_number 2 128 18446744073709551616
+symmetric 1 3 2
+complement 1 1
+number 1 128
+from_number_cut 3 129 309719610093376593468849113679940742761
+words 3 0
+words_cut 3 4
+words_cut 3 1
+contains 3 130
+left 2
+number 9 8
+from_number_cut 3 128 340282366920938463463374607431768211455
+==
+ok
+ok
+ok
+ok
+true
+equal
+true
+equal
+true
+ok
+ok
+false
+false
+none
+ok
+true
+true
+ok
+ok
+ok
+0
+K3 not a width
+none
+words 8 0 4 0
+words 8
+true
+K1 no register
+K1 no register
+ok
 ";
