@@ -1,17 +1,20 @@
 -- Lists of words that are gone through four at a time.
 use Rattle.std.proofs.Common.{◌≡◌, ◌≢◌, ◌<◌, ◌≤◌, ℕ, zero, suc, ◌+◌, Bool, true, false, ◌&&◌, List, [], ◌∷◌, length, take, drop, set, bit_and, bit_or, refl, sym, ap, ◌∙◌, arith, w64, map, add-one}
-use Rattle.std.specs.Prelude.{◌==◌, slice_index}
+use Rattle.std.specs.Prelude.{◌==◌, nat_eq, slice_index, bit_xor}
 use Rattle.std.specs.Int.{bit_not}
 use Rattle.std.specs.Int.Bits.{or_zero_l}
 use Rattle.std.specs.List.{list_all}
+use Rattle.std.specs.Cmp.Lexicographic.{pointwise}
 use Rattle.std.specs.Simd.Lanes.{zip2, chunk, put_chunk, fold_l}
 use Rattle.std.proofs.Math.Bool.{and-true, and-false, and_assoc}
 use Rattle.std.proofs.Math.Seq.{take-add, take-suc}
-use Rattle.std.proofs.lemmas.Bool.Decides.{nat_tests}
+use Rattle.std.proofs.lemmas.Bool.{eqb-true}
+use Rattle.std.proofs.lemmas.Bool.Decides.{nat_tests, same_from_decides}
 use Rattle.std.proofs.lemmas.List.{take-append-drop, take_all}
 use Rattle.std.proofs.lemmas.List.Folds.{list_all-append}
-use Rattle.std.proofs.lemmas.Nat.{le_or_l}
-use Rattle.std.proofs.lemmas.Simd.{length-chunk}
+use Rattle.std.proofs.lemmas.Nat.{le_or_l, xor_comm}
+use Rattle.std.proofs.lemmas.Simd.{length-chunk, length-zip2, get_or-zip2}
+use lib.Bits.{xor_assoc, xor_self, xor_zero_r}
 
 -- ---- the first k words combined with others, and those from k on as they were
 
@@ -80,6 +83,29 @@ first_lanes op [] b e = refl
 first_lanes op (x ∷ a) [] e = absurd (omega (arith, e))
 first_lanes op (x ∷ a) (y ∷ b) e = ap (λ l. op x ∷ l) (first_lanes op a b (omega (arith, e)))
 
+pub first_alone : (a b : List ℕ) → length a ≡ length b → a ≡ zip2 (λ x _. x) a b
+first_alone [] b e = refl
+first_alone (x ∷ a) [] e = absurd (omega (arith, e))
+first_alone (x ∷ a) (y ∷ b) e = ap (λ l. x ∷ l) (first_alone a b (omega (arith, e)))
+
+-- ---- parts of what an operation answers
+
+none_zipped : (op : ℕ → ℕ → ℕ) (a : List ℕ) → zip2 op a [] ≡ []
+none_zipped op [] = refl
+none_zipped op (x ∷ a) = refl
+
+take-zip2 : (op : ℕ → ℕ → ℕ) (n : ℕ) (a b : List ℕ) → take n (zip2 op a b) ≡ zip2 op (take n a) (take n b)
+take-zip2 op zero a b = refl
+take-zip2 op (suc n) [] b = refl
+take-zip2 op (suc n) (x ∷ a) [] = refl
+take-zip2 op (suc n) (x ∷ a) (y ∷ b) = ap (λ l. op x y ∷ l) (take-zip2 op n a b)
+
+pub chunk-zip2 : (op : ℕ → ℕ → ℕ) (i n : ℕ) (a b : List ℕ) → chunk i n (zip2 op a b) ≡ zip2 op (chunk i n a) (chunk i n b)
+chunk-zip2 op zero n a b = take-zip2 op n a b
+chunk-zip2 op (suc i) n [] b = take-zip2 op n [] (drop (suc i) b)
+chunk-zip2 op (suc i) n (x ∷ a) [] = ap (take n) (sym (none_zipped op (drop i a))) ∙ take-zip2 op n (drop i a) []
+chunk-zip2 op (suc i) n (x ∷ a) (y ∷ b) = chunk-zip2 op i n a b
+
 -- ---- words of which all are 0
 
 abbrev pub none_in : List ℕ → Bool
@@ -128,6 +154,22 @@ one_none ws any i j next low before =
     or_none any (slice_index ws i) ∙ ap (λ t. t && (slice_index ws i == 0)) before
     ∙ sym (ap (λ k. none_in (take k ws)) (next ∙ add-one i) ∙ ap none_in (take-suc ws i 0 low) ∙ list_all-append (λ w. w == 0) (take i ws) (slice_index ws i ∷ [])
     ∙ ap (λ t. none_in (take i ws) && t) (and-true (slice_index ws i == 0)))
+
+-- `^` answers 0 exactly of two words that are the same
+same_of_none : (x y : ℕ) → bit_xor x y ≡ 0 → x ≡ y
+same_of_none x y none =
+    sym (xor_zero_r x) ∙ ap (bit_xor x) (sym (xor_self y)) ∙ sym (xor_assoc x y y) ∙ ap (λ z. bit_xor z y) none ∙ xor_comm 0 y ∙ xor_zero_r y
+
+xor_none : (x y : ℕ) → (bit_xor x y == 0) ≡ nat_eq x y
+xor_none x y = same_from_decides _ _
+    (λ h. same_of_none x y (eqb-true _ 0 h), λ e. ap (λ z. bit_xor z y == 0) e ∙ ap (λ z. z == 0) (xor_self y))
+    (λ h. eqb-true x y h, λ e. grind (arith, nat_tests, e))
+
+pub none_apart : (a b : List ℕ) → length a ≡ length b → none_in (zip2 bit_xor a b) ≡ pointwise nat_eq a b
+none_apart [] [] e = refl
+none_apart [] (y ∷ b) e = absurd (omega (arith, e))
+none_apart (x ∷ a) [] e = absurd (omega (arith, e))
+none_apart (x ∷ a) (y ∷ b) e = (λ i. xor_none x y i && none_apart a b (omega (arith, e)) i)
 
 -- ---- words gone through in blocks, of which `any` is 0 exactly if all of one are
 

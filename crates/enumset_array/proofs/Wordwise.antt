@@ -1,20 +1,22 @@
 -- A store whose words are made of those of other stores, word by word.
-use Rattle.std.proofs.Common.{◌≡◌, ◌<◌, ◌≤◌, ◌⊎◌, inl, inr, ℕ, ◌*◌, ◌+◌, ◌^◌, Bool, not, ◌&&◌, ◌||◌, List, length, bit_and, bit_or, refl, sym, ap, ◌∙◌, subst, arith, w64, lit<}
-use Rattle.std.specs.Prelude.{slice_index, bit_xor, IsTrue}
+use Rattle.std.proofs.Common.{◌≡◌, ◌<◌, ◌≤◌, ◌↔◌, ◌⊎◌, inl, inr, ℕ, ◌*◌, ◌+◌, ◌^◌, Bool, not, ◌&&◌, ◌||◌, List, length, bit_and, bit_or, refl, sym, ap, ◌∙◌, subst, arith, w64, lit<}
+use Rattle.std.specs.Prelude.{◌==◌, slice_index, bit_xor, IsTrue}
+use Rattle.std.specs.List.{list_all}
 use Rattle.std.specs.Int.{bit_not}
 use Rattle.std.specs.Int.Bits.{and_lt}
 use Rattle.std.proofs.lemmas.Nat.{or_lt, xor_lt}
 use Rattle.std.proofs.Math.Pow.{ones_sub-lt}
 use Rattle.std.proofs.lemmas.Bool.{cases_lt, lt-ltb, le-ltb}
+use Rattle.std.proofs.lemmas.Bool.Decides.{same_from_decides}
 use Rattle.std.proofs.lemmas.List.{get_or_past}
 use Rattle.std.proofs.lemmas.Simd.{length-zip2, get_or-zip2}
 use Rattle.std.specs.Simd.Lanes.{zip2}
-use Rattle.enumset_repr.specs.BitSet.{BitSet, contains, below, intersection, union, difference, symmetric_difference}
+use Rattle.enumset_repr.specs.BitSet.{BitSet, contains, empty, below, intersection, union, difference, symmetric_difference, is_subset, is_disjoint}
 use Rattle.enumset_repr.specs.Number.{bits}
-use Rattle.enumset_repr.specs.Laws.Members.{contains-intersection, contains-union, contains-difference, contains-symmetric_difference, contains-below}
+use Rattle.enumset_repr.specs.Laws.Members.{contains-intersection, contains-union, contains-difference, contains-symmetric_difference, contains-below, is_subset_iff, is_disjoint_iff}
 use Rattle.enumset_repr.specs.Laws.Numbers.{bits-and, bits-or, bits-xor, bits-not, bits-and_not}
 use Rattle.enumset_array.specs.Stored.{in_use, set_of, is_empty_past, IsStore}
-use Rattle.enumset_array.specs.Laws.Stored.{contains-set_of, set_is, past_is, empty_past}
+use Rattle.enumset_array.specs.Laws.Stored.{contains-set_of, set_is, past_is, empty_past, none_iff}
 use Rattle.enumset_repr.specs.Laws.WordLists.{contains-zero}
 use Rattle.enumset_array.proofs.Places.{in_use-le}
 
@@ -87,6 +89,18 @@ pub and_not_set : (n : ℕ) (a b : List ℕ) → IsStore n a → IsStore n b →
 and_not_set n a b first second = made_set and_not refl and_not_lt n a b first second (λ p q. p && not q) _
     (λ x y q p s. ap (λ t. contains t q) (bits-and_not w64 x y p s) ∙ contains-difference (bits x) (bits y) q)
     (λ q. contains-difference (set_of n a) (set_of n b) q)
+
+-- ---- tests of two stores: of each word and the other in its place an operation answers 0
+
+pub within_is : (n : ℕ) (a b : List ℕ) → IsStore n a → IsStore n b → list_all (λ w. w == 0) (zip2 and_not a b) ≡ is_subset (set_of n a) (set_of n b)
+within_is n a b first second = same_from_decides _ _
+    (subst (λ s. IsTrue (list_all (λ w. w == 0) (zip2 and_not a b)) ↔ (s ≡ empty)) (and_not_set n a b first second) (none_iff n _ (made_store and_not refl and_not_lt n a b first second)))
+    (is_subset_iff _ _)
+
+pub apart_is : (n : ℕ) (a b : List ℕ) → IsStore n a → IsStore n b → list_all (λ w. w == 0) (zip2 bit_and a b) ≡ is_disjoint (set_of n a) (set_of n b)
+apart_is n a b first second = same_from_decides _ _
+    (subst (λ s. IsTrue (list_all (λ w. w == 0) (zip2 bit_and a b)) ↔ (s ≡ empty)) (and_set n a b first second) (none_iff n _ (made_store bit_and refl (and_lt 64) n a b first second)))
+    (is_disjoint_iff _ _)
 
 -- ---- `!`: the words in use are turned, and the others are 0
 

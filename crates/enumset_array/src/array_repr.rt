@@ -10,7 +10,7 @@ ghost use Rattle.enumset_array.specs.Laws.Order.{compare_is};
 ghost use Rattle.enumset_array.specs.Laws.Stored.{set_of_none, within, inverse, width_words, equal};
 
 use crate::array_iter::ArrayIter;
-use crate::lanes::{AndNot, are_empty, combine, ones_of};
+use crate::lanes::{And, AndNot, First, Or, Xor, are_none, combine, ones_of};
 use enumset_repr::EnumSetTypeRepr;
 use std::marker::Model;
 
@@ -21,7 +21,7 @@ pub(crate) const WORD_LIMIT: usize = 67108864;
 ///
 /// It mirrors `ArrayRepr` of Rust's `enumset`. The words past the first [`LEN`](ArrayRepr::LEN) are 0: a
 /// value is built with a proof of that, which is none up to 67108863 words, where all are in use.
-#[derive(Clone, Copy, Debug, PartialEq, Eq, Hash)]
+#[derive(Clone, Copy, Debug, Hash)]
 pub struct ArrayRepr<const N: usize>(pub [u64; N]);
 
 impl<const N: usize> Model for ArrayRepr<N> {
@@ -35,6 +35,27 @@ impl<const N: usize> Model for ArrayRepr<N> {
     ghost invariant = { λ r. IsTrue (is_empty_past N r.0) };
 
     ghost inverse = { λ ws. record { 0 = ws } };
+}
+
+/// Word by word.
+impl<const N: usize> PartialEq for ArrayRepr<N> {
+    ghost use Rattle.std.specs.Prelude.{nat_eq};
+    ghost use Rattle.std.specs.Cmp.Lexicographic.{pointwise};
+    ghost use Rattle.enumset_array.specs.Laws.Stored.{same_words-IsPartialEquivalence};
+
+    ghost eq = { pointwise nat_eq };
+
+    ghost laws = { same_words-IsPartialEquivalence };
+
+    fn eq(&self, other: &ArrayRepr<N>) -> bool {
+        are_none::<Xor>(&self.0, &other.0)
+    }
+}
+
+impl<const N: usize> Eq for ArrayRepr<N> {
+    ghost use Rattle.enumset_array.specs.Laws.Stored.{same_words-IsEquivalence};
+
+    ghost laws = { same_words-IsEquivalence };
 }
 
 impl<const N: usize> ArrayRepr<N> {
@@ -72,7 +93,7 @@ impl<const N: usize> EnumSetTypeRepr for ArrayRepr<N> {
 
     fn is_empty(&self) -> bool {
         self.known();
-        are_empty(&self.0)
+        are_none::<First>(&self.0, &self.0)
     }
 
     fn count_ones(&self) -> u32 {
@@ -98,6 +119,38 @@ impl<const N: usize> EnumSetTypeRepr for ArrayRepr<N> {
         let mut words = self.0;
         combine::<AndNot>(&mut words, &other.0);
         ArrayRepr(words)
+    }
+
+    fn or_with(&mut self, other: &ArrayRepr<N>) {
+        other.known();
+        combine::<Or>(&mut self.0, &other.0);
+    }
+
+    fn and_with(&mut self, other: &ArrayRepr<N>) {
+        other.known();
+        combine::<And>(&mut self.0, &other.0);
+    }
+
+    fn xor_with(&mut self, other: &ArrayRepr<N>) {
+        other.known();
+        combine::<Xor>(&mut self.0, &other.0);
+    }
+
+    fn and_not_with(&mut self, other: &ArrayRepr<N>) {
+        other.known();
+        combine::<AndNot>(&mut self.0, &other.0);
+    }
+
+    fn is_subset_of(&self, other: &ArrayRepr<N>) -> bool {
+        self.known();
+        other.known();
+        are_none::<AndNot>(&self.0, &other.0)
+    }
+
+    fn is_disjoint_from(&self, other: &ArrayRepr<N>) -> bool {
+        self.known();
+        other.known();
+        are_none::<And>(&self.0, &other.0)
     }
 
     fn iter(self) -> ArrayIter<N>

@@ -40,6 +40,9 @@ pub(crate) struct AndNot;
 /// `!a`, whatever b is.
 pub(crate) struct Inverse;
 
+/// `a`, whatever b is.
+pub(crate) struct First;
+
 impl WordOperation for And {
     ghost of_two = { bit_and };
 
@@ -100,6 +103,18 @@ impl WordOperation for Inverse {
     }
 }
 
+impl WordOperation for First {
+    ghost of_two = { λ a _. a };
+
+    fn on_words(a: u64, _b: u64) -> u64 {
+        a
+    }
+
+    fn on_lanes(a: u64x4, _b: u64x4) -> u64x4 {
+        a
+    }
+}
+
 /// Makes each word what the operation answers of it and of the other in its place.
 ///
 /// It asks that there are as many others.
@@ -120,29 +135,39 @@ pub(crate) fn combine<O: WordOperation>(words: &mut [u64], others: &[u64])
     }
 }
 
-/// Whether all words are 0. It stops at the first sixteen of which one is not.
-pub(crate) fn are_empty(words: &[u64]) -> bool
-    ensures { result ≡ list_all (λ w. w == 0) words.now }
+/// Whether the operation answers 0 of each word and the other in its place. It stops at the first sixteen of which it
+/// does not.
+///
+/// It asks that there are as many others.
+pub(crate) fn are_none<O: WordOperation>(words: &[u64], others: &[u64]) -> bool
+    requires { length words.now ≡ length others.now }
+    ensures { result ≡ list_all (λ w. w == 0) (zip2 O.of_two words.now others.now) }
 {
     for k in 0..words.len() / 16 {
-        if any_of(&words[16 * k..16 * k + 16]) != 0 {
+        let i = 16 * k;
+        if any_of::<O>(&words[i..i + 16], &others[i..i + 16]) != 0 {
             return false;
         }
     }
-    any_of(&words[words.len() / 16 * 16..]) == 0
+    let i = words.len() / 16 * 16;
+    any_of::<O>(&words[i..], &others[i..]) == 0
 }
 
-/// The words or'ed together, which is 0 exactly where each of them is.
-fn any_of(words: &[u64]) -> u64
-    ensures { (result == 0) ≡ list_all (λ w. w == 0) words.now }
+/// What the operation answers of each word and the other in its place, or'ed together: 0 exactly where each is.
+fn any_of<O: WordOperation>(words: &[u64], others: &[u64]) -> u64
+    requires { length words.now ≡ length others.now }
+    ensures { (result == 0) ≡ list_all (λ w. w == 0) (zip2 O.of_two words.now others.now) }
 {
     let mut lanes = u64x4::splat(0);
     for k in 0..words.len() / 4 {
-        lanes |= u64x4::from_slice(&words[4 * k..]);
+        lanes |= O::on_lanes(
+            u64x4::from_slice(&words[4 * k..]),
+            u64x4::from_slice(&others[4 * k..]),
+        );
     }
     let mut any = lanes.reduce_or();
     for i in words.len() / 4 * 4..words.len() {
-        any |= words[i];
+        any |= O::on_words(words[i], others[i]);
     }
     any
 }

@@ -64,7 +64,7 @@ impl<T: EnumSetTypeWithRepr> MixedEnumSet<T> {
     pub fn eq_enumset(&self, other: EnumSet<T>) -> bool
         ensures { result ≡ set.is_same self.now other }
     {
-        are_same(self.repr, other.as_repr())
+        are_same(&self.repr, &other.as_repr())
     }
 
     /// Whether the set has this element and no other member, known or unknown. It stands for `==` between a set and

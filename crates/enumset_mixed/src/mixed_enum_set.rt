@@ -10,8 +10,7 @@ use enumset_repr::repr::EnumSetTypeRepr;
 use enumset_sets::element::EnumSetType;
 use enumset_sets::enum_set::EnumSet;
 use enumset_sets::store::{
-    are_disjoint, are_same, has_no_member, intersection_of, is_subset_of, rest_of,
-    symmetric_difference_of, union_of,
+    are_same, has_no_member, intersection_of, rest_of, symmetric_difference_of, union_of,
 };
 use enumset_sets::with_repr::EnumSetTypeWithRepr;
 use std::alloc::AllocError;
@@ -73,7 +72,7 @@ impl<T: EnumSetTypeWithRepr> PartialEq for MixedEnumSet<T> {
     ghost laws = { is_same-IsPartialEquivalence };
 
     fn eq(&self, other: &MixedEnumSet<T>) -> bool {
-        are_same(self.repr, other.repr)
+        are_same(&self.repr, &other.repr)
     }
 }
 
@@ -196,7 +195,7 @@ impl<T: EnumSetTypeWithRepr> MixedEnumSet<T> {
     pub fn is_empty(&self) -> bool
         ensures { result ≡ set.is_empty self.now }
     {
-        has_no_member(self.repr)
+        has_no_member(&self.repr)
     }
 
     /// Whether some member is no valid bit.
@@ -205,14 +204,15 @@ impl<T: EnumSetTypeWithRepr> MixedEnumSet<T> {
             ≡ not (set.is_empty (unknown (T.Repr.members T.ALL_BITS) self.now)) }
         ensures known { result ≡ not (set.is_subset self.now (T.Repr.members T.ALL_BITS)) }
     {
-        !is_subset_of(self.repr, T::ALL_BITS)
+        !self.repr.is_subset_of(&T::ALL_BITS)
     }
 
     /// Takes out all members, known and unknown.
     pub fn clear(&mut self)
         ensures { self.new ≡ set.empty }
     {
-        *self = Self::new();
+        self.repr = T::Repr::EMPTY;
+        self.repr.known();
     }
 
     /// Whether the element is a member.
@@ -246,9 +246,8 @@ impl<T: EnumSetTypeWithRepr> MixedEnumSet<T> {
         ensures was_absent { result ≡ not (set.contains self.old value) }
     {
         let is_absent = !self.has_bit(value);
-        let mut repr = self.repr;
-        repr.add_bit(value);
-        *self = Self::of_repr(repr);
+        self.repr.add_bit(value);
+        self.repr.known();
         is_absent
     }
 
@@ -270,9 +269,8 @@ impl<T: EnumSetTypeWithRepr> MixedEnumSet<T> {
     {
         let is_present = self.has_bit(value);
         if is_present {
-            let mut repr = self.repr;
-            repr.remove_bit(value);
-            *self = Self::of_repr(repr);
+            self.repr.remove_bit(value);
+            self.repr.known();
         }
         is_present
     }
@@ -281,21 +279,21 @@ impl<T: EnumSetTypeWithRepr> MixedEnumSet<T> {
     pub fn is_disjoint(&self, other: MixedEnumSet<T>) -> bool
         ensures { result ≡ set.is_disjoint self.now other }
     {
-        are_disjoint(self.repr, other.repr)
+        self.repr.is_disjoint_from(&other.repr)
     }
 
     /// Whether each member of the other is one of this.
     pub fn is_superset(&self, other: MixedEnumSet<T>) -> bool
         ensures { result ≡ set.is_subset other self.now }
     {
-        is_subset_of(other.repr, self.repr)
+        other.repr.is_subset_of(&self.repr)
     }
 
     /// Whether each member of this is one of the other.
     pub fn is_subset(&self, other: MixedEnumSet<T>) -> bool
         ensures { result ≡ set.is_subset self.now other }
     {
-        is_subset_of(self.repr, other.repr)
+        self.repr.is_subset_of(&other.repr)
     }
 
     /// The members of either.
@@ -357,14 +355,16 @@ impl<T: EnumSetTypeWithRepr> MixedEnumSet<T> {
     pub fn insert_all(&mut self, other: MixedEnumSet<T>)
         ensures { self.new ≡ set.union self.old other }
     {
-        *self = self.union(other);
+        self.repr.or_with(&other.repr);
+        self.repr.known();
     }
 
     /// Takes each member of the other out of this.
     pub fn remove_all(&mut self, other: MixedEnumSet<T>)
         ensures { self.new ≡ set.difference self.old other }
     {
-        *self = self.difference(other);
+        self.repr.and_not_with(&other.repr);
+        self.repr.known();
     }
 
     /// The members, along their bits, each once, rising, from both ends: the element of a valid bit, the number of

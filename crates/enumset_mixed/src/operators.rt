@@ -4,6 +4,7 @@ ghost use Rattle.std.specs.Prelude.{◌≡◌};
 ghost use Rattle.enumset_repr.specs.BitSet as set;
 
 use crate::mixed_enum_set::MixedEnumSet;
+use enumset_repr::repr::EnumSetTypeRepr;
 use enumset_sets::with_repr::EnumSetTypeWithRepr;
 use std::ops::{
     BitAnd, BitAndAssign, BitOr, BitOrAssign, BitXor, BitXorAssign, Not, Sub, SubAssign,
@@ -69,7 +70,8 @@ impl<T: EnumSetTypeWithRepr> BitAndAssign for MixedEnumSet<T> {
     ghost bitand_assign_gives = { λ a b r. r ≡ set.intersection a b };
 
     fn bitand_assign(&mut self, rhs: MixedEnumSet<T>) {
-        *self = self.intersection(rhs);
+        self.repr.and_with(&rhs.repr);
+        self.repr.known();
     }
 }
 
@@ -87,7 +89,8 @@ impl<T: EnumSetTypeWithRepr> BitXorAssign for MixedEnumSet<T> {
     ghost bitxor_assign_gives = { λ a b r. r ≡ set.symmetric_difference a b };
 
     fn bitxor_assign(&mut self, rhs: MixedEnumSet<T>) {
-        *self = self.symmetric_difference(rhs);
+        self.repr.xor_with(&rhs.repr);
+        self.repr.known();
     }
 }
 

@@ -31,6 +31,6 @@ impl<T: EnumSetTypeWithRepr> Ord for MixedEnumSet<T> {
     ghost matches_eq = { same-compare };
 
     fn cmp(&self, other: &MixedEnumSet<T>) -> Ordering {
-        order_of(self.repr, other.repr)
+        order_of(&self.repr, &other.repr)
     }
 }

@@ -89,6 +89,69 @@ pub trait EnumSetTypeRepr: Copy
     fn and_not(&self, other: Self) -> Self
         ensures { members result ≡ set.difference (members self.now) (members other) };
 
+    /// Makes each member of the other one of this, in place.
+    ///
+    /// Rust's `enumset` has no such call. The body here is for small stores: it copies both.
+    fn or_with(&mut self, other: &Self)
+        ensures { members self.new ≡ set.union (members self.old) (members other.now) }
+    {
+        self.known();
+        other.known();
+        *self = *self | *other;
+    }
+
+    /// Takes each number that is no member of the other out of this, in place.
+    ///
+    /// Rust's `enumset` has no such call. The body here is for small stores: it copies both.
+    fn and_with(&mut self, other: &Self)
+        ensures { members self.new ≡ set.intersection (members self.old) (members other.now) }
+    {
+        self.known();
+        other.known();
+        *self = *self & *other;
+    }
+
+    /// Turns each member of the other in this, in place: it becomes one where it is none, and none where it is one.
+    ///
+    /// Rust's `enumset` has no such call. The body here is for small stores: it copies both.
+    fn xor_with(&mut self, other: &Self)
+        ensures { members self.new
+            ≡ set.symmetric_difference (members self.old) (members other.now) }
+    {
+        self.known();
+        other.known();
+        *self = *self ^ *other;
+    }
+
+    /// Takes each member of the other out of this, in place.
+    ///
+    /// Rust's `enumset` has no such call. The body here is for small stores: it copies both.
+    fn and_not_with(&mut self, other: &Self)
+        ensures { members self.new ≡ set.difference (members self.old) (members other.now) }
+    {
+        *self = self.and_not(*other);
+    }
+
+    /// Whether each member is one of the other.
+    ///
+    /// Rust's `enumset` has no such call. The body here is for small stores: it builds a value.
+    fn is_subset_of(&self, other: &Self) -> bool
+        ensures { result ≡ set.is_subset (members self.now) (members other.now) }
+    {
+        self.and_not(*other).is_empty()
+    }
+
+    /// Whether no number is a member of both.
+    ///
+    /// Rust's `enumset` has no such call. The body here is for small stores: it builds a value.
+    fn is_disjoint_from(&self, other: &Self) -> bool
+        ensures { result ≡ set.is_disjoint (members self.now) (members other.now) }
+    {
+        self.known();
+        other.known();
+        (*self & *other).is_empty()
+    }
+
     /// The iterator over the members.
     fn iter(self) -> Self::Iter
         ensures { rest result ≡ set.rising (members self) };

@@ -7,8 +7,7 @@ ghost use Rattle.enumset_sets.specs.Elements.{one_past_greatest};
 use crate::element::EnumSetType;
 use crate::enum_set_iter::EnumSetIter;
 use crate::store::{
-    are_disjoint, are_same, has_no_member, intersection_of, is_subset_of, symmetric_difference_of,
-    union_of,
+    are_same, has_no_member, intersection_of, symmetric_difference_of, union_of,
 };
 use enumset_repr::repr::EnumSetTypeRepr;
 use std::alloc::AllocError;
@@ -68,7 +67,7 @@ impl<T: EnumSetType> PartialEq for EnumSet<T> {
     ghost laws = { is_same-IsPartialEquivalence };
 
     fn eq(&self, other: &EnumSet<T>) -> bool {
-        are_same(self.repr, other.repr)
+        are_same(&self.repr, &other.repr)
     }
 }
 
@@ -215,14 +214,15 @@ impl<T: EnumSetType> EnumSet<T> {
     pub fn is_empty(&self) -> bool
         ensures { result ≡ set.is_empty self.now }
     {
-        has_no_member(self.repr)
+        has_no_member(&self.repr)
     }
 
     /// Takes out all members.
     pub fn clear(&mut self)
         ensures { self.new ≡ set.empty }
     {
-        *self = Self::new();
+        self.repr = T::Repr::EMPTY;
+        self.repr.known();
     }
 
     /// Whether the element is a member.
@@ -238,9 +238,8 @@ impl<T: EnumSetType> EnumSet<T> {
         ensures was_absent { result ≡ not (set.contains self.old (T.elements.bit value)) }
     {
         let is_absent = !self.contains(value);
-        let mut repr = self.repr;
-        repr.add_bit(bit_of_value(value));
-        *self = Self::of_repr(repr);
+        self.repr.add_bit(bit_of_value(value));
+        self.repr.known();
         is_absent
     }
 
@@ -250,9 +249,8 @@ impl<T: EnumSetType> EnumSet<T> {
         ensures was_present { result ≡ set.contains self.old (T.elements.bit value) }
     {
         let is_present = self.contains(value);
-        let mut repr = self.repr;
-        repr.remove_bit(bit_of_value(value));
-        *self = Self::of_repr(repr);
+        self.repr.remove_bit(bit_of_value(value));
+        self.repr.known();
         is_present
     }
 
@@ -260,21 +258,21 @@ impl<T: EnumSetType> EnumSet<T> {
     pub fn is_disjoint(&self, other: EnumSet<T>) -> bool
         ensures { result ≡ set.is_disjoint self.now other }
     {
-        are_disjoint(self.repr, other.repr)
+        self.repr.is_disjoint_from(&other.repr)
     }
 
     /// Whether each member of the other is one of this.
     pub fn is_superset(&self, other: EnumSet<T>) -> bool
         ensures { result ≡ set.is_subset other self.now }
     {
-        is_subset_of(other.repr, self.repr)
+        other.repr.is_subset_of(&self.repr)
     }
 
     /// Whether each member of this is one of the other.
     pub fn is_subset(&self, other: EnumSet<T>) -> bool
         ensures { result ≡ set.is_subset self.now other }
     {
-        is_subset_of(self.repr, other.repr)
+        self.repr.is_subset_of(&other.repr)
     }
 
     /// The members of either.
@@ -326,14 +324,16 @@ impl<T: EnumSetType> EnumSet<T> {
     pub fn insert_all(&mut self, other: EnumSet<T>)
         ensures { self.new ≡ set.union self.old other }
     {
-        *self = self.union(other);
+        self.repr.or_with(&other.repr);
+        self.repr.known();
     }
 
     /// Takes each member of the other out of this.
     pub fn remove_all(&mut self, other: EnumSet<T>)
         ensures { self.new ≡ set.difference self.old other }
     {
-        *self = self.difference(other);
+        self.repr.and_not_with(&other.repr);
+        self.repr.known();
     }
 
     /// The elements, along their bits, each once, rising, from both ends. The iterator keeps the set as
@@ -349,6 +349,6 @@ impl<T: EnumSetType> EnumSet<T> {
     pub fn eq_element(&self, value: T) -> bool
         ensures { result ≡ set.is_same self.now (set.only (T.elements.bit value)) }
     {
-        are_same(self.repr, Self::only(value).repr)
+        are_same(&self.repr, &Self::only(value).repr)
     }
 }

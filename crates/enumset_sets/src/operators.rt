@@ -5,6 +5,7 @@ ghost use Rattle.enumset_repr.specs.BitSet as set;
 
 use crate::element::EnumSetType;
 use crate::enum_set::EnumSet;
+use enumset_repr::repr::EnumSetTypeRepr;
 use std::ops::{
     BitAnd, BitAndAssign, BitOr, BitOrAssign, BitXor, BitXorAssign, Not, Sub, SubAssign,
 };
@@ -65,11 +66,13 @@ impl<T: EnumSetType> Sub for EnumSet<T> {
 }
 
 /// `a &= b`: a becomes `a & b`.
+#[tactic(auto, using(enumset_repr::specs::Laws::Members::subsets))]
 impl<T: EnumSetType> BitAndAssign for EnumSet<T> {
     ghost bitand_assign_gives = { λ a b r. r ≡ set.intersection a b };
 
     fn bitand_assign(&mut self, rhs: EnumSet<T>) {
-        *self = self.intersection(rhs);
+        self.repr.and_with(&rhs.repr);
+        self.repr.known();
     }
 }
 
@@ -83,11 +86,13 @@ impl<T: EnumSetType> BitOrAssign for EnumSet<T> {
 }
 
 /// `a ^= b`: a becomes `a ^ b`.
+#[tactic(auto, using(enumset_repr::specs::Laws::Members::subsets))]
 impl<T: EnumSetType> BitXorAssign for EnumSet<T> {
     ghost bitxor_assign_gives = { λ a b r. r ≡ set.symmetric_difference a b };
 
     fn bitxor_assign(&mut self, rhs: EnumSet<T>) {
-        *self = self.symmetric_difference(rhs);
+        self.repr.xor_with(&rhs.repr);
+        self.repr.known();
     }
 }
 

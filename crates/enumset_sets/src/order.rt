@@ -31,6 +31,6 @@ impl<T: EnumSetType> Ord for EnumSet<T> {
     ghost matches_eq = { same-compare };
 
     fn cmp(&self, other: &EnumSet<T>) -> Ordering {
-        order_of(self.repr, other.repr)
+        order_of(&self.repr, &other.repr)
     }
 }

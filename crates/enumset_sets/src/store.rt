@@ -44,40 +44,26 @@ pub fn rest_of<R: EnumSetTypeRepr>(a: R) -> R
 }
 
 /// Whether they have the same members.
-pub fn are_same<R: EnumSetTypeRepr>(a: R, b: R) -> bool
-    ensures { result ≡ set.is_same (R.members a) (R.members b) }
+pub fn are_same<R: EnumSetTypeRepr>(a: &R, b: &R) -> bool
+    ensures { result ≡ set.is_same (R.members a.now) (R.members b.now) }
 {
     a.known();
     b.known();
-    a == b
+    *a == *b
 }
 
 /// How their sets compare: the one that holds the greatest number that is in just one of them is the greater.
-pub fn order_of<R: EnumSetTypeRepr>(a: R, b: R) -> Ordering
-    ensures { result ≡ compare (R.members a) (R.members b) }
+pub fn order_of<R: EnumSetTypeRepr>(a: &R, b: &R) -> Ordering
+    ensures { result ≡ compare (R.members a.now) (R.members b.now) }
 {
     a.known();
     b.known();
-    a.cmp(&b)
+    a.cmp(b)
 }
 
 /// Whether there is no member.
-pub fn has_no_member<R: EnumSetTypeRepr>(a: R) -> bool
-    ensures { result ≡ set.is_empty (R.members a) }
+pub fn has_no_member<R: EnumSetTypeRepr>(a: &R) -> bool
+    ensures { result ≡ set.is_empty (R.members a.now) }
 {
     a.is_empty()
-}
-
-/// Whether each member of the first is one of the second.
-pub fn is_subset_of<R: EnumSetTypeRepr>(a: R, b: R) -> bool
-    ensures { result ≡ set.is_subset (R.members a) (R.members b) }
-{
-    a.and_not(b).is_empty()
-}
-
-/// Whether no number is a member of both.
-pub fn are_disjoint<R: EnumSetTypeRepr>(a: R, b: R) -> bool
-    ensures { result ≡ set.is_disjoint (R.members a) (R.members b) }
-{
-    intersection_of(a, b).is_empty()
 }

@@ -92,5 +92,5 @@ fn are_valid<T: EnumSetType>(repr: &T::Repr, items: &[Value]) -> bool
 {
     let all = T::ALL_BITS;
     all.known();
-    has_all_words(repr, items) && store::is_subset_of(*repr, all)
+    has_all_words(repr, items) && repr.is_subset_of(&all)
 }

@@ -5,8 +5,9 @@
 --     word_is, inverse      the words of the store's set are its words
 --     within      each member is below 64 for each word in use
 --     store_of_none, set_of_none      the store of no bits
---     empty_iff      the set is empty exactly if all words are
+--     empty_iff, none_iff      the set is empty exactly if each word is 0, and exactly if a test of all says so
 --     equal      stores are equal exactly if their sets are
+--     same_words-IsEquivalence, same_words-IsPartialEquivalence      lists with the same words are equivalent
 --     width_words      as many words as the width takes
 use Rattle.std.proofs.Common.{◌≡◌, ◌<◌, ◌≤◌, ◌⊎◌, inl, inr, ℕ, ◌+◌, ◌-◌, ◌*◌, ◌/◌, ◌^◌, true, List, take, drop, sym, ap, ◌∙◌, subst, arith, ◌↔◌, true≢false, lit<}
 use Rattle.std.specs.Prelude.{◌==◌, IsTrue, nat_eq, nat_lt, slice_index, replicate}
@@ -14,6 +15,7 @@ use Rattle.std.specs.List.{list_all}
 use Rattle.std.specs.Cmp.Lexicographic.{pointwise, same_text}
 use Rattle.std.proofs.lemmas.Bool.{cases_lt, lt-ltb}
 use Rattle.std.proofs.lemmas.Cmp.{nat_list_eq_equiv}
+use Rattle.std.specs.Cmp.{IsEquivalence, IsPartialEquivalence}
 use Rattle.std.proofs.lemmas.List.{get_or-take, get_or-drop, get_or_past, length-take, length-replicate, drop-replicate}
 use Rattle.enumset_repr.specs.BitSet.{BitSet, contains, empty, below, is_subset}
 use Rattle.enumset_repr.specs.Number.{bits}
@@ -79,6 +81,12 @@ empty_iff n ws store = (
   λ none w. sym (word_is n ws w store) ∙ ap (λ s. word s w) none ∙ word-empty w,
 )
 
+pub none_iff : (n : ℕ) (ws : List ℕ) → IsStore n ws → IsTrue (list_all (λ w. w == 0) ws) ↔ (set_of n ws ≡ empty)
+none_iff n ws store = (
+  λ none. (empty_iff n ws store).0 (λ w. each_zero ws w none),
+  λ none. all_zero ws ((empty_iff n ws store).1 none),
+)
+
 pub set_of_none : (n : ℕ) → set_of n (replicate n 0) ≡ empty
 set_of_none n = (empty_iff n _ (store_of_none n)).0 (none_at n)
 
@@ -89,6 +97,15 @@ equal n a b p q = (
   λ same. ap (set_of n) (same_text a b (sym same)),
   λ same. let e : a ≡ b = sym (inverse n a p) ∙ ap (λ s. words s n) same ∙ inverse n b q in subst (λ c. pointwise nat_eq a c ≡ true) e (nat_list_eq_equiv.refl a),
 )
+
+pub same_words-IsEquivalence : IsEquivalence (pointwise nat_eq)
+same_words-IsEquivalence = nat_list_eq_equiv
+
+pub same_words-IsPartialEquivalence : IsPartialEquivalence (pointwise nat_eq)
+same_words-IsPartialEquivalence = record {
+  symm = nat_list_eq_equiv.symm;
+  trans = λ a b c ab bc. nat_list_eq_equiv.congr a b c ab ∙ bc;
+}
 
 pub width_words : (n : ℕ) → in_use n ≡ (64 * in_use n + 63) / 64
 width_words n = omega arith

@@ -1,14 +1,15 @@
 use Rattle.std.proofs.Common.{◌≡◌, ◌*◌, length, take}
 use Rattle.std.specs.Prelude.{◌==◌}
+use Rattle.std.specs.Simd.Lanes.{zip2}
 use Rattle.enumset_array.proofs.WordLanes.{none_in}
 use Rattle.enumset_array.proofs.lanes.any_of.Given as goal
 
 -- what was gone through is 0 exactly if what was gathered is
 abbrev pub invariant-loop-k : goal.invariant-loop-k
-invariant-loop-k l = record {
+invariant-loop-k g l = record {
   four : length l.lanes ≡ 4;
-  none : none_in l.lanes ≡ none_in (take (4 * l.k) l.words);
+  none : none_in l.lanes ≡ none_in (take (4 * l.k) (zip2 g.O.WordOperation.of_two l.words l.others));
 }
 
 abbrev pub invariant-loop-i : goal.invariant-loop-i
-invariant-loop-i l = (l.any == 0) ≡ none_in (take l.i l.words)
+invariant-loop-i g l = (l.any == 0) ≡ none_in (take l.i (zip2 g.O.WordOperation.of_two l.words l.others))

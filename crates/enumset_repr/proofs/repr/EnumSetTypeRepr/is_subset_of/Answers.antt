@@ -1,6 +1,6 @@
 use Rattle.std.proofs.lemmas.Bool.Decides.{same_from_decides}
 use Rattle.enumset_repr.specs.Laws.Members.{is_subset_iff}
-use Rattle.enumset_sets.proofs.store.is_subset_of.Goals as goal
+use Rattle.enumset_repr.proofs.repr.EnumSetTypeRepr.is_subset_of.Goals as goal
 
 pub returns : goal.returns
 returns g c = same_from_decides _ _ (rw (← c.and_not.ensures) c.is_empty.ensures) (is_subset_iff _ _)
