@@ -1,6 +1,6 @@
 //! Runs of the program: commands and the replies to them.
 
-use super::surroundings::{Source, outcome};
+use super::surroundings::outputs_as_wanted;
 use super::text_forms::TEXT_FORMS;
 use super::vectors::{
     four, letters, marks, mixed_four, mixed_letters, mixed_marks, mixed_pair_number, mixed_sparse,
@@ -725,23 +725,11 @@ const TABLES: [&str; 14] = [
     mixed_pair_number::RUNS,
 ];
 
-// A run has the names of types, the inputs, and what the program makes of each of them over each type.
 #[test]
 fn each_run_has_its_output(rt: HostRuntime) -> Result<(), Fail> {
     let mut inputs = 0usize;
     for runs in TABLES {
-        for run in runs.split("--\n").skip(1) {
-            let (asked, expected) = run.split_once("==\n").unwrap_or((run, ""));
-            let (names, texts) = asked.split_once("\n").unwrap_or((asked, ""));
-            for name in names.split(' ') {
-                let arguments = format!(in rt.alloc(); "program,{name}")?;
-                for text in texts.split('|') {
-                    let output = outcome(rt.alloc(), &arguments, Source::new(text), usize::MAX)?;
-                    assert!(rt; output.as_slice() == expected.as_bytes(), "{name}: {text}");
-                    inputs = inputs.saturating_add(1);
-                }
-            }
-        }
+        inputs = inputs.saturating_add(outputs_as_wanted(&rt, rt.alloc(), runs)?);
     }
     assert!(rt; inputs == 234);
     Ok(())

@@ -6,6 +6,8 @@ use std::cell::{Cell, RefCell};
 use std::env::{Env, FillError};
 use std::fmt::Display;
 use std::io::{self, BufRead, ErrorKind, Input, Lines, Print, Read};
+use std::process::Abort;
+use std::test::Fail;
 
 /// Bytes of which a read gives at most so many. Every other read is interrupted. Reading past the bytes fails,
 /// or else finds the end.
@@ -154,4 +156,27 @@ pub(super) fn outcome(
         outcome.extend_from_slice(said.as_bytes())?;
     }
     Ok(outcome)
+}
+
+/// Runs each run of a table, and gives how many inputs it has. A run has the names of types, the inputs with bars
+/// between them, and what the program makes of each of them over each type.
+pub(super) fn outputs_as_wanted(
+    rt: &impl Abort,
+    alloc: Global,
+    runs: &str,
+) -> Result<usize, Fail> {
+    let mut inputs = 0usize;
+    for run in runs.split("--\n").skip(1) {
+        let (asked, expected) = run.split_once("==\n").unwrap_or((run, ""));
+        let (names, texts) = asked.split_once("\n").unwrap_or((asked, ""));
+        for name in names.split(' ') {
+            let arguments = format!(in alloc; "program,{name}")?;
+            for text in texts.split('|') {
+                let output = outcome(alloc, &arguments, Source::new(text), usize::MAX)?;
+                assert!(rt; output.as_slice() == expected.as_bytes(), "{name}: {text}");
+                inputs = inputs.saturating_add(1);
+            }
+        }
+    }
+    Ok(inputs)
 }

@@ -1,0 +1,203 @@
+//! What lines may be at each limit of the text forms.
+
+use super::surroundings::outputs_as_wanted;
+use crate::kinds::serve_worked;
+use crate::worked::Worked;
+use enumset_commands::text_fault::TextFault;
+use std::alloc::{AllocError, Global};
+use std::test::Fail;
+
+const FIELDS: &str = "\
+--
+letters
+insert 255 0|insert 000255 0|iter 2 0|iter 255 0|left 255|left 0002|next 2|next_back 255|iter 0 4\
+|only 4 4294967295|words 255 255|words_cut 4 0|from_words 255|from_number 255 4294967295 0\
+|number 4 4294967295|compare 3 255|union 0 0 4|union 255 0 0==
+K1 no register
+--
+letters
+insert 0 4294967295|insert 0 0000000000000000000000004294967295|only 3 7|remove 0 7|contains 0 4294967295==
+K2 not a bit
+--
+letters
+number 0 4294967295|number 0 00000000000000000000004294967295|number_cut 0 0|number 0 7|number 0 129\
+|from_number 0 4294967295 340282366920938463463374607431768211455|from_number 0 8 256\
+|from_number 0 64 18446744073709551616|from_number_cut 0 32 4294967296|from_number 0 16 65536==
+K3 not a width
+--
+letters
+from_number 0 128 340282366920938463463374607431768211455|from_number 0 8 255|from_number 0 16 65535\
+|from_number 0 128 000000000000000000000000340282366920938463463374607431768211455\
+|from_number 0 64 18446744073709551615|from_number 0 32 4294967295|from_words 0 18446744073709551615\
+|from_words 0 000000000000000018446744073709551615|from_words 0 127 1|from_words 0 128==
+none
+--
+letters
+from_number_cut 0 128 340282366920938463463374607431768211455|from_number_cut 3 64 18446744073709551615\
+|from_words_cut 0 18446744073709551615 18446744073709551615|from_words 0|from_words_cut 3|from_words 0 127\
+|from_words 0 0000000000000000000000000000127 0 0 0|iter 001 003==
+ok
+--
+letters
+insert 256 0|insert 000256 0|iter 256 0|iter 0 256|left 256|next 256|next_back 000256|compare 256 0\
+|insert 0 4294967296|insert 0 0000000000004294967296|number 0 4294967296|number 0 000000004294967296\
+|from_number 0 4294967296 0|from_number 0 8 340282366920938463463374607431768211456\
+|from_number 0 128 0000000340282366920938463463374607431768211456|from_words 0 18446744073709551616\
+|from_words_cut 0 0 00000018446744073709551616|words 0 256|words_cut 0 000256|words 256 0\
+|insert 0 340282366920938463463374607431768211456|insert 340282366920938463463374607431768211455 0==
+!2 line 1: not a command
+--
+mixed-marks
+has_bit 0 4294967295|remove_bit 0 00000004294967295|has_bit 003 8|remove_bit 0 256==
+false
+--
+mixed-marks
+insert_bit 0 8|insert_bit 0 4294967295|insert_bit 0 0000000000000008==
+K2 not a bit
+--
+mixed-marks
+has_bit 4 0|remove_bit 255 4294967295|insert_bit 4 4294967295|truncate 0 4|valid_len 255|unknown 0004==
+K1 no register
+--
+mixed-marks
+has_bit 0 4294967296|remove_bit 0 4294967296|insert_bit 0 00004294967296|insert_bit 256 0|truncate 256 0\
+|full_complement 0 256|as_enumset 000256 0|valid_len 256==
+!2 line 1: not a command
+";
+
+const LINES: &str = "\
+--
+letters
+len 0|len 0\n|len 0\r\n|   len   0   |len 0 \r\n|\nlen 0|\r\nlen 0|   \nlen 0|  \r\n   len 0\n   \n\r\n|len 0\n  ==
+0
+--
+letters
+|\n|\r\n| |   |   \n|   \r\n|\n\n\r\n \r\n  ==
+--
+letters
+len 0\r|len 0\r\r\n|len 0\r \n|len\r0\n|\rlen 0\n|\r\r\n| \r|\r|len\n0==
+!2 line 1: not a command
+--
+letters
+\n\r\n  \nlen 0\r|len 0\nlen 0\n\nlen|\n\n\n\r|len 0\r\nlen 1\r\nlen 2\r\nlen 3\r\r\nlen 4==
+!2 line 4: not a command
+";
+
+#[test]
+fn fields_at_their_limits(rt: HostRuntime) -> Result<(), Fail> {
+    let inputs = outputs_as_wanted(&rt, rt.alloc(), FIELDS)?;
+    assert!(rt; inputs == 94);
+    Ok(())
+}
+
+#[test]
+fn lines_and_their_ends(rt: HostRuntime) -> Result<(), Fail> {
+    let inputs = outputs_as_wanted(&rt, rt.alloc(), LINES)?;
+    assert!(rt; inputs == 31);
+    Ok(())
+}
+
+/// The length of the longest input that is read.
+const LONGEST: usize = 1_048_576;
+
+// One byte so often, and then a text.
+fn padded(alloc: Global, byte: u8, count: usize, text: &str) -> Result<Vec<u8>, AllocError> {
+    let mut input = vec![in alloc; byte; count]?;
+    input.extend_from_slice(text.as_bytes())?;
+    Ok(input)
+}
+
+// Whether an input over `letters` has this text as its answer.
+fn answers(alloc: Global, input: &[u8], text: &[u8]) -> bool {
+    match serve_worked(alloc, Worked::Letters, input) {
+        Ok(answer) => answer.as_slice() == text,
+        Err(_) => false,
+    }
+}
+
+// Whether an input over `letters` has this fault.
+fn is_refused(alloc: Global, input: &[u8], wanted: TextFault) -> bool {
+    match serve_worked(alloc, Worked::Letters, input) {
+        Ok(_) => false,
+        Err(fault) => fault == wanted,
+    }
+}
+
+#[test]
+fn the_longest_input_is_read_to_its_end(rt: HostRuntime) -> Result<(), Fail> {
+    let alloc = rt.alloc();
+    let lines = padded(alloc, b'\n', LONGEST, "")?;
+    let spaces = padded(alloc, b' ', LONGEST, "")?;
+    let command = padded(alloc, b' ', LONGEST - 5, "len 0")?;
+    let later = padded(alloc, b'\n', LONGEST - 5, "len 4")?;
+    let fault = padded(alloc, b'\n', LONGEST - 4, "len\n")?;
+    let mut zeros = padded(alloc, b'l', 1, "en ")?;
+    for _ in 4..LONGEST {
+        zeros.push(b'0')?;
+    }
+    let agree = [
+        answers(alloc, &lines, b"".as_slice()),
+        answers(alloc, &spaces, b"".as_slice()),
+        answers(alloc, &command, b"0\n".as_slice()),
+        answers(alloc, &later, b"K1 no register\n".as_slice()),
+        answers(alloc, &zeros, b"0\n".as_slice()),
+        is_refused(alloc, &fault, TextFault::BadLine(1_048_573)),
+    ];
+    assert!(rt; agree == [true; 6]);
+    Ok(())
+}
+
+#[test]
+fn one_byte_more_is_too_long(rt: HostRuntime) -> Result<(), Fail> {
+    let alloc = rt.alloc();
+    for (byte, text) in [
+        (b'\n', ""),
+        (b' ', ""),
+        (b'x', ""),
+        (b'\n', "len 0"),
+        (b'\n', "len\n"),
+    ] {
+        let count = (LONGEST + 1).saturating_sub(text.len());
+        let input = padded(alloc, byte, count, text)?;
+        assert!(rt; is_refused(alloc, &input, TextFault::TooLong), "{text}");
+    }
+    Ok(())
+}
+
+#[test]
+fn a_command_gives_at_most_255_words(rt: HostRuntime) -> Result<(), Fail> {
+    let alloc = rt.alloc();
+    let mut words = String::new(alloc);
+    write!(words, "ok\nwords 127")?;
+    for _ in 1..255 {
+        write!(words, " 0")?;
+    }
+    writeln!(words, "")?;
+    let agree = [
+        answers(alloc, b"all 0\nwords 0 255\n".as_slice(), words.as_bytes()),
+        answers(alloc, b"all 0\nwords_cut 0 0255".as_slice(), words.as_bytes()),
+        is_refused(alloc, b"all 0\nwords 0 256\n".as_slice(), TextFault::BadLine(2)),
+        is_refused(alloc, b"words_cut 0 256".as_slice(), TextFault::BadLine(1)),
+    ];
+    assert!(rt; agree == [true; 4]);
+    Ok(())
+}
+
+#[test]
+fn a_command_takes_any_number_of_words(rt: HostRuntime) -> Result<(), Fail> {
+    let alloc = rt.alloc();
+    let mut zeros = String::new(alloc);
+    for _ in 0..1000 {
+        write!(zeros, " 0")?;
+    }
+    let text = format!(in alloc; "from_words 0 5{zeros}\nlen 0\nfrom_words 0 1{zeros} 1\nlen 0\n")?;
+    let cut = format!(in alloc; "from_words_cut 0 3{zeros} 7\nwords 0 1\n")?;
+    let wrong = format!(in alloc; "\nfrom_words 0 5{zeros} x\n")?;
+    let agree = [
+        answers(alloc, text.as_bytes(), b"ok\n2\nnone\n2\n".as_slice()),
+        answers(alloc, cut.as_bytes(), b"ok\nwords 3\n".as_slice()),
+        is_refused(alloc, wrong.as_bytes(), TextFault::BadLine(2)),
+    ];
+    assert!(rt; agree == [true; 3]);
+    Ok(())
+}
