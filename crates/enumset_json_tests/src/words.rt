@@ -153,3 +153,45 @@ fn words_of_each_type(rt: HostRuntime) -> Result<(), Fail> {
     );
     Ok(())
 }
+
+// The answers at an array of a word, zeros up to place 999, and what a text has after them.
+fn far_down(alloc: Global, text: &mut String, rest: &str) -> Result<(), Fail> {
+    let mut json = String::new(alloc);
+    write!(json, "[5")?;
+    for _ in 1..1000 {
+        write!(json, ",0")?;
+    }
+    write!(json, "{rest}]")?;
+    let value = Value::from_str(alloc, &json)?;
+    let dropped = from_words::<Letters>(&value, Unknown::Drop);
+    let refused = from_words::<Letters>(&value, Unknown::Refuse);
+    writeln!(text, "{rest} {dropped:?} {refused:?}")?;
+    Ok(())
+}
+
+#[test]
+fn words_far_past_the_store(rt: HostRuntime) -> Result<(), Fail> {
+    let mut text = String::new(rt.alloc());
+    for rest in [
+        ",0",
+        ",1",
+        ",\"x\",-1",
+        ",1,-1",
+        ",18446744073709551616",
+        ",[0]",
+    ] {
+        far_down(rt.alloc(), &mut text, rest)?;
+    }
+    assert!(rt;
+        text.as_str()
+            == "\
+,0 Ok(EnumSet(A | C)) Ok(EnumSet(A | C))
+,1 Ok(EnumSet(A | C)) Err(UnknownBits)
+,\"x\",-1 Err(NotAWord(1000)) Err(NotAWord(1000))
+,1,-1 Err(NotAWord(1001)) Err(NotAWord(1001))
+,18446744073709551616 Err(NotAWord(1000)) Err(NotAWord(1000))
+,[0] Err(NotAWord(1000)) Err(NotAWord(1000))
+"
+    );
+    Ok(())
+}

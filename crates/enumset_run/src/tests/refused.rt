@@ -135,3 +135,11 @@ fn worked_texts(rt: HostRuntime) -> Result<(), Fail> {
     assert!(rt; text.as_slice() == OUTPUT);
     Ok(ended?)
 }
+
+#[test]
+fn mixed_worked_texts(rt: HostRuntime) -> Result<(), Fail> {
+    let kind = Worked::MixedMarks;
+    let (text, ended) = text_and_refusal(&rt, || serve_worked(rt.alloc(), kind, INPUT));
+    assert!(rt; text.as_slice() == OUTPUT);
+    Ok(ended?)
+}

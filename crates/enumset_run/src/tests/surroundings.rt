@@ -160,11 +160,7 @@ pub(super) fn outcome(
 
 /// Runs each run of a table, and gives how many inputs it has. A run has the names of types, the inputs with bars
 /// between them, and what the program makes of each of them over each type.
-pub(super) fn outputs_as_wanted(
-    rt: &impl Abort,
-    alloc: Global,
-    runs: &str,
-) -> Result<usize, Fail> {
+pub(super) fn outputs_as_wanted(rt: &impl Abort, alloc: Global, runs: &str) -> Result<usize, Fail> {
     let mut inputs = 0usize;
     for run in runs.split("--\n").skip(1) {
         let (asked, expected) = run.split_once("==\n").unwrap_or((run, ""));

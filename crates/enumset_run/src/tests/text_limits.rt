@@ -175,8 +175,16 @@ fn a_command_gives_at_most_255_words(rt: HostRuntime) -> Result<(), Fail> {
     writeln!(words, "")?;
     let agree = [
         answers(alloc, b"all 0\nwords 0 255\n".as_slice(), words.as_bytes()),
-        answers(alloc, b"all 0\nwords_cut 0 0255".as_slice(), words.as_bytes()),
-        is_refused(alloc, b"all 0\nwords 0 256\n".as_slice(), TextFault::BadLine(2)),
+        answers(
+            alloc,
+            b"all 0\nwords_cut 0 0255".as_slice(),
+            words.as_bytes(),
+        ),
+        is_refused(
+            alloc,
+            b"all 0\nwords 0 256\n".as_slice(),
+            TextFault::BadLine(2),
+        ),
         is_refused(alloc, b"words_cut 0 256".as_slice(), TextFault::BadLine(1)),
     ];
     assert!(rt; agree == [true; 4]);
