@@ -7,16 +7,15 @@ use Rattle.enumset_repr.specs.BitSet.{BitSet}
 use Rattle.enumset_commands.specs.declared.reply.Reply.{Reply}
 use Rattle.enumset_commands.specs.declared.text_fault.TextFault.{TextFault}
 use Rattle.enumset_commands.specs.declared.text_fault.TextFault.TheVariants.{TooLong}
-use Rattle.enumset_machine.specs.declared.serve.TheConstants.{INPUT_LIMIT}
 use Rattle.enumset_machine.specs.Runs.{replies}
 use Rattle.enumset_machine.specs.MixedRuns.{mixed_replies}
 use Rattle.enumset_commands.specs.Lines.{command_of, lines}
 use Rattle.enumset_commands.specs.MixedLines.{mixed_command_of}
 use Rattle.enumset_commands.specs.Texts.{text}
 
--- the length is tested first
+-- the length is tested first: an input has at most a mebibyte
 abbrev pub commands_of : {C : Type 0} → (List (List ℕ) → Option C) → List ℕ → Result (List C) TextFault
-commands_of command input = if nat_lt INPUT_LIMIT (length input) then Err TooLong else lines command input
+commands_of command input = if nat_lt 1048576 (length input) then Err TooLong else lines command input
 
 -- the text of the replies to the commands that an input has
 abbrev pub answer_by : {C : Type 0} → (List C → List Reply) → Result (List C) TextFault → Result (List ℕ) TextFault

@@ -9,7 +9,6 @@ use Rattle.std.specs.Prelude.{ℕ, Bool, nat_lt, List, [], ◌∷◌, slice_set,
 use Rattle.std.specs.List.{slice_index_or}
 use Rattle.std.specs.Coded.{Coded, code_by, coded×, coded_list, coded_ℕ}
 use Rattle.enumset_repr.specs.BitSet.{BitSet, coded_set, empty}
-use Rattle.enumset_machine.specs.declared.machine.registers.TheConstants.{SET_REGISTERS, ITERATOR_REGISTERS}
 
 -- the sets of the set registers, and what each iterator register has still to give
 pub record State : Type 0 where
@@ -43,7 +42,7 @@ abbrev pub put_list : State → ℕ → List ℕ → State
 put_list s i new = record s { lists = slice_set s.lists i new }
 
 abbrev pub is_set_register : ℕ → Bool
-is_set_register r = nat_lt r SET_REGISTERS
+is_set_register r = nat_lt r 4
 
 abbrev pub is_iterator_register : ℕ → Bool
-is_iterator_register i = nat_lt i ITERATOR_REGISTERS
+is_iterator_register i = nat_lt i 2
