@@ -17,6 +17,14 @@ pub enum Worked {
     PairWords,
     /// `pair-number`: bits 0 and 64, in a `u128`.
     PairNumber,
+    /// `high`: bits 7, 6 and 5, in a `u8`.
+    High,
+    /// `masks`: bits 0, 4 and 6, in a `u8`.
+    Masks,
+    /// `single`: bit 0, in a `u8`.
+    Single,
+    /// `nothing`: no bit, in a `u8`.
+    Nothing,
     /// `mixed-letters`: mixed sets of `letters`.
     MixedLetters,
     /// `mixed-four`: mixed sets of `four`.
@@ -29,4 +37,12 @@ pub enum Worked {
     MixedPairWords,
     /// `mixed-pair-number`: mixed sets of `pair-number`.
     MixedPairNumber,
+    /// `mixed-high`: mixed sets of `high`.
+    MixedHigh,
+    /// `mixed-masks`: mixed sets of `masks`.
+    MixedMasks,
+    /// `mixed-single`: mixed sets of `single`.
+    MixedSingle,
+    /// `mixed-nothing`: mixed sets of `nothing`.
+    MixedNothing,
 }

@@ -19,3 +19,17 @@ wide_bits = 3 ∷ 64 ∷ 130 ∷ []
 -- of `pair-words` and of `pair-number`
 abbrev pub pair_bits : List ℕ
 pair_bits = 0 ∷ 64 ∷ []
+
+-- A, B and C, counted from the top of 8 bits
+abbrev pub high_bits : List ℕ
+high_bits = 7 ∷ 6 ∷ 5 ∷ []
+
+-- of the masks 1, 16 and 64
+abbrev pub masks_bits : List ℕ
+masks_bits = 0 ∷ 4 ∷ 6 ∷ []
+
+abbrev pub single_bits : List ℕ
+single_bits = 0 ∷ []
+
+abbrev pub nothing_bits : List ℕ
+nothing_bits = []

@@ -2,10 +2,14 @@
 #![tactic(auto)]
 
 pub mod four;
+pub mod high;
 pub mod letters;
 pub mod marks;
+pub mod masks;
+pub mod nothing;
 pub mod operators;
 pub mod pair_number;
 pub mod pair_words;
+pub mod single;
 pub mod sparse;
 pub mod wide;
