@@ -5,8 +5,12 @@ ghost use Rattle.std.specs.Prelude.{◌≤◌};
 use enumset::EnumSetTypeWithRepr;
 use enumset::set_json::{mixed_from_number, mixed_to_number};
 use enumset_worked::four::Four;
+use enumset_worked::high::High;
 use enumset_worked::letters::Letters;
 use enumset_worked::marks::Marks;
+use enumset_worked::masks::Masks;
+use enumset_worked::nothing::Nothing;
+use enumset_worked::single::Single;
 use serde_json::Value;
 use std::alloc::Global;
 use std::fmt;
@@ -56,6 +60,10 @@ fn mixed_numbers(rt: HostRuntime) -> Result<(), Fail> {
     write_read::<Marks>(alloc, &mut text, &of_marks)?;
     write_read::<Letters>(alloc, &mut text, &["127", "192", "256"])?;
     write_read::<Four>(alloc, &mut text, &["15", "24", "256"])?;
+    write_read::<High>(alloc, &mut text, &["129", "256"])?;
+    write_read::<Masks>(alloc, &mut text, &["83", "256"])?;
+    write_read::<Single>(alloc, &mut text, &["3", "256"])?;
+    write_read::<Nothing>(alloc, &mut text, &["0", "128", "256"])?;
     assert!(rt;
         text.as_str()
             == "\
@@ -81,6 +89,15 @@ true NotANumber
 256 OutOfRange
 15 MixedEnumSet(A | B | C | D) 15
 24 MixedEnumSet(D | [4]) 24
+256 OutOfRange
+129 MixedEnumSet([0] | A) 129
+256 OutOfRange
+83 MixedEnumSet(P | [1] | Q | R) 83
+256 OutOfRange
+3 MixedEnumSet(A | [1]) 3
+256 OutOfRange
+0 MixedEnumSet() 0
+128 MixedEnumSet([7]) 128
 256 OutOfRange
 "
     );

@@ -3,10 +3,14 @@
 use enumset::EnumSetType;
 use enumset::set_json::{JsonWidth, Unknown, from_number};
 use enumset_worked::four::Four;
+use enumset_worked::high::High;
 use enumset_worked::letters::Letters;
 use enumset_worked::marks::Marks;
+use enumset_worked::masks::Masks;
+use enumset_worked::nothing::Nothing;
 use enumset_worked::pair_number::PairNumber;
 use enumset_worked::pair_words::PairWords;
+use enumset_worked::single::Single;
 use enumset_worked::sparse::Sparse;
 use enumset_worked::wide::Wide;
 use serde_json::Value;
@@ -139,6 +143,12 @@ fn numbers_of_each_type(rt: HostRuntime) -> Result<(), Fail> {
     let of_pair = ["1", "3"];
     write_read::<PairWords>(alloc, &mut text, JsonWidth::U64, Unknown::Refuse, &of_pair)?;
     write_read::<PairNumber>(alloc, &mut text, JsonWidth::U64, Unknown::Refuse, &of_pair)?;
+    write_read::<High>(alloc, &mut text, JsonWidth::U8, Unknown::Drop, &["160", "31", "256"])?;
+    write_read::<High>(alloc, &mut text, JsonWidth::U16, Unknown::Refuse, &["224", "161"])?;
+    write_read::<Masks>(alloc, &mut text, JsonWidth::U8, Unknown::Refuse, &["81", "2"])?;
+    write_read::<Single>(alloc, &mut text, JsonWidth::U8, Unknown::Refuse, &["1", "3"])?;
+    write_read::<Nothing>(alloc, &mut text, JsonWidth::U8, Unknown::Drop, &["0", "255", "256"])?;
+    write_read::<Nothing>(alloc, &mut text, JsonWidth::U64, Unknown::Refuse, &["0", "1", "-0"])?;
     assert!(rt;
         text.as_str()
             == "\
@@ -177,6 +187,27 @@ U64 Refuse
 U64 Refuse
 1 Ok(EnumSet(A))
 3 Err(UnknownBits)
+U8 Drop
+160 Ok(EnumSet(C | A))
+31 Ok(EnumSet())
+256 Err(OutOfRange)
+U16 Refuse
+224 Ok(EnumSet(C | B | A))
+161 Err(UnknownBits)
+U8 Refuse
+81 Ok(EnumSet(P | Q | R))
+2 Err(UnknownBits)
+U8 Refuse
+1 Ok(EnumSet(A))
+3 Err(UnknownBits)
+U8 Drop
+0 Ok(EnumSet())
+255 Ok(EnumSet())
+256 Err(OutOfRange)
+U64 Refuse
+0 Ok(EnumSet())
+1 Err(UnknownBits)
+-0 Err(NotWhole)
 "
     );
     Ok(())

@@ -3,10 +3,14 @@
 use enumset::EnumSetType;
 use enumset::set_json::{Unknown, from_words};
 use enumset_worked::four::Four;
+use enumset_worked::high::High;
 use enumset_worked::letters::Letters;
 use enumset_worked::marks::Marks;
+use enumset_worked::masks::Masks;
+use enumset_worked::nothing::Nothing;
 use enumset_worked::pair_number::PairNumber;
 use enumset_worked::pair_words::PairWords;
+use enumset_worked::single::Single;
 use enumset_worked::sparse::Sparse;
 use enumset_worked::wide::Wide;
 use serde_json::Value;
@@ -120,6 +124,10 @@ fn words_of_each_type(rt: HostRuntime) -> Result<(), Fail> {
     let of_pair = ["[1,1]", "[0,1,0]", "[1,2]"];
     write_read::<PairWords>(alloc, &mut text, &of_pair)?;
     write_read::<PairNumber>(alloc, &mut text, &of_pair)?;
+    write_read::<High>(alloc, &mut text, &["[160]", "[161]", "[224,1]"])?;
+    write_read::<Masks>(alloc, &mut text, &["[81,0]", "[82]"])?;
+    write_read::<Single>(alloc, &mut text, &["[1]", "[2]"])?;
+    write_read::<Nothing>(alloc, &mut text, &["[]", "[0,0]", "[1]", "[0,1]", "[0,-1]"])?;
     assert!(rt;
         text.as_str()
             == "\
@@ -149,6 +157,18 @@ fn words_of_each_type(rt: HostRuntime) -> Result<(), Fail> {
 [1,1] Ok(EnumSet(A | B)) Ok(EnumSet(A | B))
 [0,1,0] Ok(EnumSet(B)) Ok(EnumSet(B))
 [1,2] Ok(EnumSet(A)) Err(UnknownBits)
+[160] Ok(EnumSet(C | A)) Ok(EnumSet(C | A))
+[161] Ok(EnumSet(C | A)) Err(UnknownBits)
+[224,1] Ok(EnumSet(C | B | A)) Err(UnknownBits)
+[81,0] Ok(EnumSet(P | Q | R)) Ok(EnumSet(P | Q | R))
+[82] Ok(EnumSet(Q | R)) Err(UnknownBits)
+[1] Ok(EnumSet(A)) Ok(EnumSet(A))
+[2] Ok(EnumSet()) Err(UnknownBits)
+[] Ok(EnumSet()) Ok(EnumSet())
+[0,0] Ok(EnumSet()) Ok(EnumSet())
+[1] Ok(EnumSet()) Err(UnknownBits)
+[0,1] Ok(EnumSet()) Err(UnknownBits)
+[0,-1] Err(NotAWord(1)) Err(NotAWord(1))
 "
     );
     Ok(())

@@ -3,10 +3,14 @@
 use enumset::set_json::{JsonWidth, to_number, to_words};
 use enumset::{EnumSet, EnumSetType};
 use enumset_worked::four::Four;
+use enumset_worked::high::High;
 use enumset_worked::letters::Letters;
 use enumset_worked::marks::Marks;
+use enumset_worked::masks::Masks;
+use enumset_worked::nothing::Nothing;
 use enumset_worked::pair_number::PairNumber;
 use enumset_worked::pair_words::PairWords;
+use enumset_worked::single::Single;
 use enumset_worked::sparse::Sparse;
 use enumset_worked::wide::Wide;
 use std::alloc::Global;
@@ -65,6 +69,11 @@ fn sets_of_each_type(rt: HostRuntime) -> Result<(), Fail> {
     write_sets(alloc, &mut text, &wide)?;
     write_sets(alloc, &mut text, &[EnumSet::<PairWords>::all()])?;
     write_sets(alloc, &mut text, &[EnumSet::<PairNumber>::all()])?;
+    let high = [EnumSet::from([High::A, High::C]), EnumSet::all()];
+    write_sets(alloc, &mut text, &high)?;
+    write_sets(alloc, &mut text, &[EnumSet::<Masks>::all()])?;
+    write_sets(alloc, &mut text, &[EnumSet::<Single>::all()])?;
+    write_sets(alloc, &mut text, &[EnumSet::<Nothing>::all()])?;
     assert!(rt;
         text.as_str()
             == "\
@@ -83,6 +92,11 @@ EnumSet(P | Q) TooWide TooWide TooWide TooWide [8,1,0]
 EnumSet(P | Q | R) TooWide TooWide TooWide TooWide [8,1,4]
 EnumSet(A | B) TooWide TooWide TooWide TooWide [1,1]
 EnumSet(A | B) TooWide TooWide TooWide TooWide [1,1]
+EnumSet(C | A) 160 160 160 160 [160]
+EnumSet(C | B | A) 224 224 224 224 [224]
+EnumSet(P | Q | R) 81 81 81 81 [81]
+EnumSet(A) 1 1 1 1 [1]
+EnumSet() 0 0 0 0 [0]
 "
     );
     Ok(())

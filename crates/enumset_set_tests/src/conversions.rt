@@ -5,7 +5,11 @@ use enumset_sets::element::EnumSetType;
 use enumset_sets::enum_set::EnumSet;
 use enumset_sets::with_repr::EnumSetTypeWithRepr;
 use enumset_sets::{laws, raw};
+use enumset_worked::high::High;
 use enumset_worked::letters::Letters;
+use enumset_worked::masks::Masks;
+use enumset_worked::nothing::Nothing;
+use enumset_worked::single::Single;
 use enumset_worked::sparse::Sparse;
 use enumset_worked::wide::Wide;
 use std::alloc::AllocError;
@@ -114,21 +118,19 @@ fn write_usize<T: EnumSetType + fmt::Debug>(
 // A number of each type.
 type Numbers = (u8, u16, u32, u64, u128, usize);
 
-// A line of each type of numbers, about the set of two elements.
+// A line of each type of numbers.
 fn write_numbers<T: EnumSetType + fmt::Debug>(
     text: &mut String,
-    a: T,
-    b: T,
+    set: &EnumSet<T>,
     valid: Numbers,
     other: Numbers,
 ) -> Result<(), AllocError> {
-    let set = two_of(a, b);
-    write_u8(text, &set, valid.0, other.0)?;
-    write_u16(text, &set, valid.1, other.1)?;
-    write_u32(text, &set, valid.2, other.2)?;
-    write_u64(text, &set, valid.3, other.3)?;
-    write_u128(text, &set, valid.4, other.4)?;
-    write_usize(text, &set, valid.5, other.5)
+    write_u8(text, set, valid.0, other.0)?;
+    write_u16(text, set, valid.1, other.1)?;
+    write_u32(text, set, valid.2, other.2)?;
+    write_u64(text, set, valid.3, other.3)?;
+    write_u128(text, set, valid.4, other.4)?;
+    write_usize(text, set, valid.5, other.5)
 }
 
 #[test]
@@ -136,7 +138,7 @@ fn numbers_of_each_type(rt: HostRuntime) -> Result<(), Fail> {
     let mut text = String::new(rt.alloc());
     let valid = (69, 3, 127, 0, 5, 64);
     let other = (200, 256, 4294967295, 1 << 63 | 1, 1 << 127 | 2, 128);
-    write_numbers(&mut text, Letters::A, Letters::G, valid, other)?;
+    write_numbers(&mut text, &two_of(Letters::A, Letters::G), valid, other)?;
     let valid = (
         0,
         1024,
@@ -146,13 +148,60 @@ fn numbers_of_each_type(rt: HostRuntime) -> Result<(), Fail> {
         1 << 30,
     );
     let other = (255, 1025, 4294967295, 1025, 1 << 127 | 1, 1 << 31);
-    write_numbers(&mut text, Sparse::A, Sparse::D, valid, other)?;
+    write_numbers(&mut text, &two_of(Sparse::A, Sparse::D), valid, other)?;
     let valid = (8, 0, 8, 8, 1 << 64 | 8, 8);
     let other = (9, 65535, 7, 16, 1 << 64 | 1, 12);
-    write_numbers(&mut text, Wide::P, Wide::Q, valid, other)?;
+    write_numbers(&mut text, &two_of(Wide::P, Wide::Q), valid, other)?;
     assert!(rt; text.as_str() == NUMBERS);
     Ok(())
 }
+
+// The same of types of one variant and of none, and of those on bits that are not the discriminants.
+#[test]
+fn numbers_of_odd_types(rt: HostRuntime) -> Result<(), Fail> {
+    let mut text = String::new(rt.alloc());
+    let valid = (192, 64, 224, 0, 32, 128);
+    let other = (200, 256, 4294967295, 1 << 63 | 1, 1 << 127 | 128, 16);
+    write_numbers(&mut text, &two_of(High::A, High::C), valid, other)?;
+    let valid = (81, 1, 17, 0, 64, 16);
+    let other = (2, 256, 4294967295, 1 << 63 | 1, 1 << 127 | 64, 32);
+    write_numbers(&mut text, &two_of(Masks::Q, Masks::R), valid, other)?;
+    let valid = (1, 0, 1, 0, 1, 1);
+    let other = (2, 256, 4294967295, 1 << 63 | 1, 1 << 127, 3);
+    write_numbers(&mut text, &EnumSet::only(Single::A), valid, other)?;
+    let valid = (0, 0, 0, 0, 0, 0);
+    let other = (1, 65535, 128, 1, 1 << 127, 255);
+    write_numbers(&mut text, &EnumSet::<Nothing>::new(), valid, other)?;
+    assert!(rt; text.as_str() == ODD_NUMBERS);
+    Ok(())
+}
+
+const ODD_NUMBERS: &str = "\
+Some(160) 160 Some(EnumSet(B | A)) None EnumSet(B | A) true true
+Some(160) 160 Some(EnumSet(B)) None EnumSet() true true
+Some(160) 160 Some(EnumSet(C | B | A)) None EnumSet(C | B | A) true true
+Some(160) 160 Some(EnumSet()) None EnumSet() true true
+Some(160) 160 Some(EnumSet(C)) None EnumSet(A) true true
+Some(160) 160 Some(EnumSet(A)) None EnumSet() true true
+Some(80) 80 Some(EnumSet(P | Q | R)) None EnumSet() true true
+Some(80) 80 Some(EnumSet(P)) None EnumSet() true true
+Some(80) 80 Some(EnumSet(P | Q)) None EnumSet(P | Q | R) true true
+Some(80) 80 Some(EnumSet()) None EnumSet(P) true true
+Some(80) 80 Some(EnumSet(R)) None EnumSet(R) true true
+Some(80) 80 Some(EnumSet(Q)) None EnumSet() true true
+Some(1) 1 Some(EnumSet(A)) None EnumSet() true true
+Some(1) 1 Some(EnumSet()) None EnumSet() true true
+Some(1) 1 Some(EnumSet(A)) None EnumSet(A) true true
+Some(1) 1 Some(EnumSet()) None EnumSet(A) true true
+Some(1) 1 Some(EnumSet(A)) None EnumSet() true true
+Some(1) 1 Some(EnumSet(A)) None EnumSet(A) true true
+Some(0) 0 Some(EnumSet()) None EnumSet() true true
+Some(0) 0 Some(EnumSet()) None EnumSet() true true
+Some(0) 0 Some(EnumSet()) None EnumSet() true true
+Some(0) 0 Some(EnumSet()) None EnumSet() true true
+Some(0) 0 Some(EnumSet()) None EnumSet() true true
+Some(0) 0 Some(EnumSet()) None EnumSet() true true
+";
 
 const NUMBERS: &str = "\
 Some(65) 65 Some(EnumSet(A | C | G)) None EnumSet(D | G) true true
@@ -229,6 +278,14 @@ fn values_of_stores(rt: HostRuntime) {
         repr_is_taken_back(Letters::A, Letters::G) && repr_is_taken_back(Sparse::B, Sparse::D)
     );
     assert!(rt; is_taken_back(Letters::A, Letters::G) && is_taken_back(Wide::P, Wide::R));
+    assert!(rt; repr_is_taken_back(High::A, High::C) && repr_is_taken_back(Masks::P, Masks::Q));
+    assert!(rt; repr_is_taken_back(Single::A, Single::A) && is_taken_back(High::A, High::B));
+    let read = [
+        EnumSet::<Nothing>::try_from_repr(0),
+        EnumSet::<Nothing>::try_from_repr(1),
+        Some(EnumSet::from_repr_truncated(255)),
+    ];
+    assert!(rt; read == [Some(EnumSet::new()), None, Some(EnumSet::all())]);
 }
 
 // Whether a set's words in an array, by the call that asks, are read as the set by those that ask.
@@ -285,6 +342,14 @@ fn arrays_of_rows(rt: HostRuntime) {
     assert!(rt; is_read_from_an_array(Letters::A, Letters::C));
     assert!(rt; is_read_from_an_array(Sparse::A, Sparse::D));
     assert!(rt; is_read_from_an_array(Wide::P, Wide::R));
+    assert!(rt; is_read_from_an_array(High::A, High::C));
+    assert!(rt; is_read_from_an_array(Masks::Q, Masks::R));
+    assert!(rt; is_read_from_an_array(Single::A, Single::A));
+    assert!(rt; arrays_of_all::<High>() == (Some([224, 0]), [224, 0], Some([224, 0, 0, 0])));
+    assert!(rt; arrays_of_all::<Nothing>() == (Some([0, 0]), [0, 0], Some([0, 0, 0, 0])));
+    assert!(rt; reads_all::<Masks>([83, 0, 0, 0]) == (None, true));
+    assert!(rt; reads_all::<Nothing>([0; 4]) == (Some(true), true));
+    assert!(rt; reads_all::<Nothing>([0, 0, 0, 1]) == (None, true));
 }
 
 // Whether a set's words, written to a slice that has room for them by the call that tests and by the call that asks, are
@@ -328,4 +393,8 @@ fn slices_of_rows(rt: HostRuntime) {
     assert!(rt;
         is_read_from_a_slice(Sparse::A, Sparse::D) && is_read_from_a_slice(Wide::P, Wide::R)
     );
+    assert!(rt; is_read_from_a_slice(High::A, High::C) && is_read_from_a_slice(Masks::P, Masks::R));
+    assert!(rt; is_read_from_a_slice(Single::A, Single::A));
+    assert!(rt; EnumSet::<Nothing>::try_from_slice(&[0, 0]) == Some(EnumSet::new()));
+    assert!(rt; EnumSet::<Nothing>::try_from_slice(&[0, 1]) == None);
 }

@@ -2,10 +2,14 @@
 
 use enumset_sets::element::EnumSetType;
 use enumset_sets::enum_set::EnumSet;
+use enumset_worked::high::High;
 use enumset_worked::letters::Letters;
 use enumset_worked::marks::Marks;
+use enumset_worked::masks::Masks;
+use enumset_worked::nothing::Nothing;
 use enumset_worked::pair_number::PairNumber;
 use enumset_worked::pair_words::PairWords;
+use enumset_worked::single::Single;
 use enumset_worked::sparse::Sparse;
 use enumset_worked::wide::Wide;
 use std::alloc::AllocError;
@@ -45,7 +49,7 @@ fn answers<T: EnumSetType>(a: T, b: T) -> bool {
 }
 
 #[test]
-fn each_call_answers(rt: HostRuntime) {
+fn widths_and_counts(rt: HostRuntime) {
     let numbers = [
         EnumSet::<Letters>::bit_width(),
         EnumSet::<Letters>::variant_count(),
@@ -59,8 +63,22 @@ fn each_call_answers(rt: HostRuntime) {
         EnumSet::<PairWords>::variant_count(),
         EnumSet::<PairNumber>::bit_width(),
         EnumSet::<PairNumber>::variant_count(),
+        EnumSet::<High>::bit_width(),
+        EnumSet::<High>::variant_count(),
+        EnumSet::<Masks>::bit_width(),
+        EnumSet::<Masks>::variant_count(),
+        EnumSet::<Single>::bit_width(),
+        EnumSet::<Single>::variant_count(),
+        EnumSet::<Nothing>::bit_width(),
+        EnumSet::<Nothing>::variant_count(),
     ];
-    assert!(rt; numbers == [7, 7, 128, 4, 3, 3, 131, 3, 65, 2, 65, 2]);
+    assert!(rt;
+        numbers == [7, 7, 128, 4, 3, 3, 131, 3, 65, 2, 65, 2, 8, 3, 7, 3, 1, 1, 0, 0]
+    );
+}
+
+#[test]
+fn each_call_answers(rt: HostRuntime) {
     let valid = [
         EnumSet::<Sparse>::is_bit_valid(127),
         EnumSet::<Sparse>::is_bit_valid(128),
@@ -73,6 +91,9 @@ fn each_call_answers(rt: HostRuntime) {
     assert!(rt; answers(Wide::P, Wide::R));
     assert!(rt; answers(PairWords::A, PairWords::B));
     assert!(rt; answers(PairNumber::A, PairNumber::B));
+    assert!(rt; answers(High::C, High::A));
+    assert!(rt; answers(Masks::P, Masks::R));
+    assert!(rt; starts_empty::<Single>() && starts_empty::<Nothing>());
 }
 
 // A line of each element's bit and its texts, along the bits, and the text of their set.
@@ -98,6 +119,10 @@ fn texts_name_the_elements(rt: HostRuntime) -> Result<(), Fail> {
     write_texts::<Wide>(&mut text)?;
     write_texts::<PairWords>(&mut text)?;
     write_texts::<PairNumber>(&mut text)?;
+    write_texts::<High>(&mut text)?;
+    write_texts::<Masks>(&mut text)?;
+    write_texts::<Single>(&mut text)?;
+    write_texts::<Nothing>(&mut text)?;
     let (none, one) = (EnumSet::<Letters>::new(), EnumSet::only(Letters::C));
     writeln!(text, "{none:?} {one:?} {:?}", one.iter())?;
     assert!(rt;
@@ -109,6 +134,10 @@ fn texts_name_the_elements(rt: HostRuntime) -> Result<(), Fail> {
 3 P P, 64 Q Q, 130 R R, EnumSet(P | Q | R)
 0 A A, 64 B B, EnumSet(A | B)
 0 A A, 64 B B, EnumSet(A | B)
+5 C C, 6 B B, 7 A A, EnumSet(C | B | A)
+0 P P, 4 Q Q, 6 R R, EnumSet(P | Q | R)
+0 A A, EnumSet(A)
+EnumSet()
 EnumSet() EnumSet(C) EnumSetIter { iter: PrimitiveIter(4) }
 "
     );

@@ -4,8 +4,10 @@ use enumset_mixed::mixed_enum_set::MixedEnumSet;
 use enumset_repr::EnumSetTypeRepr;
 use enumset_sets::enum_set::EnumSet;
 use enumset_sets::with_repr::EnumSetTypeWithRepr;
+use enumset_worked::high::High;
 use enumset_worked::letters::Letters;
 use enumset_worked::marks::Marks;
+use enumset_worked::nothing::Nothing;
 use enumset_worked::pair_number::PairNumber;
 use enumset_worked::pair_words::PairWords;
 use enumset_worked::wide::Wide;
@@ -33,8 +35,26 @@ fn the_greatest_difference_decides(rt: HostRuntime) {
         wide(&[r]) > wide(&[p, q]),
         EnumSet::only(Letters::C) > EnumSet::only(Letters::C).complement(),
         MixedEnumSet::<Marks>::from_repr(8) > MixedEnumSet::from_repr(7),
+        EnumSet::<Nothing>::all().cmp(&EnumSet::new()).is_eq(),
+        MixedEnumSet::<Nothing>::from_repr(4) > MixedEnumSet::from_repr(3),
     ];
-    assert!(rt; answers == [true, true, true, true, true, true, false, true]);
+    assert!(rt; answers == [true, true, true, true, true, true, false, true, true, true]);
+}
+
+// The first variant of `high` is the least element, and has the greatest bit.
+#[test]
+fn sets_compare_by_bits(rt: HostRuntime) {
+    let first = EnumSet::only(High::A);
+    let rest = EnumSet::only(High::B).union(EnumSet::only(High::C));
+    let answers = [
+        High::A < High::B,
+        first > rest,
+        first.complement() == rest,
+        rest.cmp(&EnumSet::only(High::B)).is_gt(),
+        EnumSet::all() > first,
+        MixedEnumSet::<High>::from_repr(31) < MixedEnumSet::only(High::C),
+    ];
+    assert!(rt; answers == [true; 6]);
 }
 
 #[test]
@@ -136,6 +156,7 @@ fn a_set_feeds_a_hasher_its_store_value(rt: HostRuntime) {
     let (p, r) = (wide(&[Wide::P]), wide(&[Wide::R]));
     let one = MixedEnumSet::<Marks>::from_repr(1);
     let nine = MixedEnumSet::<Marks>::from_repr(9);
+    let high = EnumSet::only(High::A);
     let fed = [
         (bytes_fed(&a), bytes_fed(&1u8)),
         (bytes_fed(&b), bytes_fed(&2u8)),
@@ -143,6 +164,8 @@ fn a_set_feeds_a_hasher_its_store_value(rt: HostRuntime) {
         (bytes_fed(&r), bytes_fed(&enumset_sets::raw::get(r))),
         (bytes_fed(&one), bytes_fed(&1u8)),
         (bytes_fed(&nine), bytes_fed(&9u8)),
+        (bytes_fed(&high), bytes_fed(&128u8)),
+        (bytes_fed(&EnumSet::<Nothing>::all()), bytes_fed(&0u8)),
     ];
     assert!(rt; fed.iter().all(|(set, store)| set == store));
     let apart = fed[0].0 != fed[1].0 && fed[2].0 != fed[3].0 && fed[4].0 != fed[5].0;

@@ -3,10 +3,14 @@
 use enumset_mixed::mixed_enum_set::MixedEnumSet;
 use enumset_mixed::mixed_value::MixedValue;
 use enumset_sets::enum_set::EnumSet;
+use enumset_worked::high::High;
 use enumset_worked::letters::Letters;
 use enumset_worked::marks::Marks;
+use enumset_worked::masks::Masks;
+use enumset_worked::nothing::Nothing;
 use enumset_worked::pair_number::PairNumber;
 use enumset_worked::pair_words::PairWords;
+use enumset_worked::single::Single;
 use enumset_worked::sparse::Sparse;
 use enumset_worked::wide::Wide;
 use std::test::Fail;
@@ -23,6 +27,10 @@ fn sets_are_written_along_their_bits(rt: HostRuntime) -> Result<(), Fail> {
     writeln!(text, "{}", EnumSet::<Wide>::all())?;
     writeln!(text, "{}", EnumSet::<PairWords>::all())?;
     writeln!(text, "{}", EnumSet::<PairNumber>::all())?;
+    writeln!(text, "{}", EnumSet::<High>::all())?;
+    writeln!(text, "{}", EnumSet::<Masks>::all())?;
+    writeln!(text, "{}", EnumSet::<Single>::all())?;
+    writeln!(text, "<{}>", EnumSet::<Nothing>::all())?;
     assert!(rt;
         text.as_str()
             == "\
@@ -33,6 +41,10 @@ A | B | C
 P | Q | R
 A | B
 A | B
+C | B | A
+P | Q | R
+A
+<>
 "
     );
     Ok(())
@@ -49,6 +61,8 @@ fn unknown_bits_are_written_in_brackets(rt: HostRuntime) -> Result<(), Fail> {
     across.insert_bit(126);
     across.remove(Sparse::B);
     writeln!(text, "{across}")?;
+    writeln!(text, "{}", MixedEnumSet::<High>::from_repr(129))?;
+    writeln!(text, "{}", MixedEnumSet::<Nothing>::from_repr(129))?;
     let items = [MixedValue::Valid(Letters::G), MixedValue::Invalid(7)];
     writeln!(
         text,
@@ -61,6 +75,8 @@ fn unknown_bits_are_written_in_brackets(rt: HostRuntime) -> Result<(), Fail> {
 <A | [3]> <> <MixedEnumSet(A | [3])> <MixedEnumSet()>
 A | B | C | [3] | [4] | [5] | [6] | [7]
 A | C | [126] | D
+[0] | A
+[0] | [7]
 G [7] G [7]
 "
     );

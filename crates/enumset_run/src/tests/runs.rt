@@ -706,6 +706,278 @@ true
 greater
 ok
 less
+--
+high
+all 0
+iter 0 0
+next 0
+next_back 0
+left 0
+next 0
+next_back 0
+next 0
+==
+ok
+ok
+bit 5
+bit 7
+1
+bit 6
+none
+none
+--
+high
+insert 0 7
+insert 0 0
+insert 0 5
+number 0 8
+complement 1 0
+number 1 8
+compare 0 1
+from_number 2 8 128
+from_number 3 8 96
+compare 2 3
+from_number 0 8 161
+from_number_cut 0 8 161
+number 0 8
+==
+true
+K2 not a bit
+true
+160
+ok
+64
+greater
+ok
+ok
+greater
+none
+ok
+160
+--
+masks
+all 0
+number 0 8
+words 0 1
+insert 1 4
+insert 1 6
+number 1 8
+contains 1 1
+iter 0 0
+next 0
+next 0
+next 0
+next 0
+from_number 2 8 2
+==
+ok
+81
+words 81
+true
+true
+80
+K2 not a bit
+ok
+bit 0
+bit 4
+bit 6
+none
+none
+--
+single
+all 0
+len 0
+insert 1 0
+insert 1 1
+equal 0 1
+number 0 8
+complement 0 0
+empty 0
+iter 0 1
+next_back 0
+next 0
+==
+ok
+1
+true
+K2 not a bit
+true
+1
+ok
+true
+ok
+bit 0
+none
+--
+nothing
+all 0
+len 0
+insert 0 0
+only 0 0
+contains 0 7
+complement 1 0
+equal 0 1
+compare 0 1
+number 0 8
+words 0 0
+words 0 2
+from_number 0 8 0
+from_number 0 8 1
+from_number_cut 0 128 340282366920938463463374607431768211455
+from_words 0
+from_words 0 0 1
+empty 0
+iter 0 0
+left 0
+next 0
+next_back 0
+==
+ok
+0
+K2 not a bit
+K2 not a bit
+K2 not a bit
+ok
+true
+equal
+0
+words
+words 0 0
+ok
+none
+ok
+ok
+none
+true
+ok
+0
+none
+none
+--
+mixed-nothing
+insert 0 0
+insert_bit 0 7
+len 0
+valid_len 0
+complement 1 0
+len 1
+full_complement 1 0
+number 1 8
+as_enumset 2 0
+==
+K2 not a bit
+true
+1
+0
+ok
+0
+ok
+127
+none
+--
+mixed-nothing
+all 0
+full_complement 0 0
+iter 0 0
+left 0
+next 0
+next_back 0
+truncate 1 0
+empty 1
+as_enumset 2 1
+insert_bit 0 8
+==
+ok
+ok
+ok
+8
+unknown 0
+unknown 7
+ok
+true
+ok
+K2 not a bit
+--
+mixed-high
+from_number 0 8 129
+iter 0 0
+next 0
+next 0
+next 0
+valid_len 0
+complement 1 0
+number 1 8
+full_complement 1 0
+number 1 8
+truncate 2 0
+number 2 8
+all 3
+compare 0 3
+==
+ok
+ok
+unknown 0
+bit 7
+none
+1
+ok
+96
+ok
+126
+ok
+128
+ok
+less
+--
+mixed-masks
+from_number 0 8 18
+iter 0 0
+next_back 0
+next_back 0
+as_enumset 1 0
+remove_bit 0 1
+as_enumset 1 0
+number 1 8
+insert 1 5
+insert_bit 1 5
+unknown 1
+==
+ok
+ok
+bit 4
+unknown 1
+none
+true
+ok
+16
+K2 not a bit
+true
+true
+--
+mixed-single
+insert_bit 0 0
+insert_bit 0 1
+contains 0 0
+contains 0 1
+iter 0 0
+next 0
+next 0
+full_complement 0 0
+number 0 8
+truncate 0 0
+empty 0
+==
+true
+true
+true
+K2 not a bit
+ok
+bit 0
+unknown 1
+ok
+252
+ok
+true
 ";
 
 const TABLES: [&str; 14] = [
@@ -731,6 +1003,6 @@ fn each_run_has_its_output(rt: HostRuntime) -> Result<(), Fail> {
     for runs in TABLES {
         inputs = inputs.saturating_add(outputs_as_wanted(&rt, rt.alloc(), runs)?);
     }
-    assert!(rt; inputs == 234);
+    assert!(rt; inputs == 244);
     Ok(())
 }
