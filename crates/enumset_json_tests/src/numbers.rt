@@ -143,12 +143,48 @@ fn numbers_of_each_type(rt: HostRuntime) -> Result<(), Fail> {
     let of_pair = ["1", "3"];
     write_read::<PairWords>(alloc, &mut text, JsonWidth::U64, Unknown::Refuse, &of_pair)?;
     write_read::<PairNumber>(alloc, &mut text, JsonWidth::U64, Unknown::Refuse, &of_pair)?;
-    write_read::<High>(alloc, &mut text, JsonWidth::U8, Unknown::Drop, &["160", "31", "256"])?;
-    write_read::<High>(alloc, &mut text, JsonWidth::U16, Unknown::Refuse, &["224", "161"])?;
-    write_read::<Masks>(alloc, &mut text, JsonWidth::U8, Unknown::Refuse, &["81", "2"])?;
-    write_read::<Single>(alloc, &mut text, JsonWidth::U8, Unknown::Refuse, &["1", "3"])?;
-    write_read::<Nothing>(alloc, &mut text, JsonWidth::U8, Unknown::Drop, &["0", "255", "256"])?;
-    write_read::<Nothing>(alloc, &mut text, JsonWidth::U64, Unknown::Refuse, &["0", "1", "-0"])?;
+    write_read::<High>(
+        alloc,
+        &mut text,
+        JsonWidth::U8,
+        Unknown::Drop,
+        &["160", "31", "256"],
+    )?;
+    write_read::<High>(
+        alloc,
+        &mut text,
+        JsonWidth::U16,
+        Unknown::Refuse,
+        &["224", "161"],
+    )?;
+    write_read::<Masks>(
+        alloc,
+        &mut text,
+        JsonWidth::U8,
+        Unknown::Refuse,
+        &["81", "2"],
+    )?;
+    write_read::<Single>(
+        alloc,
+        &mut text,
+        JsonWidth::U8,
+        Unknown::Refuse,
+        &["1", "3"],
+    )?;
+    write_read::<Nothing>(
+        alloc,
+        &mut text,
+        JsonWidth::U8,
+        Unknown::Drop,
+        &["0", "255", "256"],
+    )?;
+    write_read::<Nothing>(
+        alloc,
+        &mut text,
+        JsonWidth::U64,
+        Unknown::Refuse,
+        &["0", "1", "-0"],
+    )?;
     assert!(rt;
         text.as_str()
             == "\

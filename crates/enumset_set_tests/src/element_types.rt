@@ -73,7 +73,10 @@ fn widths_and_counts(rt: HostRuntime) {
         EnumSet::<Nothing>::variant_count(),
     ];
     assert!(rt;
-        numbers == [7, 7, 128, 4, 3, 3, 131, 3, 65, 2, 65, 2, 8, 3, 7, 3, 1, 1, 0, 0]
+        numbers
+            == [
+                7, 7, 128, 4, 3, 3, 131, 3, 65, 2, 65, 2, 8, 3, 7, 3, 1, 1, 0, 0
+            ]
     );
 }
 

@@ -62,7 +62,9 @@ fn no_variant_is_enough(rt: HostRuntime) {
     ];
     assert!(rt; sets == [none; 6] && all.is_disjoint(none) && all.is_subset(none));
     let mut mixed = MixedEnumSet::<Nothing>::from_repr(128);
-    assert!(rt; [mixed.iter().next(), mixed.iter().next_back()] == [Some(MixedValue::Invalid(7)); 2]);
+    assert!(rt;
+        [mixed.iter().next(), mixed.iter().next_back()] == [Some(MixedValue::Invalid(7)); 2]
+    );
     assert!(rt; mixed.insert_bit(0) && !mixed.insert_bit(7) && mixed.remove_bit(7));
     assert!(rt; mixed.as_repr() == 1 && mixed.valid_len() == 0 && !mixed.eq_enumset(all));
 }
