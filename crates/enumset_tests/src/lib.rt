@@ -16,11 +16,15 @@ mod orders;
 #[cfg(test)]
 mod refused;
 #[cfg(test)]
+mod small_stores;
+#[cfg(test)]
 mod stores;
 #[cfg(test)]
 mod texts;
 #[cfg(test)]
 mod walks;
+#[cfg(test)]
+mod word_by_word;
 #[cfg(test)]
 mod word_iterators;
 #[cfg(test)]

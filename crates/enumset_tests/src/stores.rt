@@ -123,5 +123,14 @@ fn words_in_use(rt: HostRuntime) {
         ArrayRepr::<{ usize::MAX }>::LEN,
     ];
     assert!(rt; lengths == [0, 1, 3, 67108863, 0, 2, 67108863]);
-    assert!(rt; <ArrayRepr<3> as EnumSetTypeRepr>::WIDTH == 192);
+    let widths = [
+        <ArrayRepr<0> as EnumSetTypeRepr>::WIDTH,
+        <ArrayRepr<1> as EnumSetTypeRepr>::WIDTH,
+        <ArrayRepr<3> as EnumSetTypeRepr>::WIDTH,
+        <ArrayRepr<67108863> as EnumSetTypeRepr>::WIDTH,
+        <ArrayRepr<67108864> as EnumSetTypeRepr>::WIDTH,
+        <ArrayRepr<67108866> as EnumSetTypeRepr>::WIDTH,
+    ];
+    assert!(rt; widths == [0, 64, 192, 4294967232, 0, 128]);
+    assert!(rt; <ArrayRepr<67108863> as EnumSetTypeRepr>::PREFERRED_ARRAY_LEN == 67108863);
 }

@@ -67,6 +67,24 @@ fn each_walk_gives_its_answers(rt: HostRuntime) -> Result<(), Fail> {
 }
 
 #[test]
+fn walks_from_the_back_first(rt: HostRuntime) -> Result<(), Fail> {
+    let mut row = ShownRow::new(ArrayRepr([ENDS]));
+    let ends = [End::Back, End::Front, End::Back, End::Front];
+    let answers = walk(rt.alloc(), &mut row, &ends)?;
+    assert!(rt; answers.as_slice() == [Some(63), Some(0), None, None].as_slice());
+    assert!(rt; row.shown() == 3);
+    Ok(())
+}
+
+#[test]
+fn walks_of_no_end_ask_nothing(rt: HostRuntime) -> Result<(), Fail> {
+    let mut row = ShownRow::new(ArrayRepr([8, 0, 0]));
+    let answers = walk(rt.alloc(), &mut row, &[])?;
+    assert!(rt; answers.is_empty() && row.shown() == 0);
+    Ok(())
+}
+
+#[test]
 fn walks_of_fewer_ends_leave_the_rest(rt: HostRuntime) -> Result<(), Fail> {
     let mut row = ShownRow::new(ArrayRepr([6, 5]));
     let answers = walk(rt.alloc(), &mut row, &[End::Front, End::Back])?;
