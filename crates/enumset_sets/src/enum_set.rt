@@ -237,8 +237,9 @@ impl<T: EnumSetType> EnumSet<T> {
         ensures inserted { self.new ≡ set.insert self.old (T.elements.bit value) }
         ensures was_absent { result ≡ not (set.contains self.old (T.elements.bit value)) }
     {
-        let is_absent = !self.contains(value);
-        self.repr.add_bit(bit_of_value(value));
+        let bit = bit_of_value(value);
+        let is_absent = !self.repr.has_bit(bit);
+        self.repr.add_bit(bit);
         self.repr.known();
         is_absent
     }
@@ -248,8 +249,9 @@ impl<T: EnumSetType> EnumSet<T> {
         ensures removed { self.new ≡ set.remove self.old (T.elements.bit value) }
         ensures was_present { result ≡ set.contains self.old (T.elements.bit value) }
     {
-        let is_present = self.contains(value);
-        self.repr.remove_bit(bit_of_value(value));
+        let bit = bit_of_value(value);
+        let is_present = self.repr.has_bit(bit);
+        self.repr.remove_bit(bit);
         self.repr.known();
         is_present
     }
