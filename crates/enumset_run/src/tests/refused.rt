@@ -1,4 +1,4 @@
-//! Runs where memory may be refused.
+//! Runs where memory may be refused, and faults that are answered all the same.
 //!
 //! Where its call is refused, a test sees that nothing changed and that the same call with memory gives the whole
 //! answer, and ends with the refusal. `scripts/refused-memory` refuses each allocation in turn, and says how each test
@@ -142,4 +142,19 @@ fn mixed_worked_texts(rt: HostRuntime) -> Result<(), Fail> {
     let (text, ended) = text_and_refusal(&rt, || serve_worked(rt.alloc(), kind, INPUT));
     assert!(rt; text.as_slice() == OUTPUT);
     Ok(ended?)
+}
+
+// The input's own fault is answered, and no refusal in its place. The long input takes the first allocation.
+#[test]
+fn faults_of_the_input(rt: HostRuntime) -> Result<(), Fail> {
+    let too_long = vec![in rt.alloc(); b'\n'; 1_048_577]?;
+    let lines = b"from_words 0 5\nwords 0 2\nlen\n".as_slice();
+    for kind in [Worked::Letters, Worked::MixedMarks] {
+        let faults = [
+            serve_worked(rt.alloc(), kind, lines).err(),
+            serve_worked(rt.alloc(), kind, &too_long).err(),
+        ];
+        assert!(rt; faults == [Some(TextFault::BadLine(3)), Some(TextFault::TooLong)]);
+    }
+    Ok(())
 }
