@@ -19,6 +19,8 @@ impl EnumSetType for Nothing {
 
     ghost elements = { with_bits the_type nothing_bits };
 
+    ghost values = { [] };
+
     ghost ALL_BITS = { 0 };
 
     const ALL_BITS: u8 = 0;
