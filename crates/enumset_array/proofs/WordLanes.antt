@@ -13,7 +13,7 @@ use Rattle.std.proofs.lemmas.Bool.Decides.{nat_tests, same_from_decides}
 use Rattle.std.proofs.lemmas.List.{take-append-drop, take_all}
 use Rattle.std.proofs.lemmas.List.Folds.{list_all-append}
 use Rattle.std.proofs.lemmas.Nat.{le_or_l, xor_comm}
-use Rattle.std.proofs.lemmas.Simd.{length-chunk, length-zip2, get_or-zip2}
+use Rattle.std.proofs.lemmas.Simd.{length-chunk}
 use lib.Bits.{xor_assoc, xor_self, xor_zero_r}
 
 -- ---- the first k words combined with others, and those from k on as they were

@@ -6,9 +6,7 @@ ghost use Rattle.enumset_sets.specs.Elements.{one_past_greatest};
 
 use crate::element::EnumSetType;
 use crate::enum_set_iter::EnumSetIter;
-use crate::store::{
-    are_same, has_no_member, intersection_of, symmetric_difference_of, union_of,
-};
+use crate::store::{are_same, has_no_member, intersection_of, symmetric_difference_of, union_of};
 use enumset_repr::repr::EnumSetTypeRepr;
 use std::alloc::AllocError;
 use std::fmt;

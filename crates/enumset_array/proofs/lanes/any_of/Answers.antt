@@ -31,7 +31,7 @@ loop-i-preserved g c =
     let answers : List ℕ = zip2 op c.args.words.now c.args.others.now in
     let long : length answers ≡ length c.args.words.now = length-zip2 op c.args.words.now c.args.others.now c.requires in
     let one : slice_index answers c.loop-i.i ≡ op (slice_index c.args.words.now c.loop-i.i) (slice_index c.args.others.now c.loop-i.i) =
-        get_or-zip2 op c.args.words.now c.args.others.now c.loop-i.i 0 0 0 c.loop-i-test.true (omega (arith, c.loop-i-test.true, c.requires)) in
+    get_or-zip2 op c.args.words.now c.args.others.now c.loop-i.i 0 0 0 c.loop-i-test.true (omega (arith, c.loop-i-test.true, c.requires)) in
     ap (λ w. bit_or c.loop-i.any w == 0) (c.on_words-any.ensures ∙ sym one)
     ∙ one_none answers c.loop-i.any c.loop-i.i (c.loop-i.i + 1) refl (omega (arith, long, c.loop-i-test.true)) c.loop-i.invariant
 
