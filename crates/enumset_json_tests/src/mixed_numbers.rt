@@ -9,7 +9,6 @@ use enumset_worked::high::High;
 use enumset_worked::letters::Letters;
 use enumset_worked::marks::Marks;
 use enumset_worked::masks::Masks;
-use enumset_worked::nothing::Nothing;
 use enumset_worked::single::Single;
 use serde_json::Value;
 use std::alloc::Global;
@@ -63,7 +62,6 @@ fn mixed_numbers(rt: HostRuntime) -> Result<(), Fail> {
     write_read::<High>(alloc, &mut text, &["129", "256"])?;
     write_read::<Masks>(alloc, &mut text, &["83", "256"])?;
     write_read::<Single>(alloc, &mut text, &["3", "256"])?;
-    write_read::<Nothing>(alloc, &mut text, &["0", "128", "256"])?;
     assert!(rt;
         text.as_str()
             == "\
@@ -95,9 +93,6 @@ true NotANumber
 83 MixedEnumSet(P | [1] | Q | R) 83
 256 OutOfRange
 3 MixedEnumSet(A | [1]) 3
-256 OutOfRange
-0 MixedEnumSet() 0
-128 MixedEnumSet([7]) 128
 256 OutOfRange
 "
     );

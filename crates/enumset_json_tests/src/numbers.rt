@@ -7,7 +7,6 @@ use enumset_worked::high::High;
 use enumset_worked::letters::Letters;
 use enumset_worked::marks::Marks;
 use enumset_worked::masks::Masks;
-use enumset_worked::nothing::Nothing;
 use enumset_worked::pair_number::PairNumber;
 use enumset_worked::pair_words::PairWords;
 use enumset_worked::single::Single;
@@ -171,20 +170,6 @@ fn numbers_of_each_type(rt: HostRuntime) -> Result<(), Fail> {
         Unknown::Refuse,
         &["1", "3"],
     )?;
-    write_read::<Nothing>(
-        alloc,
-        &mut text,
-        JsonWidth::U8,
-        Unknown::Drop,
-        &["0", "255", "256"],
-    )?;
-    write_read::<Nothing>(
-        alloc,
-        &mut text,
-        JsonWidth::U64,
-        Unknown::Refuse,
-        &["0", "1", "-0"],
-    )?;
     assert!(rt;
         text.as_str()
             == "\
@@ -236,14 +221,6 @@ U8 Refuse
 U8 Refuse
 1 Ok(EnumSet(A))
 3 Err(UnknownBits)
-U8 Drop
-0 Ok(EnumSet())
-255 Ok(EnumSet())
-256 Err(OutOfRange)
-U64 Refuse
-0 Ok(EnumSet())
-1 Err(UnknownBits)
--0 Err(NotWhole)
 "
     );
     Ok(())

@@ -7,7 +7,6 @@ use enumset_worked::high::High;
 use enumset_worked::letters::Letters;
 use enumset_worked::marks::Marks;
 use enumset_worked::masks::Masks;
-use enumset_worked::nothing::Nothing;
 use enumset_worked::pair_number::PairNumber;
 use enumset_worked::pair_words::PairWords;
 use enumset_worked::single::Single;
@@ -127,7 +126,6 @@ fn words_of_each_type(rt: HostRuntime) -> Result<(), Fail> {
     write_read::<High>(alloc, &mut text, &["[160]", "[161]", "[224,1]"])?;
     write_read::<Masks>(alloc, &mut text, &["[81,0]", "[82]"])?;
     write_read::<Single>(alloc, &mut text, &["[1]", "[2]"])?;
-    write_read::<Nothing>(alloc, &mut text, &["[]", "[0,0]", "[1]", "[0,1]", "[0,-1]"])?;
     assert!(rt;
         text.as_str()
             == "\
@@ -164,11 +162,6 @@ fn words_of_each_type(rt: HostRuntime) -> Result<(), Fail> {
 [82] Ok(EnumSet(Q | R)) Err(UnknownBits)
 [1] Ok(EnumSet(A)) Ok(EnumSet(A))
 [2] Ok(EnumSet()) Err(UnknownBits)
-[] Ok(EnumSet()) Ok(EnumSet())
-[0,0] Ok(EnumSet()) Ok(EnumSet())
-[1] Ok(EnumSet()) Err(UnknownBits)
-[0,1] Ok(EnumSet()) Err(UnknownBits)
-[0,-1] Err(NotAWord(1)) Err(NotAWord(1))
 "
     );
     Ok(())

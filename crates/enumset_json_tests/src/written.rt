@@ -7,7 +7,6 @@ use enumset_worked::high::High;
 use enumset_worked::letters::Letters;
 use enumset_worked::marks::Marks;
 use enumset_worked::masks::Masks;
-use enumset_worked::nothing::Nothing;
 use enumset_worked::pair_number::PairNumber;
 use enumset_worked::pair_words::PairWords;
 use enumset_worked::single::Single;
@@ -73,7 +72,6 @@ fn sets_of_each_type(rt: HostRuntime) -> Result<(), Fail> {
     write_sets(alloc, &mut text, &high)?;
     write_sets(alloc, &mut text, &[EnumSet::<Masks>::all()])?;
     write_sets(alloc, &mut text, &[EnumSet::<Single>::all()])?;
-    write_sets(alloc, &mut text, &[EnumSet::<Nothing>::all()])?;
     assert!(rt;
         text.as_str()
             == "\
@@ -96,7 +94,6 @@ EnumSet(C | A) 160 160 160 160 [160]
 EnumSet(C | B | A) 224 224 224 224 [224]
 EnumSet(P | Q | R) 81 81 81 81 [81]
 EnumSet(A) 1 1 1 1 [1]
-EnumSet() 0 0 0 0 [0]
 "
     );
     Ok(())

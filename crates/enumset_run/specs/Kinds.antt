@@ -7,10 +7,10 @@ use Rattle.std.specs.Map.{lookup}
 use Rattle.std.specs.Str.{bytes_eq}
 use Rattle.enumset_repr.specs.BitSet.{from_list}
 use Rattle.enumset_run.specs.declared.worked.Worked.{Worked}
-use Rattle.enumset_run.specs.declared.worked.Worked.TheVariants.{Letters, Four, Sparse, Marks, Wide, PairWords, PairNumber, High, Masks, Single, Nothing, MixedLetters, MixedFour, MixedSparse, MixedMarks, MixedPairWords, MixedPairNumber, MixedHigh, MixedMasks, MixedSingle, MixedNothing}
+use Rattle.enumset_run.specs.declared.worked.Worked.TheVariants.{Letters, Four, Sparse, Marks, Wide, PairWords, PairNumber, High, Masks, Single, MixedLetters, MixedFour, MixedSparse, MixedMarks, MixedPairWords, MixedPairNumber, MixedHigh, MixedMasks, MixedSingle}
 use Rattle.enumset_commands.specs.declared.text_fault.TextFault.{TextFault}
 use Rattle.enumset_machine.specs.Answers.{answer_to, mixed_answer_to}
-use Rattle.enumset_worked.specs.Bits.{letters_bits, four_bits, sparse_bits, marks_bits, wide_bits, pair_bits, high_bits, masks_bits, single_bits, nothing_bits}
+use Rattle.enumset_worked.specs.Bits.{letters_bits, four_bits, sparse_bits, marks_bits, wide_bits, pair_bits, high_bits, masks_bits, single_bits}
 
 -- the type of a name, byte by byte
 abbrev pub worked_of : List ℕ → Option Worked
@@ -26,7 +26,6 @@ worked_of name =
     ∷ (codes "high", High)
     ∷ (codes "masks", Masks)
     ∷ (codes "single", Single)
-    ∷ (codes "nothing", Nothing)
     ∷ (codes "mixed-letters", MixedLetters)
     ∷ (codes "mixed-four", MixedFour)
     ∷ (codes "mixed-sparse", MixedSparse)
@@ -36,7 +35,6 @@ worked_of name =
     ∷ (codes "mixed-high", MixedHigh)
     ∷ (codes "mixed-masks", MixedMasks)
     ∷ (codes "mixed-single", MixedSingle)
-    ∷ (codes "mixed-nothing", MixedNothing)
     ∷ []
     )
 
@@ -51,10 +49,9 @@ is_over_mixed_sets MixedPairNumber = true
 is_over_mixed_sets MixedHigh = true
 is_over_mixed_sets MixedMasks = true
 is_over_mixed_sets MixedSingle = true
-is_over_mixed_sets MixedNothing = true
 is_over_mixed_sets kind = false
 
--- of the mixed ones the store has 8, 8, 128, 8, 128, 128, 8, 8, 8 and 8 bits
+-- of the mixed ones the store has 8, 8, 128, 8, 128, 128, 8, 8 and 8 bits
 abbrev pub answer_over : Worked → List ℕ → Result (List ℕ) TextFault
 answer_over Letters input = answer_to (from_list letters_bits) input
 answer_over Four input = answer_to (from_list four_bits) input
@@ -66,7 +63,6 @@ answer_over PairNumber input = answer_to (from_list pair_bits) input
 answer_over High input = answer_to (from_list high_bits) input
 answer_over Masks input = answer_to (from_list masks_bits) input
 answer_over Single input = answer_to (from_list single_bits) input
-answer_over Nothing input = answer_to (from_list nothing_bits) input
 answer_over MixedLetters input = mixed_answer_to (from_list letters_bits) 8 input
 answer_over MixedFour input = mixed_answer_to (from_list four_bits) 8 input
 answer_over MixedSparse input = mixed_answer_to (from_list sparse_bits) 128 input
@@ -76,4 +72,3 @@ answer_over MixedPairNumber input = mixed_answer_to (from_list pair_bits) 128 in
 answer_over MixedHigh input = mixed_answer_to (from_list high_bits) 8 input
 answer_over MixedMasks input = mixed_answer_to (from_list masks_bits) 8 input
 answer_over MixedSingle input = mixed_answer_to (from_list single_bits) 8 input
-answer_over MixedNothing input = mixed_answer_to (from_list nothing_bits) 8 input

@@ -12,7 +12,6 @@ use enumset_worked::high::High;
 use enumset_worked::letters::Letters;
 use enumset_worked::marks::Marks;
 use enumset_worked::masks::Masks;
-use enumset_worked::nothing::Nothing;
 use enumset_worked::pair_number::PairNumber;
 use enumset_worked::pair_words::PairWords;
 use enumset_worked::single::Single;
@@ -35,7 +34,6 @@ pub fn worked(name: &str) -> Option<Worked>
         "high" => Some(Worked::High),
         "masks" => Some(Worked::Masks),
         "single" => Some(Worked::Single),
-        "nothing" => Some(Worked::Nothing),
         "mixed-letters" => Some(Worked::MixedLetters),
         "mixed-four" => Some(Worked::MixedFour),
         "mixed-sparse" => Some(Worked::MixedSparse),
@@ -45,7 +43,6 @@ pub fn worked(name: &str) -> Option<Worked>
         "mixed-high" => Some(Worked::MixedHigh),
         "mixed-masks" => Some(Worked::MixedMasks),
         "mixed-single" => Some(Worked::MixedSingle),
-        "mixed-nothing" => Some(Worked::MixedNothing),
         _ => None,
     }
 }
@@ -79,7 +76,6 @@ fn is_mixed(kind: Worked) -> bool
             | Worked::MixedHigh
             | Worked::MixedMasks
             | Worked::MixedSingle
-            | Worked::MixedNothing
     )
 }
 
@@ -100,7 +96,6 @@ fn serve_sets(alloc: Global, kind: Worked, input: &[u8]) -> Result<Vec<u8>, Text
         Worked::High => serve_text::<High>(alloc, input),
         Worked::Masks => serve_text::<Masks>(alloc, input),
         Worked::Single => serve_text::<Single>(alloc, input),
-        Worked::Nothing => serve_text::<Nothing>(alloc, input),
         _ => unreachable!(),
     }
 }
@@ -121,7 +116,6 @@ fn serve_mixed_sets(alloc: Global, kind: Worked, input: &[u8]) -> Result<Vec<u8>
         Worked::MixedHigh => serve_mixed_text::<High>(alloc, input),
         Worked::MixedMasks => serve_mixed_text::<Masks>(alloc, input),
         Worked::MixedSingle => serve_mixed_text::<Single>(alloc, input),
-        Worked::MixedNothing => serve_mixed_text::<Nothing>(alloc, input),
         _ => unreachable!(),
     }
 }

@@ -8,7 +8,6 @@ use enumset_sets::{laws, raw};
 use enumset_worked::high::High;
 use enumset_worked::letters::Letters;
 use enumset_worked::masks::Masks;
-use enumset_worked::nothing::Nothing;
 use enumset_worked::single::Single;
 use enumset_worked::sparse::Sparse;
 use enumset_worked::wide::Wide;
@@ -169,9 +168,6 @@ fn numbers_of_odd_types(rt: HostRuntime) -> Result<(), Fail> {
     let valid = (1, 0, 1, 0, 1, 1);
     let other = (2, 256, 4294967295, 1 << 63 | 1, 1 << 127, 3);
     write_numbers(&mut text, &EnumSet::only(Single::A), valid, other)?;
-    let valid = (0, 0, 0, 0, 0, 0);
-    let other = (1, 65535, 128, 1, 1 << 127, 255);
-    write_numbers(&mut text, &EnumSet::<Nothing>::new(), valid, other)?;
     assert!(rt; text.as_str() == ODD_NUMBERS);
     Ok(())
 }
@@ -195,12 +191,6 @@ Some(1) 1 Some(EnumSet(A)) None EnumSet(A) true true
 Some(1) 1 Some(EnumSet()) None EnumSet(A) true true
 Some(1) 1 Some(EnumSet(A)) None EnumSet() true true
 Some(1) 1 Some(EnumSet(A)) None EnumSet(A) true true
-Some(0) 0 Some(EnumSet()) None EnumSet() true true
-Some(0) 0 Some(EnumSet()) None EnumSet() true true
-Some(0) 0 Some(EnumSet()) None EnumSet() true true
-Some(0) 0 Some(EnumSet()) None EnumSet() true true
-Some(0) 0 Some(EnumSet()) None EnumSet() true true
-Some(0) 0 Some(EnumSet()) None EnumSet() true true
 ";
 
 const NUMBERS: &str = "\
@@ -280,12 +270,6 @@ fn values_of_stores(rt: HostRuntime) {
     assert!(rt; is_taken_back(Letters::A, Letters::G) && is_taken_back(Wide::P, Wide::R));
     assert!(rt; repr_is_taken_back(High::A, High::C) && repr_is_taken_back(Masks::P, Masks::Q));
     assert!(rt; repr_is_taken_back(Single::A, Single::A) && is_taken_back(High::A, High::B));
-    let read = [
-        EnumSet::<Nothing>::try_from_repr(0),
-        EnumSet::<Nothing>::try_from_repr(1),
-        Some(EnumSet::from_repr_truncated(255)),
-    ];
-    assert!(rt; read == [Some(EnumSet::new()), None, Some(EnumSet::all())]);
 }
 
 // Whether a set's words in an array, by the call that asks, are read as the set by those that ask.
@@ -346,10 +330,7 @@ fn arrays_of_rows(rt: HostRuntime) {
     assert!(rt; is_read_from_an_array(Masks::Q, Masks::R));
     assert!(rt; is_read_from_an_array(Single::A, Single::A));
     assert!(rt; arrays_of_all::<High>() == (Some([224, 0]), [224, 0], Some([224, 0, 0, 0])));
-    assert!(rt; arrays_of_all::<Nothing>() == (Some([0, 0]), [0, 0], Some([0, 0, 0, 0])));
     assert!(rt; reads_all::<Masks>([83, 0, 0, 0]) == (None, true));
-    assert!(rt; reads_all::<Nothing>([0; 4]) == (Some(true), true));
-    assert!(rt; reads_all::<Nothing>([0, 0, 0, 1]) == (None, true));
 }
 
 // Whether a set's words, written to a slice that has room for them by the call that tests and by the call that asks, are
@@ -395,6 +376,4 @@ fn slices_of_rows(rt: HostRuntime) {
     );
     assert!(rt; is_read_from_a_slice(High::A, High::C) && is_read_from_a_slice(Masks::P, Masks::R));
     assert!(rt; is_read_from_a_slice(Single::A, Single::A));
-    assert!(rt; EnumSet::<Nothing>::try_from_slice(&[0, 0]) == Some(EnumSet::new()));
-    assert!(rt; EnumSet::<Nothing>::try_from_slice(&[0, 1]) == None);
 }

@@ -6,7 +6,6 @@ use enumset_worked::high::High;
 use enumset_worked::letters::Letters;
 use enumset_worked::marks::Marks;
 use enumset_worked::masks::Masks;
-use enumset_worked::nothing::Nothing;
 use enumset_worked::pair_number::PairNumber;
 use enumset_worked::pair_words::PairWords;
 use enumset_worked::single::Single;
@@ -69,15 +68,8 @@ fn widths_and_counts(rt: HostRuntime) {
         EnumSet::<Masks>::variant_count(),
         EnumSet::<Single>::bit_width(),
         EnumSet::<Single>::variant_count(),
-        EnumSet::<Nothing>::bit_width(),
-        EnumSet::<Nothing>::variant_count(),
     ];
-    assert!(rt;
-        numbers
-            == [
-                7, 7, 128, 4, 3, 3, 131, 3, 65, 2, 65, 2, 8, 3, 7, 3, 1, 1, 0, 0
-            ]
-    );
+    assert!(rt; numbers == [7, 7, 128, 4, 3, 3, 131, 3, 65, 2, 65, 2, 8, 3, 7, 3, 1, 1]);
 }
 
 #[test]
@@ -96,7 +88,7 @@ fn each_call_answers(rt: HostRuntime) {
     assert!(rt; answers(PairNumber::A, PairNumber::B));
     assert!(rt; answers(High::C, High::A));
     assert!(rt; answers(Masks::P, Masks::R));
-    assert!(rt; starts_empty::<Single>() && starts_empty::<Nothing>());
+    assert!(rt; starts_empty::<Single>());
 }
 
 // A line of each element's bit and its texts, along the bits, and the text of their set.
@@ -125,7 +117,6 @@ fn texts_name_the_elements(rt: HostRuntime) -> Result<(), Fail> {
     write_texts::<High>(&mut text)?;
     write_texts::<Masks>(&mut text)?;
     write_texts::<Single>(&mut text)?;
-    write_texts::<Nothing>(&mut text)?;
     let (none, one) = (EnumSet::<Letters>::new(), EnumSet::only(Letters::C));
     writeln!(text, "{none:?} {one:?} {:?}", one.iter())?;
     assert!(rt;
@@ -140,7 +131,6 @@ fn texts_name_the_elements(rt: HostRuntime) -> Result<(), Fail> {
 5 C C, 6 B B, 7 A A, EnumSet(C | B | A)
 0 P P, 4 Q Q, 6 R R, EnumSet(P | Q | R)
 0 A A, EnumSet(A)
-EnumSet()
 EnumSet() EnumSet(C) EnumSetIter { iter: PrimitiveIter(4) }
 "
     );

@@ -1,11 +1,10 @@
-// Types on bits that are not the discriminants, of one variant and of none.
+// Types on bits that are not the discriminants, and of one variant.
 
 use enumset_mixed::mixed_enum_set::MixedEnumSet;
 use enumset_mixed::mixed_value::MixedValue;
 use enumset_sets::enum_set::EnumSet;
 use enumset_worked::high::High;
 use enumset_worked::masks::Masks;
-use enumset_worked::nothing::Nothing;
 use enumset_worked::single::Single;
 
 #[test]
@@ -44,27 +43,4 @@ fn one_variant_is_enough(rt: HostRuntime) {
     mixed.remove_all(MixedEnumSet::all());
     mixed.insert_all(MixedEnumSet::from_repr(4));
     assert!(rt; mixed.as_repr() == 6 && mixed.try_as_enumset() == None);
-}
-
-#[test]
-fn no_variant_is_enough(rt: HostRuntime) {
-    let (none, all) = (EnumSet::<Nothing>::new(), EnumSet::<Nothing>::all());
-    assert!(rt; all.is_empty() && all.len() == 0 && EnumSet::<Nothing>::bit_width() == 0);
-    assert!(rt; none.complement() == none && !EnumSet::<Nothing>::is_bit_valid(0));
-    assert!(rt; none.iter().next() == None && none.iter().next_back() == None);
-    let sets = [
-        all.union(none),
-        all.intersection(none),
-        all.difference(none),
-        all.symmetric_difference(none),
-        EnumSet::default(),
-        EnumSet::empty(),
-    ];
-    assert!(rt; sets == [none; 6] && all.is_disjoint(none) && all.is_subset(none));
-    let mut mixed = MixedEnumSet::<Nothing>::from_repr(128);
-    assert!(rt;
-        [mixed.iter().next(), mixed.iter().next_back()] == [Some(MixedValue::Invalid(7)); 2]
-    );
-    assert!(rt; mixed.insert_bit(0) && !mixed.insert_bit(7) && mixed.remove_bit(7));
-    assert!(rt; mixed.as_repr() == 1 && mixed.valid_len() == 0 && !mixed.eq_enumset(all));
 }

@@ -7,7 +7,6 @@ use enumset_sets::with_repr::EnumSetTypeWithRepr;
 use enumset_worked::high::High;
 use enumset_worked::letters::Letters;
 use enumset_worked::marks::Marks;
-use enumset_worked::nothing::Nothing;
 use enumset_worked::pair_number::PairNumber;
 use enumset_worked::pair_words::PairWords;
 use enumset_worked::wide::Wide;
@@ -35,10 +34,8 @@ fn the_greatest_difference_decides(rt: HostRuntime) {
         wide(&[r]) > wide(&[p, q]),
         EnumSet::only(Letters::C) > EnumSet::only(Letters::C).complement(),
         MixedEnumSet::<Marks>::from_repr(8) > MixedEnumSet::from_repr(7),
-        EnumSet::<Nothing>::all().cmp(&EnumSet::new()).is_eq(),
-        MixedEnumSet::<Nothing>::from_repr(4) > MixedEnumSet::from_repr(3),
     ];
-    assert!(rt; answers == [true, true, true, true, true, true, false, true, true, true]);
+    assert!(rt; answers == [true, true, true, true, true, true, false, true]);
 }
 
 // The first variant of `high` is the least element, and has the greatest bit.
@@ -165,7 +162,6 @@ fn a_set_feeds_a_hasher_its_store_value(rt: HostRuntime) {
         (bytes_fed(&one), bytes_fed(&1u8)),
         (bytes_fed(&nine), bytes_fed(&9u8)),
         (bytes_fed(&high), bytes_fed(&128u8)),
-        (bytes_fed(&EnumSet::<Nothing>::all()), bytes_fed(&0u8)),
     ];
     assert!(rt; fed.iter().all(|(set, store)| set == store));
     let apart = fed[0].0 != fed[1].0 && fed[2].0 != fed[3].0 && fed[4].0 != fed[5].0;

@@ -7,7 +7,6 @@ use enumset_worked::high::High;
 use enumset_worked::letters::Letters;
 use enumset_worked::marks::Marks;
 use enumset_worked::masks::Masks;
-use enumset_worked::nothing::Nothing;
 use enumset_worked::pair_number::PairNumber;
 use enumset_worked::pair_words::PairWords;
 use enumset_worked::single::Single;
@@ -30,7 +29,6 @@ fn sets_are_written_along_their_bits(rt: HostRuntime) -> Result<(), Fail> {
     writeln!(text, "{}", EnumSet::<High>::all())?;
     writeln!(text, "{}", EnumSet::<Masks>::all())?;
     writeln!(text, "{}", EnumSet::<Single>::all())?;
-    writeln!(text, "<{}>", EnumSet::<Nothing>::all())?;
     assert!(rt;
         text.as_str()
             == "\
@@ -44,7 +42,6 @@ A | B
 C | B | A
 P | Q | R
 A
-<>
 "
     );
     Ok(())
@@ -62,7 +59,6 @@ fn unknown_bits_are_written_in_brackets(rt: HostRuntime) -> Result<(), Fail> {
     across.remove(Sparse::B);
     writeln!(text, "{across}")?;
     writeln!(text, "{}", MixedEnumSet::<High>::from_repr(129))?;
-    writeln!(text, "{}", MixedEnumSet::<Nothing>::from_repr(129))?;
     let items = [MixedValue::Valid(Letters::G), MixedValue::Invalid(7)];
     writeln!(
         text,
@@ -76,7 +72,6 @@ fn unknown_bits_are_written_in_brackets(rt: HostRuntime) -> Result<(), Fail> {
 A | B | C | [3] | [4] | [5] | [6] | [7]
 A | C | [126] | D
 [0] | A
-[0] | [7]
 G [7] G [7]
 "
     );

@@ -30,6 +30,3 @@ masks_bits = 0 ∷ 4 ∷ 6 ∷ []
 
 abbrev pub single_bits : List ℕ
 single_bits = 0 ∷ []
-
-abbrev pub nothing_bits : List ℕ
-nothing_bits = []

@@ -6,7 +6,6 @@ pub mod high;
 pub mod letters;
 pub mod marks;
 pub mod masks;
-pub mod nothing;
 pub mod operators;
 pub mod pair_number;
 pub mod pair_words;

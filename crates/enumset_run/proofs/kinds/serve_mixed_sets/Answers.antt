@@ -1,6 +1,6 @@
 use Rattle.std.proofs.Common.{refl, ◌∷◌, []}
 use Rattle.enumset_repr.specs.Laws.Listed.{bits_listed, words_listed}
-use Rattle.enumset_worked.specs.Bits.{letters_bits, four_bits, sparse_bits, marks_bits, pair_bits, high_bits, masks_bits, single_bits, nothing_bits}
+use Rattle.enumset_worked.specs.Bits.{letters_bits, four_bits, sparse_bits, marks_bits, pair_bits, high_bits, masks_bits, single_bits}
 use Rattle.enumset_run.proofs.kinds.serve_mixed_sets.Goals as goal
 
 pub returns-in-MixedLetters-clause-answer : goal.returns-in-MixedLetters-clause-answer
@@ -38,7 +38,3 @@ returns-in-MixedMasks-clause-answer c =
 pub returns-in-MixedSingle-clause-answer : goal.returns-in-MixedSingle-clause-answer
 returns-in-MixedSingle-clause-answer c =
     rw (c.in-MixedSingle.is, ← bits_listed single_bits 1 refl) c.serve_mixed_text-in-MixedSingle.ensures.answer
-
-pub returns-in-MixedNothing-clause-answer : goal.returns-in-MixedNothing-clause-answer
-returns-in-MixedNothing-clause-answer c =
-    rw (c.in-MixedNothing.is, ← bits_listed nothing_bits 0 refl) c.serve_mixed_text-in-MixedNothing.ensures.answer

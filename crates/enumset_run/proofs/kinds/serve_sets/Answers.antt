@@ -1,6 +1,6 @@
 use Rattle.std.proofs.Common.{refl, ◌∷◌, []}
 use Rattle.enumset_repr.specs.Laws.Listed.{bits_listed, words_listed}
-use Rattle.enumset_worked.specs.Bits.{letters_bits, four_bits, sparse_bits, marks_bits, wide_bits, pair_bits, high_bits, masks_bits, single_bits, nothing_bits}
+use Rattle.enumset_worked.specs.Bits.{letters_bits, four_bits, sparse_bits, marks_bits, wide_bits, pair_bits, high_bits, masks_bits, single_bits}
 use Rattle.enumset_run.proofs.kinds.serve_sets.Goals as goal
 
 pub returns-in-Letters-clause-answer : goal.returns-in-Letters-clause-answer
@@ -42,7 +42,3 @@ returns-in-Masks-clause-answer c =
 pub returns-in-Single-clause-answer : goal.returns-in-Single-clause-answer
 returns-in-Single-clause-answer c =
     rw (c.in-Single.is, ← bits_listed single_bits 1 refl) c.serve_text-in-Single.ensures.answer
-
-pub returns-in-Nothing-clause-answer : goal.returns-in-Nothing-clause-answer
-returns-in-Nothing-clause-answer c =
-    rw (c.in-Nothing.is, ← bits_listed nothing_bits 0 refl) c.serve_text-in-Nothing.ensures.answer
