@@ -141,14 +141,21 @@ abbrev pub or_else : Bool → Type 0 → Type 0 → Type 0
 or_else true fault next = next
 or_else false fault next = fault
 
+-- What comes next, once a number is known. So the checker computes nothing of a test before it has found both numbers:
+-- half computed, the test of a thousand words takes more memory than a check has.
+abbrev pub once_known : ℕ → Type 0 → Type 0
+once_known zero next = next
+once_known (suc n) next = next
+
 -- an enum without fields, one bit for each variant and no two the same, a test of ALL_BITS, and their width and their count
 abbrev pub IsLawful : (D : Declared) → List ℕ → Bool → Type 0 → ℕ → ℕ → Type 0
 IsLawful D bs valid fault width count =
-    or_else (length bs == length (rowss D.parts)) (BitCountShouldBe (length (rowss D.parts)))
+    once_known width (once_known count
+    (or_else (length bs == length (rowss D.parts)) (BitCountShouldBe (length (rowss D.parts)))
     (or_else (is_distinct bs) NamesABitTwice
     (or_else valid fault
     (or_else (one_past_all bs == width) (BitWidthShouldBe (one_past_all bs))
-    (or_else (length bs == count) (VariantCountShouldBe (length bs)) (Bare D.parts)))))
+    (or_else (length bs == count) (VariantCountShouldBe (length bs)) (Bare D.parts)))))))
 
 -- the same over an integer: ALL_BITS is the number of the bits
 abbrev pub IsLawfulNumber : (D : Declared) → List ℕ → ℕ → ℕ → ℕ → Type 0
@@ -168,6 +175,10 @@ passed : (test : Bool) (fault next : Type 0) → (fault → ⊥) → or_else tes
 passed true fault next none h = (refl, h)
 passed false fault next none h = absurd (none h)
 
+was_known : (n : ℕ) (next : Type 0) → once_known n next → next
+was_known zero next h = h
+was_known (suc n) next h = h
+
 -- what the test says where it passes
 record Passes (D : Declared) (bs : List ℕ) (valid : Bool) (width count : ℕ) : Type 0 where
   variants : length bs ≡ length (rowss D.parts)
@@ -179,7 +190,7 @@ record Passes (D : Declared) (bs : List ℕ) (valid : Bool) (width count : ℕ) 
 
 IsLawful-passes : (D : Declared) (bs : List ℕ) (valid : Bool) (fault : Type 0) (width count : ℕ) → (fault → ⊥) → IsLawful D bs valid fault width count → Passes D bs valid width count
 IsLawful-passes D bs valid fault width count none test =
-    let a = passed (length bs == length (rowss D.parts)) _ _ (λ h. elim h [ ]) test in
+    let a = passed (length bs == length (rowss D.parts)) _ _ (λ h. elim h [ ]) (was_known count _ (was_known width _ test)) in
     let b = passed (is_distinct bs) _ _ (λ h. elim h [ ]) a.1 in
     let c = passed valid fault _ none b.1 in
     let d = passed (one_past_all bs == width) _ _ (λ h. elim h [ ]) c.1 in
