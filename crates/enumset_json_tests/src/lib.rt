@@ -12,6 +12,8 @@ mod faults;
 #[cfg(test)]
 mod mixed_numbers;
 #[cfg(test)]
+mod no_variant;
+#[cfg(test)]
 mod numbers;
 #[cfg(test)]
 mod refused;

@@ -16,7 +16,7 @@ use std::fmt;
 use std::test::Fail;
 
 // A line for each JSON text: what mixed set it is read as, and what number that is written as, or the fault.
-fn write_read<T: EnumSetTypeWithRepr + fmt::Debug>(
+pub fn write_read<T: EnumSetTypeWithRepr + fmt::Debug>(
     alloc: Global,
     text: &mut String,
     jsons: &[&str],

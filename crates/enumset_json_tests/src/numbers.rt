@@ -18,7 +18,7 @@ use std::fmt;
 use std::test::Fail;
 
 // A line for each JSON text: what set it is read as, or the fault.
-fn write_read<T: EnumSetType + fmt::Debug>(
+pub fn write_read<T: EnumSetType + fmt::Debug>(
     alloc: Global,
     text: &mut String,
     width: JsonWidth,

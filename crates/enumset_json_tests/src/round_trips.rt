@@ -18,7 +18,7 @@ use std::alloc::Global;
 use std::test::Fail;
 
 // Whether a set comes back as it was, as words and, where it fits, as a number.
-fn comes_back<T: EnumSetType>(
+pub fn comes_back<T: EnumSetType>(
     alloc: Global,
     set: EnumSet<T>,
     fits: bool,
@@ -34,7 +34,7 @@ fn comes_back<T: EnumSetType>(
 }
 
 // Whether the mixed set of all bits comes back as it was.
-fn all_bits_come_back<T: EnumSetTypeWithRepr>(alloc: Global) -> Result<bool, JsonFault>
+pub fn all_bits_come_back<T: EnumSetTypeWithRepr>(alloc: Global) -> Result<bool, JsonFault>
     requires { T.Repr.WIDTH ≤ 64 }
 {
     let all = MixedEnumSet::<T>::new().full_complement();

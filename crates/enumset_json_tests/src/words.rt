@@ -18,7 +18,7 @@ use std::fmt;
 use std::test::Fail;
 
 // A line for each JSON text: what it is read as where other bits are dropped, and where they are refused.
-fn write_read<T: EnumSetType + fmt::Debug>(
+pub fn write_read<T: EnumSetType + fmt::Debug>(
     alloc: Global,
     text: &mut String,
     jsons: &[&str],

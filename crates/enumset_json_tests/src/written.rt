@@ -17,7 +17,7 @@ use std::fmt;
 use std::test::Fail;
 
 // A line for each set of some elements: its number at each width, or the fault, and its words.
-fn write_sets<T: EnumSetType + fmt::Debug>(
+pub fn write_sets<T: EnumSetType + fmt::Debug>(
     alloc: Global,
     text: &mut String,
     sets: &[EnumSet<T>],

@@ -17,7 +17,7 @@ use Rattle.enumset_commands.specs.MixedLines.{mixed_command_of}
 use Rattle.enumset_machine.specs.Runs.{replies}
 use Rattle.enumset_machine.specs.MixedRuns.{mixed_replies}
 use Rattle.enumset_run.specs.declared.worked.Worked.{Worked}
-use Rattle.enumset_run.specs.declared.worked.Worked.TheVariants.{Letters, Four, Sparse, Marks, Wide, PairWords, PairNumber, High, Masks, Single, MixedLetters, MixedFour, MixedSparse, MixedMarks, MixedPairWords, MixedPairNumber, MixedHigh, MixedMasks, MixedSingle}
+use Rattle.enumset_run.specs.declared.worked.Worked.TheVariants.{Letters, Four, Sparse, Marks, Wide, PairWords, PairNumber, High, Masks, Single, Nothing, MixedLetters, MixedFour, MixedSparse, MixedMarks, MixedPairWords, MixedPairNumber, MixedHigh, MixedMasks, MixedSingle, MixedNothing}
 use Rattle.enumset_machine.specs.declared.serve.TheConstants.{INPUT_LIMIT}
 use Rattle.enumset_run.specs.declared.program.TheConstants.{READ_LIMIT}
 use Rattle.enumset_commands.specs.declared.text_fault.TextFault.{TextFault}
@@ -65,6 +65,7 @@ answer_over-take PairNumber bytes = answer_to-take (from_list pair_bits) bytes
 answer_over-take High bytes = answer_to-take (from_list high_bits) bytes
 answer_over-take Masks bytes = answer_to-take (from_list masks_bits) bytes
 answer_over-take Single bytes = answer_to-take (from_list single_bits) bytes
+answer_over-take Nothing bytes = answer_to-take (from_list []) bytes
 answer_over-take MixedLetters bytes = mixed_answer_to-take (from_list letters_bits) 8 bytes
 answer_over-take MixedFour bytes = mixed_answer_to-take (from_list four_bits) 8 bytes
 answer_over-take MixedSparse bytes = mixed_answer_to-take (from_list sparse_bits) 128 bytes
@@ -74,6 +75,7 @@ answer_over-take MixedPairNumber bytes = mixed_answer_to-take (from_list pair_bi
 answer_over-take MixedHigh bytes = mixed_answer_to-take (from_list high_bits) 8 bytes
 answer_over-take MixedMasks bytes = mixed_answer_to-take (from_list masks_bits) 8 bytes
 answer_over-take MixedSingle bytes = mixed_answer_to-take (from_list single_bits) 8 bytes
+answer_over-take MixedNothing bytes = mixed_answer_to-take (from_list []) 8 bytes
 
 same_answer : (kind : Worked) (bytes input : List ℕ) → input ≡ take READ_LIMIT bytes → answer_over kind input ≡ answer_over kind bytes
 same_answer kind bytes input read = ap (answer_over kind) read ∙ answer_over-take kind bytes

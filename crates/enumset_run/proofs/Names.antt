@@ -35,6 +35,7 @@ worked_of-other bytes other =
     let high = bytes_eq-name bytes (codes "high") refl other in
     let masks = bytes_eq-name bytes (codes "masks") refl other in
     let single = bytes_eq-name bytes (codes "single") refl other in
+    let nothing = bytes_eq-name bytes (codes "nothing") refl other in
     let mixed_letters = bytes_eq-name bytes (codes "mixed-letters") refl other in
     let mixed_four = bytes_eq-name bytes (codes "mixed-four") refl other in
     let mixed_sparse = bytes_eq-name bytes (codes "mixed-sparse") refl other in
@@ -44,6 +45,7 @@ worked_of-other bytes other =
     let mixed_high = bytes_eq-name bytes (codes "mixed-high") refl other in
     let mixed_masks = bytes_eq-name bytes (codes "mixed-masks") refl other in
     let mixed_single = bytes_eq-name bytes (codes "mixed-single") refl other in
-    rw (letters, four, sparse, marks, wide, pair_words, pair_number, high, masks, single, mixed_letters, mixed_four, mixed_sparse, mixed_marks, mixed_pair_words, mixed_pair_number, mixed_high, mixed_masks, mixed_single) refl
+    let mixed_nothing = bytes_eq-name bytes (codes "mixed-nothing") refl other in
+    rw (letters, four, sparse, marks, wide, pair_words, pair_number, high, masks, single, nothing, mixed_letters, mixed_four, mixed_sparse, mixed_marks, mixed_pair_words, mixed_pair_number, mixed_high, mixed_masks, mixed_single, mixed_nothing) refl
 
 pub ruleset name_steps = (worked_of-other)

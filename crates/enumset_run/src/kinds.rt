@@ -4,6 +4,7 @@ ghost use Rattle.std.specs.Prelude.{◌≡◌, false, true, IfOk, IfErr, Ok};
 ghost use Rattle.enumset_run.specs.Kinds.{worked_of, is_over_mixed_sets, answer_over};
 ghost use Rattle.enumset_commands.specs.TextFaults.{IsFaultOf};
 
+use crate::nothing::serve_nothing;
 use crate::worked::Worked;
 use enumset_commands::text_fault::TextFault;
 use enumset_machine::serve::{serve_mixed_text, serve_text};
@@ -34,6 +35,7 @@ pub fn worked(name: &str) -> Option<Worked>
         "high" => Some(Worked::High),
         "masks" => Some(Worked::Masks),
         "single" => Some(Worked::Single),
+        "nothing" => Some(Worked::Nothing),
         "mixed-letters" => Some(Worked::MixedLetters),
         "mixed-four" => Some(Worked::MixedFour),
         "mixed-sparse" => Some(Worked::MixedSparse),
@@ -43,6 +45,7 @@ pub fn worked(name: &str) -> Option<Worked>
         "mixed-high" => Some(Worked::MixedHigh),
         "mixed-masks" => Some(Worked::MixedMasks),
         "mixed-single" => Some(Worked::MixedSingle),
+        "mixed-nothing" => Some(Worked::MixedNothing),
         _ => None,
     }
 }
@@ -76,6 +79,7 @@ fn is_mixed(kind: Worked) -> bool
             | Worked::MixedHigh
             | Worked::MixedMasks
             | Worked::MixedSingle
+            | Worked::MixedNothing
     )
 }
 
@@ -96,6 +100,7 @@ fn serve_sets(alloc: Global, kind: Worked, input: &[u8]) -> Result<Vec<u8>, Text
         Worked::High => serve_text::<High>(alloc, input),
         Worked::Masks => serve_text::<Masks>(alloc, input),
         Worked::Single => serve_text::<Single>(alloc, input),
+        Worked::Nothing => serve_nothing(alloc, kind, input),
         _ => unreachable!(),
     }
 }
@@ -116,6 +121,7 @@ fn serve_mixed_sets(alloc: Global, kind: Worked, input: &[u8]) -> Result<Vec<u8>
         Worked::MixedHigh => serve_mixed_text::<High>(alloc, input),
         Worked::MixedMasks => serve_mixed_text::<Masks>(alloc, input),
         Worked::MixedSingle => serve_mixed_text::<Single>(alloc, input),
+        Worked::MixedNothing => serve_nothing(alloc, kind, input),
         _ => unreachable!(),
     }
 }

@@ -6,6 +6,7 @@
 
 mod fault;
 mod kinds;
+mod nothing;
 mod program;
 #[cfg(test)]
 mod tests;

@@ -23,6 +23,8 @@ pub enum Worked {
     Masks,
     /// `single`: bit 0, in a `u8`.
     Single,
+    /// `nothing`: no bit, in a `u8`.
+    Nothing,
     /// `mixed-letters`: mixed sets of `letters`.
     MixedLetters,
     /// `mixed-four`: mixed sets of `four`.
@@ -41,4 +43,6 @@ pub enum Worked {
     MixedMasks,
     /// `mixed-single`: mixed sets of `single`.
     MixedSingle,
+    /// `mixed-nothing`: mixed sets of `nothing`.
+    MixedNothing,
 }

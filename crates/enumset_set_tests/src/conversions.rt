@@ -118,7 +118,7 @@ fn write_usize<T: EnumSetType + fmt::Debug>(
 type Numbers = (u8, u16, u32, u64, u128, usize);
 
 // A line of each type of numbers.
-fn write_numbers<T: EnumSetType + fmt::Debug>(
+pub fn write_numbers<T: EnumSetType + fmt::Debug>(
     text: &mut String,
     set: &EnumSet<T>,
     valid: Numbers,
@@ -288,7 +288,7 @@ fn is_read_from_an_array<T: EnumSetType>(a: T, b: T) -> bool {
 }
 
 // The words of all elements: in an array of 2 if they fit, cut at 2, and in an array of 4.
-fn arrays_of_all<T: EnumSetType>() -> (Option<[u64; 2]>, [u64; 2], Option<[u64; 4]>) {
+pub fn arrays_of_all<T: EnumSetType>() -> (Option<[u64; 2]>, [u64; 2], Option<[u64; 4]>) {
     let all = EnumSet::<T>::all();
     (
         all.try_as_array(),
@@ -298,7 +298,7 @@ fn arrays_of_all<T: EnumSetType>() -> (Option<[u64; 2]>, [u64; 2], Option<[u64; 
 }
 
 // Whether an array is read, and then as all elements; and whether what is valid of it is all elements.
-fn reads_all<T: EnumSetType>(array: [u64; 4]) -> (Option<bool>, bool) {
+pub fn reads_all<T: EnumSetType>(array: [u64; 4]) -> (Option<bool>, bool) {
     let read = match EnumSet::<T>::try_from_array(array) {
         Some(set) => Some(set == EnumSet::all()),
         None => None,

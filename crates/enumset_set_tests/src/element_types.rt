@@ -19,7 +19,7 @@ fn two_of<T: EnumSetType>(a: T, b: T) -> EnumSet<T> {
     EnumSet::only(a).union(EnumSet::only(b))
 }
 
-fn starts_empty<T: EnumSetType>() -> bool {
+pub fn starts_empty<T: EnumSetType>() -> bool {
     EnumSet::<T>::empty().is_empty() && EnumSet::<T>::default().is_empty()
 }
 
@@ -92,7 +92,7 @@ fn each_call_answers(rt: HostRuntime) {
 }
 
 // A line of each element's bit and its texts, along the bits, and the text of their set.
-fn write_texts<T: EnumSetType + fmt::Display + fmt::Debug>(
+pub fn write_texts<T: EnumSetType + fmt::Display + fmt::Debug>(
     text: &mut String,
 ) -> Result<(), AllocError> {
     for element in EnumSet::<T>::all().iter() {

@@ -14,6 +14,8 @@ mod macros;
 #[cfg(test)]
 mod mixed;
 #[cfg(test)]
+mod no_variant;
+#[cfg(test)]
 mod odd_types;
 #[cfg(test)]
 mod operators;

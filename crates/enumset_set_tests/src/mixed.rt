@@ -32,7 +32,7 @@ fn of_both<T: EnumSetTypeWithRepr>(valid: T, unknown: u32) -> MixedEnumSet<T>
 }
 
 // A line of what the calls answer that look at one set alone.
-fn write_answers<T: EnumSetTypeWithRepr + fmt::Debug>(
+pub fn write_answers<T: EnumSetTypeWithRepr + fmt::Debug>(
     text: &mut String,
     set: &MixedEnumSet<T>,
 ) -> Result<(), AllocError> {
@@ -380,7 +380,7 @@ fn reserved_bits_are_carried_on(rt: HostRuntime) {
 // How many variants a type has and the number of all of them; and for each number a line of what its set is as a number
 // again, cut to the valid bits, as its two complements and once it is cleared, whether a clone is the same, and whether
 // its elements are.
-fn write_values<T: EnumSetTypeWithRepr>(
+pub fn write_values<T: EnumSetTypeWithRepr>(
     text: &mut String,
     numbers: &[u128],
 ) -> Result<(), AllocError> {

@@ -141,7 +141,7 @@ impl Hasher for ByteSum {
     }
 }
 
-fn bytes_fed<V: Hash>(value: &V) -> u64 {
+pub fn bytes_fed<V: Hash>(value: &V) -> u64 {
     let mut sum = ByteSum(0);
     value.hash(&mut sum);
     sum.finish()

@@ -809,6 +809,95 @@ ok
 bit 0
 none
 --
+nothing
+all 0
+len 0
+insert 0 0
+only 0 0
+contains 0 7
+complement 1 0
+equal 0 1
+compare 0 1
+number 0 8
+words 0 0
+words 0 2
+from_number 0 8 0
+from_number 0 8 1
+from_number_cut 0 128 340282366920938463463374607431768211455
+from_words 0
+from_words 0 0 1
+empty 0
+iter 0 0
+left 0
+next 0
+next_back 0
+==
+ok
+0
+K2 not a bit
+K2 not a bit
+K2 not a bit
+ok
+true
+equal
+0
+words
+words 0 0
+ok
+none
+ok
+ok
+none
+true
+ok
+0
+none
+none
+--
+mixed-nothing
+insert 0 0
+insert_bit 0 7
+len 0
+valid_len 0
+complement 1 0
+len 1
+full_complement 1 0
+number 1 8
+as_enumset 2 0
+==
+K2 not a bit
+true
+1
+0
+ok
+0
+ok
+127
+none
+--
+mixed-nothing
+all 0
+full_complement 0 0
+iter 0 0
+left 0
+next 0
+next_back 0
+truncate 1 0
+empty 1
+as_enumset 2 1
+insert_bit 0 8
+==
+ok
+ok
+ok
+8
+unknown 0
+unknown 7
+ok
+true
+ok
+K2 not a bit
+--
 mixed-high
 from_number 0 8 129
 iter 0 0
@@ -914,6 +1003,6 @@ fn each_run_has_its_output(rt: HostRuntime) -> Result<(), Fail> {
     for runs in TABLES {
         inputs = inputs.saturating_add(outputs_as_wanted(&rt, rt.alloc(), runs)?);
     }
-    assert!(rt; inputs == 241);
+    assert!(rt; inputs == 244);
     Ok(())
 }
