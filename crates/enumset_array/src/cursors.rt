@@ -54,13 +54,17 @@ pub fn step_front<R: Row>(row: &mut R, cursors: &mut Cursors) -> Option<u32>
     ensures moves { MovesFront cursors.old cursors.new }
     ensures covers { Covers (R.words row.new) cursors.new }
 {
-    while cursors.front < cursors.back {
-        let front = cursors.front;
+    let Cursors { mut front, back } = *cursors;
+    while front < back {
         match row.ask_front(front) {
-            Some(bit) => return Some(64 * front as u32 + bit),
-            None => cursors.front += 1,
+            Some(bit) => {
+                cursors.front = front;
+                return Some(64 * front as u32 + bit);
+            }
+            None => front += 1,
         }
     }
+    cursors.front = front;
     None
 }
 
@@ -79,12 +83,17 @@ pub fn step_back<R: Row>(row: &mut R, cursors: &mut Cursors) -> Option<u32>
     ensures moves { MovesBack cursors.old cursors.new }
     ensures covers { Covers (R.words row.new) cursors.new }
 {
-    while cursors.front < cursors.back {
-        let last = cursors.back - 1;
+    let Cursors { front, mut back } = *cursors;
+    while front < back {
+        let last = back - 1;
         match row.ask_back(last) {
-            Some(bit) => return Some(64 * last as u32 + bit),
-            None => cursors.back = last,
+            Some(bit) => {
+                cursors.back = back;
+                return Some(64 * last as u32 + bit);
+            }
+            None => back = last,
         }
     }
+    cursors.back = back;
     None
 }

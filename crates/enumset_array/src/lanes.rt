@@ -135,15 +135,15 @@ pub(crate) fn combine<O: WordOperation>(words: &mut [u64], others: &[u64])
     }
 }
 
-/// Whether the operation answers 0 of each word and the other in its place. It stops at the first word, or at the first
-/// sixteen, of which it does not.
+/// Whether the operation answers 0 of each word and the other in its place. Of sixteen words and more it stops at the first
+/// word, or at the first sixteen, of which it does not; fewer are looked at without a branch.
 ///
 /// It asks that there are as many others.
 pub(crate) fn are_none<O: WordOperation>(words: &[u64], others: &[u64]) -> bool
     requires { length words.now ≡ length others.now }
     ensures { result ≡ list_all (λ w. w == 0) (zip2 O.of_two words.now others.now) }
 {
-    if !words.is_empty() && O::on_words(words[0], others[0]) != 0 {
+    if words.len() >= 16 && O::on_words(words[0], others[0]) != 0 {
         return false;
     }
     for k in 0..words.len() / 16 {

@@ -1,4 +1,4 @@
-use Rattle.std.proofs.Common.{◌≡◌, ◌+◌, ◌*◌, ◌<◌, [], length, length-set, refl, sym, ap, ◌∙◌, arith}
+use Rattle.std.proofs.Common.{rules, ◌≡◌, ◌+◌, ◌*◌, ◌<◌, [], length, length-set, refl, sym, ap, ◌∙◌, arith}
 use Rattle.enumset_repr.specs.BitSet.{rising, remove}
 use Rattle.enumset_repr.specs.Words.{bits_of}
 use Rattle.enumset_array.proofs.Covers.{covers_next}
@@ -7,60 +7,72 @@ use Rattle.enumset_array.proofs.cursors.step_front.Goals as goal
 
 pub overflow_add-result : goal.overflow_add-result
 overflow_add-result g c =
-    let within : c.loop-cursors.cursors-inside.front < length (g.R.Row.words c.loop-cursors.row) = omega (arith, c.loop-cursors.invariant.covers.within) in
+    let within : c.loop-front.front < length (g.R.Row.words c.loop-front.row) = omega (arith, c.loop-front.invariant.covers.within) in
     let small : c.in-Some.bit < 64 = (step_first_set _ _ _ _ c.in-Some.ensures.are_words.fit within c.in-Some.ensures.others c.in-Some.ensures.taken).0 in
     omega (arith, c.in-Some.ensures.are_words.limit)
 
 pub returns-in-Some-clause-item : goal.returns-in-Some-clause-item
 returns-in-Some-clause-item g c =
-    let within : c.loop-cursors.cursors-inside.front < length (g.R.Row.words c.loop-cursors.row) = omega (arith, c.loop-cursors.invariant.covers.within) in
-    ap (λ ws. rising (bits_of ws)) (sym c.loop-cursors.invariant.same)
-    ∙ step_first _ _ _ _ c.in-Some.ensures.are_words.fit within c.in-Some.ensures.others c.loop-cursors.invariant.covers.before c.in-Some.ensures.taken
+    let within : c.loop-front.front < length (g.R.Row.words c.loop-front.row) = omega (arith, c.loop-front.invariant.covers.within) in
+    ap (λ ws. rising (bits_of ws)) (sym c.loop-front.invariant.same)
+    ∙ step_first _ _ _ _ c.in-Some.ensures.are_words.fit within c.in-Some.ensures.others c.loop-front.invariant.covers.before c.in-Some.ensures.taken
 
 pub returns-in-Some-clause-words : goal.returns-in-Some-clause-words
 returns-in-Some-clause-words g c =
-    let within : c.loop-cursors.cursors-inside.front < length (g.R.Row.words c.loop-cursors.row) = omega (arith, c.loop-cursors.invariant.covers.within) in
+    let within : c.loop-front.front < length (g.R.Row.words c.loop-front.row) = omega (arith, c.loop-front.invariant.covers.within) in
     record {
       set =
           (step_first_set _ _ _ _ c.in-Some.ensures.are_words.fit within c.in-Some.ensures.others c.in-Some.ensures.taken).1
-          ∙ ap (λ ws. remove (bits_of ws) (64 * c.loop-cursors.cursors-inside.front + c.in-Some.bit)) c.loop-cursors.invariant.same;
-      len = ap length c.in-Some.ensures.others ∙ length-set _ _ _ ∙ ap length c.loop-cursors.invariant.same;
+          ∙ ap (λ ws. remove (bits_of ws) (64 * c.loop-front.front + c.in-Some.bit)) c.loop-front.invariant.same;
+      len = ap length c.in-Some.ensures.others ∙ length-set _ _ _ ∙ ap length c.loop-front.invariant.same;
     }
 
 pub returns-clause-item : goal.returns-clause-item
 returns-clause-item g c =
-    let none : rising (bits_of (g.R.Row.words c.loop-cursors.row)) ≡ [] = none_left _ _ c.loop-cursors.invariant.covers c.loop-cursors-test.false in
-    (ap (λ ws. rising (bits_of ws)) (sym c.loop-cursors.invariant.same) ∙ none, none)
+    let none : rising (bits_of (g.R.Row.words c.loop-front.row)) ≡ [] = none_left _ _ c.loop-front.invariant.covers c.loop-front-test.false in
+    (ap (λ ws. rising (bits_of ws)) (sym c.loop-front.invariant.same) ∙ none, none)
 
 pub returns-in-Some-clause-asks : goal.returns-in-Some-clause-asks
 returns-in-Some-clause-asks g c = rw (← c.cursors.view_is) (record {
-  sum = omega (arith, c.in-Some.ensures.counted, c.loop-cursors.invariant.asks);
+  sum = omega (arith, c.in-Some.ensures.counted, c.loop-front.invariant.asks, c.loop-front.invariant.kept);
   met = tt;
-  stays = λ none. absurd (omega (arith, none, c.loop-cursors-test.true, c.loop-cursors.invariant.back, c.loop-cursors.invariant.from));
+  stays = λ none. absurd (omega (arith, none, c.loop-front-test.true, c.loop-front.invariant.kept, c.loop-front.invariant.from));
 })
 
 pub returns-in-Some-clause-moves : goal.returns-in-Some-clause-moves
-returns-in-Some-clause-moves g c = rw (← c.cursors.view_is) (record { back = c.loop-cursors.invariant.back; front = c.loop-cursors.invariant.from; within = c.loop-cursors.invariant.ordered })
+returns-in-Some-clause-moves g c = rw (← c.cursors.view_is) (record { back = c.loop-front.invariant.kept; front = c.loop-front.invariant.from; within = omega (arith, c.loop-front.invariant.ordered, c.loop-front.invariant.kept) })
 
 pub returns-clause-words : goal.returns-clause-words
-returns-clause-words g c = record { set = ap bits_of c.loop-cursors.invariant.same; len = ap length c.loop-cursors.invariant.same }
+returns-clause-words g c = record { set = ap bits_of c.loop-front.invariant.same; len = ap length c.loop-front.invariant.same }
 
 pub returns-clause-asks : goal.returns-clause-asks
 returns-clause-asks g c = rw (← c.cursors.view_is) (record {
-  sum = omega (arith, c.loop-cursors.invariant.asks);
-  met = omega (arith, c.loop-cursors-test.false);
-  stays = λ met. (refl, omega (arith, met, c.loop-cursors.invariant.asks, c.loop-cursors-test.false));
+  sum = omega (arith, c.loop-front.invariant.asks, c.loop-front.invariant.kept);
+  met = omega (arith, c.loop-front-test.false, c.loop-front.invariant.kept);
+  stays = λ met. (refl, omega (arith, met, c.loop-front.invariant.asks, c.loop-front-test.false, c.loop-front.invariant.kept));
 })
 
 pub returns-clause-moves : goal.returns-clause-moves
-returns-clause-moves g c = rw (← c.cursors.view_is) (record { back = c.loop-cursors.invariant.back; front = c.loop-cursors.invariant.from; within = c.loop-cursors.invariant.ordered })
+returns-clause-moves g c = rw (← c.cursors.view_is) (record { back = c.loop-front.invariant.kept; front = c.loop-front.invariant.from; within = omega (arith, c.loop-front.invariant.ordered, c.loop-front.invariant.kept) })
 
-pub loop-cursors-preserved : goal.loop-cursors-preserved
-loop-cursors-preserved g c = record {
-  same = c.in-None.ensures.empty.1 ∙ c.loop-cursors.invariant.same;
-  ordered = omega (arith, c.loop-cursors-test.true);
-  from = omega (arith, c.loop-cursors.invariant.from);
-  back = c.loop-cursors.invariant.back;
-  covers = covers_next _ _ _ _ c.loop-cursors.invariant.covers c.in-None.ensures.empty.0 c.in-None.ensures.empty.1;
-  asks = omega (arith, c.in-None.ensures.counted, c.loop-cursors.invariant.asks, c.loop-cursors-test.true);
+pub loop-front-preserved : goal.loop-front-preserved
+loop-front-preserved g c = record {
+  kept = c.loop-front.invariant.kept;
+  same = c.in-None.ensures.empty.1 ∙ c.loop-front.invariant.same;
+  ordered = omega (arith, c.loop-front-test.true);
+  from = omega (arith, c.loop-front.invariant.from);
+  covers = covers_next _ _ _ _ c.loop-front.invariant.covers c.in-None.ensures.empty.0 c.in-None.ensures.empty.1;
+  asks = omega (arith, c.in-None.ensures.counted, c.loop-front.invariant.asks, c.loop-front-test.true);
 }
+
+pub returns-in-Some-clause-covers : goal.returns-in-Some-clause-covers
+returns-in-Some-clause-covers g c = rw (c.loop-front.invariant.kept) (search rules)
+
+pub returns-clause-covers : goal.returns-clause-covers
+returns-clause-covers g c = rw (c.loop-front.invariant.kept) c.loop-front.invariant.covers
+
+pub invariant_of-cursors : goal.invariant_of-cursors
+invariant_of-cursors g c = omega (arith, c.loop-front.invariant.ordered, c.loop-front.invariant.kept)
+
+pub invariant_of-cursors-2 : goal.invariant_of-cursors-2
+invariant_of-cursors-2 g c = omega (arith, c.loop-front.invariant.ordered, c.loop-front.invariant.kept)
