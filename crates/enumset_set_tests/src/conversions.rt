@@ -19,32 +19,44 @@ fn two_of<T: EnumSetType>(a: T, b: T) -> EnumSet<T> {
     EnumSet::only(a).union(EnumSet::only(b))
 }
 
-// Writes a line of the seven calls of a type of numbers: the number of a set, the number of its members below the
-// type's width, the set of a number whose bits are valid, and what comes of another number. The calls that ask are made
-// where their tests pass, and what they answer is compared.
+// Writes a line of what the seven calls of a type of numbers answer: the number of a set and that of its members below
+// the type's width, the set of a number whose bits are valid, what comes of another number and what is valid of it; and
+// whether the calls that ask answer the same number and the same set.
+fn write_line<T: EnumSetType + fmt::Debug>(
+    text: &mut String,
+    (number, low, is_same_number): (Option<u128>, u128, bool),
+    (valid, is_same_set): (Option<EnumSet<T>>, bool),
+    (other, truncated): (Option<EnumSet<T>>, EnumSet<T>),
+) -> Result<(), AllocError> {
+    writeln!(
+        text,
+        "{number:?} {low} {valid:?} {other:?} {truncated:?} {is_same_number} {is_same_set}"
+    )
+}
+
+// The line of a type of numbers. The calls that ask are made where their tests pass.
 macro_rules! write_line {
     ($text:ident, $set:ident, $valid:ident, $other:ident:
         $as_x:ident $try_as_x:ident $as_x_truncated:ident,
         $from_x:ident $try_from_x:ident $from_x_truncated:ident $from_x_unchecked:ident) => {{
-        let number = $set.$try_as_x();
-        let is_same_number = match number {
-            Some(n) => $set.$as_x() == n,
-            None => true,
+        let low = $set.$as_x_truncated() as u128;
+        let number = match $set.$try_as_x() {
+            Some(n) => (Some(n as u128), low, $set.$as_x() == n),
+            None => (None, low, true),
         };
-        let is_same_set = match EnumSet::<T>::$try_from_x($valid) {
+        let valid = match EnumSet::<T>::$try_from_x($valid) {
             Some(s) => {
-                EnumSet::<T>::$from_x($valid) == s && EnumSet::<T>::$from_x_unchecked($valid) == s
+                let is_same = EnumSet::<T>::$from_x($valid) == s
+                    && EnumSet::<T>::$from_x_unchecked($valid) == s;
+                (Some(s), is_same)
             }
-            None => false,
+            None => (None, false),
         };
-        writeln!(
-            $text,
-            "{number:?} {} {:?} {:?} {:?} {is_same_number} {is_same_set}",
-            $set.$as_x_truncated(),
-            EnumSet::<T>::$try_from_x($valid),
+        let other = (
             EnumSet::<T>::$try_from_x($other),
-            EnumSet::<T>::$from_x_truncated($other)
-        )
+            EnumSet::<T>::$from_x_truncated($other),
+        );
+        write_line($text, number, valid, other)
     }};
 }
 

@@ -2,6 +2,7 @@
 
 use enumset_mixed::mixed_enum_set::MixedEnumSet;
 use enumset_mixed::mixed_value::MixedValue;
+use enumset_sets::element::EnumSetType;
 use enumset_sets::enum_set::EnumSet;
 use enumset_worked::high::High;
 use enumset_worked::letters::Letters;
@@ -12,7 +13,14 @@ use enumset_worked::pair_words::PairWords;
 use enumset_worked::single::Single;
 use enumset_worked::sparse::Sparse;
 use enumset_worked::wide::Wide;
+use std::alloc::AllocError;
+use std::fmt;
 use std::test::Fail;
+
+// The text of the set of all elements, on a line.
+fn write_all<T: EnumSetType + fmt::Display>(text: &mut String) -> Result<(), AllocError> {
+    writeln!(text, "{}", EnumSet::<T>::all())
+}
 
 #[test]
 fn sets_are_written_along_their_bits(rt: HostRuntime) -> Result<(), Fail> {
@@ -20,15 +28,15 @@ fn sets_are_written_along_their_bits(rt: HostRuntime) -> Result<(), Fail> {
     let two = EnumSet::only(Letters::C).union(EnumSet::only(Letters::A));
     let none = EnumSet::<Letters>::new();
     writeln!(text, "<{two}> <{none}> <{two:?}> <{none:?}>")?;
-    writeln!(text, "{}", EnumSet::<Letters>::all())?;
-    writeln!(text, "{}", EnumSet::<Sparse>::all())?;
-    writeln!(text, "{}", EnumSet::<Marks>::all())?;
-    writeln!(text, "{}", EnumSet::<Wide>::all())?;
-    writeln!(text, "{}", EnumSet::<PairWords>::all())?;
-    writeln!(text, "{}", EnumSet::<PairNumber>::all())?;
-    writeln!(text, "{}", EnumSet::<High>::all())?;
-    writeln!(text, "{}", EnumSet::<Masks>::all())?;
-    writeln!(text, "{}", EnumSet::<Single>::all())?;
+    write_all::<Letters>(&mut text)?;
+    write_all::<Sparse>(&mut text)?;
+    write_all::<Marks>(&mut text)?;
+    write_all::<Wide>(&mut text)?;
+    write_all::<PairWords>(&mut text)?;
+    write_all::<PairNumber>(&mut text)?;
+    write_all::<High>(&mut text)?;
+    write_all::<Masks>(&mut text)?;
+    write_all::<Single>(&mut text)?;
     assert!(rt;
         text.as_str()
             == "\

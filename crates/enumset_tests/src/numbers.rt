@@ -42,17 +42,41 @@ macro_rules! agrees {
     }};
 }
 
+fn u8_agrees<R: EnumSetTypeRepr>(n: u128, kept: u128) -> bool {
+    agrees!(R, n, kept, u8: from_u8 try_from_u8 to_u8 try_to_u8)
+}
+
+fn u16_agrees<R: EnumSetTypeRepr>(n: u128, kept: u128) -> bool {
+    agrees!(R, n, kept, u16: from_u16 try_from_u16 to_u16 try_to_u16)
+}
+
+fn u32_agrees<R: EnumSetTypeRepr>(n: u128, kept: u128) -> bool {
+    agrees!(R, n, kept, u32: from_u32 try_from_u32 to_u32 try_to_u32)
+}
+
+fn u64_agrees<R: EnumSetTypeRepr>(n: u128, kept: u128) -> bool {
+    agrees!(R, n, kept, u64: from_u64 try_from_u64 to_u64 try_to_u64)
+}
+
+fn u128_agrees<R: EnumSetTypeRepr>(n: u128, kept: u128) -> bool {
+    agrees!(R, n, kept, u128: from_u128 try_from_u128 to_u128 try_to_u128)
+}
+
+fn usize_agrees<R: EnumSetTypeRepr>(n: u128, kept: u128) -> bool {
+    agrees!(R, n, kept, usize: from_usize try_from_usize to_usize try_to_usize)
+}
+
 /// Each number, at a store whose bits below 128 are those of `mask`.
 fn exercise<R: EnumSetTypeRepr>(rt: &impl Abort, mask: u128) {
     for n in NUMBERS {
         let kept = n & mask;
         let agree = [
-            agrees!(R, n, kept, u8: from_u8 try_from_u8 to_u8 try_to_u8),
-            agrees!(R, n, kept, u16: from_u16 try_from_u16 to_u16 try_to_u16),
-            agrees!(R, n, kept, u32: from_u32 try_from_u32 to_u32 try_to_u32),
-            agrees!(R, n, kept, u64: from_u64 try_from_u64 to_u64 try_to_u64),
-            agrees!(R, n, kept, u128: from_u128 try_from_u128 to_u128 try_to_u128),
-            agrees!(R, n, kept, usize: from_usize try_from_usize to_usize try_to_usize),
+            u8_agrees::<R>(n, kept),
+            u16_agrees::<R>(n, kept),
+            u32_agrees::<R>(n, kept),
+            u64_agrees::<R>(n, kept),
+            u128_agrees::<R>(n, kept),
+            usize_agrees::<R>(n, kept),
         ];
         assert!(rt; agree == [true; 6], "number {n}");
     }
