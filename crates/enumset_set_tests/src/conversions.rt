@@ -35,7 +35,7 @@ fn write_line<T: EnumSetType + fmt::Debug>(
 }
 
 // The line of a type of numbers. The calls that ask are made where their tests pass.
-macro_rules! write_line {
+macro_rules! write_answers {
     ($text:ident, $set:ident, $valid:ident, $other:ident:
         $as_x:ident $try_as_x:ident $as_x_truncated:ident,
         $from_x:ident $try_from_x:ident $from_x_truncated:ident $from_x_unchecked:ident) => {{
@@ -66,7 +66,7 @@ fn write_u8<T: EnumSetType + fmt::Debug>(
     valid: u8,
     other: u8,
 ) -> Result<(), AllocError> {
-    write_line!(text, set, valid, other:
+    write_answers!(text, set, valid, other:
         as_u8 try_as_u8 as_u8_truncated,
         from_u8 try_from_u8 from_u8_truncated from_u8_unchecked)
 }
@@ -77,7 +77,7 @@ fn write_u16<T: EnumSetType + fmt::Debug>(
     valid: u16,
     other: u16,
 ) -> Result<(), AllocError> {
-    write_line!(text, set, valid, other:
+    write_answers!(text, set, valid, other:
         as_u16 try_as_u16 as_u16_truncated,
         from_u16 try_from_u16 from_u16_truncated from_u16_unchecked)
 }
@@ -88,7 +88,7 @@ fn write_u32<T: EnumSetType + fmt::Debug>(
     valid: u32,
     other: u32,
 ) -> Result<(), AllocError> {
-    write_line!(text, set, valid, other:
+    write_answers!(text, set, valid, other:
         as_u32 try_as_u32 as_u32_truncated,
         from_u32 try_from_u32 from_u32_truncated from_u32_unchecked)
 }
@@ -99,7 +99,7 @@ fn write_u64<T: EnumSetType + fmt::Debug>(
     valid: u64,
     other: u64,
 ) -> Result<(), AllocError> {
-    write_line!(text, set, valid, other:
+    write_answers!(text, set, valid, other:
         as_u64 try_as_u64 as_u64_truncated,
         from_u64 try_from_u64 from_u64_truncated from_u64_unchecked)
 }
@@ -110,7 +110,7 @@ fn write_u128<T: EnumSetType + fmt::Debug>(
     valid: u128,
     other: u128,
 ) -> Result<(), AllocError> {
-    write_line!(text, set, valid, other:
+    write_answers!(text, set, valid, other:
         as_u128 try_as_u128 as_u128_truncated,
         from_u128 try_from_u128 from_u128_truncated from_u128_unchecked)
 }
@@ -121,7 +121,7 @@ fn write_usize<T: EnumSetType + fmt::Debug>(
     valid: usize,
     other: usize,
 ) -> Result<(), AllocError> {
-    write_line!(text, set, valid, other:
+    write_answers!(text, set, valid, other:
         as_usize try_as_usize as_usize_truncated,
         from_usize try_from_usize from_usize_truncated from_usize_unchecked)
 }
