@@ -8,6 +8,8 @@ mod config;
 #[cfg(test)]
 mod configs;
 #[cfg(test)]
+mod each_type;
+#[cfg(test)]
 mod faults;
 #[cfg(test)]
 mod mixed_numbers;

@@ -1,12 +1,30 @@
 //! Sets and mixed sets of an enum without variants, to and from JSON.
 
-use super::round_trips::{all_bits_come_back, comes_back};
+ghost use Rattle.std.specs.Prelude.{◌≤◌};
+
+use super::mixed_numbers::write_mixed_numbers;
+use super::numbers::write_numbers;
+use super::words::write_words;
 use super::written::write_sets;
-use super::{mixed_numbers, numbers, words};
-use enumset::set_json::{JsonWidth, Unknown};
+use enumset::set_json::JsonWidth;
 use enumset::{EnumSet, EnumSetType, EnumSetTypeWithRepr};
 use enumset_sets::variant_of;
+use std::alloc::Global;
+use std::fmt;
 use std::test::Fail;
+
+// The lines of what is read as sets and as mixed sets of a type without variants.
+fn write_inputs<T: EnumSetTypeWithRepr + fmt::Debug>(
+    alloc: Global,
+    text: &mut String,
+) -> Result<(), Fail>
+    requires { T.Repr.WIDTH ≤ 64 }
+{
+    write_numbers::<T>(alloc, text, JsonWidth::U8, &["0", "255", "256"])?;
+    write_numbers::<T>(alloc, text, JsonWidth::U64, &["0", "1", "-0"])?;
+    write_words::<T>(alloc, text, &["[]", "[0,0]", "[1]", "[0,1]", "[0,-1]"])?;
+    write_mixed_numbers::<T>(alloc, text, &["0", "128", "256"])
+}
 
 #[test]
 fn sets_of_no_variant(rt: HostRuntime) -> Result<(), Fail> {
@@ -53,36 +71,29 @@ fn sets_of_no_variant(rt: HostRuntime) -> Result<(), Fail> {
         ghost narrow = { Prim.search rules };
     }
 
-    let alloc = rt.alloc();
-    let all = EnumSet::<Nothing>::all();
-    assert!(rt; comes_back(alloc, all, true)? && all_bits_come_back::<Nothing>(alloc)?);
-    let mut text = String::new(alloc);
-    write_sets(alloc, &mut text, &[all])?;
-    let (byte, word) = (["0", "255", "256"], ["0", "1", "-0"]);
-    numbers::write_read::<Nothing>(alloc, &mut text, JsonWidth::U8, Unknown::Drop, &byte)?;
-    numbers::write_read::<Nothing>(alloc, &mut text, JsonWidth::U64, Unknown::Refuse, &word)?;
-    let arrays = ["[]", "[0,0]", "[1]", "[0,1]", "[0,-1]"];
-    words::write_read::<Nothing>(alloc, &mut text, &arrays)?;
-    mixed_numbers::write_read::<Nothing>(alloc, &mut text, &["0", "128", "256"])?;
+    let mut text = String::new(rt.alloc());
+    write_sets(rt.alloc(), &mut text, &[EnumSet::<Nothing>::all()])?;
+    write_inputs::<Nothing>(rt.alloc(), &mut text)?;
     assert!(rt; text.as_str() == TEXT);
     Ok(())
 }
 
 const TEXT: &str = "\
-EnumSet() 0 0 0 0 [0]
-U8 Drop
-0 Ok(EnumSet())
-255 Ok(EnumSet())
-256 Err(OutOfRange)
-U64 Refuse
-0 Ok(EnumSet())
-1 Err(UnknownBits)
--0 Err(NotWhole)
+EnumSet() 0 0 0 0 [0] true
+U8
+0 Ok(EnumSet()) Ok(EnumSet())
+255 Ok(EnumSet()) Err(UnknownBits)
+256 Err(OutOfRange) Err(OutOfRange)
+U64
+0 Ok(EnumSet()) Ok(EnumSet())
+1 Ok(EnumSet()) Err(UnknownBits)
+-0 Err(NotWhole) Err(NotWhole)
 [] Ok(EnumSet()) Ok(EnumSet())
 [0,0] Ok(EnumSet()) Ok(EnumSet())
 [1] Ok(EnumSet()) Err(UnknownBits)
 [0,1] Ok(EnumSet()) Err(UnknownBits)
 [0,-1] Err(NotAWord(1)) Err(NotAWord(1))
+true
 0 MixedEnumSet() 0
 128 MixedEnumSet([7]) 128
 256 OutOfRange

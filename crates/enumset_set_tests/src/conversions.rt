@@ -1,10 +1,9 @@
 //! Sets to and from numbers, store values and words, at each worked type.
 
 use super::sending::{as_byte, granted_by, sent_and_read};
+use super::sets::two_of;
 use enumset_sets::element::EnumSetType;
 use enumset_sets::enum_set::EnumSet;
-use enumset_sets::with_repr::EnumSetTypeWithRepr;
-use enumset_sets::{laws, raw};
 use enumset_worked::high::High;
 use enumset_worked::letters::Letters;
 use enumset_worked::masks::Masks;
@@ -15,8 +14,26 @@ use std::alloc::AllocError;
 use std::fmt;
 use std::test::Fail;
 
-fn two_of<T: EnumSetType>(a: T, b: T) -> EnumSet<T> {
-    EnumSet::only(a).union(EnumSet::only(b))
+// A set that was read, or none.
+fn write_read<T: EnumSetType + fmt::Debug>(
+    text: &mut String,
+    read: &Option<EnumSet<T>>,
+) -> Result<(), AllocError> {
+    write!(text, " {read:?}")
+}
+
+// The number of a set, if it has one, and that of its members below a width.
+fn write_number(text: &mut String, number: Option<u128>, low: u128) -> Result<(), AllocError> {
+    write!(text, "{number:?} {low}")
+}
+
+// The end of a line: two answers.
+fn write_same(
+    text: &mut String,
+    is_same_number: bool,
+    is_same_set: bool,
+) -> Result<(), AllocError> {
+    writeln!(text, " {is_same_number} {is_same_set}")
 }
 
 // Writes a line of what the seven calls of a type of numbers answer: the number of a set and that of its members below
@@ -28,10 +45,11 @@ fn write_line<T: EnumSetType + fmt::Debug>(
     (valid, is_same_set): (Option<EnumSet<T>>, bool),
     (other, truncated): (Option<EnumSet<T>>, EnumSet<T>),
 ) -> Result<(), AllocError> {
-    writeln!(
-        text,
-        "{number:?} {low} {valid:?} {other:?} {truncated:?} {is_same_number} {is_same_set}"
-    )
+    write_number(text, number, low)?;
+    write_read(text, &valid)?;
+    write_read(text, &other)?;
+    write!(text, " {truncated:?}")?;
+    write_same(text, is_same_number, is_same_set)
 }
 
 // The line of a type of numbers. The calls that ask are made where their tests pass.
@@ -252,20 +270,6 @@ fn numbers_of_rows(rt: HostRuntime) {
     );
 }
 
-// Whether the store's value of a set is taken back to it.
-fn is_taken_back<T: EnumSetType>(a: T, b: T) -> bool {
-    let set = two_of(a, b);
-    laws::number_and_back(&set);
-    raw::new(raw::get(set)) == two_of(a, b)
-}
-
-fn repr_is_taken_back<T: EnumSetTypeWithRepr>(a: T, b: T) -> bool {
-    let set = two_of(a, b);
-    laws::number_and_back(&set);
-    EnumSet::<T>::from_repr(set.as_repr()) == set
-        && EnumSet::<T>::from_repr_unchecked(set.as_repr()) == set
-}
-
 #[test]
 fn values_of_stores(rt: HostRuntime) {
     let set = two_of(Letters::A, Letters::C);
@@ -276,27 +280,6 @@ fn values_of_stores(rt: HostRuntime) {
     ];
     assert!(rt; set.as_repr() == 5 && read == [Some(set), None, Some(set)]);
     assert!(rt; two_of(Sparse::A, Sparse::D).as_repr() == 1 << 127 | 1 << 10);
-    assert!(rt;
-        repr_is_taken_back(Letters::A, Letters::G) && repr_is_taken_back(Sparse::B, Sparse::D)
-    );
-    assert!(rt; is_taken_back(Letters::A, Letters::G) && is_taken_back(Wide::P, Wide::R));
-    assert!(rt; repr_is_taken_back(High::A, High::C) && repr_is_taken_back(Masks::P, Masks::Q));
-    assert!(rt; repr_is_taken_back(Single::A, Single::A) && is_taken_back(High::A, High::B));
-}
-
-// Whether a set's words in an array, by the call that asks, are read as the set by those that ask.
-fn is_read_from_an_array<T: EnumSetType>(a: T, b: T) -> bool {
-    let set = two_of(a, b);
-    let Some(array) = set.try_as_array::<4>() else {
-        return false;
-    };
-    let Some(read) = EnumSet::<T>::try_from_array(array) else {
-        return false;
-    };
-    set.as_array::<4>() == array
-        && read == set
-        && EnumSet::<T>::from_array(array) == read
-        && EnumSet::<T>::from_array_unchecked(array) == read
 }
 
 // The words of all elements: in an array of 2 if they fit, cut at 2, and in an array of 4.
@@ -335,32 +318,8 @@ fn arrays_of_rows(rt: HostRuntime) {
         reads_all::<Wide>([9, 1, 4, 1]),
     ];
     assert!(rt; read == [(Some(true), true), (None, true), (None, true), (None, true)]);
-    assert!(rt; is_read_from_an_array(Letters::A, Letters::C));
-    assert!(rt; is_read_from_an_array(Sparse::A, Sparse::D));
-    assert!(rt; is_read_from_an_array(Wide::P, Wide::R));
-    assert!(rt; is_read_from_an_array(High::A, High::C));
-    assert!(rt; is_read_from_an_array(Masks::Q, Masks::R));
-    assert!(rt; is_read_from_an_array(Single::A, Single::A));
     assert!(rt; arrays_of_all::<High>() == (Some([224, 0]), [224, 0], Some([224, 0, 0, 0])));
     assert!(rt; reads_all::<Masks>([83, 0, 0, 0]) == (None, true));
-}
-
-// Whether a set's words, written to a slice that has room for them by the call that tests and by the call that asks, are
-// read as the set by those that ask.
-fn is_read_from_a_slice<T: EnumSetType>(a: T, b: T) -> bool {
-    let set = two_of(a, b);
-    let (mut tested, mut asked) = ([7; 3], [7; 3]);
-    if set.try_copy_into_slice(&mut tested).is_none() {
-        return false;
-    }
-    set.copy_into_slice(&mut asked);
-    let Some(read) = EnumSet::<T>::try_from_slice(&asked) else {
-        return false;
-    };
-    asked == tested
-        && read == set
-        && EnumSet::<T>::from_slice(&asked) == read
-        && EnumSet::<T>::from_slice_unchecked(&asked) == read
 }
 
 #[test]
@@ -382,10 +341,4 @@ fn slices_of_rows(rt: HostRuntime) {
     ];
     let set = two_of(Letters::A, Letters::C);
     assert!(rt; read == [Some(set), None, Some(set), Some(EnumSet::new())]);
-    assert!(rt; is_read_from_a_slice(Letters::A, Letters::C));
-    assert!(rt;
-        is_read_from_a_slice(Sparse::A, Sparse::D) && is_read_from_a_slice(Wide::P, Wide::R)
-    );
-    assert!(rt; is_read_from_a_slice(High::A, High::C) && is_read_from_a_slice(Masks::P, Masks::R));
-    assert!(rt; is_read_from_a_slice(Single::A, Single::A));
 }

@@ -6,7 +6,7 @@
 #[cfg(test)]
 mod conversions;
 #[cfg(test)]
-mod element_types;
+mod each_type;
 #[cfg(test)]
 mod folds;
 #[cfg(test)]
@@ -29,3 +29,5 @@ mod refused;
 mod sending;
 #[cfg(test)]
 mod set_texts;
+#[cfg(test)]
+mod sets;

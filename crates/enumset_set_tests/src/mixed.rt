@@ -1,4 +1,4 @@
-// The calls of a mixed set and of its iterator, at each worked type with repr.
+//! The calls of a mixed set and of its iterator, over any element type with repr, and at worked types.
 
 ghost use Rattle.std.specs.Prelude.{◌<◌};
 
@@ -9,18 +9,21 @@ use enumset_repr::repr::EnumSetTypeRepr;
 use enumset_sets::element::EnumSetType;
 use enumset_sets::enum_set::EnumSet;
 use enumset_sets::with_repr::EnumSetTypeWithRepr;
-use enumset_worked::four::Four;
-use enumset_worked::high::High;
 use enumset_worked::letters::Letters;
 use enumset_worked::marks::Marks;
-use enumset_worked::masks::Masks;
-use enumset_worked::pair_number::PairNumber;
-use enumset_worked::pair_words::PairWords;
-use enumset_worked::single::Single;
 use enumset_worked::sparse::Sparse;
 use std::alloc::AllocError;
 use std::fmt;
-use std::test::Fail;
+
+// The set of a number of 8 bits.
+pub fn of_number<T: EnumSetTypeWithRepr>(number: u8) -> MixedEnumSet<T> {
+    MixedEnumSet::from_repr(T::Repr::from_u8(number))
+}
+
+// The number of a set.
+pub fn number_of<T: EnumSetTypeWithRepr>(set: MixedEnumSet<T>) -> u128 {
+    set.as_repr().to_u128()
+}
 
 // The set of a valid bit and of an unknown one, below the store's width.
 fn of_both<T: EnumSetTypeWithRepr>(valid: T, unknown: u32) -> MixedEnumSet<T>
@@ -31,23 +34,31 @@ fn of_both<T: EnumSetTypeWithRepr>(valid: T, unknown: u32) -> MixedEnumSet<T>
     set
 }
 
+// A space and a value's `{:?}` text.
+fn write_value<V: fmt::Debug>(text: &mut String, value: &V) -> Result<(), AllocError> {
+    write!(text, " {value:?}")
+}
+
+// Three counts and two answers.
+fn write_counts(
+    text: &mut String,
+    [len, valid, others]: [usize; 3],
+    [is_empty, has_unknown]: [bool; 2],
+) -> Result<(), AllocError> {
+    write!(text, "{len} {valid} {others} {is_empty} {has_unknown}")
+}
+
 // A line of what the calls answer that look at one set alone.
 pub fn write_answers<T: EnumSetTypeWithRepr + fmt::Debug>(
     text: &mut String,
     set: &MixedEnumSet<T>,
 ) -> Result<(), AllocError> {
-    writeln!(
-        text,
-        "{} {} {} {} {:?} {} {:?} {:?}",
-        set.len(),
-        set.valid_len(),
-        set.is_empty(),
-        set.has_unknown_bits(),
-        set.complement(),
-        set.full_complement().len(),
-        set.as_enumset_truncate(),
-        set.try_as_enumset()
-    )
+    let counts = [set.len(), set.valid_len(), set.full_complement().len()];
+    write_counts(text, counts, [set.is_empty(), set.has_unknown_bits()])?;
+    write_value(text, &set.complement())?;
+    write_value(text, &set.as_enumset_truncate())?;
+    write_value(text, &set.try_as_enumset())?;
+    writeln!(text)
 }
 
 // Those of no bit, a valid one, an unknown one, both, and all bits.
@@ -67,71 +78,7 @@ fn write_all_answers<T: EnumSetTypeWithRepr + fmt::Debug>(
     write_answers(text, &MixedEnumSet::<T>::new().full_complement())
 }
 
-#[test]
-fn known_and_unknown_bits_are_told_apart(rt: HostRuntime) -> Result<(), Fail> {
-    let mut text = String::new(rt.alloc());
-    write_all_answers(&mut text, Marks::A, 3)?;
-    write_all_answers(&mut text, Letters::G, 7)?;
-    write_all_answers(&mut text, Sparse::D, 126)?;
-    write_all_answers(&mut text, PairWords::B, 63)?;
-    write_all_answers(&mut text, PairNumber::B, 63)?;
-    write_all_answers(&mut text, Four::D, 4)?;
-    write_all_answers(&mut text, High::A, 0)?;
-    write_all_answers(&mut text, Masks::Q, 1)?;
-    write_all_answers(&mut text, Single::A, 7)?;
-    assert!(rt; text.as_str() == ANSWERS);
-    Ok(())
-}
-
-const ANSWERS: &str = "\
-0 0 true false MixedEnumSet(A | B | C) 8 EnumSet() Some(EnumSet())
-1 1 false false MixedEnumSet(B | C) 7 EnumSet(A) Some(EnumSet(A))
-1 0 false true MixedEnumSet(A | B | C) 7 EnumSet() None
-2 1 false true MixedEnumSet(B | C) 6 EnumSet(A) None
-8 3 false true MixedEnumSet() 0 EnumSet(A | B | C) None
-0 0 true false MixedEnumSet(A | B | C | D | E | F | G) 8 EnumSet() Some(EnumSet())
-1 1 false false MixedEnumSet(A | B | C | D | E | F) 7 EnumSet(G) Some(EnumSet(G))
-1 0 false true MixedEnumSet(A | B | C | D | E | F | G) 7 EnumSet() None
-2 1 false true MixedEnumSet(A | B | C | D | E | F) 6 EnumSet(G) None
-8 7 false true MixedEnumSet() 0 EnumSet(A | B | C | D | E | F | G) None
-0 0 true false MixedEnumSet(A | B | C | D) 128 EnumSet() Some(EnumSet())
-1 1 false false MixedEnumSet(A | B | C) 127 EnumSet(D) Some(EnumSet(D))
-1 0 false true MixedEnumSet(A | B | C | D) 127 EnumSet() None
-2 1 false true MixedEnumSet(A | B | C) 126 EnumSet(D) None
-128 4 false true MixedEnumSet() 0 EnumSet(A | B | C | D) None
-0 0 true false MixedEnumSet(A | B) 128 EnumSet() Some(EnumSet())
-1 1 false false MixedEnumSet(A) 127 EnumSet(B) Some(EnumSet(B))
-1 0 false true MixedEnumSet(A | B) 127 EnumSet() None
-2 1 false true MixedEnumSet(A) 126 EnumSet(B) None
-128 2 false true MixedEnumSet() 0 EnumSet(A | B) None
-0 0 true false MixedEnumSet(A | B) 128 EnumSet() Some(EnumSet())
-1 1 false false MixedEnumSet(A) 127 EnumSet(B) Some(EnumSet(B))
-1 0 false true MixedEnumSet(A | B) 127 EnumSet() None
-2 1 false true MixedEnumSet(A) 126 EnumSet(B) None
-128 2 false true MixedEnumSet() 0 EnumSet(A | B) None
-0 0 true false MixedEnumSet(A | B | C | D) 8 EnumSet() Some(EnumSet())
-1 1 false false MixedEnumSet(A | B | C) 7 EnumSet(D) Some(EnumSet(D))
-1 0 false true MixedEnumSet(A | B | C | D) 7 EnumSet() None
-2 1 false true MixedEnumSet(A | B | C) 6 EnumSet(D) None
-8 4 false true MixedEnumSet() 0 EnumSet(A | B | C | D) None
-0 0 true false MixedEnumSet(C | B | A) 8 EnumSet() Some(EnumSet())
-1 1 false false MixedEnumSet(C | B) 7 EnumSet(A) Some(EnumSet(A))
-1 0 false true MixedEnumSet(C | B | A) 7 EnumSet() None
-2 1 false true MixedEnumSet(C | B) 6 EnumSet(A) None
-8 3 false true MixedEnumSet() 0 EnumSet(C | B | A) None
-0 0 true false MixedEnumSet(P | Q | R) 8 EnumSet() Some(EnumSet())
-1 1 false false MixedEnumSet(P | R) 7 EnumSet(Q) Some(EnumSet(Q))
-1 0 false true MixedEnumSet(P | Q | R) 7 EnumSet() None
-2 1 false true MixedEnumSet(P | R) 6 EnumSet(Q) None
-8 3 false true MixedEnumSet() 0 EnumSet(P | Q | R) None
-0 0 true false MixedEnumSet(A) 8 EnumSet() Some(EnumSet())
-1 1 false false MixedEnumSet() 7 EnumSet(A) Some(EnumSet(A))
-1 0 false true MixedEnumSet(A) 7 EnumSet() None
-2 1 false true MixedEnumSet() 6 EnumSet(A) None
-8 1 false true MixedEnumSet() 0 EnumSet(A) None
-";
-
-// A line of each operation on two sets that share the unknown bit alone.
+// A line of the unknown bit and of each operation on two sets that share that bit alone.
 fn write_operations<T: EnumSetTypeWithRepr + fmt::Debug>(
     text: &mut String,
     one: T,
@@ -140,63 +87,18 @@ fn write_operations<T: EnumSetTypeWithRepr + fmt::Debug>(
 ) -> Result<(), AllocError>
     requires { unknown < T.Repr.WIDTH }
 {
+    write!(text, "{unknown}")?;
     let mut set = of_both(one, unknown);
-    write!(
-        text,
-        "{:?} {:?} {:?} {:?} {:?}",
-        set.union(of_both(other, unknown)),
-        set.intersection(of_both(other, unknown)),
-        set.difference(of_both(other, unknown)),
-        set.symmetric_difference(of_both(other, unknown)),
-        set.symmetrical_difference(of_both(other, unknown))
-    )?;
+    write_value(text, &set.union(of_both(other, unknown)))?;
+    write_value(text, &set.intersection(of_both(other, unknown)))?;
+    write_value(text, &set.difference(of_both(other, unknown)))?;
+    write_value(text, &set.symmetric_difference(of_both(other, unknown)))?;
+    write_value(text, &set.symmetrical_difference(of_both(other, unknown)))?;
     set.insert_all(of_both(other, unknown));
-    write!(text, " {set:?}")?;
+    write_value(text, &set)?;
     set.remove_all(of_both(one, unknown));
-    writeln!(text, " {set:?}")
-}
-
-#[test]
-fn operations_keep_unknown_bits(rt: HostRuntime) -> Result<(), Fail> {
-    let mut text = String::new(rt.alloc());
-    write_operations(&mut text, Marks::A, Marks::C, 3)?;
-    write_operations(&mut text, Letters::A, Letters::G, 7)?;
-    write_operations(&mut text, Sparse::A, Sparse::D, 126)?;
-    write_operations(&mut text, PairWords::A, PairWords::B, 65)?;
-    write_operations(&mut text, PairNumber::A, PairNumber::B, 65)?;
-    write_operations(&mut text, Four::A, Four::D, 4)?;
-    write_operations(&mut text, High::A, High::C, 0)?;
-    write_operations(&mut text, Masks::P, Masks::R, 5)?;
-    let set = of_both(Marks::B, 4);
-    writeln!(
-        text,
-        "{set:?} {:?} {:?}",
-        MixedEnumSet::<Marks>::default(),
-        set.iter()
-    )?;
-    assert!(rt;
-        text.as_str()
-            == "\
-MixedEnumSet(A | C | [3]) MixedEnumSet([3]) MixedEnumSet(A) MixedEnumSet(A | C) MixedEnumSet(A | C) \
-MixedEnumSet(A | C | [3]) MixedEnumSet(C)
-MixedEnumSet(A | G | [7]) MixedEnumSet([7]) MixedEnumSet(A) MixedEnumSet(A | G) MixedEnumSet(A | G) \
-MixedEnumSet(A | G | [7]) MixedEnumSet(G)
-MixedEnumSet(A | [126] | D) MixedEnumSet([126]) MixedEnumSet(A) MixedEnumSet(A | D) MixedEnumSet(A | D) \
-MixedEnumSet(A | [126] | D) MixedEnumSet(D)
-MixedEnumSet(A | B | [65]) MixedEnumSet([65]) MixedEnumSet(A) MixedEnumSet(A | B) MixedEnumSet(A | B) \
-MixedEnumSet(A | B | [65]) MixedEnumSet(B)
-MixedEnumSet(A | B | [65]) MixedEnumSet([65]) MixedEnumSet(A) MixedEnumSet(A | B) MixedEnumSet(A | B) \
-MixedEnumSet(A | B | [65]) MixedEnumSet(B)
-MixedEnumSet(A | D | [4]) MixedEnumSet([4]) MixedEnumSet(A) MixedEnumSet(A | D) MixedEnumSet(A | D) \
-MixedEnumSet(A | D | [4]) MixedEnumSet(D)
-MixedEnumSet([0] | C | A) MixedEnumSet([0]) MixedEnumSet(A) MixedEnumSet(C | A) MixedEnumSet(C | A) \
-MixedEnumSet([0] | C | A) MixedEnumSet(C)
-MixedEnumSet(P | [5] | R) MixedEnumSet([5]) MixedEnumSet(P) MixedEnumSet(P | R) MixedEnumSet(P | R) \
-MixedEnumSet(P | [5] | R) MixedEnumSet(R)
-MixedEnumSet(B | [4]) MixedEnumSet() MixedEnumSetIter { iter: PrimitiveIter(18) }
-"
-    );
-    Ok(())
+    write_value(text, &set)?;
+    writeln!(text)
 }
 
 // What the changes and the tests of one member answer, one after the other.
@@ -242,26 +144,7 @@ const CHANGES: [bool; 16] = [
     true,
 ];
 
-#[test]
-fn one_member_changes_alone(rt: HostRuntime) {
-    assert!(rt; changes(Marks::A, 3) == CHANGES);
-    assert!(rt; changes(Letters::D, 7) == CHANGES);
-    assert!(rt; changes(Sparse::D, 0) == CHANGES);
-    assert!(rt; changes(PairWords::B, 127) == CHANGES);
-    assert!(rt; changes(PairNumber::B, 127) == CHANGES);
-    assert!(rt; changes(Four::D, 4) == CHANGES);
-    assert!(rt; changes(High::A, 4) == CHANGES && changes(Masks::R, 7) == CHANGES);
-    assert!(rt; changes(Single::A, 1) == CHANGES);
-    assert!(rt; relations(Marks::A, 3) == [false, true, false, true]);
-    assert!(rt; relations(Letters::D, 7) == [false, true, false, true]);
-    assert!(rt; relations(Sparse::D, 0) == [false, true, false, true]);
-    assert!(rt; relations(PairWords::A, 63) == [false, true, false, true]);
-    assert!(rt; relations(PairNumber::A, 63) == [false, true, false, true]);
-    assert!(rt; relations(Four::D, 4) == [false, true, false, true]);
-    assert!(rt; relations(High::A, 4) == [false, true, false, true]);
-    assert!(rt; relations(Masks::R, 7) == [false, true, false, true]);
-    assert!(rt; relations(Single::A, 1) == [false, true, false, true]);
-}
+const RELATIONS: [bool; 4] = [false, true, false, true];
 
 // What is answered of a bit at the width, one past it, and the greatest number, and whether the set stays.
 fn past_the_width<T: EnumSetTypeWithRepr>(valid: T, width: u32) -> [bool; 8] {
@@ -278,16 +161,10 @@ fn past_the_width<T: EnumSetTypeWithRepr>(valid: T, width: u32) -> [bool; 8] {
     ]
 }
 
+const PAST_THE_WIDTH: [bool; 8] = [false, false, false, false, false, false, false, true];
+
 #[test]
 fn bits_past_the_width_are_absent(rt: HostRuntime) {
-    let absent = [false, false, false, false, false, false, false, true];
-    assert!(rt; past_the_width(Marks::A, 8) == absent);
-    assert!(rt; past_the_width(Letters::A, 8) == absent);
-    assert!(rt; past_the_width(Sparse::A, 128) == absent);
-    assert!(rt; past_the_width(PairWords::A, 128) == absent);
-    assert!(rt; past_the_width(PairNumber::A, 128) == absent);
-    assert!(rt; past_the_width(Four::A, 8) == absent && past_the_width(High::A, 8) == absent);
-    assert!(rt; past_the_width(Masks::R, 8) == absent && past_the_width(Single::A, 8) == absent);
     let mut one = MixedEnumSet::<Marks>::from_repr(1);
     assert!(rt; [one.has_bit(256), one.has_bit(8), one.remove_bit(256)] == [false, false, false]);
     assert!(rt; one.as_repr() == 1);
@@ -377,6 +254,19 @@ fn reserved_bits_are_carried_on(rt: HostRuntime) {
     assert!(rt; cleared.is_empty() && !set.is_empty());
 }
 
+// Numbers on a line, and two answers.
+fn write_numbers(
+    text: &mut String,
+    numbers: &[u128],
+    is_same: bool,
+    has_same_elements: bool,
+) -> Result<(), AllocError> {
+    for number in numbers {
+        write!(text, "{number} ")?;
+    }
+    writeln!(text, "{is_same} {has_same_elements}")
+}
+
 // How many variants a type has and the number of all of them; and for each number a line of what its set is as a number
 // again, cut to the valid bits, as its two complements and once it is cleared, whether a clone is the same, and whether
 // its elements are.
@@ -392,94 +282,52 @@ pub fn write_values<T: EnumSetTypeWithRepr>(
         let valid = MixedEnumSet::<T>::from_repr_truncated(value);
         let mut cleared = set.clone().unwrap();
         cleared.clear();
-        writeln!(
-            text,
-            "{} {} {} {} {} {} {}",
+        let written = [
             set.as_repr().to_u128(),
             valid.as_repr().to_u128(),
             set.complement().as_repr().to_u128(),
             set.full_complement().as_repr().to_u128(),
             cleared.as_repr().to_u128(),
-            set.clone().unwrap() == set,
-            elements_of(&set) == elements_of(&valid)
+        ];
+        let is_same = set.clone().unwrap() == set;
+        write_numbers(
+            text,
+            &written,
+            is_same,
+            elements_of(&set) == elements_of(&valid),
         )?;
     }
     Ok(())
 }
 
-// Of no bit, a valid one, an unknown one and all bits.
-#[test]
-fn values_of_stores(rt: HostRuntime) -> Result<(), Fail> {
-    let mut text = String::new(rt.alloc());
-    write_values::<Marks>(&mut text, &[0, 1, 8, 255])?;
-    write_values::<Letters>(&mut text, &[0, 1, 128, 255])?;
-    write_values::<Sparse>(&mut text, &[0, 1024, 1, u128::MAX])?;
-    write_values::<PairWords>(&mut text, &[0, 1 << 64, 1 << 63, u128::MAX])?;
-    write_values::<PairNumber>(&mut text, &[0, 1 << 64, 1 << 63, u128::MAX])?;
-    write_values::<Four>(&mut text, &[0, 8, 16, 255])?;
-    write_values::<High>(&mut text, &[0, 128, 1, 255])?;
-    write_values::<Masks>(&mut text, &[0, 16, 2, 255])?;
-    write_values::<Single>(&mut text, &[0, 1, 2, 255])?;
-    assert!(rt; text.as_str() == VALUES);
-    let bits = [
-        MixedEnumSet::bit_index(Marks::C),
-        MixedEnumSet::bit_index(Letters::G),
-        MixedEnumSet::bit_index(Sparse::D),
-        MixedEnumSet::bit_index(PairWords::B),
-        MixedEnumSet::bit_index(PairNumber::B),
-        MixedEnumSet::bit_index(Four::D),
-        MixedEnumSet::bit_index(High::A),
-        MixedEnumSet::bit_index(Masks::Q),
-        MixedEnumSet::bit_index(Single::A),
-    ];
-    assert!(rt; bits == [2, 6, 127, 64, 64, 3, 7, 4, 0]);
-    Ok(())
+// Whether a set of elements is read of its store's value, by the call that asks as by the one that does not test.
+fn repr_is_taken_back<T: EnumSetTypeWithRepr>(a: T, b: T) -> bool {
+    let set = EnumSet::only(a).union(EnumSet::only(b));
+    EnumSet::<T>::from_repr(set.as_repr()) == set
+        && EnumSet::<T>::from_repr_unchecked(set.as_repr()) == set
 }
 
-const VALUES: &str = "\
-3 7
-0 0 7 255 0 true true
-1 1 6 254 0 true true
-8 0 7 247 0 true true
-255 7 0 0 0 true true
-7 127
-0 0 127 255 0 true true
-1 1 126 254 0 true true
-128 0 127 127 0 true true
-255 127 0 0 0 true true
-4 170141183460469231731687303716958897152
-0 0 170141183460469231731687303716958897152 340282366920938463463374607431768211455 0 true true
-1024 1024 170141183460469231731687303716958896128 340282366920938463463374607431768210431 0 true true
-1 0 170141183460469231731687303716958897152 340282366920938463463374607431768211454 0 true true
-340282366920938463463374607431768211455 170141183460469231731687303716958897152 0 0 0 true true
-2 18446744073709551617
-0 0 18446744073709551617 340282366920938463463374607431768211455 0 true true
-18446744073709551616 18446744073709551616 1 340282366920938463444927863358058659839 0 true true
-9223372036854775808 0 18446744073709551617 340282366920938463454151235394913435647 0 true true
-340282366920938463463374607431768211455 18446744073709551617 0 0 0 true true
-2 18446744073709551617
-0 0 18446744073709551617 340282366920938463463374607431768211455 0 true true
-18446744073709551616 18446744073709551616 1 340282366920938463444927863358058659839 0 true true
-9223372036854775808 0 18446744073709551617 340282366920938463454151235394913435647 0 true true
-340282366920938463463374607431768211455 18446744073709551617 0 0 0 true true
-4 15
-0 0 15 255 0 true true
-8 8 7 247 0 true true
-16 0 15 239 0 true true
-255 15 0 0 0 true true
-3 224
-0 0 224 255 0 true true
-128 128 96 127 0 true true
-1 0 224 254 0 true true
-255 224 0 0 0 true true
-3 81
-0 0 81 255 0 true true
-16 16 65 239 0 true true
-2 0 81 253 0 true true
-255 81 0 0 0 true true
-1 1
-0 0 1 255 0 true true
-1 1 0 254 0 true true
-2 0 1 253 0 true true
-255 1 0 0 0 true true
-";
+// The lines of a type's mixed sets: of two elements, an unknown bit below the store's width, and the numbers of sets.
+pub fn write_mixed_sets<T: EnumSetTypeWithRepr + fmt::Debug>(
+    text: &mut String,
+    one: T,
+    other: T,
+    unknown: u32,
+    numbers: &[u128],
+) -> Result<(), AllocError>
+    requires { unknown < T.Repr.WIDTH }
+{
+    write_all_answers(text, other, unknown)?;
+    write_operations(text, one, other, unknown)?;
+    let width = T::Repr::WIDTH;
+    writeln!(
+        text,
+        "{width} {} {} {} {} {}",
+        MixedEnumSet::bit_index(other),
+        changes(other, unknown) == CHANGES,
+        relations(other, unknown) == RELATIONS,
+        past_the_width(other, width) == PAST_THE_WIDTH,
+        repr_is_taken_back(one, other)
+    )?;
+    write_values::<T>(text, numbers)
+}

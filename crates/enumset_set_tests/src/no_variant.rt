@@ -3,9 +3,9 @@
 ghost use Rattle.std.specs.Prelude.{◌<◌};
 
 use super::conversions::{arrays_of_all, reads_all, write_numbers};
-use super::element_types::{starts_empty, write_texts};
-use super::mixed::{write_answers, write_values};
+use super::mixed::{of_number, write_answers, write_values};
 use super::order::bytes_fed;
+use super::sets::{starts_empty, write_texts};
 use enumset_mixed::mixed_enum_set::MixedEnumSet;
 use enumset_repr::EnumSetTypeRepr;
 use enumset_sets::element::EnumSetType;
@@ -64,7 +64,7 @@ fn reads_no_bit<T: EnumSetTypeWithRepr>() -> bool {
 }
 
 // A line of the texts of sets and mixed sets.
-fn write_sets<T: EnumSetTypeWithRepr + fmt::Debug + fmt::Display>(
+fn write_both_texts<T: EnumSetTypeWithRepr + fmt::Debug + fmt::Display>(
     text: &mut String,
 ) -> Result<(), AllocError>
     requires { 7 < T.Repr.WIDTH }
@@ -79,6 +79,37 @@ fn write_sets<T: EnumSetTypeWithRepr + fmt::Debug + fmt::Display>(
         " {inserted} {kept} {removed} {mixed} {}",
         mixed.eq_enumset(all)
     )
+}
+
+// What the calls of sets and mixed sets answer, a line each.
+fn write_calls<T: EnumSetTypeWithRepr + fmt::Debug + fmt::Display>(
+    text: &mut String,
+) -> Result<(), AllocError>
+    requires { 7 < T.Repr.WIDTH }
+{
+    writeln!(
+        text,
+        "{} {} {} {} {}",
+        has_no_bit::<T>(),
+        starts_empty::<T>(),
+        reads_no_bit::<T>(),
+        bytes_fed(&EnumSet::<T>::all()) == bytes_fed(&0u8),
+        of_number::<T>(4) > of_number(3)
+    )?;
+    let (arrays, none, one) = (
+        arrays_of_all::<T>(),
+        reads_all::<T>([0; 4]),
+        reads_all::<T>([0, 0, 0, 1]),
+    );
+    writeln!(text, "{arrays:?} {none:?} {one:?}")?;
+    let other = (1, 65535, 128, 1, 1 << 127, 255);
+    write_numbers(text, &EnumSet::<T>::new(), (0, 0, 0, 0, 0, 0), other)?;
+    write_texts::<T>(text)?;
+    write_both_texts::<T>(text)?;
+    for byte in [0, 128, 255] {
+        write_answers(text, &of_number::<T>(byte))?;
+    }
+    write_values::<T>(text, &[0, 1, 128, 255])
 }
 
 #[test]
@@ -138,43 +169,26 @@ fn no_variant_is_enough(rt: HostRuntime) -> Result<(), Fail> {
         }
     }
 
-    assert!(rt; has_no_bit::<Nothing>() && starts_empty::<Nothing>());
-    assert!(rt; reads_no_bit::<Nothing>());
-    assert!(rt; arrays_of_all::<Nothing>() == (Some([0, 0]), [0, 0], Some([0, 0, 0, 0])));
-    assert!(rt; reads_all::<Nothing>([0; 4]) == (Some(true), true));
-    assert!(rt; reads_all::<Nothing>([0, 0, 0, 1]) == (None, true));
-    assert!(rt; bytes_fed(&EnumSet::<Nothing>::all()) == bytes_fed(&0u8));
-    assert!(rt; MixedEnumSet::<Nothing>::from_repr(4) > MixedEnumSet::from_repr(3));
     let mut text = String::new(rt.alloc());
-    let other = (1, 65535, 128, 1, 1 << 127, 255);
-    write_numbers(
-        &mut text,
-        &EnumSet::<Nothing>::new(),
-        (0, 0, 0, 0, 0, 0),
-        other,
-    )?;
-    write_texts::<Nothing>(&mut text)?;
-    write_sets::<Nothing>(&mut text)?;
-    write_answers(&mut text, &MixedEnumSet::<Nothing>::new())?;
-    write_answers(&mut text, &MixedEnumSet::<Nothing>::from_repr(128))?;
-    write_answers(&mut text, &MixedEnumSet::<Nothing>::from_repr(255))?;
-    write_values::<Nothing>(&mut text, &[0, 1, 128, 255])?;
+    write_calls::<Nothing>(&mut text)?;
     assert!(rt; text.as_str() == TEXT);
     Ok(())
 }
 
 const TEXT: &str = "\
+true true true true true
+(Some([0, 0]), [0, 0], Some([0, 0, 0, 0])) (Some(true), true) (None, true)
 Some(0) 0 Some(EnumSet()) None EnumSet() true true
 Some(0) 0 Some(EnumSet()) None EnumSet() true true
 Some(0) 0 Some(EnumSet()) None EnumSet() true true
 Some(0) 0 Some(EnumSet()) None EnumSet() true true
 Some(0) 0 Some(EnumSet()) None EnumSet() true true
 Some(0) 0 Some(EnumSet()) None EnumSet() true true
-EnumSet()
+ EnumSet()
 <> <EnumSet()> <[0] | [7]> <MixedEnumSet([0] | [7])> true false true [1] | [7] false
-0 0 true false MixedEnumSet() 8 EnumSet() Some(EnumSet())
-1 0 false true MixedEnumSet() 7 EnumSet() None
-8 0 false true MixedEnumSet() 0 EnumSet() None
+0 0 8 true false MixedEnumSet() EnumSet() Some(EnumSet())
+1 0 7 false true MixedEnumSet() EnumSet() None
+8 0 0 false true MixedEnumSet() EnumSet() None
 0 0
 0 0 0 255 0 true true
 1 0 0 254 0 true true

@@ -6,6 +6,7 @@ use enumset_sets::enum_set::EnumSet;
 use enumset_worked::high::High;
 use enumset_worked::masks::Masks;
 use enumset_worked::single::Single;
+use enumset_worked::sparse::Sparse;
 
 #[test]
 fn bits_count_from_the_highest(rt: HostRuntime) {
@@ -25,6 +26,8 @@ fn bits_are_those_of_masks(rt: HostRuntime) {
     assert!(rt; set.try_as_u8() == Some(80) && EnumSet::<Masks>::bit_width() == 7);
     let valid = [0, 1, 4, 6, 16, 64, 256].map(EnumSet::<Masks>::is_bit_valid);
     assert!(rt; valid == [true, false, true, true, false, false, false]);
+    let valid = [127, 128, 4294967295].map(EnumSet::<Sparse>::is_bit_valid);
+    assert!(rt; valid == [true, false, false]);
     assert!(rt; EnumSet::<Masks>::try_from_u8(2) == None);
 }
 

@@ -3,8 +3,12 @@
 ghost use Rattle.std.specs.Prelude.{◌≡◌};
 ghost use Rattle.enumset_repr.specs.BitSet as set;
 
+use super::mixed::{number_of, of_number};
+use super::sets::two_of;
 use enumset_mixed::mixed_enum_set::MixedEnumSet;
+use enumset_sets::element::EnumSetType;
 use enumset_sets::enum_set::EnumSet;
+use enumset_sets::with_repr::EnumSetTypeWithRepr;
 use enumset_worked::four::Four;
 use enumset_worked::letters::Letters;
 use enumset_worked::marks::Marks;
@@ -12,25 +16,38 @@ use std::test::Fail;
 
 // The numbers of what the operators make of two sets, and of the first where they assign to it.
 macro_rules! numbers {
-    ($a:expr, $b:expr, $number:ident) => {{
-        let (a, b) = ($a, $b);
-        let (mut and, mut or, mut xor, mut sub) = (a, a, a, a);
-        and &= b;
-        or |= b;
-        xor ^= b;
-        sub -= b;
+    ($a:expr, $b:expr, $number:expr) => {{
+        let (mut and, mut or, mut xor, mut sub) = ($a, $a, $a, $a);
+        and &= $b;
+        or |= $b;
+        xor ^= $b;
+        sub -= $b;
         [
-            (a & b).$number(),
-            (a | b).$number(),
-            (a ^ b).$number(),
-            (a - b).$number(),
-            (!a).$number(),
-            and.$number(),
-            or.$number(),
-            xor.$number(),
-            sub.$number(),
+            $number($a & $b),
+            $number($a | $b),
+            $number($a ^ $b),
+            $number($a - $b),
+            $number(!$a),
+            $number(and),
+            $number(or),
+            $number(xor),
+            $number(sub),
         ]
     }};
+}
+
+fn as_byte<T: EnumSetType>(set: EnumSet<T>) -> u8 {
+    set.as_u8_truncated()
+}
+
+// Of two sets of two elements that share the one between.
+fn of_sets<T: EnumSetType>(a: T, b: T, c: T) -> [u8; 9] {
+    numbers!(two_of(a, b), two_of(b, c), as_byte)
+}
+
+// Of two mixed sets, by their numbers.
+fn of_mixed_sets<T: EnumSetTypeWithRepr>(a: u8, b: u8) -> [u128; 9] {
+    numbers!(of_number::<T>(a), of_number::<T>(b), number_of)
 }
 
 // A user's function over two sets: what operators do in it is known with no lemma.
@@ -42,26 +59,19 @@ fn in_one_alone(a: EnumSet<Letters>, b: EnumSet<Letters>) -> EnumSet<Letters>
 
 #[test]
 fn sets_have_operators(rt: HostRuntime) {
-    let (a, b) = (Letters::A | Letters::B, Letters::B | Letters::C);
-    let letters = numbers!(a, b, as_u8_truncated);
-    assert!(rt; letters == [2, 7, 5, 1, 124, 2, 7, 5, 1] && in_one_alone(a, b) == a ^ b);
-    let (a, b) = (Four::A | Four::B, Four::B | Four::D);
-    let four = numbers!(a, b, as_u8_truncated);
+    let letters = of_sets(Letters::A, Letters::B, Letters::C);
+    let four = of_sets(Four::A, Four::B, Four::D);
+    assert!(rt; letters == [2, 7, 5, 1, 124, 2, 7, 5, 1]);
     assert!(rt; four == [2, 11, 9, 1, 12, 2, 11, 9, 1]);
+    let (a, b) = (Letters::A | Letters::B, Letters::B | Letters::C);
+    assert!(rt; in_one_alone(a, b) == a ^ b);
 }
 
 #[test]
 fn mixed_sets_have_operators(rt: HostRuntime) {
-    let (nine, ten) = (
-        MixedEnumSet::<Marks>::from_repr(9),
-        MixedEnumSet::from_repr(10),
-    );
-    assert!(rt; numbers!(nine, ten, as_repr) == [8, 11, 3, 1, 6, 8, 11, 3, 1]);
-    let (all, one) = (
-        MixedEnumSet::<Letters>::from_repr(255),
-        MixedEnumSet::from_repr(1),
-    );
-    assert!(rt; numbers!(all, one, as_repr) == [1, 255, 254, 254, 0, 1, 255, 254, 254]);
+    assert!(rt; of_mixed_sets::<Marks>(9, 10) == [8, 11, 3, 1, 6, 8, 11, 3, 1]);
+    assert!(rt; of_mixed_sets::<Letters>(255, 1) == [1, 255, 254, 254, 0, 1, 255, 254, 254]);
+    let nine = MixedEnumSet::<Marks>::from_repr(9);
     assert!(rt; (nine - MixedEnumSet::from_repr(1)).as_repr() == 8);
 }
 
