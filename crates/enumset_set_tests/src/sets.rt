@@ -54,8 +54,8 @@ fn is_read_from_an_array<T: EnumSetType>(set: &EnumSet<T>) -> bool {
         && EnumSet::<T>::from_array_unchecked(array) == read
 }
 
-// Whether a set's words, written to a slice that has room for them by the call that tests and by the call that asks, are
-// read as the set by those that ask.
+// Whether a set's words, written to a slice that has room for them by the call that tests and by the call that asks,
+// are read as the set by those that ask.
 fn is_read_from_a_slice<T: EnumSetType>(set: &EnumSet<T>) -> bool {
     let (mut tested, mut asked) = ([7; 3], [7; 3]);
     if set.try_copy_into_slice(&mut tested).is_none() {
@@ -85,8 +85,8 @@ pub fn write_texts<T: EnumSetType + fmt::Display + fmt::Debug>(
     writeln!(text, "{} {:?}", EnumSet::<T>::all(), EnumSet::<T>::all())
 }
 
-// A type's width and how many variants it has, the texts of its elements, and whether the calls answer what they have to
-// of two elements in the order of their bits; of one element, given twice, those alone that need no other.
+// A type's width and how many variants it has, the texts of its elements, and whether the calls answer what they have
+// to of two elements in the order of their bits; of one element, given twice, those alone that need no other.
 pub fn write_sets<T: EnumSetType + fmt::Display + fmt::Debug>(
     text: &mut String,
     a: T,
