@@ -1,6 +1,8 @@
 -- What an element type proves of its values and their bits.
 --     Elements      the bit of each value, and the list of the variants' bits
---     with_bits, in_order      the elements of an enum without fields: their bits from a list;  their bits 0, 1, 2 and so on
+--     with_bits      the elements of an enum without fields, their bits from a list
+--     in_place      the same, each bit its variant's place: 0, 1, 2 and so on
+--     in_order      the same bits, as a list
 --     one_past      one past a number, 0 of none
 --     one_past_greatest      one past the greatest member, 0 of the empty set
 --     IsElementType      the laws of an element type
@@ -24,6 +26,10 @@ with_bits D bs = record { bit = λ v. slice_index bs (tag_of D v); bit_list = bs
 -- the same on bits 0, 1, 2 and so on
 abbrev pub in_order : (D : Declared) → Elements D.D
 in_order D = with_bits D (range_with_len 0 (length (rowss D.parts)))
+
+-- the same, where the bit of a variant is its place, which `self as u32` gives at once, however many variants there are
+abbrev pub in_place : (D : Declared) → Elements D.D
+in_place D = record { bit = λ v. tag_of D v; bit_list = range_with_len 0 (length (rowss D.parts)) }
 
 -- one past a number, 0 where there is none
 abbrev pub one_past : Option ℕ → ℕ

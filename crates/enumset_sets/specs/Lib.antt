@@ -3,3 +3,4 @@ pub mod Folds
 pub mod Held
 pub mod Laws
 pub mod Texts
+pub mod Variants

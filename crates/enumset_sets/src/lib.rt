@@ -18,6 +18,7 @@ pub mod raw;
 pub mod store;
 mod taken;
 pub mod text;
+pub mod variants;
 pub mod with_repr;
 mod words;
 

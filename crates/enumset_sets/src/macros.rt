@@ -1,22 +1,104 @@
 //! The macro by which an element type answers `enum_from_u32`.
 
-/// The variant of a bit, of an enum whose discriminants are its variants' bits: `variant_of!(bit, Letters: A B C)`
-/// names the enum and all its variants.
+/// The variant of a bit. `variant_of!(bit, Month: January February March)` names the enum and all its variants, in the
+/// order of their bits, which are 0, 1, 2 and so on. Where the bits are others, each stands before its variant:
+/// `variant_of!(bit, Sparse: 10 A 20 B 127 C)`.
 ///
-/// The bit must be one of theirs; so of an enum without variants there is none to ask for.
+/// The bit must be one of theirs; an enum without variants has none. It takes up to 256 variants, as many as an enum
+/// may have, and becomes one `match` over the bits.
 #[macro_export]
 macro_rules! variant_of {
+    // No variant is left where `is_below` tells the proof so. More than 256 are refused before.
+    (@arms $bit:expr, $of:ident [$($arm:tt)+] [$count:literal $($at:literal)*]) => {{
+        let bit: u32 = $bit;
+        match bit {
+            $($arm)+
+            _ => {
+                $crate::variants::is_below(bit, $count);
+                unreachable!()
+            }
+        }
+    }};
+    (@arms $bit:expr, $of:ident [$($arm:tt)+] [$count:literal] $($variant:ident)+) => {
+        compile_error!("variant_of! takes at most 256 variants, as many as an enum may have")
+    };
+    // Sixteen variants become arms at a time, and the last fifteen one by one.
+    (
+        @arms $bit:expr, $of:ident [$($arm:tt)*]
+        [$a0:literal $a1:literal $a2:literal $a3:literal $a4:literal $a5:literal $a6:literal $a7:literal
+            $a8:literal $a9:literal $a10:literal $a11:literal $a12:literal $a13:literal $a14:literal $a15:literal $($at:literal)+]
+        $v0:ident $v1:ident $v2:ident $v3:ident $v4:ident $v5:ident $v6:ident $v7:ident
+        $v8:ident $v9:ident $v10:ident $v11:ident $v12:ident $v13:ident $v14:ident $v15:ident $($variant:ident)*
+    ) => {
+        $crate::variant_of!(
+            @arms $bit, $of
+            [
+                $($arm)*
+                $a0 => $of::$v0, $a1 => $of::$v1, $a2 => $of::$v2, $a3 => $of::$v3,
+                $a4 => $of::$v4, $a5 => $of::$v5, $a6 => $of::$v6, $a7 => $of::$v7,
+                $a8 => $of::$v8, $a9 => $of::$v9, $a10 => $of::$v10, $a11 => $of::$v11,
+                $a12 => $of::$v12, $a13 => $of::$v13, $a14 => $of::$v14, $a15 => $of::$v15,
+            ]
+            [$($at)+] $($variant)*
+        )
+    };
+    (@arms $bit:expr, $of:ident [$($arm:tt)*] [$a:literal $($at:literal)+] $v:ident $($variant:ident)*) => {
+        $crate::variant_of!(@arms $bit, $of [$($arm)* $a => $of::$v,] [$($at)+] $($variant)*)
+    };
+    // No bit is left: a proof is told so of 64 at a time.
+    (
+        @none $bit:ident
+        $a0:literal $a1:literal $a2:literal $a3:literal $a4:literal $a5:literal $a6:literal $a7:literal
+        $a8:literal $a9:literal $a10:literal $a11:literal $a12:literal $a13:literal $a14:literal $a15:literal
+        $a16:literal $a17:literal $a18:literal $a19:literal $a20:literal $a21:literal $a22:literal $a23:literal
+        $a24:literal $a25:literal $a26:literal $a27:literal $a28:literal $a29:literal $a30:literal $a31:literal
+        $a32:literal $a33:literal $a34:literal $a35:literal $a36:literal $a37:literal $a38:literal $a39:literal
+        $a40:literal $a41:literal $a42:literal $a43:literal $a44:literal $a45:literal $a46:literal $a47:literal
+        $a48:literal $a49:literal $a50:literal $a51:literal $a52:literal $a53:literal $a54:literal $a55:literal
+        $a56:literal $a57:literal $a58:literal $a59:literal $a60:literal $a61:literal $a62:literal $a63:literal
+        $($at:literal)+
+    ) => {{
+        $crate::variants::is_listed_later(
+            $bit,
+            &[
+                $a0, $a1, $a2, $a3, $a4, $a5, $a6, $a7, $a8, $a9, $a10, $a11, $a12, $a13, $a14, $a15,
+                $a16, $a17, $a18, $a19, $a20, $a21, $a22, $a23, $a24, $a25, $a26, $a27, $a28, $a29, $a30, $a31,
+                $a32, $a33, $a34, $a35, $a36, $a37, $a38, $a39, $a40, $a41, $a42, $a43, $a44, $a45, $a46, $a47,
+                $a48, $a49, $a50, $a51, $a52, $a53, $a54, $a55, $a56, $a57, $a58, $a59, $a60, $a61, $a62, $a63,
+            ],
+            &[$($at),+],
+        );
+        $crate::variant_of!(@none $bit $($at)+)
+    }};
+    (@none $bit:ident $($at:literal)+) => {{
+        $crate::variants::is_listed($bit, &[$($at),+]);
+        unreachable!()
+    }};
     ($bit:expr, $of:ident:) => {
         unreachable!()
     };
-    ($bit:expr, $of:ident: $last:ident) => {
-        $of::$last
-    };
-    ($bit:expr, $of:ident: $first:ident $($rest:ident)+) => {
-        if $bit == $of::$first as u32 {
-            $of::$first
-        } else {
-            $crate::variant_of!($bit, $of: $($rest)+)
+    ($bit:expr, $of:ident: $($at:literal $variant:ident)+) => {{
+        let bit: u32 = $bit;
+        match bit {
+            $($at => $of::$variant,)+
+            _ => $crate::variant_of!(@none bit $($at)+),
         }
+    }};
+    ($bit:expr, $of:ident: $($variant:ident)+) => {
+        $crate::variant_of!(
+            @arms $bit, $of []
+            [
+            0 1 2 3 4 5 6 7 8 9 10 11 12 13 14 15 16 17 18 19 20 21 22 23 24 25 26 27 28 29 30 31
+            32 33 34 35 36 37 38 39 40 41 42 43 44 45 46 47 48 49 50 51 52 53 54 55 56 57 58 59 60 61 62 63
+            64 65 66 67 68 69 70 71 72 73 74 75 76 77 78 79 80 81 82 83 84 85 86 87 88 89 90 91 92 93 94 95
+            96 97 98 99 100 101 102 103 104 105 106 107 108 109 110 111 112 113 114 115 116 117 118 119 120 121 122 123 124 125 126 127
+            128 129 130 131 132 133 134 135 136 137 138 139 140 141 142 143 144 145 146 147 148 149 150 151 152 153 154 155 156 157 158 159
+            160 161 162 163 164 165 166 167 168 169 170 171 172 173 174 175 176 177 178 179 180 181 182 183 184 185 186 187 188 189 190 191
+            192 193 194 195 196 197 198 199 200 201 202 203 204 205 206 207 208 209 210 211 212 213 214 215 216 217 218 219 220 221 222 223
+            224 225 226 227 228 229 230 231 232 233 234 235 236 237 238 239 240 241 242 243 244 245 246 247 248 249 250 251 252 253 254 255
+            256
+            ]
+            $($variant)+
+        )
     };
 }

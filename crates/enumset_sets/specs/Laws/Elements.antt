@@ -1,6 +1,7 @@
 -- The laws of an enum without fields as an element type, from one test of its bits and its constants.
 --     IsLawful, IsLawfulNumber, IsLawfulWords      the test; where it fails it is the fault, by a name that says what to mend
 --     lawful_in, lawful_in_integer, lawful_in_words      the laws, over any store; over an integer; over words
+--     lawful_in_place      the laws where each bit is its variant's place, from those of the same bits as a list
 --     derived_eq      what a derived `==` of such an enum answers
 -- An element type imports the makers of its elements from here too.
 use Rattle.std.proofs.Common.{◌≡◌, ◌<◌, ◌≤◌, ℕ, suc, zero, ◌+◌, ◌^◌, Bool, true, false, cond, eqb, List, Some, sym, ap, ◌∙◌, length, get_or, max, sum_by, arith, true≢false, inl, inr}
@@ -10,7 +11,8 @@ use denote.Enum.Declared.{Declared, rowss, tag_of}
 use denote.Enum.Enum.{tag_below}
 use denote.Enum.Bare.{Bare, tag_one, sameb, same_true, true_same}
 use Rattle.std.proofs.lemmas.Bool.{or_cases, cases_lt, and_parts, and_from, or_left, or_right, not-true, eqb-true, eq-eqb}
-use Rattle.std.specs.List.{last_or}
+use Rattle.std.specs.List.{last_or, range_with_len}
+use Rattle.std.proofs.lemmas.List.FromFn.{get_or-range_with_len}
 use Rattle.enumset_repr.specs.BitSet.{BitSet, is_in, contains, from_list, rising, len, is_subset}
 use Rattle.enumset_repr.specs.Number.{bits, is_distinct}
 use Rattle.enumset_repr.specs.Ends.{last, greatest}
@@ -19,7 +21,7 @@ use Rattle.enumset_repr.specs.Laws.Rising.{len-empty, len-insert, rising-rises, 
 use Rattle.enumset_repr.specs.Words.{bits_of, in_first_word, in_later_words, lists_words}
 use Rattle.enumset_repr.specs.Laws.Listed.{bits_listed, words_listed}
 use Rattle.std.specs.Prelude.{[], ◌∷◌, refl}
-pub use Rattle.enumset_sets.specs.Elements.{with_bits, in_order}
+pub use Rattle.enumset_sets.specs.Elements.{with_bits, in_order, in_place}
 use Rattle.enumset_sets.specs.Elements.{one_past, one_past_greatest, IsElementType, AreBitsOf}
 
 -- one past the greatest number of a list
@@ -226,6 +228,25 @@ pub lawful_in_words : {bs : List ℕ} {width count : ℕ} (D : Declared) (ns : L
 lawful_in_words {bs} {width} {count} D ns test =
     let p = IsLawful-passes D bs (lists_words bs ns) _ width count (λ h. elim h [ ]) test in
     laws D bs _ (bits_of ns) width count (words_listed bs ns p.is_valid) p
+
+-- ---- bits that are their variants' places
+
+in_place-bit : (D : Declared) (v : D.D) → (in_place D).bit v ≡ (in_order D).bit v
+in_place-bit D v = omega (arith, get_or-range_with_len 0 (length (rowss D.parts)) (tag_of D v) 0 (tag_below (rowss D.parts) (D.to v)))
+
+-- The laws of an enum whose bits are its variants' places, from those of the same bits as a list.
+pub lawful_in_place : (D : Declared) {eq : D.D → D.D → Bool} {all : BitSet} {width count : ℕ} → IsElementType (in_order D) eq all width count → IsElementType (in_place D) eq all width count
+lawful_in_place D {eq} {all} l =
+    let at : (v : D.D) → (in_place D).bit v ≡ (in_order D).bit v = in_place-bit D in
+    record {
+      valid = l.valid;
+      distinct = l.distinct;
+      bit_is_valid = λ v. ap (contains all) (at v) ∙ l.bit_is_valid v;
+      bit_tells = λ v w same. l.bit_tells v w (sym (at v) ∙ same ∙ at w);
+      eq_tells = λ v w. (λ e. at v ∙ (l.eq_tells v w).0 e ∙ sym (at w), λ e. (l.eq_tells v w).1 (sym (at v) ∙ e ∙ at w));
+      width_is = l.width_is;
+      count_is = l.count_is;
+    }
 
 -- ---- what the laws give
 

@@ -1,0 +1,30 @@
+-- Numbers that are in a list.
+--     not_none, is_in-later      such a number is not apart from all of the list's;  apart from the first ones, it is a later one
+--     below_range      one of neighbouring numbers is below where they end
+use Rattle.std.proofs.Common.{◌≡◌, ◌<◌, ℕ, suc, zero, ◌+◌, true, List, [], ◌∷◌, ◌++◌, sym, arith, true≢false, inl, inr}
+use Rattle.std.specs.Prelude.{◌==◌}
+use Rattle.std.specs.List.{range_with_len}
+use Rattle.std.proofs.lemmas.Bool.{or_cases, eqb-true}
+use Rattle.enumset_repr.specs.BitSet.{is_in}
+use Rattle.enumset_sets.specs.Variants.{IsNoneOf}
+
+pub not_none : (q : ℕ) (bs : List ℕ) → is_in q bs ≡ true → IsNoneOf q bs → ⊥
+not_none q [] one none = true≢false (sym one)
+not_none q (b ∷ bs) one none = elim (or_cases (q == b) _ one) [
+  | inl here ↦ none.0 (eqb-true q b here)
+  | inr later ↦ not_none q bs later none.1
+]
+
+pub is_in-later : (q : ℕ) (bs cs : List ℕ) → is_in q (bs ++ cs) ≡ true → IsNoneOf q bs → is_in q cs ≡ true
+is_in-later q [] cs one none = one
+is_in-later q (b ∷ bs) cs one none = elim (or_cases (q == b) _ one) [
+  | inl here ↦ absurd (none.0 (eqb-true q b here))
+  | inr later ↦ is_in-later q bs cs later none.1
+]
+
+pub below_range : (a n q : ℕ) → is_in q (range_with_len a n) ≡ true → q < a + n
+below_range a zero q one = absurd (true≢false (sym one))
+below_range a (suc n) q one = elim (or_cases (q == a) _ one) [
+  | inl here ↦ omega (arith, eqb-true q a here)
+  | inr later ↦ omega (arith, below_range (a + 1) n q later)
+]

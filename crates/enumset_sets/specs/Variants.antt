@@ -1,0 +1,7 @@
+-- What a match over bits knows where no arm was taken.
+--     IsNoneOf      a number is none of a list's
+use Rattle.std.specs.Prelude.{◌≡◌, ℕ, List, [], ◌∷◌}
+
+abbrev pub IsNoneOf : ℕ → List ℕ → Type 0
+IsNoneOf q [] = Unit {0}
+IsNoneOf q (b ∷ bs) = (q ≡ b → ⊥) × IsNoneOf q bs
