@@ -24,6 +24,8 @@ mod round_trips;
 #[cfg(test)]
 mod sending;
 #[cfg(test)]
+mod sizes;
+#[cfg(test)]
 mod words;
 #[cfg(test)]
 mod written;

@@ -31,3 +31,5 @@ mod sending;
 mod set_texts;
 #[cfg(test)]
 mod sets;
+#[cfg(test)]
+mod sizes;

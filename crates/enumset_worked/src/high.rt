@@ -43,7 +43,7 @@ impl EnumSetType for High {
     }
 
     fn enum_from_u32(val: u32) -> High {
-        variant_of!(u8::BITS - 1 - val, High: A B C)
+        variant_of!(val, High: 7 A 6 B 5 C)
     }
 
     ghost lawful = { lawful_in_integer the_type _ tt };

@@ -43,7 +43,7 @@ impl EnumSetType for Masks {
     }
 
     fn enum_from_u32(val: u32) -> Masks {
-        variant_of!(1 << val, Masks: P Q R)
+        variant_of!(val, Masks: 0 P 4 Q 6 R)
     }
 
     ghost lawful = { lawful_in_integer the_type _ tt };

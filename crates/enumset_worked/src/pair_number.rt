@@ -42,7 +42,7 @@ impl EnumSetType for PairNumber {
     }
 
     fn enum_from_u32(val: u32) -> PairNumber {
-        variant_of!(val, PairNumber: A B)
+        variant_of!(val, PairNumber: 0 A 64 B)
     }
 
     ghost lawful = { lawful_in_integer the_type _ tt };

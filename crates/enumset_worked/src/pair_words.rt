@@ -43,7 +43,7 @@ impl EnumSetType for PairWords {
     }
 
     fn enum_from_u32(val: u32) -> PairWords {
-        variant_of!(val, PairWords: A B)
+        variant_of!(val, PairWords: 0 A 64 B)
     }
 
     ghost lawful = { lawful_in_words the_type _ tt };

@@ -44,7 +44,7 @@ impl EnumSetType for Sparse {
     }
 
     fn enum_from_u32(val: u32) -> Sparse {
-        variant_of!(val, Sparse: A B C D)
+        variant_of!(val, Sparse: 10 A 20 B 30 C 127 D)
     }
 
     ghost lawful = { lawful_in_integer the_type _ tt };

@@ -43,7 +43,7 @@ impl EnumSetType for Wide {
     }
 
     fn enum_from_u32(val: u32) -> Wide {
-        variant_of!(val, Wide: P Q R)
+        variant_of!(val, Wide: 3 P 64 Q 130 R)
     }
 
     ghost lawful = { lawful_in_words the_type _ tt };
