@@ -6,6 +6,8 @@
 #![tactic(auto)]
 
 pub mod conversions;
+mod element_operators;
+mod enum_set_operators;
 mod folds;
 mod hash;
 pub mod mixed_enum_set;

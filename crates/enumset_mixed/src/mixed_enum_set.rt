@@ -175,6 +175,13 @@ impl<T: EnumSetTypeWithRepr> MixedEnumSet<T> {
         EnumSet::<T>::is_bit_valid(bit)
     }
 
+    /// The same set, as a value of its own. Code over any element type takes it where it uses a set by value twice.
+    pub fn copied(&self) -> MixedEnumSet<T>
+        ensures { result ≡ self.now }
+    {
+        Self::of_repr(self.repr)
+    }
+
     /// How many members there are, unknown bits counted. Each is below the store's width.
     pub fn len(&self) -> usize
         ensures members { result ≡ set.len self.now }

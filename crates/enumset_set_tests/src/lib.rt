@@ -8,6 +8,8 @@ mod conversions;
 #[cfg(test)]
 mod each_type;
 #[cfg(test)]
+mod expressions;
+#[cfg(test)]
 mod folds;
 #[cfg(test)]
 mod macros;

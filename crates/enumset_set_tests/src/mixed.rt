@@ -280,7 +280,7 @@ pub fn write_values<T: EnumSetTypeWithRepr>(
         let value = T::Repr::from_u128(*number);
         let set = MixedEnumSet::<T>::from_repr(value);
         let valid = MixedEnumSet::<T>::from_repr_truncated(value);
-        let mut cleared = set.clone().unwrap();
+        let mut cleared = set.copied();
         cleared.clear();
         let written = [
             set.as_repr().to_u128(),

@@ -12,9 +12,10 @@ use enumset_sets::with_repr::EnumSetTypeWithRepr;
 use enumset_worked::four::Four;
 use enumset_worked::letters::Letters;
 use enumset_worked::marks::Marks;
+use enumset_worked::wide::Wide;
 use std::test::Fail;
 
-// The numbers of what the operators make of two sets, and of the first where they assign to it.
+// The numbers of what the operators make of a set and a set or an element, and of the first where they assign to it.
 macro_rules! numbers {
     ($a:expr, $b:expr, $number:expr) => {{
         let (mut and, mut or, mut xor, mut sub) = ($a, $a, $a, $a);
@@ -45,9 +46,28 @@ fn of_sets<T: EnumSetType>(a: T, b: T, c: T) -> [u8; 9] {
     numbers!(two_of(a, b), two_of(b, c), as_byte)
 }
 
+// Of a set of two elements and an element.
+fn of_set_and_element<T: EnumSetType>(a: T, b: T, c: T) -> [u8; 9] {
+    numbers!(two_of(a, b), c, as_byte)
+}
+
+fn as_words(set: EnumSet<Wide>) -> [u64; 3] {
+    set.as_array_truncated()
+}
+
 // Of two mixed sets, by their numbers.
 fn of_mixed_sets<T: EnumSetTypeWithRepr>(a: u8, b: u8) -> [u128; 9] {
     numbers!(of_number::<T>(a), of_number::<T>(b), number_of)
+}
+
+// Of a mixed set, by its number, and an element.
+fn of_mixed_set_and_element<T: EnumSetTypeWithRepr>(a: u8, b: T) -> [u128; 9] {
+    numbers!(of_number::<T>(a), b, number_of)
+}
+
+// Of a mixed set, by its number, and a set of two elements.
+fn of_mixed_set_and_set<T: EnumSetTypeWithRepr>(a: u8, b: T, c: T) -> [u128; 9] {
+    numbers!(of_number::<T>(a), two_of(b, c), number_of)
 }
 
 // A user's function over two sets: what operators do in it is known with no lemma.
@@ -68,11 +88,53 @@ fn sets_have_operators(rt: HostRuntime) {
 }
 
 #[test]
+fn sets_and_elements_have_operators(rt: HostRuntime) {
+    let rows = [
+        of_set_and_element(Letters::A, Letters::B, Letters::B),
+        of_set_and_element(Letters::A, Letters::B, Letters::G),
+        of_set_and_element(Four::A, Four::B, Four::A),
+        of_set_and_element(Four::A, Four::B, Four::D),
+    ];
+    let expected = [
+        [2, 3, 1, 1, 124, 2, 3, 1, 1],
+        [0, 67, 67, 3, 124, 0, 67, 67, 3],
+        [1, 3, 2, 2, 12, 1, 3, 2, 2],
+        [0, 11, 11, 3, 12, 0, 11, 11, 3],
+    ];
+    assert!(rt; rows == expected);
+    let with_a_member = numbers!(two_of(Wide::P, Wide::Q), Wide::Q, as_words);
+    let with_another = numbers!(two_of(Wide::P, Wide::Q), Wide::R, as_words);
+    let (first, second, last) = ([8, 0, 0], [0, 1, 0], [0, 0, 4]);
+    let (both, all) = ([8, 1, 0], [8, 1, 4]);
+    assert!(rt; with_a_member == [second, both, first, first, last, second, both, first, first]);
+    assert!(rt; with_another == [[0; 3], all, all, both, last, [0; 3], all, all, both]);
+}
+
+#[test]
 fn mixed_sets_have_operators(rt: HostRuntime) {
     assert!(rt; of_mixed_sets::<Marks>(9, 10) == [8, 11, 3, 1, 6, 8, 11, 3, 1]);
     assert!(rt; of_mixed_sets::<Letters>(255, 1) == [1, 255, 254, 254, 0, 1, 255, 254, 254]);
     let nine = MixedEnumSet::<Marks>::from_repr(9);
     assert!(rt; (nine - MixedEnumSet::from_repr(1)).as_repr() == 8);
+}
+
+#[test]
+fn mixed_sets_and_elements_have_operators(rt: HostRuntime) {
+    let rows = [
+        of_mixed_set_and_element(9, Marks::A),
+        of_mixed_set_and_element(9, Marks::B),
+        of_mixed_set_and_element(255, Letters::G),
+        of_mixed_set_and_set(9, Marks::A, Marks::B),
+        of_mixed_set_and_set(255, Letters::A, Letters::G),
+    ];
+    let expected = [
+        [1, 9, 8, 8, 6, 1, 9, 8, 8],
+        [0, 11, 11, 9, 6, 0, 11, 11, 9],
+        [64, 255, 191, 191, 0, 64, 255, 191, 191],
+        [1, 11, 10, 8, 6, 1, 11, 10, 8],
+        [65, 255, 190, 190, 0, 65, 255, 190, 190],
+    ];
+    assert!(rt; rows == expected);
 }
 
 #[test]
@@ -84,11 +146,14 @@ fn elements_have_operators(rt: HostRuntime) {
         Letters::A - Letters::B,
         !Letters::A,
         !(Letters::E | Letters::G),
-        (Letters::A | Letters::B) & EnumSet::only(Letters::C),
+        Letters::A | Letters::C | Letters::G,
+        Letters::A | (Letters::C | Letters::G),
+        (Letters::A | Letters::B) & Letters::C,
+        (Letters::A | Letters::B) & Letters::A,
         (Letters::A | Letters::B) ^ (Letters::B | Letters::C),
-        (Letters::A | Letters::B | EnumSet::only(Letters::C)) - EnumSet::only(Letters::B),
+        (Letters::A | Letters::B | Letters::C) - Letters::B,
     ];
-    let expected = [0, 3, 0, 1, 126, 47, 0, 5, 5];
+    let expected = [0, 3, 0, 1, 126, 47, 69, 69, 0, 1, 5, 5];
     for (set, number) in letters.iter().zip(expected) {
         assert!(rt; set.as_u8_truncated() == number);
     }
@@ -100,6 +165,34 @@ fn elements_have_operators(rt: HostRuntime) {
         !Four::D,
     ];
     for (set, number) in four.iter().zip([1, 9, 9, 0, 7]) {
+        assert!(rt; set.as_u8_truncated() == number);
+    }
+}
+
+#[test]
+fn elements_and_sets_have_operators(rt: HostRuntime) {
+    let letters = Letters::A | Letters::B;
+    let letters = [
+        Letters::A & letters,
+        Letters::C & letters,
+        Letters::C | letters,
+        Letters::A ^ letters,
+        Letters::A - letters,
+        Letters::C - letters,
+    ];
+    for (set, number) in letters.iter().zip([1, 0, 7, 2, 0, 4]) {
+        assert!(rt; set.as_u8_truncated() == number);
+    }
+    let four = Four::B | Four::D;
+    let four = [
+        Four::D & four,
+        Four::A | four,
+        Four::A ^ four,
+        Four::D ^ four,
+        Four::A - four,
+        Four::B - four,
+    ];
+    for (set, number) in four.iter().zip([8, 11, 11, 2, 1, 0]) {
         assert!(rt; set.as_u8_truncated() == number);
     }
 }

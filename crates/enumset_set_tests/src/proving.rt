@@ -28,7 +28,7 @@ pub fn is_apart_from_the_rest<T: EnumSetType>(granted: &EnumSet<T>) -> bool
 
 /// What is granted, put into a new set one by one.
 #[tactic(auto, using(enumset_repr::specs::Laws::Algebra::algebra))]
-pub fn copied<T: EnumSetType>(granted: &EnumSet<T>) -> EnumSet<T>
+pub fn rebuilt<T: EnumSetType>(granted: &EnumSet<T>) -> EnumSet<T>
     ensures { result ≡ granted.now }
 {
     let mut copy = EnumSet::new();
@@ -50,6 +50,6 @@ pub fn may(granted: &EnumSet<Wide>, asked: EnumSet<Wide>) -> bool
 fn users_functions_answer(rt: HostRuntime) {
     let mut granted = EnumSet::<Letters>::new();
     grant_then_revoke(&mut granted, Letters::C);
-    assert!(rt; is_apart_from_the_rest(&granted) && copied(&granted).is_empty());
+    assert!(rt; is_apart_from_the_rest(&granted) && rebuilt(&granted).is_empty());
     assert!(rt; may(&EnumSet::all(), EnumSet::only(Wide::Q)));
 }

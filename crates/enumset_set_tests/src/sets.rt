@@ -24,13 +24,17 @@ fn has_the_older_name<T: EnumSetType>(a: T, b: T) -> bool {
     two_of(a, b).symmetrical_difference(EnumSet::only(a)) == EnumSet::only(b)
 }
 
-// A clone of a set is equal to it, and a clone of an iterator has the same items left.
+// A clone and a copy of a set are equal to it, and a clone of an iterator has the same items left.
 fn clones<T: EnumSetType>(a: T, b: T) -> bool {
     let set = two_of(a, b).clone().unwrap();
+    let copy = set.copied();
     let mut iter = set.iter();
     iter.next();
     let mut same = iter.clone().unwrap();
-    set == two_of(a, b) && same.next_back() == Some(b) && iter.size_hint() == (1, Some(1))
+    set == two_of(a, b)
+        && copy == set
+        && same.next_back() == Some(b)
+        && iter.size_hint() == (1, Some(1))
 }
 
 // Whether a set's value of its store is read as the set.

@@ -200,6 +200,13 @@ impl<T: EnumSetType> EnumSet<T> {
         bit < T::Repr::WIDTH && all.has_bit(bit)
     }
 
+    /// The same set, as a value of its own. Code over any element type takes it where it uses a set by value twice.
+    pub fn copied(&self) -> EnumSet<T>
+        ensures { result ≡ self.now }
+    {
+        Self::of_repr(self.repr)
+    }
+
     /// How many members there are. Each is a valid bit.
     pub fn len(&self) -> usize
         ensures members { result ≡ set.len self.now }

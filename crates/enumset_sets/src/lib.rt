@@ -5,6 +5,7 @@
 #![tactic(auto)]
 
 pub mod element;
+mod element_operators;
 pub mod enum_set;
 pub mod enum_set_iter;
 mod folds;

@@ -1,4 +1,5 @@
-//! The operators on the elements of `letters` and of `four`: those of the sets of one.
+//! The operators on the elements of `letters` and of `four`, and on an element and a set: an element stands for the set
+//! of it alone.
 
 ghost use Rattle.std.specs.Prelude.{◌≡◌};
 ghost use Rattle.enumset_repr.specs.BitSet as set;
@@ -22,6 +23,17 @@ impl BitAnd for Letters {
     }
 }
 
+impl BitAnd<EnumSet<Letters>> for Letters {
+    type Output = EnumSet<Letters>;
+
+    ghost bitand_gives = { λ a b r. r ≡ set.intersection
+        (set.only (⟦<Letters as EnumSetType>⟧.elements.bit a)) b };
+
+    fn bitand(self, rhs: EnumSet<Letters>) -> EnumSet<Letters> {
+        EnumSet::only(self) & rhs
+    }
+}
+
 impl BitOr for Letters {
     type Output = EnumSet<Letters>;
 
@@ -31,6 +43,17 @@ impl BitOr for Letters {
 
     fn bitor(self, rhs: Letters) -> EnumSet<Letters> {
         EnumSet::only(self) | EnumSet::only(rhs)
+    }
+}
+
+impl BitOr<EnumSet<Letters>> for Letters {
+    type Output = EnumSet<Letters>;
+
+    ghost bitor_gives = { λ a b r. r ≡ set.union
+        (set.only (⟦<Letters as EnumSetType>⟧.elements.bit a)) b };
+
+    fn bitor(self, rhs: EnumSet<Letters>) -> EnumSet<Letters> {
+        EnumSet::only(self) | rhs
     }
 }
 
@@ -46,6 +69,17 @@ impl BitXor for Letters {
     }
 }
 
+impl BitXor<EnumSet<Letters>> for Letters {
+    type Output = EnumSet<Letters>;
+
+    ghost bitxor_gives = { λ a b r. r ≡ set.symmetric_difference
+        (set.only (⟦<Letters as EnumSetType>⟧.elements.bit a)) b };
+
+    fn bitxor(self, rhs: EnumSet<Letters>) -> EnumSet<Letters> {
+        EnumSet::only(self) ^ rhs
+    }
+}
+
 impl Sub for Letters {
     type Output = EnumSet<Letters>;
 
@@ -55,6 +89,17 @@ impl Sub for Letters {
 
     fn sub(self, rhs: Letters) -> EnumSet<Letters> {
         EnumSet::only(self) - EnumSet::only(rhs)
+    }
+}
+
+impl Sub<EnumSet<Letters>> for Letters {
+    type Output = EnumSet<Letters>;
+
+    ghost sub_gives = { λ a b r. r ≡ set.difference
+        (set.only (⟦<Letters as EnumSetType>⟧.elements.bit a)) b };
+
+    fn sub(self, rhs: EnumSet<Letters>) -> EnumSet<Letters> {
+        EnumSet::only(self) - rhs
     }
 }
 
@@ -82,6 +127,17 @@ impl BitAnd for Four {
     }
 }
 
+impl BitAnd<EnumSet<Four>> for Four {
+    type Output = EnumSet<Four>;
+
+    ghost bitand_gives = { λ a b r. r ≡ set.intersection
+        (set.only (⟦<Four as EnumSetType>⟧.elements.bit a)) b };
+
+    fn bitand(self, rhs: EnumSet<Four>) -> EnumSet<Four> {
+        EnumSet::only(self) & rhs
+    }
+}
+
 impl BitOr for Four {
     type Output = EnumSet<Four>;
 
@@ -91,6 +147,17 @@ impl BitOr for Four {
 
     fn bitor(self, rhs: Four) -> EnumSet<Four> {
         EnumSet::only(self) | EnumSet::only(rhs)
+    }
+}
+
+impl BitOr<EnumSet<Four>> for Four {
+    type Output = EnumSet<Four>;
+
+    ghost bitor_gives = { λ a b r. r ≡ set.union
+        (set.only (⟦<Four as EnumSetType>⟧.elements.bit a)) b };
+
+    fn bitor(self, rhs: EnumSet<Four>) -> EnumSet<Four> {
+        EnumSet::only(self) | rhs
     }
 }
 
@@ -106,6 +173,17 @@ impl BitXor for Four {
     }
 }
 
+impl BitXor<EnumSet<Four>> for Four {
+    type Output = EnumSet<Four>;
+
+    ghost bitxor_gives = { λ a b r. r ≡ set.symmetric_difference
+        (set.only (⟦<Four as EnumSetType>⟧.elements.bit a)) b };
+
+    fn bitxor(self, rhs: EnumSet<Four>) -> EnumSet<Four> {
+        EnumSet::only(self) ^ rhs
+    }
+}
+
 impl Sub for Four {
     type Output = EnumSet<Four>;
 
@@ -115,6 +193,17 @@ impl Sub for Four {
 
     fn sub(self, rhs: Four) -> EnumSet<Four> {
         EnumSet::only(self) - EnumSet::only(rhs)
+    }
+}
+
+impl Sub<EnumSet<Four>> for Four {
+    type Output = EnumSet<Four>;
+
+    ghost sub_gives = { λ a b r. r ≡ set.difference
+        (set.only (⟦<Four as EnumSetType>⟧.elements.bit a)) b };
+
+    fn sub(self, rhs: EnumSet<Four>) -> EnumSet<Four> {
+        EnumSet::only(self) - rhs
     }
 }
 

@@ -1,0 +1,44 @@
+//! Sets and elements in expressions: the functions of docs/PROVING.md, in the same words.
+
+ghost use Rattle.std.specs.Prelude.{◌≡◌};
+ghost use Rattle.enumset_repr.specs.BitSet as set;
+
+use enumset_sets::element::EnumSetType;
+use enumset_sets::enum_set::EnumSet;
+use enumset_worked::letters::Letters;
+
+/// What is granted, with one right more and without another.
+pub fn exchanged<T: EnumSetType>(granted: EnumSet<T>, new: T, old: T) -> EnumSet<T>
+    ensures { result
+        ≡ set.difference (set.union granted (set.only (T.elements.bit new)))
+        (set.only (T.elements.bit old)) }
+{
+    (granted | new) - old
+}
+
+/// Grants a right and revokes another.
+#[tactic(auto, using(enumset_repr::specs::Laws::Algebra::algebra))]
+pub fn exchange<T: EnumSetType>(granted: &mut EnumSet<T>, new: T, old: T)
+    ensures { granted.new
+        ≡ set.remove (set.insert granted.old (T.elements.bit new)) (T.elements.bit old) }
+{
+    *granted |= new;
+    *granted -= old;
+}
+
+/// What is granted with one right more, and what was granted before.
+pub fn after_and_before<T: EnumSetType>(granted: EnumSet<T>, right: T) -> (EnumSet<T>, EnumSet<T>)
+    ensures after { result.0 ≡ set.union granted (set.only (T.elements.bit right)) }
+    ensures before { result.1 ≡ granted }
+{
+    (granted.copied() | right, granted)
+}
+
+#[test]
+fn elements_stand_in_expressions(rt: HostRuntime) {
+    let mut granted = Letters::A | Letters::C | Letters::G;
+    assert!(rt; exchanged(granted, Letters::B, Letters::C).as_u8_truncated() == 67);
+    exchange(&mut granted, Letters::B, Letters::C);
+    let (after, before) = after_and_before(granted, Letters::D);
+    assert!(rt; [before.as_u8_truncated(), after.as_u8_truncated()] == [67, 75]);
+}
