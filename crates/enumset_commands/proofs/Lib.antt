@@ -3,4 +3,3 @@ pub mod Tokens
 pub mod Fields
 pub mod Commands
 pub mod WordTokens
-pub mod Transcripts

@@ -1,2 +1,1 @@
-pub mod Extended
 pub mod Lists

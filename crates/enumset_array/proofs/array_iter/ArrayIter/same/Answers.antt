@@ -1,7 +1,0 @@
-use Rattle.enumset_array.proofs.array_iter.ArrayIter.same.Goals as goal
-
-pub returns : goal.returns
-returns g c = cc
-
-pub invariant_of-result : goal.invariant_of-result
-invariant_of-result g c = rw c.same.ensures c.self.invariant

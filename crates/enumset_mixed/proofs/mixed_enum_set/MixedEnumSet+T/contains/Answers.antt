@@ -1,4 +1,0 @@
-use Rattle.enumset_mixed.proofs.mixed_enum_set.MixedEnumSet+T.contains.Goals as goal
-
-pub returns : goal.returns
-returns g c = rw (← c.bit_index.ensures.bit) c.has_bit.ensures.has

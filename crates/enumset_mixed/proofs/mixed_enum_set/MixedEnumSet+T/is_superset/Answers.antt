@@ -1,4 +1,0 @@
-use Rattle.enumset_mixed.proofs.mixed_enum_set.MixedEnumSet+T.is_superset.Goals as goal
-
-pub returns : goal.returns
-returns g c = rw (← c.self.view_is, ← c.other.view_is) c.is_subset_of.ensures

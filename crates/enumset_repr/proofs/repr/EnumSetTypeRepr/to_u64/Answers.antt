@@ -1,5 +1,0 @@
-use Rattle.enumset_repr.specs.Laws.Low.{cut_64}
-use Rattle.enumset_repr.proofs.repr.EnumSetTypeRepr.to_u64.Goals as goal
-
-pub returns : goal.returns
-returns g c = rw c.to_u128.ensures (cut_64 _)

@@ -1,5 +1,0 @@
-use Rattle.std.specs.Prelude.{refl}
-use Rattle.enumset_sets.proofs.enum_set.EnumSet+T.union.Goals as goal
-
-pub returns : goal.returns
-returns g c = rw (c.of_repr.ensures, c.union_of.ensures, c.self.view_is, c.other.view_is) refl

@@ -1,5 +1,0 @@
-use Rattle.std.proofs.Common.{ap, Some}
-use Rattle.enumset_sets.proofs.order.EnumSetPartialOrd.partial_cmp.Goals as goal
-
-pub returns : goal.returns
-returns g c = ap Some c.cmp.ensures
