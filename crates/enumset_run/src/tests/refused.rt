@@ -4,12 +4,12 @@
 //! answer, and ends with the refusal. `scripts/refused-memory` refuses each allocation in turn, and says how each test
 //! has to end.
 
-use crate::kinds::serve_worked;
-use crate::worked::Worked;
 use enumset_commands::command::Command;
 use enumset_commands::mixed_command::MixedCommand;
 use enumset_commands::reply::Reply;
 use enumset_commands::text_fault::TextFault;
+use enumset_kinds::kinds::serve_worked;
+use enumset_kinds::worked::Worked;
 use enumset_machine::machine::Machine;
 use enumset_machine::machine::mixed_machine::MixedMachine;
 use enumset_machine::mixed_runs::run_mixed;

@@ -1,9 +1,9 @@
 //! What lines may be at each limit of the text forms.
 
 use super::surroundings::outputs_as_wanted;
-use crate::kinds::serve_worked;
-use crate::worked::Worked;
 use enumset_commands::text_fault::TextFault;
+use enumset_kinds::kinds::serve_worked;
+use enumset_kinds::worked::Worked;
 use std::alloc::{AllocError, Global};
 use std::test::Fail;
 
@@ -85,16 +85,12 @@ letters
 
 #[test]
 fn fields_at_their_limits(rt: HostRuntime) -> Result<(), Fail> {
-    let inputs = outputs_as_wanted(&rt, rt.alloc(), FIELDS)?;
-    assert!(rt; inputs == 94);
-    Ok(())
+    outputs_as_wanted(&rt, rt.alloc(), FIELDS)
 }
 
 #[test]
 fn lines_and_their_ends(rt: HostRuntime) -> Result<(), Fail> {
-    let inputs = outputs_as_wanted(&rt, rt.alloc(), LINES)?;
-    assert!(rt; inputs == 31);
-    Ok(())
+    outputs_as_wanted(&rt, rt.alloc(), LINES)
 }
 
 /// The length of the longest input that is read.
