@@ -34,7 +34,7 @@ fn compare_file<R: Files + Eprint + AllocGlobal>(rt: &R, path: &str) -> Result<T
     for run in &read_runs(rt.alloc(), &text)? {
         for name in run.types.split(' ') {
             let compared = compare_run(rt, path, name, run);
-            tally.add(compared.context(format_args!("line {}, over {name}", run.line))?);
+            tally.add(compared.context(format_args!("the run of line {}, over {name}", run.line))?);
         }
     }
     Ok(tally)
