@@ -159,6 +159,11 @@ pub(super) fn outcome(
     Ok(outcome)
 }
 
+/// What these bytes say.
+pub(super) fn text_of(bytes: &[u8]) -> &str {
+    str::from_utf8(bytes).unwrap_or("no text")
+}
+
 /// Runs each input of a table. A part of the table has the names of types, inputs with bars between them, and what the
 /// program makes of each of them over each type.
 pub(super) fn outputs_as_wanted(rt: &impl Abort, alloc: Global, table: &str) -> Result<(), Fail> {
@@ -170,8 +175,7 @@ pub(super) fn outputs_as_wanted(rt: &impl Abort, alloc: Global, table: &str) -> 
             let arguments = format!(in alloc; "program,{name}")?;
             for input in inputs.split('|') {
                 let output = outcome(alloc, &arguments, Source::new(input), usize::MAX)?;
-                let came = str::from_utf8(&output).unwrap_or("no text");
-                assert_eq!(rt; came, wanted, "over {name}: {input:?}");
+                assert_eq!(rt; text_of(&output), wanted, "over {name}: {input:?}");
             }
         }
     }

@@ -1,10 +1,9 @@
 //! What lines may be at each limit of the text forms.
 
-use super::surroundings::outputs_as_wanted;
+use super::surroundings::{outputs_as_wanted, text_of};
 use enumset_kinds::kinds::serve_worked;
 use enumset_kinds::worked::Worked;
 use std::alloc::{AllocError, Global};
-use std::str;
 use std::test::Fail;
 
 const FIELDS: &str = "\
@@ -106,7 +105,7 @@ fn padded(alloc: Global, byte: u8, count: usize, text: &str) -> Result<Vec<u8>, 
 // The answer to an input over `letters`; of a fault its text in a line, after an exclamation mark.
 fn answer(alloc: Global, input: &[u8]) -> Result<String, AllocError> {
     match serve_worked(alloc, Worked::Letters, input) {
-        Ok(replies) => String::from_str(alloc, str::from_utf8(&replies).unwrap_or("no text")),
+        Ok(replies) => String::from_str(alloc, text_of(&replies)),
         Err(fault) => format!(in alloc; "!{fault}\n"),
     }
 }
@@ -148,7 +147,11 @@ fn one_byte_more_is_too_long(rt: HostRuntime) -> Result<(), Fail> {
     ] {
         let count = (LONGEST + 1).saturating_sub(text.len());
         let input = padded(alloc, byte, count, text)?;
-        assert_eq!(rt; answer(alloc, &input)?.as_str(), "!input too long\n", "{text}");
+        assert_eq!(rt;
+            answer(alloc, &input)?.as_str(),
+            "!input too long\n",
+            "{text}"
+        );
     }
     Ok(())
 }
@@ -168,7 +171,11 @@ fn a_command_gives_at_most_255_words(rt: HostRuntime) -> Result<(), Fail> {
         ("all 0\nwords 0 256\n", "!line 2: not a command\n"),
         ("words_cut 0 256", "!line 1: not a command\n"),
     ] {
-        assert_eq!(rt; answer(alloc, input.as_bytes())?.as_str(), wanted, "{input}");
+        assert_eq!(rt;
+            answer(alloc, input.as_bytes())?.as_str(),
+            wanted,
+            "{input}"
+        );
     }
     Ok(())
 }
