@@ -10,14 +10,14 @@ use Rattle.enumset_machine.specs.Answers.{commands_of, answer_by, answer_to, mix
 use Rattle.enumset_commands.specs.TextFaults.{IsFaultOf}
 use Rattle.enumset_run.specs.Written.{AppendsFrontOf}
 use Rattle.enumset_run.specs.Faults.{IsFaultOver}
-use Rattle.enumset_run.specs.Kinds.{answer_over}
+use Rattle.enumset_kinds.specs.Kinds.{answer_over}
 use Rattle.enumset_worked.specs.Bits.{letters_bits, four_bits, sparse_bits, marks_bits, wide_bits, pair_bits, high_bits, masks_bits, single_bits}
 use Rattle.enumset_commands.specs.Lines.{command_of, lines}
 use Rattle.enumset_commands.specs.MixedLines.{mixed_command_of}
 use Rattle.enumset_machine.specs.Runs.{replies}
 use Rattle.enumset_machine.specs.MixedRuns.{mixed_replies}
-use Rattle.enumset_run.specs.declared.worked.Worked.{Worked}
-use Rattle.enumset_run.specs.declared.worked.Worked.TheVariants.{Letters, Four, Sparse, Marks, Wide, PairWords, PairNumber, High, Masks, Single, Nothing, MixedLetters, MixedFour, MixedSparse, MixedMarks, MixedPairWords, MixedPairNumber, MixedHigh, MixedMasks, MixedSingle, MixedNothing}
+use Rattle.enumset_kinds.specs.declared.worked.Worked.{Worked}
+use Rattle.enumset_kinds.specs.declared.worked.Worked.TheVariants.{Letters, Four, Sparse, Marks, Wide, PairWords, PairNumber, High, Masks, Single, Nothing, MixedLetters, MixedFour, MixedSparse, MixedMarks, MixedPairWords, MixedPairNumber, MixedHigh, MixedMasks, MixedSingle, MixedNothing}
 use Rattle.enumset_machine.specs.declared.serve.TheConstants.{INPUT_LIMIT}
 use Rattle.enumset_run.specs.declared.program.TheConstants.{READ_LIMIT}
 use Rattle.enumset_commands.specs.declared.text_fault.TextFault.{TextFault}

@@ -7,7 +7,7 @@ use Rattle.std.proofs.lemmas.List.Sums.{AllPass-from_list_all}
 use Rattle.std.proofs.lemmas.Slice.Eq.{bytes_eq-Decides}
 use Rattle.std.proofs.lemmas.Str.{IsUtf8-from_ascii}
 use Rattle.std.proofs.lemmas.Str.Ascii.{IsAscii-from_all}
-use Rattle.enumset_run.specs.Kinds.{worked_of}
+use Rattle.enumset_kinds.specs.Kinds.{worked_of}
 
 bytes_eq-other : (bytes name : List ℕ) (b : Bool) → bytes_eq bytes name ≡ b → IsUtf8 name → ¬ (IsUtf8 bytes) → b ≡ false
 bytes_eq-other bytes name true same text other = absurd (other (subst IsUtf8 (sym ((bytes_eq-Decides bytes name).0 same)) text))

@@ -3,10 +3,10 @@
 use Rattle.std.specs.Prelude.{ℕ, List, take, Result, Ok, Err, ok_or}
 use Rattle.std.specs.declared.env.FillError.{FillError}
 use Rattle.std.specs.declared.env.FillError.TheVariants.{NotPresent, TooLong}
-use Rattle.enumset_run.specs.declared.worked.Worked.{Worked}
+use Rattle.enumset_kinds.specs.declared.worked.Worked.{Worked}
 use Rattle.enumset_run.specs.declared.fault.ProgramFault.{ProgramFault}
 use Rattle.enumset_run.specs.declared.fault.ProgramFault.TheVariants.{OneArgument, UnknownType}
-use Rattle.enumset_run.specs.Kinds.{worked_of}
+use Rattle.enumset_kinds.specs.Kinds.{worked_of}
 
 -- There is just one argument where the first is found and the second is not. An argument of n bytes, or one
 -- that is too long, was found.

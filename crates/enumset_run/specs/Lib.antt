@@ -1,4 +1,3 @@
-pub mod Kinds
 pub mod Arguments
 pub mod Faults
 pub mod Written

@@ -5,12 +5,9 @@
 #![tactic(auto)]
 
 mod fault;
-mod kinds;
-mod nothing;
 mod program;
 #[cfg(test)]
 mod tests;
-mod worked;
 
 use std::process::ExitCode;
 

@@ -5,12 +5,12 @@ ghost use Rattle.std.specs.Io.KnownBytes.{Appends};
 ghost use Rattle.enumset_run.specs.Written.{AppendsFrontOf};
 ghost use Rattle.enumset_run.specs.Arguments.{requested};
 ghost use Rattle.enumset_run.specs.Faults.{IsFaultOver};
-ghost use Rattle.enumset_run.specs.Kinds.{answer_over, worked_of};
+ghost use Rattle.enumset_kinds.specs.Kinds.{answer_over, worked_of};
 
 use crate::fault::ProgramFault;
-use crate::kinds::{serve_worked, worked};
-use crate::worked::Worked;
 use enumset_commands::text_fault::TextFault;
+use enumset_kinds::kinds::{serve_worked, worked};
+use enumset_kinds::worked::Worked;
 use enumset_machine::serve::INPUT_LIMIT;
 use std::alloc::Global;
 use std::env::{Env, FillError};

@@ -2,11 +2,8 @@
 
 mod program;
 mod refused;
-mod runs;
 mod surroundings;
 mod text_forms;
 mod text_limits;
 mod texts;
 mod transcripts;
-mod two_iterators;
-mod vectors;

@@ -1,8 +1,8 @@
 //! The program as a whole: its arguments, and input and output that fail.
 
-use super::surroundings::{Source, outcome};
+use super::surroundings::{Source, outcome, text_of};
 use crate::program::answer_input;
-use crate::worked::Worked;
+use enumset_kinds::worked::Worked;
 use enumset_machine::serve::INPUT_LIMIT;
 use std::alloc::{AllocError, Global};
 use std::test::Fail;
@@ -112,18 +112,16 @@ fn outcome_of(
 
 #[test]
 fn each_row_has_its_outcome(rt: HostRuntime) -> Result<(), Fail> {
-    let mut rows = 0usize;
+    assert!(rt; ROWS.starts_with("--\n"));
     for row in ROWS.split("--\n").skip(1) {
         let mut parts = row.split('|');
         let arguments = parts.next().unwrap_or("");
         let failing = parts.next().unwrap_or("");
         let input = parts.next().unwrap_or("");
-        let expected = parts.next().unwrap_or("");
+        let wanted = parts.next().unwrap_or("");
         let outcome = outcome_of(rt.alloc(), arguments, failing, input)?;
-        assert!(rt; outcome.as_slice() == expected.as_bytes(), "{row}");
-        rows = rows.saturating_add(1);
+        assert_eq!(rt; text_of(&outcome), wanted, "{row}");
     }
-    assert!(rt; rows == 28);
     Ok(())
 }
 
@@ -147,24 +145,18 @@ fn outcome_of_bytes(
 #[test]
 fn an_input_has_at_most_a_mebibyte(rt: HostRuntime) -> Result<(), Fail> {
     let alloc = rt.alloc();
-    let outcomes = [
-        outcome_of_bytes(alloc, b'\n', 1_048_576, false)?,
-        outcome_of_bytes(alloc, b'\n', 1_048_576, true)?,
+    for (byte, count, fails_at_end, wanted) in [
+        (b'\n', 1_048_576, false, ""),
+        (b'\n', 1_048_576, true, "!1 reading failed\n"),
         // what is too long is not read on, and its length is tested before its lines
-        outcome_of_bytes(alloc, b'\n', 1_048_577, true)?,
-        outcome_of_bytes(alloc, b'x', 1_048_577, true)?,
+        (b'\n', 1_048_577, true, "!2 input too long\n"),
+        (b'x', 1_048_577, true, "!2 input too long\n"),
         // bytes that are no text
-        outcome_of_bytes(alloc, b'\xff', 1, false)?,
-    ];
-    let mut text = Vec::new(alloc);
-    for outcome in &outcomes {
-        text.extend_from_slice(outcome.as_slice())?;
-        text.push(b'.')?;
+        (b'\xff', 1, false, "!2 line 1: not a command\n"),
+    ] {
+        let outcome = outcome_of_bytes(alloc, byte, count, fails_at_end)?;
+        assert_eq!(rt; text_of(&outcome), wanted, "{count} times the byte {byte}");
     }
-    assert!(rt;
-        text.as_slice()
-            == b".!1 reading failed\n.!2 input too long\n.!2 input too long\n.!2 line 1: not a command\n.".as_slice()
-    );
     Ok(())
 }
 
@@ -181,6 +173,6 @@ fn known_bytes_are_answered(rt: HostRuntime) -> Result<(), Fail> {
         b"all 0\nlen 0".as_slice(),
         &mut output,
     );
-    assert!(rt; answered.is_ok() && output.as_slice() == b"ok\n3\n".as_slice());
-    Ok(())
+    assert_eq!(rt; text_of(&output), "ok\n3\n");
+    Ok(answered?)
 }

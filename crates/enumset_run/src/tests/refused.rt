@@ -4,12 +4,13 @@
 //! answer, and ends with the refusal. `scripts/refused-memory` refuses each allocation in turn, and says how each test
 //! has to end.
 
-use crate::kinds::serve_worked;
-use crate::worked::Worked;
+use super::surroundings::text_of;
 use enumset_commands::command::Command;
 use enumset_commands::mixed_command::MixedCommand;
 use enumset_commands::reply::Reply;
 use enumset_commands::text_fault::TextFault;
+use enumset_kinds::kinds::serve_worked;
+use enumset_kinds::worked::Worked;
 use enumset_machine::machine::Machine;
 use enumset_machine::machine::mixed_machine::MixedMachine;
 use enumset_machine::mixed_runs::run_mixed;
@@ -105,7 +106,7 @@ fn text_and_refusal<F: Fn() -> Result<Vec<u8>, TextFault>>(
     match serve() {
         Ok(text) => (text, Ok(())),
         Err(fault) => {
-            assert!(rt; fault == TextFault::OutOfMemory);
+            assert_eq!(rt; fault, TextFault::OutOfMemory);
             (serve().expect(rt, "refused once more"), Err(AllocError))
         }
     }
@@ -113,26 +114,26 @@ fn text_and_refusal<F: Fn() -> Result<Vec<u8>, TextFault>>(
 
 const INPUT: &[u8] = b"from_words 0 5\nwords 0 2\n";
 
-const OUTPUT: &[u8] = b"ok\nwords 5 0\n";
+const OUTPUT: &str = "ok\nwords 5 0\n";
 
 #[test]
 fn texts(rt: HostRuntime) -> Result<(), Fail> {
     let (text, ended) = text_and_refusal(&rt, || serve_text::<Letters>(rt.alloc(), INPUT));
-    assert!(rt; text.as_slice() == OUTPUT);
+    assert_eq!(rt; text_of(&text), OUTPUT);
     Ok(ended?)
 }
 
 #[test]
 fn mixed_texts(rt: HostRuntime) -> Result<(), Fail> {
     let (text, ended) = text_and_refusal(&rt, || serve_mixed_text::<Marks>(rt.alloc(), INPUT));
-    assert!(rt; text.as_slice() == OUTPUT);
+    assert_eq!(rt; text_of(&text), OUTPUT);
     Ok(ended?)
 }
 
 #[test]
 fn worked_texts(rt: HostRuntime) -> Result<(), Fail> {
     let (text, ended) = text_and_refusal(&rt, || serve_worked(rt.alloc(), Worked::Letters, INPUT));
-    assert!(rt; text.as_slice() == OUTPUT);
+    assert_eq!(rt; text_of(&text), OUTPUT);
     Ok(ended?)
 }
 
@@ -140,7 +141,7 @@ fn worked_texts(rt: HostRuntime) -> Result<(), Fail> {
 fn mixed_worked_texts(rt: HostRuntime) -> Result<(), Fail> {
     let kind = Worked::MixedMarks;
     let (text, ended) = text_and_refusal(&rt, || serve_worked(rt.alloc(), kind, INPUT));
-    assert!(rt; text.as_slice() == OUTPUT);
+    assert_eq!(rt; text_of(&text), OUTPUT);
     Ok(ended?)
 }
 
@@ -154,7 +155,10 @@ fn faults_of_the_input(rt: HostRuntime) -> Result<(), Fail> {
             serve_worked(rt.alloc(), kind, lines).err(),
             serve_worked(rt.alloc(), kind, &too_long).err(),
         ];
-        assert!(rt; faults == [Some(TextFault::BadLine(3)), Some(TextFault::TooLong)]);
+        assert_eq!(rt;
+            faults,
+            [Some(TextFault::BadLine(3)), Some(TextFault::TooLong)]
+        );
     }
     Ok(())
 }

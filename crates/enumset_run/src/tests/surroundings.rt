@@ -7,6 +7,7 @@ use std::env::{Env, FillError};
 use std::fmt::Display;
 use std::io::{self, BufRead, ErrorKind, Input, Lines, Print, Read};
 use std::process::Abort;
+use std::str;
 use std::test::Fail;
 
 /// Bytes of which a read gives at most so many. Every other read is interrupted. Reading past the bytes fails,
@@ -158,21 +159,25 @@ pub(super) fn outcome(
     Ok(outcome)
 }
 
-/// Runs each run of a table, and gives how many inputs it has. A run has the names of types, the inputs with bars
-/// between them, and what the program makes of each of them over each type.
-pub(super) fn outputs_as_wanted(rt: &impl Abort, alloc: Global, runs: &str) -> Result<usize, Fail> {
-    let mut inputs = 0usize;
-    for run in runs.split("--\n").skip(1) {
-        let (asked, expected) = run.split_once("==\n").unwrap_or((run, ""));
-        let (names, texts) = asked.split_once("\n").unwrap_or((asked, ""));
+/// What these bytes say.
+pub(super) fn text_of(bytes: &[u8]) -> &str {
+    str::from_utf8(bytes).unwrap_or("no text")
+}
+
+/// Runs each input of a table. A part of the table has the names of types, inputs with bars between them, and what the
+/// program makes of each of them over each type.
+pub(super) fn outputs_as_wanted(rt: &impl Abort, alloc: Global, table: &str) -> Result<(), Fail> {
+    assert!(rt; table.starts_with("--\n"));
+    for part in table.split("--\n").skip(1) {
+        let (asked, wanted) = part.split_once("==\n").unwrap_or((part, ""));
+        let (names, inputs) = asked.split_once("\n").unwrap_or((asked, ""));
         for name in names.split(' ') {
             let arguments = format!(in alloc; "program,{name}")?;
-            for text in texts.split('|') {
-                let output = outcome(alloc, &arguments, Source::new(text), usize::MAX)?;
-                assert!(rt; output.as_slice() == expected.as_bytes(), "{name}: {text}");
-                inputs = inputs.saturating_add(1);
+            for input in inputs.split('|') {
+                let output = outcome(alloc, &arguments, Source::new(input), usize::MAX)?;
+                assert_eq!(rt; text_of(&output), wanted, "over {name}: {input:?}");
             }
         }
     }
-    Ok(inputs)
+    Ok(())
 }

@@ -1,7 +1,9 @@
 //! What lines, tokens and fields may look like.
 
-/// Inputs, in the form of the other tables of runs, where bars stand between inputs of one output.
-pub(super) const TEXT_FORMS: &str = "\
+use super::surroundings::outputs_as_wanted;
+use std::test::Fail;
+
+const TEXT_FORMS: &str = "\
 --
 letters
 insert 0 6\n|insert 000 00000000000000000000006\n|insert   0  6\n|  insert 0 6   \n\
@@ -55,3 +57,8 @@ letters
 len 0\n\n \r\nlen\nleft\n==
 !2 line 4: not a command
 ";
+
+#[test]
+fn texts_in_each_form(rt: HostRuntime) -> Result<(), Fail> {
+    outputs_as_wanted(&rt, rt.alloc(), TEXT_FORMS)
+}

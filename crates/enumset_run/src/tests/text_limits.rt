@@ -1,9 +1,8 @@
 //! What lines may be at each limit of the text forms.
 
-use super::surroundings::outputs_as_wanted;
-use crate::kinds::serve_worked;
-use crate::worked::Worked;
-use enumset_commands::text_fault::TextFault;
+use super::surroundings::{outputs_as_wanted, text_of};
+use enumset_kinds::kinds::serve_worked;
+use enumset_kinds::worked::Worked;
 use std::alloc::{AllocError, Global};
 use std::test::Fail;
 
@@ -85,16 +84,12 @@ letters
 
 #[test]
 fn fields_at_their_limits(rt: HostRuntime) -> Result<(), Fail> {
-    let inputs = outputs_as_wanted(&rt, rt.alloc(), FIELDS)?;
-    assert!(rt; inputs == 94);
-    Ok(())
+    outputs_as_wanted(&rt, rt.alloc(), FIELDS)
 }
 
 #[test]
 fn lines_and_their_ends(rt: HostRuntime) -> Result<(), Fail> {
-    let inputs = outputs_as_wanted(&rt, rt.alloc(), LINES)?;
-    assert!(rt; inputs == 31);
-    Ok(())
+    outputs_as_wanted(&rt, rt.alloc(), LINES)
 }
 
 /// The length of the longest input that is read.
@@ -107,19 +102,11 @@ fn padded(alloc: Global, byte: u8, count: usize, text: &str) -> Result<Vec<u8>, 
     Ok(input)
 }
 
-// Whether an input over `letters` has this text as its answer.
-fn answers(alloc: Global, input: &[u8], text: &[u8]) -> bool {
+// The answer to an input over `letters`; of a fault its text in a line, after an exclamation mark.
+fn answer(alloc: Global, input: &[u8]) -> Result<String, AllocError> {
     match serve_worked(alloc, Worked::Letters, input) {
-        Ok(answer) => answer.as_slice() == text,
-        Err(_) => false,
-    }
-}
-
-// Whether an input over `letters` has this fault.
-fn is_refused(alloc: Global, input: &[u8], wanted: TextFault) -> bool {
-    match serve_worked(alloc, Worked::Letters, input) {
-        Ok(_) => false,
-        Err(fault) => fault == wanted,
+        Ok(replies) => String::from_str(alloc, text_of(&replies)),
+        Err(fault) => format!(in alloc; "!{fault}\n"),
     }
 }
 
@@ -135,15 +122,16 @@ fn the_longest_input_is_read_to_its_end(rt: HostRuntime) -> Result<(), Fail> {
     for _ in 4..LONGEST {
         zeros.push(b'0')?;
     }
-    let agree = [
-        answers(alloc, &lines, b"".as_slice()),
-        answers(alloc, &spaces, b"".as_slice()),
-        answers(alloc, &command, b"0\n".as_slice()),
-        answers(alloc, &later, b"K1 no register\n".as_slice()),
-        answers(alloc, &zeros, b"0\n".as_slice()),
-        is_refused(alloc, &fault, TextFault::BadLine(1_048_573)),
-    ];
-    assert!(rt; agree == [true; 6]);
+    for (input, wanted) in [
+        (&lines, ""),
+        (&spaces, ""),
+        (&command, "0\n"),
+        (&later, "K1 no register\n"),
+        (&zeros, "0\n"),
+        (&fault, "!line 1048573: not a command\n"),
+    ] {
+        assert_eq!(rt; answer(alloc, input)?.as_str(), wanted);
+    }
     Ok(())
 }
 
@@ -159,7 +147,11 @@ fn one_byte_more_is_too_long(rt: HostRuntime) -> Result<(), Fail> {
     ] {
         let count = (LONGEST + 1).saturating_sub(text.len());
         let input = padded(alloc, byte, count, text)?;
-        assert!(rt; is_refused(alloc, &input, TextFault::TooLong), "{text}");
+        assert_eq!(rt;
+            answer(alloc, &input)?.as_str(),
+            "!input too long\n",
+            "{text}"
+        );
     }
     Ok(())
 }
@@ -173,21 +165,18 @@ fn a_command_gives_at_most_255_words(rt: HostRuntime) -> Result<(), Fail> {
         write!(words, " 0")?;
     }
     writeln!(words, "")?;
-    let agree = [
-        answers(alloc, b"all 0\nwords 0 255\n".as_slice(), words.as_bytes()),
-        answers(
-            alloc,
-            b"all 0\nwords_cut 0 0255".as_slice(),
-            words.as_bytes(),
-        ),
-        is_refused(
-            alloc,
-            b"all 0\nwords 0 256\n".as_slice(),
-            TextFault::BadLine(2),
-        ),
-        is_refused(alloc, b"words_cut 0 256".as_slice(), TextFault::BadLine(1)),
-    ];
-    assert!(rt; agree == [true; 4]);
+    for (input, wanted) in [
+        ("all 0\nwords 0 255\n", words.as_str()),
+        ("all 0\nwords_cut 0 0255", words.as_str()),
+        ("all 0\nwords 0 256\n", "!line 2: not a command\n"),
+        ("words_cut 0 256", "!line 1: not a command\n"),
+    ] {
+        assert_eq!(rt;
+            answer(alloc, input.as_bytes())?.as_str(),
+            wanted,
+            "{input}"
+        );
+    }
     Ok(())
 }
 
@@ -201,11 +190,12 @@ fn a_command_takes_any_number_of_words(rt: HostRuntime) -> Result<(), Fail> {
     let text = format!(in alloc; "from_words 0 5{zeros}\nlen 0\nfrom_words 0 1{zeros} 1\nlen 0\n")?;
     let cut = format!(in alloc; "from_words_cut 0 3{zeros} 7\nwords 0 1\n")?;
     let wrong = format!(in alloc; "\nfrom_words 0 5{zeros} x\n")?;
-    let agree = [
-        answers(alloc, text.as_bytes(), b"ok\n2\nnone\n2\n".as_slice()),
-        answers(alloc, cut.as_bytes(), b"ok\nwords 3\n".as_slice()),
-        is_refused(alloc, wrong.as_bytes(), TextFault::BadLine(2)),
-    ];
-    assert!(rt; agree == [true; 3]);
+    for (input, wanted) in [
+        (&text, "ok\n2\nnone\n2\n"),
+        (&cut, "ok\nwords 3\n"),
+        (&wrong, "!line 2: not a command\n"),
+    ] {
+        assert_eq!(rt; answer(alloc, input.as_bytes())?.as_str(), wanted);
+    }
     Ok(())
 }

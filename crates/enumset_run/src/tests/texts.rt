@@ -1,5 +1,6 @@
 //! The texts of replies and of faults.
 
+use super::surroundings::text_of;
 use crate::fault::ProgramFault;
 use enumset_commands::reply::{Refusal, Reply};
 use enumset_commands::text_fault::TextFault;
@@ -47,9 +48,11 @@ fn replies_and_faults_have_their_texts(rt: HostRuntime) -> Result<(), Fail> {
     }
     let mut text = write_replies(alloc, &replies)?;
     text.extend_from_slice(said.as_bytes())?;
-    assert!(rt;
-        text.as_slice()
-            == b"\
+    assert_eq!(rt; text_of(&text), TEXTS);
+    Ok(())
+}
+
+const TEXTS: &str = "\
 ok
 true
 false
@@ -76,8 +79,4 @@ K3 not a width
 3 out of memory
 1 reading failed
 1 writing failed
-"
-                .as_slice()
-    );
-    Ok(())
-}
+";

@@ -4,6 +4,7 @@ ghost use Rattle.std.specs.Prelude.{◌≡◌, IsTrue, IfOk, min};
 ghost use Rattle.std.specs.List.{list_all};
 ghost use Rattle.enumset_machine.specs.Transcripts.{is_within};
 
+use super::surroundings::text_of;
 use enumset_commands::command::Command;
 use enumset_commands::mixed_command::MixedCommand;
 use enumset_commands::reply::Reply;
@@ -66,7 +67,11 @@ fn the_store_shows_in_no_reply(rt: HostRuntime) -> Result<(), Fail> {
     let (words, number) = replies_over_pairs(alloc, &commands())?;
     let text = write_replies(alloc, &words)?;
     let same = write_replies(alloc, &number)?;
-    assert!(rt; text.as_slice() == b"ok\ntrue\ntrue\nless\ngreater\nequal\ntrue\n".as_slice());
-    assert!(rt; text.as_slice() == same.as_slice());
+    for came in [&text, &same] {
+        assert_eq!(rt;
+            text_of(came),
+            "ok\ntrue\ntrue\nless\ngreater\nequal\ntrue\n"
+        );
+    }
     Ok(())
 }

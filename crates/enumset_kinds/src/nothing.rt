@@ -1,0 +1,71 @@
+//! The worked type `nothing`.
+
+ghost use Rattle.std.specs.Prelude.{◌≡◌, true, IfOk, IfErr, Ok};
+ghost use Rattle.enumset_kinds.specs.Kinds.{is_over_nothing, answer_over};
+ghost use Rattle.enumset_commands.specs.TextFaults.{IsFaultOf};
+
+use crate::worked::Worked;
+use enumset_commands::text_fault::TextFault;
+use enumset_machine::serve::{serve_mixed_text, serve_text};
+use enumset_sets::element::EnumSetType;
+use enumset_sets::variant_of;
+use enumset_sets::with_repr::EnumSetTypeWithRepr;
+use std::alloc::Global;
+
+/// The answer of `serve_worked` over the sets of an enum without variants in a `u8`, or its mixed sets.
+///
+/// Nothing can call a function that takes a value of that enum, so only what stands in here can name it.
+pub fn serve_nothing(alloc: Global, kind: Worked, input: &[u8]) -> Result<Vec<u8>, TextFault>
+    requires { is_over_nothing kind ≡ true }
+    ensures answer { IfOk result (λ out. answer_over kind input.now ≡ Ok out.items) }
+    ensures fault { IfErr result (λ fault. IsFaultOf (answer_over kind input.now) fault) }
+{
+    #[derive(Clone, Copy, Debug, PartialEq, Eq, PartialOrd, Ord, Hash)]
+    enum Nothing {}
+
+    impl EnumSetType for Nothing {
+        ghost use Rattle.std.specs.Prelude.{[]};
+        ghost use Rattle.enumset_sets.specs.Laws.Elements.{with_bits, lawful_in_integer};
+        ghost use Rattle.enumset_kinds.specs.contracts.nothing.fn.serve_nothing.Nothing.{the_type};
+
+        type Repr = u8;
+
+        ghost elements = { with_bits the_type [] };
+
+        ghost values = { [] };
+
+        ghost ALL_BITS = { 0 };
+
+        const ALL_BITS: u8 = 0;
+
+        ghost BIT_WIDTH = { 0 };
+
+        const BIT_WIDTH: u32 = 0;
+
+        ghost VARIANT_COUNT = { 0 };
+
+        const VARIANT_COUNT: u32 = 0;
+
+        fn enum_into_u32(self) -> u32 {
+            match self {}
+        }
+
+        fn enum_from_u32(val: u32) -> Nothing {
+            variant_of!(val, Nothing:)
+        }
+
+        ghost lawful = { lawful_in_integer the_type _ tt };
+    }
+
+    impl EnumSetTypeWithRepr for Nothing {
+        ghost use Rattle.std.proofs.Common.{rules};
+
+        ghost narrow = { Prim.search rules };
+    }
+
+    match kind {
+        Worked::Nothing => serve_text::<Nothing>(alloc, input),
+        Worked::MixedNothing => serve_mixed_text::<Nothing>(alloc, input),
+        _ => unreachable!(),
+    }
+}
