@@ -1,6 +1,5 @@
 //! Sets to and from numbers, store values and words, at each worked type.
 
-use super::sending::{as_byte, granted_by, sent_and_read};
 use super::sets::two_of;
 use enumset_sets::element::EnumSetType;
 use enumset_sets::enum_set::EnumSet;
@@ -10,6 +9,7 @@ use enumset_worked::masks::Masks;
 use enumset_worked::single::Single;
 use enumset_worked::sparse::Sparse;
 use enumset_worked::wide::Wide;
+use my_sets::sending::{as_byte, granted_by, sent_and_read};
 use std::alloc::AllocError;
 use std::fmt;
 use std::test::Fail;

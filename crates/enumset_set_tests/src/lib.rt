@@ -1,4 +1,4 @@
-//! Tests of sets, mixed sets, folds and macros at the worked types, and users' code with its proofs.
+//! Tests of sets, mixed sets, folds and macros at the worked types.
 //!
 //! They stand apart from the crates that they test, so that the proofs of those are made once.
 #![tactic(auto)]
@@ -7,8 +7,6 @@
 mod conversions;
 #[cfg(test)]
 mod each_type;
-#[cfg(test)]
-mod expressions;
 #[cfg(test)]
 mod folds;
 #[cfg(test)]
@@ -24,14 +22,12 @@ mod operators;
 #[cfg(test)]
 mod order;
 #[cfg(test)]
-mod proving;
-#[cfg(test)]
 mod refused;
-#[cfg(test)]
-mod sending;
 #[cfg(test)]
 mod set_texts;
 #[cfg(test)]
 mod sets;
 #[cfg(test)]
 mod sizes;
+#[cfg(test)]
+mod users_code;

@@ -1,11 +1,10 @@
-//! Sets and elements in expressions: the functions of docs/PROVING.md, in the same words.
+//! Sets and elements in expressions.
 
 ghost use Rattle.std.specs.Prelude.{◌≡◌};
 ghost use Rattle.enumset_repr.specs.BitSet as set;
 
 use enumset_sets::element::EnumSetType;
 use enumset_sets::enum_set::EnumSet;
-use enumset_worked::letters::Letters;
 
 /// What is granted, with one right more and without another.
 pub fn exchanged<T: EnumSetType>(granted: EnumSet<T>, new: T, old: T) -> EnumSet<T>
@@ -32,13 +31,4 @@ pub fn after_and_before<T: EnumSetType>(granted: EnumSet<T>, right: T) -> (EnumS
     ensures before { result.1 ≡ granted }
 {
     (granted.copied() | right, granted)
-}
-
-#[test]
-fn elements_stand_in_expressions(rt: HostRuntime) {
-    let mut granted = Letters::A | Letters::C | Letters::G;
-    assert!(rt; exchanged(granted, Letters::B, Letters::C).as_u8_truncated() == 67);
-    exchange(&mut granted, Letters::B, Letters::C);
-    let (after, before) = after_and_before(granted, Letters::D);
-    assert!(rt; [before.as_u8_truncated(), after.as_u8_truncated()] == [67, 75]);
 }

@@ -1,12 +1,10 @@
-// Proofs about code over sets as users write them: the functions of docs/PROVING.md, in the same words.
+//! Proofs about code over sets.
 
 ghost use Rattle.std.specs.Prelude.{◌≡◌, true, false};
 ghost use Rattle.enumset_repr.specs.BitSet as set;
 
 use enumset_sets::element::EnumSetType;
 use enumset_sets::enum_set::EnumSet;
-use enumset_worked::letters::Letters;
-use enumset_worked::wide::Wide;
 
 /// Grants what is not granted and revokes it again, which changes nothing.
 #[tactic(auto, using(enumset_repr::specs::Laws::Algebra::algebra))]
@@ -36,20 +34,4 @@ pub fn rebuilt<T: EnumSetType>(granted: &EnumSet<T>) -> EnumSet<T>
         copy.insert(right);
     }
     copy
-}
-
-/// Whether all that is asked for was granted, at an enum over words.
-pub fn may(granted: &EnumSet<Wide>, asked: EnumSet<Wide>) -> bool
-    ensures { result ≡ set.is_subset asked granted.now }
-{
-    granted.is_superset(asked)
-}
-
-#[test]
-#[tactic(auto, using(enumset_repr::specs::Laws::Algebra::algebra))]
-fn users_functions_answer(rt: HostRuntime) {
-    let mut granted = EnumSet::<Letters>::new();
-    grant_then_revoke(&mut granted, Letters::C);
-    assert!(rt; is_apart_from_the_rest(&granted) && rebuilt(&granted).is_empty());
-    assert!(rt; may(&EnumSet::all(), EnumSet::only(Wide::Q)));
 }

@@ -1,4 +1,4 @@
-//! Sets that users send as numbers: the functions of docs/PROVING.md, in the same words.
+//! Sets that are sent as numbers.
 
 ghost use Rattle.std.specs.Prelude.{◌≡◌, ◌↔◌, IsTrue, IsSome, IfSome};
 ghost use Rattle.enumset_repr.specs.BitSet as set;

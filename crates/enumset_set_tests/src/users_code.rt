@@ -1,0 +1,46 @@
+//! The functions that docs/PROVING.md and the README show, at worked types.
+
+ghost use Rattle.std.specs.Prelude.{◌≡◌};
+
+use enumset_sets::enum_set::EnumSet;
+use enumset_worked::letters::Letters;
+use enumset_worked::wide::Wide;
+use my_sets::expressions::{after_and_before, exchange, exchanged};
+use my_sets::proving::{grant_then_revoke, is_apart_from_the_rest, rebuilt};
+use my_sets::rights::{Right, grant, may};
+
+#[test]
+fn rights_are_granted(rt: HostRuntime) {
+    let mut granted = Right::Read | Right::Share;
+    assert_eq!(rt; granted.as_u8_truncated(), 5);
+    assert_eq!(rt; grant(&mut granted, Right::Write), true);
+    assert_eq!(rt; grant(&mut granted, Right::Write), false);
+    assert_eq!(rt;
+        may(granted, Right::Read | (Right::Write | Right::Share)),
+        true
+    );
+    assert_eq!(rt; may(EnumSet::only(Right::Read), granted), false);
+}
+
+#[test]
+#[tactic(auto, using(enumset_repr::specs::Laws::Algebra::algebra))]
+fn laws_at_types(rt: HostRuntime) {
+    let mut granted = EnumSet::<Letters>::new();
+    grant_then_revoke(&mut granted, Letters::C);
+    assert_eq!(rt; rebuilt(&granted).as_u8_truncated(), 0);
+    assert_eq!(rt; is_apart_from_the_rest(&granted), true);
+    assert_eq!(rt; is_apart_from_the_rest(&EnumSet::<Wide>::all()), true);
+}
+
+#[test]
+fn elements_stand_in_expressions(rt: HostRuntime) {
+    let mut granted = Letters::A | Letters::C | Letters::G;
+    assert_eq!(rt;
+        exchanged(granted, Letters::B, Letters::C).as_u8_truncated(),
+        67
+    );
+    exchange(&mut granted, Letters::B, Letters::C);
+    let (after, before) = after_and_before(granted, Letters::D);
+    assert_eq!(rt; before.as_u8_truncated(), 67);
+    assert_eq!(rt; after.as_u8_truncated(), 75);
+}

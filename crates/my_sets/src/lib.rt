@@ -1,0 +1,8 @@
+//! Sets of rights.
+#![tactic(auto)]
+
+pub mod expressions;
+pub mod operators;
+pub mod proving;
+pub mod rights;
+pub mod sending;
