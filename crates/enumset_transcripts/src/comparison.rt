@@ -1,10 +1,10 @@
 //! What is wanted beside what comes.
 
-use crate::transcript::Run;
+use crate::transcript::{Exchange, Run};
 use anyhow::{Context, Result, bail};
 use enumset_kinds::kinds::{serve_worked, worked};
 use std::alloc::{AllocError, Global};
-use std::io::Eprint;
+use std::io::{self, Eprint};
 use std::{fmt, str};
 
 /// How many replies there were, and how many of them were those that were wanted.
@@ -53,17 +53,26 @@ pub fn compare_run<R: Eprint + AllocGlobal>(
     let mut tally = Tally::default();
     for exchange in &run.exchanges {
         let came = replies.next().unwrap_or("nothing");
-        let wanted = exchange.reply;
-        tally.count(came == wanted);
-        if came != wanted {
-            let (line, command) = (exchange.line, exchange.command);
-            eprintln!(rt; "{path}:{line}: {command}: wanted {wanted}, came {came}")?;
+        let agrees = came == exchange.reply;
+        tally.count(agrees);
+        if !agrees {
+            say_difference(rt, path, exchange, came)?;
         }
     }
     if let Some(came) = replies.next() {
         bail!("wanted no more replies, came {came}");
     }
     Ok(tally)
+}
+
+/// Says where a reply differs from the one that is wanted.
+fn say_difference(rt: &impl Eprint, path: &str, exchange: &Exchange, came: &str) -> io::Result<()> {
+    let Exchange {
+        line,
+        command,
+        reply,
+    } = *exchange;
+    eprintln!(rt; "{path}:{line}: {command}: wanted {reply}, came {came}")
 }
 
 /// The commands of a run as the program reads them: one a line.

@@ -7,7 +7,7 @@ use anyhow::{Result, bail};
 use std::alloc::Global;
 
 /// A command, and the reply that is wanted.
-#[derive(Clone, Copy, Debug)]
+#[derive(Clone, Copy)]
 pub struct Exchange<'a> {
     /// The number of its line in the file.
     pub line: u64,
@@ -16,7 +16,7 @@ pub struct Exchange<'a> {
 }
 
 /// Commands that are run one after the other, from empty sets.
-#[derive(Debug, Drop)]
+#[derive(Drop)]
 pub struct Run<'a> {
     /// The number of its first line in the file.
     pub line: u64,
