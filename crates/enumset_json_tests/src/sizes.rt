@@ -4,10 +4,12 @@ use enumset::set_json::{JsonWidth, Unknown, from_number, from_words, to_number, 
 use enumset::{EnumSet, EnumSetType};
 use enumset_sizes::{GapsInU128, GapsInWords, Month, Of33, Of128, Of256};
 use std::alloc::Global;
+use std::fmt;
+use std::process::Abort;
 use std::test::Fail;
 
 // The words and, where it has at most 64 bits, the number that the set is written as. Each is read as the set again.
-fn written<T: EnumSetType>(rt: &HostRuntime, alloc: Global) -> Result<String, Fail> {
+fn written<T: EnumSetType + fmt::Debug>(rt: &impl Abort, alloc: Global) -> Result<String, Fail> {
     let all = EnumSet::<T>::all();
     let mut text = String::new(alloc);
     let words = to_words(alloc, &all)?;
