@@ -1,4 +1,4 @@
-// Flags in a config file: the text of docs/JSON.md, in the same words.
+//! Flags in a config file.
 
 use enumset::set_json::{
     JsonFault, JsonWidth, Unknown, from_number, from_words, to_number, to_words,

@@ -1,4 +1,4 @@
-// Proofs about sets sent as JSON: the text of docs/JSON.md, in the same words.
+//! Flags that are sent as JSON.
 
 ghost use Rattle.std.specs.Prelude.{◌≡◌, ◌≤◌, ◌↔◌, IsOk, IsTrue, IfOk, IfErr};
 ghost use Rattle.enumset_repr.specs.BitSet as set;

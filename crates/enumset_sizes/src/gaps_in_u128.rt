@@ -5,7 +5,7 @@ use enumset_sets::variant_of;
 use enumset_sets::with_repr::EnumSetTypeWithRepr;
 
 /// A variant for each even bit of a `u128`.
-#[derive(Clone, Copy, Debug, PartialEq, Eq, PartialOrd, Ord, Hash)]
+#[derive(Clone, Copy, Debug, PartialEq, Eq)]
 pub enum GapsInU128 {
     V0 = 0,
     V1 = 2,

@@ -5,7 +5,7 @@ use enumset_sets::element::EnumSetType;
 use enumset_sets::variant_of;
 
 /// A variant for every third bit of three words.
-#[derive(Clone, Copy, Debug, PartialEq, Eq, PartialOrd, Ord, Hash)]
+#[derive(Clone, Copy, Debug, PartialEq, Eq)]
 pub enum GapsInWords {
     V0 = 0,
     V1 = 3,

@@ -5,7 +5,7 @@ use enumset_sets::element::EnumSetType;
 use enumset_sets::variant_of;
 
 /// A variant for each bit of four words, as many as an enum may have.
-#[derive(Clone, Copy, Debug, PartialEq, Eq, PartialOrd, Ord, Hash)]
+#[derive(Clone, Copy, Debug, PartialEq, Eq)]
 pub enum Of256 {
     V0,
     V1,

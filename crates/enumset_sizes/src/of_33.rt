@@ -5,7 +5,7 @@ use enumset_sets::variant_of;
 use enumset_sets::with_repr::EnumSetTypeWithRepr;
 
 /// Thirty-three variants, on bits 0 to 32.
-#[derive(Clone, Copy, Debug, PartialEq, Eq, PartialOrd, Ord, Hash)]
+#[derive(Clone, Copy, Debug, PartialEq, Eq)]
 pub enum Of33 {
     V0,
     V1,
