@@ -1,7 +1,5 @@
 -- The words of JSON arrays.
 use Rattle.std.proofs.Common.{◌≡◌, ◌<◌, ◌≤◌, ℕ, suc, zero, ◌+◌, Bool, true, false, if◌then◌else◌, Some, List, [], ◌∷◌, map, drop, length, refl, ap, arith, slice_index, get_or, is_some, unwrap_or}
-use Rattle.serde_json.specs.Data.{Data, array, Items}
-use Rattle.serde_json.specs.Find.{as_array}
 use Rattle.serde_json.specs.View.{view, items_of, items_view}
 use Rattle.serde_json.specs.declared.value.Value.{Value}
 use Rattle.enumset.specs.Json.{word_of, words_of, first_other}
@@ -29,9 +27,6 @@ first_other-next (v ∷ vs) place zero (suc zero) d is under one = ap (λ t. if 
 first_other-next (v ∷ vs) place zero (suc (suc n)) d is under one = absurd (omega (arith, is))
 first_other-next (v ∷ vs) place (suc k) zero d is under one = absurd (omega (arith, is))
 first_other-next (v ∷ vs) place (suc k) (suc next) d is under one = first_other-next vs place k next d (omega (arith, is)) (omega (arith, under)) one
-
-pub read_array : (value : Data) (items : Items) → as_array value ≡ Some items → value ≡ array items
-read_array value items is = grind (arith, is)
 
 pub refuted : (b : Bool) → ((b ≡ true) → ⊥) → false ≡ b
 refuted true none = absurd (none refl)
