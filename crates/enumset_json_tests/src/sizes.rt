@@ -2,7 +2,7 @@
 
 use enumset::set_json::{JsonWidth, Unknown, from_number, from_words, to_number, to_words};
 use enumset::{EnumSet, EnumSetType};
-use enumset_sizes::{GapsInU128, GapsInWords, Month, Of33, Of128, Of256};
+use enumset_sizes::{GapsInU128, GapsInWords, Month, Of32, Of33, Of128, Of256};
 use std::alloc::Global;
 use std::fmt;
 use std::process::Abort;
@@ -30,6 +30,10 @@ fn written<T: EnumSetType + fmt::Debug>(rt: &impl Abort, alloc: Global) -> Resul
 fn full_sets(rt: HostRuntime) -> Result<(), Fail> {
     let alloc = rt.alloc();
     assert_eq!(rt; written::<Month>(&rt, alloc)?.as_str(), "[4095] 4095");
+    assert_eq!(rt;
+        written::<Of32>(&rt, alloc)?.as_str(),
+        "[4294967295] 4294967295"
+    );
     assert_eq!(rt;
         written::<Of33>(&rt, alloc)?.as_str(),
         "[8589934591] 8589934591"

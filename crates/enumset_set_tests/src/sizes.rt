@@ -2,7 +2,7 @@
 
 use enumset_sets::element::EnumSetType;
 use enumset_sets::enum_set::EnumSet;
-use enumset_sizes::{GapsInU128, GapsInWords, Month, Of33, Of128, Of256};
+use enumset_sizes::{GapsInU128, GapsInWords, Month, Of32, Of33, Of128, Of256};
 use std::alloc::{AllocError, Global};
 use std::fmt;
 use std::test::Fail;
@@ -51,6 +51,10 @@ fn bits_in_order(rt: HostRuntime) -> Result<(), Fail> {
         "12: 0 1 2 3 4 5 6 7 8 9 10 11; 11 10 9 8 7 6 5 4 3 2 1 0; \
         EnumSet(January | February | March | April | May | June | July | August | September | October | November \
         | December); Some(4095); [4095, 0, 0, 0]"
+    );
+    assert_eq!(rt;
+        full_set::<Of32>(alloc)?.as_str(),
+        wanted(alloc, 32, 1, "Some(4294967295); [4294967295, 0, 0, 0]")?.as_str()
     );
     assert_eq!(rt;
         full_set::<Of33>(alloc)?.as_str(),
