@@ -70,18 +70,23 @@ macro_rules! variant_of {
         );
         $crate::variant_of!(@none $bit $($at)+)
     }};
-    (@none $bit:ident $($at:literal)+) => {{
-        $crate::variants::is_listed($bit, &[$($at),+]);
-        unreachable!()
-    }};
+    (@none $bit:ident $($at:literal)+) => {
+        $crate::variants::is_listed($bit, &[$($at),+])
+    };
     ($bit:expr, $of:ident:) => {
         unreachable!()
     };
-    ($bit:expr, $of:ident: $($at:literal $variant:ident)+) => {{
+    // The last arm is never taken. It names a variant for the bits between theirs, so that the match can become a load
+    // from a table. With `unreachable!()` it would be a jump to the bit's arm.
+    ($bit:expr, $of:ident: $first_at:literal $first:ident $($at:literal $variant:ident)*) => {{
         let bit: u32 = $bit;
         match bit {
-            $($at => $of::$variant,)+
-            _ => $crate::variant_of!(@none bit $($at)+),
+            $first_at => $of::$first,
+            $($at => $of::$variant,)*
+            _ => {
+                $crate::variant_of!(@none bit $first_at $($at)*);
+                $of::$first
+            }
         }
     }};
     ($bit:expr, $of:ident: $($variant:ident)+) => {
