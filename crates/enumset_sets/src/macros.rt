@@ -8,7 +8,7 @@
 /// may have, and becomes one `match` over the bits.
 #[macro_export]
 macro_rules! variant_of {
-    // No variant is left where `is_below` tells the proof so. More than 256 are refused before.
+    // All variants have their arms. The last arm is never taken: `is_below` tells a proof so.
     (@arms $bit:expr, $of:ident [$($arm:tt)+] [$count:literal $($at:literal)*]) => {{
         let bit: u32 = $bit;
         match bit {
@@ -19,16 +19,19 @@ macro_rules! variant_of {
             }
         }
     }};
+    // Variants are left, and no literal for them.
     (@arms $bit:expr, $of:ident [$($arm:tt)+] [$count:literal] $($variant:ident)+) => {
         compile_error!("variant_of! takes at most 256 variants, as many as an enum may have")
     };
-    // Sixteen variants become arms at a time, and the last fifteen one by one.
+    // Sixteen variants get their arms at a time, and the last ones one by one.
     (
         @arms $bit:expr, $of:ident [$($arm:tt)*]
         [$a0:literal $a1:literal $a2:literal $a3:literal $a4:literal $a5:literal $a6:literal $a7:literal
-            $a8:literal $a9:literal $a10:literal $a11:literal $a12:literal $a13:literal $a14:literal $a15:literal $($at:literal)+]
+            $a8:literal $a9:literal $a10:literal $a11:literal $a12:literal $a13:literal $a14:literal $a15:literal
+            $($at:literal)+]
         $v0:ident $v1:ident $v2:ident $v3:ident $v4:ident $v5:ident $v6:ident $v7:ident
-        $v8:ident $v9:ident $v10:ident $v11:ident $v12:ident $v13:ident $v14:ident $v15:ident $($variant:ident)*
+        $v8:ident $v9:ident $v10:ident $v11:ident $v12:ident $v13:ident $v14:ident $v15:ident
+        $($variant:ident)*
     ) => {
         $crate::variant_of!(
             @arms $bit, $of
@@ -45,7 +48,7 @@ macro_rules! variant_of {
     (@arms $bit:expr, $of:ident [$($arm:tt)*] [$a:literal $($at:literal)+] $v:ident $($variant:ident)*) => {
         $crate::variant_of!(@arms $bit, $of [$($arm)* $a => $of::$v,] [$($at)+] $($variant)*)
     };
-    // No bit is left: a proof is told so of 64 at a time.
+    // No bit is left. A proof is told so of 64 at a time: it takes in no more than some 128 at once.
     (
         @none $bit:ident
         $a0:literal $a1:literal $a2:literal $a3:literal $a4:literal $a5:literal $a6:literal $a7:literal
@@ -76,8 +79,8 @@ macro_rules! variant_of {
     ($bit:expr, $of:ident:) => {
         unreachable!()
     };
-    // The last arm is never taken. It names a variant for the bits between theirs, so that the match can become a load
-    // from a table. With `unreachable!()` it would be a jump to the bit's arm.
+    // The last arm is never taken. It names a variant all the same, so that the match can become a load from a table.
+    // With `unreachable!()` it would be a jump to the arm of the bit.
     ($bit:expr, $of:ident: $first_at:literal $first:ident $($at:literal $variant:ident)*) => {{
         let bit: u32 = $bit;
         match bit {
