@@ -102,6 +102,7 @@ impl EnumSetType for GapsInWords {
 
     const VARIANT_COUNT: u32 = 64;
 
+    #[inline(always)]
     fn enum_into_u32(self) -> u32 {
         self as u32
     }
