@@ -1,5 +1,5 @@
 use Rattle.std.proofs.Common.{◌≡◌, ◌+◌, ◌%◌, ◌^◌, take, fold}
-use Rattle.enumset_tests.proofs.small_stores.ByteSumHasher.write.Given as goal
+use Rattle.enumset_store_tests.proofs.small_stores.ByteSumHasher.write.Given as goal
 
 -- the bytes so far were added
 abbrev pub invariant-loop-byte : goal.invariant-loop-byte
