@@ -1,6 +1,5 @@
-//! Numbers to and from every store.
+//! Numbers into a store and out of it, by the calls of each type, where the store has the bits of `mask` below 128.
 
-use enumset_array::ArrayRepr;
 use enumset_repr::EnumSetTypeRepr;
 use std::process::Abort;
 
@@ -19,97 +18,75 @@ const NUMBERS: [u128; 11] = [
     340282366920938463463374607431768211455,
 ];
 
-/// Whether the four calls of one type answer at a number as they should, where the store keeps `kept` of
-/// its bits.
-macro_rules! agrees {
-    ($store:ident, $n:ident, $kept:ident, $x:ident: $from:ident $try_from:ident $to:ident $try_to:ident) => {{
-        let set = $store::from_u128($n);
-        let low = $kept & $x::MAX as u128;
-        let is_out = match set.$try_to() {
-            Some(number) => low == $kept && number as u128 == $kept,
-            None => low != $kept,
-        };
-        let is_in = if $n <= $x::MAX as u128 {
-            let is_tried = match $store::$try_from($n as $x) {
-                Some(tried) => $kept == $n && tried == set,
-                None => $kept != $n,
-            };
-            is_tried && $store::$from($n as $x) == set
-        } else {
-            true
-        };
-        is_out && is_in && set.$to() as u128 == low
-    }};
+/// Tests what a type's calls took in of a number.
+fn assert_in<R: EnumSetTypeRepr>(
+    rt: &impl Abort,
+    at: (&str, &str),
+    made: (R, Option<R>),
+    number: u128,
+    mask: u128,
+) {
+    let (set, tried) = made;
+    let kept = number & mask;
+    let whole = if kept == number { Some(set) } else { None };
+    assert_eq!(rt; set.to_u128(), kept, "from {at:?}");
+    assert_eq!(rt; tried, whole, "try_from {at:?}");
 }
 
-fn u8_agrees<R: EnumSetTypeRepr>(n: u128, kept: u128) -> bool {
-    agrees!(R, n, kept, u8: from_u8 try_from_u8 to_u8 try_to_u8)
+/// The greatest number of each type, and 0.
+pub fn numbers_in<R: EnumSetTypeRepr>(rt: &impl Abort, store: &str, mask: u128) {
+    let made: (R, Option<R>) = (R::from_u8(u8::MAX), R::try_from_u8(u8::MAX));
+    assert_in(rt, ("u8", store), made, u8::MAX as u128, mask);
+    let made: (R, Option<R>) = (R::from_u16(u16::MAX), R::try_from_u16(u16::MAX));
+    assert_in(rt, ("u16", store), made, u16::MAX as u128, mask);
+    let made: (R, Option<R>) = (R::from_u32(u32::MAX), R::try_from_u32(u32::MAX));
+    assert_in(rt, ("u32", store), made, u32::MAX as u128, mask);
+    let made: (R, Option<R>) = (R::from_u64(u64::MAX), R::try_from_u64(u64::MAX));
+    assert_in(rt, ("u64", store), made, u64::MAX as u128, mask);
+    let made: (R, Option<R>) = (R::from_usize(usize::MAX), R::try_from_usize(usize::MAX));
+    assert_in(rt, ("usize", store), made, usize::MAX as u128, mask);
+    let made: (R, Option<R>) = (R::from_u128(u128::MAX), R::try_from_u128(u128::MAX));
+    assert_in(rt, ("u128", store), made, u128::MAX, mask);
+    let made: (R, Option<R>) = (R::from_u64(0), R::try_from_u64(0));
+    assert_in(rt, ("0", store), made, 0, mask);
 }
 
-fn u16_agrees<R: EnumSetTypeRepr>(n: u128, kept: u128) -> bool {
-    agrees!(R, n, kept, u16: from_u16 try_from_u16 to_u16 try_to_u16)
+/// Tests the number that a type's calls gave of a set, and whether that is the whole set.
+fn assert_out(rt: &impl Abort, at: (&str, &str), given: (u128, bool), kept: u128, greatest: u128) {
+    assert_eq!(rt;
+        given,
+        (kept & greatest, kept <= greatest),
+        "of {kept}, to and try_to {at:?}"
+    );
 }
 
-fn u32_agrees<R: EnumSetTypeRepr>(n: u128, kept: u128) -> bool {
-    agrees!(R, n, kept, u32: from_u32 try_from_u32 to_u32 try_to_u32)
-}
-
-fn u64_agrees<R: EnumSetTypeRepr>(n: u128, kept: u128) -> bool {
-    agrees!(R, n, kept, u64: from_u64 try_from_u64 to_u64 try_to_u64)
-}
-
-fn u128_agrees<R: EnumSetTypeRepr>(n: u128, kept: u128) -> bool {
-    agrees!(R, n, kept, u128: from_u128 try_from_u128 to_u128 try_to_u128)
-}
-
-fn usize_agrees<R: EnumSetTypeRepr>(n: u128, kept: u128) -> bool {
-    agrees!(R, n, kept, usize: from_usize try_from_usize to_usize try_to_usize)
-}
-
-/// Each number, at a store whose bits below 128 are those of `mask`.
-fn exercise<R: EnumSetTypeRepr>(rt: &impl Abort, mask: u128) {
-    for n in NUMBERS {
-        let kept = n & mask;
-        let agree = [
-            u8_agrees::<R>(n, kept),
-            u16_agrees::<R>(n, kept),
-            u32_agrees::<R>(n, kept),
-            u64_agrees::<R>(n, kept),
-            u128_agrees::<R>(n, kept),
-            usize_agrees::<R>(n, kept),
-        ];
-        assert!(rt; agree == [true; 6], "number {n}");
+/// The numbers below a type's width of each set, and whether that is the whole set.
+pub fn numbers_out<R: EnumSetTypeRepr>(rt: &impl Abort, store: &str, mask: u128) {
+    for number in NUMBERS {
+        let set = R::from_u128(number);
+        let kept = number & mask;
+        let (low, whole) = (set.to_u8(), set.try_to_u8());
+        let given = (low as u128, whole == Some(low));
+        assert_out(rt, ("u8", store), given, kept, u8::MAX as u128);
+        let (low, whole) = (set.to_u16(), set.try_to_u16());
+        let given = (low as u128, whole == Some(low));
+        assert_out(rt, ("u16", store), given, kept, u16::MAX as u128);
+        let (low, whole) = (set.to_u32(), set.try_to_u32());
+        let given = (low as u128, whole == Some(low));
+        assert_out(rt, ("u32", store), given, kept, u32::MAX as u128);
+        let (low, whole) = (set.to_u64(), set.try_to_u64());
+        let given = (low as u128, whole == Some(low));
+        assert_out(rt, ("u64", store), given, kept, u64::MAX as u128);
+        let (low, whole) = (set.to_usize(), set.try_to_usize());
+        let given = (low as u128, whole == Some(low));
+        assert_out(rt, ("usize", store), given, kept, usize::MAX as u128);
+        let (low, whole) = (set.to_u128(), set.try_to_u128());
+        assert_out(
+            rt,
+            ("u128", store),
+            (low, whole == Some(low)),
+            kept,
+            u128::MAX,
+        );
     }
-}
-
-#[test]
-fn each_type_at_each_store(rt: HostRuntime) {
-    exercise::<u8>(&rt, u8::MAX as u128);
-    exercise::<u16>(&rt, u16::MAX as u128);
-    exercise::<u32>(&rt, u32::MAX as u128);
-    exercise::<u64>(&rt, u64::MAX as u128);
-    exercise::<u128>(&rt, u128::MAX);
-    exercise::<ArrayRepr<0>>(&rt, 0);
-    exercise::<ArrayRepr<1>>(&rt, u64::MAX as u128);
-    exercise::<ArrayRepr<2>>(&rt, u128::MAX);
-    exercise::<ArrayRepr<3>>(&rt, u128::MAX);
-}
-
-#[test]
-fn numbers_written_out(rt: HostRuntime) {
-    let pair = ArrayRepr([1, 2, 0]);
-    let agree = [
-        u8::from_u16(257) == 1,
-        u8::try_from_u16(257).is_none(),
-        u8::try_from_u128(255) == Some(255),
-        ArrayRepr::<0>::try_from_u64(0) == Some(ArrayRepr::<0>::EMPTY),
-        ArrayRepr::<0>::try_from_u64(1).is_none(),
-        pair.to_u128() == 36893488147419103233,
-        pair.try_to_u128() == Some(36893488147419103233),
-        pair.to_u64() == 1,
-        pair.try_to_u64().is_none(),
-        ArrayRepr([1, 2, 4]).try_to_u128().is_none(),
-        ArrayRepr::<3>::from_u128(36893488147419103233) == pair,
-    ];
-    assert!(rt; agree == [true; 11]);
 }
