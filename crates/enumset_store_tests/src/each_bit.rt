@@ -1,5 +1,6 @@
 //! Sets of one bit, and what each end of an iterator gives of all bits.
 
+use crate::expect::expect;
 use enumset_repr::EnumSetTypeRepr;
 use std::process::Abort;
 
@@ -11,42 +12,37 @@ pub fn one_bit<R: EnumSetTypeRepr>(rt: &impl Abort, store: &str) {
         set.add_bit(bit);
         let one = set;
         set.remove_bit(bit);
+        let held = (bit, before, one.has_bit(bit), set.has_bit(bit));
+        expect(rt, store, "has_bit", held, (bit, false, true, false));
         let mut iter = one.iter();
-        let got = (
-            [before, one.has_bit(bit), set.has_bit(bit)],
-            [one.count_ones() as usize, R::items_left(&iter)],
-            [iter.next(), iter.next_back()],
-        );
-        let wanted = ([false, true, false], [1, 1], [Some(bit), None]);
-        assert_eq!(rt; got, wanted, "bit {bit} of {store}");
+        let left = (bit, one.count_ones(), R::items_left(&iter));
+        expect(rt, store, "count_ones and items_left", left, (bit, 1, 1));
+        let ends = (iter.next(), iter.next_back());
+        expect(rt, store, "next and next_back", ends, (Some(bit), None));
     }
 }
 
-/// All bits of a store from the front, from the back, and from both ends of one iterator.
+/// All bits of a store, from the front of one iterator and from the back of another.
 pub fn all_bits<R: EnumSetTypeRepr>(rt: &impl Abort, store: &str) {
     let mut front = (!R::EMPTY).iter();
     let mut back = R::same_iter(&front);
-    let mut both = R::same_iter(&front);
     for bit in 0..R::WIDTH {
-        let ends = [Some(bit), Some(R::WIDTH - 1 - bit)];
-        assert_eq!(rt;
-            [front.next(), back.next_back()],
-            ends,
-            "bit {bit} of {store}"
-        );
-        if bit < R::WIDTH / 2 {
-            assert_eq!(rt;
-                [both.next(), both.next_back()],
-                ends,
-                "bit {bit} of {store}"
-            );
-        }
+        let ends = (front.next(), back.next_back());
+        let wanted = (Some(bit), Some(R::WIDTH - 1 - bit));
+        expect(rt, store, "next and next_back", ends, wanted);
     }
-    let after = [
-        front.next(),
-        back.next_back(),
-        both.next(),
-        both.next_back(),
-    ];
-    assert_eq!(rt; after, [None; 4], "all bits of {store} were given");
+    let ends = (front.next(), back.next_back());
+    expect(rt, store, "next and next_back", ends, (None, None));
+}
+
+/// All bits of a store from both ends of one iterator in turn.
+pub fn from_both_ends<R: EnumSetTypeRepr>(rt: &impl Abort, store: &str) {
+    let mut iter = (!R::EMPTY).iter();
+    for bit in 0..R::WIDTH / 2 {
+        let ends = (iter.next(), iter.next_back());
+        let wanted = (Some(bit), Some(R::WIDTH - 1 - bit));
+        expect(rt, store, "next, then next_back", ends, wanted);
+    }
+    let ends = (iter.next(), iter.next_back());
+    expect(rt, store, "next, then next_back", ends, (None, None));
 }

@@ -1,8 +1,9 @@
 //! Each call of the trait of stores, through its bound: the modules that `each_call` names make each of them in full, and
 //! each store has a line.
 
-use crate::each_bit::{all_bits, one_bit};
+use crate::each_bit::{all_bits, from_both_ends, one_bit};
 use crate::each_word::each_word;
+use crate::expect::expect;
 use crate::numbers::{numbers_in, numbers_out};
 use crate::slices::{arrays, words_in, words_out};
 use enumset_array::ArrayRepr;
@@ -25,6 +26,7 @@ fn each_call<R: EnumSetTypeRepr>(
     );
     one_bit::<R>(rt, store);
     all_bits::<R>(rt, store);
+    from_both_ends::<R>(rt, store);
     each_word::<R>(rt, store, word);
     // the bits of each word in use, and no bit past them
     let mut masks = [0; 4];

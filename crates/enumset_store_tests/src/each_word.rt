@@ -1,9 +1,8 @@
 //! Sets that differ in one word, at each place of a store: lanes of four words leave a rest of five words, and blocks of
 //! sixteen a rest of seventeen.
 
+use crate::expect::expect;
 use enumset_repr::EnumSetTypeRepr;
-use std::cmp::Ordering;
-use std::fmt::Debug;
 use std::hash::{DefaultHasher, Hash, Hasher};
 use std::process::Abort;
 
@@ -20,20 +19,15 @@ fn store_of<R: EnumSetTypeRepr>(place: usize, word: u64, below: u64, above: u64)
 /// Each call at each place, where the words have the bits of `word`.
 pub fn each_word<R: EnumSetTypeRepr>(rt: &impl Abort, store: &str, word: u64) {
     let top = word - word / 2;
-    combine_none::<R>(rt);
+    combine_none::<R>(rt, store);
     for place in 0..R::PREFERRED_ARRAY_LEN {
-        combine_at::<R>(rt, place, top, 0);
-        combine_at::<R>(rt, place, top, 6);
+        combine_at::<R>(rt, store, place, top, 0);
+        combine_at::<R>(rt, store, place, top, 6);
         compare_at::<R>(rt, store, place, top);
         count_at::<R>(rt, store, place, top);
         order_at::<R>(rt, store, place);
         step_at::<R>(rt, store, place, top);
     }
-}
-
-/// Tests a reply, beside its call.
-fn expect<V: Copy + Eq + Debug>(rt: &impl Abort, call: &str, reply: V, wanted: V) {
-    assert_eq!(rt; reply, wanted, "{call}");
 }
 
 /// What comes of two sets.
@@ -46,28 +40,46 @@ struct Combined<R: EnumSetTypeRepr> {
 }
 
 /// The operators on two sets.
-fn combine<R: EnumSetTypeRepr>(rt: &impl Abort, a: R, b: R, wanted: &Combined<R>) {
-    expect(rt, "a | b", a | b, wanted.union);
-    expect(rt, "a & b", a & b, wanted.intersection);
-    expect(rt, "a ^ b", a ^ b, wanted.in_just_one);
-    expect(rt, "a.and_not(b)", a.and_not(b), wanted.in_first_alone);
+fn combine<R: EnumSetTypeRepr>(rt: &impl Abort, store: &str, a: R, b: R, wanted: &Combined<R>) {
+    expect(rt, store, "a | b", a | b, wanted.union);
+    expect(rt, store, "a & b", a & b, wanted.intersection);
+    expect(rt, store, "a ^ b", a ^ b, wanted.in_just_one);
+    expect(
+        rt,
+        store,
+        "a.and_not(b)",
+        a.and_not(b),
+        wanted.in_first_alone,
+    );
 }
 
 /// The same in place.
-fn change<R: EnumSetTypeRepr>(rt: &impl Abort, a: R, b: R, wanted: &Combined<R>) {
+fn change<R: EnumSetTypeRepr>(rt: &impl Abort, store: &str, a: R, b: R, wanted: &Combined<R>) {
     let (mut or, mut and, mut xor, mut and_not) = (a, a, a, a);
     or.or_with(&b);
     and.and_with(&b);
     xor.xor_with(&b);
     and_not.and_not_with(&b);
-    expect(rt, "a.or_with(b)", or, wanted.union);
-    expect(rt, "a.and_with(b)", and, wanted.intersection);
-    expect(rt, "a.xor_with(b)", xor, wanted.in_just_one);
-    expect(rt, "a.and_not_with(b)", and_not, wanted.in_first_alone);
+    expect(rt, store, "a.or_with(b)", or, wanted.union);
+    expect(rt, store, "a.and_with(b)", and, wanted.intersection);
+    expect(rt, store, "a.xor_with(b)", xor, wanted.in_just_one);
+    expect(
+        rt,
+        store,
+        "a.and_not_with(b)",
+        and_not,
+        wanted.in_first_alone,
+    );
 }
 
 /// Words that share their top bit and bit 0, where all other words are alike.
-fn combine_at<R: EnumSetTypeRepr>(rt: &impl Abort, place: usize, top: u64, others: u64) {
+fn combine_at<R: EnumSetTypeRepr>(
+    rt: &impl Abort,
+    store: &str,
+    place: usize,
+    top: u64,
+    others: u64,
+) {
     let a: R = store_of(place, top | 3, others, others);
     let b: R = store_of(place, top | 5, others, others);
     let wanted = Combined {
@@ -76,22 +88,22 @@ fn combine_at<R: EnumSetTypeRepr>(rt: &impl Abort, place: usize, top: u64, other
         in_just_one: store_of(place, 6, 0, 0),
         in_first_alone: store_of(place, 2, 0, 0),
     };
-    combine(rt, a, b, &wanted);
-    change(rt, a, b, &wanted);
+    combine(rt, store, a, b, &wanted);
+    change(rt, store, a, b, &wanted);
     let absent = store_of(place, !(top | 3), !others, !others);
-    expect(rt, "!a", !a, absent);
+    expect(rt, store, "!a", !a, absent);
 }
 
 /// Two empty sets.
-fn combine_none<R: EnumSetTypeRepr>(rt: &impl Abort) {
+fn combine_none<R: EnumSetTypeRepr>(rt: &impl Abort, store: &str) {
     let wanted = Combined {
         union: R::EMPTY,
         intersection: R::EMPTY,
         in_just_one: R::EMPTY,
         in_first_alone: R::EMPTY,
     };
-    combine(rt, R::EMPTY, R::EMPTY, &wanted);
-    change(rt, R::EMPTY, R::EMPTY, &wanted);
+    combine(rt, store, R::EMPTY, R::EMPTY, &wanted);
+    change(rt, store, R::EMPTY, R::EMPTY, &wanted);
 }
 
 /// What two sets are to each other where one has its word's top bit more.
@@ -125,7 +137,7 @@ fn compare_at<R: EnumSetTypeRepr>(rt: &impl Abort, store: &str, place: usize, to
         ("more equals more", more == more, true),
         ("hashes alike", hash_of(&less) == hash_of(&more), false),
     ] {
-        assert_eq!(rt; answer, wanted, "{call} at word {place} of {store}");
+        expect(rt, store, call, (place, answer), (place, wanted));
     }
 }
 
@@ -138,30 +150,55 @@ fn hash_of<V: Hash>(value: &V) -> u64 {
 
 /// Sets of one bit, of two and of none in a word, and a word read back.
 fn count_at<R: EnumSetTypeRepr>(rt: &impl Abort, store: &str, place: usize, top: u64) {
-    assert!(rt; place < R::PREFERRED_ARRAY_LEN);
     let one: R = store_of(place, top, 0, 0);
     let two: R = store_of(place, top | 1, 0, 0);
     let none = one.and_not(two);
-    let counts = [one.count_ones(), two.count_ones(), none.count_ones()];
-    assert_eq!(rt; counts, [1, 2, 0], "word {place} of {store}");
-    let are_empty = [one.is_empty(), two.is_empty(), none.is_empty()];
-    assert_eq!(rt; are_empty, [false, false, true], "word {place} of {store}");
+    let counts = (place, one.count_ones(), two.count_ones(), none.count_ones());
+    expect(rt, store, "count_ones", counts, (place, 1, 2, 0));
+    let are_empty = (place, one.is_empty(), two.is_empty(), none.is_empty());
+    expect(
+        rt,
+        store,
+        "is_empty",
+        are_empty,
+        (place, false, false, true),
+    );
     let absent = R::WIDTH.saturating_sub((!one).count_ones());
-    assert_eq!(rt; absent, 1, "word {place} of {store}");
-    assert_eq!(rt; two.word(place), top | 1, "word {place} of {store}");
+    expect(
+        rt,
+        store,
+        "count_ones of all but one",
+        (place, absent),
+        (place, 1),
+    );
+    if place < R::PREFERRED_ARRAY_LEN {
+        expect(
+            rt,
+            store,
+            "word",
+            (place, two.word(place)),
+            (place, top | 1),
+        );
+    }
 }
 
 /// Sets that differ in a place, and in each place below it the other way round.
 fn order_at<R: EnumSetTypeRepr>(rt: &impl Abort, store: &str, place: usize) {
     let high: R = store_of(place, 2, 0, 0);
     let low: R = store_of(place, 1, !0, 0);
-    let orders = [low.cmp(&high), high.cmp(&low), low.cmp(&low)];
-    let wanted = [Ordering::Less, Ordering::Greater, Ordering::Equal];
-    assert_eq!(rt; orders, wanted, "word {place} of {store}");
-    assert_eq!(rt;
-        [low < high, low > high],
-        [true, false],
-        "word {place} of {store}"
+    let cmp = (
+        place,
+        low.cmp(&high).is_lt(),
+        high.cmp(&low).is_gt(),
+        low.cmp(&low).is_eq(),
+    );
+    expect(rt, store, "cmp", cmp, (place, true, true, true));
+    expect(
+        rt,
+        store,
+        "< and >",
+        (place, low < high, low > high),
+        (place, true, false),
     );
 }
 
@@ -170,12 +207,17 @@ fn step_at<R: EnumSetTypeRepr>(rt: &impl Abort, store: &str, place: usize, top: 
     assert!(rt; place < 64);
     let first = 64 * place as u32;
     let last = first + top.trailing_zeros();
-    let set: R = store_of(place, top | 1, 0, 0);
-    let mut iter = set.iter();
-    assert_eq!(rt; iter.size_hint(), (2, Some(2)), "word {place} of {store}");
-    let ends = [iter.next_back(), iter.next()];
-    assert_eq!(rt; ends, [Some(last), Some(first)], "word {place} of {store}");
-    assert_eq!(rt; iter.size_hint(), (0, Some(0)), "word {place} of {store}");
-    let ends = [iter.next_back(), iter.next()];
-    assert_eq!(rt; ends, [None, None], "word {place} of {store}");
+    let mut iter = store_of::<R>(place, top | 1, 0, 0).iter();
+    expect(rt, store, "size_hint", iter.size_hint(), (2, Some(2)));
+    let ends = (iter.next_back(), iter.next());
+    expect(
+        rt,
+        store,
+        "next_back, then next",
+        ends,
+        (Some(last), Some(first)),
+    );
+    expect(rt, store, "size_hint", iter.size_hint(), (0, Some(0)));
+    let ends = (iter.next_back(), iter.next());
+    expect(rt, store, "next_back, then next", ends, (None, None));
 }

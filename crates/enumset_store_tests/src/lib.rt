@@ -12,6 +12,8 @@ mod each_store;
 #[cfg(test)]
 mod each_word;
 #[cfg(test)]
+mod expect;
+#[cfg(test)]
 mod numbers;
 #[cfg(test)]
 mod refused;

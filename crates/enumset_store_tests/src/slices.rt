@@ -1,5 +1,6 @@
 //! Words into a store and out of it, by slices and by arrays, where the store has the bits of `masks`.
 
+use crate::expect::expect;
 use enumset_repr::{
     EnumSetTypeRepr, from_u64_array, to_u64_array, try_from_u64_array, try_to_u64_array,
 };
@@ -32,16 +33,18 @@ pub fn words_in<R: EnumSetTypeRepr>(rt: &impl Abort, store: &str, masks: &[u64; 
         let set = R::from_u64_slice(words);
         let mut out = [7; 4];
         set.to_u64_slice(&mut out);
-        let whole = if &wanted[..len] == words {
+        expect(rt, store, "from_u64_slice", (len, out), (len, wanted));
+        let whole = if wanted == kept(&[u64::MAX; 4], len) {
             Some(set)
         } else {
             None
         };
-        assert_eq!(rt; out, wanted, "{len} words at {store}");
-        assert_eq!(rt;
+        expect(
+            rt,
+            store,
+            "try_from_u64_slice",
             R::try_from_u64_slice(words),
             whole,
-            "{len} words at {store}"
         );
     }
 }
@@ -59,11 +62,13 @@ pub fn words_out<R: EnumSetTypeRepr>(rt: &impl Abort, store: &str, masks: &[u64;
             }
         }
         let mut out = [7; 4];
-        let answer = set.try_to_u64_slice(&mut out[..len]);
-        assert_eq!(rt;
-            (answer.is_some(), out),
+        let is_written = set.try_to_u64_slice(&mut out[..len]).is_some();
+        expect(
+            rt,
+            store,
+            "try_to_u64_slice",
+            (is_written, out),
             (fits, wanted),
-            "{len} words at {store}"
         );
     }
 }
@@ -74,10 +79,34 @@ pub fn arrays<R: EnumSetTypeRepr>(rt: &impl Abort, store: &str, masks: &[u64; 4]
     let pair = [words[0] & masks[0], words[1] & masks[1]];
     let set = from_u64_array::<R, 2>(words);
     let whole = if pair == words { Some(set) } else { None };
-    let no_word = if pair == [0, 0] { Some([]) } else { None };
-    assert_eq!(rt; to_u64_array::<R, 2>(&set), pair, "{store}");
-    assert_eq!(rt; try_to_u64_array::<R, 2>(&set), Some(pair), "{store}");
-    assert_eq!(rt; try_to_u64_array::<R, 0>(&set), no_word, "{store}");
-    assert_eq!(rt; try_from_u64_array::<R, 2>(words), whole, "{store}");
-    assert_eq!(rt; try_from_u64_array::<R, 0>([]), Some(R::EMPTY), "{store}");
+    let none: Option<[u64; 0]> = if pair == [0, 0] { Some([]) } else { None };
+    expect(rt, store, "to_u64_array", to_u64_array::<R, 2>(&set), pair);
+    expect(
+        rt,
+        store,
+        "try_to_u64_array",
+        try_to_u64_array::<R, 2>(&set),
+        Some(pair),
+    );
+    expect(
+        rt,
+        store,
+        "try_to_u64_array",
+        try_to_u64_array::<R, 0>(&set),
+        none,
+    );
+    expect(
+        rt,
+        store,
+        "try_from_u64_array",
+        try_from_u64_array::<R, 2>(words),
+        whole,
+    );
+    expect(
+        rt,
+        store,
+        "try_from_u64_array",
+        try_from_u64_array::<R, 0>([]),
+        Some(R::EMPTY),
+    );
 }

@@ -31,8 +31,8 @@ fn walk_gives<const N: usize>(
     asks: u64,
 ) -> Result<(), AllocError> {
     let given = walk(alloc, &mut row, ends)?;
-    assert_eq!(rt; given.as_slice(), answers, "{row:?}");
-    assert_eq!(rt; row.shown(), asks, "{row:?}");
+    assert_eq!(rt; given.as_slice(), answers);
+    assert_eq!(rt; row.shown(), asks);
     Ok(())
 }
 
