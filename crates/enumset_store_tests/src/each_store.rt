@@ -53,11 +53,18 @@ fn each_integer(rt: HostRuntime) {
 }
 
 #[test]
-fn each_number_of_words(rt: HostRuntime) {
+fn each_number_of_words_below_a_lane(rt: HostRuntime) {
     each_call::<ArrayRepr<0>>(&rt, "no word", 0, 0, u64::MAX);
     each_call::<ArrayRepr<1>>(&rt, "1 word", 64, 1, u64::MAX);
     each_call::<ArrayRepr<2>>(&rt, "2 words", 128, 2, u64::MAX);
     each_call::<ArrayRepr<3>>(&rt, "3 words", 192, 3, u64::MAX);
+}
+
+#[test]
+fn lanes_of_words_and_a_rest(rt: HostRuntime) {
+    each_call::<ArrayRepr<4>>(&rt, "4 words", 256, 4, u64::MAX);
     each_call::<ArrayRepr<5>>(&rt, "5 words", 320, 5, u64::MAX);
+    each_call::<ArrayRepr<8>>(&rt, "8 words", 512, 8, u64::MAX);
+    each_call::<ArrayRepr<9>>(&rt, "9 words", 576, 9, u64::MAX);
     each_call::<ArrayRepr<17>>(&rt, "17 words", 1088, 17, u64::MAX);
 }

@@ -31,7 +31,7 @@ pub fn each_word<R: EnumSetTypeRepr>(rt: &impl Abort, store: &str, word: u64) {
 }
 
 /// What comes of two sets.
-#[derive(Clone, Copy)]
+#[derive(Drop)]
 struct Combined<R: EnumSetTypeRepr> {
     union: R,
     intersection: R,

@@ -37,19 +37,19 @@ fn expect_in<R: EnumSetTypeRepr>(
 
 /// The greatest number of each type, and 0.
 pub fn numbers_in<R: EnumSetTypeRepr>(rt: &impl Abort, store: &str, mask: u128) {
-    let made: (R, Option<R>) = (R::from_u8(u8::MAX), R::try_from_u8(u8::MAX));
+    let made = (R::from_u8(u8::MAX), R::try_from_u8(u8::MAX));
     expect_in(rt, (store, "from_u8"), made, u8::MAX as u128, mask);
-    let made: (R, Option<R>) = (R::from_u16(u16::MAX), R::try_from_u16(u16::MAX));
+    let made = (R::from_u16(u16::MAX), R::try_from_u16(u16::MAX));
     expect_in(rt, (store, "from_u16"), made, u16::MAX as u128, mask);
-    let made: (R, Option<R>) = (R::from_u32(u32::MAX), R::try_from_u32(u32::MAX));
+    let made = (R::from_u32(u32::MAX), R::try_from_u32(u32::MAX));
     expect_in(rt, (store, "from_u32"), made, u32::MAX as u128, mask);
-    let made: (R, Option<R>) = (R::from_u64(u64::MAX), R::try_from_u64(u64::MAX));
+    let made = (R::from_u64(u64::MAX), R::try_from_u64(u64::MAX));
     expect_in(rt, (store, "from_u64"), made, u64::MAX as u128, mask);
-    let made: (R, Option<R>) = (R::from_usize(usize::MAX), R::try_from_usize(usize::MAX));
+    let made = (R::from_usize(usize::MAX), R::try_from_usize(usize::MAX));
     expect_in(rt, (store, "from_usize"), made, usize::MAX as u128, mask);
-    let made: (R, Option<R>) = (R::from_u128(u128::MAX), R::try_from_u128(u128::MAX));
+    let made = (R::from_u128(u128::MAX), R::try_from_u128(u128::MAX));
     expect_in(rt, (store, "from_u128"), made, u128::MAX, mask);
-    let made: (R, Option<R>) = (R::from_u64(0), R::try_from_u64(0));
+    let made = (R::from_u64(0), R::try_from_u64(0));
     expect_in(rt, (store, "from_u64"), made, 0, mask);
 }
 

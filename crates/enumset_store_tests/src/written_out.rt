@@ -1,8 +1,8 @@
 //! Calls at single stores, each with its answer written out.
 
+use crate::expect::expect;
 use enumset_array::ArrayRepr;
 use enumset_repr::{EnumSetTypeRepr, PrimitiveIter};
-use std::cmp::Ordering;
 use std::test::Fail;
 
 const TOP: u64 = 0x8000_0000_0000_0000;
@@ -22,54 +22,51 @@ fn operators_at_five_words(rt: HostRuntime) {
         ("!a", !a, ArrayRepr([!1, !0, !0, TOP - 1, TOP - 2])),
         ("!EMPTY", !ArrayRepr::EMPTY, ArrayRepr([!0; 5])),
     ] {
-        assert_eq!(rt; set, wanted, "{call}");
+        expect(&rt, "5 words", call, set, wanted);
     }
 }
 
 #[test]
 fn words_and_numbers_of_integers(rt: HostRuntime) {
     let mut wide: u128 = 36893488147419103235;
-    assert_eq!(rt; [wide.word(0), wide.word(1)], [3, 2]);
+    expect(&rt, "u128", "word", [wide.word(0), wide.word(1)], [3, 2]);
     wide.put_word(1, 5);
-    assert_eq!(rt; wide, 92233720368547758083);
+    expect(&rt, "u128", "put_word", wide, 92233720368547758083);
     wide.put_word(0, 7);
-    assert_eq!(rt; wide, 92233720368547758087);
+    expect(&rt, "u128", "put_word", wide, 92233720368547758087);
     // bit 8 is dropped
     let mut narrow: u8 = 1;
     narrow.put_word(0, 384);
-    assert_eq!(rt; narrow, 128);
-    assert_eq!(rt; u8::from_u16(257), 1);
-    assert_eq!(rt;
-        [u8::try_from_u16(257), u8::try_from_u128(255)],
-        [None, Some(255)]
+    expect(&rt, "u8", "put_word", narrow, 128);
+    expect(&rt, "u8", "from_u16", u8::from_u16(257), 1);
+    expect(&rt, "u8", "try_from_u16", u8::try_from_u16(257), None);
+    expect(
+        &rt,
+        "u8",
+        "try_from_u128",
+        u8::try_from_u128(255),
+        Some(255),
     );
-    assert_eq!(rt; usize::BITS, 64);
+    assert!(rt; usize::BITS == 64);
 }
 
 /// The store of no word has one set.
 #[test]
 fn no_word(rt: HostRuntime) {
     let none = ArrayRepr::<0>::EMPTY;
-    assert_eq!(rt; none, ArrayRepr([]));
-    assert_eq!(rt; none.is_empty(), true);
-    assert_eq!(rt; [none & none, none | none, none ^ none, !none], [none; 4]);
-    assert_eq!(rt; none.cmp(&none), Ordering::Equal);
-    assert_eq!(rt; none.iter().next(), None);
-    let tried = [
-        ArrayRepr::<0>::try_from_u64(0),
-        ArrayRepr::<0>::try_from_u64(1),
-    ];
-    assert_eq!(rt; tried, [Some(none), None]);
-}
-
-#[test]
-fn full_sets_are_counted(rt: HostRuntime) {
-    let counts = [
-        (!ArrayRepr::<4>::EMPTY).count_ones(),
-        (!ArrayRepr::<8>::EMPTY).count_ones(),
-        (!ArrayRepr::<9>::EMPTY).count_ones(),
-    ];
-    assert_eq!(rt; counts, [256, 512, 576]);
+    expect(
+        &rt,
+        "no word",
+        "==, is_empty",
+        (none == ArrayRepr([]), none.is_empty()),
+        (true, true),
+    );
+    expect(&rt, "no word", "cmp", none.cmp(&none).is_eq(), true);
+    expect(&rt, "no word", "next", none.iter().next(), None);
+    let zero = ArrayRepr::<0>::try_from_u64(0);
+    expect(&rt, "no word", "try_from_u64", zero, Some(none));
+    let one = ArrayRepr::<0>::try_from_u64(1);
+    expect(&rt, "no word", "try_from_u64", one, None);
 }
 
 /// No contract can say the value of `LEN`, as generic constants have none in proofs.
@@ -91,29 +88,46 @@ fn words_in_use(rt: HostRuntime) {
         <ArrayRepr<67108866> as EnumSetTypeRepr>::WIDTH,
     ];
     assert_eq!(rt; widths, [4294967232, 0, 128]);
-    assert_eq!(rt;
-        <ArrayRepr<67108863> as EnumSetTypeRepr>::PREFERRED_ARRAY_LEN,
-        67108863
-    );
+    let words = <ArrayRepr<67108863> as EnumSetTypeRepr>::PREFERRED_ARRAY_LEN;
+    assert_eq!(rt; words, 67108863);
 }
 
 #[test]
-fn copies_of_iterators_are_apart(rt: HostRuntime) -> Result<(), Fail> {
+fn copies_of_an_integer_iterator(rt: HostRuntime) -> Result<(), Fail> {
     let mut iter = PrimitiveIter(10u8);
     let mut copy = iter;
     let mut clone = iter.clone()?;
-    assert_eq!(rt;
-        [copy.next(), copy.next(), clone.next()],
-        [Some(1), Some(3), Some(1)]
+    let taken = [copy.next(), copy.next(), clone.next(), iter.next_back()];
+    expect(
+        &rt,
+        "u8",
+        "next, next_back",
+        taken,
+        [Some(1), Some(3), Some(1), Some(3)],
     );
-    assert_eq!(rt; [copy.len(), clone.len(), iter.len()], [0, 1, 2]);
-    assert_eq!(rt; iter.next_back(), Some(3));
+    expect(
+        &rt,
+        "u8",
+        "len",
+        [copy.len(), clone.len(), iter.len()],
+        [0, 1, 1],
+    );
+    Ok(())
+}
+
+#[test]
+fn copies_of_a_word_iterator(rt: HostRuntime) -> Result<(), Fail> {
     let mut iter = ArrayRepr([8, 1, 4]).iter();
-    assert_eq!(rt; iter.next(), Some(3));
+    let first = iter.next();
     let mut clone = iter.clone()?;
-    assert_eq!(rt;
-        [clone.next(), clone.next(), iter.next_back()],
-        [Some(64), Some(130), Some(130)]
-    );
+    let taken = [
+        first,
+        clone.next(),
+        clone.next(),
+        iter.next_back(),
+        iter.next(),
+    ];
+    let wanted = [Some(3), Some(64), Some(130), Some(130), Some(64)];
+    expect(&rt, "3 words", "next, next_back", taken, wanted);
     Ok(())
 }
