@@ -1,0 +1,223 @@
+//! Sets that differ in one word, at each place of a store: lanes of four words leave a rest of five words, and blocks of
+//! sixteen a rest of seventeen.
+
+use crate::expect::expect;
+use enumset_repr::EnumSetTypeRepr;
+use std::hash::{DefaultHasher, Hash, Hasher};
+use std::process::Abort;
+
+/// The store value of these words at a place, at each place below it and at each above.
+fn store_of<R: EnumSetTypeRepr>(place: usize, word: u64, below: u64, above: u64) -> R {
+    let mut set = R::EMPTY;
+    for i in 0..R::PREFERRED_ARRAY_LEN {
+        let other = if i < place { below } else { above };
+        set.put_word(i, if i == place { word } else { other });
+    }
+    set
+}
+
+/// Each call at each place, where the words have the bits of `word`.
+pub fn each_word<R: EnumSetTypeRepr>(rt: &impl Abort, store: &str, word: u64) {
+    let top = word - word / 2;
+    combine_none::<R>(rt, store);
+    for place in 0..R::PREFERRED_ARRAY_LEN {
+        combine_at::<R>(rt, store, place, top, 0);
+        combine_at::<R>(rt, store, place, top, 6);
+        compare_at::<R>(rt, store, place, top);
+        count_at::<R>(rt, store, place, top);
+        order_at::<R>(rt, store, place);
+        step_at::<R>(rt, store, place, top);
+    }
+}
+
+/// What comes of two sets.
+#[derive(Drop)]
+struct Combined<R: EnumSetTypeRepr> {
+    union: R,
+    intersection: R,
+    in_just_one: R,
+    in_first_alone: R,
+}
+
+/// The operators on two sets.
+fn combine<R: EnumSetTypeRepr>(rt: &impl Abort, store: &str, a: R, b: R, wanted: &Combined<R>) {
+    expect(rt, store, "a | b", a | b, wanted.union);
+    expect(rt, store, "a & b", a & b, wanted.intersection);
+    expect(rt, store, "a ^ b", a ^ b, wanted.in_just_one);
+    expect(
+        rt,
+        store,
+        "a.and_not(b)",
+        a.and_not(b),
+        wanted.in_first_alone,
+    );
+}
+
+/// The same in place.
+fn change<R: EnumSetTypeRepr>(rt: &impl Abort, store: &str, a: R, b: R, wanted: &Combined<R>) {
+    let (mut or, mut and, mut xor, mut and_not) = (a, a, a, a);
+    or.or_with(&b);
+    and.and_with(&b);
+    xor.xor_with(&b);
+    and_not.and_not_with(&b);
+    expect(rt, store, "a.or_with(b)", or, wanted.union);
+    expect(rt, store, "a.and_with(b)", and, wanted.intersection);
+    expect(rt, store, "a.xor_with(b)", xor, wanted.in_just_one);
+    expect(
+        rt,
+        store,
+        "a.and_not_with(b)",
+        and_not,
+        wanted.in_first_alone,
+    );
+}
+
+/// Words that share their top bit and bit 0, where all other words are alike.
+fn combine_at<R: EnumSetTypeRepr>(
+    rt: &impl Abort,
+    store: &str,
+    place: usize,
+    top: u64,
+    others: u64,
+) {
+    let a: R = store_of(place, top | 3, others, others);
+    let b: R = store_of(place, top | 5, others, others);
+    let wanted = Combined {
+        union: store_of(place, top | 7, others, others),
+        intersection: store_of(place, top | 1, others, others),
+        in_just_one: store_of(place, 6, 0, 0),
+        in_first_alone: store_of(place, 2, 0, 0),
+    };
+    combine(rt, store, a, b, &wanted);
+    change(rt, store, a, b, &wanted);
+    let absent = store_of(place, !(top | 3), !others, !others);
+    expect(rt, store, "!a", !a, absent);
+}
+
+/// Two empty sets.
+fn combine_none<R: EnumSetTypeRepr>(rt: &impl Abort, store: &str) {
+    let wanted = Combined {
+        union: R::EMPTY,
+        intersection: R::EMPTY,
+        in_just_one: R::EMPTY,
+        in_first_alone: R::EMPTY,
+    };
+    combine(rt, store, R::EMPTY, R::EMPTY, &wanted);
+    change(rt, store, R::EMPTY, R::EMPTY, &wanted);
+}
+
+/// What two sets are to each other where one has its word's top bit more.
+fn compare_at<R: EnumSetTypeRepr>(rt: &impl Abort, store: &str, place: usize, top: u64) {
+    let less: R = store_of(place, 0, 6, 6);
+    let more: R = store_of(place, top, 6, 6);
+    let apart: R = store_of(place, 0, 9, 9);
+    let touching: R = store_of(place, top, 9, 9);
+    for (call, answer, wanted) in [
+        ("less in more", less.is_subset_of(&more), true),
+        ("more in more", more.is_subset_of(&more), true),
+        ("more in less", more.is_subset_of(&less), false),
+        ("less beside apart", less.is_disjoint_from(&apart), true),
+        ("more beside apart", more.is_disjoint_from(&apart), true),
+        (
+            "less beside touching",
+            less.is_disjoint_from(&touching),
+            true,
+        ),
+        (
+            "more beside touching",
+            more.is_disjoint_from(&touching),
+            false,
+        ),
+        (
+            "touching beside more",
+            touching.is_disjoint_from(&more),
+            false,
+        ),
+        ("less equals more", less == more, false),
+        ("more equals more", more == more, true),
+        ("hashes alike", hash_of(&less) == hash_of(&more), false),
+    ] {
+        expect(rt, store, call, (place, answer), (place, wanted));
+    }
+}
+
+/// What a hasher makes of what a value feeds it.
+fn hash_of<V: Hash>(value: &V) -> u64 {
+    let mut hasher = DefaultHasher::new();
+    value.hash(&mut hasher);
+    hasher.finish()
+}
+
+/// Sets of one bit, of two and of none in a word, and a word read back.
+fn count_at<R: EnumSetTypeRepr>(rt: &impl Abort, store: &str, place: usize, top: u64) {
+    let one: R = store_of(place, top, 0, 0);
+    let two: R = store_of(place, top | 1, 0, 0);
+    let none = one.and_not(two);
+    let counts = (place, one.count_ones(), two.count_ones(), none.count_ones());
+    expect(rt, store, "count_ones", counts, (place, 1, 2, 0));
+    let are_empty = (place, one.is_empty(), two.is_empty(), none.is_empty());
+    expect(
+        rt,
+        store,
+        "is_empty",
+        are_empty,
+        (place, false, false, true),
+    );
+    let absent = R::WIDTH.saturating_sub((!one).count_ones());
+    expect(
+        rt,
+        store,
+        "count_ones of all but one",
+        (place, absent),
+        (place, 1),
+    );
+    if place < R::PREFERRED_ARRAY_LEN {
+        expect(
+            rt,
+            store,
+            "word",
+            (place, two.word(place)),
+            (place, top | 1),
+        );
+    }
+}
+
+/// Sets that differ in a place, and in each place below it the other way round.
+fn order_at<R: EnumSetTypeRepr>(rt: &impl Abort, store: &str, place: usize) {
+    let high: R = store_of(place, 2, 0, 0);
+    let low: R = store_of(place, 1, !0, 0);
+    let cmp = (
+        place,
+        low.cmp(&high).is_lt(),
+        high.cmp(&low).is_gt(),
+        low.cmp(&low).is_eq(),
+    );
+    expect(rt, store, "cmp", cmp, (place, true, true, true));
+    expect(
+        rt,
+        store,
+        "< and >",
+        (place, low < high, low > high),
+        (place, true, false),
+    );
+}
+
+/// The two bits of a word from either end of an iterator, and how many are left before each step.
+fn step_at<R: EnumSetTypeRepr>(rt: &impl Abort, store: &str, place: usize, top: u64) {
+    assert!(rt; place < 64);
+    let first = 64 * place as u32;
+    let last = first + top.trailing_zeros();
+    let mut iter = store_of::<R>(place, top | 1, 0, 0).iter();
+    expect(rt, store, "size_hint", iter.size_hint(), (2, Some(2)));
+    let ends = (iter.next_back(), iter.next());
+    expect(
+        rt,
+        store,
+        "next_back, then next",
+        ends,
+        (Some(last), Some(first)),
+    );
+    expect(rt, store, "size_hint", iter.size_hint(), (0, Some(0)));
+    let ends = (iter.next_back(), iter.next());
+    expect(rt, store, "next_back, then next", ends, (None, None));
+}

@@ -1,0 +1,112 @@
+//! Words into a store and out of it, by slices and by arrays, where the store has the bits of `masks`.
+
+use crate::expect::expect;
+use enumset_repr::{
+    EnumSetTypeRepr, from_u64_array, to_u64_array, try_from_u64_array, try_to_u64_array,
+};
+use std::process::Abort;
+
+/// Words that differ, with the least bit and the greatest set in each.
+const WORDS: [u64; 4] = [
+    9223372036854775809,
+    9223372036854775811,
+    9223372036854775813,
+    9223372036854775817,
+];
+
+/// What a store keeps of the first so many of [`WORDS`].
+fn kept(masks: &[u64; 4], len: usize) -> [u64; 4] {
+    let mut words = [0; 4];
+    for i in 0..4 {
+        if i < len {
+            words[i] = WORDS[i] & masks[i];
+        }
+    }
+    words
+}
+
+/// The first so many of [`WORDS`] as a set, and all words of that.
+pub fn words_in<R: EnumSetTypeRepr>(rt: &impl Abort, store: &str, masks: &[u64; 4]) {
+    for len in 0..5 {
+        let words = &WORDS[..len];
+        let wanted = kept(masks, len);
+        let set = R::from_u64_slice(words);
+        let mut out = [7; 4];
+        set.to_u64_slice(&mut out);
+        expect(rt, store, "from_u64_slice", (len, out), (len, wanted));
+        let whole = if wanted == kept(&[u64::MAX; 4], len) {
+            Some(set)
+        } else {
+            None
+        };
+        expect(
+            rt,
+            store,
+            "try_from_u64_slice",
+            R::try_from_u64_slice(words),
+            whole,
+        );
+    }
+}
+
+/// All of [`WORDS`] as a set, into slices of each length: a refused call leaves each place.
+pub fn words_out<R: EnumSetTypeRepr>(rt: &impl Abort, store: &str, masks: &[u64; 4]) {
+    let words = kept(masks, 4);
+    let set = R::from_u64_slice(&words);
+    for len in 0..5 {
+        let fits = words == kept(masks, len);
+        let mut wanted = [7; 4];
+        for i in 0..4 {
+            if fits && i < len {
+                wanted[i] = words[i];
+            }
+        }
+        let mut out = [7; 4];
+        let is_written = set.try_to_u64_slice(&mut out[..len]).is_some();
+        expect(
+            rt,
+            store,
+            "try_to_u64_slice",
+            (is_written, out),
+            (fits, wanted),
+        );
+    }
+}
+
+/// Arrays of two words and of none.
+pub fn arrays<R: EnumSetTypeRepr>(rt: &impl Abort, store: &str, masks: &[u64; 4]) {
+    let words = [WORDS[0], WORDS[1]];
+    let pair = [words[0] & masks[0], words[1] & masks[1]];
+    let set = from_u64_array::<R, 2>(words);
+    let whole = if pair == words { Some(set) } else { None };
+    let none: Option<[u64; 0]> = if pair == [0, 0] { Some([]) } else { None };
+    expect(rt, store, "to_u64_array", to_u64_array::<R, 2>(&set), pair);
+    expect(
+        rt,
+        store,
+        "try_to_u64_array",
+        try_to_u64_array::<R, 2>(&set),
+        Some(pair),
+    );
+    expect(
+        rt,
+        store,
+        "try_to_u64_array",
+        try_to_u64_array::<R, 0>(&set),
+        none,
+    );
+    expect(
+        rt,
+        store,
+        "try_from_u64_array",
+        try_from_u64_array::<R, 2>(words),
+        whole,
+    );
+    expect(
+        rt,
+        store,
+        "try_from_u64_array",
+        try_from_u64_array::<R, 0>([]),
+        Some(R::EMPTY),
+    );
+}
