@@ -33,24 +33,18 @@ pub fn each_word<R: EnumSetTypeRepr>(rt: &impl Abort, store: &str, word: u64) {
 /// What comes of two sets.
 #[derive(Drop)]
 struct Combined<R: EnumSetTypeRepr> {
-    union: R,
-    intersection: R,
-    in_just_one: R,
-    in_first_alone: R,
+    or: R,
+    and: R,
+    xor: R,
+    and_not: R,
 }
 
 /// The operators on two sets.
 fn combine<R: EnumSetTypeRepr>(rt: &impl Abort, store: &str, a: R, b: R, wanted: &Combined<R>) {
-    expect(rt, store, "a | b", a | b, wanted.union);
-    expect(rt, store, "a & b", a & b, wanted.intersection);
-    expect(rt, store, "a ^ b", a ^ b, wanted.in_just_one);
-    expect(
-        rt,
-        store,
-        "a.and_not(b)",
-        a.and_not(b),
-        wanted.in_first_alone,
-    );
+    expect(rt, store, "a | b", a | b, wanted.or);
+    expect(rt, store, "a & b", a & b, wanted.and);
+    expect(rt, store, "a ^ b", a ^ b, wanted.xor);
+    expect(rt, store, "a.and_not(b)", a.and_not(b), wanted.and_not);
 }
 
 /// The same in place.
@@ -60,16 +54,10 @@ fn change<R: EnumSetTypeRepr>(rt: &impl Abort, store: &str, a: R, b: R, wanted: 
     and.and_with(&b);
     xor.xor_with(&b);
     and_not.and_not_with(&b);
-    expect(rt, store, "a.or_with(b)", or, wanted.union);
-    expect(rt, store, "a.and_with(b)", and, wanted.intersection);
-    expect(rt, store, "a.xor_with(b)", xor, wanted.in_just_one);
-    expect(
-        rt,
-        store,
-        "a.and_not_with(b)",
-        and_not,
-        wanted.in_first_alone,
-    );
+    expect(rt, store, "a.or_with(b)", or, wanted.or);
+    expect(rt, store, "a.and_with(b)", and, wanted.and);
+    expect(rt, store, "a.xor_with(b)", xor, wanted.xor);
+    expect(rt, store, "a.and_not_with(b)", and_not, wanted.and_not);
 }
 
 /// Words that share their top bit and bit 0, where all other words are alike.
@@ -83,10 +71,10 @@ fn combine_at<R: EnumSetTypeRepr>(
     let a: R = store_of(place, top | 3, others, others);
     let b: R = store_of(place, top | 5, others, others);
     let wanted = Combined {
-        union: store_of(place, top | 7, others, others),
-        intersection: store_of(place, top | 1, others, others),
-        in_just_one: store_of(place, 6, 0, 0),
-        in_first_alone: store_of(place, 2, 0, 0),
+        or: store_of(place, top | 7, others, others),
+        and: store_of(place, top | 1, others, others),
+        xor: store_of(place, 6, 0, 0),
+        and_not: store_of(place, 2, 0, 0),
     };
     combine(rt, store, a, b, &wanted);
     change(rt, store, a, b, &wanted);
@@ -97,10 +85,10 @@ fn combine_at<R: EnumSetTypeRepr>(
 /// Two empty sets.
 fn combine_none<R: EnumSetTypeRepr>(rt: &impl Abort, store: &str) {
     let wanted = Combined {
-        union: R::EMPTY,
-        intersection: R::EMPTY,
-        in_just_one: R::EMPTY,
-        in_first_alone: R::EMPTY,
+        or: R::EMPTY,
+        and: R::EMPTY,
+        xor: R::EMPTY,
+        and_not: R::EMPTY,
     };
     combine(rt, store, R::EMPTY, R::EMPTY, &wanted);
     change(rt, store, R::EMPTY, R::EMPTY, &wanted);
@@ -111,28 +99,16 @@ fn compare_at<R: EnumSetTypeRepr>(rt: &impl Abort, store: &str, place: usize, to
     let less: R = store_of(place, 0, 6, 6);
     let more: R = store_of(place, top, 6, 6);
     let apart: R = store_of(place, 0, 9, 9);
-    let touching: R = store_of(place, top, 9, 9);
+    let near: R = store_of(place, top, 9, 9);
     for (call, answer, wanted) in [
         ("less in more", less.is_subset_of(&more), true),
         ("more in more", more.is_subset_of(&more), true),
         ("more in less", more.is_subset_of(&less), false),
         ("less beside apart", less.is_disjoint_from(&apart), true),
         ("more beside apart", more.is_disjoint_from(&apart), true),
-        (
-            "less beside touching",
-            less.is_disjoint_from(&touching),
-            true,
-        ),
-        (
-            "more beside touching",
-            more.is_disjoint_from(&touching),
-            false,
-        ),
-        (
-            "touching beside more",
-            touching.is_disjoint_from(&more),
-            false,
-        ),
+        ("less beside near", less.is_disjoint_from(&near), true),
+        ("more beside near", more.is_disjoint_from(&near), false),
+        ("near beside more", near.is_disjoint_from(&more), false),
         ("less equals more", less == more, false),
         ("more equals more", more == more, true),
         ("hashes alike", hash_of(&less) == hash_of(&more), false),
@@ -155,30 +131,13 @@ fn count_at<R: EnumSetTypeRepr>(rt: &impl Abort, store: &str, place: usize, top:
     let none = one.and_not(two);
     let counts = (place, one.count_ones(), two.count_ones(), none.count_ones());
     expect(rt, store, "count_ones", counts, (place, 1, 2, 0));
-    let are_empty = (place, one.is_empty(), two.is_empty(), none.is_empty());
-    expect(
-        rt,
-        store,
-        "is_empty",
-        are_empty,
-        (place, false, false, true),
-    );
+    let empty = (place, one.is_empty(), two.is_empty(), none.is_empty());
+    expect(rt, store, "is_empty", empty, (place, false, false, true));
     let absent = R::WIDTH.saturating_sub((!one).count_ones());
-    expect(
-        rt,
-        store,
-        "count_ones of all but one",
-        (place, absent),
-        (place, 1),
-    );
+    expect(rt, store, "!, count_ones", (place, absent), (place, 1));
     if place < R::PREFERRED_ARRAY_LEN {
-        expect(
-            rt,
-            store,
-            "word",
-            (place, two.word(place)),
-            (place, top | 1),
-        );
+        let word = (place, two.word(place));
+        expect(rt, store, "word", word, (place, top | 1));
     }
 }
 
@@ -193,13 +152,8 @@ fn order_at<R: EnumSetTypeRepr>(rt: &impl Abort, store: &str, place: usize) {
         low.cmp(&low).is_eq(),
     );
     expect(rt, store, "cmp", cmp, (place, true, true, true));
-    expect(
-        rt,
-        store,
-        "< and >",
-        (place, low < high, low > high),
-        (place, true, false),
-    );
+    let less = (place, low < high, low > high);
+    expect(rt, store, "< and >", less, (place, true, false));
 }
 
 /// The two bits of a word from either end of an iterator, and how many are left before each step.
@@ -210,13 +164,8 @@ fn step_at<R: EnumSetTypeRepr>(rt: &impl Abort, store: &str, place: usize, top: 
     let mut iter = store_of::<R>(place, top | 1, 0, 0).iter();
     expect(rt, store, "size_hint", iter.size_hint(), (2, Some(2)));
     let ends = (iter.next_back(), iter.next());
-    expect(
-        rt,
-        store,
-        "next_back, then next",
-        ends,
-        (Some(last), Some(first)),
-    );
+    let wanted = (Some(last), Some(first));
+    expect(rt, store, "next_back, then next", ends, wanted);
     expect(rt, store, "size_hint", iter.size_hint(), (0, Some(0)));
     let ends = (iter.next_back(), iter.next());
     expect(rt, store, "next_back, then next", ends, (None, None));

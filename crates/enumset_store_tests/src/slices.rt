@@ -34,18 +34,10 @@ pub fn words_in<R: EnumSetTypeRepr>(rt: &impl Abort, store: &str, masks: &[u64; 
         let mut out = [7; 4];
         set.to_u64_slice(&mut out);
         expect(rt, store, "from_u64_slice", (len, out), (len, wanted));
-        let whole = if wanted == kept(&[u64::MAX; 4], len) {
-            Some(set)
-        } else {
-            None
-        };
-        expect(
-            rt,
-            store,
-            "try_from_u64_slice",
-            R::try_from_u64_slice(words),
-            whole,
-        );
+        let is_whole = wanted == kept(&[u64::MAX; 4], len);
+        let whole = if is_whole { Some(set) } else { None };
+        let tried = R::try_from_u64_slice(words);
+        expect(rt, store, "try_from_u64_slice", tried, whole);
     }
 }
 
@@ -62,14 +54,9 @@ pub fn words_out<R: EnumSetTypeRepr>(rt: &impl Abort, store: &str, masks: &[u64;
             }
         }
         let mut out = [7; 4];
-        let is_written = set.try_to_u64_slice(&mut out[..len]).is_some();
-        expect(
-            rt,
-            store,
-            "try_to_u64_slice",
-            (is_written, out),
-            (fits, wanted),
-        );
+        let answer = set.try_to_u64_slice(&mut out[..len]);
+        let got = (answer.is_some(), out);
+        expect(rt, store, "try_to_u64_slice", got, (fits, wanted));
     }
 }
 
@@ -78,35 +65,15 @@ pub fn arrays<R: EnumSetTypeRepr>(rt: &impl Abort, store: &str, masks: &[u64; 4]
     let words = [WORDS[0], WORDS[1]];
     let pair = [words[0] & masks[0], words[1] & masks[1]];
     let set = from_u64_array::<R, 2>(words);
-    let whole = if pair == words { Some(set) } else { None };
+    expect(rt, store, "to_u64_array", to_u64_array(&set), pair);
+    let tried = try_to_u64_array::<R, 2>(&set);
+    expect(rt, store, "try_to_u64_array", tried, Some(pair));
     let none: Option<[u64; 0]> = if pair == [0, 0] { Some([]) } else { None };
-    expect(rt, store, "to_u64_array", to_u64_array::<R, 2>(&set), pair);
-    expect(
-        rt,
-        store,
-        "try_to_u64_array",
-        try_to_u64_array::<R, 2>(&set),
-        Some(pair),
-    );
-    expect(
-        rt,
-        store,
-        "try_to_u64_array",
-        try_to_u64_array::<R, 0>(&set),
-        none,
-    );
-    expect(
-        rt,
-        store,
-        "try_from_u64_array",
-        try_from_u64_array::<R, 2>(words),
-        whole,
-    );
-    expect(
-        rt,
-        store,
-        "try_from_u64_array",
-        try_from_u64_array::<R, 0>([]),
-        Some(R::EMPTY),
-    );
+    let tried = try_to_u64_array::<R, 0>(&set);
+    expect(rt, store, "try_to_u64_array", tried, none);
+    let whole = if pair == words { Some(set) } else { None };
+    let tried = try_from_u64_array::<R, 2>(words);
+    expect(rt, store, "try_from_u64_array", tried, whole);
+    let tried = try_from_u64_array::<R, 0>([]);
+    expect(rt, store, "try_from_u64_array", tried, Some(R::EMPTY));
 }
