@@ -18,12 +18,9 @@ fn each_call<R: EnumSetTypeRepr>(
     words: usize,
     word: u64,
 ) {
+    // the width, the words, and how many bits the full set has
     let shape = (R::WIDTH, R::PREFERRED_ARRAY_LEN, (!R::EMPTY).count_ones());
-    assert_eq!(rt;
-        shape,
-        (width, words, width),
-        "width, words and count of {store}"
-    );
+    expect(rt, store, "shape", shape, (width, words, width));
     one_bit::<R>(rt, store);
     all_bits::<R>(rt, store);
     from_both_ends::<R>(rt, store);
