@@ -4,7 +4,7 @@
 use crate::each_bit::{all_bits, from_both_ends, one_bit};
 use crate::each_word::each_word;
 use crate::expect::expect;
-use crate::numbers::{numbers_in, numbers_out};
+use crate::numbers::{numbers_in, numbers_in_order, numbers_out};
 use crate::slices::{arrays, words_in, words_out};
 use enumset_array::ArrayRepr;
 use enumset_repr::EnumSetTypeRepr;
@@ -18,12 +18,9 @@ fn each_call<R: EnumSetTypeRepr>(
     words: usize,
     word: u64,
 ) {
+    // the width, the words, and how many bits the full set has
     let shape = (R::WIDTH, R::PREFERRED_ARRAY_LEN, (!R::EMPTY).count_ones());
-    assert_eq!(rt;
-        shape,
-        (width, words, width),
-        "width, words and count of {store}"
-    );
+    expect(rt, store, "shape", shape, (width, words, width));
     one_bit::<R>(rt, store);
     all_bits::<R>(rt, store);
     from_both_ends::<R>(rt, store);
@@ -38,6 +35,7 @@ fn each_call<R: EnumSetTypeRepr>(
     let mask = masks[0] as u128 + ((masks[1] as u128) << 64);
     numbers_in::<R>(rt, store, mask);
     numbers_out::<R>(rt, store, mask);
+    numbers_in_order::<R>(rt, store, mask);
     words_in::<R>(rt, store, &masks);
     words_out::<R>(rt, store, &masks);
     arrays::<R>(rt, store, &masks);

@@ -163,10 +163,10 @@ fn step_at<R: EnumSetTypeRepr>(rt: &impl Abort, store: &str, place: usize, top: 
     let last = first + top.trailing_zeros();
     let mut iter = store_of::<R>(place, top | 1, 0, 0).iter();
     expect(rt, store, "size_hint", iter.size_hint(), (2, Some(2)));
-    let ends = (iter.next_back(), iter.next());
-    let wanted = (Some(last), Some(first));
-    expect(rt, store, "next_back, then next", ends, wanted);
-    expect(rt, store, "size_hint", iter.size_hint(), (0, Some(0)));
-    let ends = (iter.next_back(), iter.next());
-    expect(rt, store, "next_back, then next", ends, (None, None));
+    let steps = (iter.next_back(), iter.size_hint(), iter.next());
+    let wanted = (Some(last), (1, Some(1)), Some(first));
+    expect(rt, store, "next_back, size_hint, next", steps, wanted);
+    let steps = (iter.next_back(), iter.size_hint(), iter.next());
+    let wanted = (None, (0, Some(0)), None);
+    expect(rt, store, "next_back, size_hint, next", steps, wanted);
 }

@@ -85,3 +85,14 @@ pub fn numbers_out<R: EnumSetTypeRepr>(rt: &impl Abort, store: &str, mask: u128)
         expect_out(rt, (store, "to_u128"), given, kept, u128::MAX);
     }
 }
+
+/// Sets are in the order of their numbers.
+pub fn numbers_in_order<R: EnumSetTypeRepr>(rt: &impl Abort, store: &str, mask: u128) {
+    for a in NUMBERS {
+        for b in NUMBERS {
+            let is_less = R::from_u128(a) < R::from_u128(b);
+            let wanted = a & mask < b & mask;
+            expect(rt, store, "<", (a, b, is_less), (a, b, wanted));
+        }
+    }
+}
