@@ -1,12 +1,14 @@
-//! Sets to and from numbers, store values and words, at each worked type.
+//! Sets to and from numbers and words.
 
-use super::sets::two_of;
+use crate::compare::same_lines;
+use crate::sets::two_of;
+use enumset_repr::EnumSetTypeRepr;
 use enumset_sets::element::EnumSetType;
 use enumset_sets::enum_set::EnumSet;
+use enumset_sizes::Of128;
 use enumset_worked::high::High;
 use enumset_worked::letters::Letters;
 use enumset_worked::masks::Masks;
-use enumset_worked::single::Single;
 use enumset_worked::sparse::Sparse;
 use enumset_worked::wide::Wide;
 use my_sets::sending::{as_byte, granted_by, sent_and_read};
@@ -14,77 +16,66 @@ use std::alloc::AllocError;
 use std::fmt;
 use std::test::Fail;
 
-// A set that was read, or none.
-fn write_read<T: EnumSetType + fmt::Debug>(
-    text: &mut String,
-    read: &Option<EnumSet<T>>,
-) -> Result<(), AllocError> {
-    write!(text, " {read:?}")
+// What the calls of a type of numbers that ask answer, where their tests pass: whether they answer as the tests do.
+fn write_asked(text: &mut String, width: &str, is_same: [bool; 2]) -> Result<(), AllocError> {
+    let [is_same_number, is_same_set] = is_same;
+    write!(text, "{width}: asked {is_same_number} {is_same_set}")
 }
 
-// The number of a set, if it has one, and that of its members below a width.
-fn write_number(text: &mut String, number: Option<u128>, low: u128) -> Result<(), AllocError> {
-    write!(text, "{number:?} {low}")
+// The number of a set, if it has one; the number of its members below the width, and what that is read as.
+fn write_number<T: EnumSetType + fmt::Debug>(
+    text: &mut String,
+    number: Option<u128>,
+    cut: u128,
+    read: Option<EnumSet<T>>,
+) -> Result<(), AllocError> {
+    write!(text, ", number {number:?}, cut {cut} is {read:?}")
 }
 
-// The end of a line: two answers.
-fn write_same(
+// What another number is read as, and what is valid of it.
+fn write_other<T: EnumSetType + fmt::Debug>(
     text: &mut String,
-    is_same_number: bool,
-    is_same_set: bool,
+    other: u128,
+    read: Option<EnumSet<T>>,
+    valid: EnumSet<T>,
 ) -> Result<(), AllocError> {
-    writeln!(text, " {is_same_number} {is_same_set}")
-}
-
-// Writes a line of what the seven calls of a type of numbers answer: the number of a set and that of its members below
-// the type's width, the set of a number whose bits are valid, what comes of another number and what is valid of it; and
-// whether the calls that ask answer the same number and the same set.
-fn write_line<T: EnumSetType + fmt::Debug>(
-    text: &mut String,
-    (number, low, is_same_number): (Option<u128>, u128, bool),
-    (valid, is_same_set): (Option<EnumSet<T>>, bool),
-    (other, truncated): (Option<EnumSet<T>>, EnumSet<T>),
-) -> Result<(), AllocError> {
-    write_number(text, number, low)?;
-    write_read(text, &valid)?;
-    write_read(text, &other)?;
-    write!(text, " {truncated:?}")?;
-    write_same(text, is_same_number, is_same_set)
+    writeln!(text, "; {other} is {read:?}, cut {valid:?}")
 }
 
 // The line of a type of numbers. The calls that ask are made where their tests pass.
-macro_rules! write_answers {
-    ($text:ident, $set:ident, $valid:ident, $other:ident:
+macro_rules! write_line {
+    ($text:ident, $set:ident, $width:expr, $other:expr;
         $as_x:ident $try_as_x:ident $as_x_truncated:ident,
         $from_x:ident $try_from_x:ident $from_x_truncated:ident $from_x_unchecked:ident) => {{
-        let low = $set.$as_x_truncated() as u128;
-        let number = match $set.$try_as_x() {
-            Some(n) => (Some(n as u128), low, $set.$as_x() == n),
-            None => (None, low, true),
+        let (cut, other) = ($set.$as_x_truncated(), $other);
+        let (number, is_same_number) = match $set.$try_as_x() {
+            Some(n) => (Some(n as u128), $set.$as_x() == n),
+            None => (None, true),
         };
-        let valid = match EnumSet::<T>::$try_from_x($valid) {
+        let (read, is_same_set) = match EnumSet::<T>::$try_from_x(cut) {
             Some(s) => {
-                let is_same = EnumSet::<T>::$from_x($valid) == s
-                    && EnumSet::<T>::$from_x_unchecked($valid) == s;
+                let is_same = EnumSet::<T>::$from_x(cut) == s
+                    && EnumSet::<T>::$from_x_unchecked(cut) == s;
                 (Some(s), is_same)
             }
             None => (None, false),
         };
-        let other = (
-            EnumSet::<T>::$try_from_x($other),
-            EnumSet::<T>::$from_x_truncated($other),
+        write_asked($text, $width, [is_same_number, is_same_set])?;
+        write_number($text, number, cut as u128, read)?;
+        let (read, valid) = (
+            EnumSet::<T>::$try_from_x(other),
+            EnumSet::<T>::$from_x_truncated(other),
         );
-        write_line($text, number, valid, other)
+        write_other($text, other as u128, read, valid)
     }};
 }
 
 fn write_u8<T: EnumSetType + fmt::Debug>(
     text: &mut String,
     set: &EnumSet<T>,
-    valid: u8,
-    other: u8,
+    other: u128,
 ) -> Result<(), AllocError> {
-    write_answers!(text, set, valid, other:
+    write_line!(text, set, "u8", other.to_u8();
         as_u8 try_as_u8 as_u8_truncated,
         from_u8 try_from_u8 from_u8_truncated from_u8_unchecked)
 }
@@ -92,10 +83,9 @@ fn write_u8<T: EnumSetType + fmt::Debug>(
 fn write_u16<T: EnumSetType + fmt::Debug>(
     text: &mut String,
     set: &EnumSet<T>,
-    valid: u16,
-    other: u16,
+    other: u128,
 ) -> Result<(), AllocError> {
-    write_answers!(text, set, valid, other:
+    write_line!(text, set, "u16", other.to_u16();
         as_u16 try_as_u16 as_u16_truncated,
         from_u16 try_from_u16 from_u16_truncated from_u16_unchecked)
 }
@@ -103,10 +93,9 @@ fn write_u16<T: EnumSetType + fmt::Debug>(
 fn write_u32<T: EnumSetType + fmt::Debug>(
     text: &mut String,
     set: &EnumSet<T>,
-    valid: u32,
-    other: u32,
+    other: u128,
 ) -> Result<(), AllocError> {
-    write_answers!(text, set, valid, other:
+    write_line!(text, set, "u32", other.to_u32();
         as_u32 try_as_u32 as_u32_truncated,
         from_u32 try_from_u32 from_u32_truncated from_u32_unchecked)
 }
@@ -114,10 +103,9 @@ fn write_u32<T: EnumSetType + fmt::Debug>(
 fn write_u64<T: EnumSetType + fmt::Debug>(
     text: &mut String,
     set: &EnumSet<T>,
-    valid: u64,
-    other: u64,
+    other: u128,
 ) -> Result<(), AllocError> {
-    write_answers!(text, set, valid, other:
+    write_line!(text, set, "u64", other.to_u64();
         as_u64 try_as_u64 as_u64_truncated,
         from_u64 try_from_u64 from_u64_truncated from_u64_unchecked)
 }
@@ -125,10 +113,9 @@ fn write_u64<T: EnumSetType + fmt::Debug>(
 fn write_u128<T: EnumSetType + fmt::Debug>(
     text: &mut String,
     set: &EnumSet<T>,
-    valid: u128,
     other: u128,
 ) -> Result<(), AllocError> {
-    write_answers!(text, set, valid, other:
+    write_line!(text, set, "u128", other.to_u128();
         as_u128 try_as_u128 as_u128_truncated,
         from_u128 try_from_u128 from_u128_truncated from_u128_unchecked)
 }
@@ -136,113 +123,86 @@ fn write_u128<T: EnumSetType + fmt::Debug>(
 fn write_usize<T: EnumSetType + fmt::Debug>(
     text: &mut String,
     set: &EnumSet<T>,
-    valid: usize,
-    other: usize,
+    other: u128,
 ) -> Result<(), AllocError> {
-    write_answers!(text, set, valid, other:
+    write_line!(text, set, "usize", other.to_usize();
         as_usize try_as_usize as_usize_truncated,
         from_usize try_from_usize from_usize_truncated from_usize_unchecked)
 }
 
-// A number of each type.
-type Numbers = (u8, u16, u32, u64, u128, usize);
-
-// A line of each type of numbers.
+// A line for each type of numbers: of a set, and of another number, cut to that type.
 pub fn write_numbers<T: EnumSetType + fmt::Debug>(
     text: &mut String,
     set: &EnumSet<T>,
-    valid: Numbers,
-    other: Numbers,
+    other: u128,
 ) -> Result<(), AllocError> {
-    write_u8(text, set, valid.0, other.0)?;
-    write_u16(text, set, valid.1, other.1)?;
-    write_u32(text, set, valid.2, other.2)?;
-    write_u64(text, set, valid.3, other.3)?;
-    write_u128(text, set, valid.4, other.4)?;
-    write_usize(text, set, valid.5, other.5)
+    write_u8(text, set, other)?;
+    write_u16(text, set, other)?;
+    write_u32(text, set, other)?;
+    write_u64(text, set, other)?;
+    write_u128(text, set, other)?;
+    write_usize(text, set, other)
 }
 
 #[test]
-fn numbers_of_each_type(rt: HostRuntime) -> Result<(), Fail> {
+fn numbers_of_sets(rt: HostRuntime) -> Result<(), Fail> {
     let mut text = String::new(rt.alloc());
-    let valid = (69, 3, 127, 0, 5, 64);
-    let other = (200, 256, 4294967295, 1 << 63 | 1, 1 << 127 | 2, 128);
-    write_numbers(&mut text, &two_of(Letters::A, Letters::G), valid, other)?;
-    let valid = (
-        0,
-        1024,
-        1 << 10 | 1 << 30,
-        1024,
-        1 << 127 | 1 << 20,
-        1 << 30,
-    );
-    let other = (255, 1025, 4294967295, 1025, 1 << 127 | 1, 1 << 31);
-    write_numbers(&mut text, &two_of(Sparse::A, Sparse::D), valid, other)?;
-    let valid = (8, 0, 8, 8, 1 << 64 | 8, 8);
-    let other = (9, 65535, 7, 16, 1 << 64 | 1, 12);
-    write_numbers(&mut text, &two_of(Wide::P, Wide::Q), valid, other)?;
-    assert!(rt; text.as_str() == NUMBERS);
+    write_u8(&mut text, &two_of(Letters::A, Letters::G), 255)?;
+    write_numbers(&mut text, &two_of(Sparse::A, Sparse::D), 1 << 127 | 1025)?;
+    write_numbers(&mut text, &two_of(Wide::P, Wide::Q), 1 << 64 | 9)?;
+    same_lines(&rt, &text, NUMBERS);
     Ok(())
 }
-
-// The same of types of one variant and of none, and of those on bits that are not the discriminants.
-#[test]
-fn numbers_of_odd_types(rt: HostRuntime) -> Result<(), Fail> {
-    let mut text = String::new(rt.alloc());
-    let valid = (192, 64, 224, 0, 32, 128);
-    let other = (200, 256, 4294967295, 1 << 63 | 1, 1 << 127 | 128, 16);
-    write_numbers(&mut text, &two_of(High::A, High::C), valid, other)?;
-    let valid = (81, 1, 17, 0, 64, 16);
-    let other = (2, 256, 4294967295, 1 << 63 | 1, 1 << 127 | 64, 32);
-    write_numbers(&mut text, &two_of(Masks::Q, Masks::R), valid, other)?;
-    let valid = (1, 0, 1, 0, 1, 1);
-    let other = (2, 256, 4294967295, 1 << 63 | 1, 1 << 127, 3);
-    write_numbers(&mut text, &EnumSet::only(Single::A), valid, other)?;
-    assert!(rt; text.as_str() == ODD_NUMBERS);
-    Ok(())
-}
-
-const ODD_NUMBERS: &str = "\
-Some(160) 160 Some(EnumSet(B | A)) None EnumSet(B | A) true true
-Some(160) 160 Some(EnumSet(B)) None EnumSet() true true
-Some(160) 160 Some(EnumSet(C | B | A)) None EnumSet(C | B | A) true true
-Some(160) 160 Some(EnumSet()) None EnumSet() true true
-Some(160) 160 Some(EnumSet(C)) None EnumSet(A) true true
-Some(160) 160 Some(EnumSet(A)) None EnumSet() true true
-Some(80) 80 Some(EnumSet(P | Q | R)) None EnumSet() true true
-Some(80) 80 Some(EnumSet(P)) None EnumSet() true true
-Some(80) 80 Some(EnumSet(P | Q)) None EnumSet(P | Q | R) true true
-Some(80) 80 Some(EnumSet()) None EnumSet(P) true true
-Some(80) 80 Some(EnumSet(R)) None EnumSet(R) true true
-Some(80) 80 Some(EnumSet(Q)) None EnumSet() true true
-Some(1) 1 Some(EnumSet(A)) None EnumSet() true true
-Some(1) 1 Some(EnumSet()) None EnumSet() true true
-Some(1) 1 Some(EnumSet(A)) None EnumSet(A) true true
-Some(1) 1 Some(EnumSet()) None EnumSet(A) true true
-Some(1) 1 Some(EnumSet(A)) None EnumSet() true true
-Some(1) 1 Some(EnumSet(A)) None EnumSet(A) true true
-";
 
 const NUMBERS: &str = "\
-Some(65) 65 Some(EnumSet(A | C | G)) None EnumSet(D | G) true true
-Some(65) 65 Some(EnumSet(A | B)) None EnumSet() true true
-Some(65) 65 Some(EnumSet(A | B | C | D | E | F | G)) None EnumSet(A | B | C | D | E | F | G) true true
-Some(65) 65 Some(EnumSet()) None EnumSet(A) true true
-Some(65) 65 Some(EnumSet(A | C)) None EnumSet(B) true true
-Some(65) 65 Some(EnumSet(G)) None EnumSet() true true
-None 0 Some(EnumSet()) None EnumSet() true true
-None 1024 Some(EnumSet(A)) None EnumSet(A) true true
-None 1024 Some(EnumSet(A | C)) None EnumSet(A | B | C) true true
-None 1024 Some(EnumSet(A)) None EnumSet(A) true true
-Some(170141183460469231731687303715884106752) 170141183460469231731687303715884106752 \
-Some(EnumSet(B | D)) None EnumSet(D) true true
-None 1024 Some(EnumSet(C)) None EnumSet() true true
-None 8 Some(EnumSet(P)) None EnumSet(P) true true
-None 8 Some(EnumSet()) None EnumSet(P) true true
-None 8 Some(EnumSet(P)) None EnumSet() true true
-None 8 Some(EnumSet(P)) None EnumSet() true true
-Some(18446744073709551624) 18446744073709551624 Some(EnumSet(P | Q)) None EnumSet(Q) true true
-None 8 Some(EnumSet(P)) None EnumSet(P) true true
+u8: asked true true, number Some(65), cut 65 is Some(EnumSet(A | G)); \
+255 is None, cut EnumSet(A | B | C | D | E | F | G)
+u8: asked true true, number None, cut 0 is Some(EnumSet()); 1 is None, cut EnumSet()
+u16: asked true true, number None, cut 1024 is Some(EnumSet(A)); 1025 is None, cut EnumSet(A)
+u32: asked true true, number None, cut 1024 is Some(EnumSet(A)); 1025 is None, cut EnumSet(A)
+u64: asked true true, number None, cut 1024 is Some(EnumSet(A)); 1025 is None, cut EnumSet(A)
+u128: asked true true, number Some(170141183460469231731687303715884106752), \
+cut 170141183460469231731687303715884106752 is Some(EnumSet(A | D)); \
+170141183460469231731687303715884106753 is None, cut EnumSet(A | D)
+usize: asked true true, number None, cut 1024 is Some(EnumSet(A)); 1025 is None, cut EnumSet(A)
+u8: asked true true, number None, cut 8 is Some(EnumSet(P)); 9 is None, cut EnumSet(P)
+u16: asked true true, number None, cut 8 is Some(EnumSet(P)); 9 is None, cut EnumSet(P)
+u32: asked true true, number None, cut 8 is Some(EnumSet(P)); 9 is None, cut EnumSet(P)
+u64: asked true true, number None, cut 8 is Some(EnumSet(P)); 9 is None, cut EnumSet(P)
+u128: asked true true, number Some(18446744073709551624), cut 18446744073709551624 is Some(EnumSet(P | Q)); \
+18446744073709551625 is None, cut EnumSet(P | Q)
+usize: asked true true, number None, cut 8 is Some(EnumSet(P)); 9 is None, cut EnumSet(P)
+";
+
+// Bits on both sides of the boundary of each type of numbers, where each bit is valid.
+#[test]
+fn numbers_at_each_boundary(rt: HostRuntime) -> Result<(), Fail> {
+    let mut text = String::new(rt.alloc());
+    let bits = 1 << 127 | 3 << 63 | 3 << 31 | 3 << 15 | 3 << 7;
+    write_numbers(
+        &mut text,
+        &EnumSet::<Of128>::from_u128_truncated(bits),
+        bits,
+    )?;
+    same_lines(&rt, &text, BOUNDARIES);
+    Ok(())
+}
+
+const BOUNDARIES: &str = "\
+u8: asked true true, number None, cut 128 is Some(EnumSet(V7)); 128 is Some(EnumSet(V7)), cut EnumSet(V7)
+u16: asked true true, number None, cut 33152 is Some(EnumSet(V7 | V8 | V15)); \
+33152 is Some(EnumSet(V7 | V8 | V15)), cut EnumSet(V7 | V8 | V15)
+u32: asked true true, number None, cut 2147582336 is Some(EnumSet(V7 | V8 | V15 | V16 | V31)); \
+2147582336 is Some(EnumSet(V7 | V8 | V15 | V16 | V31)), cut EnumSet(V7 | V8 | V15 | V16 | V31)
+u64: asked true true, number None, cut 9223372043297325440 is Some(EnumSet(V7 | V8 | V15 | V16 | V31 | V32 | V63)); \
+9223372043297325440 is Some(EnumSet(V7 | V8 | V15 | V16 | V31 | V32 | V63)), \
+cut EnumSet(V7 | V8 | V15 | V16 | V31 | V32 | V63)
+u128: asked true true, number Some(170141183460469231759357419832890982784), cut 170141183460469231759357419832890982784 is Some(EnumSet(V7 | V8 | V15 | V16 | V31 | V32 | V63 | V64 | V127)); \
+170141183460469231759357419832890982784 is Some(EnumSet(V7 | V8 | V15 | V16 | V31 | V32 | V63 | V64 | V127)), \
+cut EnumSet(V7 | V8 | V15 | V16 | V31 | V32 | V63 | V64 | V127)
+usize: asked true true, number None, cut 9223372043297325440 is Some(EnumSet(V7 | V8 | V15 | V16 | V31 | V32 | V63)); \
+9223372043297325440 is Some(EnumSet(V7 | V8 | V15 | V16 | V31 | V32 | V63)), \
+cut EnumSet(V7 | V8 | V15 | V16 | V31 | V32 | V63)
 ";
 
 #[test]
@@ -255,90 +215,167 @@ fn numbers_of_rows(rt: HostRuntime) {
         rest.len(),
         as_byte(&rest) as usize,
     ];
-    assert!(rt; numbers == [3, 69, 5, 47]);
+    assert_eq!(rt; numbers, [3, 69, 5, 47]);
     let refused = [
         EnumSet::<Letters>::try_from_u8(128),
         EnumSet::<Letters>::try_from_u16(256),
     ];
-    assert!(rt; refused == [None, None]);
-    let all = EnumSet::<Letters>::from_u8_truncated(255);
-    assert!(rt; all.try_as_u8() == Some(127) && all == EnumSet::all());
-    assert!(rt; granted_by::<Letters>(69) == letters && granted_by::<Letters>(200).is_empty());
-    assert!(rt; EnumSet::<Sparse>::all().as_u64_truncated() == 1074791424);
-    assert!(rt;
-        sent_and_read(&letters) == Some(letters) && sent_and_read(&EnumSet::only(Sparse::A)) == None
-    );
+    assert_eq!(rt; refused, [None, None]);
+    assert_eq!(rt; EnumSet::<Masks>::try_from_u8(2), None);
+    assert_eq!(rt; as_byte(&two_of(Masks::Q, Masks::R)), 80);
+    assert_eq!(rt; as_byte(&two_of(High::A, High::C)), 160);
+    assert_eq!(rt; EnumSet::<Sparse>::all().as_u64_truncated(), 1074791424);
 }
 
 #[test]
-fn values_of_stores(rt: HostRuntime) {
-    let set = two_of(Letters::A, Letters::C);
-    let read = [
-        EnumSet::<Letters>::try_from_repr(set.as_repr()),
-        EnumSet::<Letters>::try_from_repr(128),
-        Some(EnumSet::from_repr_truncated(133)),
-    ];
-    assert!(rt; set.as_repr() == 5 && read == [Some(set), None, Some(set)]);
-    assert!(rt; two_of(Sparse::A, Sparse::D).as_repr() == 1 << 127 | 1 << 10);
+fn bytes_are_sent(rt: HostRuntime) {
+    let letters = two_of(Letters::A, Letters::C);
+    assert_eq!(rt; granted_by::<Letters>(5), letters);
+    assert_eq!(rt; granted_by::<Letters>(200), EnumSet::new());
+    assert_eq!(rt; sent_and_read(&letters), Some(letters));
+    assert_eq!(rt; sent_and_read(&EnumSet::only(Sparse::A)), None);
 }
 
-// The words of all elements: in an array of 2 if they fit, cut at 2, and in an array of 4.
-pub fn arrays_of_all<T: EnumSetType>() -> (Option<[u64; 2]>, [u64; 2], Option<[u64; 4]>) {
-    let all = EnumSet::<T>::all();
-    (
-        all.try_as_array(),
-        all.as_array_truncated(),
-        all.try_as_array(),
-    )
+// The words of a set: in arrays, and in slices of up to three places. The calls that ask are made where their tests pass.
+fn write_words<T: EnumSetType>(text: &mut String, set: &EnumSet<T>) -> Result<(), AllocError> {
+    let (none, two) = (set.try_as_array::<0>(), set.try_as_array::<2>());
+    let cut = set.as_array_truncated::<2>();
+    writeln!(text, "arrays: {none:?}, {two:?} cut {cut:?}")?;
+    for len in 0..4 {
+        let (mut tested, mut cut) = ([7; 3], [7; 3]);
+        let fits = set.try_copy_into_slice(&mut tested[..len]).is_some();
+        set.copy_into_slice_truncated(&mut cut[..len]);
+        writeln!(text, "slice of {len}: {fits} {tested:?} cut {cut:?}")?;
+    }
+    Ok(())
 }
 
-// Whether an array is read, and then as all elements; and whether what is valid of it is all elements.
-pub fn reads_all<T: EnumSetType>(array: [u64; 4]) -> (Option<bool>, bool) {
-    let read = match EnumSet::<T>::try_from_array(array) {
-        Some(set) => Some(set == EnumSet::all()),
-        None => None,
-    };
-    (
-        read,
-        EnumSet::<T>::from_array_truncated(array) == EnumSet::all(),
-    )
+// The sets that an array of words is read as. The calls that ask are made where their tests pass.
+pub fn write_read_array<T: EnumSetType + fmt::Debug>(
+    text: &mut String,
+    array: [u64; 4],
+) -> Result<(), AllocError> {
+    let read = EnumSet::<T>::try_from_array(array);
+    let cut = EnumSet::<T>::from_array_truncated(array);
+    writeln!(text, "{array:?} is {read:?}, cut {cut:?}")?;
+    if read.is_some() {
+        let asked = EnumSet::<T>::from_array(array);
+        let unchecked = EnumSet::<T>::from_array_unchecked(array);
+        writeln!(
+            text,
+            "from_array={asked:?} from_array_unchecked={unchecked:?}"
+        )?;
+    }
+    if let Some(words) = cut.try_as_array::<4>() {
+        writeln!(text, "again {words:?} {:?}", cut.as_array::<4>())?;
+    }
+    Ok(())
+}
+
+// The sets that a slice of words is read as, and what the first of them writes.
+pub fn write_read_slice<T: EnumSetType + fmt::Debug>(
+    text: &mut String,
+    words: &[u64],
+) -> Result<(), AllocError> {
+    let read = EnumSet::<T>::try_from_slice(words);
+    let cut = EnumSet::<T>::from_slice_truncated(words);
+    writeln!(text, "{words:?} is {read:?}, cut {cut:?}")?;
+    if read.is_some() {
+        let asked = EnumSet::<T>::from_slice(words);
+        let unchecked = EnumSet::<T>::from_slice_unchecked(words);
+        writeln!(
+            text,
+            "from_slice={asked:?} from_slice_unchecked={unchecked:?}"
+        )?;
+    }
+    let (mut tested, mut asked) = ([7; 3], [7; 3]);
+    if cut.try_copy_into_slice(&mut tested).is_some() {
+        cut.copy_into_slice(&mut asked);
+        writeln!(text, "again {tested:?} {asked:?}")?;
+    }
+    Ok(())
 }
 
 #[test]
-fn arrays_of_rows(rt: HostRuntime) {
-    let sparse = two_of(Sparse::A, Sparse::D);
-    assert!(rt; sparse.try_as_array() == Some([1024, 9223372036854775808]));
-    assert!(rt; EnumSet::<Sparse>::new().try_as_array::<0>() == Some([]));
-    assert!(rt; EnumSet::only(Sparse::A).try_as_array::<0>() == None);
-    assert!(rt; arrays_of_all::<Wide>() == (None, [8, 1], Some([8, 1, 4, 0])));
-    let read = [
-        reads_all::<Wide>([8, 1, 4, 0]),
-        reads_all::<Wide>([8, 1, 4, 1]),
-        reads_all::<Wide>([9, 1, 4, 0]),
-        reads_all::<Wide>([9, 1, 4, 1]),
-    ];
-    assert!(rt; read == [(Some(true), true), (None, true), (None, true), (None, true)]);
-    assert!(rt; arrays_of_all::<High>() == (Some([224, 0]), [224, 0], Some([224, 0, 0, 0])));
-    assert!(rt; reads_all::<Masks>([83, 0, 0, 0]) == (None, true));
+fn sets_are_written_as_words(rt: HostRuntime) -> Result<(), Fail> {
+    let mut text = String::new(rt.alloc());
+    for set in [
+        EnumSet::new(),
+        EnumSet::only(Sparse::A),
+        two_of(Sparse::A, Sparse::D),
+    ] {
+        write_words(&mut text, &set)?;
+    }
+    write_words(&mut text, &EnumSet::<Wide>::all())?;
+    write_words(&mut text, &EnumSet::only(Letters::A))?;
+    same_lines(&rt, &text, WRITTEN);
+    Ok(())
 }
 
+const WRITTEN: &str = "\
+arrays: Some([]), Some([0, 0]) cut [0, 0]
+slice of 0: true [7, 7, 7] cut [7, 7, 7]
+slice of 1: true [0, 7, 7] cut [0, 7, 7]
+slice of 2: true [0, 0, 7] cut [0, 0, 7]
+slice of 3: true [0, 0, 0] cut [0, 0, 0]
+arrays: None, Some([1024, 0]) cut [1024, 0]
+slice of 0: false [7, 7, 7] cut [7, 7, 7]
+slice of 1: true [1024, 7, 7] cut [1024, 7, 7]
+slice of 2: true [1024, 0, 7] cut [1024, 0, 7]
+slice of 3: true [1024, 0, 0] cut [1024, 0, 0]
+arrays: None, Some([1024, 9223372036854775808]) cut [1024, 9223372036854775808]
+slice of 0: false [7, 7, 7] cut [7, 7, 7]
+slice of 1: false [7, 7, 7] cut [1024, 7, 7]
+slice of 2: true [1024, 9223372036854775808, 7] cut [1024, 9223372036854775808, 7]
+slice of 3: true [1024, 9223372036854775808, 0] cut [1024, 9223372036854775808, 0]
+arrays: None, None cut [8, 1]
+slice of 0: false [7, 7, 7] cut [7, 7, 7]
+slice of 1: false [7, 7, 7] cut [8, 7, 7]
+slice of 2: false [7, 7, 7] cut [8, 1, 7]
+slice of 3: true [8, 1, 4] cut [8, 1, 4]
+arrays: None, Some([1, 0]) cut [1, 0]
+slice of 0: false [7, 7, 7] cut [7, 7, 7]
+slice of 1: true [1, 7, 7] cut [1, 7, 7]
+slice of 2: true [1, 0, 7] cut [1, 0, 7]
+slice of 3: true [1, 0, 0] cut [1, 0, 0]
+";
+
 #[test]
-fn slices_of_rows(rt: HostRuntime) {
-    let sparse = two_of(Sparse::A, Sparse::D);
-    let letter = EnumSet::only(Letters::A);
-    let (mut one, mut two, mut three) = ([7], [7; 2], [7; 3]);
-    assert!(rt; sparse.try_copy_into_slice(&mut one) == None && one == [7]);
-    sparse.copy_into_slice_truncated(&mut three);
-    assert!(rt; three == [1024, 9223372036854775808, 0]);
-    assert!(rt; letter.try_copy_into_slice(&mut []) == None);
-    letter.copy_into_slice_truncated(&mut two);
-    assert!(rt; two == [1, 0]);
-    let read = [
-        EnumSet::<Letters>::try_from_slice(&[5, 0, 0]),
-        EnumSet::<Letters>::try_from_slice(&[5, 1]),
-        Some(EnumSet::from_slice_truncated(&[133, 1])),
-        EnumSet::<Letters>::try_from_slice(&[]),
-    ];
-    let set = two_of(Letters::A, Letters::C);
-    assert!(rt; read == [Some(set), None, Some(set), Some(EnumSet::new())]);
+fn sets_are_read_of_words(rt: HostRuntime) -> Result<(), Fail> {
+    let mut text = String::new(rt.alloc());
+    for array in [[8, 1, 4, 0], [8, 1, 4, 1], [9, 1, 4, 0], [9, 1, 4, 1]] {
+        write_read_array::<Wide>(&mut text, array)?;
+    }
+    for words in [
+        [5, 0, 0].as_slice(),
+        [5, 1].as_slice(),
+        [133, 1].as_slice(),
+        [].as_slice(),
+    ] {
+        write_read_slice::<Letters>(&mut text, words)?;
+    }
+    same_lines(&rt, &text, READ);
+    Ok(())
 }
+
+const READ: &str = "\
+[8, 1, 4, 0] is Some(EnumSet(P | Q | R)), cut EnumSet(P | Q | R)
+from_array=EnumSet(P | Q | R) from_array_unchecked=EnumSet(P | Q | R)
+again [8, 1, 4, 0] [8, 1, 4, 0]
+[8, 1, 4, 1] is None, cut EnumSet(P | Q | R)
+again [8, 1, 4, 0] [8, 1, 4, 0]
+[9, 1, 4, 0] is None, cut EnumSet(P | Q | R)
+again [8, 1, 4, 0] [8, 1, 4, 0]
+[9, 1, 4, 1] is None, cut EnumSet(P | Q | R)
+again [8, 1, 4, 0] [8, 1, 4, 0]
+[5, 0, 0] is Some(EnumSet(A | C)), cut EnumSet(A | C)
+from_slice=EnumSet(A | C) from_slice_unchecked=EnumSet(A | C)
+again [5, 0, 0] [5, 0, 0]
+[5, 1] is None, cut EnumSet(A | C)
+again [5, 0, 0] [5, 0, 0]
+[133, 1] is None, cut EnumSet(A | C)
+again [5, 0, 0] [5, 0, 0]
+[] is Some(EnumSet()), cut EnumSet()
+from_slice=EnumSet() from_slice_unchecked=EnumSet()
+again [0, 0, 0] [0, 0, 0]
+";

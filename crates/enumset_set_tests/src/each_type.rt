@@ -1,10 +1,12 @@
-//! The calls of sets and of mixed sets, at each worked type.
+//! What a type can get wrong: its constants, its bits and names from both ends, the set of all, and a mixed set.
 
-ghost use Rattle.std.specs.Prelude.{◌<◌};
-
-use super::mixed::write_mixed_sets;
-use super::sets::write_sets;
+use enumset::set_json::{JsonWidth, Unknown, from_words, to_number, to_words};
+use enumset_mixed::mixed_enum_set::MixedEnumSet;
+use enumset_repr::EnumSetTypeRepr;
+use enumset_sets::element::EnumSetType;
+use enumset_sets::enum_set::EnumSet;
 use enumset_sets::with_repr::EnumSetTypeWithRepr;
+use enumset_sizes::{GapsInU128, GapsInWords, Month, Of32, Of33, Of128, Of256};
 use enumset_worked::four::Four;
 use enumset_worked::high::High;
 use enumset_worked::letters::Letters;
@@ -15,216 +17,242 @@ use enumset_worked::pair_words::PairWords;
 use enumset_worked::single::Single;
 use enumset_worked::sparse::Sparse;
 use enumset_worked::wide::Wide;
-use std::alloc::AllocError;
+use std::alloc::{AllocError, Global};
 use std::fmt;
+use std::process::Abort;
 use std::test::Fail;
 
-// The lines of a type's sets and of its mixed sets: of two elements in the order of their bits, or of one twice, an
-// unknown bit below the store's width, and the numbers of mixed sets.
-fn write_type<T: EnumSetTypeWithRepr + fmt::Display + fmt::Debug>(
+// The width, how many variants there are, and their bits from the front and from the back.
+fn write_bits<T: EnumSetType>(text: &mut String) -> Result<(), AllocError> {
+    let (width, count) = (EnumSet::<T>::bit_width(), EnumSet::<T>::variant_count());
+    write!(text, "width {width}, variants {count}, bits")?;
+    for element in EnumSet::<T>::all().iter() {
+        write!(text, " {}", EnumSet::bit_index(element))?;
+    }
+    write!(text, ", back")?;
+    for element in EnumSet::<T>::all().iter().rev() {
+        write!(text, " {}", EnumSet::bit_index(element))?;
+    }
+    Ok(())
+}
+
+// The set of all: its `{:?}` text, its number, its words and its number as JSON. The words are read as the set again.
+fn write_all<T: EnumSetType + fmt::Debug>(
+    rt: &impl Abort,
+    alloc: Global,
     text: &mut String,
-    a: T,
-    b: T,
-    unknown: u32,
-    numbers: &[u128],
-) -> Result<(), AllocError>
-    requires { unknown < T.Repr.WIDTH }
-{
-    write_sets(text, a, b)?;
-    write_mixed_sets(text, a, b, unknown, numbers)
+) -> Result<(), Fail> {
+    let all = EnumSet::<T>::all();
+    let words = to_words(alloc, &all)?;
+    assert_eq!(rt; from_words::<T>(&words, Unknown::Refuse)?, all);
+    write!(
+        text,
+        ", {all:?}, number {:?}, JSON {words}",
+        all.try_as_u128()
+    )?;
+    match to_number(alloc, &all, JsonWidth::U64) {
+        Ok(number) => write!(text, " {number}")?,
+        Err(fault) => write!(text, " {fault:?}")?,
+    }
+    Ok(())
+}
+
+/// Tests the line of a type.
+fn expect<T: EnumSetType + fmt::Debug>(
+    rt: &impl Abort,
+    alloc: Global,
+    wanted: &str,
+) -> Result<(), Fail> {
+    let mut text = String::new(alloc);
+    write_bits::<T>(&mut text)?;
+    write_all::<T>(rt, alloc, &mut text)?;
+    assert_eq!(rt; text.as_str(), wanted);
+    Ok(())
+}
+
+/// Tests the line of a type whose elements have names, and the text of all of them.
+fn expect_named<T: EnumSetType + fmt::Debug + fmt::Display>(
+    rt: &impl Abort,
+    alloc: Global,
+    names: &str,
+    wanted: &str,
+) -> Result<(), Fail> {
+    let mut text = String::new(alloc);
+    write!(text, "{}", EnumSet::<T>::all())?;
+    assert_eq!(rt; text.as_str(), names);
+    expect::<T>(rt, alloc, wanted)
+}
+
+// A mixed set by its number: its text, its elements, and the complements.
+fn write_mixed<T: EnumSetTypeWithRepr + fmt::Debug + fmt::Display>(
+    text: &mut String,
+    number: u128,
+) -> Result<(), AllocError> {
+    let set = MixedEnumSet::<T>::from_repr(T::Repr::from_u128(number));
+    let elements = set.as_enumset_truncate();
+    let complement = set.complement();
+    let left = set.full_complement().len();
+    write!(
+        text,
+        "{set}, elements {elements:?}, complement {complement}, {left} others"
+    )
+}
+
+/// Tests the lines of a type with repr, the second of them of a mixed set, by its number.
+pub fn expect_both<T: EnumSetTypeWithRepr + fmt::Debug + fmt::Display>(
+    rt: &impl Abort,
+    alloc: Global,
+    names: &str,
+    wanted: &str,
+    number: u128,
+    wanted_mixed: &str,
+) -> Result<(), Fail> {
+    expect_named::<T>(rt, alloc, names, wanted)?;
+    let mut text = String::new(alloc);
+    write_mixed::<T>(&mut text, number)?;
+    assert_eq!(rt; text.as_str(), wanted_mixed);
+    Ok(())
 }
 
 #[test]
 fn types_in_an_integer(rt: HostRuntime) -> Result<(), Fail> {
-    let mut text = String::new(rt.alloc());
-    write_type(&mut text, Letters::A, Letters::G, 7, &[0, 1, 128, 255])?;
-    write_type(&mut text, Marks::A, Marks::C, 3, &[0, 1, 8, 255])?;
-    write_type(&mut text, Four::A, Four::D, 4, &[0, 8, 16, 255])?;
-    write_type(
-        &mut text,
-        Sparse::A,
-        Sparse::D,
-        126,
-        &[0, 1024, 1, u128::MAX],
+    let alloc = rt.alloc();
+    expect_both::<Letters>(
+        &rt,
+        alloc,
+        "A | B | C | D | E | F | G",
+        "width 7, variants 7, bits 0 1 2 3 4 5 6, back 6 5 4 3 2 1 0, EnumSet(A | B | C | D | E | F | G), \
+        number Some(127), JSON [127] 127",
+        192,
+        "G | [7], elements EnumSet(G), complement A | B | C | D | E | F, 6 others",
     )?;
-    write_type(
-        &mut text,
-        PairNumber::A,
-        PairNumber::B,
-        65,
-        &[0, 1 << 64, 1 << 63, u128::MAX],
+    expect_both::<Marks>(
+        &rt,
+        alloc,
+        "A | B | C",
+        "width 3, variants 3, bits 0 1 2, back 2 1 0, EnumSet(A | B | C), number Some(7), JSON [7] 7",
+        12,
+        "C | [3], elements EnumSet(C), complement A | B, 6 others",
     )?;
-    assert!(rt; text.as_str() == IN_AN_INTEGER);
-    Ok(())
+    expect_both::<Four>(
+        &rt,
+        alloc,
+        "A | B | C | D",
+        "width 4, variants 4, bits 0 1 2 3, back 3 2 1 0, EnumSet(A | B | C | D), number Some(15), JSON [15] 15",
+        24,
+        "D | [4], elements EnumSet(D), complement A | B | C, 6 others",
+    )?;
+    expect_both::<Sparse>(
+        &rt,
+        alloc,
+        "A | B | C | D",
+        "width 128, variants 4, bits 10 20 30 127, back 127 30 20 10, EnumSet(A | B | C | D), \
+        number Some(170141183460469231731687303716958897152), JSON [1074791424,9223372036854775808] TooWide",
+        3 << 126,
+        "[126] | D, elements EnumSet(D), complement A | B | C, 126 others",
+    )?;
+    expect_both::<PairNumber>(&rt, alloc, "A | B", PAIR, 3 << 64, MIXED_PAIR)
 }
 
-const IN_AN_INTEGER: &str = "\
-7 7, 0 A A, 1 B B, 2 C C, 3 D D, 4 E E, 5 F F, 6 G G, A | B | C | D | E | F | G EnumSet(A | B | C | D | E | F | G)
-true true true true true true true
-0 0 8 true false MixedEnumSet(A | B | C | D | E | F | G) EnumSet() Some(EnumSet())
-1 1 7 false false MixedEnumSet(A | B | C | D | E | F) EnumSet(G) Some(EnumSet(G))
-1 0 7 false true MixedEnumSet(A | B | C | D | E | F | G) EnumSet() None
-2 1 6 false true MixedEnumSet(A | B | C | D | E | F) EnumSet(G) None
-8 7 0 false true MixedEnumSet() EnumSet(A | B | C | D | E | F | G) None
-7 MixedEnumSet(A | G | [7]) MixedEnumSet([7]) MixedEnumSet(A) MixedEnumSet(A | G) MixedEnumSet(A | G) \
-MixedEnumSet(A | G | [7]) MixedEnumSet(G)
-8 6 true true true true
-7 127
-0 0 127 255 0 true true
-1 1 126 254 0 true true
-128 0 127 127 0 true true
-255 127 0 0 0 true true
-3 3, 0 A A, 1 B B, 2 C C, A | B | C EnumSet(A | B | C)
-true true true true true true true
-0 0 8 true false MixedEnumSet(A | B | C) EnumSet() Some(EnumSet())
-1 1 7 false false MixedEnumSet(A | B) EnumSet(C) Some(EnumSet(C))
-1 0 7 false true MixedEnumSet(A | B | C) EnumSet() None
-2 1 6 false true MixedEnumSet(A | B) EnumSet(C) None
-8 3 0 false true MixedEnumSet() EnumSet(A | B | C) None
-3 MixedEnumSet(A | C | [3]) MixedEnumSet([3]) MixedEnumSet(A) MixedEnumSet(A | C) MixedEnumSet(A | C) \
-MixedEnumSet(A | C | [3]) MixedEnumSet(C)
-8 2 true true true true
-3 7
-0 0 7 255 0 true true
-1 1 6 254 0 true true
-8 0 7 247 0 true true
-255 7 0 0 0 true true
-4 4, 0 A A, 1 B B, 2 C C, 3 D D, A | B | C | D EnumSet(A | B | C | D)
-true true true true true true true
-0 0 8 true false MixedEnumSet(A | B | C | D) EnumSet() Some(EnumSet())
-1 1 7 false false MixedEnumSet(A | B | C) EnumSet(D) Some(EnumSet(D))
-1 0 7 false true MixedEnumSet(A | B | C | D) EnumSet() None
-2 1 6 false true MixedEnumSet(A | B | C) EnumSet(D) None
-8 4 0 false true MixedEnumSet() EnumSet(A | B | C | D) None
-4 MixedEnumSet(A | D | [4]) MixedEnumSet([4]) MixedEnumSet(A) MixedEnumSet(A | D) MixedEnumSet(A | D) \
-MixedEnumSet(A | D | [4]) MixedEnumSet(D)
-8 3 true true true true
-4 15
-0 0 15 255 0 true true
-8 8 7 247 0 true true
-16 0 15 239 0 true true
-255 15 0 0 0 true true
-128 4, 10 A A, 20 B B, 30 C C, 127 D D, A | B | C | D EnumSet(A | B | C | D)
-true true true true true true true
-0 0 128 true false MixedEnumSet(A | B | C | D) EnumSet() Some(EnumSet())
-1 1 127 false false MixedEnumSet(A | B | C) EnumSet(D) Some(EnumSet(D))
-1 0 127 false true MixedEnumSet(A | B | C | D) EnumSet() None
-2 1 126 false true MixedEnumSet(A | B | C) EnumSet(D) None
-128 4 0 false true MixedEnumSet() EnumSet(A | B | C | D) None
-126 MixedEnumSet(A | [126] | D) MixedEnumSet([126]) MixedEnumSet(A) MixedEnumSet(A | D) MixedEnumSet(A | D) \
-MixedEnumSet(A | [126] | D) MixedEnumSet(D)
-128 127 true true true true
-4 170141183460469231731687303716958897152
-0 0 170141183460469231731687303716958897152 340282366920938463463374607431768211455 0 true true
-1024 1024 170141183460469231731687303716958896128 340282366920938463463374607431768210431 0 true true
-1 0 170141183460469231731687303716958897152 340282366920938463463374607431768211454 0 true true
-340282366920938463463374607431768211455 170141183460469231731687303716958897152 0 0 0 true true
-65 2, 0 A A, 64 B B, A | B EnumSet(A | B)
-true true true true true true true
-0 0 128 true false MixedEnumSet(A | B) EnumSet() Some(EnumSet())
-1 1 127 false false MixedEnumSet(A) EnumSet(B) Some(EnumSet(B))
-1 0 127 false true MixedEnumSet(A | B) EnumSet() None
-2 1 126 false true MixedEnumSet(A) EnumSet(B) None
-128 2 0 false true MixedEnumSet() EnumSet(A | B) None
-65 MixedEnumSet(A | B | [65]) MixedEnumSet([65]) MixedEnumSet(A) MixedEnumSet(A | B) MixedEnumSet(A | B) \
-MixedEnumSet(A | B | [65]) MixedEnumSet(B)
-128 64 true true true true
-2 18446744073709551617
-0 0 18446744073709551617 340282366920938463463374607431768211455 0 true true
-18446744073709551616 18446744073709551616 1 340282366920938463444927863358058659839 0 true true
-9223372036854775808 0 18446744073709551617 340282366920938463454151235394913435647 0 true true
-340282366920938463463374607431768211455 18446744073709551617 0 0 0 true true
-";
+const PAIR: &str = "\
+width 65, variants 2, bits 0 64, back 64 0, EnumSet(A | B), number Some(18446744073709551617), JSON [1,1] TooWide";
+
+const MIXED_PAIR: &str = "B | [65], elements EnumSet(B), complement A, 126 others";
 
 #[test]
 fn types_over_words(rt: HostRuntime) -> Result<(), Fail> {
-    let mut text = String::new(rt.alloc());
-    write_sets(&mut text, Wide::P, Wide::R)?;
-    write_type(
-        &mut text,
-        PairWords::A,
-        PairWords::B,
-        65,
-        &[0, 1 << 64, 1 << 63, u128::MAX],
-    )?;
-    assert!(rt; text.as_str() == OVER_WORDS);
-    Ok(())
+    let alloc = rt.alloc();
+    expect_both::<PairWords>(&rt, alloc, "A | B", PAIR, 3 << 64, MIXED_PAIR)?;
+    expect_named::<Wide>(
+        &rt,
+        alloc,
+        "P | Q | R",
+        "width 131, variants 3, bits 3 64 130, back 130 64 3, EnumSet(P | Q | R), number None, JSON [8,1,4] TooWide",
+    )
 }
-
-const OVER_WORDS: &str = "\
-131 3, 3 P P, 64 Q Q, 130 R R, P | Q | R EnumSet(P | Q | R)
-true true true true true true true
-65 2, 0 A A, 64 B B, A | B EnumSet(A | B)
-true true true true true true true
-0 0 128 true false MixedEnumSet(A | B) EnumSet() Some(EnumSet())
-1 1 127 false false MixedEnumSet(A) EnumSet(B) Some(EnumSet(B))
-1 0 127 false true MixedEnumSet(A | B) EnumSet() None
-2 1 126 false true MixedEnumSet(A) EnumSet(B) None
-128 2 0 false true MixedEnumSet() EnumSet(A | B) None
-65 MixedEnumSet(A | B | [65]) MixedEnumSet([65]) MixedEnumSet(A) MixedEnumSet(A | B) MixedEnumSet(A | B) \
-MixedEnumSet(A | B | [65]) MixedEnumSet(B)
-128 64 true true true true
-2 18446744073709551617
-0 0 18446744073709551617 340282366920938463463374607431768211455 0 true true
-18446744073709551616 18446744073709551616 1 340282366920938463444927863358058659839 0 true true
-9223372036854775808 0 18446744073709551617 340282366920938463454151235394913435647 0 true true
-340282366920938463463374607431768211455 18446744073709551617 0 0 0 true true
-";
 
 #[test]
 fn types_on_other_bits(rt: HostRuntime) -> Result<(), Fail> {
-    let mut text = String::new(rt.alloc());
-    write_type(&mut text, High::C, High::A, 0, &[0, 128, 1, 255])?;
-    write_type(&mut text, Masks::P, Masks::R, 5, &[0, 16, 2, 255])?;
-    write_type(&mut text, Single::A, Single::A, 7, &[0, 1, 2, 255])?;
-    assert!(rt; text.as_str() == ON_OTHER_BITS);
-    Ok(())
+    let alloc = rt.alloc();
+    expect_both::<High>(
+        &rt,
+        alloc,
+        "C | B | A",
+        "width 8, variants 3, bits 5 6 7, back 7 6 5, EnumSet(C | B | A), number Some(224), JSON [224] 224",
+        129,
+        "[0] | A, elements EnumSet(A), complement C | B, 6 others",
+    )?;
+    expect_both::<Masks>(
+        &rt,
+        alloc,
+        "P | Q | R",
+        "width 7, variants 3, bits 0 4 6, back 6 4 0, EnumSet(P | Q | R), number Some(81), JSON [81] 81",
+        96,
+        "[5] | R, elements EnumSet(R), complement P | Q, 6 others",
+    )?;
+    expect_both::<Single>(
+        &rt,
+        alloc,
+        "A",
+        "width 1, variants 1, bits 0, back 0, EnumSet(A), number Some(1), JSON [1] 1",
+        129,
+        "A | [7], elements EnumSet(A), complement , 6 others",
+    )
 }
 
-const ON_OTHER_BITS: &str = "\
-8 3, 5 C C, 6 B B, 7 A A, C | B | A EnumSet(C | B | A)
-true true true true true true true
-0 0 8 true false MixedEnumSet(C | B | A) EnumSet() Some(EnumSet())
-1 1 7 false false MixedEnumSet(C | B) EnumSet(A) Some(EnumSet(A))
-1 0 7 false true MixedEnumSet(C | B | A) EnumSet() None
-2 1 6 false true MixedEnumSet(C | B) EnumSet(A) None
-8 3 0 false true MixedEnumSet() EnumSet(C | B | A) None
-0 MixedEnumSet([0] | C | A) MixedEnumSet([0]) MixedEnumSet(C) MixedEnumSet(C | A) MixedEnumSet(C | A) \
-MixedEnumSet([0] | C | A) MixedEnumSet(A)
-8 7 true true true true
-3 224
-0 0 224 255 0 true true
-128 128 96 127 0 true true
-1 0 224 254 0 true true
-255 224 0 0 0 true true
-7 3, 0 P P, 4 Q Q, 6 R R, P | Q | R EnumSet(P | Q | R)
-true true true true true true true
-0 0 8 true false MixedEnumSet(P | Q | R) EnumSet() Some(EnumSet())
-1 1 7 false false MixedEnumSet(P | Q) EnumSet(R) Some(EnumSet(R))
-1 0 7 false true MixedEnumSet(P | Q | R) EnumSet() None
-2 1 6 false true MixedEnumSet(P | Q) EnumSet(R) None
-8 3 0 false true MixedEnumSet() EnumSet(P | Q | R) None
-5 MixedEnumSet(P | [5] | R) MixedEnumSet([5]) MixedEnumSet(P) MixedEnumSet(P | R) MixedEnumSet(P | R) \
-MixedEnumSet(P | [5] | R) MixedEnumSet(R)
-8 6 true true true true
-3 81
-0 0 81 255 0 true true
-16 16 65 239 0 true true
-2 0 81 253 0 true true
-255 81 0 0 0 true true
-1 1, 0 A A, A EnumSet(A)
-true true true true true true true
-0 0 8 true false MixedEnumSet(A) EnumSet() Some(EnumSet())
-1 1 7 false false MixedEnumSet() EnumSet(A) Some(EnumSet(A))
-1 0 7 false true MixedEnumSet(A) EnumSet() None
-2 1 6 false true MixedEnumSet() EnumSet(A) None
-8 1 0 false true MixedEnumSet() EnumSet(A) None
-7 MixedEnumSet(A | [7]) MixedEnumSet(A | [7]) MixedEnumSet() MixedEnumSet() MixedEnumSet() \
-MixedEnumSet(A | [7]) MixedEnumSet()
-8 0 true true true true
-1 1
-0 0 1 255 0 true true
-1 1 0 254 0 true true
-2 0 1 253 0 true true
-255 1 0 0 0 true true
-";
+// Tests the line of a type of variants `V0`, `V1` and so on, whose bits are the multiples of `step`.
+fn expect_steps<T: EnumSetType + fmt::Debug>(
+    rt: &impl Abort,
+    alloc: Global,
+    [width, count, step]: [u64; 3],
+    rest: &str,
+) -> Result<(), Fail> {
+    let mut wanted = String::new(alloc);
+    write!(wanted, "width {width}, variants {count}, bits")?;
+    for place in 0..count {
+        write!(wanted, " {}", place.saturating_mul(step))?;
+    }
+    write!(wanted, ", back")?;
+    for place in (0..count).rev() {
+        write!(wanted, " {}", place.saturating_mul(step))?;
+    }
+    write!(wanted, ", EnumSet(")?;
+    for place in 0..count {
+        write!(wanted, "{}V{place}", if place == 0 { "" } else { " | " })?;
+    }
+    write!(wanted, "), {rest}")?;
+    expect::<T>(rt, alloc, wanted.as_str())
+}
+
+#[test]
+fn bits_in_order(rt: HostRuntime) -> Result<(), Fail> {
+    let alloc = rt.alloc();
+    expect::<Month>(
+        &rt,
+        alloc,
+        "width 12, variants 12, bits 0 1 2 3 4 5 6 7 8 9 10 11, back 11 10 9 8 7 6 5 4 3 2 1 0, \
+        EnumSet(January | February | March | April | May | June | July | August | September | October | November \
+        | December), number Some(4095), JSON [4095] 4095",
+    )?;
+    let rest = "number Some(4294967295), JSON [4294967295] 4294967295";
+    expect_steps::<Of32>(&rt, alloc, [32, 32, 1], rest)?;
+    let rest = "number Some(8589934591), JSON [8589934591] 8589934591";
+    expect_steps::<Of33>(&rt, alloc, [33, 33, 1], rest)?;
+    let rest = "number Some(340282366920938463463374607431768211455), \
+        JSON [18446744073709551615,18446744073709551615] TooWide";
+    expect_steps::<Of128>(&rt, alloc, [128, 128, 1], rest)?;
+    let rest = "number None, \
+        JSON [18446744073709551615,18446744073709551615,18446744073709551615,18446744073709551615] TooWide";
+    expect_steps::<Of256>(&rt, alloc, [256, 256, 1], rest)
+}
+
+#[test]
+fn bits_with_gaps(rt: HostRuntime) -> Result<(), Fail> {
+    let alloc = rt.alloc();
+    let rest = "number Some(113427455640312821154458202477256070485), \
+        JSON [6148914691236517205,6148914691236517205] TooWide";
+    expect_steps::<GapsInU128>(&rt, alloc, [127, 64, 2], rest)?;
+    let rest =
+        "number None, JSON [10540996613548315209,5270498306774157604,2635249153387078802] TooWide";
+    expect_steps::<GapsInWords>(&rt, alloc, [190, 64, 3], rest)
+}

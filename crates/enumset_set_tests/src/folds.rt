@@ -1,6 +1,6 @@
-// The functions of `folds`, at two element types.
+//! Sets of items: by the traits of std, and by the functions of `folds`.
 
-use super::mixed::{number_of, of_number};
+use crate::mixed::{number_of, of_number};
 use enumset::folds::{
     extend_refs, extend_set_refs, extend_sets, from_refs, from_set_refs, from_sets,
     mixed_extend_enumset_refs, mixed_extend_enumsets, mixed_extend_refs, mixed_extend_set_refs,
@@ -13,7 +13,7 @@ use enumset::set::MixedEnumSet;
 use enumset::{EnumSet, EnumSetType, EnumSetTypeWithRepr, enum_set};
 use enumset_worked::letters::Letters;
 use enumset_worked::marks::Marks;
-use enumset_worked::sparse::Sparse;
+use std::test::Fail;
 
 // The numbers of what the folds answer: the first three have extended a set of one element.
 fn folded<T: EnumSetType>(elements: &[T], sets: &[EnumSet<T>], start: T) -> [u32; 9] {
@@ -87,38 +87,67 @@ fn sets_are_folded(rt: HostRuntime) {
         enum_set!(),
         enum_set!(Letters::A | Letters::C),
     ];
-    let numbers = folded(&[Letters::C, Letters::A, Letters::C], &sets, Letters::G);
-    assert!(rt; numbers == [69, 69, 69, 5, 5, 5, 5, 5, 5]);
-    let sets = [enum_set!(Sparse::B | Sparse::A)];
-    let numbers = folded(&[Sparse::B, Sparse::A], &sets, Sparse::C);
-    let (two, three) = (0x100400, 0x40100400);
-    assert!(rt; numbers == [three, three, three, two, two, two, two, two, two]);
+    let elements = [Letters::C, Letters::A, Letters::C];
+    assert_eq!(rt;
+        folded(&elements, &sets, Letters::G),
+        [69, 69, 69, 5, 5, 5, 5, 5, 5]
+    );
 }
 
 #[test]
 fn mixed_sets_are_folded(rt: HostRuntime) {
-    let sets = [
-        MixedEnumSet::<Marks>::from_repr(4),
-        MixedEnumSet::from_repr(129),
-    ];
-    let numbers = mixed_folded(&[Marks::C, Marks::A, Marks::C], &sets, 8);
-    assert!(rt; numbers == [13, 141, 141, 5, 133, 133, 133, 5, 5]);
-    let sets = [MixedEnumSet::<Letters>::from_repr(2)];
-    let numbers = mixed_folded(&[Letters::B], &sets, 128);
-    assert!(rt; numbers == [130, 130, 130, 2, 2, 2, 2, 2, 2]);
+    let elements = [Marks::C, Marks::A, Marks::C];
+    assert_eq!(rt;
+        mixed_folded(&elements, &[of_number(4), of_number(129)], 8),
+        [13, 141, 141, 5, 133, 133, 133, 5, 5]
+    );
+    for (first, second, numbers) in [
+        (Marks::A, Marks::C, [13, 13, 5, 5, 5, 5]),
+        (Marks::B, Marks::B, [10, 10, 2, 2, 2, 2]),
+    ] {
+        let sets = [first, second, first].map(EnumSet::only);
+        assert_eq!(rt; enumsets_folded(&sets, 8), numbers);
+    }
 }
 
 #[test]
-fn mixed_sets_are_folded_of_sets(rt: HostRuntime) {
+fn sets_are_made_of_items(rt: HostRuntime) -> Result<(), Fail> {
+    let letters = [Letters::A, Letters::A, Letters::C];
+    let mut extended = EnumSet::from(Letters::B);
+    extended.extend(letters)?;
+    let collected: EnumSet<Letters> = letters.iter().copied().collect(rt.alloc())?;
+    let sum: EnumSet<Letters> = letters.map(EnumSet::only).iter().copied().sum();
+    let sets = [EnumSet::from(letters), extended, collected, sum];
+    assert_eq!(rt; sets.map(|set| set.as_u8_truncated()), [5, 7, 5, 5]);
+    let mut text = String::new(rt.alloc());
+    for letter in extended {
+        write!(text, "{letter} ")?;
+    }
+    assert_eq!(rt; text.as_str(), "A B C ");
+    Ok(())
+}
+
+#[test]
+fn mixed_sets_are_made_of_items(rt: HostRuntime) -> Result<(), Fail> {
+    let marks = [Marks::A, Marks::C, Marks::A];
+    let mut extended = MixedEnumSet::<Marks>::from_repr(128);
+    extended.extend(marks)?;
+    let collected: MixedEnumSet<Marks> = marks.iter().copied().collect(rt.alloc())?;
+    let pair = [MixedEnumSet::from(Marks::B), MixedEnumSet::from_repr(8)];
+    let sum: MixedEnumSet<Marks> = pair.iter().copied().sum();
+    let converted = MixedEnumSet::from(EnumSet::from(marks));
     let sets = [
-        enum_set!(Marks::A),
-        enum_set!(Marks::C),
-        enum_set!(Marks::A),
+        MixedEnumSet::from(marks),
+        converted,
+        extended,
+        collected,
+        sum,
     ];
-    assert!(rt; enumsets_folded(&sets, 8) == [13, 13, 5, 5, 5, 5]);
-    let sets = [enum_set!(Letters::B)];
-    assert!(rt; enumsets_folded(&sets, 128) == [130, 130, 2, 2, 2, 2]);
-    let mut set = MixedEnumSet::<Marks>::from_repr(8);
-    mixed_extend_enumset_refs(&mut set, [enum_set!(Marks::B)].iter());
-    assert!(rt; set.as_repr() == 10);
+    assert_eq!(rt; sets.map(|set| set.as_repr()), [5, 5, 133, 5, 10]);
+    let mut text = String::new(rt.alloc());
+    for member in extended {
+        write!(text, "{member:?} ")?;
+    }
+    assert_eq!(rt; text.as_str(), "A C [7] ");
+    Ok(())
 }

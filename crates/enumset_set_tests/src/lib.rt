@@ -1,8 +1,14 @@
-//! Tests of sets, mixed sets, folds and macros at the worked types.
+//! Tests of sets, mixed sets, folds, macros and JSON at the worked types, and of users' code with its proofs.
 //!
 //! They stand apart from the crates that they test, so that the proofs of those are made once.
 #![tactic(auto)]
 
+#[cfg(test)]
+mod compare;
+#[cfg(test)]
+mod config;
+#[cfg(test)]
+mod configs;
 #[cfg(test)]
 mod conversions;
 #[cfg(test)]
@@ -10,13 +16,13 @@ mod each_type;
 #[cfg(test)]
 mod folds;
 #[cfg(test)]
+mod json;
+#[cfg(test)]
 mod macros;
 #[cfg(test)]
 mod mixed;
 #[cfg(test)]
 mod no_variant;
-#[cfg(test)]
-mod odd_types;
 #[cfg(test)]
 mod operators;
 #[cfg(test)]
@@ -24,10 +30,8 @@ mod order;
 #[cfg(test)]
 mod refused;
 #[cfg(test)]
-mod set_texts;
+mod sending_json;
 #[cfg(test)]
 mod sets;
-#[cfg(test)]
-mod sizes;
 #[cfg(test)]
 mod users_code;

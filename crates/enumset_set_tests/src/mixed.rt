@@ -1,19 +1,21 @@
-//! The calls of a mixed set and of its iterator, over any element type with repr, and at worked types.
+//! The calls of a mixed set and of its iterator, over any element type with repr, and at `marks`.
 
 ghost use Rattle.std.specs.Prelude.{◌<◌};
 
+use crate::compare::same_lines;
 use enumset_mixed::conversions::convert_mixed;
 use enumset_mixed::mixed_enum_set::MixedEnumSet;
 use enumset_mixed::mixed_value::MixedValue;
-use enumset_repr::repr::EnumSetTypeRepr;
-use enumset_sets::element::EnumSetType;
+use enumset_repr::EnumSetTypeRepr;
 use enumset_sets::enum_set::EnumSet;
 use enumset_sets::with_repr::EnumSetTypeWithRepr;
+use enumset_worked::high::High;
 use enumset_worked::letters::Letters;
 use enumset_worked::marks::Marks;
 use enumset_worked::sparse::Sparse;
 use std::alloc::AllocError;
 use std::fmt;
+use std::test::Fail;
 
 // The set of a number of 8 bits.
 pub fn of_number<T: EnumSetTypeWithRepr>(number: u8) -> MixedEnumSet<T> {
@@ -25,309 +27,302 @@ pub fn number_of<T: EnumSetTypeWithRepr>(set: MixedEnumSet<T>) -> u128 {
     set.as_repr().to_u128()
 }
 
-// The set of a valid bit and of an unknown one, below the store's width.
-fn of_both<T: EnumSetTypeWithRepr>(valid: T, unknown: u32) -> MixedEnumSet<T>
-    requires { unknown < T.Repr.WIDTH }
-{
-    let mut set = MixedEnumSet::only(valid);
-    set.insert_bit(unknown);
-    set
-}
-
-// A space and a value's `{:?}` text.
-fn write_value<V: fmt::Debug>(text: &mut String, value: &V) -> Result<(), AllocError> {
-    write!(text, " {value:?}")
-}
-
-// Three counts and two answers.
-fn write_counts(
+// How many members there are, how many are valid, and whether there are any, and unknown ones.
+fn write_counts<T: EnumSetTypeWithRepr>(
     text: &mut String,
-    [len, valid, others]: [usize; 3],
-    [is_empty, has_unknown]: [bool; 2],
+    set: &MixedEnumSet<T>,
 ) -> Result<(), AllocError> {
-    write!(text, "{len} {valid} {others} {is_empty} {has_unknown}")
+    let (len, valid) = (set.len(), set.valid_len());
+    let (is_empty, has_unknown) = (set.is_empty(), set.has_unknown_bits());
+    write!(
+        text,
+        "len={len} valid={valid} empty={is_empty} unknown={has_unknown}"
+    )
 }
 
-// A line of what the calls answer that look at one set alone.
+// The set's number and those of what it is made into: cut to the valid bits, its complements, and cleared.
+fn write_values<T: EnumSetTypeWithRepr>(
+    text: &mut String,
+    set: &MixedEnumSet<T>,
+) -> Result<(), AllocError> {
+    let mut cleared = set.clone().unwrap();
+    cleared.clear();
+    let values = [
+        number_of(set.copied()),
+        number_of(MixedEnumSet::<T>::from_repr_truncated(set.as_repr())),
+        number_of(set.complement()),
+        number_of(set.full_complement()),
+        number_of(cleared),
+    ];
+    write!(text, " values={values:?}")
+}
+
+// The elements of the set, if it has no other bits, and those that it has. The call that asks is made where its test passes.
+fn write_elements<T: EnumSetTypeWithRepr + fmt::Debug>(
+    text: &mut String,
+    set: &MixedEnumSet<T>,
+) -> Result<(), AllocError> {
+    match set.try_as_enumset() {
+        Some(elements) => write!(text, " elements={elements:?} asked {:?}", set.as_enumset())?,
+        None => write!(text, " elements=none")?,
+    }
+    writeln!(text, " cut {:?}", set.as_enumset_truncate())
+}
+
+/// A line of what the calls answer that look at one set alone.
 pub fn write_answers<T: EnumSetTypeWithRepr + fmt::Debug>(
     text: &mut String,
     set: &MixedEnumSet<T>,
 ) -> Result<(), AllocError> {
-    let counts = [set.len(), set.valid_len(), set.full_complement().len()];
-    write_counts(text, counts, [set.is_empty(), set.has_unknown_bits()])?;
-    write_value(text, &set.complement())?;
-    write_value(text, &set.as_enumset_truncate())?;
-    write_value(text, &set.try_as_enumset())?;
-    writeln!(text)
-}
-
-// Those of no bit, a valid one, an unknown one, both, and all bits.
-fn write_all_answers<T: EnumSetTypeWithRepr + fmt::Debug>(
-    text: &mut String,
-    valid: T,
-    unknown: u32,
-) -> Result<(), AllocError>
-    requires { unknown < T.Repr.WIDTH }
-{
-    let mut one_unknown = MixedEnumSet::<T>::empty();
-    one_unknown.insert_bit(unknown);
-    write_answers(text, &MixedEnumSet::<T>::new())?;
-    write_answers(text, &MixedEnumSet::only(valid))?;
-    write_answers(text, &one_unknown)?;
-    write_answers(text, &of_both(valid, unknown))?;
-    write_answers(text, &MixedEnumSet::<T>::new().full_complement())
-}
-
-// A line of the unknown bit and of each operation on two sets that share that bit alone.
-fn write_operations<T: EnumSetTypeWithRepr + fmt::Debug>(
-    text: &mut String,
-    one: T,
-    other: T,
-    unknown: u32,
-) -> Result<(), AllocError>
-    requires { unknown < T.Repr.WIDTH }
-{
-    write!(text, "{unknown}")?;
-    let mut set = of_both(one, unknown);
-    write_value(text, &set.union(of_both(other, unknown)))?;
-    write_value(text, &set.intersection(of_both(other, unknown)))?;
-    write_value(text, &set.difference(of_both(other, unknown)))?;
-    write_value(text, &set.symmetric_difference(of_both(other, unknown)))?;
-    write_value(text, &set.symmetrical_difference(of_both(other, unknown)))?;
-    set.insert_all(of_both(other, unknown));
-    write_value(text, &set)?;
-    set.remove_all(of_both(one, unknown));
-    write_value(text, &set)?;
-    writeln!(text)
-}
-
-// What the changes and the tests of one member answer, one after the other.
-fn changes<T: EnumSetTypeWithRepr>(valid: T, unknown: u32) -> [bool; 16]
-    requires { unknown < T.Repr.WIDTH }
-{
-    let mut set = MixedEnumSet::<T>::new();
-    [
-        set.insert(valid),
-        set.insert(valid),
-        set.eq_element(valid),
-        set.eq_enumset(EnumSet::only(valid)),
-        set.insert_bit(unknown),
-        set.insert_bit(unknown),
-        set.contains(valid),
-        set.has_bit(unknown),
-        set.eq_element(valid),
-        set.eq_enumset(EnumSet::only(valid)),
-        set == of_both(valid, unknown),
-        set.remove(valid),
-        set.remove(valid),
-        set.remove_bit(unknown),
-        set.remove_bit(unknown),
-        set.is_empty(),
-    ]
-}
-
-// Whether one set is disjoint from, above and below another, which it is a part of.
-fn relations<T: EnumSetTypeWithRepr>(valid: T, unknown: u32) -> [bool; 4]
-    requires { unknown < T.Repr.WIDTH }
-{
-    let part = convert_mixed(EnumSet::only(valid));
-    [
-        part.is_disjoint(of_both(valid, unknown)),
-        part.is_disjoint(of_both(valid, unknown).difference(MixedEnumSet::only(valid))),
-        part.is_superset(of_both(valid, unknown)),
-        part.is_subset(of_both(valid, unknown)),
-    ]
-}
-
-const CHANGES: [bool; 16] = [
-    true, false, true, true, true, false, true, true, false, false, true, true, false, true, false,
-    true,
-];
-
-const RELATIONS: [bool; 4] = [false, true, false, true];
-
-// What is answered of a bit at the width, one past it, and the greatest number, and whether the set stays.
-fn past_the_width<T: EnumSetTypeWithRepr>(valid: T, width: u32) -> [bool; 8] {
-    let mut set = MixedEnumSet::only(valid);
-    [
-        set.has_bit(width),
-        set.has_bit(width.saturating_add(1)),
-        set.has_bit(4294967295),
-        set.remove_bit(width),
-        set.remove_bit(width.saturating_add(1)),
-        set.remove_bit(4294967295),
-        MixedEnumSet::<T>::is_bit_valid(width),
-        set.eq_element(valid),
-    ]
-}
-
-const PAST_THE_WIDTH: [bool; 8] = [false, false, false, false, false, false, false, true];
-
-#[test]
-fn bits_past_the_width_are_absent(rt: HostRuntime) {
-    let mut one = MixedEnumSet::<Marks>::from_repr(1);
-    assert!(rt; [one.has_bit(256), one.has_bit(8), one.remove_bit(256)] == [false, false, false]);
-    assert!(rt; one.as_repr() == 1);
+    write!(text, "{set:?}: ")?;
+    write_counts(text, set)?;
+    write_values(text, set)?;
+    write_elements(text, set)
 }
 
 #[test]
-fn unknown_bits_come_in_their_place(rt: HostRuntime) {
-    let mut iter = MixedEnumSet::<Marks>::from_repr(169).iter();
-    assert!(rt;
-        [iter.next(), iter.next_back()]
-            == [
-                Some(MixedValue::Valid(Marks::A)),
-                Some(MixedValue::Invalid(7))
-            ]
-    );
-    let mut same = iter.clone().unwrap();
-    assert!(rt; [iter.len(), same.len()] == [2, 2]);
-    assert!(rt;
-        [iter.next_back(), iter.next(), iter.next(), iter.next_back()]
-            == [
-                Some(MixedValue::Invalid(5)),
-                Some(MixedValue::Invalid(3)),
-                None,
-                None
-            ]
-    );
-    assert!(rt; same.next() == Some(MixedValue::Invalid(3)) && iter.size_hint() == (0, Some(0)));
-    let mut wide = MixedEnumSet::<Sparse>::from_repr(3 << 126 | 3 << 9).iter();
-    assert!(rt;
-        [
-            wide.next(),
-            wide.next(),
-            wide.next_back(),
-            wide.next_back(),
-            wide.next_back()
-        ] == [
-            Some(MixedValue::Invalid(9)),
-            Some(MixedValue::Valid(Sparse::A)),
-            Some(MixedValue::Valid(Sparse::D)),
-            Some(MixedValue::Invalid(126)),
-            None,
-        ]
-    );
-    assert!(rt; MixedValue::Valid(Letters::G) < MixedValue::Invalid(7));
-}
-
-// Who has seen `Some` of the test makes the call that asks.
-fn elements_of<T: EnumSetTypeWithRepr>(set: &MixedEnumSet<T>) -> EnumSet<T> {
-    match set.try_as_enumset() {
-        Some(_) => set.as_enumset(),
-        None => set.as_enumset_truncate(),
+fn sets_of_marks(rt: HostRuntime) -> Result<(), Fail> {
+    let mut text = String::new(rt.alloc());
+    for number in [0, 1, 8, 9, 255] {
+        write_answers::<Marks>(&mut text, &of_number(number))?;
     }
-}
-
-#[test]
-fn reserved_bits_are_carried_on(rt: HostRuntime) {
-    let set = MixedEnumSet::<Marks>::from_repr(9);
-    assert!(rt; [set.len(), set.valid_len()] == [2, 1]);
-    assert!(rt;
-        [
-            set.as_repr(),
-            set.full_complement().as_repr(),
-            set.complement().as_repr(),
-            MixedEnumSet::<Marks>::from_repr_truncated(9).as_repr(),
-            MixedEnumSet::<Marks>::all().as_repr(),
-        ] == [9, 246, 6, 1, 7]
-    );
-    let mut iter = set.iter();
-    assert!(rt;
-        [iter.next(), iter.next(), iter.next()]
-            == [
-                Some(MixedValue::Valid(Marks::A)),
-                Some(MixedValue::Invalid(3)),
-                None
-            ]
-    );
-    assert!(rt; elements_of(&MixedEnumSet::only(Marks::C)) == EnumSet::only(Marks::C));
-    assert!(rt; elements_of(&set) == EnumSet::only(Marks::A));
-    assert!(rt;
-        [
-            MixedEnumSet::<Marks>::variant_count(),
-            MixedEnumSet::bit_index(Marks::C)
-        ] == [3, 2]
-    );
-    let mut cleared = set.clone().unwrap();
-    cleared.clear();
-    assert!(rt; cleared.is_empty() && !set.is_empty());
-}
-
-// Numbers on a line, and two answers.
-fn write_numbers(
-    text: &mut String,
-    numbers: &[u128],
-    is_same: bool,
-    has_same_elements: bool,
-) -> Result<(), AllocError> {
-    for number in numbers {
-        write!(text, "{number} ")?;
-    }
-    writeln!(text, "{is_same} {has_same_elements}")
-}
-
-// How many variants a type has and the number of all of them; and for each number a line of what its set is as a number
-// again, cut to the valid bits, as its two complements and once it is cleared, whether a clone is the same, and whether
-// its elements are.
-pub fn write_values<T: EnumSetTypeWithRepr>(
-    text: &mut String,
-    numbers: &[u128],
-) -> Result<(), AllocError> {
-    let all = MixedEnumSet::<T>::all().as_repr().to_u128();
-    writeln!(text, "{} {all}", MixedEnumSet::<T>::variant_count())?;
-    for number in numbers {
-        let value = T::Repr::from_u128(*number);
-        let set = MixedEnumSet::<T>::from_repr(value);
-        let valid = MixedEnumSet::<T>::from_repr_truncated(value);
-        let mut cleared = set.copied();
-        cleared.clear();
-        let written = [
-            set.as_repr().to_u128(),
-            valid.as_repr().to_u128(),
-            set.complement().as_repr().to_u128(),
-            set.full_complement().as_repr().to_u128(),
-            cleared.as_repr().to_u128(),
-        ];
-        let is_same = set.clone().unwrap() == set;
-        write_numbers(
-            text,
-            &written,
-            is_same,
-            elements_of(&set) == elements_of(&valid),
-        )?;
-    }
+    same_lines(&rt, &text, MARKS);
     Ok(())
 }
 
-// Whether a set of elements is read of its store's value, by the call that asks as by the one that does not test.
-fn repr_is_taken_back<T: EnumSetTypeWithRepr>(a: T, b: T) -> bool {
-    let set = EnumSet::only(a).union(EnumSet::only(b));
-    EnumSet::<T>::from_repr(set.as_repr()) == set
-        && EnumSet::<T>::from_repr_unchecked(set.as_repr()) == set
-}
+const MARKS: &str = "\
+MixedEnumSet(): len=0 valid=0 empty=true unknown=false values=[0, 0, 7, 255, 0] \
+elements=EnumSet() asked EnumSet() cut EnumSet()
+MixedEnumSet(A): len=1 valid=1 empty=false unknown=false values=[1, 1, 6, 254, 0] \
+elements=EnumSet(A) asked EnumSet(A) cut EnumSet(A)
+MixedEnumSet([3]): len=1 valid=0 empty=false unknown=true values=[8, 0, 7, 247, 0] \
+elements=none cut EnumSet()
+MixedEnumSet(A | [3]): len=2 valid=1 empty=false unknown=true values=[9, 1, 6, 246, 0] \
+elements=none cut EnumSet(A)
+MixedEnumSet(A | B | C | [3] | [4] | [5] | [6] | [7]): len=8 valid=3 empty=false unknown=true \
+values=[255, 7, 0, 0, 0] elements=none cut EnumSet(A | B | C)
+";
 
-// The lines of a type's mixed sets: of two elements, an unknown bit below the store's width, and the numbers of sets.
-pub fn write_mixed_sets<T: EnumSetTypeWithRepr + fmt::Debug>(
+// How sets begin, and what they say of the type.
+fn write_makers<T: EnumSetTypeWithRepr + fmt::Debug>(
     text: &mut String,
-    one: T,
-    other: T,
-    unknown: u32,
-    numbers: &[u128],
-) -> Result<(), AllocError>
-    requires { unknown < T.Repr.WIDTH }
-{
-    write_all_answers(text, other, unknown)?;
-    write_operations(text, one, other, unknown)?;
-    let width = T::Repr::WIDTH;
+    a: T,
+) -> Result<(), AllocError> {
+    let (new, empty) = (MixedEnumSet::<T>::new(), MixedEnumSet::<T>::empty());
+    let (default, all) = (MixedEnumSet::<T>::default(), MixedEnumSet::<T>::all());
     writeln!(
         text,
-        "{width} {} {} {} {} {}",
-        MixedEnumSet::bit_index(other),
-        changes(other, unknown) == CHANGES,
-        relations(other, unknown) == RELATIONS,
-        past_the_width(other, width) == PAST_THE_WIDTH,
-        repr_is_taken_back(one, other)
+        "new={new:?} empty={empty:?} default={default:?} all={all:?}"
     )?;
-    write_values::<T>(text, numbers)
+    let (only, converted) = (MixedEnumSet::only(a), convert_mixed(EnumSet::only(a)));
+    let (bit, count) = (
+        MixedEnumSet::bit_index(a),
+        MixedEnumSet::<T>::variant_count(),
+    );
+    writeln!(
+        text,
+        "only={only:?} convert_mixed={converted:?} bit_index={bit} variant_count={count}"
+    )
 }
+
+// The operations on two sets.
+fn write_operations<T: EnumSetTypeWithRepr + fmt::Debug>(
+    text: &mut String,
+    one: &MixedEnumSet<T>,
+    other: &MixedEnumSet<T>,
+) -> Result<(), AllocError> {
+    let union = one.union(other.copied());
+    let intersection = one.intersection(other.copied());
+    let mut added = one.copied();
+    added.insert_all(other.copied());
+    writeln!(
+        text,
+        "union={union:?} {added:?} intersection={intersection:?}"
+    )
+}
+
+// The others.
+fn write_differences<T: EnumSetTypeWithRepr + fmt::Debug>(
+    text: &mut String,
+    one: &MixedEnumSet<T>,
+    other: &MixedEnumSet<T>,
+) -> Result<(), AllocError> {
+    let difference = one.difference(other.copied());
+    let symmetric = one.symmetric_difference(other.copied());
+    let older = one.symmetrical_difference(other.copied());
+    let mut removed = one.copied();
+    removed.remove_all(other.copied());
+    writeln!(
+        text,
+        "difference={difference:?} {removed:?} symmetric_difference={symmetric:?} {older:?}"
+    )
+}
+
+// Whether one set is disjoint from another, above it, below it and greater than it.
+fn write_relations<T: EnumSetTypeWithRepr>(
+    text: &mut String,
+    one: &MixedEnumSet<T>,
+    other: &MixedEnumSet<T>,
+) -> Result<(), AllocError> {
+    let is_disjoint = one.is_disjoint(other.copied());
+    let is_superset = one.is_superset(other.copied());
+    let is_subset = one.is_subset(other.copied());
+    let is_greater = one.cmp(other).is_gt();
+    writeln!(
+        text,
+        "disjoint={is_disjoint} superset={is_superset} subset={is_subset} greater={is_greater}"
+    )
+}
+
+#[test]
+fn pairs_of_sets(rt: HostRuntime) -> Result<(), Fail> {
+    let mut text = String::new(rt.alloc());
+    write_makers(&mut text, Marks::C)?;
+    let (one, other) = (of_number::<Marks>(9), of_number(12));
+    write_operations(&mut text, &one, &other)?;
+    write_differences(&mut text, &one, &other)?;
+    for (one, other) in [(1, 9), (9, 1), (1, 8), (8, 7)] {
+        write_relations::<Marks>(&mut text, &of_number(one), &of_number(other))?;
+    }
+    same_lines(&rt, &text, PAIRS);
+    Ok(())
+}
+
+const PAIRS: &str = "\
+new=MixedEnumSet() empty=MixedEnumSet() default=MixedEnumSet() all=MixedEnumSet(A | B | C)
+only=MixedEnumSet(C) convert_mixed=MixedEnumSet(C) bit_index=2 variant_count=3
+union=MixedEnumSet(A | C | [3]) MixedEnumSet(A | C | [3]) intersection=MixedEnumSet([3])
+difference=MixedEnumSet(A) MixedEnumSet(A) symmetric_difference=MixedEnumSet(A | C) MixedEnumSet(A | C)
+disjoint=false superset=false subset=true greater=false
+disjoint=false superset=true subset=false greater=true
+disjoint=true superset=false subset=false greater=false
+disjoint=true superset=false subset=false greater=true
+";
+
+// What the changes by an element answer, twice each, and whether the set is that element alone in between.
+fn write_changes<T: EnumSetTypeWithRepr>(
+    text: &mut String,
+    set: &mut MixedEnumSet<T>,
+    valid: T,
+) -> Result<(), AllocError> {
+    let inserted = [set.insert(valid), set.insert(valid)];
+    let is_there = [
+        set.contains(valid),
+        set.eq_element(valid),
+        set.eq_enumset(EnumSet::only(valid)),
+    ];
+    let removed = [set.remove(valid), set.remove(valid)];
+    writeln!(
+        text,
+        "insert={inserted:?} contains={is_there:?} remove={removed:?}"
+    )
+}
+
+// What the changes by a bit below the width answer.
+pub fn write_bit_changes<T: EnumSetTypeWithRepr>(
+    text: &mut String,
+    set: &mut MixedEnumSet<T>,
+    bit: u32,
+) -> Result<(), AllocError>
+    requires { bit < T.Repr.WIDTH }
+{
+    let inserted = [set.insert_bit(bit), set.insert_bit(bit)];
+    let is_there = [set.has_bit(bit), MixedEnumSet::<T>::is_bit_valid(bit)];
+    let removed = [set.remove_bit(bit), set.remove_bit(bit)];
+    writeln!(
+        text,
+        "insert_bit={inserted:?} has_bit={is_there:?} remove_bit={removed:?}"
+    )
+}
+
+// What is answered of a bit that may be past the width, and the set afterwards.
+fn write_bit<T: EnumSetTypeWithRepr>(
+    text: &mut String,
+    mut set: MixedEnumSet<T>,
+    bit: u32,
+) -> Result<(), AllocError> {
+    let answers = [
+        MixedEnumSet::<T>::is_bit_valid(bit),
+        set.has_bit(bit),
+        set.remove_bit(bit),
+    ];
+    writeln!(text, "{bit}: {answers:?} {}", number_of(set))
+}
+
+#[test]
+fn members_come_and_go(rt: HostRuntime) -> Result<(), Fail> {
+    let mut text = String::new(rt.alloc());
+    let mut set = MixedEnumSet::<Marks>::new();
+    write_changes(&mut text, &mut set, Marks::C)?;
+    write_bit_changes(&mut text, &mut set, 3)?;
+    for (number, bit) in [
+        (129, 0),
+        (129, 1),
+        (129, 7),
+        (1, 8),
+        (1, 9),
+        (1, 256),
+        (1, 4294967295),
+    ] {
+        write_bit::<Marks>(&mut text, of_number(number), bit)?;
+    }
+    same_lines(&rt, &text, MEMBERS);
+    Ok(())
+}
+
+const MEMBERS: &str = "\
+insert=[true, false] contains=[true, true, true] remove=[true, false]
+insert_bit=[true, false] has_bit=[true, false] remove_bit=[true, false]
+0: [true, true, true] 128
+1: [true, false, false] 129
+7: [false, true, true] 1
+8: [false, false, false] 1
+9: [false, false, false] 1
+256: [false, false, false] 1
+4294967295: [false, false, false] 1
+";
+
+// The items of a set from both ends in turn, with what is left before each, and after the last.
+fn write_items<T: EnumSetTypeWithRepr + fmt::Debug + fmt::Display>(
+    text: &mut String,
+    set: MixedEnumSet<T>,
+) -> Result<(), AllocError> {
+    let mut iter = set.iter();
+    write!(text, "<{set}> {iter:?}:")?;
+    for _ in 0..3 {
+        let same = iter.clone().unwrap();
+        let (left, hint) = (same.len(), iter.size_hint());
+        let (front, back) = (iter.next(), iter.next_back());
+        write!(text, " {left} {hint:?} {front:?} {back:?}")?;
+    }
+    writeln!(text)
+}
+
+#[test]
+fn unknown_bits_come_in_their_place(rt: HostRuntime) -> Result<(), Fail> {
+    let mut text = String::new(rt.alloc());
+    write_items::<Marks>(&mut text, of_number(169))?;
+    write_items::<Marks>(&mut text, of_number(9))?;
+    write_items::<Sparse>(&mut text, MixedEnumSet::from_repr(3 << 126 | 3 << 9))?;
+    write_items::<High>(&mut text, of_number(129))?;
+    let items = [MixedValue::Valid(Letters::G), MixedValue::Invalid(7)];
+    for item in items {
+        writeln!(text, "{item} {item:?}")?;
+    }
+    same_lines(&rt, &text, ITEMS);
+    assert!(rt; MixedValue::Valid(High::A) < MixedValue::Invalid(0));
+    Ok(())
+}
+
+const ITEMS: &str = "\
+<A | [3] | [5] | [7]> MixedEnumSetIter { iter: PrimitiveIter(169) }: \
+4 (4, Some(4)) Some(A) Some([7]) 2 (2, Some(2)) Some([3]) Some([5]) 0 (0, Some(0)) None None
+<A | [3]> MixedEnumSetIter { iter: PrimitiveIter(9) }: \
+2 (2, Some(2)) Some(A) Some([3]) 0 (0, Some(0)) None None 0 (0, Some(0)) None None
+<[9] | A | [126] | D> MixedEnumSetIter { iter: PrimitiveIter(255211775190703847597530955573826160128) }: \
+4 (4, Some(4)) Some([9]) Some(D) 2 (2, Some(2)) Some(A) Some([126]) 0 (0, Some(0)) None None
+<[0] | A> MixedEnumSetIter { iter: PrimitiveIter(129) }: \
+2 (2, Some(2)) Some([0]) Some(A) 0 (0, Some(0)) None None 0 (0, Some(0)) None None
+G G
+[7] [7]
+";

@@ -1,24 +1,26 @@
 //! Sets and mixed sets of an enum without variants.
 
-ghost use Rattle.std.specs.Prelude.{◌<◌};
+ghost use Rattle.std.specs.Prelude.{◌<◌, ◌≤◌};
 
-use super::conversions::{arrays_of_all, reads_all, write_numbers};
-use super::mixed::{of_number, write_answers, write_values};
-use super::order::bytes_fed;
-use super::sets::{starts_empty, write_texts};
-use enumset_mixed::mixed_enum_set::MixedEnumSet;
-use enumset_repr::EnumSetTypeRepr;
+use crate::compare::same_lines;
+use crate::conversions::{write_numbers, write_read_array, write_read_slice};
+use crate::each_type::expect_both;
+use crate::json::{comes_back, expect_mixed_numbers, expect_numbers, expect_words, write_set};
+use crate::mixed::{of_number, write_answers, write_bit_changes};
+use crate::order::bytes_fed;
+use enumset::set_json::JsonWidth;
 use enumset_sets::element::EnumSetType;
 use enumset_sets::enum_set::EnumSet;
 use enumset_sets::variant_of;
 use enumset_sets::with_repr::EnumSetTypeWithRepr;
-use std::alloc::AllocError;
+use std::alloc::{AllocError, Global};
 use std::fmt;
 use std::hash::Hash;
+use std::process::Abort;
 use std::test::Fail;
 
-// Whether the calls of a set answer what they do where no bit is valid.
-fn has_no_bit<T: EnumSetType>() -> bool {
+// How many members the operations give, and what the tests and both ends of an iterator answer.
+fn write_operations<T: EnumSetType>(text: &mut String) -> Result<(), AllocError> {
     let (new, all) = (EnumSet::<T>::new, EnumSet::<T>::all);
     let lens = [
         all().len(),
@@ -28,88 +30,54 @@ fn has_no_bit<T: EnumSetType>() -> bool {
         all().difference(new()).len(),
         all().symmetric_difference(new()).len(),
     ];
-    let numbers = [EnumSet::<T>::bit_width(), EnumSet::<T>::variant_count()];
-    lens == [0; 6]
-        && numbers == [0, 0]
-        && all().is_empty()
-        && all() == new()
-        && !EnumSet::<T>::is_bit_valid(0)
-        && all().is_disjoint(new())
-        && all().is_subset(new())
-        && all().cmp(&new()).is_eq()
-        && new().iter().next().is_none()
-        && new().iter().next_back().is_none()
-}
-
-// Whether a value was read as a set, and that set has no element.
-fn is_read_as_none<T: EnumSetType>(read: Option<EnumSet<T>>) -> bool {
-    match read {
-        Some(set) => set.is_empty(),
-        None => false,
-    }
-}
-
-// Whether the calls that read a store's value or words take those without bits alone.
-fn reads_no_bit<T: EnumSetTypeWithRepr>() -> bool {
-    let (none, one, all) = (
-        T::Repr::from_u8(0),
-        T::Repr::from_u8(1),
-        T::Repr::from_u8(255),
-    );
-    is_read_as_none(EnumSet::<T>::try_from_repr(none))
-        && EnumSet::<T>::try_from_repr(one).is_none()
-        && EnumSet::<T>::from_repr_truncated(all).is_empty()
-        && is_read_as_none(EnumSet::<T>::try_from_slice(&[0, 0]))
-        && EnumSet::<T>::try_from_slice(&[0, 1]).is_none()
-}
-
-// A line of the texts of sets and mixed sets.
-fn write_both_texts<T: EnumSetTypeWithRepr + fmt::Debug + fmt::Display>(
-    text: &mut String,
-) -> Result<(), AllocError>
-    requires { 7 < T.Repr.WIDTH }
-{
-    let all = EnumSet::<T>::all();
-    let mut mixed = MixedEnumSet::<T>::from_repr(T::Repr::from_u8(129));
-    write!(text, "<{all}> <{all:?}> <{mixed}> <{mixed:?}>")?;
-    let (inserted, kept) = (mixed.insert_bit(1), mixed.insert_bit(7));
-    let removed = mixed.remove_bit(0);
+    let relations = [
+        all().is_disjoint(new()),
+        all().is_subset(new()),
+        all() == new(),
+        all().is_empty(),
+    ];
+    let ends = [
+        new().iter().next().is_none(),
+        new().iter().next_back().is_none(),
+    ];
+    let is_valid = EnumSet::<T>::is_bit_valid(0);
     writeln!(
         text,
-        " {inserted} {kept} {removed} {mixed} {}",
-        mixed.eq_enumset(all)
+        "lens={lens:?} relations={relations:?} ends={ends:?} valid={is_valid}"
     )
 }
 
 // What the calls of sets and mixed sets answer, a line each.
-fn write_calls<T: EnumSetTypeWithRepr + fmt::Debug + fmt::Display>(
-    text: &mut String,
-) -> Result<(), AllocError>
+fn write_calls<T: EnumSetTypeWithRepr + fmt::Debug>(text: &mut String) -> Result<(), AllocError>
     requires { 7 < T.Repr.WIDTH }
 {
-    writeln!(
-        text,
-        "{} {} {} {} {}",
-        has_no_bit::<T>(),
-        starts_empty::<T>(),
-        reads_no_bit::<T>(),
-        bytes_fed(&EnumSet::<T>::all()) == bytes_fed(&0u8),
-        of_number::<T>(4) > of_number(3)
-    )?;
-    let (arrays, none, one) = (
-        arrays_of_all::<T>(),
-        reads_all::<T>([0; 4]),
-        reads_all::<T>([0, 0, 0, 1]),
-    );
-    writeln!(text, "{arrays:?} {none:?} {one:?}")?;
-    let other = (1, 65535, 128, 1, 1 << 127, 255);
-    write_numbers(text, &EnumSet::<T>::new(), (0, 0, 0, 0, 0, 0), other)?;
-    write_texts::<T>(text)?;
-    write_both_texts::<T>(text)?;
-    for byte in [0, 128, 255] {
-        write_answers(text, &of_number::<T>(byte))?;
+    write_operations::<T>(text)?;
+    write_numbers(text, &EnumSet::<T>::new(), u128::MAX)?;
+    write_read_array::<T>(text, [0; 4])?;
+    write_read_array::<T>(text, [0, 0, 0, 1])?;
+    write_read_slice::<T>(text, &[0, 0])?;
+    write_read_slice::<T>(text, &[0, 1])?;
+    for number in [0, 128, 255] {
+        write_answers(text, &of_number::<T>(number))?;
     }
-    write_values::<T>(text, &[0, 1, 128, 255])
+    write_bit_changes(text, &mut of_number::<T>(1), 7)?;
+    writeln!(text, "fed {}", bytes_fed(&EnumSet::<T>::all()))
+}
+
+// Tests what is written as JSON, and read of it.
+fn expect_json<T: EnumSetTypeWithRepr + fmt::Debug>(
+    rt: &impl Abort,
+    alloc: Global,
+    text: &mut String,
+) -> Result<(), Fail>
+    requires { T.Repr.WIDTH ≤ 64 }
+{
+    write_set(alloc, text, &EnumSet::<T>::all())?;
+    comes_back(rt, alloc, &EnumSet::<T>::all())?;
+    expect_numbers::<T>(rt, alloc, JsonWidth::U8, IN_8_BITS)?;
+    expect_numbers::<T>(rt, alloc, JsonWidth::U64, IN_64_BITS)?;
+    expect_words::<T>(rt, alloc, WORDS)?;
+    expect_mixed_numbers::<T>(rt, alloc, MIXED)
 }
 
 #[test]
@@ -169,29 +137,75 @@ fn no_variant_is_enough(rt: HostRuntime) -> Result<(), Fail> {
         }
     }
 
-    let mut text = String::new(rt.alloc());
+    let alloc = rt.alloc();
+    let mut text = String::new(alloc);
+    expect_both::<Nothing>(
+        &rt,
+        alloc,
+        "",
+        ALL,
+        129,
+        "[0] | [7], elements EnumSet(), complement , 6 others",
+    )?;
     write_calls::<Nothing>(&mut text)?;
-    assert!(rt; text.as_str() == TEXT);
+    expect_json::<Nothing>(&rt, alloc, &mut text)?;
+    same_lines(&rt, &text, TEXT);
     Ok(())
 }
 
+const ALL: &str = "width 0, variants 0, bits, back, EnumSet(), number Some(0), JSON [0] 0";
+
 const TEXT: &str = "\
-true true true true true
-(Some([0, 0]), [0, 0], Some([0, 0, 0, 0])) (Some(true), true) (None, true)
-Some(0) 0 Some(EnumSet()) None EnumSet() true true
-Some(0) 0 Some(EnumSet()) None EnumSet() true true
-Some(0) 0 Some(EnumSet()) None EnumSet() true true
-Some(0) 0 Some(EnumSet()) None EnumSet() true true
-Some(0) 0 Some(EnumSet()) None EnumSet() true true
-Some(0) 0 Some(EnumSet()) None EnumSet() true true
- EnumSet()
-<> <EnumSet()> <[0] | [7]> <MixedEnumSet([0] | [7])> true false true [1] | [7] false
-0 0 8 true false MixedEnumSet() EnumSet() Some(EnumSet())
-1 0 7 false true MixedEnumSet() EnumSet() None
-8 0 0 false true MixedEnumSet() EnumSet() None
-0 0
-0 0 0 255 0 true true
-1 0 0 254 0 true true
-128 0 0 127 0 true true
-255 0 0 0 0 true true
+lens=[0, 0, 0, 0, 0, 0] relations=[true, true, true, true] ends=[true, true] valid=false
+u8: asked true true, number Some(0), cut 0 is Some(EnumSet()); 255 is None, cut EnumSet()
+u16: asked true true, number Some(0), cut 0 is Some(EnumSet()); 65535 is None, cut EnumSet()
+u32: asked true true, number Some(0), cut 0 is Some(EnumSet()); 4294967295 is None, cut EnumSet()
+u64: asked true true, number Some(0), cut 0 is Some(EnumSet()); 18446744073709551615 is None, cut EnumSet()
+u128: asked true true, number Some(0), cut 0 is Some(EnumSet()); 340282366920938463463374607431768211455 is None, cut EnumSet()
+usize: asked true true, number Some(0), cut 0 is Some(EnumSet()); 18446744073709551615 is None, cut EnumSet()
+[0, 0, 0, 0] is Some(EnumSet()), cut EnumSet()
+from_array=EnumSet() from_array_unchecked=EnumSet()
+again [0, 0, 0, 0] [0, 0, 0, 0]
+[0, 0, 0, 1] is None, cut EnumSet()
+again [0, 0, 0, 0] [0, 0, 0, 0]
+[0, 0] is Some(EnumSet()), cut EnumSet()
+from_slice=EnumSet() from_slice_unchecked=EnumSet()
+again [0, 0, 0] [0, 0, 0]
+[0, 1] is None, cut EnumSet()
+again [0, 0, 0] [0, 0, 0]
+MixedEnumSet(): len=0 valid=0 empty=true unknown=false values=[0, 0, 0, 255, 0] \
+elements=EnumSet() asked EnumSet() cut EnumSet()
+MixedEnumSet([7]): len=1 valid=0 empty=false unknown=true values=[128, 0, 0, 127, 0] \
+elements=none cut EnumSet()
+MixedEnumSet([0] | [1] | [2] | [3] | [4] | [5] | [6] | [7]): len=8 valid=0 empty=false unknown=true \
+values=[255, 0, 0, 0, 0] elements=none cut EnumSet()
+insert_bit=[true, false] has_bit=[true, false] remove_bit=[true, false]
+fed 0
+EnumSet() 0 0 0 0 [0]
+";
+
+const IN_8_BITS: &str = "\
+0 -> Ok(EnumSet()) Ok(EnumSet())
+255 -> Ok(EnumSet()) Err(UnknownBits)
+256 -> Err(OutOfRange) Err(OutOfRange)
+";
+
+const IN_64_BITS: &str = "\
+0 -> Ok(EnumSet()) Ok(EnumSet())
+1 -> Ok(EnumSet()) Err(UnknownBits)
+-0 -> Err(NotWhole) Err(NotWhole)
+";
+
+const WORDS: &str = "\
+[] -> Ok(EnumSet()) Ok(EnumSet())
+[0,0] -> Ok(EnumSet()) Ok(EnumSet())
+[1] -> Ok(EnumSet()) Err(UnknownBits)
+[0,1] -> Ok(EnumSet()) Err(UnknownBits)
+[0,-1] -> Err(NotAWord(1)) Err(NotAWord(1))
+";
+
+const MIXED: &str = "\
+0 -> MixedEnumSet() 0
+128 -> MixedEnumSet([7]) 128
+256 -> OutOfRange
 ";

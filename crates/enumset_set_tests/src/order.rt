@@ -1,8 +1,10 @@
-// The order of sets, and what they feed a hasher, at worked types over an integer and over words.
+//! The order of sets, and what they feed a hasher, over an integer and over words.
 
 use enumset_mixed::mixed_enum_set::MixedEnumSet;
 use enumset_repr::EnumSetTypeRepr;
+use enumset_sets::element::EnumSetType;
 use enumset_sets::enum_set::EnumSet;
+use enumset_sets::raw;
 use enumset_sets::with_repr::EnumSetTypeWithRepr;
 use enumset_worked::high::High;
 use enumset_worked::letters::Letters;
@@ -11,75 +13,50 @@ use enumset_worked::pair_number::PairNumber;
 use enumset_worked::pair_words::PairWords;
 use enumset_worked::wide::Wide;
 use std::alloc::{AllocError, Global};
+use std::fmt;
 use std::hash::{Hash, Hasher};
 use std::test::Fail;
 
-fn wide(elements: &[Wide]) -> EnumSet<Wide> {
-    let mut set = EnumSet::new();
-    for element in elements {
-        set.insert(*element);
-    }
-    set
-}
-
-#[test]
-fn the_greatest_difference_decides(rt: HostRuntime) {
-    let (p, q, r) = (Wide::P, Wide::Q, Wide::R);
-    let answers = [
-        wide(&[r]).cmp(&wide(&[p, q])).is_gt(),
-        wide(&[p, r]).cmp(&wide(&[q, r])).is_lt(),
-        wide(&[p]).cmp(&wide(&[p, r])).is_lt(),
-        wide(&[p, q]).cmp(&EnumSet::all()).is_lt(),
-        wide(&[p, q]).cmp(&wide(&[q, p])).is_eq(),
-        wide(&[r]) > wide(&[p, q]),
-        EnumSet::only(Letters::C) > EnumSet::only(Letters::C).complement(),
-        MixedEnumSet::<Marks>::from_repr(8) > MixedEnumSet::from_repr(7),
-    ];
-    assert!(rt; answers == [true, true, true, true, true, true, false, true]);
-}
-
-// The first variant of `high` is the least element, and has the greatest bit.
-#[test]
-fn sets_compare_by_bits(rt: HostRuntime) {
-    let first = EnumSet::only(High::A);
-    let rest = EnumSet::only(High::B).union(EnumSet::only(High::C));
-    let answers = [
-        High::A < High::B,
-        first > rest,
-        first.complement() == rest,
-        rest.cmp(&EnumSet::only(High::B)).is_gt(),
-        EnumSet::all() > first,
-        MixedEnumSet::<High>::from_repr(31) < MixedEnumSet::only(High::C),
-    ];
-    assert!(rt; answers == [true; 6]);
-}
-
-#[test]
-fn sets_over_words_are_sorted(rt: HostRuntime) -> Result<(), Fail> {
-    let (p, q, r) = (Wide::P, Wide::Q, Wide::R);
-    let mut sets = Vec::new(rt.alloc());
-    for elements in [
-        [p, q, r].as_slice(),
-        [r].as_slice(),
-        [p].as_slice(),
-        [q, r].as_slice(),
-        [].as_slice(),
-        [p, q].as_slice(),
-        [p, r].as_slice(),
-        [q].as_slice(),
-    ] {
-        sets.push(wide(elements))?;
+// The texts of all sets of three elements, sorted.
+fn sorted_texts<T: EnumSetType + fmt::Display>(
+    alloc: Global,
+    p: T,
+    q: T,
+    r: T,
+) -> Result<String, AllocError> {
+    let mut sets = Vec::new(alloc);
+    for number in [7, 4, 1, 6, 0, 3, 5, 2] {
+        let mut set = EnumSet::new();
+        for (bit, element) in [(1, p), (2, q), (4, r)] {
+            if number & bit != 0 {
+                set.insert(element);
+            }
+        }
+        sets.push(set)?;
     }
     sets.sort()?;
-    let mut text = String::new(rt.alloc());
+    let mut text = String::new(alloc);
     for set in &sets {
         write!(text, "{{{set}}} ")?;
     }
-    assert!(rt; text.as_str() == "{} {P} {Q} {P | Q} {R} {P | R} {Q | R} {P | Q | R} ");
+    Ok(text)
+}
+
+// The greatest difference decides, over words as over an integer. The first variant of `high` has the greatest bit.
+#[test]
+fn sets_are_sorted(rt: HostRuntime) -> Result<(), Fail> {
+    assert_eq!(rt;
+        sorted_texts(rt.alloc(), Wide::P, Wide::Q, Wide::R)?.as_str(),
+        "{} {P} {Q} {P | Q} {R} {P | R} {Q | R} {P | Q | R} "
+    );
+    assert_eq!(rt;
+        sorted_texts(rt.alloc(), High::A, High::B, High::C)?.as_str(),
+        "{} {C} {B} {C | B} {A} {C | A} {B | A} {C | B | A} "
+    );
     Ok(())
 }
 
-/// 100 numbers, in no order.
+// 100 numbers, in no order.
 fn numbers(alloc: Global) -> Result<Vec<u128>, AllocError> {
     let mut numbers = Vec::new(alloc);
     let mut last: u128 = 1;
@@ -92,7 +69,7 @@ fn numbers(alloc: Global) -> Result<Vec<u128>, AllocError> {
     Ok(numbers)
 }
 
-/// The mixed sets of numbers over a type, sorted, as numbers again.
+// The mixed sets of numbers over a type, sorted, as numbers again.
 fn sorted_over<T: EnumSetTypeWithRepr>(
     alloc: Global,
     numbers: &[u128],
@@ -115,7 +92,8 @@ fn sets_over_words_and_over_an_integer_sort_alike(rt: HostRuntime) -> Result<(),
     let over_words = sorted_over::<PairWords>(rt.alloc(), &numbers)?;
     let over_an_integer = sorted_over::<PairNumber>(rt.alloc(), &numbers)?;
     numbers.sort()?;
-    assert!(rt; over_words == numbers && over_an_integer == numbers);
+    assert_eq!(rt; over_words.as_slice(), numbers.as_slice());
+    assert_eq!(rt; over_an_integer.as_slice(), numbers.as_slice());
     Ok(())
 }
 
@@ -147,23 +125,25 @@ pub fn bytes_fed<V: Hash>(value: &V) -> u64 {
     sum.finish()
 }
 
+// What the sets of two elements feed, and what their store values do.
+fn fed<T: EnumSetType>(a: T, b: T) -> ([u64; 2], [u64; 2]) {
+    let (a, b) = (EnumSet::only(a), EnumSet::only(b));
+    (
+        [bytes_fed(&a), bytes_fed(&b)],
+        [bytes_fed(&raw::get(a)), bytes_fed(&raw::get(b))],
+    )
+}
+
 #[test]
 fn a_set_feeds_a_hasher_its_store_value(rt: HostRuntime) {
-    let (a, b) = (EnumSet::only(Letters::A), EnumSet::only(Letters::B));
-    let (p, r) = (wide(&[Wide::P]), wide(&[Wide::R]));
-    let one = MixedEnumSet::<Marks>::from_repr(1);
-    let nine = MixedEnumSet::<Marks>::from_repr(9);
-    let high = EnumSet::only(High::A);
-    let fed = [
-        (bytes_fed(&a), bytes_fed(&1u8)),
-        (bytes_fed(&b), bytes_fed(&2u8)),
-        (bytes_fed(&p), bytes_fed(&enumset_sets::raw::get(p))),
-        (bytes_fed(&r), bytes_fed(&enumset_sets::raw::get(r))),
-        (bytes_fed(&one), bytes_fed(&1u8)),
-        (bytes_fed(&nine), bytes_fed(&9u8)),
-        (bytes_fed(&high), bytes_fed(&128u8)),
-    ];
-    assert!(rt; fed.iter().all(|(set, store)| set == store));
-    let apart = fed[0].0 != fed[1].0 && fed[2].0 != fed[3].0 && fed[4].0 != fed[5].0;
-    assert!(rt; apart);
+    let (letters, values) = fed(Letters::A, Letters::B);
+    assert_eq!(rt; letters, [1, 2]);
+    assert_eq!(rt; letters, values);
+    let (wide, values) = fed(Wide::P, Wide::R);
+    assert_eq!(rt; wide, values);
+    assert_ne!(rt; wide[0], wide[1]);
+    for number in [1, 9] {
+        let set = MixedEnumSet::<Marks>::from_repr(number);
+        assert_eq!(rt; bytes_fed(&set), u64::from(number));
+    }
 }

@@ -1,118 +1,143 @@
-//! The calls of a set and of its iterator that no command makes, over any element type.
+//! The calls of a set and of its iterator that no command makes, over any element type, and at `letters`.
 
+use crate::compare::same_lines;
 use enumset_sets::element::EnumSetType;
 use enumset_sets::enum_set::EnumSet;
+use enumset_sets::with_repr::EnumSetTypeWithRepr;
 use enumset_sets::{laws, raw};
+use enumset_worked::letters::Letters;
+use enumset_worked::masks::Masks;
+use enumset_worked::sparse::Sparse;
 use std::alloc::AllocError;
 use std::fmt;
+use std::test::Fail;
 
 pub fn two_of<T: EnumSetType>(a: T, b: T) -> EnumSet<T> {
     EnumSet::only(a).union(EnumSet::only(b))
 }
 
-pub fn starts_empty<T: EnumSetType>() -> bool {
-    EnumSet::<T>::empty().is_empty() && EnumSet::<T>::default().is_empty()
+// How sets begin, and the older name of `symmetric_difference`.
+fn write_makers<T: EnumSetType + fmt::Debug>(
+    text: &mut String,
+    a: T,
+    b: T,
+) -> Result<(), AllocError> {
+    let (empty, default) = (EnumSet::<T>::empty(), EnumSet::<T>::default());
+    let older = two_of(a, b).symmetrical_difference(EnumSet::only(a));
+    writeln!(
+        text,
+        "empty={empty:?} default={default:?} symmetrical_difference={older:?}"
+    )
 }
 
-fn tells_a_set_of_one<T: EnumSetType>(a: T, b: T) -> bool {
-    EnumSet::only(a).eq_element(a)
-        && !two_of(a, b).eq_element(a)
-        && two_of(a, b).intersection(EnumSet::only(a)).eq_element(a)
+// Whether each of some sets is that of one element alone.
+fn write_sets_of_one<T: EnumSetType>(text: &mut String, a: T, b: T) -> Result<(), AllocError> {
+    let answers = [
+        EnumSet::only(a).eq_element(a),
+        EnumSet::only(b).eq_element(a),
+        two_of(a, b).eq_element(a),
+    ];
+    writeln!(text, "eq_element={answers:?}")
 }
 
-fn has_the_older_name<T: EnumSetType>(a: T, b: T) -> bool {
-    two_of(a, b).symmetrical_difference(EnumSet::only(a)) == EnumSet::only(b)
-}
-
-// A clone and a copy of a set are equal to it, and a clone of an iterator has the same items left.
-fn clones<T: EnumSetType>(a: T, b: T) -> bool {
+// A clone and a copy of a set, and what is left of an iterator, and then of its clone.
+fn write_clones<T: EnumSetType + fmt::Debug>(
+    text: &mut String,
+    a: T,
+    b: T,
+) -> Result<(), AllocError> {
     let set = two_of(a, b).clone().unwrap();
     let copy = set.copied();
     let mut iter = set.iter();
     iter.next();
     let mut same = iter.clone().unwrap();
-    set == two_of(a, b)
-        && copy == set
-        && same.next_back() == Some(b)
-        && iter.size_hint() == (1, Some(1))
+    let (hint, last) = (iter.size_hint(), same.next_back());
+    writeln!(
+        text,
+        "clone={set:?} copied={copy:?} size_hint={hint:?} next_back={last:?}"
+    )
 }
 
-// Whether a set's value of its store is read as the set.
-fn is_taken_back<T: EnumSetType>(a: T, b: T) -> bool {
-    let set = two_of(a, b);
-    laws::number_and_back(&set);
-    raw::new(raw::get(set)) == two_of(a, b)
-}
-
-// Whether a set's words in an array, by the call that asks, are read as the set by those that ask.
-fn is_read_from_an_array<T: EnumSetType>(set: &EnumSet<T>) -> bool {
-    let Some(array) = set.try_as_array::<4>() else {
-        return false;
-    };
-    let Some(read) = EnumSet::<T>::try_from_array(array) else {
-        return false;
-    };
-    set.as_array::<4>() == array
-        && read == *set
-        && EnumSet::<T>::from_array(array) == read
-        && EnumSet::<T>::from_array_unchecked(array) == read
-}
-
-// Whether a set's words, written to a slice that has room for them by the call that tests and by the call that asks,
-// are read as the set by those that ask.
-fn is_read_from_a_slice<T: EnumSetType>(set: &EnumSet<T>) -> bool {
-    let (mut tested, mut asked) = ([7; 3], [7; 3]);
-    if set.try_copy_into_slice(&mut tested).is_none() {
-        return false;
-    }
-    set.copy_into_slice(&mut asked);
-    let Some(read) = EnumSet::<T>::try_from_slice(&asked) else {
-        return false;
-    };
-    asked == tested
-        && read == *set
-        && EnumSet::<T>::from_slice(&asked) == read
-        && EnumSet::<T>::from_slice_unchecked(&asked) == read
-}
-
-// A line of each element's bit and its texts, along the bits, and the two texts of their set.
-pub fn write_texts<T: EnumSetType + fmt::Display + fmt::Debug>(
-    text: &mut String,
-) -> Result<(), AllocError> {
-    for element in EnumSet::<T>::all().iter() {
-        write!(
-            text,
-            "{} {element} {element:?}, ",
-            EnumSet::bit_index(element)
-        )?;
-    }
-    writeln!(text, "{} {:?}", EnumSet::<T>::all(), EnumSet::<T>::all())
-}
-
-// A type's width and how many variants it has, the texts of its elements, and whether the calls answer what they have
-// to of two elements in the order of their bits; of one element, given twice, those alone that need no other.
-pub fn write_sets<T: EnumSetType + fmt::Display + fmt::Debug>(
+// A set's value of its store, and the sets that are read of it.
+fn write_values<T: EnumSetTypeWithRepr + fmt::Debug>(
     text: &mut String,
     a: T,
     b: T,
 ) -> Result<(), AllocError> {
     let set = two_of(a, b);
-    let from_an_array = is_read_from_an_array(&set);
-    let from_a_slice = is_read_from_a_slice(&set);
-    write!(
-        text,
-        "{} {}, ",
-        EnumSet::<T>::bit_width(),
-        EnumSet::<T>::variant_count()
-    )?;
-    write_texts::<T>(text)?;
+    laws::number_and_back(&set);
+    let repr = EnumSet::<T>::from_repr(set.as_repr());
+    let unchecked = EnumSet::<T>::from_repr_unchecked(set.as_repr());
+    let read: EnumSet<T> = raw::new(raw::get(set));
     writeln!(
         text,
-        "{} {} {} {} {} {from_an_array} {from_a_slice}",
-        starts_empty::<T>(),
-        a == b || tells_a_set_of_one(a, b),
-        a == b || has_the_older_name(a, b),
-        a == b || clones(a, b),
-        is_taken_back(a, b)
+        "raw={read:?} from_repr={repr:?} from_repr_unchecked={unchecked:?}"
     )
+}
+
+// Values that may have bits of no variant: what is read where they are refused, and where they are left out.
+fn write_tested_values<T: EnumSetTypeWithRepr + fmt::Debug>(
+    text: &mut String,
+    value: T::Repr,
+) -> Result<(), AllocError> {
+    let read = EnumSet::<T>::try_from_repr(value);
+    let cut = EnumSet::<T>::from_repr_truncated(value);
+    writeln!(text, "try_from_repr={read:?} from_repr_truncated={cut:?}")
+}
+
+// A text of each kind, of a set and of its iterator.
+fn write_texts<T: EnumSetType + fmt::Debug + fmt::Display>(
+    text: &mut String,
+    set: EnumSet<T>,
+) -> Result<(), AllocError> {
+    writeln!(text, "<{set}> <{set:?}> <{:?}>", set.iter())
+}
+
+#[test]
+fn sets_of_letters(rt: HostRuntime) -> Result<(), Fail> {
+    let mut text = String::new(rt.alloc());
+    let (a, c) = (Letters::A, Letters::C);
+    write_makers(&mut text, a, c)?;
+    write_sets_of_one(&mut text, a, c)?;
+    write_clones(&mut text, a, c)?;
+    write_values(&mut text, a, c)?;
+    for value in [5, 128, 133] {
+        write_tested_values::<Letters>(&mut text, value)?;
+    }
+    for set in [two_of(a, c), EnumSet::new()] {
+        write_texts(&mut text, set)?;
+    }
+    same_lines(&rt, &text, LETTERS);
+    Ok(())
+}
+
+const LETTERS: &str = "\
+empty=EnumSet() default=EnumSet() symmetrical_difference=EnumSet(C)
+eq_element=[true, false, false]
+clone=EnumSet(A | C) copied=EnumSet(A | C) size_hint=(1, Some(1)) next_back=Some(C)
+raw=EnumSet(A | C) from_repr=EnumSet(A | C) from_repr_unchecked=EnumSet(A | C)
+try_from_repr=Some(EnumSet(A | C)) from_repr_truncated=EnumSet(A | C)
+try_from_repr=None from_repr_truncated=EnumSet()
+try_from_repr=None from_repr_truncated=EnumSet(A | C)
+<A | C> <EnumSet(A | C)> <EnumSetIter { iter: PrimitiveIter(5) }>
+<> <EnumSet()> <EnumSetIter { iter: PrimitiveIter(0) }>
+";
+
+#[test]
+fn elements_come_and_go(rt: HostRuntime) {
+    let mut set = EnumSet::new();
+    let changes = [
+        set.insert(Letters::A),
+        set.insert(Letters::A),
+        set.remove(Letters::B),
+    ];
+    assert_eq!(rt; changes, [true, false, false]);
+}
+
+#[test]
+fn bits_are_valid_or_not(rt: HostRuntime) {
+    let valid = [0, 1, 4, 6, 16, 64, 256].map(EnumSet::<Masks>::is_bit_valid);
+    assert_eq!(rt; valid, [true, false, true, true, false, false, false]);
+    let valid = [127, 128, 4294967295].map(EnumSet::<Sparse>::is_bit_valid);
+    assert_eq!(rt; valid, [true, false, false]);
 }
