@@ -3,6 +3,7 @@
 ghost use Rattle.std.specs.Prelude.{◌≡◌, false, IfOk, IsOk, OnErr};
 
 use super::runner::Runner;
+use crate::steps::Steps;
 use enumset_commands::mixed_command::MixedCommand;
 use enumset_commands::reply::Reply;
 use enumset_mixed::mixed_enum_set::MixedEnumSet;
@@ -62,5 +63,23 @@ impl<T: EnumSetTypeWithRepr> MixedMachine<T> {
             MixedCommand::Common(common) => self.runner.step(alloc, common),
             _ => Ok(self.runner.step_on_bits(command)),
         }
+    }
+}
+
+impl<T: EnumSetTypeWithRepr> Steps for MixedMachine<T> {
+    ghost use Rattle.enumset_machine.specs.MixedRuns.{mixed_outcome};
+
+    type Command = MixedCommand;
+
+    ghost state = { λ m. m };
+
+    ghost outcome = { mixed_outcome (T.Repr.members T.ALL_BITS) T.Repr.WIDTH };
+
+    fn new() -> MixedMachine<T> {
+        MixedMachine::<T>::new()
+    }
+
+    fn step(&mut self, alloc: Global, command: &MixedCommand) -> Result<Reply, AllocError> {
+        MixedMachine::<T>::step(self, alloc, command)
     }
 }

@@ -4,8 +4,10 @@ ghost use Rattle.std.specs.Prelude.{◌≡◌};
 ghost use Rattle.enumset_mixed.specs.Mixed.{bit_with_validity};
 
 use super::element_set::element_of;
+use super::mixed_run_set::MixedRunSet;
 use super::run_set::RunSet;
 use enumset_commands::reply::Reply;
+use enumset_mixed::convert_mixed;
 use enumset_mixed::mixed_enum_set::MixedEnumSet;
 use enumset_mixed::mixed_enum_set_iter::MixedEnumSetIter;
 use enumset_mixed::mixed_value::MixedValue;
@@ -198,6 +200,44 @@ impl<T: EnumSetTypeWithRepr> RunSet for MixedEnumSet<T> {
 
     fn items_left(items: &MixedEnumSetIter<T>) -> usize {
         items.len()
+    }
+}
+
+impl<T: EnumSetTypeWithRepr> MixedRunSet for MixedEnumSet<T> {
+    fn is_bit_allowed(bit: u32) -> bool {
+        bit < T::Repr::WIDTH
+    }
+
+    fn has_bit(&self, bit: u32) -> bool {
+        MixedEnumSet::<T>::has_bit(self, bit)
+    }
+
+    fn insert_bit(&mut self, bit: u32) -> bool {
+        MixedEnumSet::<T>::insert_bit(self, bit)
+    }
+
+    fn remove_bit(&mut self, bit: u32) -> bool {
+        MixedEnumSet::<T>::remove_bit(self, bit)
+    }
+
+    fn full_complement(&self) -> MixedEnumSet<T> {
+        MixedEnumSet::<T>::full_complement(self)
+    }
+
+    fn valid_len(&self) -> usize {
+        MixedEnumSet::<T>::valid_len(self)
+    }
+
+    fn has_unknown_bits(&self) -> bool {
+        MixedEnumSet::<T>::has_unknown_bits(self)
+    }
+
+    fn through_elements(&self) -> Option<MixedEnumSet<T>> {
+        Some(convert_mixed(self.try_as_enumset()?))
+    }
+
+    fn through_elements_cut(&self) -> MixedEnumSet<T> {
+        convert_mixed(self.as_enumset_truncate())
     }
 }
 
