@@ -14,6 +14,7 @@ mod operands;
 mod registers;
 mod run_set;
 mod runner;
+mod widened;
 
 use crate::steps::Steps;
 use enumset_commands::command::Command;

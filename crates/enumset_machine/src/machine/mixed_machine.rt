@@ -49,7 +49,7 @@ impl<T: EnumSetTypeWithRepr> MixedMachine<T> {
     ///
     /// Memory is taken for a reply of words alone: where the reply is another, there is always one. Where memory is
     /// refused, the machine is as it was.
-    #[tactic(auto, unfolding(crate::specs::MixedRuns::mixed_outcome, crate::specs::MixedRuns::mixed_plan))]
+    #[tactic(auto, unfolding(crate::specs::MixedRuns::mixed_outcome))]
     pub fn step(&mut self, alloc: Global, command: &MixedCommand) -> Result<Reply, AllocError>
         ensures succeeds { takes_memory
             (mixed_outcome (T.Repr.members T.ALL_BITS) T.Repr.WIDTH self.old command.now).reply
@@ -59,10 +59,7 @@ impl<T: EnumSetTypeWithRepr> MixedMachine<T> {
             ≡ record { reply = reply; state = self.new }) }
         ensures err { OnErr result (self.new ≡ self.old) }
     {
-        match command {
-            MixedCommand::Common(common) => self.runner.step(alloc, common),
-            _ => Ok(self.runner.step_on_bits(command)),
-        }
+        self.runner.step_mixed(alloc, command)
     }
 }
 

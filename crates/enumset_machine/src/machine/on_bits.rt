@@ -1,6 +1,6 @@
 //! The commands that mixed sets alone have: those on bits that need not be valid.
 
-ghost use Rattle.std.specs.Prelude.{◌≡◌, not, true, false, if◌then◌else◌};
+ghost use Rattle.std.specs.Prelude.{◌≡◌, not, true, false, if◌then◌else◌, IsOk, IfOk, OnErr};
 ghost use Rattle.enumset_repr.specs.BitSet as set;
 ghost use Rattle.enumset_machine.specs.States as model;
 ghost use Rattle.enumset_machine.specs.States.{set_at, put_set};
@@ -13,10 +13,31 @@ use super::registers::is_set_register;
 use super::runner::Runner;
 use enumset_commands::mixed_command::MixedCommand;
 use enumset_commands::reply::{Refusal, Reply};
+use std::alloc::{AllocError, Global};
 
 impl<S: MixedRunSet> Runner<S> {
+    /// Carries out one command of mixed sets. A refused command changes nothing. Memory is taken for a reply of words
+    /// alone.
+    #[tactic(auto, unfolding(crate::specs::MixedRuns::mixed_plan))]
+    pub(super) fn step_mixed(
+        &mut self,
+        alloc: Global,
+        command: &MixedCommand,
+    ) -> Result<Reply, AllocError>
+        ensures succeeds { takes_memory
+            (outcome_of S.rules self.old (mixed_plan command.now)).reply ≡ false → IsOk result }
+        ensures step { IfOk result (λ reply. outcome_of S.rules self.old (mixed_plan command.now)
+            ≡ record { reply = reply; state = self.new }) }
+        ensures err { OnErr result (self.new ≡ self.old) }
+    {
+        match command {
+            MixedCommand::Common(common) => self.step(alloc, common),
+            _ => Ok(self.step_on_bits(command)),
+        }
+    }
+
     /// Carries out one command on bits. A refused command changes nothing.
-    pub(super) fn step_on_bits(&mut self, command: &MixedCommand) -> Reply
+    fn step_on_bits(&mut self, command: &MixedCommand) -> Reply
         requires { is_common command.now ≡ false }
         ensures memory { takes_memory result ≡ false }
         ensures step { outcome_of S.rules self.old (mixed_plan command.now)
