@@ -1,7 +1,6 @@
 -- The numbers below a width.
-use Rattle.std.proofs.Common.{◌≡◌, ◌<◌, ℕ, true, ◌&&◌, ltb, ap, sym, ◌∙◌, arith}
+use Rattle.std.proofs.Common.{◌≡◌, ◌<◌, ℕ, true, ◌&&◌, ap, sym, ◌∙◌, arith}
 use Rattle.std.proofs.lemmas.Bool.Decides.{nat_tests}
-use Rattle.std.proofs.Math.Bool.{and-true}
 use Rattle.enumset_repr.specs.BitSet.{BitSet, contains, intersection, below, low}
 use Rattle.enumset_repr.specs.Laws.Members.{same_set, contains-low, contains-intersection, contains-below}
 
