@@ -1,7 +1,6 @@
 -- The numbers below a width.
-use Rattle.std.proofs.Common.{◌≡◌, ◌<◌, ℕ, true, ◌&&◌, ltb, ap, sym, ◌∙◌, arith}
+use Rattle.std.proofs.Common.{◌≡◌, ◌<◌, ℕ, true, ◌&&◌, ap, sym, ◌∙◌, arith}
 use Rattle.std.proofs.lemmas.Bool.Decides.{nat_tests}
-use Rattle.std.proofs.Math.Bool.{and-true}
 use Rattle.enumset_repr.specs.BitSet.{BitSet, contains, intersection, below, low}
 use Rattle.enumset_repr.specs.Laws.Members.{same_set, contains-low, contains-intersection, contains-below}
 
@@ -11,9 +10,6 @@ low_below s n =
     same_set (low s n) (intersection s (below n)) (λ q.
     contains-low s n q ∙ ap (λ b. contains s q && b) (sym (contains-below n q)) ∙ sym (contains-intersection s (below n) q))
 
--- a bit that passes the test of a command is below the width
-pub allowed_within : (n b : ℕ) → (contains (below n) b && true) ≡ true → b < n
+-- a bit that a set may have is below the width
+pub allowed_within : (n b : ℕ) → contains (below n) b ≡ true → b < n
 allowed_within n b h = grind (arith, nat_tests, contains-below)
-
-pub allowed_test : (n b : ℕ) → (contains (below n) b && true) ≡ ltb b n
-allowed_test n b = and-true (contains (below n) b) ∙ contains-below n b

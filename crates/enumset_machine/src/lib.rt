@@ -6,3 +6,4 @@ pub mod machine;
 pub mod mixed_runs;
 pub mod runs;
 pub mod serve;
+mod steps;

@@ -7,13 +7,16 @@ mod changes;
 mod conversions;
 mod element_set;
 pub mod mixed_machine;
+mod mixed_run_set;
 mod mixed_set;
 mod on_bits;
 mod operands;
 mod registers;
 mod run_set;
 mod runner;
+mod widened;
 
+use crate::steps::Steps;
 use enumset_commands::command::Command;
 use enumset_commands::reply::Reply;
 use enumset_repr::repr::EnumSetTypeRepr;
@@ -69,5 +72,23 @@ impl<T: EnumSetType> Machine<T> {
         ensures err { OnErr result (self.new ≡ self.old) }
     {
         self.runner.step(alloc, command)
+    }
+}
+
+impl<T: EnumSetType> Steps for Machine<T> {
+    ghost use Rattle.enumset_machine.specs.Runs.{outcome};
+
+    type Command = Command;
+
+    ghost state = { λ m. m };
+
+    ghost outcome = { outcome (T.Repr.members T.ALL_BITS) };
+
+    fn new() -> Machine<T> {
+        Machine::<T>::new()
+    }
+
+    fn step(&mut self, alloc: Global, command: &Command) -> Result<Reply, AllocError> {
+        Machine::<T>::step(self, alloc, command)
     }
 }

@@ -1,14 +1,15 @@
 //! Answers a text of commands by the text of their replies.
 ghost use Rattle.std.specs.Prelude.{◌≡◌, IfOk, IfErr, Ok};
-ghost use Rattle.enumset_machine.specs.Answers.{answer_to, mixed_answer_to, commands_of};
+ghost use Rattle.enumset_machine.specs.States.{start};
+ghost use Rattle.enumset_machine.specs.Plans.{replies_by};
+ghost use Rattle.enumset_machine.specs.Answers.{answer_by, answer_to, mixed_answer_to, commands_of};
 ghost use Rattle.enumset_commands.specs.TextFaults.{IsFaultOf};
 
-use crate::mixed_runs::run_mixed;
-use crate::runs::run;
-use enumset_commands::command::Command;
+use crate::machine::Machine;
+use crate::machine::mixed_machine::MixedMachine;
+use crate::steps::{Steps, run_by_steps};
 use enumset_commands::grammar::line_command::LineCommand;
 use enumset_commands::grammar::read_commands;
-use enumset_commands::mixed_command::MixedCommand;
 use enumset_commands::text_fault::TextFault;
 use enumset_commands::transcript::write_replies;
 use enumset_repr::EnumSetTypeRepr;
@@ -32,9 +33,7 @@ pub fn serve_text<T: EnumSetType>(alloc: Global, input: &[u8]) -> Result<Vec<u8>
     ensures fault { IfErr result (λ fault.
         IsFaultOf (answer_to (T.Repr.members T.ALL_BITS) input.now) fault) }
 {
-    let commands = commands_of::<Command>(alloc, input)?;
-    let replies = run::<T>(alloc, &commands)?;
-    Ok(write_replies(alloc, &replies)?)
+    serve_by_steps::<Machine<T>>(alloc, input)
 }
 
 /// The text of the replies to the commands of mixed sets of an input.
@@ -51,8 +50,20 @@ pub fn serve_mixed_text<T: EnumSetTypeWithRepr>(
     ensures fault { IfErr result (λ fault.
         IsFaultOf (mixed_answer_to (T.Repr.members T.ALL_BITS) T.Repr.WIDTH input.now) fault) }
 {
-    let commands = commands_of::<MixedCommand>(alloc, input)?;
-    let replies = run_mixed::<T>(alloc, &commands)?;
+    serve_by_steps::<MixedMachine<T>>(alloc, input)
+}
+
+/// The text of the replies that a machine gives to the commands of an input, step by step.
+fn serve_by_steps<M: Steps>(alloc: Global, input: &[u8]) -> Result<Vec<u8>, TextFault>
+where
+    M::Command: LineCommand,
+    ensures answer { IfOk result (λ out. answer_by (replies_by M.outcome start)
+        (commands_of M.Command.command_of input.now) ≡ Ok out.items) }
+    ensures fault { IfErr result (λ fault. IsFaultOf (answer_by (replies_by M.outcome start)
+        (commands_of M.Command.command_of input.now)) fault) }
+{
+    let commands = commands_of::<M::Command>(alloc, input)?;
+    let replies = run_by_steps::<M>(alloc, &commands)?;
     Ok(write_replies(alloc, &replies)?)
 }
 

@@ -106,20 +106,15 @@ impl<S: RunSet> Runner<S> {
         let mut set = self.sets.get(x);
         let other = self.sets.get(y);
         match command {
-            Command::Union { .. } => self.put(to, set.union(other)),
-            Command::Intersection { .. } => self.put(to, set.intersection(other)),
-            Command::Difference { .. } => self.put(to, set.difference(other)),
-            Command::SymmetricDifference { .. } => self.put(to, set.symmetric_difference(other)),
-            Command::InsertAll { .. } => {
-                set.insert_all(other);
-                self.put(to, set)
-            }
-            Command::RemoveAll { .. } => {
-                set.remove_all(other);
-                self.put(to, set)
-            }
+            Command::Union { .. } => set = set.union(other),
+            Command::Intersection { .. } => set = set.intersection(other),
+            Command::Difference { .. } => set = set.difference(other),
+            Command::SymmetricDifference { .. } => set = set.symmetric_difference(other),
+            Command::InsertAll { .. } => set.insert_all(other),
+            Command::RemoveAll { .. } => set.remove_all(other),
             _ => unreachable!(),
         }
+        self.put(to, set)
     }
 
     /// Carries out a command that names a set and a bit.

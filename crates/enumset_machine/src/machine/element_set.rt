@@ -4,6 +4,7 @@ ghost use Rattle.std.specs.Prelude.{◌≡◌, true};
 ghost use Rattle.enumset_repr.specs.BitSet as set;
 
 use super::run_set::RunSet;
+use super::widened::{widened_u8, widened_u16, widened_u32, widened_u64};
 use enumset_commands::reply::Reply;
 use enumset_repr::repr::EnumSetTypeRepr;
 use enumset_sets::element::EnumSetType;
@@ -123,13 +124,13 @@ impl<T: EnumSetType> RunSet for EnumSet<T> {
     }
 
     fn number(&self, width: u32) -> Option<u128> {
-        Some(match width {
-            8 => u128::from(EnumSet::<T>::try_as_u8(self)?),
-            16 => u128::from(EnumSet::<T>::try_as_u16(self)?),
-            32 => u128::from(EnumSet::<T>::try_as_u32(self)?),
-            64 => u128::from(EnumSet::<T>::try_as_u64(self)?),
-            _ => EnumSet::<T>::try_as_u128(self)?,
-        })
+        match width {
+            8 => widened_u8(EnumSet::<T>::try_as_u8(self)),
+            16 => widened_u16(EnumSet::<T>::try_as_u16(self)),
+            32 => widened_u32(EnumSet::<T>::try_as_u32(self)),
+            64 => widened_u64(EnumSet::<T>::try_as_u64(self)),
+            _ => EnumSet::<T>::try_as_u128(self),
+        }
     }
 
     fn number_cut(&self, width: u32) -> u128 {

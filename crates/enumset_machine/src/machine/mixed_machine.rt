@@ -3,6 +3,7 @@
 ghost use Rattle.std.specs.Prelude.{◌≡◌, false, IfOk, IsOk, OnErr};
 
 use super::runner::Runner;
+use crate::steps::Steps;
 use enumset_commands::mixed_command::MixedCommand;
 use enumset_commands::reply::Reply;
 use enumset_mixed::mixed_enum_set::MixedEnumSet;
@@ -48,7 +49,7 @@ impl<T: EnumSetTypeWithRepr> MixedMachine<T> {
     ///
     /// Memory is taken for a reply of words alone: where the reply is another, there is always one. Where memory is
     /// refused, the machine is as it was.
-    #[tactic(auto, unfolding(crate::specs::MixedRuns::mixed_outcome, crate::specs::MixedRuns::mixed_plan))]
+    #[tactic(auto, unfolding(crate::specs::MixedRuns::mixed_outcome))]
     pub fn step(&mut self, alloc: Global, command: &MixedCommand) -> Result<Reply, AllocError>
         ensures succeeds { takes_memory
             (mixed_outcome (T.Repr.members T.ALL_BITS) T.Repr.WIDTH self.old command.now).reply
@@ -58,9 +59,24 @@ impl<T: EnumSetTypeWithRepr> MixedMachine<T> {
             ≡ record { reply = reply; state = self.new }) }
         ensures err { OnErr result (self.new ≡ self.old) }
     {
-        match command {
-            MixedCommand::Common(common) => self.runner.step(alloc, common),
-            _ => Ok(self.runner.step_on_bits(command)),
-        }
+        self.runner.step_mixed(alloc, command)
+    }
+}
+
+impl<T: EnumSetTypeWithRepr> Steps for MixedMachine<T> {
+    ghost use Rattle.enumset_machine.specs.MixedRuns.{mixed_outcome};
+
+    type Command = MixedCommand;
+
+    ghost state = { λ m. m };
+
+    ghost outcome = { mixed_outcome (T.Repr.members T.ALL_BITS) T.Repr.WIDTH };
+
+    fn new() -> MixedMachine<T> {
+        MixedMachine::<T>::new()
+    }
+
+    fn step(&mut self, alloc: Global, command: &MixedCommand) -> Result<Reply, AllocError> {
+        MixedMachine::<T>::step(self, alloc, command)
     }
 }

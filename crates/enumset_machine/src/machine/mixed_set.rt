@@ -1,11 +1,14 @@
 //! Mixed sets, as a run asks of them.
 
-ghost use Rattle.std.specs.Prelude.{◌≡◌};
+ghost use Rattle.std.specs.Prelude.{◌≡◌, ◌↔◌, IsSome, IfSome};
 ghost use Rattle.enumset_mixed.specs.Mixed.{bit_with_validity};
 
 use super::element_set::element_of;
+use super::mixed_run_set::MixedRunSet;
 use super::run_set::RunSet;
+use super::widened::{widened_u8, widened_u16, widened_u32, widened_u64};
 use enumset_commands::reply::Reply;
+use enumset_mixed::convert_mixed;
 use enumset_mixed::mixed_enum_set::MixedEnumSet;
 use enumset_mixed::mixed_enum_set_iter::MixedEnumSetIter;
 use enumset_mixed::mixed_value::MixedValue;
@@ -123,13 +126,13 @@ impl<T: EnumSetTypeWithRepr> RunSet for MixedEnumSet<T> {
 
     fn number(&self, width: u32) -> Option<u128> {
         let repr = self.as_repr();
-        Some(match width {
-            8 => u128::from(repr.try_to_u8()?),
-            16 => u128::from(repr.try_to_u16()?),
-            32 => u128::from(repr.try_to_u32()?),
-            64 => u128::from(repr.try_to_u64()?),
-            _ => repr.try_to_u128()?,
-        })
+        match width {
+            8 => widened_u8(repr.try_to_u8()),
+            16 => widened_u16(repr.try_to_u16()),
+            32 => widened_u32(repr.try_to_u32()),
+            64 => widened_u64(repr.try_to_u64()),
+            _ => repr.try_to_u128(),
+        }
     }
 
     fn number_cut(&self, width: u32) -> u128 {
@@ -144,14 +147,13 @@ impl<T: EnumSetTypeWithRepr> RunSet for MixedEnumSet<T> {
     }
 
     fn from_number(width: u32, value: u128) -> Option<MixedEnumSet<T>> {
-        let repr = match width {
-            8 => T::Repr::try_from_u8(value as u8)?,
-            16 => T::Repr::try_from_u16(value as u16)?,
-            32 => T::Repr::try_from_u32(value as u32)?,
-            64 => T::Repr::try_from_u64(value as u64)?,
-            _ => T::Repr::try_from_u128(value)?,
-        };
-        Some(MixedEnumSet::from_repr(repr))
+        from_repr(match width {
+            8 => T::Repr::try_from_u8(value as u8),
+            16 => T::Repr::try_from_u16(value as u16),
+            32 => T::Repr::try_from_u32(value as u32),
+            64 => T::Repr::try_from_u64(value as u64),
+            _ => T::Repr::try_from_u128(value),
+        })
     }
 
     #[tactic(auto, using(crate::proofs::Cuts::low_below))]
@@ -174,7 +176,7 @@ impl<T: EnumSetTypeWithRepr> RunSet for MixedEnumSet<T> {
     }
 
     fn from_words(words: &[u64]) -> Option<MixedEnumSet<T>> {
-        Some(MixedEnumSet::from_repr(T::Repr::try_from_u64_slice(words)?))
+        from_repr(T::Repr::try_from_u64_slice(words))
     }
 
     #[tactic(auto, using(crate::proofs::Cuts::low_below))]
@@ -187,17 +189,73 @@ impl<T: EnumSetTypeWithRepr> RunSet for MixedEnumSet<T> {
     }
 
     fn next(items: &mut MixedEnumSetIter<T>) -> Option<u32> {
-        let value = items.next()?;
-        Some(bit_of(value))
+        match items.next() {
+            Some(value) => Some(bit_of(value)),
+            None => None,
+        }
     }
 
     fn next_back(items: &mut MixedEnumSetIter<T>) -> Option<u32> {
-        let value = items.next_back()?;
-        Some(bit_of(value))
+        match items.next_back() {
+            Some(value) => Some(bit_of(value)),
+            None => None,
+        }
     }
 
     fn items_left(items: &MixedEnumSetIter<T>) -> usize {
         items.len()
+    }
+}
+
+impl<T: EnumSetTypeWithRepr> MixedRunSet for MixedEnumSet<T> {
+    fn is_bit_allowed(bit: u32) -> bool {
+        bit < T::Repr::WIDTH
+    }
+
+    fn has_bit(&self, bit: u32) -> bool {
+        MixedEnumSet::<T>::has_bit(self, bit)
+    }
+
+    fn insert_bit(&mut self, bit: u32) -> bool {
+        MixedEnumSet::<T>::insert_bit(self, bit)
+    }
+
+    fn remove_bit(&mut self, bit: u32) -> bool {
+        MixedEnumSet::<T>::remove_bit(self, bit)
+    }
+
+    fn full_complement(&self) -> MixedEnumSet<T> {
+        MixedEnumSet::<T>::full_complement(self)
+    }
+
+    fn valid_len(&self) -> usize {
+        MixedEnumSet::<T>::valid_len(self)
+    }
+
+    fn has_unknown_bits(&self) -> bool {
+        MixedEnumSet::<T>::has_unknown_bits(self)
+    }
+
+    fn through_elements(&self) -> Option<MixedEnumSet<T>> {
+        match self.try_as_enumset() {
+            Some(elements) => Some(convert_mixed(elements)),
+            None => None,
+        }
+    }
+
+    fn through_elements_cut(&self) -> MixedEnumSet<T> {
+        convert_mixed(self.as_enumset_truncate())
+    }
+}
+
+/// The set of the members of a store's value, if there is one.
+fn from_repr<T: EnumSetTypeWithRepr>(repr: Option<T::Repr>) -> Option<MixedEnumSet<T>>
+    ensures some { IsSome result ↔ IsSome repr }
+    ensures members { IfSome result (λ s. IfSome repr (λ r. s ≡ T.Repr.members r)) }
+{
+    match repr {
+        Some(repr) => Some(MixedEnumSet::from_repr(repr)),
+        None => None,
     }
 }
 

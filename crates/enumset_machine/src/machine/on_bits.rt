@@ -1,35 +1,52 @@
 //! The commands that mixed sets alone have: those on bits that need not be valid.
 
-ghost use Rattle.std.specs.Prelude.{◌≡◌, ◌<◌, not, true, false, if◌then◌else◌};
+ghost use Rattle.std.specs.Prelude.{◌≡◌, not, true, false, if◌then◌else◌, IsOk, IfOk, OnErr};
 ghost use Rattle.enumset_repr.specs.BitSet as set;
 ghost use Rattle.enumset_machine.specs.States as model;
 ghost use Rattle.enumset_machine.specs.States.{set_at, put_set};
 ghost use Rattle.enumset_commands.specs.declared.reply.Reply.TheVariants.{Done, Truth, Absent};
-ghost use Rattle.enumset_machine.specs.Plans.{names_registers, names_widths, names_bits, of_width, outcome_of, takes_memory};
+ghost use Rattle.enumset_machine.specs.Plans.{names_registers, names_widths, names_bits, outcome_of, takes_memory};
 ghost use Rattle.enumset_machine.specs.MixedRuns.{is_common, mixed_plan};
 
+use super::mixed_run_set::MixedRunSet;
 use super::registers::is_set_register;
 use super::runner::Runner;
 use enumset_commands::mixed_command::MixedCommand;
 use enumset_commands::reply::{Refusal, Reply};
-use enumset_mixed::convert_mixed;
-use enumset_mixed::mixed_enum_set::MixedEnumSet;
-use enumset_repr::repr::EnumSetTypeRepr;
-use enumset_sets::element::EnumSetType;
-use enumset_sets::with_repr::EnumSetTypeWithRepr;
+use std::alloc::{AllocError, Global};
 
-impl<T: EnumSetTypeWithRepr> Runner<MixedEnumSet<T>> {
+impl<S: MixedRunSet> Runner<S> {
+    /// Carries out one command of mixed sets. A refused command changes nothing. Memory is taken for a reply of words
+    /// alone.
+    #[tactic(auto, unfolding(crate::specs::MixedRuns::mixed_plan))]
+    pub(super) fn step_mixed(
+        &mut self,
+        alloc: Global,
+        command: &MixedCommand,
+    ) -> Result<Reply, AllocError>
+        ensures succeeds { takes_memory
+            (outcome_of S.rules self.old (mixed_plan command.now)).reply ≡ false → IsOk result }
+        ensures step { IfOk result (λ reply. outcome_of S.rules self.old (mixed_plan command.now)
+            ≡ record { reply = reply; state = self.new }) }
+        ensures err { OnErr result (self.new ≡ self.old) }
+    {
+        match command {
+            MixedCommand::Common(common) => self.step(alloc, common),
+            _ => Ok(self.step_on_bits(command)),
+        }
+    }
+
     /// Carries out one command on bits. A refused command changes nothing.
-    pub(super) fn step_on_bits(&mut self, command: &MixedCommand) -> Reply
+    fn step_on_bits(&mut self, command: &MixedCommand) -> Reply
         requires { is_common command.now ≡ false }
         ensures memory { takes_memory result ≡ false }
-        ensures step { outcome_of (of_width (T.Repr.members T.ALL_BITS) T.Repr.WIDTH)
-            self.old (mixed_plan command.now) ≡ record { reply = result; state = self.new } }
+        ensures step { outcome_of S.rules self.old (mixed_plan command.now)
+            ≡ record { reply = result; state = self.new } }
     {
         if !names_registers(command) {
             return Reply::Refused(Refusal::NoRegister);
         }
-        if !names_bits::<T>(command) {
+        if !names_bits::<S>(command) {
             return Reply::Refused(Refusal::NotABit);
         }
         self.carry_out_on_bits(command)
@@ -40,13 +57,10 @@ impl<T: EnumSetTypeWithRepr> Runner<MixedEnumSet<T>> {
     fn carry_out_on_bits(&mut self, command: &MixedCommand) -> Reply
         requires own { is_common command.now ≡ false }
         requires registers { names_registers (mixed_plan command.now).named ≡ true }
-        requires bits { names_bits (of_width (T.Repr.members T.ALL_BITS) T.Repr.WIDTH)
-            (mixed_plan command.now).named ≡ true }
+        requires bits { names_bits S.rules (mixed_plan command.now).named ≡ true }
         ensures memory { takes_memory result ≡ false }
-        ensures reply { result ≡ (mixed_plan command.now).reply
-            (of_width (T.Repr.members T.ALL_BITS) T.Repr.WIDTH) self.old }
-        ensures state { self.new ≡ (mixed_plan command.now).after
-            (of_width (T.Repr.members T.ALL_BITS) T.Repr.WIDTH) self.old }
+        ensures reply { result ≡ (mixed_plan command.now).reply S.rules self.old }
+        ensures state { self.new ≡ (mixed_plan command.now).after S.rules self.old }
     {
         match command {
             MixedCommand::HasBit { r, bit } => Reply::Truth(self.sets.get(*r).has_bit(*bit)),
@@ -60,19 +74,19 @@ impl<T: EnumSetTypeWithRepr> Runner<MixedEnumSet<T>> {
             MixedCommand::Unknown { r } => Reply::Truth(self.sets.get(*r).has_unknown_bits()),
             MixedCommand::AsEnumset { to, a } => self.put_elements(*to, *a),
             MixedCommand::Truncate { to, a } => {
-                let elements = self.sets.get(*a).as_enumset_truncate();
-                self.put(*to, convert_mixed(elements))
+                let elements = self.sets.get(*a).through_elements_cut();
+                self.put(*to, elements)
             }
             MixedCommand::Common(_) => unreachable!(),
         }
     }
 }
 
-impl<T: EnumSetTypeWithRepr> Runner<MixedEnumSet<T>> {
+impl<S: MixedRunSet> Runner<S> {
     /// Puts a bit into the set in a register, and replies whether it was absent.
     fn insert_bit(&mut self, r: u8, bit: u32) -> Reply
         requires register { model.is_set_register r ≡ true }
-        requires within { bit < T.Repr.WIDTH }
+        requires allowed { set.contains S.rules.allowed bit ≡ true }
         ensures reply { result ≡ Truth (not (set.contains (set_at self.old r) bit)) }
         ensures state { self.new ≡ put_set self.old r (set.insert (set_at self.old r) bit) }
     {
@@ -99,16 +113,16 @@ impl<T: EnumSetTypeWithRepr> Runner<MixedEnumSet<T>> {
         requires target { model.is_set_register to ≡ true }
         requires source { model.is_set_register a ≡ true }
         ensures reply { result ≡ (
-            if set.is_subset (set_at self.old a) (T.Repr.members T.ALL_BITS)
+            if set.is_subset (set_at self.old a) S.rules.valid
             then Done else Absent) }
         ensures state { self.new ≡ (
-            if set.is_subset (set_at self.old a) (T.Repr.members T.ALL_BITS)
+            if set.is_subset (set_at self.old a) S.rules.valid
             then put_set self.old to (set_at self.old a) else self.old) }
     {
-        let Some(elements) = self.sets.get(a).try_as_enumset() else {
+        let Some(elements) = self.sets.get(a).through_elements() else {
             return Reply::Absent;
         };
-        self.put(to, convert_mixed(elements))
+        self.put(to, elements)
     }
 }
 
@@ -131,16 +145,15 @@ fn names_registers(command: &MixedCommand) -> bool
     }
 }
 
-/// Whether the bit that a command on bits puts into a set is below the width. None of these commands names a width.
-#[tactic(auto, using(enumset_repr::specs::Laws::Members::members), unfolding(crate::specs::MixedRuns::mixed_plan))]
-fn names_bits<T: EnumSetTypeWithRepr>(command: &MixedCommand) -> bool
+/// Whether a set may have the bit that a command on bits puts into it. None of these commands names a width.
+#[tactic(auto, unfolding(crate::specs::MixedRuns::mixed_plan))]
+fn names_bits<S: MixedRunSet>(command: &MixedCommand) -> bool
     requires { is_common command.now ≡ false }
-    ensures bits { result ≡ names_bits (of_width (T.Repr.members T.ALL_BITS) T.Repr.WIDTH)
-        (mixed_plan command.now).named }
+    ensures bits { result ≡ names_bits S.rules (mixed_plan command.now).named }
     ensures widths { names_widths (mixed_plan command.now).named ≡ true }
 {
     match command {
-        MixedCommand::InsertBit { bit, .. } => *bit < T::Repr::WIDTH,
+        MixedCommand::InsertBit { bit, .. } => S::is_bit_allowed(*bit),
         MixedCommand::Common(_) => unreachable!(),
         _ => true,
     }

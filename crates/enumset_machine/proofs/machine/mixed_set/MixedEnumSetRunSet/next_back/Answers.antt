@@ -5,21 +5,21 @@ use Rattle.enumset_mixed.specs.Mixed.{bit_with_validity}
 use Rattle.enumset_machine.proofs.MixedItems.{none_left, gave_last}
 use Rattle.enumset_machine.proofs.machine.mixed_set.MixedEnumSetRunSet.next_back.Goals as goal
 
-pub returns-in_err-value-clause-given : goal.returns-in_err-value-clause-given
-returns-in_err-value-clause-given g c =
+pub returns-in-None-clause-given : goal.returns-in-None-clause-given
+returns-in-None-clause-given g c =
     let valid = g.T.Repr.EnumSetTypeRepr.members g.T.EnumSetType.ALL_BITS in
-    c.from_residual.ensures ∙ sym (ap last (none_left valid c.args.items.now c.in_err-value.ensures.steps.0))
+    sym (ap last (none_left valid c.args.items.now c.in-None.ensures.steps.0))
 
-pub returns-clause-given : goal.returns-clause-given
-returns-clause-given g c =
+pub returns-in-Some-clause-given : goal.returns-in-Some-clause-given
+returns-in-Some-clause-given g c =
     let valid = g.T.Repr.EnumSetTypeRepr.members g.T.EnumSetType.ALL_BITS in
-    let item = bit_with_validity g.T.EnumSetType.elements.bit c.in_ok-value.value in
+    let item = bit_with_validity g.T.EnumSetType.elements.bit c.in-Some.value in
     let left = c.next_back.new.self in
-    ap Some c.bit_of.ensures ∙ sym (ap last (gave_last valid c.args.items.now left item c.in_ok-value.ensures.steps) ∙ last-push left item.0)
+    ap Some c.bit_of.ensures ∙ sym (ap last (gave_last valid c.args.items.now left item c.in-Some.ensures.steps) ∙ last-push left item.0)
 
-pub returns-clause-rest : goal.returns-clause-rest
-returns-clause-rest g c =
+pub returns-in-Some-clause-rest : goal.returns-in-Some-clause-rest
+returns-in-Some-clause-rest g c =
     let valid = g.T.Repr.EnumSetTypeRepr.members g.T.EnumSetType.ALL_BITS in
-    let item = bit_with_validity g.T.EnumSetType.elements.bit c.in_ok-value.value in
+    let item = bit_with_validity g.T.EnumSetType.elements.bit c.in-Some.value in
     let left = c.next_back.new.self in
-    sym (ap without_last (gave_last valid c.args.items.now left item c.in_ok-value.ensures.steps) ∙ without_last-push left item.0)
+    sym (ap without_last (gave_last valid c.args.items.now left item c.in-Some.ensures.steps) ∙ without_last-push left item.0)

@@ -1,11 +1,10 @@
-use Rattle.std.proofs.Common.{◌<◌, ◌∙◌, length, arith}
-use Rattle.enumset_machine.specs.MixedRuns.{mixed_outcome}
+use Rattle.std.proofs.Common.{◌<◌, ◌∙◌, length, refl, arith}
 use Rattle.enumset_machine.proofs.Replies.{replies_by-next}
-use Rattle.enumset_machine.proofs.mixed_runs.run_mixed_over_room.Goals as goal
+use Rattle.enumset_machine.proofs.steps.run_over_room.Goals as goal
 
 pub loop-command-preserved : goal.loop-command-preserved
 loop-command-preserved g c =
-    let next = replies_by-next (mixed_outcome (g.T.Repr.EnumSetTypeRepr.members g.T.EnumSetType.ALL_BITS) g.T.Repr.EnumSetTypeRepr.WIDTH) in
+    let next = replies_by-next g.M.Steps.outcome in
     let kept = c.loop-command.invariant in
     let within : c.loop-command.command-index < length c.args.commands.now = omega arith in
     record {
@@ -13,3 +12,6 @@ loop-command-preserved g c =
       counted = omega arith;
       room = omega arith;
     }
+
+pub returns-clause-succeeds : goal.returns-clause-succeeds
+returns-clause-succeeds g c = λ _. refl

@@ -1,0 +1,64 @@
+//! Runs of commands by the steps of a machine, whatever its sets are.
+
+ghost use Rattle.std.specs.Prelude.{◌≡◌, ◌≤◌, [], length, false, IfOk, IsOk, vec_capacity};
+ghost use Rattle.std.specs.List.{list_any};
+ghost use Rattle.enumset_machine.specs.States.{State, start};
+ghost use Rattle.enumset_machine.specs.Plans.{Outcome, takes_memory, replies_by};
+
+use enumset_commands::reply::Reply;
+use std::alloc::{AllocError, Global};
+
+/// A machine that carries out commands in steps.
+pub(crate) trait Steps: Drop {
+    /// A command of a run.
+    type Command;
+
+    // The sets and the lists of the registers.
+    ghost state: { Self → State };
+
+    // What a command comes to.
+    ghost outcome: { State → Self.Command → Outcome };
+
+    /// A machine whose registers are empty.
+    fn new() -> Self
+        ensures { state result ≡ start };
+
+    /// Carries out one command. Memory is taken for a reply of words alone.
+    fn step(&mut self, alloc: Global, command: &Self::Command) -> Result<Reply, AllocError>
+        ensures succeeds { takes_memory (outcome (state self.old) command.now).reply ≡ false
+            → IsOk result }
+        ensures step { IfOk result (λ reply. outcome (state self.old) command.now
+            ≡ record { reply = reply; state = state self.new }) };
+}
+
+/// Carries out commands in order by the steps of a new machine. The only error is want of memory for the replies.
+pub(crate) fn run_by_steps<M: Steps>(
+    alloc: Global,
+    commands: &[M::Command],
+) -> Result<Vec<Reply>, AllocError>
+    ensures { IfOk result (λ answers. answers.items ≡ replies_by M.outcome start commands.now) }
+{
+    run_over_room::<M>(alloc, commands, Vec::with_capacity(alloc, commands.len())?)
+}
+
+/// The same in an empty vector that has room for the replies. Then each run has replies where none of them takes
+/// memory of its own.
+fn run_over_room<M: Steps>(
+    alloc: Global,
+    commands: &[M::Command],
+    room: Vec<Reply>,
+) -> Result<Vec<Reply>, AllocError>
+    requires empty { room.items ≡ [] }
+    requires room { length commands.now ≤ vec_capacity room }
+    ensures succeeds { list_any takes_memory (replies_by M.outcome start commands.now)
+        ≡ false → IsOk result }
+    ensures replies { IfOk result (λ answers.
+        answers.items ≡ replies_by M.outcome start commands.now) }
+{
+    let mut machine = M::new();
+    let mut replies = room;
+    for command in commands {
+        replies.push_reserved(machine.step(alloc, command)?);
+    }
+    Ok(replies)
+}
