@@ -8,7 +8,7 @@ pub loop-element-init : goal.loop-element-init
 loop-element-init g c = sym (union_none _)
 
 pub loop-element-preserved : goal.loop-element-preserved
-loop-element-preserved g c = 
+loop-element-preserved g c =
     let bit = g.T.EnumSetType.elements.bit in
     c.insert.ensures.inserted
     ∙ ap (λ s. insert s (bit c.in-Some.element)) c.loop-element.invariant
