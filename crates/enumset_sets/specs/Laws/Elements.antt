@@ -11,7 +11,7 @@ use denote.Enum.Declared.{Declared, rowss, tag_of}
 use denote.Enum.Enum.{tag_below}
 use denote.Enum.Bare.{Bare, tag_one, sameb, same_true, true_same}
 use Rattle.std.proofs.lemmas.Bool.{or_cases, cases_lt, and_parts, and_from, or_left, or_right, not-true, eqb-true, eq-eqb}
-use Rattle.std.specs.List.{last_or, range_with_len}
+use Rattle.std.specs.List.{last_or}
 use Rattle.std.proofs.lemmas.List.FromFn.{get_or-range_with_len}
 use Rattle.enumset_repr.specs.BitSet.{BitSet, is_in, contains, from_list, rising, len, is_subset}
 use Rattle.enumset_repr.specs.Number.{bits, is_distinct}

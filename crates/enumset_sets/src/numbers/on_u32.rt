@@ -6,7 +6,6 @@ ghost use Rattle.enumset_repr.specs.Number.{bits, number};
 
 use crate::element::EnumSetType;
 use crate::enum_set::EnumSet;
-use crate::taken::{checked_of, valid_part_of, whole_of};
 use enumset_repr::repr::EnumSetTypeRepr;
 
 #[tactic(auto, using(crate::specs::Laws::Conversions::conversions))]
@@ -39,7 +38,7 @@ impl<T: EnumSetType> EnumSet<T> {
         requires valid { IsTrue (set.is_subset (bits value) (T.Repr.members T.ALL_BITS)) }
         ensures { result ≡ bits value }
     {
-        whole_of(T::Repr::from_u32(value))
+        Self::from_u128(value as u128)
     }
 
     /// The set of a number, if each of its bits is valid, else `None`.
@@ -48,14 +47,14 @@ impl<T: EnumSetType> EnumSet<T> {
             ↔ IsTrue (set.is_subset (bits value) (T.Repr.members T.ALL_BITS)) }
         ensures value { IfSome result (λ s. s ≡ bits value) }
     {
-        checked_of(T::Repr::try_from_u32(value))
+        Self::try_from_u128(value as u128)
     }
 
     /// The set of those bits of a number that are valid.
     pub fn from_u32_truncated(value: u32) -> EnumSet<T>
         ensures { result ≡ set.intersection (bits value) (T.Repr.members T.ALL_BITS) }
     {
-        valid_part_of(T::Repr::from_u32(value))
+        Self::from_u128_truncated(value as u128)
     }
 
     /// The set of a number, whose bits must all be valid, as [`from_u32`](EnumSet::from_u32).
