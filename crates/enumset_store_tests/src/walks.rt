@@ -1,5 +1,6 @@
 //! Walks over rows that show their asks.
 
+use crate::expect::expect;
 use enumset_array::ArrayRepr;
 use enumset_array::cursors::{Cursors, step_back, step_front};
 use enumset_array::row::Row;
@@ -32,7 +33,7 @@ fn walk_gives<const N: usize>(
 ) -> Result<(), AllocError> {
     let given = walk(alloc, &mut row, ends)?;
     assert_eq!(rt; given.as_slice(), answers);
-    assert_eq!(rt; row.shown(), asks);
+    expect(rt, "a row", "shown", row.shown(), asks);
     Ok(())
 }
 
@@ -66,10 +67,12 @@ fn walks_of_fewer_ends_leave_the_rest(rt: HostRuntime) -> Result<(), Fail> {
     let mut row = ShownRow::new(ArrayRepr([6, 5]));
     let answers = walk(rt.alloc(), &mut row, &[End::Front, End::Back])?;
     assert_eq!(rt; answers.as_slice(), [Some(1), Some(66)].as_slice());
-    assert_eq!(rt; (row.shown(), row.word_count()), (2, 2));
+    let counts = (row.shown(), row.word_count());
+    expect(&rt, "2 words", "shown, word_count", counts, (2, 2));
     let bits = [row.ask_back(0), row.ask_front(0), row.ask_front(1)];
-    assert_eq!(rt; bits, [Some(2), None, Some(0)]);
-    assert_eq!(rt; row.shown(), 5);
+    let wanted = [Some(2), None, Some(0)];
+    expect(&rt, "2 words", "ask_back, ask_front", bits, wanted);
+    expect(&rt, "2 words", "shown", row.shown(), 5);
     Ok(())
 }
 
@@ -81,12 +84,18 @@ fn steps_of_met_cursors_ask_nothing(rt: HostRuntime) {
         step_back(&mut row, &mut cursors),
         step_front(&mut row, &mut cursors),
     ];
-    assert_eq!(rt; bits, [Some(2), None]);
+    expect(
+        &rt,
+        "2 words",
+        "step_back, step_front",
+        bits,
+        [Some(2), None],
+    );
     let asked = row.shown();
     let none = [
         step_front(&mut row, &mut cursors),
         step_back(&mut row, &mut cursors),
     ];
-    assert_eq!(rt; none, [None, None]);
-    assert_eq!(rt; row.shown(), asked);
+    expect(&rt, "2 words", "step_front, step_back", none, [None, None]);
+    expect(&rt, "2 words", "shown", row.shown(), asked);
 }

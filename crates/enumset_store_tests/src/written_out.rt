@@ -81,15 +81,22 @@ fn words_in_use(rt: HostRuntime) {
         ArrayRepr::<67108866>::LEN,
         ArrayRepr::<{ usize::MAX }>::LEN,
     ];
-    assert_eq!(rt; lengths, [0, 1, 3, 67108863, 0, 2, 67108863]);
+    let wanted = [0, 1, 3, 67108863, 0, 2, 67108863];
+    expect(&rt, "N words", "LEN", lengths, wanted);
     let widths = [
         <ArrayRepr<67108863> as EnumSetTypeRepr>::WIDTH,
         <ArrayRepr<67108864> as EnumSetTypeRepr>::WIDTH,
         <ArrayRepr<67108866> as EnumSetTypeRepr>::WIDTH,
     ];
-    assert_eq!(rt; widths, [4294967232, 0, 128]);
+    expect(&rt, "N words", "WIDTH", widths, [4294967232, 0, 128]);
     let words = <ArrayRepr<67108863> as EnumSetTypeRepr>::PREFERRED_ARRAY_LEN;
-    assert_eq!(rt; words, 67108863);
+    expect(
+        &rt,
+        "67108863 words",
+        "PREFERRED_ARRAY_LEN",
+        words,
+        67108863,
+    );
 }
 
 #[test]
