@@ -1,11 +1,8 @@
 use Rattle.std.proofs.Common.{sym, ap, ◌∙◌}
 use Rattle.enumset_repr.specs.BitSet.{insert, union}
 use Rattle.enumset_repr.specs.Laws.Algebra.{union_insert}
-use Rattle.enumset_sets.specs.Laws.Folds.{union_none, from_list_more}
+use Rattle.enumset_sets.specs.Laws.Folds.{from_list_more}
 use Rattle.enumset_sets.proofs.folds.EnumSetExtend.extend.Goals as goal
-
-pub loop-element-init : goal.loop-element-init
-loop-element-init g c = sym (union_none _)
 
 pub loop-element-preserved : goal.loop-element-preserved
 loop-element-preserved g c =

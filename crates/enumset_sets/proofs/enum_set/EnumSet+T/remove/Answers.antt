@@ -1,5 +1,0 @@
-use Rattle.enumset_repr.specs.Laws.Members.{remove-is_subset}
-use Rattle.enumset_sets.proofs.enum_set.EnumSet+T.remove.Goals as goal
-
-pub invariant_of-self : goal.invariant_of-self
-invariant_of-self g c = record { valid_only = rw c.remove_bit.ensures (remove-is_subset _ _ _ c.self.invariant.valid_only); is_value = c.known.ensures; inverse = g.met.T.Repr.EnumSetTypeRepr.inverse _ c.known.ensures }
