@@ -27,10 +27,14 @@ fn sorted_texts<T: EnumSetType + fmt::Display>(
     let mut sets = Vec::new(alloc);
     for number in [7, 4, 1, 6, 0, 3, 5, 2] {
         let mut set = EnumSet::new();
-        for (bit, element) in [(1, p), (2, q), (4, r)] {
-            if number & bit != 0 {
-                set.insert(element);
-            }
+        if number & 1 != 0 {
+            set.insert(p);
+        }
+        if number & 2 != 0 {
+            set.insert(q);
+        }
+        if number & 4 != 0 {
+            set.insert(r);
         }
         sets.push(set)?;
     }
