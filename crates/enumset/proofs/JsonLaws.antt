@@ -1,14 +1,15 @@
 -- What was written of a set is read as that set.
-use Rattle.std.proofs.Common.{◌≡◌, ℕ, ◌+◌, true, if◌then◌else◌, None, Ok, Err, List, [], ◌∷◌, map, refl, ap, ◌∙◌}
+use Rattle.std.proofs.Common.{◌≡◌, ℕ, ◌+◌, ◌*◌, ◌/◌, arith, true, if◌then◌else◌, None, Ok, Err, List, [], ◌∷◌, map, refl, ap, ◌∙◌}
 use Rattle.std.proofs.lemmas.Bool.{lt-ltb}
 use Rattle.enumset_repr.specs.BitSet.{BitSet, is_subset, below}
 use Rattle.enumset_repr.specs.Number.{number, bits}
 use Rattle.enumset_repr.specs.Words.{words, bits_of}
 use Rattle.enumset_repr.specs.Laws.Algebra.{intersection_within}
-use Rattle.enumset_repr.specs.Laws.Low.{number_fits}
+use Rattle.enumset_repr.specs.Laws.Low.{number_fits, low_within, is_subset_wider}
+use Rattle.enumset_sets.specs.Laws.Conversions.{words_within}
 use Rattle.enumset_repr.specs.Laws.Numbers.{bits-number}
 use Rattle.serde_json.specs.View.{items_of}
-use Rattle.enumset.specs.Json.{number_value, words_value, number_below, words_of, words_unless, first_other, accepted, accepted_of, all_bits, set_of_number, set_of_words, mixed_set_of_number}
+use Rattle.enumset.specs.Json.{number_value, words_value, number_below, words_in, words_of, words_unless, first_other, accepted, accepted_of, all_bits, set_of_number, set_of_words, kept_below, kept_of, mixed_set_of_number, mixed_set_of_words}
 use Rattle.enumset.specs.declared.set_json.unknown.Unknown.{Unknown}
 use Rattle.enumset.specs.declared.set_json.unknown.Unknown.TheVariants.{Drop, Refuse}
 use Rattle.enumset.specs.declared.set_json.fault.JsonFault.TheVariants.{OutOfRange, UnknownBits}
@@ -42,3 +43,31 @@ words_and_back s valid n unknown within back =
     ∙ ap (λ ns. accepted valid unknown (bits_of ns)) (words_read (words s n))
     ∙ ap (accepted valid unknown) back
     ∙ accepted_within s valid unknown within
+
+-- ---- words, as a reader takes them
+
+-- words that lose nothing of a set are read as the words that they are
+words_in_back : (s : BitSet) (n : ℕ) → words_in (words_value (words s n)) ≡ Ok (words s n)
+words_in_back s n =
+    ap (λ other. words_unless other (items_of (map number_value (words s n)))) (none_other (words s n) 0)
+    ∙ ap Ok (words_read (words s n))
+
+pub words_accepted : (s valid : BitSet) (n : ℕ) (unknown : Unknown) → bits_of (words s n) ≡ s → set_of_words valid unknown (words_value (words s n)) ≡ accepted valid unknown s
+words_accepted s valid n unknown back =
+    ap (accepted_of bits_of valid unknown) (words_in_back s n) ∙ ap (accepted valid unknown) back
+
+pub number_accepted : (s valid : BitSet) (k : ℕ) (unknown : Unknown) → is_subset s (below k) ≡ true → set_of_number valid k unknown (number_value (number s)) ≡ accepted valid unknown s
+number_accepted s valid k unknown fits =
+    ap (accepted_of bits valid unknown) (number_read s k fits) ∙ ap (accepted valid unknown) (bits-number s)
+
+kept_within : (s : BitSet) (width : ℕ) (past : Unknown) → is_subset s (below width) ≡ true → kept_below width past s ≡ Ok s
+kept_within s width Drop within = ap Ok (low_within s width within)
+kept_within s width Refuse within = ap (λ b. if b then Ok s else Err OutOfRange) within
+
+pub words_kept : (s : BitSet) (width n : ℕ) (past : Unknown) → is_subset s (below width) ≡ true → bits_of (words s n) ≡ s → mixed_set_of_words width past (words_value (words s n)) ≡ Ok s
+words_kept s width n past within back =
+    ap (kept_of width past) (words_in_back s n) ∙ ap (kept_below width past) back ∙ kept_within s width past within
+
+-- as many words as a representation of a width has lose nothing of a set below the width
+pub all_in_words : (s : BitSet) (n width : ℕ) → n ≡ (width + 63) / 64 → is_subset s (below width) ≡ true → bits_of (words s n) ≡ s
+all_in_words s n width is within = words_within s n (is_subset_wider s width (64 * n) (omega (arith, is)) within)

@@ -1,4 +1,8 @@
 mod Results
+mod NameLists
+mod NameLaws
+mod MapLaws
+mod JsonNamed
 pub mod JsonNumbers
 pub mod JsonWords
 pub mod JsonLaws

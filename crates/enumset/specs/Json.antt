@@ -6,10 +6,11 @@
 --     first_other      the first place whose element holds no word, where the first element is at a place
 --     words_in      the words that a value holds, or the fault
 --     accepted      the set of valid bits that is taken of a set, or the fault
---     set_of_number, mixed_set_of_number, set_of_words      the set that a value is read as, or the fault
+--     kept_below      the set of bits below a width that is taken of a set, or the fault
+--     set_of_number, mixed_set_of_number, set_of_words, mixed_set_of_words      the set that a value is read as, or the fault
 --     number_value, words_value      the values that a number and words are written as
 use Rattle.std.specs.Prelude.{ℕ, ◌+◌, ◌^◌, List, [], ◌∷◌, map, nat_lt, Option, Some, None, is_some, unwrap_or, option_and_then, Result, Ok, Err, if◌then◌else◌}
-use Rattle.enumset_repr.specs.BitSet.{BitSet, intersection, is_subset}
+use Rattle.enumset_repr.specs.BitSet.{BitSet, intersection, is_subset, below, low}
 use Rattle.enumset_repr.specs.Number.{bits}
 use Rattle.enumset_repr.specs.Words.{bits_of}
 use Rattle.serde_json.specs.Data.{Data, null, boolean, number, string, array, object, Items, no_items, item, unsigned, negative, float}
@@ -92,6 +93,18 @@ all_bits (Err fault) = Err fault
 
 abbrev pub mixed_set_of_number : ℕ → Data → Result BitSet JsonFault
 mixed_set_of_number width value = all_bits (number_below width value)
+
+-- bits at and past the width are left out, or refused
+abbrev pub kept_below : ℕ → Unknown → BitSet → Result BitSet JsonFault
+kept_below width Drop s = Ok (low s width)
+kept_below width Refuse s = if is_subset s (below width) then Ok s else Err OutOfRange
+
+abbrev pub kept_of : ℕ → Unknown → Result (List ℕ) JsonFault → Result BitSet JsonFault
+kept_of width past (Ok ns) = kept_below width past (bits_of ns)
+kept_of width past (Err fault) = Err fault
+
+abbrev pub mixed_set_of_words : ℕ → Unknown → Data → Result BitSet JsonFault
+mixed_set_of_words width past value = kept_of width past (words_in value)
 
 -- ---- what is written
 

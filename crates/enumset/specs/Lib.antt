@@ -1,3 +1,5 @@
 pub mod Folds
 pub mod Json
 pub mod JsonTexts
+pub mod JsonNames
+pub mod Names

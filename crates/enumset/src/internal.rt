@@ -2,5 +2,5 @@
 
 pub mod set;
 
-pub use enumset_array::array_repr::ArrayRepr;
-pub use enumset_repr::repr::EnumSetTypeRepr;
+pub use enumset_array::ArrayRepr;
+pub use enumset_repr::EnumSetTypeRepr;

@@ -1,42 +1,48 @@
-//! Laws of JSON: what was written of a set is read as that set.
+//! Laws of round trips: what was written of a set is read as that set.
 //!
-//! Each law is a function that does nothing at run time. Code that needs a law calls it at its set, and the proof of
-//! that code then knows what the function ensures.
+//! Those of numbers and words come from `enumset_sets`, and those of JSON stand here. Each law is a function that does
+//! nothing at run time. Code that needs a law calls it at its set, and the proof of that code then knows what the
+//! function ensures.
 
-ghost use Rattle.std.specs.Prelude.{◌≡◌, Ok, IsTrue};
+ghost use Rattle.std.specs.Prelude.{◌≡◌, Ok, Some, IsTrue};
 ghost use Rattle.enumset_repr.specs.BitSet.{below, is_subset};
 ghost use Rattle.enumset_repr.specs.Number.{number};
 ghost use Rattle.enumset_repr.specs.Words.{words};
 ghost use Rattle.enumset.specs.Json.{width_of, number_value, words_value};
 ghost use Rattle.enumset.specs.Json.{set_of_number, set_of_words, mixed_set_of_number};
+ghost use Rattle.enumset.specs.Json.{mixed_set_of_words, accepted};
+ghost use Rattle.enumset.specs.Names.{names_of, name_of, bit_named};
+ghost use Rattle.enumset.specs.JsonNames.{set_of_list, list_value, set_of_map, map_value};
+ghost use Rattle.enumset_sets.specs.Elements.{valid_bits};
 
+use crate::names::EnumSetNames;
 use crate::set_json::{JsonWidth, Unknown};
-use enumset_mixed::mixed_enum_set::MixedEnumSet;
-use enumset_repr::repr::EnumSetTypeRepr;
-use enumset_sets::element::EnumSetType;
-use enumset_sets::enum_set::EnumSet;
-use enumset_sets::laws;
-use enumset_sets::with_repr::EnumSetTypeWithRepr;
+use enumset_mixed::MixedEnumSet;
+use enumset_repr::EnumSetTypeRepr;
+pub use enumset_sets::laws::{
+    all_words_and_back, cut_number_and_back, cut_words_and_back, number_and_back, words_and_back,
+};
+use enumset_sets::{EnumSet, EnumSetType, EnumSetTypeWithRepr};
 
 /// The number that `to_number` writes of a set is read as that set, at the same width: where it answered
 /// `Ok(value)`, `from_number(&value, width, unknown)` is `Ok` of the same set, under `Drop` as under `Refuse`.
 pub fn json_number_and_back<T: EnumSetType>(set: &EnumSet<T>, width: JsonWidth, unknown: Unknown)
     ensures { IsTrue (is_subset set.now (below (width_of width)))
-        → set_of_number (T.Repr.members T.ALL_BITS) (width_of width) unknown
+        → set_of_number (valid_bits T.elements) (width_of width) unknown
         (number_value (number set.now))
         ≡ Ok set.now }
 {
-    laws::number_and_back(set);
+    number_and_back(set);
 }
 
 /// The words that `to_words` writes of a set are read as that set: where it answered `Ok(value)`,
 /// `from_words(&value, unknown)` is `Ok` of the same set, under `Drop` as under `Refuse`.
 pub fn json_words_and_back<T: EnumSetType>(set: &EnumSet<T>, unknown: Unknown)
-    ensures { set_of_words (T.Repr.members T.ALL_BITS) unknown
+    ensures { set_of_words (valid_bits T.elements) unknown
         (words_value (words set.now T.Repr.PREFERRED_ARRAY_LEN))
         ≡ Ok set.now }
 {
-    laws::all_words_and_back(set);
+    all_words_and_back(set);
 }
 
 /// The number that `mixed_to_number` writes of a mixed set is read as that set, unknown bits included:
@@ -44,5 +50,82 @@ pub fn json_words_and_back<T: EnumSetType>(set: &EnumSet<T>, unknown: Unknown)
 pub fn json_mixed_number_and_back<T: EnumSetTypeWithRepr>(set: &MixedEnumSet<T>)
     ensures { mixed_set_of_number T.Repr.WIDTH (number_value (number set.now)) ≡ Ok set.now }
 {
-    set.as_repr().known();
+    set.as_repr().learn_is_value();
+}
+
+/// The words that `mixed_to_words` writes of a mixed set are read as that set, unknown bits included:
+/// `mixed_from_words` of it is `Ok` of the same set, under `Drop` as under `Refuse`.
+pub fn json_mixed_words_and_back<T: EnumSetTypeWithRepr>(set: &MixedEnumSet<T>, past: Unknown)
+    ensures { mixed_set_of_words T.Repr.WIDTH past
+        (words_value (words set.now T.Repr.PREFERRED_ARRAY_LEN))
+        ≡ Ok set.now }
+{
+    set.as_repr().learn_is_value();
+}
+
+/// A value's name is the name of that value, and no other text is.
+pub fn name_and_back<T: EnumSetNames>(element: T, text: &str)
+    ensures back { bit_named (names_of T.elements T.names)
+        (name_of (names_of T.elements T.names) (T.elements.bit element))
+        ≡ Some (T.elements.bit element) }
+    ensures only { bit_named (names_of T.elements T.names) text.now ≡ Some (T.elements.bit element)
+        → text.now ≡ name_of (names_of T.elements T.names) (T.elements.bit element) }
+{}
+
+/// The list that `to_list` writes of a set is read as that set: where it answered `Ok(value)`,
+/// `from_list(&value, unknown)` is `Ok` of the same set, under `Drop` as under `Refuse`.
+pub fn json_list_and_back<T: EnumSetNames>(set: &EnumSet<T>, unknown: Unknown)
+    ensures { set_of_list (names_of T.elements T.names) unknown
+        (list_value (names_of T.elements T.names) set.now)
+        ≡ Ok set.now }
+{
+    number_and_back(set);
+}
+
+/// The map that `to_map` writes of a set is read as that set: where it answered `Ok(value)`,
+/// `from_map(&value, unknown)` is `Ok` of the same set, under `Drop` as under `Refuse`.
+pub fn json_map_and_back<T: EnumSetNames>(set: &EnumSet<T>, unknown: Unknown)
+    ensures { set_of_map (names_of T.elements T.names) unknown
+        (map_value (names_of T.elements T.names) set.now)
+        ≡ Ok set.now }
+{
+    number_and_back(set);
+}
+
+/// What a writer of one element type wrote of a set, a reader of another reads as exactly the members that it knows
+/// under `Drop`, and under `Refuse` exactly where there is no other: as numbers at a width that the members are below,
+/// and as words.
+pub fn older_reader<Old: EnumSetType, New: EnumSetType>(
+    set: &EnumSet<New>,
+    width: JsonWidth,
+    unknown: Unknown,
+)
+    ensures number { IsTrue (is_subset set.now (below (width_of width)))
+        → set_of_number (valid_bits Old.elements) (width_of width) unknown
+        (number_value (number set.now))
+        ≡ accepted (valid_bits Old.elements) unknown set.now }
+    ensures words { set_of_words (valid_bits Old.elements) unknown
+        (words_value (words set.now New.Repr.PREFERRED_ARRAY_LEN))
+        ≡ accepted (valid_bits Old.elements) unknown set.now }
+{
+    all_words_and_back(set);
+}
+
+/// A mixed set of one element type carries what a writer of another wrote, where its representation has room for it,
+/// and what it writes again the other reads as it was: as words, whatever the two representations.
+pub fn carried_along<Old: EnumSetTypeWithRepr, New: EnumSetType>(
+    set: &EnumSet<New>,
+    past: Unknown,
+    unknown: Unknown,
+)
+    ensures carried { IsTrue (is_subset set.now (below Old.Repr.WIDTH))
+        → mixed_set_of_words Old.Repr.WIDTH past
+        (words_value (words set.now New.Repr.PREFERRED_ARRAY_LEN))
+        ≡ Ok set.now }
+    ensures as_it_was { IsTrue (is_subset set.now (below Old.Repr.WIDTH))
+        → set_of_words (valid_bits New.elements) unknown
+        (words_value (words set.now Old.Repr.PREFERRED_ARRAY_LEN))
+        ≡ Ok set.now }
+{
+    all_words_and_back(set);
 }

@@ -9,10 +9,9 @@ pub mod folds;
 pub mod internal;
 pub mod laws;
 mod macros;
+mod names;
 pub mod set;
 pub mod set_json;
 
-pub use enumset_sets::element::EnumSetType;
-pub use enumset_sets::enum_set::EnumSet;
-pub use enumset_sets::enum_set_iter::EnumSetIter;
-pub use enumset_sets::with_repr::EnumSetTypeWithRepr;
+pub use enumset_sets::{EnumSet, EnumSetIter, EnumSetType, EnumSetTypeWithRepr, variant_of};
+pub use names::EnumSetNames;

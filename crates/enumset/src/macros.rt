@@ -65,3 +65,19 @@ macro_rules! enum_set_complement {
         $set.complement()
     };
 }
+
+/// The table that [`EnumSetNames::names`](crate::EnumSetNames::names) answers: `names_of!(Right: Read Write Share)`
+/// names the enum and all its variants, in the order of the list of bits, each to be known by the name that it has
+/// there. Where the names are others, each stands after its variant: `names_of!(Right: Read "read" Write "write")`.
+#[macro_export]
+macro_rules! names_of {
+    ($of:ident:) => {
+        &[]
+    };
+    ($of:ident: $($variant:ident)+) => {
+        &[$(($of::$variant, stringify!($variant))),+]
+    };
+    ($of:ident: $($variant:ident $name:literal)+) => {
+        &[$(($of::$variant, $name)),+]
+    };
+}

@@ -1,9 +1,13 @@
-//! Sets to and from JSON values of `serde_json`: as one number, or as the array of the set's words of 64 bits.
+//! Sets to and from JSON values of `serde_json`: as one number, as the array of the set's words of 64 bits, as the list
+//! of its members' names, or as a map of names to booleans.
 //!
 //! In Rust's `enumset` these are the forms that its `serde` feature writes and reads.
 
 mod elements;
 mod fault;
+mod known;
+mod lists;
+mod maps;
 mod mixed;
 mod numbers;
 mod unknown;
@@ -12,7 +16,9 @@ mod width;
 mod words;
 
 pub use fault::JsonFault;
-pub use mixed::{mixed_from_number, mixed_to_number};
+pub use lists::{from_list, to_list};
+pub use maps::{from_map, to_map};
+pub use mixed::{mixed_from_number, mixed_from_words, mixed_to_number, mixed_to_words};
 pub use numbers::{from_number, to_number};
 pub use unknown::Unknown;
 pub use width::JsonWidth;

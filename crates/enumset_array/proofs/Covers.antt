@@ -1,4 +1,4 @@
--- The words that the cursors of a row have between them: at the start, and with one word fewer.
+-- The words between the cursors of a row: at the start, and with one word fewer.
 use Rattle.std.proofs.Common.{◌≡◌, ℕ, ◌+◌, ◌-◌, List, length, sym, ap, ◌∙◌, subst, arith, inl, inr}
 use Rattle.std.specs.Prelude.{slice_index}
 use Rattle.std.proofs.lemmas.Bool.{cases_lt}
@@ -12,7 +12,7 @@ covers_all ws = record {
   past = λ i h. get_or_past ws i 0 h;
 }
 
--- an empty word at the front cursor is passed
+-- a front cursor at an empty word may pass it
 pub covers_next : (ws vs : List ℕ) (front back : ℕ) → Covers ws (record { front = front; back = back }) → slice_index ws front ≡ 0 → vs ≡ ws → Covers vs (record { front = front + 1; back = back })
 covers_next ws vs front back covers none same = subst (λ us. Covers us (record { front = front + 1; back = back })) (sym same) (record {
   within = covers.within;
@@ -23,7 +23,7 @@ covers_next ws vs front back covers none same = subst (λ us. Covers us (record 
   past = covers.past;
 })
 
--- an empty word right before the back cursor is passed
+-- a back cursor right past an empty word may pass it
 pub covers_down : (ws vs : List ℕ) (front back : ℕ) → Covers ws (record { front = front; back = back }) → slice_index ws (back - 1) ≡ 0 → vs ≡ ws → Covers vs (record { front = front; back = back - 1 })
 covers_down ws vs front back covers none same = subst (λ us. Covers us (record { front = front; back = back - 1 })) (sym same) (record {
   within = omega (arith, covers.within);

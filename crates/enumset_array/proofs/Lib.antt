@@ -1,9 +1,9 @@
-pub mod Counts
+pub mod ItemCounts
 pub mod WordLanes
 pub mod Covers
 pub mod Walks
-pub mod Wordwise
-pub mod Places
+pub mod CombinedWords
+pub mod ReplacedWord
 pub mod RowWords
-pub mod Taken
-pub mod WordLists
+pub mod EndTakenOut
+pub mod BitTakenOut

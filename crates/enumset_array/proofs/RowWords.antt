@@ -1,37 +1,37 @@
--- The words of a row, one of which was replaced, and the bits of words counted one by one.
+-- The words of a row after one of them was replaced, and the bits of words counted word by word.
 use Rattle.std.proofs.Common.{◌≡◌, ◌<◌, ◌≤◌, ℕ, ◌+◌, ◌^◌, List, [], ◌∷◌, ◌++◌, length, take, set, refl, sym, ap, subst, ◌∙◌, arith, add-one, zero-add}
 use Rattle.std.specs.Int.RustNames.{count_ones}
 use Rattle.std.specs.Prelude.{slice_index, sum_by, Option, Some, None, MatchOption}
 use Rattle.std.proofs.Math.Seq.{take-set-lt, take-suc}
 use Rattle.std.proofs.lemmas.List.Sums.{sum_by-append}
 use Rattle.std.proofs.lemmas.List.{length-take, get_or-set_same}
-use Rattle.enumset_repr.specs.BitSet.{len, rising}
+use Rattle.enumset_repr.specs.BitSet.{len, ascending}
 use Rattle.enumset_repr.specs.Number.{bits}
-use Rattle.enumset_repr.specs.Laws.Rising.{len-below}
+use Rattle.enumset_repr.specs.Laws.Ascending.{len-below}
 use Rattle.enumset_repr.specs.Laws.Numbers.{bits-within, len-bits}
-use Rattle.enumset_array.specs.Stored.{in_use, used, IsStore}
-use Rattle.enumset_array.proofs.Places.{set_store}
-use Rattle.enumset_array.proofs.Taken.{taken_small, taken_first, taken_last}
+use Rattle.enumset_array.specs.ArrayWords.{in_use, words_in_use, IsArrayRepr}
+use Rattle.enumset_array.proofs.ReplacedWord.{set_repr}
+use Rattle.enumset_array.proofs.EndTakenOut.{taken_small, taken_first, taken_last}
 
 -- ---- one word replaced
 
-module _ (n : ℕ) (ws : List ℕ) (i x : ℕ) (low : i < length (used n ws)) where
+module _ (n : ℕ) (ws : List ℕ) (i x : ℕ) (low : i < length (words_in_use n ws)) where
   low_use : i < in_use n
   low_use = omega (arith, low, length-take (in_use n) ws)
 
-  row_set : used n (set ws i x) ≡ set (used n ws) i x
+  row_set : words_in_use n (set ws i x) ≡ set (words_in_use n ws) i x
   row_set = take-set-lt (in_use n) ws i x low_use
 
-  pub row_others : used n (set ws i x) ≡ set (used n ws) i (slice_index (used n (set ws i x)) i)
-  row_others = row_set ∙ ap (set (used n ws) i) (sym (ap (λ xs. slice_index xs i) row_set ∙ get_or-set_same (used n ws) i x 0 low))
+  pub row_others : words_in_use n (set ws i x) ≡ set (words_in_use n ws) i (slice_index (words_in_use n (set ws i x)) i)
+  row_others = row_set ∙ ap (set (words_in_use n ws) i) (sym (ap (λ xs. slice_index xs i) row_set ∙ get_or-set_same (words_in_use n ws) i x 0 low))
 
-  pub row_store : IsStore n ws → x < 2 ^ 64 → IsStore n (set ws i x)
-  row_store store fits = set_store n ws i x store low_use fits
+  pub row_repr : IsArrayRepr n ws → x < 2 ^ 64 → IsArrayRepr n (set ws i x)
+  row_repr is_repr fits = set_repr n ws i x is_repr low_use fits
 
--- ---- what is left of a word out of which a step took a bit, at whose end `joined` puts it
+-- ---- a word after a step took out a bit, which `joined` puts back at its end
 
 abbrev pub Gives : (ℕ → List ℕ → List ℕ) → ℕ → Option ℕ → ℕ → Type 0
-Gives joined x r y = MatchOption r ((x ≡ 0) × (y ≡ x)) (λ b. rising (bits x) ≡ joined b (rising (bits y)))
+Gives joined x r y = MatchOption r ((x ≡ 0) × (y ≡ x)) (λ b. ascending (bits x) ≡ joined b (ascending (bits y)))
 
 pub front_fits : (x y : ℕ) (r : Option ℕ) → x < 2 ^ 64 → Gives (λ b bs. b ∷ bs) x r y → y < 2 ^ 64
 front_fits x y None fits left = subst (λ m. m < 2 ^ 64) (sym left.1) fits

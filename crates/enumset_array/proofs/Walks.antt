@@ -1,15 +1,15 @@
--- The laws of steps from either end of a list: no end, and one end more.
+-- The laws of steps from either end of a list: no step, and one step more.
 use Rattle.std.proofs.Common.{◌≡◌, ◌<◌, ◌≤◌, ℕ, suc, ◌+◌, List, [], ◌∷◌, ◌++◌, Option, Some, None, length, take, get_or, add-one, take-suc, is_some, MatchOption, if◌then◌else◌, refl, sym, ap, ◌∙◌, subst, arith, length-append, append-nil, inl, inr, IfNone, Contains}
 use Rattle.std.specs.Prelude.{filter_map}
 use Rattle.std.proofs.lemmas.List.Elements.{filter_map-append, Contains-push_cases}
 use Rattle.enumset_repr.specs.BitSet.{BitSet, remove, difference, from_list}
 use Rattle.enumset_repr.specs.Laws.Members.{members, same_set, contains-from_list}
-use Rattle.enumset_repr.specs.Laws.Rising.{is_in-push}
-use Rattle.enumset_array.specs.declared.walk.End.{End}
-use Rattle.enumset_array.specs.declared.walk.End.TheVariants.{Front}
-use Rattle.enumset_array.specs.Walks.{answer, without_answer, answers, without_answers, given}
+use Rattle.enumset_repr.specs.Laws.Ascending.{is_in-push}
+use Rattle.enumset_array.specs.declared.traversal.End.{End}
+use Rattle.enumset_array.specs.declared.traversal.End.TheVariants.{Front}
+use Rattle.enumset_array.specs.Walks.{answer, without_answer, answers, without_answers, items_among}
 
--- ---- one end more
+-- ---- one step more
 
 pub answers-push : (xs : List ℕ) (es : List End) (e : End) → answers xs (es ++ e ∷ []) ≡ answers xs es ++ answer e (without_answers xs es) ∷ []
 unfolding answers without_answers
@@ -21,52 +21,52 @@ unfolding without_answers
 without_answers-push xs [] e = refl
 without_answers-push xs (f ∷ fs) e = without_answers-push (without_answer f xs) fs e
 
-pub given-push_some : (rs : List (Option ℕ)) (b : ℕ) → given (rs ++ Some b ∷ []) ≡ given rs ++ b ∷ []
-unfolding given
-given-push_some rs b = filter_map-append (λ (r : Option ℕ). r) rs (Some b ∷ [])
+pub items_among-push_some : (rs : List (Option ℕ)) (b : ℕ) → items_among (rs ++ Some b ∷ []) ≡ items_among rs ++ b ∷ []
+unfolding items_among
+items_among-push_some rs b = filter_map-append (λ (r : Option ℕ). r) rs (Some b ∷ [])
 
-pub given-push_none : (rs : List (Option ℕ)) → given (rs ++ None ∷ []) ≡ given rs
-unfolding given
-given-push_none rs = filter_map-append (λ (r : Option ℕ). r) rs (None ∷ []) ∙ append-nil (filter_map (λ r. r) rs)
+pub items_among-push_none : (rs : List (Option ℕ)) → items_among (rs ++ None ∷ []) ≡ items_among rs
+unfolding items_among
+items_among-push_none rs = filter_map-append (λ (r : Option ℕ). r) rs (None ∷ []) ∙ append-nil (filter_map (λ r. r) rs)
 
-pub length-given-push : (rs : List (Option ℕ)) (r : Option ℕ) → length (given (rs ++ r ∷ [])) ≡ length (given rs) + (if is_some r then 1 else 0)
-length-given-push rs None = ap length (given-push_none rs) ∙ omega arith
-length-given-push rs (Some b) = ap length (given-push_some rs b) ∙ length-append (given rs) (b ∷ [])
+pub length-items_among-push : (rs : List (Option ℕ)) (r : Option ℕ) → length (items_among (rs ++ r ∷ [])) ≡ length (items_among rs) + (if is_some r then 1 else 0)
+length-items_among-push rs None = ap length (items_among-push_none rs) ∙ omega arith
+length-items_among-push rs (Some b) = ap length (items_among-push_some rs b) ∙ length-append (items_among rs) (b ∷ [])
 
-pub length-given : (rs : List (Option ℕ)) → length (given rs) ≤ length rs
-unfolding given
-length-given [] = omega arith
-length-given (None ∷ rs) = omega (arith, length-given rs)
-length-given (Some b ∷ rs) = omega (arith, length-given rs)
+pub length-items_among : (rs : List (Option ℕ)) → length (items_among rs) ≤ length rs
+unfolding items_among
+length-items_among [] = omega arith
+length-items_among (None ∷ rs) = omega (arith, length-items_among rs)
+length-items_among (Some b ∷ rs) = omega (arith, length-items_among rs)
 
 pub length-answers : (xs : List ℕ) (es : List End) → length (answers xs es) ≡ length es
 unfolding answers
 length-answers xs [] = refl
 length-answers xs (e ∷ es) = ap suc (length-answers (without_answer e xs) es)
 
--- ---- the set without the items given
+-- ---- the set without the items among the answers
 
-pub difference-none : (s : BitSet) → s ≡ difference s (from_list (given []))
-unfolding given
+pub difference-none : (s : BitSet) → s ≡ difference s (from_list (items_among []))
+unfolding items_among
 difference-none s = same_set s _ (λ q. grind (arith, members, contains-from_list [] q))
 
 difference-push : (s : BitSet) (bs : List ℕ) (b : ℕ) → remove (difference s (from_list bs)) b ≡ difference s (from_list (bs ++ b ∷ []))
 difference-push s bs b = same_set _ _ (λ q. grind (arith, members, contains-from_list, is_in-push))
 
--- the set after a step that gave r
-pub difference-step : (s t u : BitSet) (rs : List (Option ℕ)) (r : Option ℕ) → t ≡ difference s (from_list (given rs)) → MatchOption r (u ≡ t) (λ b. u ≡ remove t b) → u ≡ difference s (from_list (given (rs ++ r ∷ [])))
-difference-step s t u rs None e step = step ∙ e ∙ ap (λ bs. difference s (from_list bs)) (sym (given-push_none rs))
+-- the set after a step that yielded r
+pub difference-step : (s t u : BitSet) (rs : List (Option ℕ)) (r : Option ℕ) → t ≡ difference s (from_list (items_among rs)) → MatchOption r (u ≡ t) (λ b. u ≡ remove t b) → u ≡ difference s (from_list (items_among (rs ++ r ∷ [])))
+difference-step s t u rs None e step = step ∙ e ∙ ap (λ bs. difference s (from_list bs)) (sym (items_among-push_none rs))
 difference-step s t u rs (Some b) e step =
-    step ∙ ap (λ v. remove v b) e ∙ difference-push s (given rs) b ∙ ap (λ bs. difference s (from_list bs)) (sym (given-push_some rs b))
+    step ∙ ap (λ v. remove v b) e ∙ difference-push s (items_among rs) b ∙ ap (λ bs. difference s (from_list bs)) (sym (items_among-push_some rs b))
 
--- once None was among the answers, the cursors have met
+-- once an answer was None, the cursors have met
 pub none-push : (rs : List (Option ℕ)) (r : Option ℕ) (P Q : Type 0) → (Contains rs None → P) → (P → r ≡ None) → IfNone r Q → Contains (rs ++ r ∷ []) None → Q
 none-push rs r P Q before stays met has = elim (Contains-push_cases rs r None has) [
   | inl earlier ↦ subst (λ o. IfNone o Q) (stays (before earlier)) met
   | inr now ↦ subst (λ o. IfNone o Q) now met
 ]
 
--- ---- no end
+-- ---- no step
 
 pub no_answers : (xs : List ℕ) → answers xs [] ≡ []
 unfolding answers
@@ -76,14 +76,14 @@ pub all_left : (xs : List ℕ) → without_answers xs [] ≡ xs
 unfolding without_answers
 all_left xs = refl
 
-pub none_given : length (given []) ≡ 0
-unfolding given
+pub none_given : length (items_among []) ≡ 0
+unfolding items_among
 none_given = refl
 
 pub none_in_no_answers : (rs : List (Option ℕ)) → rs ≡ [] → Contains rs None → ⊥
 none_in_no_answers rs e has = let short : length rs ≡ 0 = ap length e in absurd (omega (arith, has.1))
 
--- ---- one end of a list of ends after another
+-- ---- the next end of a list of ends
 
 one_more : (es : List End) (i : ℕ) → i < length es → take (i + 1) es ≡ take i es ++ get_or es i Front ∷ []
 one_more es i h = ap (λ n. take n es) (add-one i) ∙ take-suc es i Front h

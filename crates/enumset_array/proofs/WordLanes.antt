@@ -1,4 +1,4 @@
--- Lists of words that are gone through four at a time.
+-- Loops over lists of words, four words at a time.
 use Rattle.std.proofs.Common.{◌≡◌, ◌≢◌, ◌<◌, ◌≤◌, ℕ, zero, suc, ◌+◌, Bool, true, false, ◌&&◌, List, [], ◌∷◌, length, take, drop, set, bit_and, bit_or, refl, sym, ap, ◌∙◌, arith, w64, map, add-one}
 use Rattle.std.specs.Prelude.{◌==◌, nat_eq, slice_index, bit_xor}
 use Rattle.std.specs.Int.{bit_not}
@@ -16,7 +16,7 @@ use Rattle.std.proofs.lemmas.Nat.{le_or_l, xor_comm}
 use Rattle.std.proofs.lemmas.Simd.{length-chunk}
 use lib.Bits.{xor_assoc, xor_self, xor_zero_r}
 
--- ---- the first k words combined with others, and those from k on as they were
+-- ---- a list whose first k words were combined with others
 
 pub part_made : (ℕ → ℕ → ℕ) → ℕ → List ℕ → List ℕ → List ℕ
 part_made op zero a b = a
@@ -71,13 +71,13 @@ lanes_made op (suc i) n (suc j) [] b e s = refl
 lanes_made op (suc i) n (suc j) (x ∷ a) [] e s = absurd (omega (arith, e))
 lanes_made op (suc i) n (suc j) (x ∷ a) (y ∷ b) e s = ap (λ l. op x y ∷ l) (lanes_made op i n j a b (omega (arith, e)) (omega (arith, s)))
 
--- `&` of lanes, the second of which are turned
+-- `a & !b` on lanes
 pub turned_lanes : (a b : List ℕ) → zip2 bit_and a (map (bit_not w64) b) ≡ zip2 (λ x y. bit_and x (bit_not w64 y)) a b
 turned_lanes [] b = refl
 turned_lanes (x ∷ a) [] = refl
 turned_lanes (x ∷ a) (y ∷ b) = ap (λ l. bit_and x (bit_not w64 y) ∷ l) (turned_lanes a b)
 
--- an operation that sees the first lanes alone
+-- an operation that uses the first lanes alone
 pub first_lanes : (op : ℕ → ℕ) (a b : List ℕ) → length a ≡ length b → map op a ≡ zip2 (λ x _. op x) a b
 first_lanes op [] b e = refl
 first_lanes op (x ∷ a) [] e = absurd (omega (arith, e))
@@ -88,7 +88,7 @@ first_alone [] b e = refl
 first_alone (x ∷ a) [] e = absurd (omega (arith, e))
 first_alone (x ∷ a) (y ∷ b) e = ap (λ l. x ∷ l) (first_alone a b (omega (arith, e)))
 
--- ---- parts of what an operation answers
+-- ---- parts of a list of results
 
 none_zipped : (op : ℕ → ℕ → ℕ) (a : List ℕ) → zip2 op a [] ≡ []
 none_zipped op [] = refl
@@ -106,7 +106,7 @@ chunk-zip2 op (suc i) n [] b = take-zip2 op n [] (drop (suc i) b)
 chunk-zip2 op (suc i) n (x ∷ a) [] = ap (take n) (sym (none_zipped op (drop i a))) ∙ take-zip2 op n (drop i a) []
 chunk-zip2 op (suc i) n (x ∷ a) (y ∷ b) = chunk-zip2 op i n a b
 
--- ---- words of which all are 0
+-- ---- words that are all 0
 
 abbrev pub none_in : List ℕ → Bool
 none_in ws = list_all (λ w. w == 0) ws
@@ -134,15 +134,15 @@ zip_none [] (y ∷ b) e = absurd (omega (arith, e))
 zip_none (x ∷ a) [] e = absurd (omega (arith, e))
 zip_none (x ∷ a) (y ∷ b) e = (λ i. or_none x y i && zip_none a b (omega (arith, e)) i) ∙ shuffled (x == 0) (y == 0) (none_in a) (none_in b)
 
--- the first j words are the first i and n more
+-- the test of the first j words, from that of the first i and that of the next n
 pub more_none : (ws : List ℕ) (i n j : ℕ) → j ≡ i + n → none_in (take j ws) ≡ (none_in (take i ws) && none_in (chunk i n ws))
 more_none ws i n j next = ap (λ k. none_in (take k ws)) next ∙ ap none_in (take-add i n ws) ∙ list_all-append (λ w. w == 0) (take i ws) (chunk i n ws)
 
--- all words are the first n and those from n on
+-- the test of all words, from that of the first n and that of the others
 pub split_none : (ws : List ℕ) (n : ℕ) → none_in ws ≡ (none_in (take n ws) && none_in (drop n ws))
 split_none ws n = ap none_in (sym (take-append-drop n ws)) ∙ list_all-append (λ w. w == 0) (take n ws) (drop n ws)
 
--- four words more, on lanes
+-- four words more, as lanes
 pub joined_none : (ws lanes : List ℕ) (i j : ℕ) → j ≡ i + 4 → j ≤ length ws → length lanes ≡ 4 → none_in lanes ≡ none_in (take i ws)
     → none_in (zip2 bit_or lanes (chunk i 4 ws)) ≡ none_in (take j ws)
 joined_none ws lanes i j next long four before =
@@ -155,7 +155,7 @@ one_none ws any i j next low before =
     ∙ sym (ap (λ k. none_in (take k ws)) (next ∙ add-one i) ∙ ap none_in (take-suc ws i 0 low) ∙ list_all-append (λ w. w == 0) (take i ws) (slice_index ws i ∷ [])
     ∙ ap (λ t. none_in (take i ws) && t) (and-true (slice_index ws i == 0)))
 
--- `^` answers 0 exactly of two words that are the same
+-- `^` yields 0 only for equal words
 same_of_none : (x y : ℕ) → bit_xor x y ≡ 0 → x ≡ y
 same_of_none x y none =
     sym (xor_zero_r x) ∙ ap (bit_xor x) (sym (xor_self y)) ∙ sym (xor_assoc x y y) ∙ ap (λ z. bit_xor z y) none ∙ xor_comm 0 y ∙ xor_zero_r y
@@ -171,13 +171,13 @@ none_apart [] (y ∷ b) e = absurd (omega (arith, e))
 none_apart (x ∷ a) [] e = absurd (omega (arith, e))
 none_apart (x ∷ a) (y ∷ b) e = (λ i. xor_none x y i && none_apart a b (omega (arith, e)) i)
 
--- ---- words gone through in blocks, of which `any` is 0 exactly if all of one are
+-- ---- blocks of words, where `any` is 0 exactly if all words of a block are
 
 -- one block more
 pub next_block : (ws : List ℕ) (i n j any : ℕ) → j ≡ i + n → none_in (take i ws) ≡ true → (any == 0) ≡ none_in (chunk i n ws) → any ≡ 0 → none_in (take j ws) ≡ true
 next_block ws i n j any next before here none = more_none ws i n j next ∙ (λ k. before k && (sym here ∙ ap (λ x. x == 0) none) k)
 
--- a block of which one word is not 0
+-- a block with a word that is not 0
 pub some_block : (ws : List ℕ) (i n any : ℕ) → (any == 0) ≡ none_in (chunk i n ws) → any ≢ 0 → none_in ws ≡ false
 some_block ws i n any here some =
     let apart : (any == 0) ≡ false = grind (arith, nat_tests, some) in

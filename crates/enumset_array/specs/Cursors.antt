@@ -1,7 +1,7 @@
--- The words that two cursors have still between them.
---     Reach      from the word at `front` up to, and without, the word at `back`
---     span      how many words that is
---     Covers      each word outside is empty
+-- Two cursors over a list of words. The words between them may still have bits.
+--     Reach      the words from the one at `front` up to the one before `back`
+--     span      the number of these words
+--     Covers      `back` is at most the number of words, and each word outside is 0
 use Rattle.std.specs.Prelude.{◌≡◌, ℕ, ◌-◌, ◌<◌, ◌≤◌, List, length, slice_index}
 
 pub record Reach : Type 0 where

@@ -1,7 +1,7 @@
--- The laws of lists of words, each proved. Nothing here has to be believed: a contract cites the definitions alone.
+-- The laws of lists of words, each proved. Nothing here has to be believed: contracts cite the definitions alone.
 --     Zeros      lists of zeros
---     Stored      the laws of a store of words
+--     ArrayWords      the laws of the words of an `ArrayRepr`
 --     Order      the order of words is that of the sets
 pub mod Zeros
-pub mod Stored
+pub mod ArrayWords
 pub mod Order

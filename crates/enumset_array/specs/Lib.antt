@@ -1,8 +1,8 @@
 pub mod Cursors
 pub mod Laws
 pub mod OneStep
-pub mod Stored
+pub mod ArrayWords
 pub mod Order
 pub mod Views
 pub mod Walks
-pub mod WordList
+pub mod Items

@@ -1,8 +1,9 @@
--- One step over words, from either end: what it does to their set, to the count of asks and to the cursors.
---     TakesOut      the bit that it answers is taken out, and no other; where it answers none, the set stays
---     CountsAsks      asks and span together are one more where a bit is answered, and as many where none is; after
---         none the cursors meet; where they met before, none is answered, with no ask
---     MovesFront, MovesBack      the one cursor alone has moved, if at all towards the other
+-- One step over words, from either end: what it does to their set, to the number of asks and to the cursors.
+--     TakesOut      the bit that the step yields is taken out of the set, and no other; if it yields none, the set
+--         stays; the number of words stays
+--     CountsAsks      the sum of asks and span grows by one if the step yields a bit, and stays otherwise; if it yields
+--         none, the cursors have met; if they had met before, it yields none and makes no ask
+--     MovesFront, MovesBack      that cursor alone may move, towards the other and not past it
 use Rattle.std.specs.Prelude.{◌≡◌, ℕ, ◌+◌, ◌≤◌, List, length, Option, None, IfNone, MatchOption, is_some, if◌then◌else◌}
 use Rattle.enumset_repr.specs.BitSet.{remove}
 use Rattle.enumset_array.specs.Cursors.{Reach}

@@ -1,5 +1,5 @@
 -- The order of lists of words.
---     highest_first      how two lists of words compare: by the highest place where they differ
+--     highest_first      how two lists of the same length compare: by the highest place where they differ
 use Rattle.std.specs.Prelude.{ℕ, List, reverse}
 use Rattle.std.specs.declared.cmp.Ordering.{Ordering}
 use Rattle.std.specs.Ordering.{nat_cmp}

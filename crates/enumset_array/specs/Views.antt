@@ -1,8 +1,7 @@
 -- What contracts see of a row of words, and of an iterator over words.
---     RowView      a row: its words, and how many asks were made
---     IterView      an iterator: the items that it has still to give, how many asks were made, and how many words
---         are between its cursors
---     AreWords      the words of a row: fewer than the limit, each a number of 64 bits
+--     RowView      a row: its words, and the number of asks so far
+--     IterView      an iterator: the items left, the number of asks so far, and the span of its cursors
+--     AreWords      what holds of the words of a row: they are fewer than the limit, and each is a number of 64 bits
 use Rattle.std.specs.Prelude.{ℕ, ◌<◌, ◌^◌, List, length, slice_index}
 use Rattle.enumset_array.specs.declared.array_repr.TheConstants.{WORD_LIMIT}
 

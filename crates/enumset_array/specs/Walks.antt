@@ -1,12 +1,13 @@
 -- Steps from either end of a list.
---     answer      what a step from an end answers: the first of the list or its last, and None of the empty list
---     without_answer      the list without it
---     answers, without_answers      the same of one step for each of a list of ends
---     given      the items among the answers
+--     answer      what a step from an end yields: the first item of the list or its last, or None if the list is empty
+--     without_answer      the list without that item
+--     answers, without_answers      what the steps from a list of ends yield, one after another;  the list that they
+--         leave
+--     items_among      the items among the answers: each that is not None
 use Rattle.std.specs.Prelude.{ℕ, List, [], ◌∷◌, Option, filter_map}
 use Rattle.enumset_repr.specs.Ends.{first, last, without_first, without_last}
-use Rattle.enumset_array.specs.declared.walk.End.{End}
-use Rattle.enumset_array.specs.declared.walk.End.TheVariants.{Front, Back}
+use Rattle.enumset_array.specs.declared.traversal.End.{End}
+use Rattle.enumset_array.specs.declared.traversal.End.TheVariants.{Front, Back}
 
 abbrev pub answer : End → List ℕ → Option ℕ
 answer Front xs = first xs
@@ -24,5 +25,5 @@ unfoldable pub without_answers : List ℕ → List End → List ℕ
 without_answers xs [] = xs
 without_answers xs (e ∷ es) = without_answers (without_answer e xs) es
 
-unfoldable pub given : List (Option ℕ) → List ℕ
-given rs = filter_map (λ r. r) rs
+unfoldable pub items_among : List (Option ℕ) → List ℕ
+items_among rs = filter_map (λ r. r) rs

@@ -1,11 +1,11 @@
-//! The iterator over many words.
+//! The iterator of the representation of many words.
 
 ghost use Rattle.std.specs.Prelude.{◌≡◌, length, IfSome, Some, ⊤};
 ghost use Rattle.std.specs.Iterator.{YieldsFirst, YieldsLast, item_count, at_most, UpTo, MakesProgress};
 ghost use Rattle.std.specs.Iterator.SizeHint.{IsWithinCount};
-ghost use Rattle.enumset_repr.specs.BitSet.{rising};
+ghost use Rattle.enumset_repr.specs.BitSet.{ascending};
 ghost use Rattle.enumset_array.specs.OneStep.{CountsAsks};
-ghost use Rattle.enumset_array.specs.Stored.{in_use, set_of};
+ghost use Rattle.enumset_array.specs.ArrayWords.{in_use, set_of};
 
 use crate::array_repr::ArrayRepr;
 use crate::cursors::{Cursors, step_back, step_front};
@@ -14,10 +14,10 @@ use crate::rows::Words;
 use std::alloc::AllocError;
 use std::marker::Model;
 
-/// The members of a store of words, each once, rising, from both ends.
+/// An iterator over the members of an `ArrayRepr`, each once, ascending, from both ends.
 ///
-/// It mirrors `ArrayIter` of Rust's `enumset`. Contracts see what it has still to give, how often its
-/// words were asked and how many words are between its cursors.
+/// It mirrors `ArrayIter` of Rust's `enumset`. Contracts see the items left, the count of asks, and the span, which is
+/// the number of words between the cursors.
 #[derive(Drop, Debug)]
 pub struct ArrayIter<const N: usize> {
     row: Words<N>,
@@ -27,7 +27,7 @@ pub struct ArrayIter<const N: usize> {
 impl<const N: usize> Model for ArrayIter<N> {
     ghost use Rattle.enumset_array.specs.Views.{IterView};
     ghost use Rattle.enumset_array.specs.Cursors.{span, Covers};
-    ghost use Rattle.enumset_array.specs.WordList.{items_of};
+    ghost use Rattle.enumset_array.specs.Items.{items_of};
 
     ghost Value = { IterView };
 
@@ -37,9 +37,9 @@ impl<const N: usize> Model for ArrayIter<N> {
 }
 
 impl<const N: usize> ArrayIter<N> {
-    /// The iterator over the members of a store.
+    /// An iterator over the members of an `ArrayRepr`. It has made no ask, and its span is the number of words in use.
     pub(crate) fn over(repr: ArrayRepr<N>) -> Self
-        ensures items { result.items ≡ rising (set_of N repr.entry) }
+        ensures items { result.items ≡ ascending (set_of N repr.entry) }
         ensures asks { result.asks ≡ 0 }
         ensures span { result.span ≡ in_use N }
     {
@@ -58,7 +58,7 @@ impl<const N: usize> ArrayIter<N> {
         }
     }
 
-    /// How many items are left. It is no step.
+    /// The number of items left. This call makes no ask.
     pub(crate) fn items_left(&self) -> usize
         ensures { result ≡ length self.now.items }
     {
@@ -73,8 +73,8 @@ impl<const N: usize> Iterator for ArrayIter<N> {
 
     ghost remaining = { item_count (λ i. i.items) };
 
-    /// The least item that is left, which is taken out, or `None` if there is none. It is one step of
-    /// [`step_front`].
+    /// Takes out the least item that is left and returns it, or returns `None` if no item is left. The sum of asks and
+    /// span grows by one if an item is returned, and stays otherwise, as by [`step_front`].
     fn next(&mut self) -> Option<u32>
         ensures steps { YieldsFirst (λ i. i.items) self.old result self.new }
         ensures goes { MakesProgress (λ _. ⊤) (item_count (λ i. i.items)) self.old result self.new }
@@ -97,8 +97,8 @@ impl<const N: usize> Iterator for ArrayIter<N> {
 impl<const N: usize> DoubleEndedIterator for ArrayIter<N> {
     ghost next_back_gives = { YieldsLast (λ i. i.items) };
 
-    /// The greatest item that is left, which is taken out, or `None` if there is none. It is one step of
-    /// [`step_back`].
+    /// Takes out the greatest item that is left and returns it, or returns `None` if no item is left. The sum of asks
+    /// and span grows by one if an item is returned, and stays otherwise, as by [`step_back`].
     fn next_back(&mut self) -> Option<u32>
         ensures steps { YieldsLast (λ i. i.items) self.old result self.new }
         ensures goes { MakesProgress (λ _. ⊤) (item_count (λ i. i.items)) self.old result self.new }

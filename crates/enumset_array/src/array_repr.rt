@@ -1,32 +1,34 @@
-//! The store of many words.
+//! The representation of many words.
 
 ghost use Rattle.std.specs.Prelude.{◌≡◌, ◌<◌, ◌*◌, ◌==◌, length, replicate, sum_by, refl};
 ghost use Rattle.std.specs.List.{list_all};
-ghost use Rattle.enumset_repr.specs.BitSet.{rising, len};
+ghost use Rattle.enumset_repr.specs.BitSet.{ascending, len};
 ghost use Rattle.enumset_repr.specs.Number.{bits};
-ghost use Rattle.enumset_array.specs.Stored.{in_use, set_of, IsStore};
+ghost use Rattle.enumset_array.specs.ArrayWords.{in_use, set_of, IsArrayRepr};
 ghost use Rattle.enumset_repr.specs.Words.{words as words_of_set};
 ghost use Rattle.enumset_array.specs.Laws.Order.{compare_is};
-ghost use Rattle.enumset_array.specs.Laws.Stored.{set_of_none, within, inverse, width_words, equal};
+ghost use Rattle.enumset_array.specs.Laws.ArrayWords.{set_of_none, within, inverse, width_words, equal};
 
 use crate::array_iter::ArrayIter;
 use crate::lanes::{And, AndNot, First, Or, Xor, are_none, combine, ones_of};
 use enumset_repr::EnumSetTypeRepr;
 use std::marker::Model;
 
-/// One more than the most words that a store uses: the bits of fewer are numbered by a `u32`.
+/// There are always fewer words in use than this, so that the width fits a `u32`.
 pub(crate) const WORD_LIMIT: usize = 67108864;
 
-/// A store of `N` words of 64 bits, the lowest first: bit `n` is bit `n % 64` of word `n / 64`.
+/// A representation of `N` words of 64 bits, the lowest first: bit `n` is bit `n % 64` of word `n / 64`.
 ///
-/// It mirrors `ArrayRepr` of Rust's `enumset`. The words past the first [`LEN`](ArrayRepr::LEN) are 0: a
-/// value is built with a proof of that, which is none up to 67108863 words, where all are in use.
+/// Only the first [`LEN`](ArrayRepr::LEN) words are in use, and the others are 0. Code that builds a value must prove
+/// that these are 0. Up to 67108863 words all are in use, so there is nothing to prove.
+///
+/// It mirrors `ArrayRepr` of Rust's `enumset`.
 #[derive(Clone, Copy, Debug, Hash)]
 pub struct ArrayRepr<const N: usize>(pub [u64; N]);
 
 impl<const N: usize> Model for ArrayRepr<N> {
     ghost use Rattle.std.specs.Prelude.{ℕ, List, IsTrue};
-    ghost use Rattle.enumset_array.specs.Stored.{is_empty_past};
+    ghost use Rattle.enumset_array.specs.ArrayWords.{is_empty_past};
 
     ghost Value = { List ℕ };
 
@@ -37,11 +39,11 @@ impl<const N: usize> Model for ArrayRepr<N> {
     ghost inverse = { λ ws. record { 0 = ws } };
 }
 
-/// Word by word.
+/// Values are compared word by word.
 impl<const N: usize> PartialEq for ArrayRepr<N> {
     ghost use Rattle.std.specs.Prelude.{nat_eq};
     ghost use Rattle.std.specs.Cmp.Lexicographic.{pointwise};
-    ghost use Rattle.enumset_array.specs.Laws.Stored.{same_words-IsPartialEquivalence};
+    ghost use Rattle.enumset_array.specs.Laws.ArrayWords.{same_words-IsPartialEquivalence};
 
     ghost eq = { pointwise nat_eq };
 
@@ -53,14 +55,14 @@ impl<const N: usize> PartialEq for ArrayRepr<N> {
 }
 
 impl<const N: usize> Eq for ArrayRepr<N> {
-    ghost use Rattle.enumset_array.specs.Laws.Stored.{same_words-IsEquivalence};
+    ghost use Rattle.enumset_array.specs.Laws.ArrayWords.{same_words-IsEquivalence};
 
     ghost laws = { same_words-IsEquivalence };
 }
 
 impl<const N: usize> ArrayRepr<N> {
-    /// How many words are in use: the remainder of `N` by 67108864, which is `N` itself up to 67108863. So
-    /// the width, 64 bits a word, is below 2^32 for every `N`.
+    /// The number of words in use: the remainder of `N` by 67108864, which is `N` itself up to 67108863. So the width,
+    /// 64 bits a word, is below 2^32 for every `N`.
     pub const LEN: usize = N % WORD_LIMIT;
 }
 
@@ -69,7 +71,7 @@ impl<const N: usize> EnumSetTypeRepr for ArrayRepr<N> {
 
     ghost of_members = { λ s. words_of_set s N };
 
-    ghost is_value = { IsStore N };
+    ghost is_value = { IsArrayRepr N };
 
     ghost PREFERRED_ARRAY_LEN = { in_use N };
 
@@ -87,17 +89,17 @@ impl<const N: usize> EnumSetTypeRepr for ArrayRepr<N> {
 
     ghost rest = { λ i. i.items };
 
-    fn known(self) {
+    fn learn_is_value(self) {
         let _words = &self.0;
     }
 
     fn is_empty(&self) -> bool {
-        self.known();
+        self.learn_is_value();
         are_none::<First>(&self.0, &self.0)
     }
 
     fn count_ones(&self) -> u32 {
-        self.known();
+        self.learn_is_value();
         ones_of(&self.0[..N % WORD_LIMIT])
     }
 
@@ -110,51 +112,51 @@ impl<const N: usize> EnumSetTypeRepr for ArrayRepr<N> {
     }
 
     fn has_bit(&self, bit: u32) -> bool {
-        self.known();
+        self.learn_is_value();
         self.0[(bit / 64) as usize] & (1 << (bit % 64)) != 0
     }
 
     fn and_not(&self, other: ArrayRepr<N>) -> ArrayRepr<N> {
-        self.known();
+        self.learn_is_value();
         let mut words = self.0;
         combine::<AndNot>(&mut words, &other.0);
         ArrayRepr(words)
     }
 
     fn or_with(&mut self, other: &ArrayRepr<N>) {
-        other.known();
+        other.learn_is_value();
         combine::<Or>(&mut self.0, &other.0);
     }
 
     fn and_with(&mut self, other: &ArrayRepr<N>) {
-        other.known();
+        other.learn_is_value();
         combine::<And>(&mut self.0, &other.0);
     }
 
     fn xor_with(&mut self, other: &ArrayRepr<N>) {
-        other.known();
+        other.learn_is_value();
         combine::<Xor>(&mut self.0, &other.0);
     }
 
     fn and_not_with(&mut self, other: &ArrayRepr<N>) {
-        other.known();
+        other.learn_is_value();
         combine::<AndNot>(&mut self.0, &other.0);
     }
 
     fn is_subset_of(&self, other: &ArrayRepr<N>) -> bool {
-        self.known();
-        other.known();
+        self.learn_is_value();
+        other.learn_is_value();
         are_none::<AndNot>(&self.0, &other.0)
     }
 
     fn is_disjoint_from(&self, other: &ArrayRepr<N>) -> bool {
-        self.known();
-        other.known();
+        self.learn_is_value();
+        other.learn_is_value();
         are_none::<And>(&self.0, &other.0)
     }
 
     fn iter(self) -> ArrayIter<N>
-        ensures rest { result.items ≡ rising (set_of N self.entry) }
+        ensures rest { result.items ≡ ascending (set_of N self.entry) }
         ensures asks { result.asks ≡ 0 }
         ensures span { result.span ≡ in_use N }
     {
@@ -172,7 +174,7 @@ impl<const N: usize> EnumSetTypeRepr for ArrayRepr<N> {
     }
 
     fn word(&self, i: usize) -> u64 {
-        self.known();
+        self.learn_is_value();
         self.0[i]
     }
 

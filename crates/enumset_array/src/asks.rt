@@ -1,13 +1,13 @@
-//! A count that takes no bytes.
+//! A count of asks that takes no bytes.
 
 ghost use Rattle.std.specs.Prelude.{◌≡◌, ℕ, ◌+◌};
 
 use std::fmt::{Debug, Error, Formatter, Write};
 use std::marker::{Model, PhantomData};
 
-/// How many asks were made.
+/// A number of asks.
 ///
-/// It takes no bytes at run time and has no greatest value. Contracts see it as the number.
+/// It takes no bytes at run time and has no upper limit. Contracts see it as a number.
 #[derive(Drop)]
 pub(crate) struct Asks {
     marker: PhantomData<()>,
@@ -26,7 +26,7 @@ impl Model for Asks {
 }
 
 impl Asks {
-    /// The one maker: the count that its caller's proof picks.
+    /// The only way to make a count: the proof of the caller picks the number.
     fn counted() -> Asks
         ghost n: { ℕ }
         ensures { result ≡ n }
@@ -36,7 +36,7 @@ impl Asks {
         }
     }
 
-    /// A count that its caller's proof picks from another.
+    /// A count whose number may depend on that of another.
     fn counted_from(other: &Asks) -> Asks
         ghost n: { ℕ }
         ensures { result ≡ n }
@@ -44,14 +44,14 @@ impl Asks {
         Asks::counted()
     }
 
-    /// No ask.
+    /// A count of no asks.
     pub(crate) fn new() -> Asks
         ensures { result ≡ 0 }
     {
         Asks::counted()
     }
 
-    /// One ask more.
+    /// Adds one ask.
     pub(crate) fn raise(&mut self)
         ensures { self.new ≡ self.old + 1 }
     {

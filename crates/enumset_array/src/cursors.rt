@@ -1,16 +1,16 @@
-//! Two cursors over the words of a row, and the steps that they take.
+//! Two cursors over the words of a row, and a step from either end.
 
 ghost use Rattle.std.specs.Prelude.{◌≡◌};
 ghost use Rattle.std.specs.Iterator.{YieldsFirst, YieldsLast};
 ghost use Rattle.enumset_array.specs.Cursors.{span, Covers};
 ghost use Rattle.enumset_array.specs.OneStep.{TakesOut, CountsAsks, MovesFront, MovesBack};
-ghost use Rattle.enumset_array.specs.WordList.{items_of};
+ghost use Rattle.enumset_array.specs.Items.{items_of};
 
 use crate::row::Row;
 use std::marker::Model;
 
-/// Two places in a row of words: those from the front cursor up to the back one, which is one past,
-/// are the words that may still have bits. Rust's `enumset` keeps such a pair inside its `ArrayIter`.
+/// Two places in a row of words. The words between them may still have bits: from the one at the front cursor up to the
+/// one before the back cursor. Their number is the span. Rust's `enumset` keeps such a pair inside its `ArrayIter`.
 #[derive(Clone, Copy, Debug)]
 pub struct Cursors {
     front: usize,
@@ -31,7 +31,7 @@ impl Model for Cursors {
 }
 
 impl Cursors {
-    /// The cursors over the first `n` words.
+    /// Cursors with the first `n` words between them.
     pub fn over(n: usize) -> Cursors
         ensures { result ≡ record { front = 0; back = n } }
     {
@@ -39,12 +39,12 @@ impl Cursors {
     }
 }
 
-/// The least of the row's bits, which is taken out, or `None` if there is none.
+/// Takes out the least bit of the row and returns it, or returns `None` if all words are 0.
 ///
-/// It asks that the back cursor is at most the row's length and that the words outside the cursors are
-/// empty. Each ask moves the front cursor on, but for the one that finds the bit, so asks and span together
-/// rise by one where a bit is given, and stay otherwise. The back cursor stays. Cursors that meet give `None`
-/// without an ask, and after `None` they meet.
+/// The back cursor must be at most the number of words, and each word that is not between the cursors must be 0. The
+/// step asks the words from the front cursor on, and an ask that finds no bit advances that cursor. So the sum of asks
+/// and span grows by one if a bit is returned, and stays otherwise. The back cursor stays. If the cursors have met, the
+/// step returns `None` without an ask. After `None` they have met.
 pub fn step_front<R: Row>(row: &mut R, cursors: &mut Cursors) -> Option<u32>
     requires { Covers (R.words row.old) cursors.old }
     ensures item { YieldsFirst items_of (R.words row.old) result (R.words row.new) }
@@ -68,12 +68,12 @@ pub fn step_front<R: Row>(row: &mut R, cursors: &mut Cursors) -> Option<u32>
     None
 }
 
-/// The greatest of the row's bits, which is taken out, or `None` if there is none.
+/// Takes out the greatest bit of the row and returns it, or returns `None` if all words are 0.
 ///
-/// It asks that the back cursor is at most the row's length and that the words outside the cursors are
-/// empty. Each ask moves the back cursor down, but for the one that finds the bit, so asks and span together
-/// rise by one where a bit is given, and stay otherwise. The front cursor stays. Cursors that meet give `None`
-/// without an ask, and after `None` they meet.
+/// The back cursor must be at most the number of words, and each word that is not between the cursors must be 0. The
+/// step asks the words down from the back cursor, and an ask that finds no bit moves that cursor down. So the sum of
+/// asks and span grows by one if a bit is returned, and stays otherwise. The front cursor stays. If the cursors have
+/// met, the step returns `None` without an ask. After `None` they have met.
 pub fn step_back<R: Row>(row: &mut R, cursors: &mut Cursors) -> Option<u32>
     requires { Covers (R.words row.old) cursors.old }
     ensures item { YieldsLast items_of (R.words row.old) result (R.words row.new) }

@@ -1,4 +1,4 @@
-//! Lists of words, taken four at a time.
+//! Operations on lists of words, four words at a time.
 
 ghost use Rattle.std.specs.Prelude.{◌≡◌, ◌<◌, ◌==◌, ℕ, bit_and, bit_or, bit_xor, length, sum_by};
 ghost use Rattle.std.specs.Int.{w64, bit_not};
@@ -12,14 +12,15 @@ use std::simd::prelude::*;
 
 /// An operation on two words, and on four pairs of words at once.
 pub(crate) trait WordOperation {
-    // What it answers of two words.
+    // The result for two words.
     ghost of_two: { ℕ → ℕ → ℕ };
 
-    /// Of two words.
+    /// The result for two words.
     fn on_words(a: u64, b: u64) -> u64
         ensures { result ≡ of_two a b };
 
-    /// Of four words and four others, each with the one in its place.
+    /// The results for four pairs of words: each word of `a` with the word of `b` in the same place. The two must have
+    /// the same number of words, as any two `u64x4` do.
     fn on_lanes(a: u64x4, b: u64x4) -> u64x4
         requires { length a ≡ length b }
         ensures { result ≡ zip2 of_two a b };
@@ -115,9 +116,7 @@ impl WordOperation for First {
     }
 }
 
-/// Makes each word what the operation answers of it and of the other in its place.
-///
-/// It asks that there are as many others.
+/// Replaces each word by the result for it and the other word in its place. The lists must have the same length.
 pub(crate) fn combine<O: WordOperation>(words: &mut [u64], others: &[u64])
     requires { length words.old ≡ length others.now }
     ensures { words.new ≡ zip2 O.of_two words.old others.now }
@@ -135,10 +134,10 @@ pub(crate) fn combine<O: WordOperation>(words: &mut [u64], others: &[u64])
     }
 }
 
-/// Whether the operation answers 0 of each word and the other in its place. Of sixteen words and more it stops at the first
-/// word, or at the first sixteen, of which it does not; fewer are looked at without a branch.
+/// Whether the operation yields 0 for every pair of words. The lists must have the same length.
 ///
-/// It asks that there are as many others.
+/// From sixteen words on it stops early: after the first pair if its result is not 0, and after each block of sixteen
+/// pairs with such a result. For fewer words there is one test, at the end.
 pub(crate) fn are_none<O: WordOperation>(words: &[u64], others: &[u64]) -> bool
     requires { length words.now ≡ length others.now }
     ensures { result ≡ list_all (λ w. w == 0) (zip2 O.of_two words.now others.now) }
@@ -156,7 +155,7 @@ pub(crate) fn are_none<O: WordOperation>(words: &[u64], others: &[u64]) -> bool
     any_of::<O>(&words[i..], &others[i..]) == 0
 }
 
-/// What the operation answers of each word and the other in its place, or'ed together: 0 exactly where each is.
+/// The results for all pairs of words, combined by `|`: it is 0 exactly if each result is 0.
 fn any_of<O: WordOperation>(words: &[u64], others: &[u64]) -> u64
     requires { length words.now ≡ length others.now }
     ensures { (result == 0) ≡ list_all (λ w. w == 0) (zip2 O.of_two words.now others.now) }
@@ -175,7 +174,7 @@ fn any_of<O: WordOperation>(words: &[u64], others: &[u64]) -> u64
     any
 }
 
-/// How many bits are set in words.
+/// The number of bits set in the words, of which there must be fewer than [`WORD_LIMIT`].
 pub(crate) fn ones_of(words: &[u64]) -> u32
     requires { length words.now < WORD_LIMIT }
     ensures { result ≡ sum_by (λ w. len (bits w)) words.now }

@@ -1,15 +1,14 @@
-//! Stores of many words, and iterators over them whose steps ask the words a bounded number of times.
+//! Representations of many words, and iterators over them that ask the words a bounded number of times.
 //!
-//! - [`array_repr`]: the store [`ArrayRepr`] of any number of words.
+//! - [`array_repr`]: the representation [`ArrayRepr`], of any number of words.
 //! - [`array_iter`]: its iterator, from both ends.
-//! - [`row`]: words that show themselves by two calls alone, which are counted.
-//! - [`cursors`]: two cursors over a row, and the steps that they take.
-//! - [`walk`]: many such steps, with the bound on how often the words are asked.
-//! - [`shown_row`]: a row that can show its count.
+//! - [`row`]: a list of words that can be read by two calls alone, each of them counted as an ask.
+//! - [`cursors`]: two cursors over a row, and a step from either end.
+//! - [`traversal`]: many steps, with a bound on the number of asks.
+//! - [`shown_row`]: a row that can show its count of asks.
 //!
-//! The count of asks takes no bytes at run time: contracts alone see it. `specs/Words.antt` of
-//! `enumset_repr` says which set a list of words means, and `specs/Stored.antt` which words of a store
-//! are in use.
+//! The count of asks takes no bytes at run time: contracts alone see it. `specs/Words.antt` of `enumset_repr` says
+//! which set a list of words represents, and `specs/ArrayWords.antt` which words of an `ArrayRepr` are in use.
 #![tactic(auto)]
 
 pub mod array_iter;
@@ -22,7 +21,11 @@ mod order;
 pub mod row;
 mod rows;
 pub mod shown_row;
-pub mod walk;
+pub mod traversal;
 
 pub use array_iter::ArrayIter;
 pub use array_repr::ArrayRepr;
+pub use cursors::{Cursors, step_back, step_front};
+pub use row::Row;
+pub use shown_row::ShownRow;
+pub use traversal::{End, walk};

@@ -1,8 +1,8 @@
-//! The operators of the store of many words.
+//! The operators of the representation of many words.
 
 ghost use Rattle.std.specs.Prelude.{◌≡◌, ◌*◌};
 ghost use Rattle.enumset_repr.specs.BitSet as set;
-ghost use Rattle.enumset_array.specs.Stored.{in_use, set_of};
+ghost use Rattle.enumset_array.specs.ArrayWords.{in_use, set_of};
 
 use crate::array_repr::{ArrayRepr, WORD_LIMIT};
 use crate::lanes::{And, Inverse, Or, Xor, combine};
@@ -39,7 +39,7 @@ impl<const N: usize> BitXor for ArrayRepr<N> {
 
     ghost bitxor_gives = { λ a b r. set_of N r ≡ set.symmetric_difference (set_of N a) (set_of N b) };
 
-    /// The members of just one.
+    /// The members of exactly one of the two.
     fn bitxor(self, other: ArrayRepr<N>) -> ArrayRepr<N> {
         let mut words = self.0;
         combine::<Xor>(&mut words, &other.0);
@@ -52,7 +52,7 @@ impl<const N: usize> Not for ArrayRepr<N> {
 
     ghost not_gives = { λ a r. set_of N r ≡ set.difference (set.below (64 * in_use N)) (set_of N a) };
 
-    /// The numbers below the width that are no members.
+    /// The numbers below the width that are not members.
     fn not(self) -> ArrayRepr<N> {
         let mut words = self.0;
         combine::<Inverse>(&mut words, &self.0);

@@ -1,9 +1,9 @@
-//! The order of the store of many words: that of the sets.
+//! The order of the representation of many words: that of the sets.
 
 ghost use Rattle.std.specs.Prelude.{◌≡◌, Some, refl};
 ghost use Rattle.enumset_repr.specs.Order.{compare};
 ghost use Rattle.enumset_array.specs.Order.{highest_first};
-ghost use Rattle.enumset_array.specs.Stored.{set_of};
+ghost use Rattle.enumset_array.specs.ArrayWords.{set_of};
 ghost use Rattle.enumset_array.specs.Laws.Order.{highest_first-total, highest_first-partial, highest_first-ties};
 
 use crate::array_repr::ArrayRepr;
@@ -29,14 +29,14 @@ impl<const N: usize> Ord for ArrayRepr<N> {
 
     ghost matches_eq = { highest_first-ties };
 
-    /// The highest word that differs decides. So the set that holds the greatest number that is in just one of the two is
-    /// the greater.
+    /// The highest word that differs decides. So the greater set is the one that has the greatest number that is in
+    /// exactly one of the two.
     fn cmp(&self, other: &ArrayRepr<N>) -> Ordering
         ensures words { result ≡ highest_first self.now other.now }
         ensures sets { result ≡ compare (set_of N self.now) (set_of N other.now) }
     {
-        self.known();
-        other.known();
+        self.learn_is_value();
+        other.learn_is_value();
         self.0.iter().rev().cmp(other.0.iter().rev())
     }
 }

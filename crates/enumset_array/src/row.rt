@@ -1,52 +1,53 @@
-//! Words that show themselves by two calls alone, which are counted.
+//! A list of words that can be read by two calls alone, each of them counted as an ask.
 
 ghost use Rattle.std.specs.Prelude.{◌≡◌, ℕ, ◌+◌, ◌<◌, List, ◌∷◌, [], ◌++◌, length, slice_index, slice_set, IfSome, IfNone};
-ghost use Rattle.enumset_repr.specs.BitSet.{rising};
+ghost use Rattle.enumset_repr.specs.BitSet.{ascending};
 ghost use Rattle.enumset_repr.specs.Number.{bits};
 ghost use Rattle.enumset_array.specs.Views.{AreWords};
 
 /// A list of fewer than 67108864 words of 64 bits, and a count of asks.
 ///
-/// An ask is one call of [`ask_front`](Row::ask_front) or [`ask_back`](Row::ask_back). A row shows its
-/// words by nothing else, so the count says how often code over a row has looked. Rust's `enumset` has
-/// nothing like it.
+/// An ask is one call of [`ask_front`](Row::ask_front) or [`ask_back`](Row::ask_back). Code over a row can read its
+/// words by these calls alone, so the count says how often it has read a word. Rust's `enumset` has nothing like it.
 pub trait Row {
     // The words.
     ghost words: { Self → List ℕ };
 
-    // How many asks were made.
+    // The number of asks so far.
     ghost asks: { Self → ℕ };
 
-    /// How many words there are. It is no ask.
+    /// The number of words, which is below 67108864. This call is not an ask.
     fn word_count(&self) -> usize
         ensures count { result ≡ length (words self.now) }
         ensures are_words { AreWords (words self.now) };
 
-    /// The least bit of the word at `i`, which is taken out, or `None` if the word has no bit.
+    /// Takes out the least bit of the word at place `i` and returns it, or returns `None` if the word is 0. Bits are
+    /// counted from the lowest of that word, which is 0. The other words stay.
     ///
-    /// It asks that `i` is below [`word_count`](Row::word_count). The count of asks rises by one.
+    /// The place must be below [`word_count`](Row::word_count). The count of asks grows by one.
     fn ask_front(&mut self, i: usize) -> Option<u32>
         requires { i < length (words self.old) }
         ensures counted { asks self.new ≡ asks self.old + 1 }
         ensures empty { IfNone result
             ((slice_index (words self.old) i ≡ 0) × (words self.new ≡ words self.old)) }
         ensures taken { IfSome result (λ b.
-            rising (bits (slice_index (words self.old) i))
-            ≡ b ∷ rising (bits (slice_index (words self.new) i))) }
+            ascending (bits (slice_index (words self.old) i))
+            ≡ b ∷ ascending (bits (slice_index (words self.new) i))) }
         ensures others { words self.new ≡ slice_set (words self.old) i (slice_index (words self.new) i) }
         ensures are_words { AreWords (words self.old) };
 
-    /// The greatest bit of the word at `i`, which is taken out, or `None` if the word has no bit.
+    /// Takes out the greatest bit of the word at place `i` and returns it, or returns `None` if the word is 0. Bits are
+    /// counted from the lowest of that word, which is 0. The other words stay.
     ///
-    /// It asks that `i` is below [`word_count`](Row::word_count). The count of asks rises by one.
+    /// The place must be below [`word_count`](Row::word_count). The count of asks grows by one.
     fn ask_back(&mut self, i: usize) -> Option<u32>
         requires { i < length (words self.old) }
         ensures counted { asks self.new ≡ asks self.old + 1 }
         ensures empty { IfNone result
             ((slice_index (words self.old) i ≡ 0) × (words self.new ≡ words self.old)) }
         ensures taken { IfSome result (λ b.
-            rising (bits (slice_index (words self.old) i))
-            ≡ rising (bits (slice_index (words self.new) i)) ++ b ∷ []) }
+            ascending (bits (slice_index (words self.old) i))
+            ≡ ascending (bits (slice_index (words self.new) i)) ++ b ∷ []) }
         ensures others { words self.new ≡ slice_set (words self.old) i (slice_index (words self.new) i) }
         ensures are_words { AreWords (words self.old) };
 }

@@ -1,10 +1,10 @@
-//! The row of an iterator.
+//! The row of words that an `ArrayIter` takes its bits from.
 
 ghost use Rattle.std.specs.Prelude.{◌≡◌, ◌∷◌, [], ◌++◌, length, MatchOption};
-ghost use Rattle.enumset_repr.specs.BitSet.{rising};
+ghost use Rattle.enumset_repr.specs.BitSet.{ascending};
 ghost use Rattle.enumset_repr.specs.Number.{bits};
-ghost use Rattle.enumset_array.specs.Stored.{used};
-ghost use Rattle.enumset_array.specs.WordList.{items_of};
+ghost use Rattle.enumset_array.specs.ArrayWords.{words_in_use};
+ghost use Rattle.enumset_array.specs.Items.{items_of};
 
 use crate::array_repr::{ArrayRepr, WORD_LIMIT};
 use crate::asks::Asks;
@@ -13,7 +13,7 @@ use enumset_repr::{EnumSetTypeRepr, PrimitiveIter};
 use std::fmt::{Debug, Error, Formatter, Write};
 use std::marker::Model;
 
-/// The words in use of a store, out of which an iterator takes the bits.
+/// The words in use of an `ArrayRepr`, from which an iterator takes the bits.
 #[derive(Drop)]
 pub(crate) struct Words<const N: usize> {
     repr: ArrayRepr<N>,
@@ -22,28 +22,28 @@ pub(crate) struct Words<const N: usize> {
 
 impl<const N: usize> Model for Words<N> {
     ghost use Rattle.enumset_array.specs.Views.{RowView};
-    ghost use Rattle.enumset_array.specs.Stored.{used, IsStore};
+    ghost use Rattle.enumset_array.specs.ArrayWords.{words_in_use, IsArrayRepr};
 
     ghost Value = { RowView };
 
-    ghost view = { λ r. record { words = used N r.repr; asks = r.asks } };
+    ghost view = { λ r. record { words = words_in_use N r.repr; asks = r.asks } };
 
-    ghost invariant = { λ r. IsStore N r.repr };
+    ghost invariant = { λ r. IsArrayRepr N r.repr };
 }
 
 impl<const N: usize> Words<N> {
-    /// The words of a store, which were not asked yet.
+    /// The words in use of an `ArrayRepr`, not yet asked.
     pub(crate) fn new(repr: ArrayRepr<N>) -> Self
-        ensures { result ≡ record { words = used N repr.entry; asks = 0 } }
+        ensures { result ≡ record { words = words_in_use N repr.entry; asks = 0 } }
     {
-        repr.known();
+        repr.learn_is_value();
         Words {
             repr,
             asks: Asks::new(),
         }
     }
 
-    /// The same words, asked as often.
+    /// The same words, with the same count of asks.
     pub(crate) fn same(&self) -> Self
         ensures { result ≡ self.now }
     {
@@ -53,7 +53,7 @@ impl<const N: usize> Words<N> {
         }
     }
 
-    /// How many bits are left. It is no ask.
+    /// The number of bits left. This call is not an ask.
     pub(crate) fn bits_left(&self) -> usize
         ensures { result ≡ length (items_of self.now.words) }
     {
@@ -96,10 +96,10 @@ impl<const N: usize> Debug for Words<N> {
     }
 }
 
-/// The least bit of a word, which is taken out, or `None` if it has none.
+/// Takes out the least bit of a word and returns it, or returns `None` if the word is 0.
 fn take_least(word: &mut u64) -> Option<u32>
     ensures { MatchOption result ((word.old ≡ 0) × (word.new ≡ word.old))
-        (λ b. rising (bits word.old) ≡ b ∷ rising (bits word.new)) }
+        (λ b. ascending (bits word.old) ≡ b ∷ ascending (bits word.new)) }
 {
     let bits = *word;
     if bits == 0 {
@@ -110,10 +110,10 @@ fn take_least(word: &mut u64) -> Option<u32>
     Some(least)
 }
 
-/// The greatest bit of a word, which is taken out, or `None` if it has none.
+/// Takes out the greatest bit of a word and returns it, or returns `None` if the word is 0.
 fn take_greatest(word: &mut u64) -> Option<u32>
     ensures { MatchOption result ((word.old ≡ 0) × (word.new ≡ word.old))
-        (λ b. rising (bits word.old) ≡ rising (bits word.new) ++ b ∷ []) }
+        (λ b. ascending (bits word.old) ≡ ascending (bits word.new) ++ b ∷ []) }
 {
     let bits = *word;
     if bits == 0 {

@@ -1,17 +1,17 @@
 //! A row that can show how often it was asked.
 
 ghost use Rattle.std.specs.Prelude.{◌≡◌, ◌+◌, ◌-◌, ◌^◌, min};
-ghost use Rattle.enumset_array.specs.Stored.{used};
+ghost use Rattle.enumset_array.specs.ArrayWords.{words_in_use};
 
 use crate::array_repr::ArrayRepr;
 use crate::row::Row;
 use crate::rows::Words;
 use std::marker::Model;
 
-/// A row of the words of a store that keeps, beside the count of asks, a number that shows it.
+/// The words in use of an `ArrayRepr`, with a count of asks that can be read at run time.
 ///
-/// It is for tests, and Rust's `enumset` has nothing like it. That number stops at `u64::MAX`, and the
-/// count goes on.
+/// It is for tests, and Rust's `enumset` has nothing like it. The number that it shows stops at `u64::MAX`; the count
+/// that contracts see goes on.
 #[derive(Drop, Debug)]
 pub struct ShownRow<const N: usize> {
     row: Words<N>,
@@ -30,9 +30,9 @@ impl<const N: usize> Model for ShownRow<N> {
 }
 
 impl<const N: usize> ShownRow<N> {
-    /// The row of the words in use of a store, which was not asked yet.
+    /// The words in use of an `ArrayRepr`, not yet asked.
     pub fn new(repr: ArrayRepr<N>) -> Self
-        ensures { result ≡ record { words = used N repr.entry; asks = 0 } }
+        ensures { result ≡ record { words = words_in_use N repr.entry; asks = 0 } }
     {
         ShownRow {
             row: Words::new(repr),
@@ -40,7 +40,7 @@ impl<const N: usize> ShownRow<N> {
         }
     }
 
-    /// The count of asks, or `u64::MAX` once the count is there or past it.
+    /// The number of asks so far, or `u64::MAX` if there were more.
     pub fn shown(&self) -> u64
         ensures { result ≡ min self.now.asks (2 ^ 64 - 1) }
     {
@@ -68,7 +68,7 @@ impl<const N: usize> Row for ShownRow<N> {
     }
 }
 
-/// The number that shows one ask more.
+/// The number to show after one more ask.
 fn one_more(shown: u64) -> u64
     ensures { result ≡ min (shown + 1) (2 ^ 64 - 1) }
 {

@@ -7,7 +7,7 @@ use Rattle.enumset_commands.specs.declared.text_fault.TextFault.TheVariants.{Out
 use Rattle.enumset_commands.specs.TextFaults.{IsFaultOf}
 use Rattle.enumset_commands.specs.Lines.{before}
 
--- what lines come to where others stand before theirs
+-- the commands of lines, after those of the lines before them
 abbrev pub preceded_by : {C : Type 0} → List C → Result (List C) TextFault → Result (List C) TextFault
 preceded_by cs (Ok ds) = Ok (cs ++ ds)
 preceded_by cs (Err fault) = Err fault
@@ -25,7 +25,7 @@ pub result_err-before : {C : Type 0} (c : C) (n : ℕ) (rest : Result (List C) T
 result_err-before c n (Ok ds) = refl
 result_err-before c n (Err fault) = refl
 
--- the fault of lines, and want of memory where they have none
+-- the fault of lines, and out of memory if they have none
 pub IsFaultOf-own : {C : Type 0} (read : Result (List C) TextFault) (fault : TextFault) → Some fault ≡ result_err read → IsFaultOf read fault
 IsFaultOf-own (Ok cs) fault own = absurd (cc)
 IsFaultOf-own (Err other) fault own = cc

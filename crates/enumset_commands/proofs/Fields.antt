@@ -76,7 +76,7 @@ word-some token n h = field-fewer 64 128 n token (lit≤ tt) h
 pub word-no_number : (token : List ℕ) → field 128 token ≡ None → word token ≡ None
 word-no_number token h = field-fewer_none 64 128 token (lit≤ tt) h
 
--- what is no bit is no register
+-- a token that is not a bit is not a register
 pub register-none : (token : List ℕ) → bit token ≡ None → register token ≡ None
 register-none token h = field-fewer_none 8 32 token (lit≤ tt) h
 

@@ -50,7 +50,7 @@ tokens_of-token (x ∷ xs) j token nonempty end =
     ∙ filter-nonempty (take j t) (slice_split p (drop (j + 1) t)) long
     ∙ ap (λ more. take j t ∷ more) (rw add-one (sym next))
 
--- what stands at the first byte that is no space
+-- the first byte that is not a space
 token_start : (s : List ℕ) (i : ℕ) → position (λ b. not (b == 32)) s ≡ Some i → (not (get_or (drop i s) 0 0 == 32) ≡ true) × (0 < length (drop i s))
 token_start s i h =
     let at = position-Some (λ b. not (b == 32)) s i 0 h in

@@ -1,17 +1,17 @@
--- The commands that the lines of an input stand for.
---     lines_of      the lines: a line feed ends one, and a carriage return right before it is left away
+-- The commands that the lines of an input write.
+--     lines_of      the lines: a line feed ends one, and a carriage return immediately before it is dropped
 --     is_empty      whether a list of bytes is empty
---     tokens_of      the tokens of a line, which spaces part
+--     tokens_of      the tokens of a line, which spaces separate
 --     is_number      whether a token is made of decimal digits
 --     field, register, bit, width, value, count, word      the number that a field writes, if it fits
 --     words_of      the numbers of words that tokens write, if each of them is one
 --     with_one, with_two, with_three      the command over one field, two or three, if each of them is there
---     one_field, two_fields, three_fields      the command that a name and so many fields write
+--     one_field, two_fields, three_fields      the command that a name and one field write;  and two fields;  and three fields
 --     with_fields, with_words, command_by      the command of a name over its fields;  of one that takes words;  of either
 --     command_of      the command that the tokens of a line write
---     before      a command before those of the lines after it, or the fault of a line that is no command
---     line_then, commands_from      what a line and those after it come to;  what lines come to
---     lines      the commands of an input, or the fault of its first line that is no command, where it is known what the tokens of a line write
+--     before      a command before those of the lines after it, or the fault of a line that is not a command
+--     line_then, commands_from      the commands of a line and of those after it;  the commands of lines
+--     commands_of_text      the commands of an input, or the fault of its first line that is not a command, by what the tokens of a line write
 use Rattle.std.specs.Prelude.{◌==◌, ℕ, ◌+◌, ◌^◌, Bool, true, false, not, ◌&&◌, nat_lt, List, [], ◌∷◌, filter, Option, Some, None, option_map, option_and_then, Result, Ok, Err, if◌then◌else◌}
 use Rattle.std.specs.List.{slice_split}
 use Rattle.std.specs.Str.{all_ascii_digits, byte}
@@ -23,7 +23,7 @@ use Rattle.enumset_commands.specs.declared.text_fault.TextFault.{TextFault}
 use Rattle.enumset_commands.specs.declared.text_fault.TextFault.TheVariants.{BadLine}
 use Rattle.enumset_commands.specs.Tables.{one_register, two_registers, three_registers, register_and_bit, register_and_width, register_width_and_value, register_and_count, register_and_words}
 
--- A line feed ends a line. A carriage return right before it is left away, and a last line without a
+-- A line feed ends a line. A carriage return immediately before it is dropped, and a last line without a
 -- line feed counts unless it is empty. std's `lines` says just this.
 abbrev pub lines_of : List ℕ → List (List ℕ)
 lines_of input = text.lines input
@@ -40,7 +40,7 @@ tokens_of line = filter (λ token. not (is_empty token)) (slice_split (λ b. b =
 abbrev pub is_number : List ℕ → Bool
 is_number token = not (is_empty token) && all_ascii_digits token
 
--- the number that a token of decimal digits writes, if it is one of so many bits
+-- the number that a token of decimal digits writes, if that has at most this many bits
 abbrev pub field : ℕ → List ℕ → Option ℕ
 field bits token =
     if is_number token && nat_lt (digits_value 10 token) (2 ^ bits) then Some (digits_value 10 token) else None
@@ -126,7 +126,7 @@ before None n rest = Err (BadLine n)
 before (Some c) n (Ok cs) = Ok (c ∷ cs)
 before (Some c) n (Err later) = Err later
 
--- what line n, of these tokens, and the lines after it come to: a line without tokens is passed over, and counts
+-- the commands of line n, which has these tokens, and of the lines after it: a line without tokens is skipped, and counts
 abbrev pub line_then : {C : Type 0} → (List (List ℕ) → Option C) → ℕ → List (List ℕ) → Result (List C) TextFault → Result (List C) TextFault
 line_then command n [] rest = rest
 line_then command n (token ∷ tokens) rest = before (command (token ∷ tokens)) n rest
@@ -137,5 +137,5 @@ commands_from command n [] = Ok []
 commands_from command n (line ∷ more) = line_then command n (tokens_of line) (commands_from command (n + 1) more)
 
 -- lines are counted from 1
-abbrev pub lines : {C : Type 0} → (List (List ℕ) → Option C) → List ℕ → Result (List C) TextFault
-lines command input = commands_from command 1 (lines_of input)
+abbrev pub commands_of_text : {C : Type 0} → (List (List ℕ) → Option C) → List ℕ → Result (List C) TextFault
+commands_of_text command input = commands_from command 1 (lines_of input)

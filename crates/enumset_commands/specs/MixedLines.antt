@@ -1,4 +1,4 @@
--- The commands of mixed sets that lines stand for: lines, tokens and fields are those of every run.
+-- The commands of mixed sets that lines write. Lines, tokens and fields are those of every run.
 --     mixed_one_register, mixed_two_registers, mixed_register_and_bit      the command of mixed sets alone of a name over these fields, if there is one
 --     own_command      the command of mixed sets alone that a name and its fields write
 --     mixed_command_of      the command that the tokens of a line write

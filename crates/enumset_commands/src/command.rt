@@ -32,7 +32,7 @@ pub enum Command {
     Intersection { to: u8, a: u8, b: u8 },
     /// `difference to a b`: puts the members of `a` that are not in `b` into `to`.
     Difference { to: u8, a: u8, b: u8 },
-    /// `symmetric to a b`: puts the members of just one of the two into `to`.
+    /// `symmetric to a b`: puts the members of exactly one of the two into `to`.
     SymmetricDifference { to: u8, a: u8, b: u8 },
     /// `complement to a`: puts the valid bits that are not in `a` into `to`.
     Complement { to: u8, a: u8 },
@@ -48,8 +48,8 @@ pub enum Command {
     Subset { a: u8, b: u8 },
     /// `equal a b`: replies whether the two have the same members.
     Equal { a: u8, b: u8 },
-    /// `compare a b`: replies how `a` compares with `b`: the one that holds the greatest bit that just one of them
-    /// has is the greater.
+    /// `compare a b`: replies how `a` compares with `b`: the greater is the one with the greatest bit that exactly
+    /// one of them has.
     Compare { a: u8, b: u8 },
     /// `number r width`: replies the number of a set, if each member is below the width.
     Number { r: u8, width: u32 },
@@ -59,9 +59,9 @@ pub enum Command {
     FromNumber { r: u8, width: u32, value: u128 },
     /// `from_number_cut r width value`: makes a set those bits of a number that a set may have.
     FromNumberCut { r: u8, width: u32, value: u128 },
-    /// `words r count`: replies so many words of a set, if each member is in one of them.
+    /// `words r count`: replies the first `count` words of a set, if each member is in one of them.
     Words { r: u8, count: u8 },
-    /// `words_cut r count`: replies so many words of a set.
+    /// `words_cut r count`: replies the first `count` words of a set.
     WordsCut { r: u8, count: u8 },
     /// `from_words r w w ..`: makes a set the bits of words, if a set may have each of them.
     FromWords { r: u8, words: WordList },
@@ -73,6 +73,6 @@ pub enum Command {
     Next { i: u8 },
     /// `next_back i`: one step from the back.
     NextBack { i: u8 },
-    /// `left i`: replies how many items an iterator has still to give.
+    /// `left i`: replies how many items are left in an iterator.
     Left { i: u8 },
 }

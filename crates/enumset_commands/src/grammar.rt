@@ -1,7 +1,7 @@
 //! The commands that the lines of a text write.
 ghost use Rattle.std.specs.Prelude.{◌≡◌, IfOk, IfErr, Ok};
 ghost use Rattle.enumset_commands.specs.TextFaults.{IsFaultOf};
-ghost use Rattle.enumset_commands.specs.Lines.{lines};
+ghost use Rattle.enumset_commands.specs.Lines.{commands_of_text};
 
 mod commands;
 mod fields;
@@ -19,15 +19,15 @@ use lines::Lines;
 use std::alloc::Global;
 use tokens::Tokens;
 
-/// The commands of a kind that the lines of an input write, or the fault of the first line that is no such command.
+/// The commands that the lines of an input write, or the fault of the first line that is not a command.
 ///
-/// Memory is needed for the commands and their words alone. Where it is refused the rest of the lines is still
-/// read, so that want of memory is the error of no input that has a line which is no command.
+/// Only the commands and their words take memory. If it runs out, the remaining lines are still read, so an input with
+/// a line that is not a command is reported as such.
 #[tactic(auto, using(crate::proofs::Commands::command_steps))]
 pub fn read_commands<C: LineCommand>(alloc: Global, input: &[u8]) -> Result<Vec<C>, TextFault>
     ensures commands { IfOk result (λ commands.
-        lines C.command_of input.now ≡ Ok commands.items) }
-    ensures fault { IfErr result (λ fault. IsFaultOf (lines C.command_of input.now) fault) }
+        commands_of_text C.command_of input.now ≡ Ok commands.items) }
+    ensures fault { IfErr result (λ fault. IsFaultOf (commands_of_text C.command_of input.now) fault) }
 {
     let mut commands = Vec::new(alloc);
     let mut has_room = true;

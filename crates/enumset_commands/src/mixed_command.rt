@@ -4,7 +4,7 @@ use crate::command::Command;
 
 /// One command of a run of mixed sets: one that every run has, or one on bits that need not be valid.
 ///
-/// The fields are those of a [`Command`]. Bits below the width of the type's store may be members.
+/// The fields are those of a [`Command`]. Any bit below the width of the representation may be a member.
 #[derive(Drop)]
 pub enum MixedCommand {
     /// A command that every run has.
@@ -19,7 +19,7 @@ pub enum MixedCommand {
     FullComplement { to: u8, a: u8 },
     /// `valid_len r`: replies how many members of a set are valid bits.
     ValidLen { r: u8 },
-    /// `unknown r`: replies whether some member of a set is no valid bit.
+    /// `unknown r`: replies whether some member of a set is not a valid bit.
     Unknown { r: u8 },
     /// `as_enumset to a`: puts the members of `a` into `to`, if each of them is a valid bit.
     AsEnumset { to: u8, a: u8 },

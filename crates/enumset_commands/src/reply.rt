@@ -22,7 +22,7 @@ pub enum Reply {
     Bit(u32),
     /// The number of a bit that is not valid.
     Unknown(u32),
-    /// There is nothing to give.
+    /// There is nothing left, or no such number or set.
     Absent,
     /// The command was refused, and nothing changed.
     Refused(Refusal),
@@ -33,7 +33,7 @@ pub enum Reply {
 pub enum Refusal {
     /// It names a set register past 3, or an iterator register past 1.
     NoRegister,
-    /// It names a bit that is not valid; `InsertBit` one that is not below the width of the store.
+    /// It names a bit that is not valid; `InsertBit`, one that is not below the width of the representation.
     NotABit,
     /// It names a width other than 8, 16, 32, 64 and 128, or a value that does not fit the width.
     NotAWidth,

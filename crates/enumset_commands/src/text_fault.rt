@@ -11,7 +11,7 @@ pub enum TextFault {
     TooLong,
     /// The line of this number, counted from 1, is the first that is not a command.
     BadLine(u64),
-    /// There is no memory left.
+    /// Memory ran out.
     OutOfMemory,
 }
 

@@ -5,7 +5,7 @@ ghost use Rattle.enumset_commands.specs.Texts.{text};
 use crate::reply::Reply;
 use std::alloc::{AllocError, Global};
 
-/// The texts of replies, each followed by one line feed. The only error is want of memory for them.
+/// The texts of replies, each followed by one line feed. The only error is out of memory.
 pub fn write_replies(alloc: Global, replies: &[Reply]) -> Result<Vec<u8>, AllocError>
     ensures { IfOk result (λ out. out.items ≡ text replies.now) }
 {

@@ -1,18 +1,22 @@
--- The worked types: their names, and the answer to an input over each.
+-- The worked types: their names, what commands are run over, and the answer to an input over each.
 --     worked_of      the type of a name, byte by byte
---     is_over_mixed_sets, is_over_nothing      whether commands are run over mixed sets;  over an enum without variants
---     answer_over      the answer to an input over a type's sets, by its bits; over mixed sets by the width of its store too
-use Rattle.std.specs.Prelude.{ℕ, Bool, true, false, List, [], ◌∷◌, codes, Option, Result}
+--     Over      the bits of a type, and of its mixed sets the width of their representation
+--     sets, mixed_sets      the sets of a type with these bits;  its mixed sets, in a representation of this width
+--     over      what commands are run over
+--     is_over_mixed_sets, is_over_nothing      whether that is mixed sets;  whether that is an enum without variants
+--     answer_by_width      the answer to an input over sets of valid bits, or over mixed sets of a width
+--     answer_over      the answer to an input over a worked type
+use Rattle.std.specs.Prelude.{ℕ, Bool, true, false, List, [], ◌∷◌, codes, Option, None, Some, Result}
 use Rattle.std.specs.Map.{lookup}
+use Rattle.std.specs.Option.{is_some}
 use Rattle.std.specs.Str.{bytes_eq}
-use Rattle.enumset_repr.specs.BitSet.{from_list}
+use Rattle.enumset_repr.specs.BitSet.{BitSet, from_list}
 use Rattle.enumset_kinds.specs.declared.worked.Worked.{Worked}
 use Rattle.enumset_kinds.specs.declared.worked.Worked.TheVariants.{Letters, Four, Sparse, Marks, Wide, PairWords, PairNumber, High, Masks, Single, Nothing, MixedLetters, MixedFour, MixedSparse, MixedMarks, MixedPairWords, MixedPairNumber, MixedHigh, MixedMasks, MixedSingle, MixedNothing}
 use Rattle.enumset_commands.specs.declared.text_fault.TextFault.{TextFault}
 use Rattle.enumset_machine.specs.Answers.{answer_to, mixed_answer_to}
 use Rattle.enumset_worked.specs.Bits.{letters_bits, four_bits, sparse_bits, marks_bits, wide_bits, pair_bits, high_bits, masks_bits, single_bits}
 
--- the type of a name, byte by byte
 abbrev pub worked_of : List ℕ → Option Worked
 worked_of name =
     lookup (bytes_eq name) (
@@ -40,46 +44,51 @@ worked_of name =
     ∷ []
     )
 
--- whether commands are run over mixed sets
-abbrev pub is_over_mixed_sets : Worked → Bool
-is_over_mixed_sets MixedLetters = true
-is_over_mixed_sets MixedFour = true
-is_over_mixed_sets MixedSparse = true
-is_over_mixed_sets MixedMarks = true
-is_over_mixed_sets MixedPairWords = true
-is_over_mixed_sets MixedPairNumber = true
-is_over_mixed_sets MixedHigh = true
-is_over_mixed_sets MixedMasks = true
-is_over_mixed_sets MixedSingle = true
-is_over_mixed_sets MixedNothing = true
-is_over_mixed_sets kind = false
+-- where there is no width, the sets have valid bits alone
+pub record Over : Type 0 where
+  pub bits : List ℕ
+  pub width : Option ℕ
 
--- whether commands are run over an enum without variants
+abbrev pub sets : List ℕ → Over
+sets bits = record { bits = bits; width = None }
+
+abbrev pub mixed_sets : List ℕ → ℕ → Over
+mixed_sets bits width = record { bits = bits; width = Some width }
+
+abbrev pub over : Worked → Over
+over Letters = sets letters_bits
+over Four = sets four_bits
+over Sparse = sets sparse_bits
+over Marks = sets marks_bits
+over Wide = sets wide_bits
+over PairWords = sets pair_bits
+over PairNumber = sets pair_bits
+over High = sets high_bits
+over Masks = sets masks_bits
+over Single = sets single_bits
+over Nothing = sets []
+over MixedLetters = mixed_sets letters_bits 8
+over MixedFour = mixed_sets four_bits 8
+over MixedSparse = mixed_sets sparse_bits 128
+over MixedMarks = mixed_sets marks_bits 8
+over MixedPairWords = mixed_sets pair_bits 128
+over MixedPairNumber = mixed_sets pair_bits 128
+over MixedHigh = mixed_sets high_bits 8
+over MixedMasks = mixed_sets masks_bits 8
+over MixedSingle = mixed_sets single_bits 8
+over MixedNothing = mixed_sets [] 8
+
+abbrev pub is_over_mixed_sets : Worked → Bool
+is_over_mixed_sets kind = is_some (over kind).width
+
 abbrev pub is_over_nothing : Worked → Bool
 is_over_nothing Nothing = true
 is_over_nothing MixedNothing = true
 is_over_nothing kind = false
 
--- of the mixed ones the store has 8, 8, 128, 8, 128, 128, 8, 8, 8 and 8 bits
+abbrev pub answer_by_width : Option ℕ → BitSet → List ℕ → Result (List ℕ) TextFault
+answer_by_width None valid input = answer_to valid input
+answer_by_width (Some width) valid input = mixed_answer_to valid width input
+
 abbrev pub answer_over : Worked → List ℕ → Result (List ℕ) TextFault
-answer_over Letters input = answer_to (from_list letters_bits) input
-answer_over Four input = answer_to (from_list four_bits) input
-answer_over Sparse input = answer_to (from_list sparse_bits) input
-answer_over Marks input = answer_to (from_list marks_bits) input
-answer_over Wide input = answer_to (from_list wide_bits) input
-answer_over PairWords input = answer_to (from_list pair_bits) input
-answer_over PairNumber input = answer_to (from_list pair_bits) input
-answer_over High input = answer_to (from_list high_bits) input
-answer_over Masks input = answer_to (from_list masks_bits) input
-answer_over Single input = answer_to (from_list single_bits) input
-answer_over Nothing input = answer_to (from_list []) input
-answer_over MixedLetters input = mixed_answer_to (from_list letters_bits) 8 input
-answer_over MixedFour input = mixed_answer_to (from_list four_bits) 8 input
-answer_over MixedSparse input = mixed_answer_to (from_list sparse_bits) 128 input
-answer_over MixedMarks input = mixed_answer_to (from_list marks_bits) 8 input
-answer_over MixedPairWords input = mixed_answer_to (from_list pair_bits) 128 input
-answer_over MixedPairNumber input = mixed_answer_to (from_list pair_bits) 128 input
-answer_over MixedHigh input = mixed_answer_to (from_list high_bits) 8 input
-answer_over MixedMasks input = mixed_answer_to (from_list masks_bits) 8 input
-answer_over MixedSingle input = mixed_answer_to (from_list single_bits) 8 input
-answer_over MixedNothing input = mixed_answer_to (from_list []) 8 input
+answer_over kind input = answer_by_width (over kind).width (from_list (over kind).bits) input

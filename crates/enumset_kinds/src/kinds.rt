@@ -1,56 +1,64 @@
 //! The worked types by their names, and the answer to an input over each.
 
 ghost use Rattle.std.specs.Prelude.{◌≡◌, false, true, IfOk, IfErr, Ok};
+ghost use Rattle.std.specs.Str.{bytes_eq};
 ghost use Rattle.enumset_kinds.specs.Kinds.{worked_of, is_over_mixed_sets, answer_over};
 ghost use Rattle.enumset_commands.specs.TextFaults.{IsFaultOf};
 
 use crate::nothing::serve_nothing;
 use crate::worked::Worked;
-use enumset_commands::text_fault::TextFault;
-use enumset_machine::serve::{serve_mixed_text, serve_text};
-use enumset_worked::four::Four;
-use enumset_worked::high::High;
-use enumset_worked::letters::Letters;
-use enumset_worked::marks::Marks;
-use enumset_worked::masks::Masks;
-use enumset_worked::pair_number::PairNumber;
-use enumset_worked::pair_words::PairWords;
-use enumset_worked::single::Single;
-use enumset_worked::sparse::Sparse;
-use enumset_worked::wide::Wide;
+use enumset_commands::TextFault;
+use enumset_machine::{serve_mixed_text, serve_text};
+use enumset_worked::{
+    Four, High, Letters, Marks, Masks, PairNumber, PairWords, Single, Sparse, Wide,
+};
 use std::alloc::Global;
 
-/// The type of this name, byte by byte, or `None` where no type has that name.
+/// The type of this name, or `None` if no type has exactly that name.
 pub fn worked(name: &str) -> Option<Worked>
     ensures { result ≡ worked_of name.now }
 {
-    match name {
-        "letters" => Some(Worked::Letters),
-        "four" => Some(Worked::Four),
-        "sparse" => Some(Worked::Sparse),
-        "marks" => Some(Worked::Marks),
-        "wide" => Some(Worked::Wide),
-        "pair-words" => Some(Worked::PairWords),
-        "pair-number" => Some(Worked::PairNumber),
-        "high" => Some(Worked::High),
-        "masks" => Some(Worked::Masks),
-        "single" => Some(Worked::Single),
-        "nothing" => Some(Worked::Nothing),
-        "mixed-letters" => Some(Worked::MixedLetters),
-        "mixed-four" => Some(Worked::MixedFour),
-        "mixed-sparse" => Some(Worked::MixedSparse),
-        "mixed-marks" => Some(Worked::MixedMarks),
-        "mixed-pair-words" => Some(Worked::MixedPairWords),
-        "mixed-pair-number" => Some(Worked::MixedPairNumber),
-        "mixed-high" => Some(Worked::MixedHigh),
-        "mixed-masks" => Some(Worked::MixedMasks),
-        "mixed-single" => Some(Worked::MixedSingle),
-        "mixed-nothing" => Some(Worked::MixedNothing),
-        _ => None,
-    }
+    worked_of_bytes(name.as_bytes())
 }
 
-/// The text of the replies to the commands of an input, over the sets of the type of that kind, or its mixed sets.
+/// The same of a name as bytes, which need not be text.
+pub fn worked_of_bytes(name: &[u8]) -> Option<Worked>
+    ensures { result ≡ worked_of name.now }
+{
+    Some(match name {
+        _ if is(name, "letters") => Worked::Letters,
+        _ if is(name, "four") => Worked::Four,
+        _ if is(name, "sparse") => Worked::Sparse,
+        _ if is(name, "marks") => Worked::Marks,
+        _ if is(name, "wide") => Worked::Wide,
+        _ if is(name, "pair-words") => Worked::PairWords,
+        _ if is(name, "pair-number") => Worked::PairNumber,
+        _ if is(name, "high") => Worked::High,
+        _ if is(name, "masks") => Worked::Masks,
+        _ if is(name, "single") => Worked::Single,
+        _ if is(name, "nothing") => Worked::Nothing,
+        _ if is(name, "mixed-letters") => Worked::MixedLetters,
+        _ if is(name, "mixed-four") => Worked::MixedFour,
+        _ if is(name, "mixed-sparse") => Worked::MixedSparse,
+        _ if is(name, "mixed-marks") => Worked::MixedMarks,
+        _ if is(name, "mixed-pair-words") => Worked::MixedPairWords,
+        _ if is(name, "mixed-pair-number") => Worked::MixedPairNumber,
+        _ if is(name, "mixed-high") => Worked::MixedHigh,
+        _ if is(name, "mixed-masks") => Worked::MixedMasks,
+        _ if is(name, "mixed-single") => Worked::MixedSingle,
+        _ if is(name, "mixed-nothing") => Worked::MixedNothing,
+        _ => return None,
+    })
+}
+
+/// Whether a name is this word.
+fn is(name: &[u8], word: &str) -> bool
+    ensures { result ≡ bytes_eq name.now word.now }
+{
+    name == word.as_bytes()
+}
+
+/// The text of the replies to the commands of an input, over the sets of a worked type, or over its mixed sets.
 ///
 /// The errors are those of [`serve_text`].
 pub fn serve_worked(alloc: Global, kind: Worked, input: &[u8]) -> Result<Vec<u8>, TextFault>

@@ -5,11 +5,9 @@ ghost use Rattle.enumset_kinds.specs.Kinds.{is_over_nothing, answer_over};
 ghost use Rattle.enumset_commands.specs.TextFaults.{IsFaultOf};
 
 use crate::worked::Worked;
-use enumset_commands::text_fault::TextFault;
-use enumset_machine::serve::{serve_mixed_text, serve_text};
-use enumset_sets::element::EnumSetType;
-use enumset_sets::variant_of;
-use enumset_sets::with_repr::EnumSetTypeWithRepr;
+use enumset_commands::TextFault;
+use enumset_machine::{serve_mixed_text, serve_text};
+use enumset_sets::{EnumSetType, EnumSetTypeWithRepr, variant_of};
 use std::alloc::Global;
 
 /// The answer of `serve_worked` over the sets of an enum without variants in a `u8`, or its mixed sets.

@@ -2,3 +2,4 @@ pub mod Replies
 pub mod Cuts
 pub mod MixedItems
 pub mod OneTranscript
+pub mod Operands

@@ -1,6 +1,6 @@
 -- The answer to an input: the text of the replies to the commands of its lines, or why there is none.
 --     commands_of      the commands of an input, or its fault
---     answer_by      the answer, where it is known what commands an input has and what they reply
+--     answer_by      the answer, by the commands of an input and their replies
 --     answer_to, mixed_answer_to      the answer to an input of commands;  to one of commands of mixed sets
 use Rattle.std.specs.Prelude.{ℕ, nat_lt, List, length, Option, Result, Ok, Err, if◌then◌else◌}
 use Rattle.enumset_repr.specs.BitSet.{BitSet}
@@ -9,13 +9,13 @@ use Rattle.enumset_commands.specs.declared.text_fault.TextFault.{TextFault}
 use Rattle.enumset_commands.specs.declared.text_fault.TextFault.TheVariants.{TooLong}
 use Rattle.enumset_machine.specs.Runs.{replies}
 use Rattle.enumset_machine.specs.MixedRuns.{mixed_replies}
-use Rattle.enumset_commands.specs.Lines.{command_of, lines}
+use Rattle.enumset_commands.specs.Lines.{command_of, commands_of_text}
 use Rattle.enumset_commands.specs.MixedLines.{mixed_command_of}
 use Rattle.enumset_commands.specs.Texts.{text}
 
 -- the length is tested first: an input has at most a mebibyte
 abbrev pub commands_of : {C : Type 0} → (List (List ℕ) → Option C) → List ℕ → Result (List C) TextFault
-commands_of command input = if nat_lt 1048576 (length input) then Err TooLong else lines command input
+commands_of command input = if nat_lt 1048576 (length input) then Err TooLong else commands_of_text command input
 
 -- the text of the replies to the commands that an input has
 abbrev pub answer_by : {C : Type 0} → (List C → List Reply) → Result (List C) TextFault → Result (List ℕ) TextFault

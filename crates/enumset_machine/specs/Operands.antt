@@ -1,16 +1,23 @@
--- The operands of a command.
---     named_by      the registers, the widths, the values and the bits among them
+-- Commands by their operands.
+--     plan_of      the plan of the command that does this with these operands
+--     names_of      the registers, the widths, the values and the bits among the operands
 use Rattle.std.specs.Prelude.{[], ◌∷◌}
-use Rattle.enumset_machine.specs.Plans.{Named, of_sets}
-use Rattle.enumset_machine.specs.declared.machine.operands.Operands.{Operands}
-use Rattle.enumset_machine.specs.declared.machine.operands.Operands.TheVariants.{OneSet, TwoSets, ThreeSets, SetAndBit, SetAndWidth, SetAndValue, OneIterator, IteratorAndSet}
+use Rattle.enumset_commands.specs.Tables.{command_of_operation}
+use Rattle.enumset_commands.specs.declared.operation.Operation.{Operation}
+use Rattle.enumset_commands.specs.declared.operation.Operation.TheVariants.{OneSet, TwoSets, ThreeSets, SetAndBit, SetAndWidth, SetAndValue, SetAndWords, OneIterator, IteratorAndSet}
+use Rattle.enumset_machine.specs.Plans.{Names, Plan, set_names}
+use Rattle.enumset_machine.specs.Runs.{plan}
 
-abbrev pub named_by : Operands → Named
-named_by (OneSet r) = of_sets (r ∷ [])
-named_by (TwoSets a b) = of_sets (a ∷ b ∷ [])
-named_by (ThreeSets to a b) = of_sets (to ∷ a ∷ b ∷ [])
-named_by (SetAndBit r bit) = record (of_sets (r ∷ [])) { bits = bit ∷ [] }
-named_by (SetAndWidth r width) = record (of_sets (r ∷ [])) { widths = width ∷ [] }
-named_by (SetAndValue r width value) = record (of_sets (r ∷ [])) { widths = width ∷ []; values = value ∷ [] }
-named_by (OneIterator i) = record (of_sets []) { iterators = i ∷ [] }
-named_by (IteratorAndSet i r) = record (of_sets (r ∷ [])) { iterators = i ∷ [] }
+abbrev pub plan_of : Operation → Plan
+plan_of operation = plan (command_of_operation operation)
+
+abbrev pub names_of : Operation → Names
+names_of (OneSet r operation) = set_names (r ∷ [])
+names_of (TwoSets a b operation) = set_names (a ∷ b ∷ [])
+names_of (ThreeSets to a b operation) = set_names (to ∷ a ∷ b ∷ [])
+names_of (SetAndBit r bit operation) = record (set_names (r ∷ [])) { bits = bit ∷ [] }
+names_of (SetAndWidth r width operation) = record (set_names (r ∷ [])) { widths = width ∷ [] }
+names_of (SetAndValue r width value operation) = record (set_names (r ∷ [])) { widths = width ∷ []; values = value ∷ [] }
+names_of (SetAndWords r operation) = set_names (r ∷ [])
+names_of (OneIterator i operation) = record (set_names []) { iterators = i ∷ [] }
+names_of (IteratorAndSet i r) = record (set_names (r ∷ [])) { iterators = i ∷ [] }

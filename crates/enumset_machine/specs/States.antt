@@ -1,5 +1,5 @@
 -- The registers of a run.
---     State      four sets, and two lists of what iterators have still to give
+--     State      four sets, and for each of two iterators the list of what is left
 --     coded_state      the code that lets a state be a model's value
 --     no_sets, no_lists, start      four empty sets;  two empty lists;  the state of these
 --     set_at, list_at      the set in a register;  the list in an iterator register
@@ -10,7 +10,7 @@ use Rattle.std.specs.List.{slice_index_or}
 use Rattle.std.specs.Coded.{Coded, code_by, coded×, coded_list, coded_ℕ}
 use Rattle.enumset_repr.specs.BitSet.{BitSet, coded_set, empty}
 
--- the sets of the set registers, and what each iterator register has still to give
+-- the sets in the set registers, and what is left in each iterator register
 pub record State : Type 0 where
   pub sets : List BitSet
   pub lists : List (List ℕ)

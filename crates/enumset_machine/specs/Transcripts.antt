@@ -1,7 +1,7 @@
--- Commands of mixed sets whose replies do not depend on the width of the store.
---     handed_in, mixed_handed_in      the bits that a command names, or that the number or the words in it have
---     turns_all_bits      whether a command turns each bit of the store
---     is_within      whether a command turns no store and hands in bits below a width alone
+-- Commands of mixed sets whose replies do not depend on the width of the representation.
+--     input_bits, mixed_input_bits      the bits that a command names, or that the number or the words in it have
+--     inverts_all_bits      whether a command inverts every bit of the representation
+--     is_within      whether a command does not, and names or has in a number or words only bits below a width
 use Rattle.std.specs.Prelude.{ℕ, Bool, true, false, not, ◌&&◌}
 use Rattle.enumset_repr.specs.BitSet as set
 use Rattle.enumset_repr.specs.BitSet.{BitSet}
@@ -12,28 +12,28 @@ use Rattle.enumset_commands.specs.declared.command.Command.TheVariants.{Only, In
 use Rattle.enumset_commands.specs.declared.mixed_command.MixedCommand.{MixedCommand}
 use Rattle.enumset_commands.specs.declared.mixed_command.MixedCommand.TheVariants.{Common, HasBit, InsertBit, RemoveBit, FullComplement}
 
-abbrev pub handed_in : Command → BitSet
-handed_in (Only r bit) = set.only bit
-handed_in (Insert r bit) = set.only bit
-handed_in (Remove r bit) = set.only bit
-handed_in (Contains r bit) = set.only bit
-handed_in (FromNumber r width value) = bits value
-handed_in (FromNumberCut r width value) = bits value
-handed_in (FromWords r words) = bits_of words
-handed_in (FromWordsCut r words) = bits_of words
-handed_in other = set.empty
+abbrev pub input_bits : Command → BitSet
+input_bits (Only r bit) = set.only bit
+input_bits (Insert r bit) = set.only bit
+input_bits (Remove r bit) = set.only bit
+input_bits (Contains r bit) = set.only bit
+input_bits (FromNumber r width value) = bits value
+input_bits (FromNumberCut r width value) = bits value
+input_bits (FromWords r words) = bits_of words
+input_bits (FromWordsCut r words) = bits_of words
+input_bits other = set.empty
 
-abbrev pub mixed_handed_in : MixedCommand → BitSet
-mixed_handed_in (Common c) = handed_in c
-mixed_handed_in (HasBit r bit) = set.only bit
-mixed_handed_in (InsertBit r bit) = set.only bit
-mixed_handed_in (RemoveBit r bit) = set.only bit
-mixed_handed_in other = set.empty
+abbrev pub mixed_input_bits : MixedCommand → BitSet
+mixed_input_bits (Common c) = input_bits c
+mixed_input_bits (HasBit r bit) = set.only bit
+mixed_input_bits (InsertBit r bit) = set.only bit
+mixed_input_bits (RemoveBit r bit) = set.only bit
+mixed_input_bits other = set.empty
 
--- a full complement has the bits that the store has
-abbrev pub turns_all_bits : MixedCommand → Bool
-turns_all_bits (FullComplement to a) = true
-turns_all_bits other = false
+-- a full complement has every other bit of the representation
+abbrev pub inverts_all_bits : MixedCommand → Bool
+inverts_all_bits (FullComplement to a) = true
+inverts_all_bits other = false
 
 abbrev pub is_within : ℕ → MixedCommand → Bool
-is_within width c = not (turns_all_bits c) && set.is_subset (mixed_handed_in c) (set.below width)
+is_within width c = not (inverts_all_bits c) && set.is_subset (mixed_input_bits c) (set.below width)

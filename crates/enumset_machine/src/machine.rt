@@ -1,34 +1,37 @@
 //! The machine that carries out commands.
 
 ghost use Rattle.std.specs.Prelude.{◌≡◌, false, IfOk, IsOk, OnErr};
+ghost use Rattle.enumset_sets.specs.Elements.{valid_bits};
 
-mod by_operands;
-mod changes;
-mod conversions;
+mod bits;
 mod element_set;
+mod iterators;
+mod mixed_commands;
 pub mod mixed_machine;
 mod mixed_run_set;
 mod mixed_set;
-mod on_bits;
+mod numbers;
+mod one_set;
 mod operands;
 mod registers;
 mod run_set;
 mod runner;
-mod widened;
+mod three_sets;
+mod two_sets;
+mod u128_from;
+mod words;
 
 use crate::steps::Steps;
-use enumset_commands::command::Command;
-use enumset_commands::reply::Reply;
-use enumset_repr::repr::EnumSetTypeRepr;
-use enumset_sets::element::EnumSetType;
-use enumset_sets::enum_set::EnumSet;
+use enumset_commands::{Command, Reply};
+use enumset_repr::EnumSetTypeRepr;
+use enumset_sets::{EnumSet, EnumSetType};
 use runner::Runner;
 use std::alloc::{AllocError, Global};
 use std::marker::Model;
 
 /// Four set registers and two iterator registers.
 ///
-/// Contracts see the sets of bit numbers, and the lists of what the iterators have still to give.
+/// Contracts see the sets as sets of bit numbers, and the iterators as lists of what is left in them.
 #[derive(Drop)]
 pub struct Machine<T: EnumSetType> {
     runner: Runner<EnumSet<T>>,
@@ -60,14 +63,14 @@ impl<T: EnumSetType> Machine<T> {
 
     /// Carries out one command. A refused command changes nothing.
     ///
-    /// Memory is taken for a reply of words alone: where the reply is another, there is always one. Where memory is
-    /// refused, the machine is as it was.
+    /// Only a reply of words takes memory; with any other reply the call succeeds. If memory runs out, the machine is
+    /// unchanged.
     #[tactic(auto, unfolding(crate::specs::Runs::outcome))]
     pub fn step(&mut self, alloc: Global, command: &Command) -> Result<Reply, AllocError>
         ensures succeeds { takes_memory
-            (outcome (T.Repr.members T.ALL_BITS) self.old command.now).reply ≡ false → IsOk result }
+            (outcome (valid_bits T.elements) self.old command.now).reply ≡ false → IsOk result }
         ensures step { IfOk result (λ reply.
-            outcome (T.Repr.members T.ALL_BITS) self.old command.now
+            outcome (valid_bits T.elements) self.old command.now
             ≡ record { reply = reply; state = self.new }) }
         ensures err { OnErr result (self.new ≡ self.old) }
     {
@@ -82,7 +85,7 @@ impl<T: EnumSetType> Steps for Machine<T> {
 
     ghost state = { λ m. m };
 
-    ghost outcome = { outcome (T.Repr.members T.ALL_BITS) };
+    ghost outcome = { outcome (valid_bits T.elements) };
 
     fn new() -> Machine<T> {
         Machine::<T>::new()

@@ -4,17 +4,14 @@ ghost use Rattle.enumset_machine.specs.States.{start};
 ghost use Rattle.enumset_machine.specs.Plans.{replies_by};
 ghost use Rattle.enumset_machine.specs.Answers.{answer_by, answer_to, mixed_answer_to, commands_of};
 ghost use Rattle.enumset_commands.specs.TextFaults.{IsFaultOf};
+ghost use Rattle.enumset_sets.specs.Elements.{valid_bits};
 
 use crate::machine::Machine;
 use crate::machine::mixed_machine::MixedMachine;
 use crate::steps::{Steps, run_by_steps};
-use enumset_commands::grammar::line_command::LineCommand;
-use enumset_commands::grammar::read_commands;
-use enumset_commands::text_fault::TextFault;
-use enumset_commands::transcript::write_replies;
+use enumset_commands::{LineCommand, TextFault, read_commands, write_replies};
 use enumset_repr::EnumSetTypeRepr;
-use enumset_sets::element::EnumSetType;
-use enumset_sets::with_repr::EnumSetTypeWithRepr;
+use enumset_sets::{EnumSetType, EnumSetTypeWithRepr};
 use std::alloc::Global;
 
 /// The most bytes that an input may have.
@@ -23,15 +20,15 @@ pub const INPUT_LIMIT: usize = 1_048_576;
 /// The text of the replies to the commands of an input.
 ///
 /// The errors are [`TextFault::TooLong`] for an input of more than [`INPUT_LIMIT`] bytes, else
-/// [`TextFault::BadLine`] for the first line that is no command, and else, where there are replies,
-/// [`TextFault::OutOfMemory`] for want of memory.
+/// [`TextFault::BadLine`] for the first line that is not a command, and else
+/// [`TextFault::OutOfMemory`].
 pub fn serve_text<T: EnumSetType>(alloc: Global, input: &[u8]) -> Result<Vec<u8>, TextFault>
     // The replies are those of finite sets of bit numbers.
     ensures answer { IfOk result (λ out.
-        answer_to (T.Repr.members T.ALL_BITS) input.now ≡ Ok out.items) }
-    // A fault is the input's own where it has one, and else want of memory.
+        answer_to (valid_bits T.elements) input.now ≡ Ok out.items) }
+    // A fault is the input's own if it has one, and else out of memory.
     ensures fault { IfErr result (λ fault.
-        IsFaultOf (answer_to (T.Repr.members T.ALL_BITS) input.now) fault) }
+        IsFaultOf (answer_to (valid_bits T.elements) input.now) fault) }
 {
     serve_by_steps::<Machine<T>>(alloc, input)
 }
@@ -43,17 +40,17 @@ pub fn serve_mixed_text<T: EnumSetTypeWithRepr>(
     alloc: Global,
     input: &[u8],
 ) -> Result<Vec<u8>, TextFault>
-    // The replies are those of finite sets of bit numbers below the store's width.
+    // The replies are those of finite sets of bit numbers below the width of the representation.
     ensures answer { IfOk result (λ out.
-        mixed_answer_to (T.Repr.members T.ALL_BITS) T.Repr.WIDTH input.now ≡ Ok out.items) }
-    // A fault is the input's own where it has one, and else want of memory.
+        mixed_answer_to (valid_bits T.elements) T.Repr.WIDTH input.now ≡ Ok out.items) }
+    // A fault is the input's own if it has one, and else out of memory.
     ensures fault { IfErr result (λ fault.
-        IsFaultOf (mixed_answer_to (T.Repr.members T.ALL_BITS) T.Repr.WIDTH input.now) fault) }
+        IsFaultOf (mixed_answer_to (valid_bits T.elements) T.Repr.WIDTH input.now) fault) }
 {
     serve_by_steps::<MixedMachine<T>>(alloc, input)
 }
 
-/// The text of the replies that a machine gives to the commands of an input, step by step.
+/// The text of the replies that a new machine gives to the commands of an input.
 fn serve_by_steps<M: Steps>(alloc: Global, input: &[u8]) -> Result<Vec<u8>, TextFault>
 where
     M::Command: LineCommand,
@@ -67,7 +64,7 @@ where
     Ok(write_replies(alloc, &replies)?)
 }
 
-/// The commands of an input, of which the length is tested first.
+/// The commands of an input. Its length is tested first.
 fn commands_of<C: LineCommand>(alloc: Global, input: &[u8]) -> Result<Vec<C>, TextFault>
     ensures commands { IfOk result (λ commands.
         commands_of C.command_of input.now ≡ Ok commands.items) }

@@ -1,11 +1,11 @@
-//! Runs of commands by the steps of a machine, whatever its sets are.
+//! Runs of commands on a machine over sets of any kind.
 
 ghost use Rattle.std.specs.Prelude.{◌≡◌, ◌≤◌, [], length, false, IfOk, IsOk, vec_capacity};
 ghost use Rattle.std.specs.List.{list_any};
 ghost use Rattle.enumset_machine.specs.States.{State, start};
 ghost use Rattle.enumset_machine.specs.Plans.{Outcome, takes_memory, replies_by};
 
-use enumset_commands::reply::Reply;
+use enumset_commands::Reply;
 use std::alloc::{AllocError, Global};
 
 /// A machine that carries out commands in steps.
@@ -16,14 +16,14 @@ pub(crate) trait Steps: Drop {
     // The sets and the lists of the registers.
     ghost state: { Self → State };
 
-    // What a command comes to.
+    // The outcome of a command.
     ghost outcome: { State → Self.Command → Outcome };
 
     /// A machine whose registers are empty.
     fn new() -> Self
         ensures { state result ≡ start };
 
-    /// Carries out one command. Memory is taken for a reply of words alone.
+    /// Carries out one command. Only a reply of words takes memory.
     fn step(&mut self, alloc: Global, command: &Self::Command) -> Result<Reply, AllocError>
         ensures succeeds { takes_memory (outcome (state self.old) command.now).reply ≡ false
             → IsOk result }
@@ -31,7 +31,7 @@ pub(crate) trait Steps: Drop {
             ≡ record { reply = reply; state = state self.new }) };
 }
 
-/// Carries out commands in order by the steps of a new machine. The only error is want of memory for the replies.
+/// Carries out commands in order on a new machine. The only error is out of memory.
 pub(crate) fn run_by_steps<M: Steps>(
     alloc: Global,
     commands: &[M::Command],
@@ -41,8 +41,7 @@ pub(crate) fn run_by_steps<M: Steps>(
     run_over_room::<M>(alloc, commands, Vec::with_capacity(alloc, commands.len())?)
 }
 
-/// The same in an empty vector that has room for the replies. Then each run has replies where none of them takes
-/// memory of its own.
+/// The same, in an empty vector with room for the replies. It fails only if a reply takes memory of its own.
 fn run_over_room<M: Steps>(
     alloc: Global,
     commands: &[M::Command],

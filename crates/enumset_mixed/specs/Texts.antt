@@ -1,7 +1,7 @@
 -- The text of a mixed set.
 --     unknown_text      the text of an unknown bit: its number in brackets
---     item_text      the text of an item, from the texts of elements
---     text_with_validity      that of a bit of which it is said whether it is valid, from the texts of valid bits
+--     item_text      the text of an item of the iterator, from the texts of elements
+--     text_with_validity      the text of a bit that is paired with whether it is valid, from the texts of valid bits
 use Rattle.std.specs.Prelude.{ℕ, Bool, true, false, List, ◌++◌, Option, Some, codes}
 use Rattle.std.specs.Fmt.{decimal}
 use Rattle.enumset_mixed.specs.declared.mixed_value.MixedValue.{MixedValue}

@@ -1,14 +1,13 @@
-//! The operators on a mixed set and an element, which stands for the set of it alone.
+//! The operators on a mixed set and an element, which counts as the set of that element alone.
 
 ghost use Rattle.std.specs.Prelude.{◌≡◌};
 ghost use Rattle.enumset_repr.specs.BitSet as set;
 
 use crate::mixed_enum_set::MixedEnumSet;
-use enumset_sets::element::EnumSetType;
-use enumset_sets::with_repr::EnumSetTypeWithRepr;
+use enumset_sets::{EnumSetType, EnumSetTypeWithRepr};
 use std::ops::{BitAnd, BitAndAssign, BitOr, BitOrAssign, BitXor, BitXorAssign, Sub, SubAssign};
 
-/// `a & b`: the set of the element b where a has it, else the empty set.
+/// `a & b`: the set of the element b if it is in a, else the empty set.
 impl<T: EnumSetTypeWithRepr> BitAnd<T> for MixedEnumSet<T> {
     type Output = MixedEnumSet<T>;
 
@@ -33,7 +32,7 @@ impl<T: EnumSetTypeWithRepr> BitOr<T> for MixedEnumSet<T> {
     }
 }
 
-/// `a ^ b`: a with the element b where a lacks it, else a without it.
+/// `a ^ b`: a with the element b if a lacks it, else a without it.
 impl<T: EnumSetTypeWithRepr> BitXor<T> for MixedEnumSet<T> {
     type Output = MixedEnumSet<T>;
 

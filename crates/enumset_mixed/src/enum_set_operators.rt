@@ -1,12 +1,11 @@
-//! The operators on a mixed set and a set of elements, as those of two mixed sets.
+//! The operators on a mixed set and a set of elements, as on two mixed sets.
 
 ghost use Rattle.std.specs.Prelude.{◌≡◌};
 ghost use Rattle.enumset_repr.specs.BitSet as set;
 
 use crate::conversions::convert_mixed;
 use crate::mixed_enum_set::MixedEnumSet;
-use enumset_sets::enum_set::EnumSet;
-use enumset_sets::with_repr::EnumSetTypeWithRepr;
+use enumset_sets::{EnumSet, EnumSetTypeWithRepr};
 use std::ops::{BitAnd, BitAndAssign, BitOr, BitOrAssign, BitXor, BitXorAssign, Sub, SubAssign};
 
 /// `a & b`: the members of both.
@@ -31,7 +30,7 @@ impl<T: EnumSetTypeWithRepr> BitOr<EnumSet<T>> for MixedEnumSet<T> {
     }
 }
 
-/// `a ^ b`: the members of just one of the two.
+/// `a ^ b`: the members of exactly one of the two.
 impl<T: EnumSetTypeWithRepr> BitXor<EnumSet<T>> for MixedEnumSet<T> {
     type Output = MixedEnumSet<T>;
 

@@ -9,8 +9,7 @@ use crate::conversions::convert_mixed;
 use crate::mixed_enum_set::MixedEnumSet;
 use crate::mixed_enum_set_iter::MixedEnumSetIter;
 use crate::mixed_value::MixedValue;
-use enumset_sets::enum_set::EnumSet;
-use enumset_sets::with_repr::EnumSetTypeWithRepr;
+use enumset_sets::{EnumSet, EnumSetTypeWithRepr};
 use std::alloc::{AllocError, Global};
 use std::iter::Sum;
 
@@ -41,20 +40,20 @@ impl<T: EnumSetTypeWithRepr> From<EnumSet<T>> for MixedEnumSet<T> {
     }
 }
 
-/// The members, along their bits, rising, as [`iter`](MixedEnumSet::iter).
+/// An iterator over the members, ascending by bit, as [`iter`](MixedEnumSet::iter).
 impl<T: EnumSetTypeWithRepr> IntoIterator for MixedEnumSet<T> {
     type Item = MixedValue<T>;
 
     type IntoIter = MixedEnumSetIter<T>;
 
-    ghost into_iter_gives = { λ s i. i ≡ set.rising s };
+    ghost into_iter_gives = { λ s i. i ≡ set.ascending s };
 
     fn into_iter(self) -> MixedEnumSetIter<T> {
         self.iter()
     }
 }
 
-/// Makes each element that an iterator gives a member. It takes no memory and is always `Ok`.
+/// Adds every element that an iterator yields. The iterator must end. The call takes no memory and always returns `Ok`.
 impl<T: EnumSetTypeWithRepr> Extend<T> for MixedEnumSet<T> {
     ghost extend_gives = { λ s ts r. r ≡ set.union s (set.from_list (map T.elements.bit ts)) };
 
@@ -74,7 +73,8 @@ impl<T: EnumSetTypeWithRepr> Extend<T> for MixedEnumSet<T> {
     }
 }
 
-/// The set of the elements that an iterator gives. It takes no memory and is always `Ok`.
+/// The set of the elements that an iterator yields. The iterator must end. The call takes no memory and always returns
+/// `Ok`.
 impl<T: EnumSetTypeWithRepr> FromIterator<T> for MixedEnumSet<T> {
     type Alloc = Global;
 
@@ -97,7 +97,7 @@ impl<T: EnumSetTypeWithRepr> FromIterator<T> for MixedEnumSet<T> {
     }
 }
 
-/// The members of any of the sets that an iterator gives.
+/// The union of all sets that an iterator yields. The iterator must end.
 impl<T: EnumSetTypeWithRepr> Sum<MixedEnumSet<T>> for MixedEnumSet<T> {
     ghost sum_gives = { λ sets r. r ≡ union_all sets };
 

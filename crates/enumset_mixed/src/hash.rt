@@ -1,13 +1,13 @@
-//! What mixed sets feed a hasher.
+//! What mixed sets feed to a hasher.
 
 ghost use Rattle.std.proofs.Common.{ap};
 ghost use Rattle.enumset_repr.specs.Laws.Members.{is_same_iff};
 
 use crate::mixed_enum_set::MixedEnumSet;
-use enumset_sets::with_repr::EnumSetTypeWithRepr;
+use enumset_sets::EnumSetTypeWithRepr;
 use std::hash::{Hash, Hasher};
 
-/// A set feeds what its store value does: equal sets feed equal data.
+/// A set feeds what the value that represents it feeds, so equal sets feed equal data.
 impl<T: EnumSetTypeWithRepr> Hash for MixedEnumSet<T> {
     ghost hash_input = { λ s. T.Repr.Hash.hash_input (T.Repr.of_members s) };
 

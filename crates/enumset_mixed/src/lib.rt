@@ -1,8 +1,8 @@
-//! Sets of an enum's variants that keep the bits they have no variant for.
+//! Sets of the variants of an enum that also keep unknown bits, which no variant has.
 //!
 //! [`MixedEnumSet`] is proved once, over every [`EnumSetTypeWithRepr`](enumset_sets::EnumSetTypeWithRepr) and every
-//! store of `enumset_repr`: it names no store. Contracts see a set as the finite set of its bit numbers, each below
-//! the store's width.
+//! representation of `enumset_repr`, and names none of them. Contracts see a set as the finite set of its bit numbers,
+//! each below the width of the representation.
 #![tactic(auto)]
 
 pub mod conversions;

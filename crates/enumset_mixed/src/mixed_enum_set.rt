@@ -1,28 +1,29 @@
-//! The set of elements and of bits that no variant has.
+//! The set of elements and of unknown bits.
 
 ghost use Rattle.std.specs.Prelude.{◌≡◌, ◌<◌, ◌≤◌, IsTrue, false, not};
 ghost use Rattle.enumset_repr.specs.BitSet as set;
-ghost use Rattle.enumset_mixed.specs.Mixed.{known, unknown};
+ghost use Rattle.enumset_mixed.specs.Mixed.{valid_members, unknown_members};
+ghost use Rattle.enumset_sets.specs.Elements.{valid_bits};
 
 use crate::conversions::convert_mixed;
 use crate::mixed_enum_set_iter::MixedEnumSetIter;
-use enumset_repr::repr::EnumSetTypeRepr;
-use enumset_sets::element::EnumSetType;
-use enumset_sets::enum_set::EnumSet;
-use enumset_sets::store::{
-    are_same, has_no_member, intersection_of, rest_of, symmetric_difference_of, union_of,
+use enumset_repr::EnumSetTypeRepr;
+use enumset_sets::representation::{
+    are_same, complement_of, has_no_member, intersection_of, symmetric_difference_of, union_of,
+    valid_repr,
 };
-use enumset_sets::with_repr::EnumSetTypeWithRepr;
+use enumset_sets::{EnumSet, EnumSetType, EnumSetTypeWithRepr};
 use std::alloc::AllocError;
 use std::fmt;
 use std::marker::{Model, PhantomData};
 
-/// A set of elements that keeps bits of no variant too, as a value of its store: what a newer peer sent is carried
-/// on, not lost.
+/// A set of elements that also keeps unknown bits, as a value of a representation. So a program can pass on what a
+/// newer peer sent, and loses nothing of it.
 ///
-/// It mirrors `MixedEnumSet` of Rust's `enumset`, and each call but `eq_enumset` and `eq_element` the one of its name
-/// there. A bit is valid if a variant has it, and else unknown. The parameter `R` is always the store of `T`: write
-/// `MixedEnumSet<T>`.
+/// It mirrors `MixedEnumSet` of Rust's `enumset`, and its calls keep their names, except for
+/// [`eq_enumset`](MixedEnumSet::eq_enumset) and [`eq_element`](MixedEnumSet::eq_element).
+/// [`copied`](MixedEnumSet::copied) has no counterpart there. A bit is valid if a variant has it, and unknown
+/// otherwise. The parameter `R` is always the representation of `T`: write `MixedEnumSet<T>`.
 pub struct MixedEnumSet<T: EnumSetTypeWithRepr, R: EnumSetTypeRepr = <T as EnumSetType>::Repr> {
     pub(crate) repr: R,
     of: PhantomData<T>,
@@ -38,7 +39,7 @@ impl<T: EnumSetTypeWithRepr, R: EnumSetTypeRepr> Model for MixedEnumSet<T, R> {
 
     ghost view = { λ s. R.members s.repr };
 
-    // the store value is the one that means its set
+    // The value is the one that represents its set.
     ghost invariant = { λ s. R.of_members (R.members s.repr) ≡ s.repr };
 
     ghost inverse = { λ s. record { repr = R.of_members s; of = record {} } };
@@ -93,8 +94,8 @@ impl<T: EnumSetTypeWithRepr> Default for MixedEnumSet<T> {
     }
 }
 
-/// `MixedEnumSet(`, the members' `{:?}` texts along their bits, joined by ` | `, and `)`. The text of an unknown
-/// bit is its number in brackets, as `[3]`.
+/// `MixedEnumSet(`, the `{:?}` texts of the members, ascending by bit and joined by ` | `, and `)`. The text of an
+/// unknown bit is its number in brackets, as `[3]`. No contract speaks of `{:?}`; tests do.
 impl<T: EnumSetTypeWithRepr + fmt::Debug> fmt::Debug for MixedEnumSet<T> {
     fn fmt<W: fmt::Write>(&self, f: &mut fmt::Formatter<W>) -> fmt::Result {
         f.write_str("MixedEnumSet(")?;
@@ -111,11 +112,11 @@ impl<T: EnumSetTypeWithRepr + fmt::Debug> fmt::Debug for MixedEnumSet<T> {
 }
 
 impl<T: EnumSetTypeWithRepr> MixedEnumSet<T> {
-    // The set that a store value means.
+    // The set that a value represents.
     pub(crate) fn of_repr(repr: T::Repr) -> MixedEnumSet<T>
         ensures { result ≡ T.Repr.members repr }
     {
-        repr.known();
+        repr.learn_is_value();
         MixedEnumSet {
             repr,
             of: PhantomData,
@@ -138,9 +139,9 @@ impl<T: EnumSetTypeWithRepr> MixedEnumSet<T> {
 
     /// The set of all variants. It has no unknown bit.
     pub fn all() -> MixedEnumSet<T>
-        ensures { result ≡ T.Repr.members T.ALL_BITS }
+        ensures { result ≡ valid_bits T.elements }
     {
-        Self::of_repr(T::ALL_BITS)
+        Self::of_repr(valid_repr::<T>())
     }
 
     /// The set of one element.
@@ -150,95 +151,95 @@ impl<T: EnumSetTypeWithRepr> MixedEnumSet<T> {
         convert_mixed(EnumSet::only(t))
     }
 
-    /// How many valid bits there are: as many as variants.
+    /// The number of valid bits, which is the number of variants.
     pub fn variant_count() -> u32
-        ensures { result ≡ set.len (T.Repr.members T.ALL_BITS) }
+        ensures { result ≡ set.len (valid_bits T.elements) }
     {
         EnumSet::<T>::variant_count()
     }
 
-    /// The element's bit. It is valid, and below the store's width.
+    /// The bit of an element. It is valid, and below the width of the representation.
     pub fn bit_index(t: T) -> u32
         ensures bit { result ≡ T.elements.bit t }
-        ensures valid { IsTrue (set.contains (T.Repr.members T.ALL_BITS) result) }
+        ensures valid { IsTrue (set.contains (valid_bits T.elements) result) }
         ensures within { result < T.Repr.WIDTH }
     {
         EnumSet::<T>::bit_index(t)
     }
 
-    /// Whether a bit is valid: one of a variant. It is not at and past the store's width.
+    /// Whether a bit is valid: whether a variant has it. No bit at or past the width of the representation is valid.
     pub fn is_bit_valid(bit: u32) -> bool
-        ensures valid { result ≡ set.contains (T.Repr.members T.ALL_BITS) bit }
+        ensures valid { result ≡ set.contains (valid_bits T.elements) bit }
         ensures of_a_variant { result ≡ set.is_in bit T.elements.bit_list }
         ensures past { T.Repr.WIDTH ≤ bit → result ≡ false }
     {
         EnumSet::<T>::is_bit_valid(bit)
     }
 
-    /// The same set, as a value of its own. Code over any element type takes it where it uses a set by value twice.
+    /// The same set as a new value. Code over any element type calls it where it uses a set by value twice.
     pub fn copied(&self) -> MixedEnumSet<T>
         ensures { result ≡ self.now }
     {
         Self::of_repr(self.repr)
     }
 
-    /// How many members there are, unknown bits counted. Each is below the store's width.
+    /// The number of members, unknown bits included. Each is below the width of the representation.
     pub fn len(&self) -> usize
         ensures members { result ≡ set.len self.now }
         ensures within { IsTrue (set.is_subset self.now (set.below T.Repr.WIDTH)) }
     {
-        self.repr.known();
+        self.repr.learn_is_value();
         self.repr.count_ones() as usize
     }
 
-    /// How many members are valid bits.
+    /// The number of members that are valid bits.
     pub fn valid_len(&self) -> usize
-        ensures { result ≡ set.len (known (T.Repr.members T.ALL_BITS) self.now) }
+        ensures { result ≡ set.len (valid_members (valid_bits T.elements) self.now) }
     {
         self.as_enumset_truncate().len()
     }
 
-    /// Whether there is no member, known or unknown.
+    /// Whether the set is empty: it has no member, valid or unknown.
     pub fn is_empty(&self) -> bool
         ensures { result ≡ set.is_empty self.now }
     {
         has_no_member(&self.repr)
     }
 
-    /// Whether some member is no valid bit.
+    /// Whether some member is an unknown bit.
     pub fn has_unknown_bits(&self) -> bool
         ensures unknown { result
-            ≡ not (set.is_empty (unknown (T.Repr.members T.ALL_BITS) self.now)) }
-        ensures known { result ≡ not (set.is_subset self.now (T.Repr.members T.ALL_BITS)) }
+            ≡ not (set.is_empty (unknown_members (valid_bits T.elements) self.now)) }
+        ensures valid { result ≡ not (set.is_subset self.now (valid_bits T.elements)) }
     {
-        !self.repr.is_subset_of(&T::ALL_BITS)
+        !self.repr.is_subset_of(&valid_repr::<T>())
     }
 
-    /// Takes out all members, known and unknown.
+    /// Removes all members, valid and unknown.
     pub fn clear(&mut self)
         ensures { self.new ≡ set.empty }
     {
         self.repr = T::Repr::EMPTY;
-        self.repr.known();
+        self.repr.learn_is_value();
     }
 
-    /// Whether the element is a member.
+    /// Whether an element is a member.
     pub fn contains(&self, value: T) -> bool
         ensures { result ≡ set.contains self.now (T.elements.bit value) }
     {
         self.has_bit(Self::bit_index(value))
     }
 
-    /// Whether a bit is a member, known or unknown. At and past the store's width it is not.
+    /// Whether a bit is a member, valid or unknown. No bit at or past the width of the representation is a member.
     pub fn has_bit(&self, value: u32) -> bool
         ensures has { result ≡ set.contains self.now value }
         ensures past { T.Repr.WIDTH ≤ value → result ≡ false }
     {
-        self.repr.known();
+        self.repr.learn_is_value();
         value < T::Repr::WIDTH && self.repr.has_bit(value)
     }
 
-    /// Makes the element a member, and says whether it was absent.
+    /// Adds an element, and returns whether it was absent.
     pub fn insert(&mut self, value: T) -> bool
         ensures inserted { self.new ≡ set.insert self.old (T.elements.bit value) }
         ensures was_absent { result ≡ not (set.contains self.old (T.elements.bit value)) }
@@ -246,7 +247,8 @@ impl<T: EnumSetTypeWithRepr> MixedEnumSet<T> {
         self.insert_bit(Self::bit_index(value))
     }
 
-    /// Makes a bit below the store's width a member, valid or not, and says whether it was absent.
+    /// Adds a bit, valid or not, and returns whether it was absent. The bit must be below the width of the
+    /// representation, `T::Repr::WIDTH`.
     pub fn insert_bit(&mut self, value: u32) -> bool
         requires { value < T.Repr.WIDTH }
         ensures inserted { self.new ≡ set.insert self.old value }
@@ -254,11 +256,11 @@ impl<T: EnumSetTypeWithRepr> MixedEnumSet<T> {
     {
         let is_absent = !self.has_bit(value);
         self.repr.add_bit(value);
-        self.repr.known();
+        self.repr.learn_is_value();
         is_absent
     }
 
-    /// Takes the element out, and says whether it was present.
+    /// Removes an element, and returns whether it was present.
     pub fn remove(&mut self, value: T) -> bool
         ensures removed { self.new ≡ set.remove self.old (T.elements.bit value) }
         ensures was_present { result ≡ set.contains self.old (T.elements.bit value) }
@@ -266,8 +268,8 @@ impl<T: EnumSetTypeWithRepr> MixedEnumSet<T> {
         self.remove_bit(Self::bit_index(value))
     }
 
-    /// Takes a bit out, valid or not, and says whether it was present. At and past the store's width it was not, and
-    /// the set stays as it was.
+    /// Removes a bit, valid or not, and returns whether it was present. A bit at or past the width of the
+    /// representation is never present, so the call returns false and the set stays as it was.
     #[tactic(auto, using(enumset_repr::specs::Laws::Algebra::remove_absent))]
     pub fn remove_bit(&mut self, value: u32) -> bool
         ensures removed { self.new ≡ set.remove self.old value }
@@ -277,61 +279,61 @@ impl<T: EnumSetTypeWithRepr> MixedEnumSet<T> {
         let is_present = self.has_bit(value);
         if is_present {
             self.repr.remove_bit(value);
-            self.repr.known();
+            self.repr.learn_is_value();
         }
         is_present
     }
 
-    /// Whether no bit is a member of both.
+    /// Whether no bit is a member of both sets.
     pub fn is_disjoint(&self, other: MixedEnumSet<T>) -> bool
         ensures { result ≡ set.is_disjoint self.now other }
     {
         self.repr.is_disjoint_from(&other.repr)
     }
 
-    /// Whether each member of the other is one of this.
+    /// Whether every member of `other` is a member of this set.
     pub fn is_superset(&self, other: MixedEnumSet<T>) -> bool
         ensures { result ≡ set.is_subset other self.now }
     {
         other.repr.is_subset_of(&self.repr)
     }
 
-    /// Whether each member of this is one of the other.
+    /// Whether every member of this set is a member of `other`.
     pub fn is_subset(&self, other: MixedEnumSet<T>) -> bool
         ensures { result ≡ set.is_subset self.now other }
     {
         self.repr.is_subset_of(&other.repr)
     }
 
-    /// The members of either.
+    /// The members of either set.
     pub fn union(&self, other: MixedEnumSet<T>) -> MixedEnumSet<T>
         ensures { result ≡ set.union self.now other }
     {
         Self::of_repr(union_of(self.repr, other.repr))
     }
 
-    /// The members of both.
+    /// The members of both sets.
     pub fn intersection(&self, other: MixedEnumSet<T>) -> MixedEnumSet<T>
         ensures { result ≡ set.intersection self.now other }
     {
         Self::of_repr(intersection_of(self.repr, other.repr))
     }
 
-    /// The members of this that are not in the other.
+    /// The members of this set that are not in `other`.
     pub fn difference(&self, other: MixedEnumSet<T>) -> MixedEnumSet<T>
         ensures { result ≡ set.difference self.now other }
     {
         Self::of_repr(self.repr.and_not(other.repr))
     }
 
-    /// The members of just one of the two.
+    /// The members of exactly one of the two sets.
     pub fn symmetric_difference(&self, other: MixedEnumSet<T>) -> MixedEnumSet<T>
         ensures { result ≡ set.symmetric_difference self.now other }
     {
         Self::of_repr(symmetric_difference_of(self.repr, other.repr))
     }
 
-    /// The members of just one of the two, under an older name.
+    /// The members of exactly one of the two sets, under an older name.
     #[deprecated = "Use `symmetric_difference` instead."]
     pub fn symmetrical_difference(&self, other: MixedEnumSet<T>) -> MixedEnumSet<T>
         ensures { result ≡ set.symmetric_difference self.now other }
@@ -339,48 +341,50 @@ impl<T: EnumSetTypeWithRepr> MixedEnumSet<T> {
         self.symmetric_difference(other)
     }
 
-    /// The valid bits that are not in the set, as elements. Unknown bits are cleared: it is for asking which
-    /// elements are missing. What is sent on to a peer wants
-    /// [`full_complement`](MixedEnumSet::full_complement), where the bits of newer variants must turn too.
+    /// The valid bits that are not in the set, as elements. The result has no unknown bits, so it tells which elements
+    /// are missing. To invert what is sent on to a peer, use [`full_complement`](MixedEnumSet::full_complement): that
+    /// inverts the bits of newer variants too.
     pub fn complement(&self) -> MixedEnumSet<T>
-        ensures { result ≡ set.difference (T.Repr.members T.ALL_BITS) self.now }
+        ensures { result ≡ set.difference (valid_bits T.elements) self.now }
     {
-        Self::of_repr(T::ALL_BITS.and_not(self.repr))
+        Self::of_repr(valid_repr::<T>().and_not(self.repr))
     }
 
-    /// All bits below the store's width that are not in the set, valid or not. The full complement of that is this
-    /// set. It is the `!` of the store value; [`complement`](MixedEnumSet::complement) has the elements alone.
+    /// All bits below the width of the representation that are not in the set, valid or not. Each member of the set is
+    /// below the width, so the full complement of the full complement is the set itself.
+    /// [`complement`](MixedEnumSet::complement) has the elements alone.
     pub fn full_complement(&self) -> MixedEnumSet<T>
-        ensures rest { result ≡ set.difference (set.below T.Repr.WIDTH) self.now }
+        ensures complement { result ≡ set.difference (set.below T.Repr.WIDTH) self.now }
         ensures within { IsTrue (set.is_subset self.now (set.below T.Repr.WIDTH)) }
     {
-        self.repr.known();
-        Self::of_repr(rest_of(self.repr))
+        self.repr.learn_is_value();
+        Self::of_repr(complement_of(self.repr))
     }
 
-    /// Makes each member of the other a member of this.
+    /// Adds every member of `other`.
     pub fn insert_all(&mut self, other: MixedEnumSet<T>)
         ensures { self.new ≡ set.union self.old other }
     {
         self.repr.or_with(&other.repr);
-        self.repr.known();
+        self.repr.learn_is_value();
     }
 
-    /// Takes each member of the other out of this.
+    /// Removes every member of `other`.
     pub fn remove_all(&mut self, other: MixedEnumSet<T>)
         ensures { self.new ≡ set.difference self.old other }
     {
         self.repr.and_not_with(&other.repr);
-        self.repr.known();
+        self.repr.learn_is_value();
     }
 
-    /// The members, along their bits, each once, rising, from both ends: the element of a valid bit, the number of
-    /// an unknown one. The iterator keeps the set as it is now.
+    /// An iterator over the members, each once, ascending by bit, from both ends: the element for a valid bit, the
+    /// number for an unknown one. Later changes to the set do not affect it. Each member of the set is below the width
+    /// of the representation.
     pub fn iter(&self) -> MixedEnumSetIter<T>
-        ensures rising { result ≡ set.rising self.now }
+        ensures ascending { result ≡ set.ascending self.now }
         ensures within { IsTrue (set.is_subset self.now (set.below T.Repr.WIDTH)) }
     {
-        self.repr.known();
+        self.repr.learn_is_value();
         MixedEnumSetIter::over(self.repr)
     }
 }

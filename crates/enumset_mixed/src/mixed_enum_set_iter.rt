@@ -2,19 +2,20 @@
 
 ghost use Rattle.std.specs.Prelude.{◌≡◌, length};
 ghost use Rattle.enumset_repr.specs.BitSet as set;
+ghost use Rattle.enumset_sets.specs.Elements.{valid_bits};
 
 use crate::mixed_value::{MixedValue, value_of};
-use enumset_repr::repr::EnumSetTypeRepr;
-use enumset_sets::element::EnumSetType;
-use enumset_sets::with_repr::EnumSetTypeWithRepr;
+use enumset_repr::EnumSetTypeRepr;
+use enumset_sets::{EnumSetType, EnumSetTypeWithRepr};
 use std::alloc::AllocError;
 use std::fmt;
 use std::marker::Model;
 
-/// The members of a mixed set, along their bits, rising: the element of a valid bit, the number of any other.
+/// An iterator over the members of a mixed set, ascending by bit: the element for a valid bit, the number for an
+/// unknown one.
 ///
-/// It mirrors `MixedEnumSetIter` of Rust's `enumset`. Contracts see the list of the bits that it has still to
-/// give. Once one end has answered `None`, both do.
+/// It mirrors `MixedEnumSetIter` of Rust's `enumset`. Contracts see the list of the bits left. Once one end has yielded
+/// `None`, both ends yield `None` from then on.
 pub struct MixedEnumSetIter<T: EnumSetType> {
     iter: <T::Repr as EnumSetTypeRepr>::Iter,
 }
@@ -34,9 +35,9 @@ impl<T: EnumSetType> Drop for MixedEnumSetIter<T> {
 }
 
 impl<T: EnumSetType> MixedEnumSetIter<T> {
-    // The iterator over the members of a store value.
+    // The iterator over the members of a value.
     pub(crate) fn over(repr: T::Repr) -> MixedEnumSetIter<T>
-        ensures { result ≡ set.rising (T.Repr.members repr) }
+        ensures { result ≡ set.ascending (T.Repr.members repr) }
     {
         MixedEnumSetIter { iter: repr.iter() }
     }
@@ -71,11 +72,11 @@ impl<T: EnumSetTypeWithRepr> Iterator for MixedEnumSetIter<T> {
     ghost use Rattle.enumset_mixed.specs.Mixed.{bit_with_validity, with_validity};
 
     ghost next_gives = { YieldsFirstBy
-        (bit_with_validity T.elements.bit) (with_validity (T.Repr.members T.ALL_BITS)) };
+        (bit_with_validity T.elements.bit) (with_validity (valid_bits T.elements)) };
 
     ghost remaining = { item_count (λ bits. bits) };
 
-    /// The member of the least bit that is left, or `None` if there is none.
+    /// Takes out the member of the least bit left and returns it, or returns `None` if no member is left.
     fn next(&mut self) -> Option<MixedValue<T>> {
         let bit = self.iter.next()?;
         Some(value_of(bit))
@@ -96,9 +97,9 @@ impl<T: EnumSetTypeWithRepr> DoubleEndedIterator for MixedEnumSetIter<T> {
     ghost use Rattle.enumset_mixed.specs.Mixed.{bit_with_validity, with_validity};
 
     ghost next_back_gives = { YieldsLastBy
-        (bit_with_validity T.elements.bit) (with_validity (T.Repr.members T.ALL_BITS)) };
+        (bit_with_validity T.elements.bit) (with_validity (valid_bits T.elements)) };
 
-    /// The member of the greatest bit that is left, or `None` if there is none.
+    /// Takes out the member of the greatest bit left and returns it, or returns `None` if no member is left.
     fn next_back(&mut self) -> Option<MixedValue<T>> {
         let bit = self.iter.next_back()?;
         Some(value_of(bit))
@@ -106,7 +107,7 @@ impl<T: EnumSetTypeWithRepr> DoubleEndedIterator for MixedEnumSetIter<T> {
 }
 
 impl<T: EnumSetTypeWithRepr> ExactSizeIterator for MixedEnumSetIter<T> {
-    /// How many members are left.
+    /// The number of members left.
     fn len(&self) -> usize {
         T::Repr::items_left(&self.iter)
     }

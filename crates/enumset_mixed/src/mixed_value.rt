@@ -1,26 +1,27 @@
-//! What a mixed set's iterator gives.
+//! The items of the iterator over a mixed set.
 
 ghost use Rattle.std.specs.Prelude.{◌≡◌};
 ghost use Rattle.enumset_repr.specs.BitSet.{contains};
 ghost use Rattle.enumset_mixed.specs.Mixed.{bit_with_validity};
+ghost use Rattle.enumset_sets.specs.Elements.{valid_bits};
 
-use enumset_sets::element::EnumSetType;
-use enumset_sets::enum_set::EnumSet;
+use enumset_sets::{EnumSet, EnumSetType};
 use std::fmt;
 
 /// A member of a mixed set: an element, or a bit that no variant has.
 ///
-/// It mirrors `MixedValue` of Rust's `enumset`. Each `Valid` is below every `Invalid`, whatever their bits; so this
-/// need not be the order in which an iterator gives them.
+/// It mirrors `MixedValue` of Rust's `enumset`. Every `Valid` is less than every `Invalid`, whatever their bits, while
+/// an iterator yields both kinds ascending by bit.
 #[derive(Clone, Copy, PartialEq, Eq, PartialOrd, Ord, Hash)]
 pub enum MixedValue<T: EnumSetType> {
     /// The element of a valid bit.
     Valid(T),
-    /// A bit that is not valid.
+    /// An unknown bit, which no variant has.
     Invalid(u32),
 }
 
-/// The element's `{:?}` text, or the bit in brackets, as `[3]`.
+/// The `{:?}` text of the element, or the number of the bit in brackets, as `[3]`. No contract speaks of `{:?}`; tests
+/// do.
 impl<T: EnumSetType + fmt::Debug> fmt::Debug for MixedValue<T> {
     fn fmt<W: fmt::Write>(&self, f: &mut fmt::Formatter<W>) -> fmt::Result {
         match self {
@@ -30,10 +31,10 @@ impl<T: EnumSetType + fmt::Debug> fmt::Debug for MixedValue<T> {
     }
 }
 
-// What a bit stands for.
+// The member with a bit: `Valid` of its element if the bit is valid, else `Invalid` of its number.
 pub(crate) fn value_of<T: EnumSetType>(bit: u32) -> MixedValue<T>
     ensures { bit_with_validity T.elements.bit result
-        ≡ (bit, contains (T.Repr.members T.ALL_BITS) bit) }
+        ≡ (bit, contains (valid_bits T.elements) bit) }
 {
     if EnumSet::<T>::is_bit_valid(bit) {
         MixedValue::Valid(T::enum_from_u32(bit))

@@ -1,20 +1,21 @@
-//! The operators on mixed sets: each is one of their calls.
+//! The operators on mixed sets: each does what a method does.
 
 ghost use Rattle.std.specs.Prelude.{◌≡◌};
 ghost use Rattle.enumset_repr.specs.BitSet as set;
+ghost use Rattle.enumset_sets.specs.Elements.{valid_bits};
 
 use crate::mixed_enum_set::MixedEnumSet;
-use enumset_repr::repr::EnumSetTypeRepr;
-use enumset_sets::with_repr::EnumSetTypeWithRepr;
+use enumset_repr::EnumSetTypeRepr;
+use enumset_sets::EnumSetTypeWithRepr;
 use std::ops::{
     BitAnd, BitAndAssign, BitOr, BitOrAssign, BitXor, BitXorAssign, Not, Sub, SubAssign,
 };
 
-/// `!a`: the valid bits that are not in the set, as [`complement`](MixedEnumSet::complement). Unknown bits are cleared.
+/// `!a`: the valid bits that are not in the set, as [`complement`](MixedEnumSet::complement). It has no unknown bits.
 impl<T: EnumSetTypeWithRepr> Not for MixedEnumSet<T> {
     type Output = MixedEnumSet<T>;
 
-    ghost not_gives = { λ a r. r ≡ set.difference (T.Repr.members T.ALL_BITS) a };
+    ghost not_gives = { λ a r. r ≡ set.difference (valid_bits T.elements) a };
 
     fn not(self) -> MixedEnumSet<T> {
         self.complement()
@@ -43,7 +44,7 @@ impl<T: EnumSetTypeWithRepr> BitOr for MixedEnumSet<T> {
     }
 }
 
-/// `a ^ b`: the members of just one of the two, as [`symmetric_difference`](MixedEnumSet::symmetric_difference).
+/// `a ^ b`: the members of exactly one of the two, as [`symmetric_difference`](MixedEnumSet::symmetric_difference).
 impl<T: EnumSetTypeWithRepr> BitXor for MixedEnumSet<T> {
     type Output = MixedEnumSet<T>;
 
@@ -71,7 +72,7 @@ impl<T: EnumSetTypeWithRepr> BitAndAssign for MixedEnumSet<T> {
 
     fn bitand_assign(&mut self, rhs: MixedEnumSet<T>) {
         self.repr.and_with(&rhs.repr);
-        self.repr.known();
+        self.repr.learn_is_value();
     }
 }
 
@@ -90,7 +91,7 @@ impl<T: EnumSetTypeWithRepr> BitXorAssign for MixedEnumSet<T> {
 
     fn bitxor_assign(&mut self, rhs: MixedEnumSet<T>) {
         self.repr.xor_with(&rhs.repr);
-        self.repr.known();
+        self.repr.learn_is_value();
     }
 }
 

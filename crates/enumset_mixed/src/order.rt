@@ -1,12 +1,12 @@
-//! The order of mixed sets: that of their members' bits, known and unknown, whatever the store.
+//! The order of mixed sets: that of their members' bits, valid and unknown, over every representation.
 
 ghost use Rattle.std.specs.Prelude.{Some, refl};
 ghost use Rattle.enumset_repr.specs.Order.{compare};
 ghost use Rattle.enumset_repr.specs.Laws.Order.{compare-partial, compare-total, same-compare};
 
 use crate::mixed_enum_set::MixedEnumSet;
-use enumset_sets::store::order_of;
-use enumset_sets::with_repr::EnumSetTypeWithRepr;
+use enumset_sets::EnumSetTypeWithRepr;
+use enumset_sets::representation::order_of;
 use std::cmp::Ordering;
 
 impl<T: EnumSetTypeWithRepr> PartialOrd for MixedEnumSet<T> {
@@ -19,8 +19,8 @@ impl<T: EnumSetTypeWithRepr> PartialOrd for MixedEnumSet<T> {
     }
 }
 
-/// Of two sets that differ, the greater is the one that holds the greatest bit that just one of them has. So it has the
-/// greater number, and a proper subset is less.
+/// Of two sets that differ, the greater is the one that has the greatest bit that is in exactly one of them. So it has
+/// the greater number, and a proper subset is less.
 impl<T: EnumSetTypeWithRepr> Ord for MixedEnumSet<T> {
     ghost cmp = { compare };
 

@@ -1,19 +1,19 @@
-//! The texts of mixed sets, and of what their iterators give.
+//! The texts of mixed sets, and of the items of their iterators.
 
 ghost use Rattle.std.specs.Prelude.{map};
-ghost use Rattle.enumset_repr.specs.BitSet.{rising};
-ghost use Rattle.enumset_sets.specs.Texts.{text_at, joined};
+ghost use Rattle.enumset_repr.specs.BitSet.{ascending};
+ghost use Rattle.enumset_sets.specs.Texts.{text_at, joined_text};
 ghost use Rattle.enumset_mixed.specs.Mixed.{with_validity};
 ghost use Rattle.enumset_mixed.specs.Texts.{item_text, text_with_validity};
+ghost use Rattle.enumset_sets.specs.Elements.{valid_bits};
 
 use crate::mixed_enum_set::MixedEnumSet;
 use crate::mixed_value::MixedValue;
-use enumset_sets::element::EnumSetType;
 use enumset_sets::text::write_separator;
-use enumset_sets::with_repr::EnumSetTypeWithRepr;
+use enumset_sets::{EnumSetType, EnumSetTypeWithRepr};
 use std::fmt;
 
-/// The element's text, or the bit in brackets, as `[3]`.
+/// The text of the element, or the number of the bit in brackets, as `[3]`.
 impl<T: EnumSetType + fmt::Display> fmt::Display for MixedValue<T> {
     ghost output = { item_text T.Display.output };
 
@@ -25,12 +25,13 @@ impl<T: EnumSetType + fmt::Display> fmt::Display for MixedValue<T> {
     }
 }
 
-/// The members' texts along their bits, joined by ` | `: nothing for the empty set. The text of an unknown bit is its
-/// number in brackets, as `[3]`.
+/// The texts of the members, ascending by bit and joined by ` | `. The text of an unknown bit is its number in
+/// brackets, as `[3]`. The empty set has the empty text. A contract knows the text if the element type lists the set's
+/// elements among its `values`, and their texts are known.
 impl<T: EnumSetTypeWithRepr + fmt::Display> fmt::Display for MixedEnumSet<T> {
-    ghost output = { λ s. joined
+    ghost output = { λ s. joined_text
         (map (text_with_validity (text_at T.elements.bit T.values T.Display.output))
-        (with_validity (T.Repr.members T.ALL_BITS) (rising s))) };
+        (with_validity (valid_bits T.elements) (ascending s))) };
 
     fn fmt<W: fmt::Write>(&self, f: &mut fmt::Formatter<W>) -> fmt::Result {
         let mut is_first = true;

@@ -1,15 +1,18 @@
--- A finite set of bit numbers: what a store, an `EnumSet` and a register of a run mean.
+-- Finite sets of bit numbers. In contracts a value of a representation, an `EnumSet` and a register of a run are such
+-- sets.
 --     is_in      whether a number is in a list
---     BitSet, coded_set      the sets;  their code, for a model's `Value`
---     contains, rising, len      whether a number is a member;  the members, each once, rising;  how many they are
---     empty, insert, remove, retain, union, intersection, difference, symmetric_difference      as Rust's `BTreeSet`
+--     BitSet, coded_set      the sets;  their code, which a model's `Value` needs and no clause cites
+--     contains      whether a number is a member
+--     ascending, len      the list of the members, each once, ascending;  the number of members
+--     empty, insert, remove, retain, union, intersection, difference, symmetric_difference      as in Rust's `BTreeSet`
 --     only      the set of one number
---     is_empty      whether there is no member
---     is_subset, is_disjoint, is_same      whether each member of the one is a member of the other;  none is;  they have the same members
---     below, low      the numbers below one;  the members below one
---     from_list, insert_each      the set of a list's numbers;  a set with them
--- `Laws/Members.antt` and `Laws/Rising.antt` have the laws of these words: what `contains` answers at
--- each, that two sets with the same members are one, and what `len` and `rising` are.
+--     is_empty      whether a set has no member
+--     is_subset, is_disjoint, is_same      whether each member of the first set is one of the second;  whether none
+--         is;  whether the two have the same members
+--     below, low      the numbers below a number;  the members below it
+--     from_list, insert_each      the set of the numbers of a list;  a set with the numbers of a list inserted
+-- `Laws/Members.antt` and `Laws/Ascending.antt` have the laws: what `contains` returns for each of these sets, that two
+-- sets with the same members are equal, and what `len` and `ascending` return.
 use Rattle.std.specs.Prelude.{ℕ, suc, zero, Bool, not, ◌&&◌, ◌==◌, nat_lt, List, [], ◌∷◌}
 use Rattle.std.specs.List.{list_any, list_all}
 use Rattle.std.specs.Ordering.{nat_cmp}
@@ -31,9 +34,9 @@ coded_set = map.code coded_ℕ coded_unit
 unfoldable pub contains : BitSet → ℕ → Bool
 contains s b = map.contains_key s b
 
--- the members, each once, rising
-unfoldable pub rising : BitSet → List ℕ
-rising s = map.keys s
+-- the members, each once, ascending
+unfoldable pub ascending : BitSet → List ℕ
+ascending s = map.keys s
 
 unfoldable pub len : BitSet → ℕ
 len s = map.len s
@@ -54,18 +57,18 @@ remove s b = map.remove s b
 unfoldable pub retain : BitSet → (ℕ → Bool) → BitSet
 retain s p = map.retain_keys s p
 
--- the set of a list's numbers
+-- the set of the numbers of a list
 unfoldable pub from_list : List ℕ → BitSet
 from_list [] = empty
 from_list (b ∷ bs) = insert (from_list bs) b
 
--- s with each number of a list
+-- s with each number of a list inserted
 unfoldable pub insert_each : BitSet → List ℕ → BitSet
 insert_each s [] = s
 insert_each s (b ∷ bs) = insert (insert_each s bs) b
 
 unfoldable pub union : BitSet → BitSet → BitSet
-union s t = insert_each s (rising t)
+union s t = insert_each s (ascending t)
 
 unfoldable pub intersection : BitSet → BitSet → BitSet
 intersection s t = retain s (contains t)
@@ -78,17 +81,17 @@ symmetric_difference s t = union (difference s t) (difference t s)
 
 -- whether each member of s is one of t
 unfoldable pub is_subset : BitSet → BitSet → Bool
-is_subset s t = list_all (contains t) (rising s)
+is_subset s t = list_all (contains t) (ascending s)
 
--- whether there is no member
+-- whether s has no member
 unfoldable pub is_empty : BitSet → Bool
 is_empty s = len s == 0
 
 -- whether no member of s is one of t
 unfoldable pub is_disjoint : BitSet → BitSet → Bool
-is_disjoint s t = list_all (λ b. not (contains t b)) (rising s)
+is_disjoint s t = list_all (λ b. not (contains t b)) (ascending s)
 
--- whether they have the same members
+-- whether s and t have the same members
 unfoldable pub is_same : BitSet → BitSet → Bool
 is_same s t = is_subset s t && is_subset t s
 

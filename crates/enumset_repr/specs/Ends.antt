@@ -1,10 +1,10 @@
 -- The ends of a list, and of a set.
---     first, last      the first and the last of a list; none of the empty list
---     without_first, without_last      the list without it
---     least, greatest      the first and the last of a set's members, rising; none where there is no member
+--     first, last      the first and the last item of a list, if there is one
+--     without_first, without_last      the list without that item
+--     least, greatest      the least and the greatest member of a set, if there is one
 use Rattle.std.specs.Prelude.{ℕ, ◌-◌, List, Option, None, length, drop, take}
 use Rattle.std.specs.List.{slice_get, last_or}
-use Rattle.enumset_repr.specs.BitSet.{BitSet, rising}
+use Rattle.enumset_repr.specs.BitSet.{BitSet, ascending}
 
 abbrev pub first : List ℕ → Option ℕ
 first xs = slice_get xs 0
@@ -19,7 +19,7 @@ abbrev pub without_last : List ℕ → List ℕ
 without_last xs = take (length xs - 1) xs
 
 unfoldable pub least : BitSet → Option ℕ
-least s = first (rising s)
+least s = first (ascending s)
 
 unfoldable pub greatest : BitSet → Option ℕ
-greatest s = last (rising s)
+greatest s = last (ascending s)

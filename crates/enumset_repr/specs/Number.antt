@@ -1,22 +1,24 @@
--- Sets and the numbers that stand for them.
---     number      the sum of 2 ^ b over the members b
---     bits      the set whose number it is: the places of the ones, written in base two
---     is_distinct, lists_bits      whether no number stands twice;  whether a list names the bits of a number, each once
+-- Sets, and the numbers that represent them.
+--     number      the sum of 2 ^ b over the members b of a set
+--     bits      the set that a number represents: the places of its ones in base two, the lowest 0
+--     is_distinct      whether no number is in a list twice
+--     lists_bits      whether a list names each bit of a number once, and no other
 use Rattle.std.specs.Prelude.{ℕ, ◌^◌, ◌==◌, Bool, true, not, ◌&&◌, List, [], ◌∷◌, sum_by}
 use Rattle.std.specs.Int.{bit_at}
-use Rattle.enumset_repr.specs.BitSet.{BitSet, is_in, below, retain, rising}
+use Rattle.enumset_repr.specs.BitSet.{BitSet, is_in, below, retain, ascending}
 
 unfoldable pub number : BitSet → ℕ
-number s = sum_by (λ b. 2 ^ b) (rising s)
+number s = sum_by (λ b. 2 ^ b) (ascending s)
 
+-- the places of the ones of n: each place b is below n, since b is below 2 ^ b and 2 ^ b is at most n
 unfoldable pub bits : ℕ → BitSet
 bits n = retain (below n) (λ b. bit_at n b == 1)
 
--- whether no number stands twice in a list
+-- whether no number is in a list twice
 abbrev pub is_distinct : List ℕ → Bool
 is_distinct [] = true
 is_distinct (b ∷ bs) = not (is_in b bs) && is_distinct bs
 
--- whether a list names the bits of a number, each once: their powers of two add up to it
+-- whether a list names each bit of a number once, and no other: their powers of two add up to the number
 abbrev pub lists_bits : List ℕ → ℕ → Bool
 lists_bits bs n = is_distinct bs && (sum_by (λ b. 2 ^ b) bs == n)

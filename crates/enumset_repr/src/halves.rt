@@ -4,15 +4,15 @@ ghost use Rattle.std.specs.Prelude.{◌≡◌, ◌+◌, ◌*◌, ◌^◌};
 ghost use Rattle.enumset_repr.specs.Number.{bits};
 ghost use Rattle.enumset_repr.specs.Words.{bits_of};
 
-// The lower word of a number and the upper.
+// The lower and the upper word of a number.
 pub(crate) fn halves_of(n: u128) -> [u64; 2]
     ensures { bits_of result ≡ bits n }
 {
     [(n & u64::MAX as u128) as u64, (n >> 64) as u64]
 }
 
-// The number whose lower and upper word these are.
-pub(crate) fn joined(low: u64, high: u64) -> u128
+// The number with this lower and this upper word.
+pub(crate) fn join_halves(low: u64, high: u64) -> u128
     ensures { result ≡ high * 2 ^ 64 + low }
 {
     (high as u128) << 64 | low as u128

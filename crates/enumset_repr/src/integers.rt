@@ -1,7 +1,7 @@
-//! The five unsigned integers as stores: a value is the set of the numbers of the bits that are set.
+//! The five unsigned integers as representations: a value represents the set of the numbers of its bits that are set.
 
-mod on_u128;
-mod on_u16;
-mod on_u32;
-mod on_u64;
-mod on_u8;
+mod u128_repr;
+mod u16_repr;
+mod u32_repr;
+mod u64_repr;
+mod u8_repr;

@@ -1,4 +1,4 @@
-//! Laws that a proof takes by a call.
+//! Laws that a proof learns from a call.
 
 ghost use Rattle.std.specs.Prelude.{◌≡◌, ◌≢◌, ◌↔◌, IsTrue};
 ghost use Rattle.std.specs.Cmp.{IsTotalOrder};
@@ -8,12 +8,14 @@ ghost use Rattle.enumset_repr.specs.BitSet.{BitSet, is_subset, difference};
 ghost use Rattle.enumset_repr.specs.Number.{number};
 ghost use Rattle.enumset_repr.specs.Order.{compare};
 
-/// The order of sets, by which the one that holds the greatest number that is in just one of two is the greater. It is
-/// a total order, and equal only for equal sets. A proper subset is less. For two subsets of one set, taking each from
-/// it turns the order round. The greater set has the greater number.
+/// Tells the proof the laws of the order of sets. Of two sets that differ, the greater is the one that has the greatest
+/// bit that is in exactly one of them.
 ///
-/// It does nothing at run time: a proof about a function that calls it knows these laws. They are of the order that
-/// `cmp` answers for each store and each set over one.
+/// The order is total, and only equal sets compare as equal. A proper subset is less. For two subsets of one set,
+/// their complements in that set compare the other way round. The greater set has the greater number.
+///
+/// It does nothing at run time. A proof about a function that calls it knows these laws. They hold for `cmp` of every
+/// representation, and of every set over one.
 pub fn order()
     ensures total { IsTotalOrder compare }
     ensures same { (s t : BitSet) → (compare s t ≡ Equal ↔ s ≡ t) }

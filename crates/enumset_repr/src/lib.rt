@@ -1,17 +1,16 @@
-//! Stores of bits: sets of small numbers, each number a bit.
+//! Representations of sets of small numbers: a bit for each number.
 //!
-//! - [`repr`]: the trait [`EnumSetTypeRepr`] of stores, whose every call is an operation on a finite set
-//!   of bit numbers.
-//! - [`arrays`]: sets to and from arrays of words, over every store.
-//! - [`primitive`] and [`primitive_iter`]: an integer as the set of its bits, and the iterator over them, from
-//!   both ends.
-//! - [`integers`]: `u8`, `u16`, `u32`, `u64` and `u128` as stores.
-//! - [`laws`]: laws that a proof takes by a call.
+//! - [`repr`]: the trait [`EnumSetTypeRepr`] of representations. Each call is an operation on a finite set of bit
+//!   numbers.
+//! - [`arrays`]: sets to and from arrays of words, over every representation.
+//! - [`primitive`] and [`primitive_iter`]: an integer as the set of its bits, and the iterator over them, from both
+//!   ends.
+//! - [`integers`]: `u8`, `u16`, `u32`, `u64` and `u128` as representations.
+//! - [`laws`]: laws that a proof learns from a call.
 //!
-//! A contract speaks of the finite sets of `specs/BitSet.antt`. `specs/Number.antt` says which set a
-//! number means, `specs/Words.antt` what a set's words of 64 bits are, `specs/Ends.antt` what its least and
-//! its greatest member are, and `specs/Order.antt` how two sets compare. `specs/Laws` has the proved laws of
-//! these words.
+//! Contracts are about the finite sets of `specs/BitSet.antt`. `specs/Number.antt` says which set a number represents,
+//! `specs/Words.antt` what the words of 64 bits of a set are, `specs/Ends.antt` what its least and its greatest member
+//! are, and `specs/Order.antt` how two sets compare. `specs/Laws` has proved laws about all of these.
 #![tactic(auto)]
 
 pub mod arrays;
@@ -23,5 +22,6 @@ pub mod primitive_iter;
 pub mod repr;
 
 pub use arrays::{from_u64_array, to_u64_array, try_from_u64_array, try_to_u64_array};
+pub use primitive::Primitive;
 pub use primitive_iter::PrimitiveIter;
 pub use repr::EnumSetTypeRepr;

@@ -1,4 +1,4 @@
-//! The integers as sets of their bits: what an iterator over the bits of an integer asks of it.
+//! Integers as sets of their bits: what an iterator over the bits of an integer needs of it.
 
 ghost use Rattle.std.specs.Prelude.{◌≡◌, ◌+◌, ◌<◌, ℕ, Option, MatchOption};
 ghost use Rattle.enumset_repr.specs.BitSet as set;
@@ -7,34 +7,34 @@ ghost use Rattle.enumset_repr.specs.Ends.{least, greatest};
 
 use std::fmt::Debug;
 
-/// An integer of [`BITS`](Primitive::BITS) bits, seen as the set of the numbers of those that are set,
-/// counted from the lowest.
+/// An integer of [`BITS`](Primitive::BITS) bits. It represents the set of the numbers of its bits that are 1, counted
+/// from the lowest, which is 0.
 ///
-/// It mirrors `Primitive` of Rust's `enumset`. There the iterator asks `WIDTH`, `count_ones` and
-/// `remove_bit` of the store; here [`BITS`](Primitive::BITS), [`ones`](Primitive::ones) and
-/// [`without`](Primitive::without) are in their place, and it rests on no store.
+/// It mirrors `Primitive` of Rust's `enumset`. There the iterator also needs `WIDTH`, `count_ones` and `remove_bit` of
+/// a representation. Here [`BITS`](Primitive::BITS), [`ones`](Primitive::ones) and [`without`](Primitive::without) take
+/// their place, so the iterator needs no representation.
 pub trait Primitive: Copy + Debug {
-    // The set of the bits that are set.
+    // The set that the integer represents.
     ghost set_of: { Self → BitSet };
 
     ghost BITS: { ℕ };
 
-    /// How many bits there are.
+    /// The number of bits, set or not.
     const BITS: u32;
 
-    /// How many bits above the greatest that is set are not: [`BITS`](Primitive::BITS) where none is.
+    /// The number of bits above the greatest one that is set, or [`BITS`](Primitive::BITS) if none is set.
     fn leading_zeros(&self) -> u32
         ensures { MatchOption (greatest (set_of self.now)) (result ≡ BITS) (λ m. result + m + 1 ≡ BITS) };
 
-    /// The least bit that is set: [`BITS`](Primitive::BITS) where none is.
+    /// The least bit that is set, or [`BITS`](Primitive::BITS) if none is set.
     fn trailing_zeros(&self) -> u32
         ensures { MatchOption (least (set_of self.now)) (result ≡ BITS) (λ m. (result ≡ m) × (m < BITS)) };
 
-    /// How many bits are set.
+    /// The number of bits that are set.
     fn ones(&self) -> u32
         ensures { result ≡ set.len (set_of self.now) };
 
-    /// The integer with a bit below [`BITS`](Primitive::BITS) cleared.
+    /// The integer with one bit cleared. The bit must be below [`BITS`](Primitive::BITS).
     fn without(&self, bit: u32) -> Self
         requires { bit < BITS }
         ensures { set_of result ≡ set.remove (set_of self.now) bit };

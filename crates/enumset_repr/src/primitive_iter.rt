@@ -2,15 +2,14 @@
 
 ghost use Rattle.std.specs.Prelude.{◌≡◌, length, Some, ⊤};
 ghost use Rattle.std.specs.Iterator.{YieldsFirst, YieldsLast, item_count};
-ghost use Rattle.enumset_repr.specs.BitSet.{rising};
+ghost use Rattle.enumset_repr.specs.BitSet.{ascending};
 
 use crate::primitive::Primitive;
 use std::alloc::AllocError;
 
-/// The numbers of the bits that are set in an integer, each once, rising, from both ends.
+/// An iterator over the bits that are set in an integer, by number, each once, ascending, from both ends.
 ///
-/// `size_hint` and `len` are exact, and a clone has the same numbers left. It mirrors `PrimitiveIter` of
-/// Rust's `enumset`.
+/// `size_hint` and `len` are exact, and a clone has the same bits left. It mirrors `PrimitiveIter` of Rust's `enumset`.
 #[derive(Copy, Debug)]
 pub struct PrimitiveIter<T: Primitive>(pub T);
 
@@ -28,11 +27,11 @@ impl<T: Primitive> Clone for PrimitiveIter<T> {
 impl<T: Primitive> Iterator for PrimitiveIter<T> {
     type Item = u32;
 
-    ghost next_gives = { YieldsFirst (λ i. rising (T.set_of i.0)) };
+    ghost next_gives = { YieldsFirst (λ i. ascending (T.set_of i.0)) };
 
-    ghost remaining = { item_count (λ i. rising (T.set_of i.0)) };
+    ghost remaining = { item_count (λ i. ascending (T.set_of i.0)) };
 
-    /// The least bit that is left, which is taken out, or `None` if there is none.
+    /// Takes out the least bit that is left and returns it, or returns `None` if no bit is left.
     fn next(&mut self) -> Option<u32> {
         let least = self.0.trailing_zeros();
         if least == T::BITS {
@@ -44,8 +43,8 @@ impl<T: Primitive> Iterator for PrimitiveIter<T> {
 
     /// Exactly how many bits are left.
     fn size_hint(&self) -> (usize, Option<usize>)
-        ensures lower { result.0 ≡ length (rising (T.set_of self.now.0)) }
-        ensures upper { result.1 ≡ Some (length (rising (T.set_of self.now.0))) }
+        ensures lower { result.0 ≡ length (ascending (T.set_of self.now.0)) }
+        ensures upper { result.1 ≡ Some (length (ascending (T.set_of self.now.0))) }
     {
         let left = self.len();
         (left, Some(left))
@@ -54,9 +53,9 @@ impl<T: Primitive> Iterator for PrimitiveIter<T> {
 
 #[tactic(auto, using(crate::specs::Laws::Ends::at_the_ends))]
 impl<T: Primitive> DoubleEndedIterator for PrimitiveIter<T> {
-    ghost next_back_gives = { YieldsLast (λ i. rising (T.set_of i.0)) };
+    ghost next_back_gives = { YieldsLast (λ i. ascending (T.set_of i.0)) };
 
-    /// The greatest bit that is left, which is taken out, or `None` if there is none.
+    /// Takes out the greatest bit that is left and returns it, or returns `None` if no bit is left.
     fn next_back(&mut self) -> Option<u32> {
         let above = self.0.leading_zeros();
         if above == T::BITS {
@@ -70,7 +69,7 @@ impl<T: Primitive> DoubleEndedIterator for PrimitiveIter<T> {
 
 #[tactic(auto, using(crate::specs::Laws::Ends::at_the_ends))]
 impl<T: Primitive> ExactSizeIterator for PrimitiveIter<T> {
-    /// How many bits are left.
+    /// The number of bits left.
     fn len(&self) -> usize {
         self.0.ones() as usize
     }

@@ -10,14 +10,12 @@ use Rattle.enumset_machine.specs.Answers.{commands_of, answer_by, answer_to, mix
 use Rattle.enumset_commands.specs.TextFaults.{IsFaultOf}
 use Rattle.enumset_run.specs.Written.{AppendsFrontOf}
 use Rattle.enumset_run.specs.Faults.{IsFaultOver}
-use Rattle.enumset_kinds.specs.Kinds.{answer_over}
-use Rattle.enumset_worked.specs.Bits.{letters_bits, four_bits, sparse_bits, marks_bits, wide_bits, pair_bits, high_bits, masks_bits, single_bits}
-use Rattle.enumset_commands.specs.Lines.{command_of, lines}
+use Rattle.enumset_kinds.specs.Kinds.{over, answer_by_width, answer_over}
+use Rattle.enumset_commands.specs.Lines.{command_of, commands_of_text}
 use Rattle.enumset_commands.specs.MixedLines.{mixed_command_of}
 use Rattle.enumset_machine.specs.Runs.{replies}
 use Rattle.enumset_machine.specs.MixedRuns.{mixed_replies}
 use Rattle.enumset_kinds.specs.declared.worked.Worked.{Worked}
-use Rattle.enumset_kinds.specs.declared.worked.Worked.TheVariants.{Letters, Four, Sparse, Marks, Wide, PairWords, PairNumber, High, Masks, Single, Nothing, MixedLetters, MixedFour, MixedSparse, MixedMarks, MixedPairWords, MixedPairNumber, MixedHigh, MixedMasks, MixedSingle, MixedNothing}
 use Rattle.enumset_machine.specs.declared.serve.TheConstants.{INPUT_LIMIT}
 use Rattle.enumset_run.specs.declared.program.TheConstants.{READ_LIMIT}
 use Rattle.enumset_commands.specs.declared.text_fault.TextFault.{TextFault}
@@ -46,7 +44,7 @@ tested-take limit bytes long f false h = rw (within limit bytes h) refl
 -- what is read has the commands of the whole input, and so the answer to it
 commands_of-take : {C : Type 0} (command : List (List ℕ) → Option C) (bytes : List ℕ) → commands_of command (take READ_LIMIT bytes) ≡ commands_of command bytes
 commands_of-take command bytes =
-    tested-take INPUT_LIMIT bytes (Err TooLong) (lines command) (nat_lt INPUT_LIMIT (length bytes)) refl
+    tested-take INPUT_LIMIT bytes (Err TooLong) (commands_of_text command) (nat_lt INPUT_LIMIT (length bytes)) refl
 
 answer_to-take : (valid : BitSet) (bytes : List ℕ) → answer_to valid (take READ_LIMIT bytes) ≡ answer_to valid bytes
 answer_to-take valid bytes = ap (answer_by (replies valid)) (commands_of-take command_of bytes)
@@ -54,28 +52,12 @@ answer_to-take valid bytes = ap (answer_by (replies valid)) (commands_of-take co
 mixed_answer_to-take : (valid : BitSet) (width : ℕ) (bytes : List ℕ) → mixed_answer_to valid width (take READ_LIMIT bytes) ≡ mixed_answer_to valid width bytes
 mixed_answer_to-take valid width bytes = ap (answer_by (mixed_replies valid width)) (commands_of-take mixed_command_of bytes)
 
+answer_by_width-take : (width : Option ℕ) (valid : BitSet) (bytes : List ℕ) → answer_by_width width valid (take READ_LIMIT bytes) ≡ answer_by_width width valid bytes
+answer_by_width-take None valid bytes = answer_to-take valid bytes
+answer_by_width-take (Some width) valid bytes = mixed_answer_to-take valid width bytes
+
 answer_over-take : (kind : Worked) (bytes : List ℕ) → answer_over kind (take READ_LIMIT bytes) ≡ answer_over kind bytes
-answer_over-take Letters bytes = answer_to-take (from_list letters_bits) bytes
-answer_over-take Four bytes = answer_to-take (from_list four_bits) bytes
-answer_over-take Sparse bytes = answer_to-take (from_list sparse_bits) bytes
-answer_over-take Marks bytes = answer_to-take (from_list marks_bits) bytes
-answer_over-take Wide bytes = answer_to-take (from_list wide_bits) bytes
-answer_over-take PairWords bytes = answer_to-take (from_list pair_bits) bytes
-answer_over-take PairNumber bytes = answer_to-take (from_list pair_bits) bytes
-answer_over-take High bytes = answer_to-take (from_list high_bits) bytes
-answer_over-take Masks bytes = answer_to-take (from_list masks_bits) bytes
-answer_over-take Single bytes = answer_to-take (from_list single_bits) bytes
-answer_over-take Nothing bytes = answer_to-take (from_list []) bytes
-answer_over-take MixedLetters bytes = mixed_answer_to-take (from_list letters_bits) 8 bytes
-answer_over-take MixedFour bytes = mixed_answer_to-take (from_list four_bits) 8 bytes
-answer_over-take MixedSparse bytes = mixed_answer_to-take (from_list sparse_bits) 128 bytes
-answer_over-take MixedMarks bytes = mixed_answer_to-take (from_list marks_bits) 8 bytes
-answer_over-take MixedPairWords bytes = mixed_answer_to-take (from_list pair_bits) 128 bytes
-answer_over-take MixedPairNumber bytes = mixed_answer_to-take (from_list pair_bits) 128 bytes
-answer_over-take MixedHigh bytes = mixed_answer_to-take (from_list high_bits) 8 bytes
-answer_over-take MixedMasks bytes = mixed_answer_to-take (from_list masks_bits) 8 bytes
-answer_over-take MixedSingle bytes = mixed_answer_to-take (from_list single_bits) 8 bytes
-answer_over-take MixedNothing bytes = mixed_answer_to-take (from_list []) 8 bytes
+answer_over-take kind bytes = answer_by_width-take (over kind).width (from_list (over kind).bits) bytes
 
 same_answer : (kind : Worked) (bytes input : List ℕ) → input ≡ take READ_LIMIT bytes → answer_over kind input ≡ answer_over kind bytes
 same_answer kind bytes input read = ap (answer_over kind) read ∙ answer_over-take kind bytes

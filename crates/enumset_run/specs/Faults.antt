@@ -15,7 +15,7 @@ program_fault_text (Text fault) = fault_text fault
 program_fault_text Reading = codes "reading failed"
 program_fault_text Writing = codes "writing failed"
 
--- 2 where the request is at fault, 3 for want of memory, 1 where standard input or output failed
+-- 2 where the request is at fault, 3 if memory ran out, 1 if standard input or output failed
 abbrev pub status_of : ProgramFault → ℕ
 status_of OneArgument = 2
 status_of UnknownType = 2

@@ -2,7 +2,7 @@
 
 ghost use Rattle.std.specs.Prelude.{◌≡◌};
 
-use enumset_commands::text_fault::TextFault;
+use enumset_commands::TextFault;
 use std::error::Error;
 use std::fmt;
 
@@ -24,8 +24,8 @@ pub enum ProgramFault {
 impl ProgramFault {
     ghost use Rattle.enumset_run.specs.Faults.{status_of};
 
-    /// The exit status of the program: 2 where the request is at fault, 3 for want of memory, and 1
-    /// where standard input or output failed.
+    /// The exit status of the program: 2 where the request is at fault, 3 if memory ran out, and 1 if
+    /// standard input or output failed.
     pub fn status(&self) -> u8
         ensures { result ≡ status_of self.now }
     {

@@ -1,21 +1,20 @@
 //! What the program does: its argument, its input and its output.
 
-ghost use Rattle.std.specs.Prelude.{◌≡◌, ◌≢◌, ◌⊎◌, ◌+◌, ◌≤◌, [], length, ok_or, take, IfOk, IfErr, IfSome, OnOk, OnErr, IsOk, IsOkAnd, vec_capacity};
+ghost use Rattle.std.specs.Prelude.{◌≡◌, ◌≢◌, ◌⊎◌, ◌+◌, ◌≤◌, [], length, take, IfOk, IfErr, IfSome, OnOk, OnErr, IsOk, IsOkAnd, vec_capacity};
 ghost use Rattle.std.specs.Io.KnownBytes.{Appends};
 ghost use Rattle.enumset_run.specs.Written.{AppendsFrontOf};
-ghost use Rattle.enumset_run.specs.Arguments.{requested};
+ghost use Rattle.enumset_run.specs.Arguments.{type_of_arguments};
 ghost use Rattle.enumset_run.specs.Faults.{IsFaultOver};
-ghost use Rattle.enumset_kinds.specs.Kinds.{answer_over, worked_of};
+ghost use Rattle.enumset_kinds.specs.Kinds.{answer_over};
 
 use crate::fault::ProgramFault;
-use enumset_commands::text_fault::TextFault;
-use enumset_kinds::kinds::{serve_worked, worked};
+use enumset_commands::TextFault;
+use enumset_kinds::kinds::{serve_worked, worked_of_bytes};
 use enumset_kinds::worked::Worked;
-use enumset_machine::serve::INPUT_LIMIT;
+use enumset_machine::INPUT_LIMIT;
 use std::alloc::Global;
 use std::env::{Env, FillError};
 use std::io::{self, ErrorKind, Input, Print, Read, Write};
-use std::str;
 
 /// The longest name of a type has fewer bytes.
 const NAME_LIMIT: usize = 64;
@@ -25,15 +24,15 @@ const READ_LIMIT: usize = INPUT_LIMIT + 1;
 
 /// Tests the argument, reads the input, and writes the answer once.
 ///
-/// Room for the input is taken before it is read, so that want of memory hides nothing that was read.
+/// Room for the input is taken before it is read, so that running out of memory hides no fault of the input.
 pub fn answer<R: Env + Input + Print + AllocGlobal>(rt: &R) -> Result<(), ProgramFault> {
-    let kind = requested_type(rt)?;
+    let kind = read_arguments(rt)?;
     let room = Vec::with_capacity(rt.alloc(), READ_LIMIT).map_err(TextFault::from)?;
     answer_input(rt.alloc(), kind, room, rt.reader(), &mut io::writer(rt))
 }
 
 /// The type that the one argument names. No clause can say what the arguments are.
-fn requested_type<E: Env>(env: &E) -> Result<Worked, ProgramFault>
+fn read_arguments<E: Env>(env: &E) -> Result<Worked, ProgramFault>
     ensures { IfErr result (λ fault.
         (fault ≡ ProgramFault.OneArgument) ⊎ (fault ≡ ProgramFault.UnknownType)) }
 {
@@ -41,36 +40,29 @@ fn requested_type<E: Env>(env: &E) -> Result<Worked, ProgramFault>
     let first = env.arg(1, &mut name);
     let mut next = [0u8; 1];
     let second = env.arg(2, &mut next);
-    type_requested(first, &name, second)
+    type_of_arguments(first, &name, second)
 }
 
-/// The type that the arguments name, by what was found when the first and the second were asked for. The bytes
-/// of the first stand in front in `name`.
-fn type_requested(
+/// The type that the arguments name, by what looking up the first and the second found. `name` begins with the bytes
+/// of the first.
+fn type_of_arguments(
     first: Result<usize, FillError>,
     name: &[u8],
     second: Result<usize, FillError>,
 ) -> Result<Worked, ProgramFault>
     requires { IfOk first (λ len. len ≤ length name.now) }
-    ensures { result ≡ requested first name.now second }
+    ensures { result ≡ type_of_arguments first name.now second }
 {
     match (first, second) {
-        (Ok(len), Err(FillError::NotPresent)) => type_named(&name[..len]),
+        (Ok(len), Err(FillError::NotPresent)) => worked_of_bytes(&name[..len]).ok_or(
+            ProgramFault::UnknownType,
+        ),
         (Err(FillError::TooLong), Err(FillError::NotPresent)) => Err(ProgramFault::UnknownType),
         _ => Err(ProgramFault::OneArgument),
     }
 }
 
-/// The type of the name that these bytes are.
-#[tactic(auto, using(crate::proofs::Names::name_steps))]
-fn type_named(name: &[u8]) -> Result<Worked, ProgramFault>
-    ensures { result ≡ ok_or (worked_of name.now) ProgramFault.UnknownType }
-{
-    let text = str::from_utf8(name).map_err(|_| ProgramFault::UnknownType)?;
-    worked(text).ok_or(ProgramFault::UnknownType)
-}
-
-/// Answers the bytes of a reader on a writer, over the type of that kind. There is room for the bytes.
+/// Reads an input, and writes the answer to it over a worked type. `room` has room for the input.
 pub(crate) fn answer_input<R: Read + Drop, W: Write>(
     alloc: Global,
     kind: Worked,
@@ -87,7 +79,7 @@ pub(crate) fn answer_input<R: Read + Drop, W: Write>(
         (Appends (W.contents writer.old) (W.contents writer.new)))) }
     ensures fault { IfErr result (λ fault. IfSome (R.remaining reader) (λ input.
         IsFaultOver (answer_over kind input) fault)) }
-    // Where writing fails, a front part of the answer was written, and before any other fault nothing.
+    // If writing fails, a front part of the answer was written; with any other fault nothing was.
     ensures begun { result ≡ Err ProgramFault.Writing → IfSome (R.remaining reader) (λ input.
         IsOkAnd (answer_over kind input)
         (AppendsFrontOf (W.contents writer.old) (W.contents writer.new))) }

@@ -1,8 +1,8 @@
-//! What is wanted beside what comes.
+//! A text beside the one that is wanted.
 
 use std::process::Abort;
 
-/// Ends the test at the first line that is not the one that is wanted.
+/// Fails the test at the first line that is not as wanted.
 pub fn same_lines(rt: &impl Abort, came: &str, wanted: &str) {
     let mut lines = came.lines();
     for line in wanted.lines() {

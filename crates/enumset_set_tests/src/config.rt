@@ -1,23 +1,22 @@
 //! Flags in a config file.
-
 use enumset::set_json::{
-    JsonFault, JsonWidth, Unknown, from_number, from_words, to_number, to_words,
+    JsonFault, JsonWidth, Unknown, from_list, from_number, to_list, to_number,
 };
-use enumset::{EnumSet, EnumSetType};
+use enumset::{EnumSet, EnumSetNames, EnumSetType};
 use serde_json::{Error, Value, put};
 use std::alloc::{AllocError, Global};
 use std::{error, fmt};
 
-/// Why a config text has no flags, or was not written.
+/// Why the flags of a config text were not changed.
 #[derive(Clone, Copy, Debug, PartialEq, Eq)]
 pub enum ConfigFault {
-    /// The text is not JSON, as was seen at this line.
+    /// The text is not JSON. The error was found at this line.
     NotJson(usize),
-    /// The text is no object with a member `flags`.
+    /// The text is not an object with a member `flags`.
     NoFlags,
-    /// The member `flags` is no set, or the set is not to be written.
+    /// The member `flags` has no set, or the new set has no such JSON value.
     Flags(JsonFault),
-    /// There is no memory left.
+    /// Out of memory.
     OutOfMemory,
 }
 
@@ -59,7 +58,7 @@ impl From<AllocError> for ConfigFault {
     }
 }
 
-/// A config text with one flag more, where the flags are a number.
+/// A config text with one more flag, where the flags are a number.
 pub fn with_flag_in_number<T: EnumSetType>(
     alloc: Global,
     text: &str,
@@ -74,22 +73,22 @@ pub fn with_flag_in_number<T: EnumSetType>(
     Ok(config.to_string_pretty(alloc)?)
 }
 
-/// A config text with one flag more, where the flags are an array of words.
-pub fn with_flag_in_words<T: EnumSetType>(
+/// A config text with one more flag, where the flags are a list of names.
+pub fn with_flag_in_list<T: EnumSetNames>(
     alloc: Global,
     text: &str,
     flag: T,
 ) -> Result<String, ConfigFault> {
     let mut config = Value::from_str(alloc, text)?;
-    let words = config.get("flags").ok_or(ConfigFault::NoFlags)?;
-    let mut flags: EnumSet<T> = from_words(words, Unknown::Refuse)?;
+    let list = config.get("flags").ok_or(ConfigFault::NoFlags)?;
+    let mut flags: EnumSet<T> = from_list(list, Unknown::Refuse)?;
     flags.insert(flag);
-    let words = to_words(alloc, &flags)?;
-    put_flags(alloc, &mut config, words)?;
+    let list = to_list(alloc, &flags)?;
+    put_flags(alloc, &mut config, list)?;
     Ok(config.to_string_pretty(alloc)?)
 }
 
-// Puts the flags in the place of those that the config has.
+// Replaces the flags of a config.
 fn put_flags(alloc: Global, config: &mut Value, flags: Value) -> Result<(), ConfigFault> {
     let members = config.as_object_mut().ok_or(ConfigFault::NoFlags)?;
     Ok(put(members, alloc, "flags", flags)?)

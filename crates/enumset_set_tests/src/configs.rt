@@ -1,9 +1,9 @@
-//! Config texts, as the functions of docs/JSON.md take them.
+//! Config texts, for the functions that docs/JSON.md shows.
 
-use crate::config::{ConfigFault, with_flag_in_number, with_flag_in_words};
-use enumset::EnumSetType;
-use enumset_worked::letters::Letters;
-use enumset_worked::sparse::Sparse;
+use crate::config::{ConfigFault, with_flag_in_list, with_flag_in_number};
+use crate::named::Wide;
+use enumset::{EnumSetNames, EnumSetType};
+use enumset_worked::{Letters, Sparse};
 use std::alloc::{AllocError, Global};
 use std::process::Abort;
 use std::test::Fail;
@@ -16,15 +16,15 @@ fn flags_are_changed(rt: HostRuntime) -> Result<(), Fail> {
         number.as_str(),
         "{\n  \"flags\": 5,\n  \"name\": \"reader\"\n}"
     );
-    let words = with_flag_in_words(alloc, "{\"flags\": [1024]}", Sparse::D)?;
+    let list = with_flag_in_list(alloc, "{\"flags\": [\"Re\"]}", Wide::P)?;
     assert_eq!(rt;
-        words.as_str(),
-        "{\n  \"flags\": [\n    1024,\n    9223372036854775808\n  ]\n}"
+        list.as_str(),
+        "{\n  \"flags\": [\n    \"Read\",\n    \"Re\"\n  ]\n}"
     );
     Ok(())
 }
 
-// Tests what came of a config text.
+// Tests what became of a config text.
 fn expect(
     rt: &impl Abort,
     alloc: Global,
@@ -41,7 +41,7 @@ fn expect(
     Ok(())
 }
 
-// Tests rows of a config text and what comes of it, where its flags are a number.
+// Tests rows of a config text and what becomes of it, where the flags are a number.
 fn expect_of_numbers<T: EnumSetType>(
     rt: &impl Abort,
     alloc: Global,
@@ -55,15 +55,15 @@ fn expect_of_numbers<T: EnumSetType>(
     Ok(())
 }
 
-// The same where its flags are words.
-fn expect_of_words<T: EnumSetType>(
+// The same, where the flags are a list.
+fn expect_of_lists<T: EnumSetNames>(
     rt: &impl Abort,
     alloc: Global,
     flag: T,
     rows: &[(&str, &str)],
 ) -> Result<(), AllocError> {
     for (config, wanted) in rows {
-        let came = with_flag_in_words(alloc, config, flag);
+        let came = with_flag_in_list(alloc, config, flag);
         expect(rt, alloc, config, came, wanted)?;
     }
     Ok(())
@@ -84,16 +84,16 @@ fn faults_of_configs(rt: HostRuntime) -> Result<(), Fail> {
     expect_of_numbers(&rt, alloc, Letters::C, &numbers)?;
     let too_wide = "flags: a member is too large for the width";
     expect_of_numbers(&rt, alloc, Sparse::D, &[("{\"flags\": 1024}", too_wide)])?;
-    let words = [
-        ("{\"flags\": [1,]}", "line 1: not JSON"),
-        ("{\"flag\": [1]}", "no flags"),
-        ("{\"flags\": 1}", "flags: not an array"),
+    let lists = [
+        ("{\"flags\": [\"Read\",]}", "line 1: not JSON"),
+        ("{\"flag\": [\"Read\"]}", "no flags"),
+        ("{\"flags\": \"Read\"}", "flags: not an array"),
+        ("{\"flags\": [\"Read\", 1]}", "flags: element 1: not a text"),
         (
-            "{\"flags\": [1, -1]}",
-            "flags: element 1: not a whole number of 64 bits",
+            "{\"flags\": [\"Read\", \"Raed\"]}",
+            "flags: name 1: unknown",
         ),
-        ("{\"flags\": [1, 1]}", "flags: unknown bits"),
     ];
-    expect_of_words(&rt, alloc, Letters::C, &words)?;
+    expect_of_lists(&rt, alloc, Wide::Q, &lists)?;
     Ok(())
 }

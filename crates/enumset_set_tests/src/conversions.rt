@@ -3,26 +3,21 @@
 use crate::compare::same_lines;
 use crate::sets::two_of;
 use enumset_repr::EnumSetTypeRepr;
-use enumset_sets::element::EnumSetType;
-use enumset_sets::enum_set::EnumSet;
+use enumset_sets::{EnumSet, EnumSetType};
 use enumset_sizes::Of128;
-use enumset_worked::high::High;
-use enumset_worked::letters::Letters;
-use enumset_worked::masks::Masks;
-use enumset_worked::sparse::Sparse;
-use enumset_worked::wide::Wide;
+use enumset_worked::{High, Letters, Masks, Sparse, Wide};
 use my_sets::sending::{as_byte, granted_by, sent_and_read};
 use std::alloc::AllocError;
 use std::fmt;
 use std::test::Fail;
 
-// What the calls of a type of numbers that ask answer, where their tests pass: whether they answer as the tests do.
+// Whether the calls with requirements returned what their tests did, as far as the tests passed.
 fn write_asked(text: &mut String, width: &str, is_same: [bool; 2]) -> Result<(), AllocError> {
     let [is_same_number, is_same_set] = is_same;
     write!(text, "{width}: asked {is_same_number} {is_same_set}")
 }
 
-// The number of a set, if it has one; the number of its members below the width, and what that is read as.
+// A set as a number, if it fits the type; then its members below the width as a number, and the set of that number.
 fn write_number<T: EnumSetType + fmt::Debug>(
     text: &mut String,
     number: Option<u128>,
@@ -32,7 +27,7 @@ fn write_number<T: EnumSetType + fmt::Debug>(
     write!(text, ", number {number:?}, cut {cut} is {read:?}")
 }
 
-// What another number is read as, and what is valid of it.
+// The set of another number, if all its bits are valid, and the set of its valid bits.
 fn write_other<T: EnumSetType + fmt::Debug>(
     text: &mut String,
     other: u128,
@@ -42,7 +37,7 @@ fn write_other<T: EnumSetType + fmt::Debug>(
     writeln!(text, "; {other} is {read:?}, cut {valid:?}")
 }
 
-// The line of a type of numbers. The calls that ask are made where their tests pass.
+// The line of one type of numbers. A call with a requirement is made if its test passes.
 macro_rules! write_line {
     ($text:ident, $set:ident, $width:expr, $other:expr;
         $as_x:ident $try_as_x:ident $as_x_truncated:ident,
@@ -130,7 +125,7 @@ fn write_usize<T: EnumSetType + fmt::Debug>(
         from_usize try_from_usize from_usize_truncated from_usize_unchecked)
 }
 
-// A line for each type of numbers: of a set, and of another number, cut to that type.
+// A line for each type of numbers: of a set, and of another number, cut to the width of that type.
 pub fn write_numbers<T: EnumSetType + fmt::Debug>(
     text: &mut String,
     set: &EnumSet<T>,
@@ -174,7 +169,7 @@ u128: asked true true, number Some(18446744073709551624), cut 184467440737095516
 usize: asked true true, number None, cut 8 is Some(EnumSet(P)); 9 is None, cut EnumSet(P)
 ";
 
-// Bits on both sides of the boundary of each type of numbers, where each bit is valid.
+// Bits on both sides of the boundary of each type of numbers. All bits are valid.
 #[test]
 fn numbers_at_each_boundary(rt: HostRuntime) -> Result<(), Fail> {
     let mut text = String::new(rt.alloc());
@@ -236,7 +231,7 @@ fn bytes_are_sent(rt: HostRuntime) {
     assert_eq!(rt; sent_and_read(&EnumSet::only(Sparse::A)), None);
 }
 
-// The words of a set: in arrays, and in slices of up to three places. The calls that ask are made where their tests pass.
+// The words of a set, in arrays and in slices of up to three places.
 fn write_words<T: EnumSetType>(text: &mut String, set: &EnumSet<T>) -> Result<(), AllocError> {
     let (none, two) = (set.try_as_array::<0>(), set.try_as_array::<2>());
     let cut = set.as_array_truncated::<2>();
@@ -250,7 +245,7 @@ fn write_words<T: EnumSetType>(text: &mut String, set: &EnumSet<T>) -> Result<()
     Ok(())
 }
 
-// The sets that an array of words is read as. The calls that ask are made where their tests pass.
+// The sets that an array of words is read as. A call with a requirement is made if its test passes.
 pub fn write_read_array<T: EnumSetType + fmt::Debug>(
     text: &mut String,
     array: [u64; 4],
@@ -272,7 +267,7 @@ pub fn write_read_array<T: EnumSetType + fmt::Debug>(
     Ok(())
 }
 
-// The sets that a slice of words is read as, and what the first of them writes.
+// The sets that a slice of words is read as, and the words that one of them writes again.
 pub fn write_read_slice<T: EnumSetType + fmt::Debug>(
     text: &mut String,
     words: &[u64],

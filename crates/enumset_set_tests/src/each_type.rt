@@ -1,28 +1,19 @@
-//! What a type can get wrong: its constants, its bits and names from both ends, the set of all, and a mixed set.
-
+//! What can be wrong in one element type: its constants, its bits and names from both ends, the set of all, and a mixed
+//! set.
 use enumset::set_json::{JsonWidth, Unknown, from_words, to_number, to_words};
-use enumset_mixed::mixed_enum_set::MixedEnumSet;
+use enumset_mixed::MixedEnumSet;
 use enumset_repr::EnumSetTypeRepr;
-use enumset_sets::element::EnumSetType;
-use enumset_sets::enum_set::EnumSet;
-use enumset_sets::with_repr::EnumSetTypeWithRepr;
+use enumset_sets::{EnumSet, EnumSetType, EnumSetTypeWithRepr};
 use enumset_sizes::{GapsInU128, GapsInWords, Month, Of32, Of33, Of128, Of256};
-use enumset_worked::four::Four;
-use enumset_worked::high::High;
-use enumset_worked::letters::Letters;
-use enumset_worked::marks::Marks;
-use enumset_worked::masks::Masks;
-use enumset_worked::pair_number::PairNumber;
-use enumset_worked::pair_words::PairWords;
-use enumset_worked::single::Single;
-use enumset_worked::sparse::Sparse;
-use enumset_worked::wide::Wide;
+use enumset_worked::{
+    Four, High, Letters, Marks, Masks, PairNumber, PairWords, Single, Sparse, Wide,
+};
 use std::alloc::{AllocError, Global};
 use std::fmt;
 use std::process::Abort;
 use std::test::Fail;
 
-// The width, how many variants there are, and their bits from the front and from the back.
+// The width, the number of variants, and their bits from the front and from the back.
 fn write_bits<T: EnumSetType>(text: &mut String) -> Result<(), AllocError> {
     let (width, count) = (EnumSet::<T>::bit_width(), EnumSet::<T>::variant_count());
     write!(text, "width {width}, variants {count}, bits")?;
@@ -36,7 +27,8 @@ fn write_bits<T: EnumSetType>(text: &mut String) -> Result<(), AllocError> {
     Ok(())
 }
 
-// The set of all: its `{:?}` text, its number, its words and its number as JSON. The words are read as the set again.
+// The set of all elements: its `{:?}` text, its number, its words and its number as JSON. Its words are read back as
+// that set.
 fn write_all<T: EnumSetType + fmt::Debug>(
     rt: &impl Abort,
     alloc: Global,
@@ -70,7 +62,7 @@ fn expect<T: EnumSetType + fmt::Debug>(
     Ok(())
 }
 
-/// Tests the line of a type whose elements have names, and the text of all of them.
+/// Tests the line of a type whose elements have names, and the text of the set of all.
 fn expect_named<T: EnumSetType + fmt::Debug + fmt::Display>(
     rt: &impl Abort,
     alloc: Global,
@@ -83,7 +75,7 @@ fn expect_named<T: EnumSetType + fmt::Debug + fmt::Display>(
     expect::<T>(rt, alloc, wanted)
 }
 
-// A mixed set by its number: its text, its elements, and the complements.
+// A mixed set by its number: its text, its elements, its complement, and the size of its full complement.
 fn write_mixed<T: EnumSetTypeWithRepr + fmt::Debug + fmt::Display>(
     text: &mut String,
     number: u128,
@@ -98,7 +90,7 @@ fn write_mixed<T: EnumSetTypeWithRepr + fmt::Debug + fmt::Display>(
     )
 }
 
-/// Tests the lines of a type with repr, the second of them of a mixed set, by its number.
+/// Tests the lines of a type that has mixed sets. The second line is that of a mixed set, by its number.
 pub fn expect_both<T: EnumSetTypeWithRepr + fmt::Debug + fmt::Display>(
     rt: &impl Abort,
     alloc: Global,
@@ -200,7 +192,7 @@ fn types_on_other_bits(rt: HostRuntime) -> Result<(), Fail> {
     )
 }
 
-// Tests the line of a type of variants `V0`, `V1` and so on, whose bits are the multiples of `step`.
+// Tests the line of a type with variants `V0`, `V1` and so on, whose bits are the multiples of `step`.
 fn expect_steps<T: EnumSetType + fmt::Debug>(
     rt: &impl Abort,
     alloc: Global,

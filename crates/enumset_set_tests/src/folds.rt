@@ -1,4 +1,4 @@
-//! Sets of items: by the traits of std, and by the functions of `folds`.
+//! Sets of items, by the traits of std and by the functions of `folds`.
 
 use crate::mixed::{number_of, of_number};
 use enumset::folds::{
@@ -11,11 +11,10 @@ use enumset::folds::{
 };
 use enumset::set::MixedEnumSet;
 use enumset::{EnumSet, EnumSetType, EnumSetTypeWithRepr, enum_set};
-use enumset_worked::letters::Letters;
-use enumset_worked::marks::Marks;
+use enumset_worked::{Letters, Marks};
 use std::test::Fail;
 
-// The numbers of what the folds answer: the first three have extended a set of one element.
+// The numbers of the sets that the folds make. The first three extend the set of one element.
 fn folded<T: EnumSetType>(elements: &[T], sets: &[EnumSet<T>], start: T) -> [u32; 9] {
     let (mut by_refs, mut by_sets, mut by_set_refs) = (
         EnumSet::only(start),
@@ -38,7 +37,7 @@ fn folded<T: EnumSetType>(elements: &[T], sets: &[EnumSet<T>], start: T) -> [u32
     ]
 }
 
-// The same of mixed sets.
+// The same for mixed sets.
 fn mixed_folded<T: EnumSetTypeWithRepr>(
     elements: &[T],
     sets: &[MixedEnumSet<T>],
@@ -65,7 +64,7 @@ fn mixed_folded<T: EnumSetTypeWithRepr>(
     ]
 }
 
-// The same of sets of elements: the first two have extended a mixed set.
+// The same for mixed sets from sets of elements. The first two extend a mixed set.
 fn enumsets_folded<T: EnumSetTypeWithRepr>(sets: &[EnumSet<T>], start: u8) -> [u128; 6] {
     let (mut by_sets, mut by_set_refs) = (of_number(start), of_number(start));
     mixed_extend_enumsets(&mut by_sets, sets.iter().copied());

@@ -1,6 +1,6 @@
-//! Sets to and from JSON values: each fault, alone and where a later one would hold too.
+//! Sets to and from JSON values: each fault alone, and each beside those that come after it.
 //!
-//! A row is a JSON text, and what it is read as where other bits are dropped, and where they are refused.
+//! A row has a JSON text and what it is read as: first with unknown bits dropped, and then with them refused.
 
 ghost use Rattle.std.specs.Prelude.{◌≤◌};
 
@@ -8,14 +8,11 @@ use crate::compare::same_lines;
 use crate::sending_json::{sent_as_number, sent_as_words, sent_with_unknown};
 use enumset::set::MixedEnumSet;
 use enumset::set_json::{
-    JsonFault, JsonWidth, Unknown, from_number, from_words, mixed_from_number, mixed_to_number,
-    to_number, to_words,
+    JsonFault, JsonWidth, Unknown, from_number, from_words, mixed_from_number, mixed_from_words,
+    mixed_to_number, mixed_to_words, to_number, to_words,
 };
 use enumset::{EnumSet, EnumSetType, EnumSetTypeWithRepr};
-use enumset_worked::letters::Letters;
-use enumset_worked::marks::Marks;
-use enumset_worked::sparse::Sparse;
-use enumset_worked::wide::Wide;
+use enumset_worked::{Letters, Marks, Sparse, Wide};
 use serde_json::Value;
 use std::alloc::{AllocError, Global};
 use std::fmt;
@@ -27,7 +24,7 @@ fn parts_of(row: &str) -> (&str, &str) {
     row.split_once(" -> ").unwrap_or((row, "a row"))
 }
 
-// Tests what a row's text is read as.
+// Tests what the text of a row is read as.
 fn expect<T: EnumSetType + fmt::Debug>(
     rt: &impl Abort,
     alloc: Global,
@@ -187,9 +184,9 @@ const WORDS_OF_WIDE: &str = "\
 [0,0,5] -> Ok(EnumSet(R)) Err(UnknownBits)
 ";
 
-// Rows of what stands in an array after a word and zeros up to place 999.
+// Rows with what follows one word and zeros up to place 999.
 #[test]
-fn words_far_past_the_store(rt: HostRuntime) -> Result<(), Fail> {
+fn words_far_past_the_width(rt: HostRuntime) -> Result<(), Fail> {
     let alloc = rt.alloc();
     let mut rows = String::new(alloc);
     for row in FAR_PAST_THE_STORE.lines() {
@@ -212,7 +209,7 @@ const FAR_PAST_THE_STORE: &str = "\
 ,[0] -> Err(NotAWord(1000)) Err(NotAWord(1000))
 ";
 
-/// Writes the set's number at each width, or the fault, and its words.
+/// Writes the number of a set at each width, or the fault, and its words.
 pub fn write_set<T: EnumSetType + fmt::Debug>(
     alloc: Global,
     text: &mut String,
@@ -234,7 +231,7 @@ pub fn write_set<T: EnumSetType + fmt::Debug>(
     Ok(())
 }
 
-/// Tests that the set is read again, as words and, where it fits, as a number of 64 bits.
+/// Tests that a set is read again from its words and, if it has one, from its number of 64 bits.
 pub fn comes_back<T: EnumSetType + fmt::Debug>(
     rt: &impl Abort,
     alloc: Global,
@@ -249,7 +246,7 @@ pub fn comes_back<T: EnumSetType + fmt::Debug>(
     Ok(())
 }
 
-// Writes a line of each set, and tests that it is read again.
+// Writes a line for each set, and tests that it is read again.
 fn write_sets<T: EnumSetType + fmt::Debug>(
     rt: &impl Abort,
     alloc: Global,
@@ -294,7 +291,7 @@ EnumSet(A | B | C) TooWide TooWide 1074791424 1074791424 [1074791424,0]
 EnumSet(A | D) TooWide TooWide TooWide TooWide [1024,9223372036854775808]
 ";
 
-/// Tests rows of numbers of mixed sets: what mixed set it is, and what number that is written as, or the fault.
+/// Tests rows of numbers of mixed sets: the mixed set and the number that it is written as, or the fault.
 pub fn expect_mixed_numbers<T: EnumSetTypeWithRepr + fmt::Debug>(
     rt: &impl Abort,
     alloc: Global,
@@ -315,6 +312,48 @@ pub fn expect_mixed_numbers<T: EnumSetTypeWithRepr + fmt::Debug>(
     assert_eq!(rt; sent_with_unknown(alloc, &all)?, all);
     Ok(())
 }
+
+/// Tests rows of words of mixed sets: what mixed set it is, and what words that is written as, or the fault.
+pub fn expect_mixed_words<T: EnumSetTypeWithRepr + fmt::Debug>(
+    rt: &impl Abort,
+    alloc: Global,
+    rows: &str,
+) -> Result<(), Fail> {
+    for row in rows.lines() {
+        let (json, wanted) = parts_of(row);
+        let value = Value::from_str(alloc, json)?;
+        let mut came = String::new(alloc);
+        for past in [Unknown::Drop, Unknown::Refuse] {
+            match mixed_from_words::<T>(&value, past) {
+                Ok(set) => write!(came, "{set:?} {} ", mixed_to_words(alloc, &set)?)?,
+                Err(fault) => write!(came, "{fault:?} ")?,
+            }
+        }
+        assert_eq!(rt; came.as_str().trim_end(), wanted, "{json}");
+    }
+    Ok(())
+}
+
+#[test]
+fn mixed_words(rt: HostRuntime) -> Result<(), Fail> {
+    expect_mixed_words::<Marks>(&rt, rt.alloc(), MIXED_WORDS_OF_MARKS)?;
+    expect_mixed_words::<Sparse>(&rt, rt.alloc(), MIXED_WORDS_OF_SPARSE)
+}
+
+const MIXED_WORDS_OF_MARKS: &str = "\
+[] -> MixedEnumSet() [0] MixedEnumSet() [0]
+[9,0] -> MixedEnumSet(A | [3]) [9] MixedEnumSet(A | [3]) [9]
+[257] -> MixedEnumSet(A) [1] OutOfRange
+[1,1] -> MixedEnumSet(A) [1] OutOfRange
+[256,-1] -> NotAWord(1) NotAWord(1)
+1 -> NotAnArray NotAnArray
+";
+
+const MIXED_WORDS_OF_SPARSE: &str = "\
+[1025,9223372036854775808] -> \
+MixedEnumSet([0] | A | D) [1025,9223372036854775808] MixedEnumSet([0] | A | D) [1025,9223372036854775808]
+[0,1,1] -> MixedEnumSet([64]) [0,1] OutOfRange
+";
 
 #[test]
 fn mixed_numbers(rt: HostRuntime) -> Result<(), Fail> {
@@ -351,7 +390,11 @@ fn faults_have_their_texts(rt: HostRuntime) -> Result<(), Fail> {
         JsonFault::NotAnArray,
         JsonFault::NotAWord(0),
         JsonFault::NotAWord(18446744073709551615),
+        JsonFault::NotAnObject,
+        JsonFault::NotAText(1),
+        JsonFault::NotABoolean(2),
         JsonFault::UnknownBits,
+        JsonFault::UnknownName(3),
         JsonFault::OutOfMemory,
     ];
     let mut text = String::new(rt.alloc());
@@ -369,7 +412,11 @@ number out of range
 not an array
 element 0: not a whole number of 64 bits
 element 18446744073709551615: not a whole number of 64 bits
+not an object
+element 1: not a text
+name 2: not a boolean
 unknown bits
+name 3: unknown
 out of memory
 ",
     );

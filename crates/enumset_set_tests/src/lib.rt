@@ -1,6 +1,6 @@
 //! Tests of sets, mixed sets, folds, macros and JSON at the worked types, and of users' code with its proofs.
 //!
-//! They stand apart from the crates that they test, so that the proofs of those are made once.
+//! They are in a crate of their own so that the crates that they test are proved once.
 #![tactic(auto)]
 
 #[cfg(test)]
@@ -18,9 +18,13 @@ mod folds;
 #[cfg(test)]
 mod json;
 #[cfg(test)]
+mod json_names;
+#[cfg(test)]
 mod macros;
 #[cfg(test)]
 mod mixed;
+#[cfg(test)]
+mod named;
 #[cfg(test)]
 mod no_variant;
 #[cfg(test)]

@@ -1,12 +1,9 @@
-// The macros, at two element types.
-
+//! The macros, at element types.
 use enumset::{
     EnumSet, enum_set, enum_set_complement, enum_set_difference, enum_set_intersection,
     enum_set_symmetric_difference, enum_set_union, mixed_enum_set,
 };
-use enumset_worked::four::Four;
-use enumset_worked::letters::Letters;
-use enumset_worked::marks::Marks;
+use enumset_worked::{Four, Letters, Marks};
 
 #[test]
 fn elements_make_sets(rt: HostRuntime) {

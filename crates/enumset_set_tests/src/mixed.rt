@@ -1,18 +1,12 @@
-//! The calls of a mixed set and of its iterator, over any element type with repr, and at `marks`.
+//! The calls of a mixed set and of its iterator, over element types with a representation of at most 128 bits.
 
 ghost use Rattle.std.specs.Prelude.{◌<◌};
 
 use crate::compare::same_lines;
-use enumset_mixed::conversions::convert_mixed;
-use enumset_mixed::mixed_enum_set::MixedEnumSet;
-use enumset_mixed::mixed_value::MixedValue;
+use enumset_mixed::{MixedEnumSet, MixedValue, convert_mixed};
 use enumset_repr::EnumSetTypeRepr;
-use enumset_sets::enum_set::EnumSet;
-use enumset_sets::with_repr::EnumSetTypeWithRepr;
-use enumset_worked::high::High;
-use enumset_worked::letters::Letters;
-use enumset_worked::marks::Marks;
-use enumset_worked::sparse::Sparse;
+use enumset_sets::{EnumSet, EnumSetTypeWithRepr};
+use enumset_worked::{High, Letters, Marks, Sparse};
 use std::alloc::AllocError;
 use std::fmt;
 use std::test::Fail;
@@ -27,7 +21,7 @@ pub fn number_of<T: EnumSetTypeWithRepr>(set: MixedEnumSet<T>) -> u128 {
     set.as_repr().to_u128()
 }
 
-// How many members there are, how many are valid, and whether there are any, and unknown ones.
+// The number of members and of valid ones, whether the set is empty, and whether it has unknown bits.
 fn write_counts<T: EnumSetTypeWithRepr>(
     text: &mut String,
     set: &MixedEnumSet<T>,
@@ -40,7 +34,8 @@ fn write_counts<T: EnumSetTypeWithRepr>(
     )
 }
 
-// The set's number and those of what it is made into: cut to the valid bits, its complements, and cleared.
+// The number of the set, and the numbers of what it becomes: cut to its valid bits, complemented in both ways, and
+// cleared.
 fn write_values<T: EnumSetTypeWithRepr>(
     text: &mut String,
     set: &MixedEnumSet<T>,
@@ -57,7 +52,8 @@ fn write_values<T: EnumSetTypeWithRepr>(
     write!(text, " values={values:?}")
 }
 
-// The elements of the set, if it has no other bits, and those that it has. The call that asks is made where its test passes.
+// The set as a set of elements, if it has no unknown bits, and its elements. A call with a requirement is made if its
+// test passes.
 fn write_elements<T: EnumSetTypeWithRepr + fmt::Debug>(
     text: &mut String,
     set: &MixedEnumSet<T>,
@@ -69,7 +65,7 @@ fn write_elements<T: EnumSetTypeWithRepr + fmt::Debug>(
     writeln!(text, " cut {:?}", set.as_enumset_truncate())
 }
 
-/// A line of what the calls answer that look at one set alone.
+/// A line of what the calls about one set return.
 pub fn write_answers<T: EnumSetTypeWithRepr + fmt::Debug>(
     text: &mut String,
     set: &MixedEnumSet<T>,
@@ -103,7 +99,7 @@ MixedEnumSet(A | B | C | [3] | [4] | [5] | [6] | [7]): len=8 valid=3 empty=false
 values=[255, 7, 0, 0, 0] elements=none cut EnumSet(A | B | C)
 ";
 
-// How sets begin, and what they say of the type.
+// New sets, and what the type itself says.
 fn write_makers<T: EnumSetTypeWithRepr + fmt::Debug>(
     text: &mut String,
     a: T,
@@ -125,7 +121,7 @@ fn write_makers<T: EnumSetTypeWithRepr + fmt::Debug>(
     )
 }
 
-// The operations on two sets.
+// The union and the intersection of two sets, and the first with the members of the other inserted.
 fn write_operations<T: EnumSetTypeWithRepr + fmt::Debug>(
     text: &mut String,
     one: &MixedEnumSet<T>,
@@ -141,7 +137,7 @@ fn write_operations<T: EnumSetTypeWithRepr + fmt::Debug>(
     )
 }
 
-// The others.
+// The differences of two sets, and the first with the members of the other removed.
 fn write_differences<T: EnumSetTypeWithRepr + fmt::Debug>(
     text: &mut String,
     one: &MixedEnumSet<T>,
@@ -158,7 +154,7 @@ fn write_differences<T: EnumSetTypeWithRepr + fmt::Debug>(
     )
 }
 
-// Whether one set is disjoint from another, above it, below it and greater than it.
+// Whether a set is disjoint from another, its superset, its subset, and greater.
 fn write_relations<T: EnumSetTypeWithRepr>(
     text: &mut String,
     one: &MixedEnumSet<T>,
@@ -199,7 +195,7 @@ disjoint=true superset=false subset=false greater=false
 disjoint=true superset=false subset=false greater=true
 ";
 
-// What the changes by an element answer, twice each, and whether the set is that element alone in between.
+// What the changes by an element return, each made twice, and whether the set is that element alone in between.
 fn write_changes<T: EnumSetTypeWithRepr>(
     text: &mut String,
     set: &mut MixedEnumSet<T>,
@@ -218,7 +214,7 @@ fn write_changes<T: EnumSetTypeWithRepr>(
     )
 }
 
-// What the changes by a bit below the width answer.
+// What the changes by a bit below the width return, each made twice.
 pub fn write_bit_changes<T: EnumSetTypeWithRepr>(
     text: &mut String,
     set: &mut MixedEnumSet<T>,
@@ -235,7 +231,7 @@ pub fn write_bit_changes<T: EnumSetTypeWithRepr>(
     )
 }
 
-// What is answered of a bit that may be past the width, and the set afterwards.
+// What the calls return for a bit that may be past the width, and the set afterwards.
 fn write_bit<T: EnumSetTypeWithRepr>(
     text: &mut String,
     mut set: MixedEnumSet<T>,
@@ -282,7 +278,7 @@ insert_bit=[true, false] has_bit=[true, false] remove_bit=[true, false]
 4294967295: [false, false, false] 1
 ";
 
-// The items of a set from both ends in turn, with what is left before each, and after the last.
+// The items of a set from both ends in turn, with the number left before each step, and after the last.
 fn write_items<T: EnumSetTypeWithRepr + fmt::Debug + fmt::Display>(
     text: &mut String,
     set: MixedEnumSet<T>,

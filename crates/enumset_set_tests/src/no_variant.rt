@@ -9,17 +9,14 @@ use crate::json::{comes_back, expect_mixed_numbers, expect_numbers, expect_words
 use crate::mixed::{of_number, write_answers, write_bit_changes};
 use crate::order::bytes_fed;
 use enumset::set_json::JsonWidth;
-use enumset_sets::element::EnumSetType;
-use enumset_sets::enum_set::EnumSet;
-use enumset_sets::variant_of;
-use enumset_sets::with_repr::EnumSetTypeWithRepr;
+use enumset_sets::{EnumSet, EnumSetType, EnumSetTypeWithRepr, variant_of};
 use std::alloc::{AllocError, Global};
 use std::fmt;
 use std::hash::Hash;
 use std::process::Abort;
 use std::test::Fail;
 
-// How many members the operations give, and what the tests and both ends of an iterator answer.
+// The sizes of the results of operations, and what tests and both ends of an iterator return.
 fn write_operations<T: EnumSetType>(text: &mut String) -> Result<(), AllocError> {
     let (new, all) = (EnumSet::<T>::new, EnumSet::<T>::all);
     let lens = [
@@ -47,7 +44,7 @@ fn write_operations<T: EnumSetType>(text: &mut String) -> Result<(), AllocError>
     )
 }
 
-// What the calls of sets and mixed sets answer, a line each.
+// What the calls of sets and mixed sets return, a line each.
 fn write_calls<T: EnumSetTypeWithRepr + fmt::Debug>(text: &mut String) -> Result<(), AllocError>
     requires { 7 < T.Repr.WIDTH }
 {
@@ -64,7 +61,7 @@ fn write_calls<T: EnumSetTypeWithRepr + fmt::Debug>(text: &mut String) -> Result
     writeln!(text, "fed {}", bytes_fed(&EnumSet::<T>::all()))
 }
 
-// Tests what is written as JSON, and read of it.
+// Tests what is written as JSON, and what is read from it.
 fn expect_json<T: EnumSetTypeWithRepr + fmt::Debug>(
     rt: &impl Abort,
     alloc: Global,

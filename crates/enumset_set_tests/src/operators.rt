@@ -5,15 +5,11 @@ ghost use Rattle.enumset_repr.specs.BitSet as set;
 
 use crate::mixed::{number_of, of_number};
 use crate::sets::two_of;
-use enumset_sets::element::EnumSetType;
-use enumset_sets::enum_set::EnumSet;
-use enumset_sets::with_repr::EnumSetTypeWithRepr;
-use enumset_worked::four::Four;
-use enumset_worked::letters::Letters;
-use enumset_worked::marks::Marks;
+use enumset_sets::{EnumSet, EnumSetType, EnumSetTypeWithRepr};
+use enumset_worked::{Four, Letters, Marks};
 
-// The numbers of what the operators `&`, `|`, `^`, `-` and `!` make of a set and a set or an element, and of the first
-// where the first four assign to it.
+// The numbers of the results of `&`, `|`, `^`, `-` and `!`, and of the first operand after `&=`, `|=`, `^=` and `-=`.
+// The first operand is a set, the second a set or an element.
 macro_rules! numbers {
     ($a:expr, $b:expr, $number:expr) => {{
         let (mut and, mut or, mut xor, mut sub) = ($a, $a, $a, $a);
@@ -39,27 +35,27 @@ fn as_byte<T: EnumSetType>(set: EnumSet<T>) -> u8 {
     set.as_u8_truncated()
 }
 
-// Of two sets of two elements that share the one between.
+// For two sets of two elements, with one in common.
 fn of_sets<T: EnumSetType>(a: T, b: T, c: T) -> [u8; 9] {
     numbers!(two_of(a, b), two_of(b, c), as_byte)
 }
 
-// Of a set of two elements and an element.
+// For a set of two elements, and an element.
 fn of_set_and_element<T: EnumSetType>(a: T, b: T, c: T) -> [u8; 9] {
     numbers!(two_of(a, b), c, as_byte)
 }
 
-// Of two mixed sets, by their numbers.
+// For two mixed sets, by their numbers.
 fn of_mixed_sets<T: EnumSetTypeWithRepr>(a: u8, b: u8) -> [u128; 9] {
     numbers!(of_number::<T>(a), of_number::<T>(b), number_of)
 }
 
-// Of a mixed set, by its number, and an element.
+// For a mixed set, by its number, and an element.
 fn of_mixed_set_and_element<T: EnumSetTypeWithRepr>(a: u8, b: T) -> [u128; 9] {
     numbers!(of_number::<T>(a), b, number_of)
 }
 
-// Of a mixed set, by its number, and a set of two elements.
+// For a mixed set, by its number, and a set of two elements.
 fn of_mixed_set_and_set<T: EnumSetTypeWithRepr>(a: u8, b: T, c: T) -> [u128; 9] {
     numbers!(of_number::<T>(a), two_of(b, c), number_of)
 }
@@ -96,7 +92,7 @@ fn mixed_sets_have_operators(rt: HostRuntime) {
     );
 }
 
-// The sets that the operators on elements make, beside their numbers.
+// The sets that the operators on elements make, each with the number that it must have.
 macro_rules! elements {
     ($a:expr, $b:expr) => {{
         let both = $a | $b;
@@ -125,7 +121,7 @@ fn elements_have_operators(rt: HostRuntime) {
     assert_eq!(rt; as_byte(!Four::D), 7);
 }
 
-// A user's function over two sets: what operators do in it is known with no lemma.
+// A user's function over two sets. Its operators need no lemma in its proof.
 fn in_one_alone(a: EnumSet<Letters>, b: EnumSet<Letters>) -> EnumSet<Letters>
     ensures { result ≡ set.difference (set.union a b) (set.intersection a b) }
 {

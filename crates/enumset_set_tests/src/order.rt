@@ -1,17 +1,8 @@
-//! The order of sets, and what they feed a hasher, over an integer and over words.
-
-use enumset_mixed::mixed_enum_set::MixedEnumSet;
+//! The order of sets, and what they feed to a hasher, over an integer and over words.
+use enumset_mixed::MixedEnumSet;
 use enumset_repr::EnumSetTypeRepr;
-use enumset_sets::element::EnumSetType;
-use enumset_sets::enum_set::EnumSet;
-use enumset_sets::raw;
-use enumset_sets::with_repr::EnumSetTypeWithRepr;
-use enumset_worked::high::High;
-use enumset_worked::letters::Letters;
-use enumset_worked::marks::Marks;
-use enumset_worked::pair_number::PairNumber;
-use enumset_worked::pair_words::PairWords;
-use enumset_worked::wide::Wide;
+use enumset_sets::{EnumSet, EnumSetType, EnumSetTypeWithRepr, raw};
+use enumset_worked::{High, Letters, Marks, PairNumber, PairWords, Wide};
 use std::alloc::{AllocError, Global};
 use std::fmt;
 use std::hash::{Hash, Hasher};
@@ -46,7 +37,8 @@ fn sorted_texts<T: EnumSetType + fmt::Display>(
     Ok(text)
 }
 
-// The greatest difference decides, over words as over an integer. The first variant of `high` has the greatest bit.
+// The greatest bit that differs decides, over words as over an integer. The first variant of `high` has the greatest
+// bit.
 #[test]
 fn sets_are_sorted(rt: HostRuntime) -> Result<(), Fail> {
     assert_eq!(rt;
@@ -60,7 +52,7 @@ fn sets_are_sorted(rt: HostRuntime) -> Result<(), Fail> {
     Ok(())
 }
 
-// 100 numbers, in no order.
+// 100 numbers, unsorted.
 fn numbers(alloc: Global) -> Result<Vec<u128>, AllocError> {
     let mut numbers = Vec::new(alloc);
     let mut last: u128 = 1;
@@ -73,7 +65,7 @@ fn numbers(alloc: Global) -> Result<Vec<u128>, AllocError> {
     Ok(numbers)
 }
 
-// The mixed sets of numbers over a type, sorted, as numbers again.
+// Numbers sorted as mixed sets of a type.
 fn sorted_over<T: EnumSetTypeWithRepr>(
     alloc: Global,
     numbers: &[u128],
@@ -129,7 +121,7 @@ pub fn bytes_fed<V: Hash>(value: &V) -> u64 {
     sum.finish()
 }
 
-// What the sets of two elements feed, and what their store values do.
+// What two sets of one element feed, and what the values that represent them feed.
 fn fed<T: EnumSetType>(a: T, b: T) -> ([u64; 2], [u64; 2]) {
     let (a, b) = (EnumSet::only(a), EnumSet::only(b));
     (
@@ -139,7 +131,7 @@ fn fed<T: EnumSetType>(a: T, b: T) -> ([u64; 2], [u64; 2]) {
 }
 
 #[test]
-fn a_set_feeds_a_hasher_its_store_value(rt: HostRuntime) {
+fn a_set_feeds_a_hasher_its_representation(rt: HostRuntime) {
     let (letters, values) = fed(Letters::A, Letters::B);
     assert_eq!(rt; letters, [1, 2]);
     assert_eq!(rt; letters, values);

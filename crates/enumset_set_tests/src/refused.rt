@@ -1,25 +1,21 @@
-//! Calls that take memory, where memory may be refused, and those that take none.
+//! Calls that take memory, when memory is refused, and calls that take none.
 //!
-//! Where its call is refused, a test sees that nothing changed and that the same call with memory gives the whole
-//! answer, and ends with the refusal. `scripts/refused-memory` refuses each allocation in turn, and says how each test
-//! has to end.
-
+//! If its call is refused, a test checks that nothing changed and that the same call succeeds once there is memory.
+//! Then it ends with the refusal. `scripts/refused-memory` refuses each allocation in turn, and knows how each test
+//! must end.
 use enumset::EnumSet;
 use enumset::set::MixedEnumSet;
 use enumset::set_json::{
     JsonFault, JsonWidth, Unknown, from_number, from_words, mixed_from_number, mixed_to_number,
     to_number, to_words,
 };
-use enumset_sets::element::EnumSetType;
-use enumset_worked::letters::Letters;
-use enumset_worked::marks::Marks;
-use enumset_worked::sparse::Sparse;
-use enumset_worked::wide::Wide;
+use enumset_sets::EnumSetType;
+use enumset_worked::{Letters, Marks, Sparse, Wide};
 use std::alloc::{AllocError, Global};
 use std::process::Abort;
 use std::test::Fail;
 
-// The words of a set of two elements, and the refusal that came before them.
+// The words of a set of two elements, and whether memory was refused before they came.
 fn words_of<T: EnumSetType>(
     rt: &impl Abort,
     alloc: Global,
@@ -63,7 +59,7 @@ fn words_of_a_set(rt: HostRuntime) -> Result<(), Fail> {
     Ok(ended?)
 }
 
-// No allocation is made here, so with none that may be made each answer is the same.
+// These calls allocate nothing, so they return the same when each allocation is refused.
 #[test]
 fn numbers_take_no_memory(rt: HostRuntime) -> Result<(), Fail> {
     let alloc = rt.alloc();

@@ -13,7 +13,7 @@ use enumset::set_json::{
 use enumset::{EnumSet, EnumSetType, EnumSetTypeWithRepr, laws};
 use std::alloc::Global;
 
-/// Flags that are sent as a number and read again.
+/// Sends flags as a number, and reads them again.
 pub fn sent_as_number<T: EnumSetType>(
     alloc: Global,
     flags: &EnumSet<T>,
@@ -27,7 +27,7 @@ pub fn sent_as_number<T: EnumSetType>(
     from_number(&to_number(alloc, flags, width)?, width, unknown)
 }
 
-/// Flags that are sent as words and read again.
+/// Sends flags as words, and reads them again.
 pub fn sent_as_words<T: EnumSetType>(
     alloc: Global,
     flags: &EnumSet<T>,
@@ -40,7 +40,7 @@ pub fn sent_as_words<T: EnumSetType>(
     from_words(&to_words(alloc, flags)?, unknown)
 }
 
-/// Flags, unknown ones among them, that are sent as a number and read again.
+/// Sends flags, unknown ones included, as a number, and reads them again.
 pub fn sent_with_unknown<T: EnumSetTypeWithRepr>(
     alloc: Global,
     flags: &MixedEnumSet<T>,

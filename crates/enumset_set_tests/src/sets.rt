@@ -1,13 +1,8 @@
 //! The calls of a set and of its iterator that no command makes, over any element type, and at `letters`.
 
 use crate::compare::same_lines;
-use enumset_sets::element::EnumSetType;
-use enumset_sets::enum_set::EnumSet;
-use enumset_sets::with_repr::EnumSetTypeWithRepr;
-use enumset_sets::{laws, raw};
-use enumset_worked::letters::Letters;
-use enumset_worked::masks::Masks;
-use enumset_worked::sparse::Sparse;
+use enumset_sets::{EnumSet, EnumSetType, EnumSetTypeWithRepr, laws, raw};
+use enumset_worked::{Letters, Masks, Sparse};
 use std::alloc::AllocError;
 use std::fmt;
 use std::test::Fail;
@@ -16,7 +11,7 @@ pub fn two_of<T: EnumSetType>(a: T, b: T) -> EnumSet<T> {
     EnumSet::only(a).union(EnumSet::only(b))
 }
 
-// How sets begin, and the older name of `symmetric_difference`.
+// Empty sets, and `symmetric_difference` under its older name.
 fn write_makers<T: EnumSetType + fmt::Debug>(
     text: &mut String,
     a: T,
@@ -40,7 +35,7 @@ fn write_sets_of_one<T: EnumSetType>(text: &mut String, a: T, b: T) -> Result<()
     writeln!(text, "eq_element={answers:?}")
 }
 
-// A clone and a copy of a set, and what is left of an iterator, and then of its clone.
+// A clone and a copy of a set, and the items left of an iterator and then of its clone.
 fn write_clones<T: EnumSetType + fmt::Debug>(
     text: &mut String,
     a: T,
@@ -58,7 +53,7 @@ fn write_clones<T: EnumSetType + fmt::Debug>(
     )
 }
 
-// A set's value of its store, and the sets that are read of it.
+// The sets that are made from the value that represents a set.
 fn write_values<T: EnumSetTypeWithRepr + fmt::Debug>(
     text: &mut String,
     a: T,
@@ -75,7 +70,7 @@ fn write_values<T: EnumSetTypeWithRepr + fmt::Debug>(
     )
 }
 
-// Values that may have bits of no variant: what is read where they are refused, and where they are left out.
+// The sets that are made from a value that may have unknown bits: one refuses them, and one drops them.
 fn write_tested_values<T: EnumSetTypeWithRepr + fmt::Debug>(
     text: &mut String,
     value: T::Repr,
@@ -85,7 +80,7 @@ fn write_tested_values<T: EnumSetTypeWithRepr + fmt::Debug>(
     writeln!(text, "try_from_repr={read:?} from_repr_truncated={cut:?}")
 }
 
-// A text of each kind, of a set and of its iterator.
+// The texts of a set, and of its iterator.
 fn write_texts<T: EnumSetType + fmt::Debug + fmt::Display>(
     text: &mut String,
     set: EnumSet<T>,

@@ -2,12 +2,12 @@
 
 ghost use Rattle.std.specs.Prelude.{◌≡◌};
 
-use enumset_sets::enum_set::EnumSet;
-use enumset_worked::letters::Letters;
-use enumset_worked::wide::Wide;
+use enumset_sets::EnumSet;
+use enumset_worked::{Letters, Wide};
 use my_sets::expressions::{after_and_before, exchange, exchanged};
+use my_sets::granting::grant;
 use my_sets::proving::{grant_then_revoke, is_apart_from_the_rest, rebuilt};
-use my_sets::rights::{Right, grant, may};
+use my_sets::rights::{Right, may};
 
 #[test]
 fn rights_are_granted(rt: HostRuntime) {

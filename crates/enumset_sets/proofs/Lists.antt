@@ -1,6 +1,7 @@
--- Numbers that are in a list.
---     not_none, is_in-later      such a number is not apart from all of the list's;  apart from the first ones, it is a later one
---     below_range      one of neighbouring numbers is below where they end
+-- Numbers in a list.
+--     not_none      a number in a list is not different from all of its numbers
+--     is_in-later      a number in two lists that is not in the first is in the second
+--     below_range      a number among n neighbours from a on is below a + n
 use Rattle.std.proofs.Common.{◌≡◌, ◌<◌, ℕ, suc, zero, ◌+◌, true, List, [], ◌∷◌, ◌++◌, sym, arith, true≢false, inl, inr}
 use Rattle.std.specs.Prelude.{◌==◌}
 use Rattle.std.specs.List.{range_with_len}

@@ -1,12 +1,15 @@
--- What an element type proves of its values and their bits.
+-- What an element type says of its values and their bits, with its laws.
 --     Elements      the bit of each value, and the list of the variants' bits
---     with_bits      the elements of an enum without fields, their bits from a list
---     in_place      the same, each bit its variant's place: 0, 1, 2 and so on
---     in_order      the same bits, as a list
---     one_past      one past a number, 0 of none
---     one_past_greatest      one past the greatest member, 0 of the empty set
+--     valid_bits      the set of the variants' bits
+--     with_bits      the elements of an enum without fields: each variant has the bit at its place in a list
+--     in_order      the same with the list 0, 1, 2 and so on
+--     in_place      the same bits, each stated as its variant's place, not as an item of the list
+--     one_past      one past a number, or 0 if there is none
+--     one_past_greatest      one past the greatest member, or 0 for the empty set
 --     IsElementType      the laws of an element type
---     AreBitsOf      each number of a list is one of the variants' bits
+--     AreBitsOf      each number of a list is in the list of the variants' bits
+-- Of the words for enums, which the kit's logic defines, `tag_of D v` is the place of v's variant in the declaration,
+-- counted from 0, and `rowss D.parts` lists the variants.
 use Rattle.std.specs.Prelude.{◌≡◌, ◌↔◌, ℕ, suc, Bool, List, Option, Some, None, length, slice_index, IsTrue}
 use Rattle.std.specs.List.{list_all, range_with_len}
 use denote.Enum.Declared.{Declared, rowss, tag_of}
@@ -14,24 +17,28 @@ use Rattle.enumset_repr.specs.BitSet.{BitSet, is_in, contains, from_list, len}
 use Rattle.enumset_repr.specs.Ends.{greatest}
 use Rattle.enumset_repr.specs.Number.{is_distinct}
 
--- the bit of each value, and the valid bits, those of the variants
+-- the bit of each value, and the list of the valid bits, one for each variant
 pub record Elements (T : Type 0) : Type 0 where
   pub bit : T → ℕ
   pub bit_list : List ℕ
 
--- an enum's variants, in the order of their declaration, on the bits of a list
+-- the valid bits as a set
+abbrev pub valid_bits : {T : Type 0} → Elements T → BitSet
+valid_bits elements = from_list elements.bit_list
+
+-- the first variant of the declaration has the first bit of the list, and so on
 abbrev pub with_bits : (D : Declared) → List ℕ → Elements D.D
 with_bits D bs = record { bit = λ v. slice_index bs (tag_of D v); bit_list = bs }
 
--- the same on bits 0, 1, 2 and so on
+-- the bits 0, 1, 2 and so on, one for each variant
 abbrev pub in_order : (D : Declared) → Elements D.D
 in_order D = with_bits D (range_with_len 0 (length (rowss D.parts)))
 
--- the same, where the bit of a variant is its place, which `self as u32` gives at once, however many variants there are
+-- the same bits, each stated as its variant's place, so that a proof about `self as u32` needs no list
 abbrev pub in_place : (D : Declared) → Elements D.D
 in_place D = record { bit = λ v. tag_of D v; bit_list = range_with_len 0 (length (rowss D.parts)) }
 
--- one past a number, 0 where there is none
+-- one past a number, or 0 if there is none
 abbrev pub one_past : Option ℕ → ℕ
 one_past None = 0
 one_past (Some b) = suc b
@@ -39,20 +46,21 @@ one_past (Some b) = suc b
 abbrev pub one_past_greatest : BitSet → ℕ
 one_past_greatest s = one_past (greatest s)
 
--- The laws of an element type with these elements and this `==`, whose constants mean `all`, `width` and `count`.
+-- The laws of an element type with these elements and this `==`. `all` is the set of ALL_BITS, `width` is BIT_WIDTH and
+-- `count` is VARIANT_COUNT.
 pub record IsElementType {T : Type 0} (elements : Elements T) (eq : T → T → Bool) (all : BitSet) (width count : ℕ) : Type 0 where
-  -- the valid bits are those of the variants, and the list names each once
+  -- the members of ALL_BITS are the numbers of the list, which has each once
   pub valid : all ≡ from_list elements.bit_list
   pub distinct : IsTrue (is_distinct elements.bit_list)
   -- each value's bit is valid
   pub bit_is_valid : (v : T) → IsTrue (contains all (elements.bit v))
-  -- two values have the same bit exactly if they are one value, and then `==` says so
+  -- two values with the same bit are one, and `==` is true exactly if the bits are the same
   pub bit_tells : (v w : T) → elements.bit v ≡ elements.bit w → v ≡ w
   pub eq_tells : (v w : T) → IsTrue (eq v w) ↔ (elements.bit v ≡ elements.bit w)
-  -- the width is one past the greatest valid bit, the count that of the valid bits
+  -- the width is one past the greatest valid bit, and the count is the number of valid bits
   pub width_is : width ≡ one_past_greatest all
   pub count_is : count ≡ len all
 
--- each number of a list is one of these bits
+-- each number of the first list is in the second
 abbrev pub AreBitsOf : List ℕ → List ℕ → Type 0
-AreBitsOf bit_list bs = IsTrue (list_all (λ b. is_in b bit_list) bs)
+AreBitsOf bs bit_list = IsTrue (list_all (λ b. is_in b bit_list) bs)

@@ -1,5 +1,5 @@
--- What folds of sets come to.
---     union_all      the members of any set of a list
+-- Unions of many sets.
+--     union_all      the union of all sets of a list
 use Rattle.std.specs.Prelude.{List, [], ◌∷◌}
 use Rattle.enumset_repr.specs.BitSet.{BitSet, empty, union}
 

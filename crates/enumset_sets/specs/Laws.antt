@@ -1,7 +1,7 @@
--- The laws of the definitions, each proved. They stand in specs/ since the laws of an element type cite them.
---     Conversions      a set's way through a store or a number
+-- Laws of the definitions, each proved. They are in specs/ so that the laws of an element type can cite them.
+--     Conversions      sets cut at a width, and sets taken through words
 --     Elements      the laws of an enum without fields, from one test of its bits and constants
---     Folds      folds of a list with one thing more at its end
+--     Folds      folds of a list with one item more at its end
 --     Texts      the text of a set as it is written
 pub mod Conversions
 pub mod Elements

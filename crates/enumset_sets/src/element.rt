@@ -4,48 +4,49 @@ ghost use Rattle.std.specs.Prelude.{◌≡◌, ℕ, IsTrue, List, []};
 ghost use Rattle.enumset_repr.specs.BitSet.{is_in};
 ghost use Rattle.enumset_sets.specs.Elements.{Elements, IsElementType};
 
-use enumset_repr::repr::EnumSetTypeRepr;
+use enumset_repr::EnumSetTypeRepr;
 
-/// An enum whose variants are the elements of an `EnumSet`: each has a bit of its own in a store.
+/// An enum whose variants are the elements of an `EnumSet`. Each variant has a bit of its own.
 ///
-/// It mirrors `EnumSetType` of Rust's `enumset`, with what is there `EnumSetTypePrivate`. There a derive
-/// writes it; here it is written by hand, and the laws of its bits are proved.
+/// It mirrors `EnumSetType` and `EnumSetTypePrivate` of Rust's `enumset`. There a derive implements them; here an
+/// author writes the `impl`, and its laws are proved.
 pub trait EnumSetType: Copy + Eq {
-    /// The store of its sets.
+    /// The representation of its sets.
     type Repr: EnumSetTypeRepr;
 
     // The bit of each value, and the list of the valid bits, one for each variant.
     ghost elements: { Elements Self };
 
-    // The values, in any order. Where they are listed and their texts are stated, so are those of sets; without a list
-    // it is that of the empty set alone.
+    // The values, in any order. If they are listed and their texts are known, so are the texts of sets. Without the
+    // list, the text of the empty set alone is known.
     ghost values: { List Self } = { [] };
 
     ghost ALL_BITS: { Self.Repr };
 
-    /// The store value of all variants: its members are the valid bits.
+    /// The value that represents the set of the valid bits.
     const ALL_BITS: Self::Repr;
 
     ghost BIT_WIDTH: { ℕ };
 
-    /// One past the greatest valid bit, and 0 where there is none.
+    /// One past the greatest valid bit, or 0 if there is none.
     const BIT_WIDTH: u32;
 
     ghost VARIANT_COUNT: { ℕ };
 
-    /// How many valid bits there are.
+    /// The number of valid bits.
     const VARIANT_COUNT: u32;
 
-    /// The value's bit.
+    /// The bit of the value.
     fn enum_into_u32(self) -> u32
         ensures { result ≡ elements.bit self };
 
-    /// The value whose bit it is. The bit must be valid, one of those of the variants:
-    /// [`EnumSet::is_bit_valid`](crate::EnumSet::is_bit_valid) is the test.
+    /// The value that has a bit. The bit must be valid: [`EnumSet::is_bit_valid`](crate::EnumSet::is_bit_valid) is the
+    /// test.
     fn enum_from_u32(val: u32) -> Self
         requires { IsTrue (is_in val elements.bit_list) }
         ensures { elements.bit result ≡ val };
 
+    // The laws, which `specs/Elements.antt` lists.
     ghost lawful: { IsElementType elements Self.PartialEq.eq
         (Self.Repr.members ALL_BITS) BIT_WIDTH VARIANT_COUNT };
 }

@@ -1,4 +1,4 @@
-//! The operators on a set and an element, which stands for the set of it alone.
+//! The operators on a set and an element, which counts as the set of that element alone.
 
 ghost use Rattle.std.specs.Prelude.{◌≡◌};
 ghost use Rattle.enumset_repr.specs.BitSet as set;
@@ -7,7 +7,7 @@ use crate::element::EnumSetType;
 use crate::enum_set::EnumSet;
 use std::ops::{BitAnd, BitAndAssign, BitOr, BitOrAssign, BitXor, BitXorAssign, Sub, SubAssign};
 
-/// `a & b`: the set of the element b where a has it, else the empty set.
+/// `a & b`: the set of the element b if it is in a, else the empty set.
 impl<T: EnumSetType> BitAnd<T> for EnumSet<T> {
     type Output = EnumSet<T>;
 
@@ -32,7 +32,7 @@ impl<T: EnumSetType> BitOr<T> for EnumSet<T> {
     }
 }
 
-/// `a ^ b`: a with the element b where a lacks it, else a without it.
+/// `a ^ b`: a with the element b if a lacks it, else a without it.
 impl<T: EnumSetType> BitXor<T> for EnumSet<T> {
     type Output = EnumSet<T>;
 

@@ -2,20 +2,23 @@
 
 ghost use Rattle.std.specs.Prelude.{◌≡◌, ◌<◌, ◌≤◌, ◌↔◌, IsTrue, false, not};
 ghost use Rattle.enumset_repr.specs.BitSet as set;
-ghost use Rattle.enumset_sets.specs.Elements.{one_past_greatest};
+ghost use Rattle.enumset_sets.specs.Elements.{one_past_greatest, valid_bits};
 
 use crate::element::EnumSetType;
 use crate::enum_set_iter::EnumSetIter;
-use crate::store::{are_same, has_no_member, intersection_of, symmetric_difference_of, union_of};
-use enumset_repr::repr::EnumSetTypeRepr;
+use crate::representation::{
+    are_same, has_no_member, intersection_of, symmetric_difference_of, union_of, valid_repr,
+};
+use enumset_repr::EnumSetTypeRepr;
 use std::alloc::AllocError;
 use std::fmt;
 use std::marker::{Model, PhantomData};
 
-/// A set of elements, kept as a value of its store.
+/// A set of elements, kept as a value of a representation.
 ///
-/// It mirrors `EnumSet` of Rust's `enumset`, and each call but `eq_element` the one of its name there. The
-/// parameter `R` is always the store of `T`: write `EnumSet<T>`.
+/// It mirrors `EnumSet` of Rust's `enumset`, and its calls keep their names, except for
+/// [`eq_element`](EnumSet::eq_element). [`copied`](EnumSet::copied) has no counterpart there. The parameter `R` is
+/// always the representation of `T`: write `EnumSet<T>`.
 pub struct EnumSet<T: EnumSetType, R: EnumSetTypeRepr = <T as EnumSetType>::Repr> {
     pub(crate) repr: R,
     of: PhantomData<T>,
@@ -23,6 +26,7 @@ pub struct EnumSet<T: EnumSetType, R: EnumSetTypeRepr = <T as EnumSetType>::Repr
 
 impl<T: EnumSetType, R: EnumSetTypeRepr> Model for EnumSet<T, R> {
     ghost use Rattle.enumset_repr.specs.BitSet.{BitSet, coded_set};
+    ghost use Rattle.enumset_sets.specs.Elements.{valid_bits};
     ghost use Rattle.enumset_sets.specs.Held.{IsHeld};
 
     ghost Value = { BitSet };
@@ -32,7 +36,7 @@ impl<T: EnumSetType, R: EnumSetTypeRepr> Model for EnumSet<T, R> {
     ghost view = { λ s. R.members s.repr };
 
     ghost invariant = { λ s.
-        IsHeld R.members R.of_members R.is_value (T.Repr.members T.ALL_BITS) s.repr };
+        IsHeld R.members R.of_members R.is_value (valid_bits T.elements) s.repr };
 
     ghost inverse = { λ s. record { repr = R.of_members s; of = record {} } };
 
@@ -86,7 +90,8 @@ impl<T: EnumSetType> Default for EnumSet<T> {
     }
 }
 
-/// `EnumSet(`, the elements' `{:?}` texts along their bits, joined by ` | `, and `)`.
+/// `EnumSet(`, the `{:?}` texts of the elements, ascending by bit and joined by ` | `, and `)`. No contract speaks of
+/// `{:?}`; tests do.
 impl<T: EnumSetType + fmt::Debug> fmt::Debug for EnumSet<T> {
     fn fmt<W: fmt::Write>(&self, f: &mut fmt::Formatter<W>) -> fmt::Result {
         f.write_str("EnumSet(")?;
@@ -102,21 +107,10 @@ impl<T: EnumSetType + fmt::Debug> fmt::Debug for EnumSet<T> {
     }
 }
 
-// The store value of all variants, which is one of its type; so the valid bits are below the width.
-pub(crate) fn valid_repr<T: EnumSetType>() -> T::Repr
-    ensures value { result ≡ T.ALL_BITS }
-    ensures is_value { T.Repr.is_value result }
-    ensures within { IsTrue (set.is_subset (T.Repr.members T.ALL_BITS) (set.below T.Repr.WIDTH)) }
-{
-    let all = T::ALL_BITS;
-    all.known();
-    all
-}
-
-// A value's bit, which is below the width of its store.
+// The bit of a value, which is below the width of the representation.
 fn bit_of_value<T: EnumSetType>(value: T) -> u32
     ensures bit { result ≡ T.elements.bit value }
-    ensures valid { IsTrue (set.contains (T.Repr.members T.ALL_BITS) result) }
+    ensures valid { IsTrue (set.contains (valid_bits T.elements) result) }
     ensures within { result < T.Repr.WIDTH }
 {
     let _all = valid_repr::<T>();
@@ -125,12 +119,12 @@ fn bit_of_value<T: EnumSetType>(value: T) -> u32
 
 #[tactic(auto, using(enumset_repr::specs::Laws::Members::subsets))]
 impl<T: EnumSetType> EnumSet<T> {
-    // The set that a store value means.
+    // The set that a value represents.
     pub(crate) fn of_repr(repr: T::Repr) -> EnumSet<T>
-        requires { IsTrue (set.is_subset (T.Repr.members repr) (T.Repr.members T.ALL_BITS)) }
+        requires { IsTrue (set.is_subset (T.Repr.members repr) (valid_bits T.elements)) }
         ensures { result ≡ T.Repr.members repr }
     {
-        repr.known();
+        repr.learn_is_value();
         EnumSet {
             repr,
             of: PhantomData,
@@ -153,9 +147,9 @@ impl<T: EnumSetType> EnumSet<T> {
 
     /// The set of all variants.
     pub fn all() -> EnumSet<T>
-        ensures { result ≡ T.Repr.members T.ALL_BITS }
+        ensures { result ≡ valid_bits T.elements }
     {
-        Self::of_repr(T::ALL_BITS)
+        Self::of_repr(valid_repr::<T>())
     }
 
     /// The set of one element.
@@ -167,32 +161,32 @@ impl<T: EnumSetType> EnumSet<T> {
         Self::of_repr(repr)
     }
 
-    /// One past the greatest valid bit, and 0 where there is none.
+    /// One past the greatest valid bit, or 0 if there is none.
     pub fn bit_width() -> u32
-        ensures { result ≡ one_past_greatest (T.Repr.members T.ALL_BITS) }
+        ensures { result ≡ one_past_greatest (valid_bits T.elements) }
     {
         T::BIT_WIDTH
     }
 
-    /// How many valid bits there are: as many as variants.
+    /// The number of valid bits, which is the number of variants.
     pub fn variant_count() -> u32
-        ensures { result ≡ set.len (T.Repr.members T.ALL_BITS) }
+        ensures { result ≡ set.len (valid_bits T.elements) }
     {
         T::VARIANT_COUNT
     }
 
-    /// The element's bit. It is valid, and below the store's width.
+    /// The bit of an element. It is valid, and below the width of the representation.
     pub fn bit_index(t: T) -> u32
         ensures bit { result ≡ T.elements.bit t }
-        ensures valid { IsTrue (set.contains (T.Repr.members T.ALL_BITS) result) }
+        ensures valid { IsTrue (set.contains (valid_bits T.elements) result) }
         ensures within { result < T.Repr.WIDTH }
     {
         bit_of_value(t)
     }
 
-    /// Whether a bit is valid: one of a variant. It is not at and past the store's width.
+    /// Whether a bit is valid: whether a variant has it. No bit at or past the width of the representation is valid.
     pub fn is_bit_valid(bit: u32) -> bool
-        ensures valid { result ≡ set.contains (T.Repr.members T.ALL_BITS) bit }
+        ensures valid { result ≡ set.contains (valid_bits T.elements) bit }
         ensures of_a_variant { result ≡ set.is_in bit T.elements.bit_list }
         ensures past { T.Repr.WIDTH ≤ bit → result ≡ false }
     {
@@ -200,44 +194,44 @@ impl<T: EnumSetType> EnumSet<T> {
         bit < T::Repr::WIDTH && all.has_bit(bit)
     }
 
-    /// The same set, as a value of its own. Code over any element type takes it where it uses a set by value twice.
+    /// The same set as a new value. Code over any element type calls it where it uses a set by value twice.
     pub fn copied(&self) -> EnumSet<T>
         ensures { result ≡ self.now }
     {
         Self::of_repr(self.repr)
     }
 
-    /// How many members there are. Each is a valid bit.
+    /// The number of members. Each is a valid bit.
     pub fn len(&self) -> usize
         ensures members { result ≡ set.len self.now }
-        ensures valid { IsTrue (set.is_subset self.now (T.Repr.members T.ALL_BITS)) }
+        ensures valid { IsTrue (set.is_subset self.now (valid_bits T.elements)) }
     {
         self.repr.count_ones() as usize
     }
 
-    /// Whether there is no member.
+    /// Whether the set is empty.
     pub fn is_empty(&self) -> bool
         ensures { result ≡ set.is_empty self.now }
     {
         has_no_member(&self.repr)
     }
 
-    /// Takes out all members.
+    /// Removes all members.
     pub fn clear(&mut self)
         ensures { self.new ≡ set.empty }
     {
         self.repr = T::Repr::EMPTY;
-        self.repr.known();
+        self.repr.learn_is_value();
     }
 
-    /// Whether the element is a member.
+    /// Whether an element is a member.
     pub fn contains(&self, value: T) -> bool
         ensures { result ≡ set.contains self.now (T.elements.bit value) }
     {
         self.repr.has_bit(bit_of_value(value))
     }
 
-    /// Makes the element a member, and says whether it was absent.
+    /// Adds an element, and returns whether it was absent.
     pub fn insert(&mut self, value: T) -> bool
         ensures inserted { self.new ≡ set.insert self.old (T.elements.bit value) }
         ensures was_absent { result ≡ not (set.contains self.old (T.elements.bit value)) }
@@ -245,11 +239,11 @@ impl<T: EnumSetType> EnumSet<T> {
         let bit = bit_of_value(value);
         let is_absent = !self.repr.has_bit(bit);
         self.repr.add_bit(bit);
-        self.repr.known();
+        self.repr.learn_is_value();
         is_absent
     }
 
-    /// Takes the element out, and says whether it was present.
+    /// Removes an element, and returns whether it was present.
     pub fn remove(&mut self, value: T) -> bool
         ensures removed { self.new ≡ set.remove self.old (T.elements.bit value) }
         ensures was_present { result ≡ set.contains self.old (T.elements.bit value) }
@@ -257,60 +251,60 @@ impl<T: EnumSetType> EnumSet<T> {
         let bit = bit_of_value(value);
         let is_present = self.repr.has_bit(bit);
         self.repr.remove_bit(bit);
-        self.repr.known();
+        self.repr.learn_is_value();
         is_present
     }
 
-    /// Whether no element is a member of both.
+    /// Whether no element is a member of both sets.
     pub fn is_disjoint(&self, other: EnumSet<T>) -> bool
         ensures { result ≡ set.is_disjoint self.now other }
     {
         self.repr.is_disjoint_from(&other.repr)
     }
 
-    /// Whether each member of the other is one of this.
+    /// Whether every member of `other` is a member of this set.
     pub fn is_superset(&self, other: EnumSet<T>) -> bool
         ensures { result ≡ set.is_subset other self.now }
     {
         other.repr.is_subset_of(&self.repr)
     }
 
-    /// Whether each member of this is one of the other.
+    /// Whether every member of this set is a member of `other`.
     pub fn is_subset(&self, other: EnumSet<T>) -> bool
         ensures { result ≡ set.is_subset self.now other }
     {
         self.repr.is_subset_of(&other.repr)
     }
 
-    /// The members of either.
+    /// The members of either set.
     pub fn union(&self, other: EnumSet<T>) -> EnumSet<T>
         ensures { result ≡ set.union self.now other }
     {
         Self::of_repr(union_of(self.repr, other.repr))
     }
 
-    /// The members of both.
+    /// The members of both sets.
     pub fn intersection(&self, other: EnumSet<T>) -> EnumSet<T>
         ensures { result ≡ set.intersection self.now other }
     {
         Self::of_repr(intersection_of(self.repr, other.repr))
     }
 
-    /// The members of this that are not in the other.
+    /// The members of this set that are not in `other`.
     pub fn difference(&self, other: EnumSet<T>) -> EnumSet<T>
         ensures { result ≡ set.difference self.now other }
     {
         Self::of_repr(self.repr.and_not(other.repr))
     }
 
-    /// The members of just one of the two.
+    /// The members of exactly one of the two sets.
     pub fn symmetric_difference(&self, other: EnumSet<T>) -> EnumSet<T>
         ensures { result ≡ set.symmetric_difference self.now other }
     {
         Self::of_repr(symmetric_difference_of(self.repr, other.repr))
     }
 
-    /// The members of just one of the two, under an older name.
+    /// The members of exactly one of the two sets, under an older name.
     #[deprecated = "Use `symmetric_difference` instead."]
     pub fn symmetrical_difference(&self, other: EnumSet<T>) -> EnumSet<T>
         ensures { result ≡ set.symmetric_difference self.now other }
@@ -318,41 +312,42 @@ impl<T: EnumSetType> EnumSet<T> {
         self.symmetric_difference(other)
     }
 
-    /// The valid bits that are not in the set, as elements. The complement of that is this set, whose
-    /// members are valid bits.
+    /// The valid bits that are not in the set, as elements. Each member of the set is a valid bit, so the complement of
+    /// the complement is the set itself.
     pub fn complement(&self) -> EnumSet<T>
-        ensures rest { result ≡ set.difference (T.Repr.members T.ALL_BITS) self.now }
-        ensures valid { IsTrue (set.is_subset self.now (T.Repr.members T.ALL_BITS)) }
+        ensures complement { result ≡ set.difference (valid_bits T.elements) self.now }
+        ensures valid { IsTrue (set.is_subset self.now (valid_bits T.elements)) }
     {
-        Self::of_repr(T::ALL_BITS.and_not(self.repr))
+        Self::of_repr(valid_repr::<T>().and_not(self.repr))
     }
 
-    /// Makes each member of the other a member of this.
+    /// Adds every member of `other`.
     pub fn insert_all(&mut self, other: EnumSet<T>)
         ensures { self.new ≡ set.union self.old other }
     {
         self.repr.or_with(&other.repr);
-        self.repr.known();
+        self.repr.learn_is_value();
     }
 
-    /// Takes each member of the other out of this.
+    /// Removes every member of `other`.
     pub fn remove_all(&mut self, other: EnumSet<T>)
         ensures { self.new ≡ set.difference self.old other }
     {
         self.repr.and_not_with(&other.repr);
-        self.repr.known();
+        self.repr.learn_is_value();
     }
 
-    /// The elements, along their bits, each once, rising, from both ends. The iterator keeps the set as
-    /// it is now.
+    /// An iterator over the elements, each once, ascending by bit, from both ends. Later changes to the set do not
+    /// affect it. Each member of the set is a valid bit.
     pub fn iter(&self) -> EnumSetIter<T>
-        ensures rising { result ≡ set.rising self.now }
-        ensures valid { IsTrue (set.is_subset self.now (T.Repr.members T.ALL_BITS)) }
+        ensures ascending { result ≡ set.ascending self.now }
+        ensures valid { IsTrue (set.is_subset self.now (valid_bits T.elements)) }
     {
         EnumSetIter::over(self.repr)
     }
 
-    /// Whether the set has this element and no other. It stands for `==` between a set and an element.
+    /// Whether the set has this element and no other. Rust's `enumset` writes this as `==` between a set and an
+    /// element.
     pub fn eq_element(&self, value: T) -> bool
         ensures { result ≡ set.is_same self.now (set.only (T.elements.bit value)) }
     {

@@ -2,17 +2,18 @@
 
 ghost use Rattle.std.specs.Prelude.{◌≡◌, length, IsTrue};
 ghost use Rattle.enumset_repr.specs.BitSet as set;
+ghost use Rattle.enumset_sets.specs.Elements.{valid_bits};
 
 use crate::element::EnumSetType;
-use enumset_repr::repr::EnumSetTypeRepr;
+use enumset_repr::EnumSetTypeRepr;
 use std::alloc::AllocError;
 use std::fmt;
 use std::marker::Model;
 
-/// The elements of a set, along their bits, rising.
+/// An iterator over the elements of a set, ascending by bit.
 ///
-/// It mirrors `EnumSetIter` of Rust's `enumset`. Contracts see the list of the bits that it has still to
-/// give. Once one end has answered `None`, both do.
+/// It mirrors `EnumSetIter` of Rust's `enumset`. Contracts see the list of the bits left. Once one end has yielded
+/// `None`, both ends yield `None` from then on.
 pub struct EnumSetIter<T: EnumSetType> {
     iter: <T::Repr as EnumSetTypeRepr>::Iter,
 }
@@ -25,7 +26,7 @@ impl<T: EnumSetType> Model for EnumSetIter<T> {
 
     ghost view = { λ i. T.Repr.rest i.iter };
 
-    ghost invariant = { λ i. AreBitsOf T.elements.bit_list (T.Repr.rest i.iter) };
+    ghost invariant = { λ i. AreBitsOf (T.Repr.rest i.iter) T.elements.bit_list };
 }
 
 impl<T: EnumSetType> Drop for EnumSetIter<T> {
@@ -35,10 +36,10 @@ impl<T: EnumSetType> Drop for EnumSetIter<T> {
 }
 
 impl<T: EnumSetType> EnumSetIter<T> {
-    // The iterator over the members of a store value, which are valid bits.
+    // The iterator over the members of a value, which must be valid bits.
     pub(crate) fn over(repr: T::Repr) -> EnumSetIter<T>
-        requires { IsTrue (set.is_subset (T.Repr.members repr) (T.Repr.members T.ALL_BITS)) }
-        ensures { result ≡ set.rising (T.Repr.members repr) }
+        requires { IsTrue (set.is_subset (T.Repr.members repr) (valid_bits T.elements)) }
+        ensures { result ≡ set.ascending (T.Repr.members repr) }
     {
         EnumSetIter { iter: repr.iter() }
     }
@@ -75,7 +76,7 @@ impl<T: EnumSetType> Iterator for EnumSetIter<T> {
 
     ghost remaining = { item_count (λ bits. bits) };
 
-    /// The element of the least bit that is left, or `None` if there is none.
+    /// Takes out the element of the least bit left and returns it, or returns `None` if no element is left.
     fn next(&mut self) -> Option<T> {
         let bit = self.iter.next()?;
         Some(T::enum_from_u32(bit))
@@ -96,7 +97,7 @@ impl<T: EnumSetType> DoubleEndedIterator for EnumSetIter<T> {
 
     ghost next_back_gives = { YieldsLastBy T.elements.bit (λ bits. bits) };
 
-    /// The element of the greatest bit that is left, or `None` if there is none.
+    /// Takes out the element of the greatest bit left and returns it, or returns `None` if no element is left.
     fn next_back(&mut self) -> Option<T> {
         let bit = self.iter.next_back()?;
         Some(T::enum_from_u32(bit))
@@ -104,7 +105,7 @@ impl<T: EnumSetType> DoubleEndedIterator for EnumSetIter<T> {
 }
 
 impl<T: EnumSetType> ExactSizeIterator for EnumSetIter<T> {
-    /// How many elements are left.
+    /// The number of elements left.
     fn len(&self) -> usize {
         T::Repr::items_left(&self.iter)
     }

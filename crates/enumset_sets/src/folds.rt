@@ -20,20 +20,20 @@ impl<T: EnumSetType> From<T> for EnumSet<T> {
     }
 }
 
-/// The elements, along their bits, rising, as [`iter`](EnumSet::iter).
+/// An iterator over the elements, ascending by bit, as [`iter`](EnumSet::iter).
 impl<T: EnumSetType> IntoIterator for EnumSet<T> {
     type Item = T;
 
     type IntoIter = EnumSetIter<T>;
 
-    ghost into_iter_gives = { λ s i. i ≡ set.rising s };
+    ghost into_iter_gives = { λ s i. i ≡ set.ascending s };
 
     fn into_iter(self) -> EnumSetIter<T> {
         self.iter()
     }
 }
 
-/// Makes each element that an iterator gives a member. It takes no memory and is always `Ok`.
+/// Adds every element that an iterator yields. The iterator must end. The call takes no memory and always returns `Ok`.
 impl<T: EnumSetType> Extend<T> for EnumSet<T> {
     ghost extend_gives = { λ s ts r. r ≡ set.union s (set.from_list (map T.elements.bit ts)) };
 
@@ -53,7 +53,8 @@ impl<T: EnumSetType> Extend<T> for EnumSet<T> {
     }
 }
 
-/// The set of the elements that an iterator gives. It takes no memory and is always `Ok`.
+/// The set of the elements that an iterator yields. The iterator must end. The call takes no memory and always returns
+/// `Ok`.
 impl<T: EnumSetType> FromIterator<T> for EnumSet<T> {
     type Alloc = Global;
 
@@ -77,7 +78,7 @@ impl<T: EnumSetType> FromIterator<T> for EnumSet<T> {
     }
 }
 
-/// The members of any of the sets that an iterator gives.
+/// The union of all sets that an iterator yields. The iterator must end.
 impl<T: EnumSetType> Sum<EnumSet<T>> for EnumSet<T> {
     ghost sum_gives = { λ sets r. r ≡ union_all sets };
 

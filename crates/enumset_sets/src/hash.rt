@@ -1,4 +1,4 @@
-//! What sets of elements feed a hasher.
+//! What sets of elements feed to a hasher.
 
 ghost use Rattle.std.proofs.Common.{ap};
 ghost use Rattle.enumset_repr.specs.Laws.Members.{is_same_iff};
@@ -7,7 +7,7 @@ use crate::element::EnumSetType;
 use crate::enum_set::EnumSet;
 use std::hash::{Hash, Hasher};
 
-/// A set feeds what its store value does: equal sets feed equal data.
+/// A set feeds what the value that represents it feeds, so equal sets feed equal data.
 impl<T: EnumSetType> Hash for EnumSet<T> {
     ghost hash_input = { λ s. T.Repr.Hash.hash_input (T.Repr.of_members s) };
 

@@ -1,58 +1,62 @@
-//! Laws of round trips: what a call gave of a set, another takes back.
+//! Laws of round trips: what one call makes of a set, another call reads as the same set.
 //!
-//! Each law is a function that does nothing at run time, over every element type. Code that needs a law calls it at
+//! Each law is a function that does nothing at run time, over every element type. Code that needs a law calls it with
 //! its set, and the proof of that code then knows what the function ensures.
 
 ghost use Rattle.std.specs.Prelude.{◌≡◌, ◌*◌, IsTrue};
 ghost use Rattle.enumset_repr.specs.BitSet.{below, low, intersection, is_subset};
 ghost use Rattle.enumset_repr.specs.Number.{bits, number};
 ghost use Rattle.enumset_repr.specs.Words.{words, bits_of};
+ghost use Rattle.enumset_sets.specs.Elements.{valid_bits};
 
 use crate::element::EnumSetType;
-use crate::enum_set::{EnumSet, valid_repr};
-use enumset_repr::repr::EnumSetTypeRepr;
+use crate::enum_set::EnumSet;
+use crate::representation::valid_repr;
+use enumset_repr::EnumSetTypeRepr;
 
-/// A set's number is taken back to that set: where `try_as_u8` answered `Some(n)`, `try_from_u8(n)` is `Some` of the
-/// same set, and so for each type.
+/// From a set to its number and back: the number represents the same set, and its bits are valid. So if `try_as_u8`
+/// returned `Some(n)`, `try_from_u8(n)` returns `Some` of the same set. The same holds for each type of numbers.
 pub fn number_and_back<T: EnumSetType>(set: &EnumSet<T>)
     ensures back { bits (number set.now) ≡ set.now }
-    ensures valid { IsTrue (is_subset set.now (T.Repr.members T.ALL_BITS)) }
+    ensures valid { IsTrue (is_subset set.now (valid_bits T.elements)) }
 {
     let _held = set.repr;
 }
 
-/// A set's number that was cut at a width is taken back to the members below it: `from_u8_truncated` of
-/// `as_u8_truncated` is the set's members below 8, and so for each type.
+/// From a set to the number of its members below a width, and back: the valid bits of that number are these members. So
+/// `from_u8_truncated` of `as_u8_truncated` is the set of the members below 8. The same holds for each type of numbers.
 pub fn cut_number_and_back<T: EnumSetType>(set: &EnumSet<T>, width: u32)
-    ensures { intersection (bits (number (low set.now width))) (T.Repr.members T.ALL_BITS)
+    ensures { intersection (bits (number (low set.now width))) (valid_bits T.elements)
         ≡ low set.now width }
 {
     let _held = set.repr;
 }
 
-/// A set's words are taken back to that set, where each member is in one of them: where `try_as_array` answered
-/// `Some(array)`, `try_from_array(array)` is `Some` of the same set, and so for slices.
+/// From a set to its first `len` words and back: if every member is in one of them, the words represent the same set,
+/// and their bits are valid. So if `try_as_array` returned `Some(array)`, `try_from_array(array)` returns `Some` of the
+/// same set. The same holds for slices.
 pub fn words_and_back<T: EnumSetType>(set: &EnumSet<T>, len: usize)
     ensures back { IsTrue (is_subset set.now (below (64 * len)))
         → bits_of (words set.now len) ≡ set.now }
-    ensures valid { IsTrue (is_subset set.now (T.Repr.members T.ALL_BITS)) }
+    ensures valid { IsTrue (is_subset set.now (valid_bits T.elements)) }
 {
     let _held = set.repr;
 }
 
-/// So many of a set's words are taken back to the members that are in them: `from_array_truncated` of
-/// `as_array_truncated` is the set's members below 64 times the length, and so for slices.
+/// From a set to its first `len` words and back: the valid bits of these words are the members below `64 * len`. So
+/// `from_array_truncated` of `as_array_truncated` is the set of these members. The same holds for slices.
 pub fn cut_words_and_back<T: EnumSetType>(set: &EnumSet<T>, len: usize)
-    ensures { intersection (bits_of (words set.now len)) (T.Repr.members T.ALL_BITS)
+    ensures { intersection (bits_of (words set.now len)) (valid_bits T.elements)
         ≡ low set.now (64 * len) }
 {
     let _held = set.repr;
 }
 
-/// All words of a set are taken back to that set: `from_slice` of what `to_vec` gave is the same set.
+/// From a set to all its words and back: the words represent the same set, and their bits are valid. So `from_slice`
+/// may be called with the vector that `to_vec` returned, and returns the same set.
 pub fn all_words_and_back<T: EnumSetType>(set: &EnumSet<T>)
     ensures back { bits_of (words set.now T.Repr.PREFERRED_ARRAY_LEN) ≡ set.now }
-    ensures valid { IsTrue (is_subset set.now (T.Repr.members T.ALL_BITS)) }
+    ensures valid { IsTrue (is_subset set.now (valid_bits T.elements)) }
 {
     let _held = set.repr;
     let _all = valid_repr::<T>();

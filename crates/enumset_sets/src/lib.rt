@@ -1,7 +1,7 @@
-//! Sets of an enum's variants, kept as the bits of a store.
+//! Sets of the variants of an enum, kept as values of a representation.
 //!
-//! [`EnumSet`] is proved once, over every [`EnumSetType`] and every store of `enumset_repr`: it names no
-//! store. Contracts see a set as the finite set of its members' bit numbers.
+//! [`EnumSet`] is proved once, over every [`EnumSetType`] and every representation of `enumset_repr`, and names none of
+//! them. Contracts see a set as the finite set of its members' bit numbers.
 #![tactic(auto)]
 
 pub mod element;
@@ -16,9 +16,9 @@ mod numbers;
 mod operators;
 mod order;
 pub mod raw;
-pub mod store;
-mod taken;
+pub mod representation;
 pub mod text;
+mod validated;
 pub mod variants;
 pub mod with_repr;
 mod words;

@@ -1,14 +1,16 @@
-//! The macro by which an element type answers `enum_from_u32`.
+//! The macro that writes the body of `enum_from_u32`.
 
-/// The variant of a bit. `variant_of!(bit, Month: January February March)` names the enum and all its variants, in the
-/// order of their bits, which are 0, 1, 2 and so on. Where the bits are others, each stands before its variant:
+/// The variant that has a bit.
+///
+/// `variant_of!(bit, Month: January February March)` names the enum and all its variants, in the order of their bits,
+/// which are 0, 1, 2 and so on. If the bits are others, each bit comes before its variant:
 /// `variant_of!(bit, Sparse: 10 A 20 B 127 C)`.
 ///
-/// The bit must be one of theirs; an enum without variants has none. It takes up to 256 variants, as many as an enum
-/// may have, and becomes one `match` over the bits.
+/// The bit must be that of a variant. The macro takes up to 256 variants, as many as an enum may have, and expands to
+/// one `match` over the bits. An enum without variants has no bit, so for it the macro expands to `unreachable!()`.
 #[macro_export]
 macro_rules! variant_of {
-    // All variants have their arms. The last arm is never taken: `is_below` tells a proof so.
+    // All variants have arms. The last arm is never taken: `is_below` tells the proof so.
     (@arms $bit:expr, $of:ident [$($arm:tt)+] [$count:literal $($at:literal)*]) => {{
         let bit: u32 = $bit;
         match bit {
@@ -19,11 +21,11 @@ macro_rules! variant_of {
             }
         }
     }};
-    // Variants are left, and no literal for them.
+    // Variants are left, but no literals for them.
     (@arms $bit:expr, $of:ident [$($arm:tt)+] [$count:literal] $($variant:ident)+) => {
         compile_error!("variant_of! takes at most 256 variants, as many as an enum may have")
     };
-    // Sixteen variants get their arms at a time, and the last ones one by one.
+    // Sixteen variants at a time get their arms, and then the rest one by one.
     (
         @arms $bit:expr, $of:ident [$($arm:tt)*]
         [$a0:literal $a1:literal $a2:literal $a3:literal $a4:literal $a5:literal $a6:literal $a7:literal
@@ -48,7 +50,7 @@ macro_rules! variant_of {
     (@arms $bit:expr, $of:ident [$($arm:tt)*] [$a:literal $($at:literal)+] $v:ident $($variant:ident)*) => {
         $crate::variant_of!(@arms $bit, $of [$($arm)* $a => $of::$v,] [$($at)+] $($variant)*)
     };
-    // No bit is left. A proof is told so of 64 at a time: it takes in no more than some 128 at once.
+    // All bits are used up. The proof learns this for 64 bits at a time, since it cannot take in many more than 128.
     (
         @none $bit:ident
         $a0:literal $a1:literal $a2:literal $a3:literal $a4:literal $a5:literal $a6:literal $a7:literal
@@ -79,8 +81,8 @@ macro_rules! variant_of {
     ($bit:expr, $of:ident:) => {
         unreachable!()
     };
-    // The last arm is never taken. It names a variant all the same, so that the match can become a load from a table.
-    // With `unreachable!()` it would be a jump to the arm of the bit.
+    // The last arm is never taken. It names a variant nevertheless, so that the match can compile to a load from a
+    // table: with `unreachable!()` it would be a jump.
     ($bit:expr, $of:ident: $first_at:literal $first:ident $($at:literal $variant:ident)*) => {{
         let bit: u32 = $bit;
         match bit {

@@ -1,11 +1,12 @@
-//! The operators on sets of elements: each is one of their calls.
+//! The operators on sets of elements: each does what a method does.
 
 ghost use Rattle.std.specs.Prelude.{◌≡◌};
 ghost use Rattle.enumset_repr.specs.BitSet as set;
+ghost use Rattle.enumset_sets.specs.Elements.{valid_bits};
 
 use crate::element::EnumSetType;
 use crate::enum_set::EnumSet;
-use enumset_repr::repr::EnumSetTypeRepr;
+use enumset_repr::EnumSetTypeRepr;
 use std::ops::{
     BitAnd, BitAndAssign, BitOr, BitOrAssign, BitXor, BitXorAssign, Not, Sub, SubAssign,
 };
@@ -14,7 +15,7 @@ use std::ops::{
 impl<T: EnumSetType> Not for EnumSet<T> {
     type Output = EnumSet<T>;
 
-    ghost not_gives = { λ a r. r ≡ set.difference (T.Repr.members T.ALL_BITS) a };
+    ghost not_gives = { λ a r. r ≡ set.difference (valid_bits T.elements) a };
 
     fn not(self) -> EnumSet<T> {
         self.complement()
@@ -43,7 +44,7 @@ impl<T: EnumSetType> BitOr for EnumSet<T> {
     }
 }
 
-/// `a ^ b`: the members of just one of the two, as [`symmetric_difference`](EnumSet::symmetric_difference).
+/// `a ^ b`: the members of exactly one of the two, as [`symmetric_difference`](EnumSet::symmetric_difference).
 impl<T: EnumSetType> BitXor for EnumSet<T> {
     type Output = EnumSet<T>;
 
@@ -72,7 +73,7 @@ impl<T: EnumSetType> BitAndAssign for EnumSet<T> {
 
     fn bitand_assign(&mut self, rhs: EnumSet<T>) {
         self.repr.and_with(&rhs.repr);
-        self.repr.known();
+        self.repr.learn_is_value();
     }
 }
 
@@ -92,7 +93,7 @@ impl<T: EnumSetType> BitXorAssign for EnumSet<T> {
 
     fn bitxor_assign(&mut self, rhs: EnumSet<T>) {
         self.repr.xor_with(&rhs.repr);
-        self.repr.known();
+        self.repr.learn_is_value();
     }
 }
 

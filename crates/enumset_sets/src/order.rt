@@ -1,4 +1,4 @@
-//! The order of sets of elements: that of their members' bits, whatever the store.
+//! The order of sets of elements: that of their members' bits, over every representation.
 
 ghost use Rattle.std.specs.Prelude.{Some, refl};
 ghost use Rattle.enumset_repr.specs.Order.{compare};
@@ -6,7 +6,7 @@ ghost use Rattle.enumset_repr.specs.Laws.Order.{compare-partial, compare-total, 
 
 use crate::element::EnumSetType;
 use crate::enum_set::EnumSet;
-use crate::store::order_of;
+use crate::representation::order_of;
 use std::cmp::Ordering;
 
 impl<T: EnumSetType> PartialOrd for EnumSet<T> {
@@ -19,8 +19,8 @@ impl<T: EnumSetType> PartialOrd for EnumSet<T> {
     }
 }
 
-/// Of two sets that differ, the greater is the one that holds the greatest bit that just one of them has. So it has the
-/// greater number, and a proper subset is less.
+/// Of two sets that differ, the greater is the one that has the greatest bit that is in exactly one of them. So it has
+/// the greater number, and a proper subset is less.
 impl<T: EnumSetType> Ord for EnumSet<T> {
     ghost cmp = { compare };
 

@@ -1,24 +1,26 @@
-//! Sets to and from their store's values, of every element type.
+//! Sets to and from the values that represent them, for every element type.
 //!
-//! It mirrors the helper module `set` of Rust's `enumset`.
+//! The functions mirror those of the helper module `set` of Rust's `enumset`.
 
 ghost use Rattle.std.specs.Prelude.{◌≡◌, IsTrue};
 ghost use Rattle.enumset_repr.specs.BitSet.{is_subset};
+ghost use Rattle.enumset_sets.specs.Elements.{valid_bits};
 
 use crate::element::EnumSetType;
 use crate::enum_set::EnumSet;
 
-/// The store value whose members are those of a set.
+/// The value that represents a set.
 pub fn get<T: EnumSetType>(set: EnumSet<T>) -> T::Repr
     ensures { T.Repr.members result ≡ set }
 {
     set.repr
 }
 
-/// The set of a store value, whose bits must all be valid.
-pub fn new<T: EnumSetType>(set: T::Repr) -> EnumSet<T>
-    requires valid { IsTrue (is_subset (T.Repr.members set) (T.Repr.members T.ALL_BITS)) }
-    ensures { result ≡ T.Repr.members set }
+/// The set that a value represents. Every bit of it must be valid: `repr.is_subset_of(&get(EnumSet::<T>::all()))` is the
+/// test.
+pub fn new<T: EnumSetType>(repr: T::Repr) -> EnumSet<T>
+    requires valid { IsTrue (is_subset (T.Repr.members repr) (valid_bits T.elements)) }
+    ensures { result ≡ T.Repr.members repr }
 {
-    EnumSet::of_repr(set)
+    EnumSet::of_repr(repr)
 }

@@ -2,17 +2,18 @@
 
 ghost use Rattle.std.specs.Prelude.{Some, map};
 ghost use Rattle.std.specs.Fmt.{DisplaysOnOk};
-ghost use Rattle.enumset_repr.specs.BitSet.{rising};
-ghost use Rattle.enumset_sets.specs.Texts.{text_at, separator, joined};
+ghost use Rattle.enumset_repr.specs.BitSet.{ascending};
+ghost use Rattle.enumset_sets.specs.Texts.{text_at, separator, joined_text};
 
 use crate::element::EnumSetType;
 use crate::enum_set::EnumSet;
 use std::fmt;
 
-/// The elements' texts along their bits, joined by ` | `: nothing for the empty set.
+/// The texts of the elements, ascending by bit and joined by ` | `. The empty set has the empty text. A contract knows
+/// the text if the element type lists the set's elements among its `values`, and their texts are known.
 impl<T: EnumSetType + fmt::Display> fmt::Display for EnumSet<T> {
-    ghost output = { λ s. joined
-        (map (text_at T.elements.bit T.values T.Display.output) (rising s)) };
+    ghost output = { λ s. joined_text
+        (map (text_at T.elements.bit T.values T.Display.output) (ascending s)) };
 
     fn fmt<W: fmt::Write>(&self, f: &mut fmt::Formatter<W>) -> fmt::Result {
         let mut is_first = true;
@@ -25,7 +26,7 @@ impl<T: EnumSetType + fmt::Display> fmt::Display for EnumSet<T> {
     }
 }
 
-/// Writes ` | `, and nothing before the first member of a set.
+/// Writes ` | `, or nothing if the member that comes next is the first of a set.
 pub fn write_separator<W: fmt::Write>(is_first: bool, f: &mut fmt::Formatter<W>) -> fmt::Result
     ensures { DisplaysOnOk W.write_str_gives f.old result (Some (separator is_first)) f.new }
 {

@@ -1,54 +1,57 @@
-//! The trait of element types whose store is of at most 128 bits, and sets to and from their store's values.
+//! Element types over a representation of at most 128 bits, and their sets to and from its values.
 
 ghost use Rattle.std.specs.Prelude.{◌≡◌, ◌≤◌, ◌↔◌, IsTrue, IsSome, IfSome};
 ghost use Rattle.enumset_repr.specs.BitSet as set;
+ghost use Rattle.enumset_sets.specs.Elements.{valid_bits};
 
 use crate::element::EnumSetType;
 use crate::enum_set::EnumSet;
-use crate::taken::{checked, valid_part};
+use crate::validated::{truncated, validated};
 
-/// An element type whose sets fit a number: its store has at most 128 bits.
+/// An element type whose sets each fit a `u128`: its representation has at most 128 bits.
 ///
-/// It mirrors `EnumSetTypeWithRepr` of Rust's `enumset`, whose `Repr` is here that of [`EnumSetType`].
+/// It mirrors `EnumSetTypeWithRepr` of Rust's `enumset`, except that `Repr` is an item of [`EnumSetType`] here.
 pub trait EnumSetTypeWithRepr: EnumSetType {
+    // The representation has at most 128 bits.
     ghost narrow: { Self.Repr.WIDTH ≤ 128 };
 }
 
 impl<T: EnumSetTypeWithRepr> EnumSet<T> {
-    /// The store value whose members are those of the set.
+    /// The value that represents the set.
     pub fn as_repr(&self) -> T::Repr
         ensures { T.Repr.members result ≡ self.now }
     {
         self.repr
     }
 
-    /// The set of a store value, whose bits must all be valid: [`try_from_repr`](EnumSet::try_from_repr) is the test.
+    /// The set that a value represents. Every bit of it must be valid: [`try_from_repr`](EnumSet::try_from_repr) is the
+    /// test.
     pub fn from_repr(repr: T::Repr) -> EnumSet<T>
-        requires valid { IsTrue (set.is_subset (T.Repr.members repr) (T.Repr.members T.ALL_BITS)) }
+        requires valid { IsTrue (set.is_subset (T.Repr.members repr) (valid_bits T.elements)) }
         ensures { result ≡ T.Repr.members repr }
     {
         Self::of_repr(repr)
     }
 
-    /// The set of a store value, if each of its bits is valid, else `None`.
+    /// The set that a value represents, if every bit of it is valid, else `None`.
     pub fn try_from_repr(repr: T::Repr) -> Option<EnumSet<T>>
         ensures valid { IsSome result
-            ↔ IsTrue (set.is_subset (T.Repr.members repr) (T.Repr.members T.ALL_BITS)) }
+            ↔ IsTrue (set.is_subset (T.Repr.members repr) (valid_bits T.elements)) }
         ensures value { IfSome result (λ s. s ≡ T.Repr.members repr) }
     {
-        checked(repr)
+        validated(repr)
     }
 
-    /// The set of those bits of a store value that are valid.
+    /// The set of the valid bits of a value.
     pub fn from_repr_truncated(repr: T::Repr) -> EnumSet<T>
-        ensures { result ≡ set.intersection (T.Repr.members repr) (T.Repr.members T.ALL_BITS) }
+        ensures { result ≡ set.intersection (T.Repr.members repr) (valid_bits T.elements) }
     {
-        valid_part(repr)
+        truncated(repr)
     }
 
-    /// The set of a store value, whose bits must all be valid, as [`from_repr`](EnumSet::from_repr).
+    /// The set that a value represents. Every bit of it must be valid, as for [`from_repr`](EnumSet::from_repr).
     pub fn from_repr_unchecked(repr: T::Repr) -> EnumSet<T>
-        requires valid { IsTrue (set.is_subset (T.Repr.members repr) (T.Repr.members T.ALL_BITS)) }
+        requires valid { IsTrue (set.is_subset (T.Repr.members repr) (valid_bits T.elements)) }
         ensures { result ≡ T.Repr.members repr }
     {
         Self::from_repr(repr)

@@ -1,8 +1,6 @@
 //! An enum of 64 variants with gaps between their bits, over three words.
-
 use enumset_array::ArrayRepr;
-use enumset_sets::element::EnumSetType;
-use enumset_sets::variant_of;
+use enumset_sets::{EnumSetType, variant_of};
 
 /// A variant for every third bit of three words.
 #[derive(Clone, Copy, Debug, PartialEq, Eq)]

@@ -1,7 +1,7 @@
-//! Element types from a dozen variants to 256, which is as many as an enum may have.
+//! Element types of 12 to 256 variants. An enum may have no more.
 //!
-//! They differ in how many variants they have, in their store, and in whether there are gaps between their bits. No file
-//! of proofs is needed for any of them.
+//! They differ in the number of their variants, in their representation, and in whether there are gaps between their
+//! bits. None of them needs a proof file.
 #![tactic(auto)]
 
 pub mod gaps_in_u128;

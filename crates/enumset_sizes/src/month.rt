@@ -1,8 +1,5 @@
 //! The twelve months over a `u16`.
-
-use enumset_sets::element::EnumSetType;
-use enumset_sets::variant_of;
-use enumset_sets::with_repr::EnumSetTypeWithRepr;
+use enumset_sets::{EnumSetType, EnumSetTypeWithRepr, variant_of};
 
 /// A month of the year, on bits 0 to 11.
 #[derive(Clone, Copy, Debug, PartialEq, Eq, PartialOrd, Ord, Hash)]

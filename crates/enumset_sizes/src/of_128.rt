@@ -1,8 +1,5 @@
 //! An enum of 128 variants over a `u128`.
-
-use enumset_sets::element::EnumSetType;
-use enumset_sets::variant_of;
-use enumset_sets::with_repr::EnumSetTypeWithRepr;
+use enumset_sets::{EnumSetType, EnumSetTypeWithRepr, variant_of};
 
 /// A variant for each bit of a `u128`.
 #[derive(Clone, Copy, Debug, PartialEq, Eq)]

@@ -1,8 +1,5 @@
 //! An enum of 33 variants over a `u64`.
-
-use enumset_sets::element::EnumSetType;
-use enumset_sets::variant_of;
-use enumset_sets::with_repr::EnumSetTypeWithRepr;
+use enumset_sets::{EnumSetType, EnumSetTypeWithRepr, variant_of};
 
 /// Thirty-three variants, on bits 0 to 32.
 #[derive(Clone, Copy, Debug, PartialEq, Eq)]

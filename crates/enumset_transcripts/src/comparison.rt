@@ -27,9 +27,9 @@ impl Tally {
         self.agreed = self.agreed.saturating_add(other.agreed);
     }
 
-    /// Whether all replies agreed.
-    pub fn is_whole(self) -> bool {
-        self.agreed == self.replies
+    /// Whether there were replies, and all of them agreed.
+    pub fn all_agreed(self) -> bool {
+        self.replies > 0 && self.agreed == self.replies
     }
 }
 

@@ -1,7 +1,7 @@
 //! Compares the replies in files of transcripts with those that their commands have.
 //!
-//! `enumset_transcripts FILE..` prints for each file how many of its replies agreed. It says of each that did not,
-//! on standard error, where it stands, what was wanted and what came, and then it ends with the status 1.
+//! `enumset_transcripts FILE..` names each file whose replies all agreed. For each reply that did not it writes, on
+//! standard error, its line, what was wanted and what came, and then it ends with the status 1.
 #![tactic(auto)]
 
 mod comparison;
@@ -15,14 +15,18 @@ use std::rt::Files;
 use std::{env, fs};
 
 fn main(rt: HostRuntime) -> Result<()> {
-    let mut all = Tally::default();
+    let mut all_agreed = true;
     for path in env::args(&rt)?.skip(1) {
         let tally = compare_file(&rt, &path).context(format_args!("{path}"))?;
-        println!(rt; "{path}: {tally} replies agreed")?;
-        all.add(tally);
+        if tally.all_agreed() {
+            println!(rt; "{path}: all replies agreed")?;
+        } else {
+            eprintln!(rt; "{path}: {tally} replies agreed")?;
+            all_agreed = false;
+        }
     }
-    if !all.is_whole() {
-        bail!("{all} replies agreed");
+    if !all_agreed {
+        bail!("some replies did not agree");
     }
     Ok(())
 }

@@ -1,5 +1,5 @@
 -- The names of an enum's variants.
---     name_of      the name of a value's variant, from the names of the variants in the order of their declaration
+--     name_of      the name of a value's variant, from the names of all variants in the order of their declaration
 use Rattle.std.specs.Prelude.{ℕ, List, []}
 use Rattle.std.specs.List.{slice_index_or}
 use denote.Enum.Declared.{Declared, tag_of}

@@ -1,11 +1,8 @@
 //! The worked type `high`.
-
-use enumset_sets::element::EnumSetType;
-use enumset_sets::variant_of;
-use enumset_sets::with_repr::EnumSetTypeWithRepr;
+use enumset_sets::{EnumSetType, EnumSetTypeWithRepr, variant_of};
 use std::fmt;
 
-/// Three variants, on bits 7, 6 and 5: a discriminant counts from the highest bit of the store.
+/// Three variants, on bits 7, 6 and 5: a discriminant counts down from the highest bit of the representation.
 #[derive(Clone, Copy, Debug, PartialEq, Eq, PartialOrd, Ord, Hash)]
 pub enum High {
     A,

@@ -1,8 +1,5 @@
 //! The worked type `letters`.
-
-use enumset_sets::element::EnumSetType;
-use enumset_sets::variant_of;
-use enumset_sets::with_repr::EnumSetTypeWithRepr;
+use enumset_sets::{EnumSetType, EnumSetTypeWithRepr, variant_of};
 use std::fmt;
 
 /// Seven variants, on bits 0 to 6.

@@ -1,4 +1,4 @@
-//! The worked types: the element types that the program runs commands over.
+//! The worked types: element types that the program can run commands over.
 #![tactic(auto)]
 
 pub mod four;
@@ -12,3 +12,14 @@ pub mod pair_words;
 pub mod single;
 pub mod sparse;
 pub mod wide;
+
+pub use four::Four;
+pub use high::High;
+pub use letters::Letters;
+pub use marks::Marks;
+pub use masks::Masks;
+pub use pair_number::PairNumber;
+pub use pair_words::PairWords;
+pub use single::Single;
+pub use sparse::Sparse;
+pub use wide::Wide;

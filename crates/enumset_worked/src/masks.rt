@@ -1,8 +1,5 @@
 //! The worked type `masks`.
-
-use enumset_sets::element::EnumSetType;
-use enumset_sets::variant_of;
-use enumset_sets::with_repr::EnumSetTypeWithRepr;
+use enumset_sets::{EnumSetType, EnumSetTypeWithRepr, variant_of};
 use std::fmt;
 
 /// Three variants, on bits 0, 4 and 6: each discriminant is the mask of its bit.

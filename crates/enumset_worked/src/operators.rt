@@ -1,14 +1,13 @@
-//! The operators on the elements of `letters` and of `four`, and on an element and a set: an element stands for the set
-//! of it alone.
+//! The operators on elements of `letters` and `four`, and on an element and a set. An element counts as the set of that
+//! element alone.
 
 ghost use Rattle.std.specs.Prelude.{◌≡◌};
 ghost use Rattle.enumset_repr.specs.BitSet as set;
+ghost use Rattle.enumset_sets.specs.Elements.{valid_bits};
 
 use crate::four::Four;
 use crate::letters::Letters;
-use enumset_repr::repr::EnumSetTypeRepr;
-use enumset_sets::element::EnumSetType;
-use enumset_sets::enum_set::EnumSet;
+use enumset_sets::{EnumSet, EnumSetType};
 use std::ops::{BitAnd, BitOr, BitXor, Not, Sub};
 
 impl BitAnd for Letters {
@@ -107,7 +106,7 @@ impl Not for Letters {
     type Output = EnumSet<Letters>;
 
     ghost not_gives = { λ a r. r ≡ set.difference
-        (⟦<u8 as EnumSetTypeRepr>⟧.members ⟦<Letters as EnumSetType>⟧.ALL_BITS)
+        (valid_bits ⟦<Letters as EnumSetType>⟧.elements)
         (set.only (⟦<Letters as EnumSetType>⟧.elements.bit a)) };
 
     fn not(self) -> EnumSet<Letters> {
@@ -211,7 +210,7 @@ impl Not for Four {
     type Output = EnumSet<Four>;
 
     ghost not_gives = { λ a r. r ≡ set.difference
-        (⟦<u8 as EnumSetTypeRepr>⟧.members ⟦<Four as EnumSetType>⟧.ALL_BITS)
+        (valid_bits ⟦<Four as EnumSetType>⟧.elements)
         (set.only (⟦<Four as EnumSetType>⟧.elements.bit a)) };
 
     fn not(self) -> EnumSet<Four> {

@@ -1,8 +1,5 @@
 //! The worked type `pair-number`.
-
-use enumset_sets::element::EnumSetType;
-use enumset_sets::variant_of;
-use enumset_sets::with_repr::EnumSetTypeWithRepr;
+use enumset_sets::{EnumSetType, EnumSetTypeWithRepr, variant_of};
 use std::fmt;
 
 /// Two variants, on bits 0 and 64 of one integer: the bits of [`PairWords`](crate::pair_words::PairWords).

@@ -1,9 +1,6 @@
 //! The worked type `pair-words`.
-
 use enumset_array::ArrayRepr;
-use enumset_sets::element::EnumSetType;
-use enumset_sets::variant_of;
-use enumset_sets::with_repr::EnumSetTypeWithRepr;
+use enumset_sets::{EnumSetType, EnumSetTypeWithRepr, variant_of};
 use std::fmt;
 
 /// Two variants, on bits 0 and 64, each in its own word: the bits of [`PairNumber`](crate::pair_number::PairNumber).

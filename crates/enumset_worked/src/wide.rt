@@ -1,8 +1,6 @@
 //! The worked type `wide`.
-
 use enumset_array::ArrayRepr;
-use enumset_sets::element::EnumSetType;
-use enumset_sets::variant_of;
+use enumset_sets::{EnumSetType, variant_of};
 use std::fmt;
 
 /// Three variants, on bits 3, 64 and 130, each in a word of its own.

@@ -3,10 +3,9 @@
 ghost use Rattle.std.specs.Prelude.{◌≡◌};
 ghost use Rattle.enumset_repr.specs.BitSet as set;
 
-use enumset_sets::element::EnumSetType;
-use enumset_sets::enum_set::EnumSet;
+use enumset::{EnumSet, EnumSetType};
 
-/// What is granted, with one right more and without another.
+/// The granted set with one right added and another removed.
 pub fn exchanged<T: EnumSetType>(granted: EnumSet<T>, new: T, old: T) -> EnumSet<T>
     ensures { result
         ≡ set.difference (set.union granted (set.only (T.elements.bit new)))
@@ -25,7 +24,7 @@ pub fn exchange<T: EnumSetType>(granted: &mut EnumSet<T>, new: T, old: T)
     *granted -= old;
 }
 
-/// What is granted with one right more, and what was granted before.
+/// The granted set with one right added, and the granted set as it was.
 pub fn after_and_before<T: EnumSetType>(granted: EnumSet<T>, right: T) -> (EnumSet<T>, EnumSet<T>)
     ensures after { result.0 ≡ set.union granted (set.only (T.elements.bit right)) }
     ensures before { result.1 ≡ granted }

@@ -1,12 +1,10 @@
-//! The operator `|` on rights, and the store values of their sets.
+//! The operator `|` on rights, and the values that represent their sets.
 
 ghost use Rattle.std.specs.Prelude.{◌≡◌};
 ghost use Rattle.enumset_repr.specs.BitSet as set;
 
 use crate::rights::Right;
-use enumset_sets::element::EnumSetType;
-use enumset_sets::enum_set::EnumSet;
-use enumset_sets::with_repr::EnumSetTypeWithRepr;
+use enumset::{EnumSet, EnumSetType, EnumSetTypeWithRepr};
 use std::ops::BitOr;
 
 impl EnumSetTypeWithRepr for Right {
@@ -28,7 +26,7 @@ impl BitOr for Right {
     }
 }
 
-/// The set and the right.
+/// The set with the right added.
 impl BitOr<EnumSet<Right>> for Right {
     type Output = EnumSet<Right>;
 

@@ -3,10 +3,9 @@
 ghost use Rattle.std.specs.Prelude.{◌≡◌, true, false};
 ghost use Rattle.enumset_repr.specs.BitSet as set;
 
-use enumset_sets::element::EnumSetType;
-use enumset_sets::enum_set::EnumSet;
+use enumset::{EnumSet, EnumSetType};
 
-/// Grants what is not granted and revokes it again, which changes nothing.
+/// Grants a right that is not granted and revokes it again, which changes nothing.
 #[tactic(auto, using(enumset_repr::specs::Laws::Algebra::algebra))]
 pub fn grant_then_revoke<T: EnumSetType>(granted: &mut EnumSet<T>, right: T)
     requires { set.contains granted.old (T.elements.bit right) ≡ false }
@@ -16,7 +15,7 @@ pub fn grant_then_revoke<T: EnumSetType>(granted: &mut EnumSet<T>, right: T)
     granted.remove(right);
 }
 
-/// Whether what is granted and what is not have nothing in common: always.
+/// Whether the granted set and its complement are disjoint: always.
 #[tactic(auto, using(enumset_repr::specs::Laws::Algebra::algebra))]
 pub fn is_apart_from_the_rest<T: EnumSetType>(granted: &EnumSet<T>) -> bool
     ensures { result ≡ true }
@@ -24,7 +23,7 @@ pub fn is_apart_from_the_rest<T: EnumSetType>(granted: &EnumSet<T>) -> bool
     granted.is_disjoint(granted.complement())
 }
 
-/// What is granted, put into a new set one by one.
+/// A new set, into which the granted rights are inserted one by one.
 #[tactic(auto, using(enumset_repr::specs::Laws::Algebra::algebra))]
 pub fn rebuilt<T: EnumSetType>(granted: &EnumSet<T>) -> EnumSet<T>
     ensures { result ≡ granted.now }

@@ -3,9 +3,7 @@
 ghost use Rattle.std.specs.Prelude.{◌≡◌};
 ghost use Rattle.enumset_repr.specs.BitSet as set;
 
-use enumset_sets::element::EnumSetType;
-use enumset_sets::enum_set::EnumSet;
-use enumset_sets::variant_of;
+use enumset::{EnumSet, EnumSetType, variant_of};
 
 /// A right, on bit 0, 1 or 2.
 #[derive(Clone, Copy, Debug, PartialEq, Eq, PartialOrd, Ord, Hash)]
@@ -46,16 +44,9 @@ impl EnumSetType for Right {
     ghost lawful = { lawful_in_place the_type (lawful_in_integer the_type _ tt) };
 }
 
-/// Whether all rights that are asked for were granted.
-pub fn may(granted: EnumSet<Right>, asked: EnumSet<Right>) -> bool
-    ensures { result ≡ set.is_subset asked granted }
+/// Whether all requested rights are granted.
+pub fn may(granted: EnumSet<Right>, requested: EnumSet<Right>) -> bool
+    ensures { result ≡ set.is_subset requested granted }
 {
-    granted.is_superset(asked)
-}
-
-/// Grants one right more, and says whether it was missing.
-pub fn grant(rights: &mut EnumSet<Right>, right: Right) -> bool
-    ensures { rights.new ≡ set.insert rights.old (⟦<Right as EnumSetType>⟧.elements.bit right) }
-{
-    rights.insert(right)
+    granted.is_superset(requested)
 }

@@ -1,16 +1,16 @@
 //! Sets that are sent as numbers.
 
-ghost use Rattle.std.specs.Prelude.{◌≡◌, ◌↔◌, IsTrue, IsSome, IfSome};
+ghost use Rattle.std.specs.Prelude.{◌≡◌, ◌↔◌, true, false, IsTrue, IsSome, IfSome};
 ghost use Rattle.enumset_repr.specs.BitSet as set;
 ghost use Rattle.enumset_repr.specs.Number.{bits, number};
+ghost use Rattle.enumset_sets.specs.Elements.{valid_bits};
 
-use enumset_sets::element::EnumSetType;
-use enumset_sets::enum_set::EnumSet;
-use enumset_sets::laws;
+use enumset::{EnumSet, EnumSetType, laws};
 
-/// What is granted, as a byte, and the greatest byte where it is too wide for one.
+/// The granted set as a byte, or the greatest byte if the set does not fit one.
 pub fn as_byte<T: EnumSetType>(granted: &EnumSet<T>) -> u8
-    ensures { IsTrue (set.is_subset granted.now (set.below u8.BITS)) → result ≡ number granted.now }
+    ensures fits { set.is_subset granted.now (set.below u8.BITS) ≡ true → result ≡ number granted.now }
+    ensures too_wide { set.is_subset granted.now (set.below u8.BITS) ≡ false → result ≡ u8.MAX }
 {
     match granted.try_as_u8() {
         Some(_) => granted.as_u8(),
@@ -18,9 +18,10 @@ pub fn as_byte<T: EnumSetType>(granted: &EnumSet<T>) -> u8
     }
 }
 
-/// What a byte grants, and nothing where one of its bits is not valid.
+/// The set that a byte grants, or the empty set if one of its bits is not valid.
 pub fn granted_by<T: EnumSetType>(byte: u8) -> EnumSet<T>
-    ensures { IsTrue (set.is_subset (bits byte) (T.Repr.members T.ALL_BITS)) → result ≡ bits byte }
+    ensures valid { set.is_subset (bits byte) (valid_bits T.elements) ≡ true → result ≡ bits byte }
+    ensures unknown { set.is_subset (bits byte) (valid_bits T.elements) ≡ false → result ≡ set.empty }
 {
     match EnumSet::<T>::try_from_u8(byte) {
         Some(_) => EnumSet::from_u8(byte),
@@ -28,15 +29,15 @@ pub fn granted_by<T: EnumSetType>(byte: u8) -> EnumSet<T>
     }
 }
 
-/// What a byte of valid bits grants.
+/// The set that a byte grants. Every bit of it must be valid.
 pub fn granted_by_valid<T: EnumSetType>(byte: u8) -> EnumSet<T>
-    requires { IsTrue (set.is_subset (bits byte) (T.Repr.members T.ALL_BITS)) }
+    requires { IsTrue (set.is_subset (bits byte) (valid_bits T.elements)) }
     ensures { result ≡ bits byte }
 {
     EnumSet::try_from_u8(byte).unwrap()
 }
 
-/// What is granted, sent as a byte and read again.
+/// Sends the granted set as a byte, and reads it again.
 pub fn sent_and_read<T: EnumSetType>(granted: &EnumSet<T>) -> Option<EnumSet<T>>
     ensures fits { IsSome result ↔ IsTrue (set.is_subset granted.now (set.below u8.BITS)) }
     ensures same { IfSome result (λ read. read ≡ granted.now) }

@@ -1,4 +1,4 @@
-//! Prints which rights are asked for and not granted.
+//! Prints the rights that are requested and not granted.
 #![tactic(auto)]
 
 mod right;
@@ -10,17 +10,17 @@ use enumset::{EnumSet, enum_set};
 use right::Right;
 use std::io;
 
-fn missing(granted: EnumSet<Right>, asked: EnumSet<Right>) -> EnumSet<Right>
-    ensures { result ≡ set.difference asked granted }
+fn missing(granted: EnumSet<Right>, requested: EnumSet<Right>) -> EnumSet<Right>
+    ensures { result ≡ set.difference requested granted }
 {
-    asked - granted
+    requested - granted
 }
 
 fn main(rt: HostRuntime) -> Result<(), io::Error> {
     let granted = Right::Read | Right::Share;
-    let mut asked = enum_set!(Right::Read | Right::Write);
-    asked.insert(Right::Share);
-    for right in missing(granted, asked) {
+    let mut requested = enum_set!(Right::Read | Right::Write);
+    requested.insert(Right::Share);
+    for right in missing(granted, requested) {
         println!(rt; "{right:?}")?;
     }
     Ok(())

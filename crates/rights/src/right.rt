@@ -3,8 +3,7 @@
 ghost use Rattle.std.specs.Prelude.{◌≡◌};
 ghost use Rattle.enumset_repr.specs.BitSet as set;
 
-use enumset::{EnumSet, EnumSetType};
-use enumset_sets::variant_of;
+use enumset::{EnumSet, EnumSetType, variant_of};
 use std::ops::BitOr;
 
 /// A right.

@@ -7,9 +7,8 @@ ghost use Rattle.enumset_sets.specs.Folds.{union_all};
 ghost use Rattle.enumset.specs.Folds.{OnAllItems};
 
 use super::into_sets::{sum_element_refs, sum_elements};
-use enumset_mixed::conversions::convert_mixed;
-use enumset_mixed::mixed_enum_set::MixedEnumSet;
-use enumset_sets::with_repr::EnumSetTypeWithRepr;
+use enumset_mixed::{MixedEnumSet, convert_mixed};
+use enumset_sets::EnumSetTypeWithRepr;
 
 /// Makes each element a member. It stands for Rust's `Extend<&T>`.
 pub fn mixed_extend_refs<'a, T: EnumSetTypeWithRepr + 'a, I: Iterator<Item = &'a T> + Drop>(

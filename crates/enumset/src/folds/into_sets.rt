@@ -6,8 +6,7 @@ ghost use Rattle.enumset_repr.specs.BitSet.{union, from_list};
 ghost use Rattle.enumset_sets.specs.Folds.{union_all};
 ghost use Rattle.enumset.specs.Folds.{OnAllItems};
 
-use enumset_sets::element::EnumSetType;
-use enumset_sets::enum_set::EnumSet;
+use enumset_sets::{EnumSet, EnumSetType};
 
 /// Makes each element a member. It stands for Rust's `Extend<&T>`.
 pub fn extend_refs<'a, T: EnumSetType + 'a, I: Iterator<Item = &'a T> + Drop>(

@@ -7,10 +7,8 @@ ghost use Rattle.enumset_sets.specs.Folds.{union_all};
 ghost use Rattle.enumset.specs.Folds.{OnAllItems};
 
 use super::into_sets::sum_set_refs;
-use enumset_mixed::conversions::convert_mixed;
-use enumset_mixed::mixed_enum_set::MixedEnumSet;
-use enumset_sets::enum_set::EnumSet;
-use enumset_sets::with_repr::EnumSetTypeWithRepr;
+use enumset_mixed::{MixedEnumSet, convert_mixed};
+use enumset_sets::{EnumSet, EnumSetTypeWithRepr};
 
 /// Makes each member of each set a member. It stands for Rust's `Extend<EnumSet<T>>`.
 pub fn mixed_extend_enumsets<T: EnumSetTypeWithRepr, I: Iterator<Item = EnumSet<T>> + Drop>(

@@ -1,4 +1,3 @@
 //! Sets to and from their store's values. It mirrors the helper module `set` of Rust's `enumset`.
-
-pub use enumset_mixed::conversions::convert_mixed;
+pub use enumset_mixed::convert_mixed;
 pub use enumset_sets::raw::{get, new};

@@ -13,14 +13,22 @@ pub enum JsonFault {
     NotANumber,
     /// The number is not held as a whole number from 0 to 2^64 - 1.
     NotWhole,
-    /// The number has a bit at or past the width.
+    /// A bit of the number or of the words is at or past the width.
     OutOfRange,
     /// The value is not a JSON array.
     NotAnArray,
     /// The element at this place, counted from 0, is the first that is not a whole number from 0 to 2^64 - 1.
     NotAWord(usize),
+    /// The value is not a JSON object.
+    NotAnObject,
+    /// The element at this place, counted from 0, is the first that is not a text.
+    NotAText(usize),
+    /// The name at this place, counted from 0 in the order of the names, is the first whose value is not a boolean.
+    NotABoolean(usize),
     /// A bit is not valid, and such bits are refused.
     UnknownBits,
+    /// The name at this place, counted from 0, is the first of no variant, and such names are refused.
+    UnknownName(usize),
     /// There is no memory left.
     OutOfMemory,
 }
@@ -41,7 +49,11 @@ impl fmt::Display for JsonFault {
             JsonFault::NotAWord(place) => {
                 write!(f, "element {place}: not a whole number of 64 bits")
             }
+            JsonFault::NotAnObject => write!(f, "not an object"),
+            JsonFault::NotAText(place) => write!(f, "element {place}: not a text"),
+            JsonFault::NotABoolean(place) => write!(f, "name {place}: not a boolean"),
             JsonFault::UnknownBits => write!(f, "unknown bits"),
+            JsonFault::UnknownName(place) => write!(f, "name {place}: unknown"),
             JsonFault::OutOfMemory => write!(f, "out of memory"),
         }
     }

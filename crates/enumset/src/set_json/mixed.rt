@@ -1,16 +1,21 @@
-//! Mixed sets as JSON numbers.
+//! Mixed sets as JSON numbers and as JSON arrays of words.
 
-ghost use Rattle.std.specs.Prelude.{◌≡◌, ◌≤◌, IfOk, IsOk};
+ghost use Rattle.std.specs.Prelude.{◌≡◌, ◌≤◌, IfOk, IfErr, IsOk};
 ghost use Rattle.enumset_repr.specs.Number.{number};
+ghost use Rattle.enumset_repr.specs.Words.{words};
 ghost use Rattle.serde_json.specs.View.{view};
 ghost use Rattle.enumset.specs.Json.{number_value, mixed_set_of_number};
+ghost use Rattle.enumset.specs.Json.{words_value, mixed_set_of_words};
+ghost use Rattle.enumset.specs.declared.set_json.fault.JsonFault.TheVariants.{OutOfMemory};
 
+use super::elements::words_in;
 use super::fault::JsonFault;
+use super::unknown::Unknown;
 use super::whole::number_below;
-use enumset_mixed::mixed_enum_set::MixedEnumSet;
-use enumset_repr::repr::EnumSetTypeRepr;
-use enumset_sets::element::EnumSetType;
-use enumset_sets::with_repr::EnumSetTypeWithRepr;
+use super::words::{has_all_words, set_of_low_words, words_of};
+use enumset_mixed::MixedEnumSet;
+use enumset_repr::EnumSetTypeRepr;
+use enumset_sets::{EnumSetType, EnumSetTypeWithRepr};
 use serde_json::Value;
 use std::alloc::Global;
 
@@ -25,7 +30,7 @@ pub fn mixed_to_number<T: EnumSetTypeWithRepr>(
     ensures value { IfOk result (λ value. view value ≡ number_value (number set.now)) }
 {
     let repr = set.as_repr();
-    repr.known();
+    repr.learn_is_value();
     Ok(Value::from(repr.to_u64()))
 }
 
@@ -41,4 +46,42 @@ pub fn mixed_from_number<T: EnumSetTypeWithRepr>(
 {
     let number = number_below(value, <T::Repr as EnumSetTypeRepr>::WIDTH)?;
     Ok(MixedEnumSet::from_repr(T::Repr::from_u64(number)))
+}
+
+/// The set's words of 64 bits, the lowest first, as many as its representation has, unknown bits included. The only
+/// fault is [`JsonFault::OutOfMemory`], where room for them was refused.
+pub fn mixed_to_words<T: EnumSetTypeWithRepr>(
+    alloc: Global,
+    set: &MixedEnumSet<T>,
+) -> Result<Value, JsonFault>
+    ensures value { IfOk result (λ value.
+        view value ≡ words_value (words set.now T.Repr.PREFERRED_ARRAY_LEN)) }
+    ensures fault { IfErr result (λ fault. fault ≡ OutOfMemory) }
+{
+    words_of(alloc, &set.as_repr())
+}
+
+/// The set of all bits of an array of words of 64 bits, the lowest first. There may be any number of them. Bits at and
+/// past the representation's width are left out, or refused.
+///
+/// The errors are [`JsonFault::NotAnArray`], [`JsonFault::NotAWord`] of the first element that is none and, where bits
+/// past the width are refused, [`JsonFault::OutOfRange`], tested in this order. It takes no memory.
+pub fn mixed_from_words<T: EnumSetTypeWithRepr>(
+    value: &Value,
+    past: Unknown,
+) -> Result<MixedEnumSet<T>, JsonFault>
+    ensures { result ≡ mixed_set_of_words T.Repr.WIDTH past (view value.now) }
+{
+    let items = words_in(value)?;
+    let repr: T::Repr = set_of_low_words(items);
+    match past {
+        Unknown::Drop => Ok(MixedEnumSet::from_repr(repr)),
+        Unknown::Refuse => {
+            if has_all_words(&repr, items) {
+                Ok(MixedEnumSet::from_repr(repr))
+            } else {
+                Err(JsonFault::OutOfRange)
+            }
+        }
+    }
 }

@@ -6,13 +6,13 @@ ghost use Rattle.enumset_repr.specs.Number.{number};
 ghost use Rattle.serde_json.specs.View.{view};
 ghost use Rattle.enumset.specs.Json.{width_of, number_value, set_of_number};
 ghost use Rattle.enumset.specs.declared.set_json.fault.JsonFault.TheVariants.{TooWide};
+ghost use Rattle.enumset_sets.specs.Elements.{valid_bits};
 
 use super::fault::JsonFault;
 use super::unknown::Unknown;
 use super::whole::{fits, number_below};
 use super::width::JsonWidth;
-use enumset_sets::element::EnumSetType;
-use enumset_sets::enum_set::EnumSet;
+use enumset_sets::{EnumSet, EnumSetType};
 use serde_json::Value;
 use std::alloc::Global;
 
@@ -49,7 +49,7 @@ pub fn from_number<T: EnumSetType>(
     unknown: Unknown,
 ) -> Result<EnumSet<T>, JsonFault>
     ensures { result
-        ≡ set_of_number (T.Repr.members T.ALL_BITS) (width_of width) unknown (view value.now) }
+        ≡ set_of_number (valid_bits T.elements) (width_of width) unknown (view value.now) }
 {
     let number = number_below(value, width.bits())?;
     match unknown {

@@ -1,6 +1,7 @@
--- The order of words is that of the sets.
---     highest_first-total, highest_first-partial, highest_first-ties      it is a total order, and equal only for equal lists
---     compare_is      at stores it is the order of their sets
+-- The order of the words of an `ArrayRepr` is that of the sets that they represent.
+--     highest_first-total, highest_first-partial, highest_first-ties      the order is total, and only equal lists
+--         compare as equal
+--     compare_is      the order of the words of an `ArrayRepr` is that of their sets
 use Rattle.std.proofs.Common.{◌≡◌, ◌<◌, ◌≤◌, ◌⊎◌, inl, inr, ℕ, suc, ◌+◌, ◌-◌, ◌*◌, ◌^◌, true, ◌||◌, List, [], ◌∷◌, ◌++◌, length, Some, refl, sym, ap, ◌∙◌, arith}
 use Rattle.std.specs.Prelude.{◌==◌, nat_eq, slice_index, reverse}
 use Rattle.std.specs.declared.cmp.Ordering.{Ordering}
@@ -15,15 +16,15 @@ use Rattle.std.proofs.lemmas.List.{length-reverse, reverse-append, reverse-rever
 use Rattle.std.proofs.lemmas.Nat.Bits.{bit_at_cat_low, bit_at_cat_high}
 use Rattle.enumset_repr.specs.BitSet.{contains}
 use Rattle.enumset_repr.specs.Number.{bits, number}
-use Rattle.enumset_repr.specs.Words.{bits_of, raised}
+use Rattle.enumset_repr.specs.Words.{bits_of, upward_shift}
 use Rattle.enumset_repr.specs.Order.{compare}
 use Rattle.enumset_repr.specs.Laws.Members.{same_set, contains-union}
 use Rattle.enumset_repr.specs.Laws.Numbers.{bits-zero, contains-bits, number-bits}
 use Rattle.enumset_repr.specs.Laws.WordLists.{contains-bits_of, contains-bits_above, contains-raised_from, contains-raised_lower}
 use Rattle.enumset_repr.specs.Laws.Order.{compare-number}
-use Rattle.enumset_array.specs.Stored.{set_of, IsStore}
+use Rattle.enumset_array.specs.ArrayWords.{set_of, IsArrayRepr}
 use Rattle.enumset_array.specs.Order.{highest_first}
-use Rattle.enumset_array.specs.Laws.Stored.{set_is}
+use Rattle.enumset_array.specs.Laws.ArrayWords.{set_is}
 
 -- ---- the number of a list of words
 
@@ -37,9 +38,9 @@ AllFit ws = (i : ℕ) → slice_index ws i < 2 ^ 64
 bits_of-value : (ws : List ℕ) → AllFit ws → bits_of ws ≡ bits (value ws)
 unfolding value AllFit bits_of
 bits_of-value [] fit = sym bits-zero
-bits_of-value (n ∷ ns) fit = same_set _ _ (λ q. contains-union (bits n) (raised (bits_of ns) 64) q ∙ by (bits_of-value ns (λ i. fit (suc i))) q (cases_lt q 64))
+bits_of-value (n ∷ ns) fit = same_set _ _ (λ q. contains-union (bits n) (upward_shift (bits_of ns) 64) q ∙ by (bits_of-value ns (λ i. fit (suc i))) q (cases_lt q 64))
   where
-    by : bits_of ns ≡ bits (value ns) → (q : ℕ) → (q < 64) ⊎ (64 ≤ q) → (contains (bits n) q || contains (raised (bits_of ns) 64) q) ≡ contains (bits (value ns * 2 ^ 64 + n)) q
+    by : bits_of ns ≡ bits (value ns) → (q : ℕ) → (q < 64) ⊎ (64 ≤ q) → (contains (bits n) q || contains (upward_shift (bits_of ns) 64) q) ≡ contains (bits (value ns * 2 ^ 64 + n)) q
     by higher q (inl under) =
         ap (λ b. contains (bits n) q || b) (contains-raised_lower (bits_of ns) 64 q under) ∙ or-false _
         ∙ contains-bits n q ∙ ap (λ d. d == 1) (sym (bit_at_cat_low (value ns) 64 n q under)) ∙ sym (contains-bits _ q)
@@ -48,11 +49,11 @@ bits_of-value (n ∷ ns) fit = same_set _ _ (λ q. contains-union (bits n) (rais
         ∙ ap (λ s. contains s (q - 64)) higher ∙ contains-bits (value ns) (q - 64)
         ∙ ap (λ d. d == 1) (sym (bit_at_cat_high (value ns) 64 n q (fit 0) from)) ∙ sym (contains-bits _ q)
 
-number_is : (n : ℕ) (ws : List ℕ) → IsStore n ws → number (set_of n ws) ≡ value ws
+number_is : (n : ℕ) (ws : List ℕ) → IsArrayRepr n ws → number (set_of n ws) ≡ value ws
 unfolding AllFit
-number_is n ws store = ap number (set_is n ws (bits_of ws) store (λ w b small. sym (contains-bits_of ws w b store.fit small)) ∙ bits_of-value ws store.fit) ∙ number-bits (value ws)
+number_is n ws is_repr = ap number (set_is n ws (bits_of ws) is_repr (λ w b small. sym (contains-bits_of ws w b is_repr.fit small)) ∙ bits_of-value ws is_repr.fit) ∙ number-bits (value ws)
 
--- ---- lists of words compare as their numbers
+-- ---- lists of words compare as their numbers do
 
 then_equal : (o : Ordering) → ordering_then o Equal ≡ o
 then_equal Less = refl
@@ -64,7 +65,7 @@ then_then Less p r = refl
 then_then Equal p r = refl
 then_then Greater p r = refl
 
--- the last items decide where those before them don't
+-- the last items decide only if the items before them are equal
 slice_cmp-push : (xs ys : List ℕ) (x y : ℕ) → length xs ≡ length ys → slice_cmp nat_cmp (xs ++ x ∷ []) (ys ++ y ∷ []) ≡ ordering_then (slice_cmp nat_cmp xs ys) (nat_cmp x y)
 slice_cmp-push [] [] x y long = then_equal (nat_cmp x y)
 slice_cmp-push [] (b ∷ ys) x y long = absurd (omega (arith, long))
@@ -94,13 +95,13 @@ by_value (x ∷ xs) (y ∷ ys) p q long =
     ∙ ap (λ o. ordering_then o (nat_cmp x y)) (by_value xs ys (λ i. p (suc i)) (λ i. q (suc i)) shorter)
     ∙ then_numbers (value xs) (value ys) x y (p 0) (q 0)
 
-pub compare_is : (n : ℕ) (a b : List ℕ) → IsStore n a → IsStore n b → highest_first a b ≡ compare (set_of n a) (set_of n b)
+pub compare_is : (n : ℕ) (a b : List ℕ) → IsArrayRepr n a → IsArrayRepr n b → highest_first a b ≡ compare (set_of n a) (set_of n b)
 unfolding AllFit
 compare_is n a b p q =
     by_value a b p.fit q.fit (p.long ∙ sym q.long)
     ∙ (λ i. nat_cmp (sym (number_is n a p) i) (sym (number_is n b q) i)) ∙ sym (compare-number (set_of n a) (set_of n b))
 
--- ---- as `Ord` asks
+-- ---- what `Ord` requires
 
 pub highest_first-total : IsTotalOrder highest_first
 highest_first-total = on_total reverse (lists_total nat_cmp_total)

@@ -1,6 +1,6 @@
 -- Lists of zeros.
---     each_zero, all_zero      each element is 0 exactly if a test of the list says so
---     none_at, all_none      both, of a list of zeros of some length
+--     each_zero, all_zero      a test of the list says whether each element is 0
+--     none_at, all_none      a list of zeros of any length has 0 at each place, and passes that test
 use Rattle.std.proofs.Common.{◌≡◌, ℕ, zero, suc, true, List, [], ◌∷◌, refl, sym, subst}
 use Rattle.std.specs.Prelude.{◌==◌, slice_index, replicate}
 use Rattle.std.specs.List.{list_all}

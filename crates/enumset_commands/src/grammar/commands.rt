@@ -28,7 +28,7 @@ impl LineCommand for Command {
     }
 }
 
-/// The command of this name whose fields are the tokens left, none of which is a word.
+/// The command with this name whose fields are the remaining tokens. It takes no words.
 fn with_fields(name: &[u8], mut tokens: Tokens) -> Option<Command>
     ensures { result ≡ with_fields name.now tokens.entry }
 {
@@ -64,7 +64,7 @@ fn two_fields(name: &[u8], x: &[u8], y: &[u8]) -> Option<Command>
     if let Some(command) = register_and_width(name, first, number) {
         return Some(command);
     }
-    // a count is a number of 8 bits, as a register
+    // a count is a number of 8 bits, like a register
     let second = read_register(y)?;
     if let Some(command) = two_registers(name, first, second) {
         return Some(command);

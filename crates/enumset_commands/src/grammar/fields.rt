@@ -26,7 +26,7 @@ pub(super) fn read_word(token: &[u8]) -> Option<u64>
     u64::try_from(read_number(token)?).ok()
 }
 
-/// The number that a token of decimal digits writes, if it is a `u128`. Every field is a smaller one.
+/// The number that a token of decimal digits writes, if it is a `u128`. No field is larger.
 #[tactic(auto, using(crate::proofs::Fields::field_steps))]
 pub(super) fn read_number(token: &[u8]) -> Option<u128>
     ensures { result ≡ field 128 token.now }

@@ -1,4 +1,4 @@
-//! The kinds of commands that lines write.
+//! What a line of text can write.
 
 ghost use Rattle.std.specs.Prelude.{ℕ, List, Option, ◌∷◌};
 ghost use Rattle.enumset_commands.specs.TextFaults.{IsReadAs};
@@ -11,8 +11,8 @@ pub trait LineCommand: Sized + Drop {
     // The command that tokens write, the first of which is its name.
     ghost command_of: { List (List ℕ) → Option Self };
 
-    /// The command of this name whose fields are the tokens left, or `None` where they write no command. The error is
-    /// want of memory for the words of one.
+    /// The command with this name whose fields are the remaining tokens, or `None` if they write no command. The only
+    /// error is out of memory, for the words of a command.
     fn read(alloc: Global, name: &[u8], tokens: Tokens) -> Option<Result<Self, AllocError>>
         ensures { IsReadAs (command_of (name.now ∷ tokens.entry)) result };
 }

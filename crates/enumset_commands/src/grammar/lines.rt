@@ -5,7 +5,7 @@ ghost use Rattle.std.specs.Str.Lines.{strip_carriage_return};
 
 use std::marker::Model;
 
-/// The lines of a text that are still to come, each without the line feed that ends it.
+/// The remaining lines of a text, each without the line feed that ends it.
 #[derive(Drop)]
 pub(super) struct Lines<'a> {
     rest: &'a [u8],
@@ -58,14 +58,14 @@ impl<'a> Iterator for Lines<'a> {
     }
 }
 
-/// Where the first line feed of a text stands.
+/// The index of the first line feed of a text.
 fn line_feed(text: &[u8]) -> Option<usize>
     ensures { result ≡ position (λ b. b == 10) text.now }
 {
     text.iter().position(|byte| *byte == b'\n')
 }
 
-/// A line without the carriage return that it ends in, if there is one.
+/// A line without the carriage return at its end, if there is one.
 fn without_carriage_return(line: &[u8]) -> &[u8]
     ensures { result.now ≡ strip_carriage_return line.now }
 {

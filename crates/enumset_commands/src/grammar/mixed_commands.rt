@@ -28,7 +28,7 @@ impl LineCommand for MixedCommand {
     }
 }
 
-/// The command that mixed sets alone have, of this name, whose fields are the tokens left.
+/// The command of mixed sets alone with this name, whose fields are the remaining tokens.
 #[tactic(auto, using(crate::proofs::Fields::limits))]
 fn own_command(name: &[u8], mut tokens: Tokens) -> Option<MixedCommand>
     ensures { result ≡ own_command name.now tokens.entry }

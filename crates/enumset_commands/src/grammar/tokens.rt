@@ -4,7 +4,7 @@ ghost use Rattle.std.specs.List.{position};
 
 use std::marker::Model;
 
-/// The tokens of a line that are still to come.
+/// The remaining tokens of a line.
 #[derive(Drop)]
 pub struct Tokens<'a> {
     rest: &'a [u8],
@@ -22,14 +22,14 @@ impl<'a> Model for Tokens<'a> {
 impl<'a> Tokens<'a> {
     ghost use Rattle.enumset_commands.specs.Lines.{tokens_of};
 
-    /// The tokens of a line, which spaces part.
+    /// The tokens of a line, which spaces separate.
     pub(super) fn new(line: &'a [u8]) -> Tokens<'a>
         ensures { result ≡ tokens_of line.now }
     {
         Tokens { rest: line }
     }
 
-    /// The same tokens once more.
+    /// The same tokens again.
     pub(super) fn same(&self) -> Tokens<'a>
         ensures { result ≡ self.now }
     {
@@ -64,14 +64,14 @@ impl<'a> Iterator for Tokens<'a> {
     }
 }
 
-/// Where the first byte that is no space stands.
+/// The index of the first byte that is not a space.
 fn token_start(line: &[u8]) -> Option<usize>
     ensures { result ≡ position (λ b. not (b == 32)) line.now }
 {
     line.iter().position(|byte| *byte != b' ')
 }
 
-/// Where the first space stands.
+/// The index of the first space.
 fn token_end(line: &[u8]) -> Option<usize>
     ensures { result ≡ position (λ b. b == 32) line.now }
 {

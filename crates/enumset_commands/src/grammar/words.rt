@@ -7,9 +7,9 @@ use super::tokens::Tokens;
 use crate::word_list::WordList;
 use std::alloc::{AllocError, Global};
 
-/// The words that tokens write, or `None` where some token is no word. The error is want of memory for them.
+/// The words that tokens write, or `None` if some token is not a word. The only error is out of memory.
 ///
-/// Where memory is refused the rest of the tokens is still read.
+/// If memory runs out, the remaining tokens are still read.
 #[tactic(auto, using(crate::proofs::WordTokens::word_steps))]
 pub(super) fn read_words(alloc: Global, tokens: Tokens) -> Option<Result<WordList, AllocError>>
     ensures { IsReadAs (words_of tokens.entry) result }

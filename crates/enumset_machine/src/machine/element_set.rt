@@ -1,31 +1,30 @@
-//! The sets of elements, as a run asks of them.
+//! `EnumSet` as a set of a run.
 
 ghost use Rattle.std.specs.Prelude.{◌≡◌, true};
 ghost use Rattle.enumset_repr.specs.BitSet as set;
+ghost use Rattle.enumset_sets.specs.Elements.{valid_bits};
 
 use super::run_set::RunSet;
-use super::widened::{widened_u8, widened_u16, widened_u32, widened_u64};
-use enumset_commands::reply::Reply;
-use enumset_repr::repr::EnumSetTypeRepr;
-use enumset_sets::element::EnumSetType;
-use enumset_sets::enum_set::EnumSet;
-use enumset_sets::enum_set_iter::EnumSetIter;
+use super::u128_from::{u128_from_u8, u128_from_u16, u128_from_u32, u128_from_u64};
+use enumset_commands::Reply;
+use enumset_repr::EnumSetTypeRepr;
+use enumset_sets::{EnumSet, EnumSetIter, EnumSetType};
 use std::cmp::Ordering;
 
 /// The element of a valid bit.
 pub(super) fn element_of<T: EnumSetType>(bit: u32) -> T
-    requires { set.contains (T.Repr.members T.ALL_BITS) bit ≡ true }
+    requires { set.contains (valid_bits T.elements) bit ≡ true }
     ensures { T.elements.bit result ≡ bit }
 {
     T::enum_from_u32(bit)
 }
 
 impl<T: EnumSetType> RunSet for EnumSet<T> {
-    ghost use Rattle.enumset_machine.specs.Plans.{of_valid};
+    ghost use Rattle.enumset_machine.specs.Plans.{valid_rules};
 
     ghost members = { λ s. s };
 
-    ghost rules = { of_valid (T.Repr.members T.ALL_BITS) };
+    ghost rules = { valid_rules (valid_bits T.elements) };
 
     type Items = EnumSetIter<T>;
 
@@ -35,7 +34,7 @@ impl<T: EnumSetType> RunSet for EnumSet<T> {
         EnumSet::<T>::is_bit_valid(bit)
     }
 
-    fn given(bit: u32) -> Reply {
+    fn bit_reply(bit: u32) -> Reply {
         Reply::Bit(bit)
     }
 
@@ -125,10 +124,10 @@ impl<T: EnumSetType> RunSet for EnumSet<T> {
 
     fn number(&self, width: u32) -> Option<u128> {
         match width {
-            8 => widened_u8(EnumSet::<T>::try_as_u8(self)),
-            16 => widened_u16(EnumSet::<T>::try_as_u16(self)),
-            32 => widened_u32(EnumSet::<T>::try_as_u32(self)),
-            64 => widened_u64(EnumSet::<T>::try_as_u64(self)),
+            8 => u128_from_u8(EnumSet::<T>::try_as_u8(self)),
+            16 => u128_from_u16(EnumSet::<T>::try_as_u16(self)),
+            32 => u128_from_u32(EnumSet::<T>::try_as_u32(self)),
+            64 => u128_from_u64(EnumSet::<T>::try_as_u64(self)),
             _ => EnumSet::<T>::try_as_u128(self),
         }
     }

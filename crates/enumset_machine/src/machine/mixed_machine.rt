@@ -1,21 +1,20 @@
 //! The machine that carries out commands of mixed sets.
 
 ghost use Rattle.std.specs.Prelude.{◌≡◌, false, IfOk, IsOk, OnErr};
+ghost use Rattle.enumset_sets.specs.Elements.{valid_bits};
 
 use super::runner::Runner;
 use crate::steps::Steps;
-use enumset_commands::mixed_command::MixedCommand;
-use enumset_commands::reply::Reply;
-use enumset_mixed::mixed_enum_set::MixedEnumSet;
-use enumset_repr::repr::EnumSetTypeRepr;
-use enumset_sets::element::EnumSetType;
-use enumset_sets::with_repr::EnumSetTypeWithRepr;
+use enumset_commands::{MixedCommand, Reply};
+use enumset_mixed::MixedEnumSet;
+use enumset_repr::EnumSetTypeRepr;
+use enumset_sets::{EnumSetType, EnumSetTypeWithRepr};
 use std::alloc::{AllocError, Global};
 use std::marker::Model;
 
 /// Four set registers and two iterator registers, of mixed sets.
 ///
-/// Contracts see the sets of bit numbers, and the lists of what the iterators have still to give.
+/// Contracts see the sets as sets of bit numbers, and the iterators as lists of what is left in them.
 #[derive(Drop)]
 pub struct MixedMachine<T: EnumSetTypeWithRepr> {
     runner: Runner<MixedEnumSet<T>>,
@@ -47,15 +46,15 @@ impl<T: EnumSetTypeWithRepr> MixedMachine<T> {
 
     /// Carries out one command. A refused command changes nothing.
     ///
-    /// Memory is taken for a reply of words alone: where the reply is another, there is always one. Where memory is
-    /// refused, the machine is as it was.
+    /// Only a reply of words takes memory; with any other reply the call succeeds. If memory runs out, the machine is
+    /// unchanged.
     #[tactic(auto, unfolding(crate::specs::MixedRuns::mixed_outcome))]
     pub fn step(&mut self, alloc: Global, command: &MixedCommand) -> Result<Reply, AllocError>
         ensures succeeds { takes_memory
-            (mixed_outcome (T.Repr.members T.ALL_BITS) T.Repr.WIDTH self.old command.now).reply
+            (mixed_outcome (valid_bits T.elements) T.Repr.WIDTH self.old command.now).reply
             ≡ false → IsOk result }
         ensures step { IfOk result (λ reply.
-            mixed_outcome (T.Repr.members T.ALL_BITS) T.Repr.WIDTH self.old command.now
+            mixed_outcome (valid_bits T.elements) T.Repr.WIDTH self.old command.now
             ≡ record { reply = reply; state = self.new }) }
         ensures err { OnErr result (self.new ≡ self.old) }
     {
@@ -70,7 +69,7 @@ impl<T: EnumSetTypeWithRepr> Steps for MixedMachine<T> {
 
     ghost state = { λ m. m };
 
-    ghost outcome = { mixed_outcome (T.Repr.members T.ALL_BITS) T.Repr.WIDTH };
+    ghost outcome = { mixed_outcome (valid_bits T.elements) T.Repr.WIDTH };
 
     fn new() -> MixedMachine<T> {
         MixedMachine::<T>::new()

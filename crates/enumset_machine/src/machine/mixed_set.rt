@@ -1,28 +1,25 @@
-//! Mixed sets, as a run asks of them.
+//! `MixedEnumSet` as a set of a run.
 
 ghost use Rattle.std.specs.Prelude.{◌≡◌, ◌↔◌, IsSome, IfSome};
 ghost use Rattle.enumset_mixed.specs.Mixed.{bit_with_validity};
+ghost use Rattle.enumset_sets.specs.Elements.{valid_bits};
 
 use super::element_set::element_of;
 use super::mixed_run_set::MixedRunSet;
 use super::run_set::RunSet;
-use super::widened::{widened_u8, widened_u16, widened_u32, widened_u64};
-use enumset_commands::reply::Reply;
-use enumset_mixed::convert_mixed;
-use enumset_mixed::mixed_enum_set::MixedEnumSet;
-use enumset_mixed::mixed_enum_set_iter::MixedEnumSetIter;
-use enumset_mixed::mixed_value::MixedValue;
-use enumset_repr::repr::EnumSetTypeRepr;
-use enumset_sets::element::EnumSetType;
-use enumset_sets::with_repr::EnumSetTypeWithRepr;
+use super::u128_from::{u128_from_u8, u128_from_u16, u128_from_u32, u128_from_u64};
+use enumset_commands::Reply;
+use enumset_mixed::{MixedEnumSet, MixedEnumSetIter, MixedValue, convert_mixed};
+use enumset_repr::EnumSetTypeRepr;
+use enumset_sets::{EnumSetType, EnumSetTypeWithRepr};
 use std::cmp::Ordering;
 
 impl<T: EnumSetTypeWithRepr> RunSet for MixedEnumSet<T> {
-    ghost use Rattle.enumset_machine.specs.Plans.{of_width};
+    ghost use Rattle.enumset_machine.specs.Plans.{width_rules};
 
     ghost members = { λ s. s };
 
-    ghost rules = { of_width (T.Repr.members T.ALL_BITS) T.Repr.WIDTH };
+    ghost rules = { width_rules (valid_bits T.elements) T.Repr.WIDTH };
 
     type Items = MixedEnumSetIter<T>;
 
@@ -32,7 +29,7 @@ impl<T: EnumSetTypeWithRepr> RunSet for MixedEnumSet<T> {
         MixedEnumSet::<T>::is_bit_valid(bit)
     }
 
-    fn given(bit: u32) -> Reply {
+    fn bit_reply(bit: u32) -> Reply {
         if MixedEnumSet::<T>::is_bit_valid(bit) {
             Reply::Bit(bit)
         } else {
@@ -127,10 +124,10 @@ impl<T: EnumSetTypeWithRepr> RunSet for MixedEnumSet<T> {
     fn number(&self, width: u32) -> Option<u128> {
         let repr = self.as_repr();
         match width {
-            8 => widened_u8(repr.try_to_u8()),
-            16 => widened_u16(repr.try_to_u16()),
-            32 => widened_u32(repr.try_to_u32()),
-            64 => widened_u64(repr.try_to_u64()),
+            8 => u128_from_u8(repr.try_to_u8()),
+            16 => u128_from_u16(repr.try_to_u16()),
+            32 => u128_from_u32(repr.try_to_u32()),
+            64 => u128_from_u64(repr.try_to_u64()),
             _ => repr.try_to_u128(),
         }
     }
@@ -248,7 +245,7 @@ impl<T: EnumSetTypeWithRepr> MixedRunSet for MixedEnumSet<T> {
     }
 }
 
-/// The set of the members of a store's value, if there is one.
+/// The set that a value of the representation represents, if there is one.
 fn from_repr<T: EnumSetTypeWithRepr>(repr: Option<T::Repr>) -> Option<MixedEnumSet<T>>
     ensures some { IsSome result ↔ IsSome repr }
     ensures members { IfSome result (λ s. IfSome repr (λ r. s ≡ T.Repr.members r)) }

@@ -1,108 +1,50 @@
-//! The operands of a command, which are tested before it is carried out.
+//! The tests of the operands of a command, by which it is refused.
 
 ghost use Rattle.std.specs.Prelude.{◌≡◌, ◌^◌, nat_lt, true};
-ghost use Rattle.enumset_machine.specs.Runs.{plan};
 ghost use Rattle.enumset_machine.specs.Plans.{is_width, names_registers, names_widths, names_bits};
-ghost use Rattle.enumset_machine.specs.Operands.{named_by};
+ghost use Rattle.enumset_machine.specs.Operands.{names_of};
 
 use super::registers::{is_iterator_register, is_set_register};
 use super::run_set::RunSet;
-use enumset_commands::command::Command;
+use enumset_commands::Operation;
 
-/// The registers, the width, the value and the bit of a command.
-#[derive(Clone, Copy)]
-pub(super) enum Operands {
-    OneSet(u8),
-    TwoSets(u8, u8),
-    ThreeSets(u8, u8, u8),
-    SetAndBit(u8, u32),
-    SetAndWidth(u8, u32),
-    SetAndValue(u8, u32, u128),
-    OneIterator(u8),
-    IteratorAndSet(u8, u8),
+/// Whether the registers exist.
+pub(super) fn names_registers(operation: &Operation) -> bool
+    ensures { result ≡ names_registers (names_of operation.now) }
+{
+    match *operation {
+        Operation::OneSet(r, _)
+        | Operation::SetAndBit(r, _, _)
+        | Operation::SetAndWidth(r, _, _)
+        | Operation::SetAndValue(r, _, _, _)
+        | Operation::SetAndWords(r, _) => is_set_register(r),
+        Operation::TwoSets(a, b, _) => is_set_register(a) && is_set_register(b),
+        Operation::ThreeSets(to, a, b, _) => {
+            is_set_register(to) && is_set_register(a) && is_set_register(b)
+        }
+        Operation::OneIterator(i, _) => is_iterator_register(i),
+        Operation::IteratorAndSet(i, r) => is_iterator_register(i) && is_set_register(r),
+    }
 }
 
-impl Operands {
-    /// The operands of a command.
-    #[tactic(auto, unfolding(crate::specs::Runs::plan))]
-    pub(super) fn of(command: &Command) -> Operands
-        ensures { named_by result ≡ (plan command.now).named }
-    {
-        match command {
-            Command::New { r }
-            | Command::All { r }
-            | Command::Clear { r }
-            | Command::Len { r }
-            | Command::IsEmpty { r }
-            | Command::Words { r, .. }
-            | Command::WordsCut { r, .. }
-            | Command::FromWords { r, .. }
-            | Command::FromWordsCut { r, .. } => Operands::OneSet(*r),
-            Command::Only { r, bit }
-            | Command::Insert { r, bit }
-            | Command::Remove { r, bit }
-            | Command::Contains { r, bit } => Operands::SetAndBit(*r, *bit),
-            Command::Union { to, a, b }
-            | Command::Intersection { to, a, b }
-            | Command::Difference { to, a, b }
-            | Command::SymmetricDifference { to, a, b } => Operands::ThreeSets(*to, *a, *b),
-            Command::InsertAll { r, a } | Command::RemoveAll { r, a } => Operands::ThreeSets(
-                *r, *r, *a,
-            ),
-            Command::Complement { to: a, a: b }
-            | Command::Disjoint { a, b }
-            | Command::Superset { a, b }
-            | Command::Subset { a, b }
-            | Command::Equal { a, b }
-            | Command::Compare { a, b } => Operands::TwoSets(*a, *b),
-            Command::Number { r, width } | Command::NumberCut { r, width } => {
-                Operands::SetAndWidth(*r, *width)
-            }
-            Command::FromNumber { r, width, value } | Command::FromNumberCut { r, width, value } =>
-                Operands::SetAndValue(*r, *width, *value),
-            Command::Iter { i, r } => Operands::IteratorAndSet(*i, *r),
-            Command::Next { i } | Command::NextBack { i } | Command::Left { i } =>
-                Operands::OneIterator(*i),
-        }
+/// Whether the width, if there is one, exists, and the value, if there is one, fits it.
+pub(super) fn names_widths(operation: &Operation) -> bool
+    ensures { result ≡ names_widths (names_of operation.now) }
+{
+    match *operation {
+        Operation::SetAndWidth(_, width, _) => is_width(width),
+        Operation::SetAndValue(_, width, value, _) => is_width(width) && fits(width, value),
+        _ => true,
     }
+}
 
-    /// Whether the registers are there.
-    pub(super) fn names_registers(&self) -> bool
-        ensures { result ≡ names_registers (named_by self.now) }
-    {
-        match *self {
-            Operands::OneSet(r)
-            | Operands::SetAndBit(r, _)
-            | Operands::SetAndWidth(r, _)
-            | Operands::SetAndValue(r, _, _) => is_set_register(r),
-            Operands::TwoSets(a, b) => is_set_register(a) && is_set_register(b),
-            Operands::ThreeSets(to, a, b) => {
-                is_set_register(to) && is_set_register(a) && is_set_register(b)
-            }
-            Operands::OneIterator(i) => is_iterator_register(i),
-            Operands::IteratorAndSet(i, r) => is_iterator_register(i) && is_set_register(r),
-        }
-    }
-
-    /// Whether the width is some, if there is one, and the value fits it, if there is one.
-    pub(super) fn names_widths(&self) -> bool
-        ensures { result ≡ names_widths (named_by self.now) }
-    {
-        match *self {
-            Operands::SetAndWidth(_, width) => is_width(width),
-            Operands::SetAndValue(_, width, value) => is_width(width) && fits(width, value),
-            _ => true,
-        }
-    }
-
-    /// Whether the bit is valid, if there is one.
-    pub(super) fn names_bits<S: RunSet>(&self) -> bool
-        ensures { result ≡ names_bits S.rules (named_by self.now) }
-    {
-        match *self {
-            Operands::SetAndBit(_, bit) => S::is_bit_valid(bit),
-            _ => true,
-        }
+/// Whether the bit, if there is one, is valid.
+pub(super) fn names_bits<S: RunSet>(operation: &Operation) -> bool
+    ensures { result ≡ names_bits S.rules (names_of operation.now) }
+{
+    match *operation {
+        Operation::SetAndBit(_, bit, _) => S::is_bit_valid(bit),
+        _ => true,
     }
 }
 

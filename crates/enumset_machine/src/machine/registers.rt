@@ -110,7 +110,7 @@ impl<S: RunSet> Model for IteratorRegisters<S> {
 }
 
 impl<S: RunSet> IteratorRegisters<S> {
-    /// Two iterators with nothing to give.
+    /// Two iterators with nothing left.
     pub(super) fn new() -> IteratorRegisters<S>
         ensures { result ≡ model.no_lists }
     {
@@ -158,7 +158,7 @@ impl<S: RunSet> IteratorRegisters<S> {
         }
     }
 
-    /// How many members the iterator in a register has still to give.
+    /// How many members are left in the iterator in a register.
     pub(super) fn items_left(&self, i: u8) -> usize
         requires { model.is_iterator_register i ≡ true }
         ensures { result ≡ length (slice_index_or self.now i []) }

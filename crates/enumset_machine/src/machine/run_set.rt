@@ -1,4 +1,4 @@
-//! What a run asks of its sets.
+//! The sets of a run.
 
 ghost use Rattle.std.specs.Prelude.{◌≡◌, ◌↔◌, ◌<◌, ◌*◌, ◌^◌, ℕ, List, not, length, true, IsTrue, IsSome, IfSome};
 ghost use Rattle.enumset_repr.specs.BitSet as set;
@@ -9,30 +9,30 @@ ghost use Rattle.enumset_repr.specs.Ends.{first, last, without_first, without_la
 ghost use Rattle.enumset_repr.specs.Order.{compare};
 ghost use Rattle.enumset_machine.specs.Plans.{Rules, is_width};
 
-use enumset_commands::reply::Reply;
+use enumset_commands::Reply;
 use std::cmp::Ordering;
 
-/// A set of a run. Its elements are named by their bits, and so a run knows no element type.
+/// A set of a run. Its elements are named by their bits, so a run knows no element type.
 pub(crate) trait RunSet: Copy {
     // The members' bits.
     ghost members: { Self → BitSet };
 
-    // What a run over such sets asks of bits.
+    // Which bits such a set may have, and how a step replies.
     ghost rules: { Rules };
 
     /// The iterator over a set's members.
     type Items: Drop;
 
-    // What an iterator has still to give.
+    // What is left in an iterator.
     ghost rest: { Self.Items → List ℕ };
 
-    /// Whether a bit is one of an element.
+    /// Whether a bit is valid.
     fn is_bit_valid(bit: u32) -> bool
         ensures { result ≡ set.contains rules.valid bit };
 
     /// The reply to a step that gives a bit.
-    fn given(bit: u32) -> Reply
-        ensures { result ≡ rules.given bit };
+    fn bit_reply(bit: u32) -> Reply
+        ensures { result ≡ rules.bit_reply bit };
 
     /// The empty set.
     fn new() -> Self
@@ -72,7 +72,7 @@ pub(crate) trait RunSet: Copy {
     fn len(&self) -> usize
         ensures { result ≡ set.len (members self.now) };
 
-    /// Whether there is no member.
+    /// Whether the set is empty.
     fn is_empty(&self) -> bool
         ensures { result ≡ set.is_empty (members self.now) };
 
@@ -88,11 +88,11 @@ pub(crate) trait RunSet: Copy {
     fn difference(&self, other: Self) -> Self
         ensures { members result ≡ set.difference (members self.now) (members other) };
 
-    /// The members of just one of the two.
+    /// The members of exactly one of the two.
     fn symmetric_difference(&self, other: Self) -> Self
         ensures { members result ≡ set.symmetric_difference (members self.now) (members other) };
 
-    /// The valid bits that are no members.
+    /// The valid bits that are not members.
     fn complement(&self) -> Self
         ensures { members result ≡ set.difference rules.valid (members self.now) };
 
@@ -120,7 +120,7 @@ pub(crate) trait RunSet: Copy {
     fn is_same(&self, other: Self) -> bool
         ensures { result ≡ set.is_same (members self.now) (members other) };
 
-    /// How this compares with the other: the greatest bit that just one of them has decides.
+    /// How this compares with the other: the greatest bit that exactly one of them has decides.
     fn compare(&self, other: Self) -> Ordering
         ensures { result ≡ compare (members self.now) (members other) };
 
@@ -168,9 +168,9 @@ pub(crate) trait RunSet: Copy {
     fn from_words_cut(words: &[u64]) -> Self
         ensures { members result ≡ set.intersection (bits_of words.now) rules.allowed };
 
-    /// The members as they are now, rising, from both ends.
+    /// The members as they are now, ascending, from both ends.
     fn items(&self) -> Self::Items
-        ensures { rest result ≡ set.rising (members self.now) };
+        ensures { rest result ≡ set.ascending (members self.now) };
 
     /// One step of an iterator from the front.
     fn next(items: &mut Self::Items) -> Option<u32>
@@ -182,7 +182,7 @@ pub(crate) trait RunSet: Copy {
         ensures given { result ≡ last (rest items.old) }
         ensures rest { rest items.new ≡ without_last (rest items.old) };
 
-    /// How many members an iterator has still to give.
+    /// How many members are left in an iterator.
     fn items_left(items: &Self::Items) -> usize
         ensures { result ≡ length (rest items.now) };
 }

@@ -1,15 +1,16 @@
--- The algebra of sets: laws in one line each, for proofs about code over sets.
---     union_.., intersection_.., symmetric_difference_.., difference_..      order, grouping, the empty set, a set with itself, one word over another
---     insert_.., remove_..      what is put in or taken out twice, in either order, or one after the other
---     complement_..      what is left of a set v without a part of it
+-- The algebra of sets: laws of one line each, for proofs about code over sets.
+--     union_.., intersection_.., symmetric_difference_.., difference_..      order, grouping, the empty set, a set with
+--         itself, one operation over another
+--     insert_.., remove_..      inserting or removing twice, in either order, or one after the other
+--     complement_..      the difference of a set v and a subset of it
 --     is_subset_.., is_disjoint_..      subsets, and sets with no common member
 --     from_list_.., insert_each_..      a set built from a list of its members
--- The ruleset `algebra` holds those that a tactic can apply by itself: cite it in a crate above by
+-- The ruleset `algebra` has those that a tactic can apply by itself. A crate above cites it by
 -- `#[tactic(auto, using(enumset_repr::specs::Laws::Algebra::algebra))]`.
 use Rattle.std.proofs.Common.{◌≡◌, ℕ, true, false, List, [], ◌∷◌, refl, sym, ap, ◌∙◌, arith, ◌↔◌}
 use Rattle.std.proofs.lemmas.Bool.Decides.{nat_tests, same_from_decides}
-use Rattle.enumset_repr.specs.BitSet.{BitSet, contains, rising, empty, insert, only, remove, from_list, insert_each, union, intersection, difference, symmetric_difference, is_subset, is_disjoint}
-use Rattle.enumset_repr.specs.Laws.Members.{members, subsets, same_set, contains-rising, contains-from_list, contains-insert_each, contains-is_subset, is_subset-contains, contains-is_disjoint, is_disjoint-contains, is_same_iff, is_subset_iff}
+use Rattle.enumset_repr.specs.BitSet.{BitSet, contains, ascending, empty, insert, only, remove, from_list, insert_each, union, intersection, difference, symmetric_difference, is_subset, is_disjoint}
+use Rattle.enumset_repr.specs.Laws.Members.{members, subsets, same_set, contains-ascending, contains-from_list, contains-insert_each, contains-is_subset, is_subset-contains, contains-is_disjoint, is_disjoint-contains, is_same_iff, is_subset_iff}
 
 -- ---- union
 
@@ -72,18 +73,18 @@ difference_empty s = same_set _ _ (λ q. grind (arith, members))
 pub empty_difference : (s : BitSet) → difference empty s ≡ empty
 empty_difference s = same_set _ _ (λ q. grind (arith, members))
 
--- De Morgan: what is outside a union is outside both, what is outside an intersection is outside one
+-- De Morgan: what is outside a union is outside both parts, and what is outside an intersection is outside one of them
 pub difference_union : (v s t : BitSet) → difference v (union s t) ≡ intersection (difference v s) (difference v t)
 difference_union v s t = same_set _ _ (λ q. grind (arith, members))
 
 pub difference_intersection : (v s t : BitSet) → difference v (intersection s t) ≡ union (difference v s) (difference v t)
 difference_intersection v s t = same_set _ _ (λ q. grind (arith, members))
 
--- what is in s and not in t is what is in s and in the rest of t
+-- what is in s and not in t is what is in s and in the complement of t
 pub intersection_rest : (v s t : BitSet) → is_subset s v ≡ true → intersection s (difference v t) ≡ difference s t
 intersection_rest v s t within = same_set _ _ (λ q. let each = is_subset-contains s v within q in grind (arith, members))
 
--- in a and then out again leaves what was not there before
+-- adding the members of t and removing them again leaves what was not in t before
 pub union_difference : (s t : BitSet) → difference (union s t) t ≡ difference s t
 union_difference s t = same_set _ _ (λ q. grind (arith, members))
 
@@ -134,11 +135,11 @@ remove_comm s b c = same_set _ _ (λ q. grind (arith, members))
 pub remove_absent : (s : BitSet) (b : ℕ) → contains s b ≡ false → remove s b ≡ s
 remove_absent s b none = same_set _ _ (λ q. grind (arith, members, nat_tests))
 
--- what was absent goes again
+-- inserting an absent number and removing it again changes nothing
 pub remove_insert : (s : BitSet) (b : ℕ) → contains s b ≡ false → remove (insert s b) b ≡ s
 remove_insert s b none = same_set _ _ (λ q. grind (arith, members, nat_tests))
 
--- what was present comes back
+-- removing a member and inserting it again changes nothing
 pub insert_remove : (s : BitSet) (b : ℕ) → contains s b ≡ true → insert (remove s b) b ≡ s
 insert_remove s b one = same_set _ _ (λ q. grind (arith, members, nat_tests))
 
@@ -168,7 +169,7 @@ union_insert s t b = same_set _ _ (λ q. grind (arith, members))
 
 pub ruleset on_one_number = (contains_insert, contains_remove, insert_twice, insert_present, remove_twice, remove_absent, remove_insert, insert_remove, union_only, difference_only)
 
--- ---- the rest of a set v: its complement, where v is the set of all
+-- ---- the complement of a set within a set v
 
 pub complement_twice : (v s : BitSet) → is_subset s v ≡ true → difference v (difference v s) ≡ s
 complement_twice v s within = same_set _ _ (λ q. let each = is_subset-contains s v within q in grind (arith, members))
@@ -249,14 +250,14 @@ pub ruleset on_subsets = (is_disjoint_empty, is_disjoint_difference, union_left,
 
 -- ---- a set from a list of its members
 
-pub from_list_rising : (s : BitSet) → from_list (rising s) ≡ s
-from_list_rising s = same_set _ _ (λ q. contains-from_list (rising s) q ∙ sym (contains-rising s q))
+pub from_list_ascending : (s : BitSet) → from_list (ascending s) ≡ s
+from_list_ascending s = same_set _ _ (λ q. contains-from_list (ascending s) q ∙ sym (contains-ascending s q))
 
-pub insert_each_rising : (s : BitSet) → insert_each empty (rising s) ≡ s
+pub insert_each_ascending : (s : BitSet) → insert_each empty (ascending s) ≡ s
 unfolding union
-insert_each_rising s = empty_union s
+insert_each_ascending s = empty_union s
 
--- a loop that takes a list's numbers in turn: with the first of them put in, those after it are left
+-- a step of a loop that inserts the numbers of a list in turn: it inserts the first and leaves the others
 pub insert_each_insert : (s : BitSet) (b : ℕ) (bs : List ℕ) → insert_each (insert s b) bs ≡ insert_each s (b ∷ bs)
 insert_each_insert s b bs = same_set _ _ (λ q. grind (arith, members, contains-insert_each))
 
@@ -264,7 +265,8 @@ pub insert_each_none : (s : BitSet) → insert_each s [] ≡ s
 unfolding insert_each
 insert_each_none s = refl
 
-pub ruleset on_lists = (from_list_rising, insert_each_rising, insert_each_insert, insert_each_none)
+pub ruleset on_lists = (from_list_ascending, insert_each_ascending, insert_each_insert, insert_each_none)
 
--- What a proof about code over sets wants: what `contains` answers, what stays within a set, and these laws, but for those that only order or group.
+-- What a proof about code over sets needs: the laws of `contains`, of subsets, and those of this file that do more than
+-- reorder or regroup.
 pub ruleset algebra = (members, subsets, on_unions, on_intersections, on_differences, on_symmetric_differences, on_one_number, on_complements, on_subsets, on_lists)

@@ -1,10 +1,11 @@
 -- The least and the greatest member.
---     least-is, greatest-is      the member that has none before it, or none past it
+--     least-is, greatest-is      a member with none before it is the least;  one with none past it is the greatest
 --     least-empty, greatest-empty      the empty set has neither
 --     greatest_facts      the greatest is a member, and none is past it
---     rising-least, rising-greatest      the least comes first, and the greatest last
---     trailing-least, leading-greatest      what `trailing_zeros` and `leading_zeros` count: `TrailingLaw` and `LeadingLaw`, over the width
---     at_the_ends      the ends of a set, for `using`
+--     ascending-least, ascending-greatest      the least comes first in the list, and the greatest last
+--     trailing-least, leading-greatest      what `trailing_zeros` and `leading_zeros` count, at each width:
+--         `TrailingLaw`, `LeadingLaw`
+--     at_the_ends      the ends of a set, for a tactic's `using`
 use Rattle.std.proofs.Common.{◌≡◌, ◌<◌, ◌≤◌, ℕ, suc, zero, ◌+◌, ◌-◌, ◌^◌, true, false, List, [], ◌∷◌, ◌++◌, Some, None, refl, sym, ap, subst, ◌∙◌, arith, true≢false, inl, inr, length, length-append}
 use Rattle.std.specs.Prelude.{◌==◌, MatchOption}
 use Rattle.std.specs.Int.{trailing_zeros, leading_zeros, Width}
@@ -12,15 +13,15 @@ use Rattle.std.specs.Int.Count.{trailing_of_zero, leading_of_zero}
 use mir.Val.{bits as width_bits}
 use Rattle.std.specs.List.{slice_get, last_or}
 use Rattle.std.proofs.lemmas.Bool.{or_cases, eqb-true, eq-eqb, or_left, or_right, false_from_ne_true}
-use Rattle.enumset_repr.specs.BitSet.{is_in, BitSet, contains, rising, empty, remove}
+use Rattle.enumset_repr.specs.BitSet.{is_in, BitSet, contains, ascending, empty, remove}
 use Rattle.enumset_repr.specs.Ends.{last, least, greatest}
 use Rattle.enumset_repr.specs.Laws.Steps.{last-push}
-use Rattle.enumset_repr.specs.Laws.Members.{contains-rising, member_below}
-use Rattle.enumset_repr.specs.Laws.Rising.{len-rising, RisesFrom, rising-rises, rising-empty, is_in-from, is_in-below, rising-first, rising-last, empty_of_rising}
+use Rattle.enumset_repr.specs.Laws.Members.{contains-ascending, member_below}
+use Rattle.enumset_repr.specs.Laws.Ascending.{len-ascending, AscendsFrom, ascending-ascends, ascending-empty, is_in-from, is_in-below, ascending-first, ascending-last, empty_of_ascending}
 use Rattle.enumset_repr.specs.Number.{bits}
 use Rattle.enumset_repr.specs.Laws.Numbers.{bits-zero, bits-within, least-bits, greatest-bits}
 
--- ---- the ends of a list that rises
+-- ---- the ends of an ascending list
 
 same_item : (a b : ℕ) → Some a ≡ Some b → a ≡ b
 same_item a b e = cc
@@ -32,34 +33,34 @@ last_or-is_in : (x : ℕ) (xs : List ℕ) (m : ℕ) → last_or (Some x) xs ≡ 
 last_or-is_in x [] m last = or_left (m == x) false (ap (λ k. k == x) (sym (same_item x m last)) ∙ eq-eqb x x refl)
 last_or-is_in x (y ∷ ys) m last = or_right (m == x) _ (last_or-is_in y ys m last)
 
-last_or-from : (k x : ℕ) (xs : List ℕ) (m q : ℕ) → RisesFrom k (x ∷ xs) → last_or (Some x) xs ≡ Some m → is_in q (x ∷ xs) ≡ true → q ≤ m
-last_or-from k x [] m q rises last one = elim (or_cases (q == x) false one) [
+last_or-from : (k x : ℕ) (xs : List ℕ) (m q : ℕ) → AscendsFrom k (x ∷ xs) → last_or (Some x) xs ≡ Some m → is_in q (x ∷ xs) ≡ true → q ≤ m
+last_or-from k x [] m q ascends last one = elim (or_cases (q == x) false one) [
   | inl here ↦ omega (arith, eqb-true q x here, same_item x m last)
   | inr never ↦ absurd (true≢false (sym never))
 ]
-last_or-from k x (y ∷ ys) m q rises last one = elim (or_cases (q == x) _ one) [
+last_or-from k x (y ∷ ys) m q ascends last one = elim (or_cases (q == x) _ one) [
   | inl here ↦
-      let above : y ≤ m = last_or-from (suc x) y ys m y rises.1 last (or_left (y == y) _ (eq-eqb y y refl)) in
-      omega (arith, eqb-true q x here, rises.1.0, above)
-  | inr later ↦ last_or-from (suc x) y ys m q rises.1 last later
+      let above : y ≤ m = last_or-from (suc x) y ys m y ascends.1 last (or_left (y == y) _ (eq-eqb y y refl)) in
+      omega (arith, eqb-true q x here, ascends.1.0, above)
+  | inr later ↦ last_or-from (suc x) y ys m q ascends.1 last later
 ]
 
 -- ---- the least
 
 pub least-is : (s : BitSet) (m : ℕ) → contains s m ≡ true → ((q : ℕ) → q < m → contains s q ≡ false) → least s ≡ Some m
 unfolding least
-least-is s m one none = ap (λ xs. slice_get xs 0) (rising-first s m one none)
+least-is s m one none = ap (λ xs. slice_get xs 0) (ascending-first s m one none)
 
 pub least-empty : least empty ≡ None
 unfolding least
-least-empty = ap (λ xs. slice_get xs 0) rising-empty
+least-empty = ap (λ xs. slice_get xs 0) ascending-empty
 
--- what a list with a first item is
+-- the form of a list that has a first item
 first_item : (xs : List ℕ) (m : ℕ) → slice_get xs 0 ≡ Some m → (ys : List ℕ) × (xs ≡ m ∷ ys)
 first_item [] m first = absurd (no_item m first)
 first_item (x ∷ xs) m first = (xs, ap (λ y. y ∷ xs) (same_item x m first))
 
--- a list with no first item is empty
+-- a list without a first item is empty
 no_first : (xs : List ℕ) → slice_get xs 0 ≡ None → xs ≡ []
 no_first [] none = refl
 no_first (x ∷ xs) none = absurd (no_item x (sym none))
@@ -67,50 +68,50 @@ no_first (x ∷ xs) none = absurd (no_item x (sym none))
 least_facts : (s : BitSet) (m : ℕ) → least s ≡ Some m → (contains s m ≡ true) × ((q : ℕ) → q < m → contains s q ≡ false)
 unfolding least
 least_facts s m first =
-    let parts = first_item (rising s) m first in
-    let rises : RisesFrom 0 (m ∷ parts.0) = subst (RisesFrom 0) parts.1 (rising-rises s) in
-    let above : RisesFrom m (m ∷ parts.0) = (omega arith, rises.1) in (
-      contains-rising s m ∙ ap (is_in m) parts.1 ∙ or_left (m == m) _ (eq-eqb m m refl),
-      λ q under. contains-rising s q ∙ ap (is_in q) parts.1 ∙ is_in-below m q (m ∷ parts.0) above under,
+    let parts = first_item (ascending s) m first in
+    let ascends : AscendsFrom 0 (m ∷ parts.0) = subst (AscendsFrom 0) parts.1 (ascending-ascends s) in
+    let above : AscendsFrom m (m ∷ parts.0) = (omega arith, ascends.1) in (
+      contains-ascending s m ∙ ap (is_in m) parts.1 ∙ or_left (m == m) _ (eq-eqb m m refl),
+      λ q under. contains-ascending s q ∙ ap (is_in q) parts.1 ∙ is_in-below m q (m ∷ parts.0) above under,
     )
 
 -- the least member comes first
-pub rising-least : (s : BitSet) (m : ℕ) → least s ≡ Some m → rising s ≡ m ∷ rising (remove s m)
-rising-least s m first = let facts = least_facts s m first in rising-first s m facts.0 facts.1
+pub ascending-least : (s : BitSet) (m : ℕ) → least s ≡ Some m → ascending s ≡ m ∷ ascending (remove s m)
+ascending-least s m first = let facts = least_facts s m first in ascending-first s m facts.0 facts.1
 
-pub rising-no_least : (s : BitSet) → least s ≡ None → rising s ≡ []
+pub ascending-no_least : (s : BitSet) → least s ≡ None → ascending s ≡ []
 unfolding least
-rising-no_least s none = no_first (rising s) none
+ascending-no_least s none = no_first (ascending s) none
 
 -- ---- the greatest
 
 pub greatest-is : (s : BitSet) (m : ℕ) → contains s m ≡ true → ((q : ℕ) → m < q → contains s q ≡ false) → greatest s ≡ Some m
 unfolding greatest
-greatest-is s m one none = ap last (rising-last s m one none) ∙ last-push (rising (remove s m)) m
+greatest-is s m one none = ap last (ascending-last s m one none) ∙ last-push (ascending (remove s m)) m
 
 pub greatest-empty : greatest empty ≡ None
 unfolding greatest
-greatest-empty = ap (last_or None) rising-empty
+greatest-empty = ap (last_or None) ascending-empty
 
-last_facts : (k : ℕ) (xs : List ℕ) (m : ℕ) → RisesFrom k xs → last_or None xs ≡ Some m → (is_in m xs ≡ true) × ((q : ℕ) → is_in q xs ≡ true → q ≤ m)
-last_facts k [] m rises last = absurd (no_item m last)
-last_facts k (x ∷ xs) m rises last = (last_or-is_in x xs m last, λ q one. last_or-from k x xs m q rises last one)
+last_facts : (k : ℕ) (xs : List ℕ) (m : ℕ) → AscendsFrom k xs → last_or None xs ≡ Some m → (is_in m xs ≡ true) × ((q : ℕ) → is_in q xs ≡ true → q ≤ m)
+last_facts k [] m ascends last = absurd (no_item m last)
+last_facts k (x ∷ xs) m ascends last = (last_or-is_in x xs m last, λ q one. last_or-from k x xs m q ascends last one)
 
 pub greatest_facts : (s : BitSet) (m : ℕ) → greatest s ≡ Some m → (contains s m ≡ true) × ((q : ℕ) → m < q → contains s q ≡ false)
 unfolding greatest
 greatest_facts s m last =
-    let facts = last_facts 0 (rising s) m (rising-rises s) last in (
-      contains-rising s m ∙ facts.0,
-      λ q over. false_from_ne_true (contains s q) (λ one. let near : q ≤ m = facts.1 q (sym (contains-rising s q) ∙ one) in omega arith),
+    let facts = last_facts 0 (ascending s) m (ascending-ascends s) last in (
+      contains-ascending s m ∙ facts.0,
+      λ q over. false_from_ne_true (contains s q) (λ one. let near : q ≤ m = facts.1 q (sym (contains-ascending s q) ∙ one) in omega arith),
     )
 
 -- the greatest member comes last
-pub rising-greatest : (s : BitSet) (m : ℕ) → greatest s ≡ Some m → rising s ≡ rising (remove s m) ++ m ∷ []
-rising-greatest s m last = let facts = greatest_facts s m last in rising-last s m facts.0 facts.1
+pub ascending-greatest : (s : BitSet) (m : ℕ) → greatest s ≡ Some m → ascending s ≡ ascending (remove s m) ++ m ∷ []
+ascending-greatest s m last = let facts = greatest_facts s m last in ascending-last s m facts.0 facts.1
 
--- one fewer is left without the greatest
-pub fewer-greatest : (s : BitSet) (m : ℕ) → greatest s ≡ Some m → length (rising (remove s m)) < length (rising s)
-fewer-greatest s m last = omega (arith, ap length (rising-greatest s m last), length-append (rising (remove s m)) (m ∷ []))
+-- the set without its greatest member has fewer members
+pub fewer-greatest : (s : BitSet) (m : ℕ) → greatest s ≡ Some m → length (ascending (remove s m)) < length (ascending s)
+fewer-greatest s m last = omega (arith, ap length (ascending-greatest s m last), length-append (ascending (remove s m)) (m ∷ []))
 
 some_last : (x : ℕ) (xs : List ℕ) → last_or (Some x) xs ≡ None → ⊥
 some_last x [] none = no_item x (sym none)
@@ -120,9 +121,9 @@ no_last : (xs : List ℕ) → last_or None xs ≡ None → xs ≡ []
 no_last [] none = refl
 no_last (x ∷ xs) none = absurd (some_last x xs none)
 
-pub rising-no_greatest : (s : BitSet) → greatest s ≡ None → rising s ≡ []
+pub ascending-no_greatest : (s : BitSet) → greatest s ≡ None → ascending s ≡ []
 unfolding greatest
-rising-no_greatest s none = no_last (rising s) none
+ascending-no_greatest s none = no_last (ascending s) none
 
 -- ---- the ends of a number's set
 
@@ -132,7 +133,7 @@ TrailingLaw w = (n : ℕ) → n < 2 ^ width_bits w → MatchOption (least (bits 
 abbrev pub LeadingLaw : Width → Type 0
 LeadingLaw w = (n : ℕ) → n < 2 ^ width_bits w → MatchOption (greatest (bits n)) (leading_zeros w n ≡ width_bits w) (λ m. leading_zeros w n + m + 1 ≡ width_bits w)
 
--- `n.trailing_zeros()` is the least member, or the width where there is none
+-- `n.trailing_zeros()` is the least member, or the width if there is none
 pub trailing-least : (w : Width) → TrailingLaw w
 trailing-least w zero fits =
     let none : least (bits 0) ≡ None = ap least bits-zero ∙ least-empty in
@@ -143,7 +144,7 @@ trailing-least w (suc n) fits =
     subst (λ o. MatchOption o (trailing_zeros w (suc n) ≡ width_bits w) (λ m. (trailing_zeros w (suc n) ≡ m) × (m < width_bits w))) (sym some)
     (refl, member_below (bits (suc n)) (width_bits w) _ (bits-within (suc n) (width_bits w) fits) facts.0)
 
--- `n.leading_zeros()` is how many bits are above the greatest member, or the width where there is none
+-- `n.leading_zeros()` counts the bits above the greatest member, and is the width if there is none
 pub leading-greatest : (w : Width) → LeadingLaw w
 leading-greatest w zero fits =
     let none : greatest (bits 0) ≡ None = ap greatest bits-zero ∙ greatest-empty in
@@ -153,4 +154,4 @@ leading-greatest w (suc n) fits =
     let some : greatest (bits (suc n)) ≡ Some (width_bits w - 1 - leading_zeros w (suc n)) = greatest-is _ _ facts.1 facts.2 in
     subst (λ o. MatchOption o (leading_zeros w (suc n) ≡ width_bits w) (λ m. leading_zeros w (suc n) + m + 1 ≡ width_bits w)) (sym some) (omega (arith, facts.0))
 
-pub ruleset at_the_ends = (rising-least, rising-no_least, rising-greatest, rising-no_greatest, fewer-greatest, len-rising)
+pub ruleset at_the_ends = (ascending-least, ascending-no_least, ascending-greatest, ascending-no_greatest, fewer-greatest, len-ascending)

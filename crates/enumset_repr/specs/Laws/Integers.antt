@@ -1,8 +1,11 @@
--- An integer of a width as a store: the laws of the store, in the form in which it asks for them, proved once over the width.
---     within_width, number_of_bits, equal_bits      the members are below the width;  the number of a number's set;  numbers are equal if their sets are
+-- An integer as a representation: the laws that `EnumSetTypeRepr` requires, in the form in which it requires them, for
+-- every width.
+--     within_width      the members are below the width
+--     number_of_bits      the number of a number's set is that number
+--     equal_bits      numbers are equal exactly if their sets are
 --     and_is, or_is, xor_is, not_is      the operators
---     word-.., with_word-..      a word, and a number with a word replaced, at a width up to 64 bits and at 128
---     on_8, .., on_128      what the calls of an integer want, for `using`
+--     word-.., with_word-..      a word, and a number with a word replaced, at a width of up to 64 bits and at 128
+--     on_8, .., on_128      what the calls of an integer of that width need, for a tactic's `using`
 use Rattle.std.proofs.Common.{◌≡◌, ◌<◌, ◌≤◌, ℕ, ◌*◌, ◌/◌, ◌%◌, ◌^◌, ◌-◌, sym, ap, ◌∙◌, arith, ◌↔◌, not}
 use Rattle.std.specs.Prelude.{◌==◌, IsTrue}
 use Rattle.std.specs.Int.{bit_not, Width, w8, w16, w32, w64, w128}
@@ -44,7 +47,7 @@ module _ (w : Width) where
 
 -- ---- words
 
--- `n` at a width of no more than 64 bits: its one word
+-- `n` at a width of at most 64 bits: its one word
 pub word-whole : (n i : ℕ) → n < 2 ^ 64 → i < 1 → word (bits n) i ≡ n
 word-whole n i fits first =
     let place : i ≡ 0 = omega (arith, first) in
@@ -54,7 +57,7 @@ word-whole n i fits first =
     below_itself : n % 2 ^ 64 ≡ n
     below_itself = omega (arith, fits)
 
--- `x & MAX` at a width of no more than 64 bits
+-- `x & MAX` at a width of at most 64 bits
 pub with_word-narrow : (width n i x : ℕ) → width ≤ 64 → n < 2 ^ width → i < 1 → with_word (bits n) width i x ≡ bits (bit_and x (2 ^ width - 1))
 with_word-narrow width n i x narrow fits first =
     let place : i ≡ 0 = omega (arith, first) in
@@ -79,7 +82,7 @@ pub ruleset words_narrow = (word-whole, with_word-narrow, with_word-whole)
 
 pub ruleset words_wide = (word-shifted, with_word-wide)
 
--- ---- what the calls of an integer want, at each width: a tactic reads no width off a numeral
+-- ---- what the calls of an integer need, at each width, since a tactic reads no width off a numeral
 
 abbrev SetLaw : Width → Type 0
 SetLaw w = (n k : ℕ) → n < 2 ^ width_bits w → k < width_bits w → bits (bit_or n (1 * 2 ^ k % 2 ^ width_bits w)) ≡ insert (bits n) k

@@ -1,14 +1,16 @@
--- What a cut at a width leaves, and which sets and numbers fit one.
---     low-is_subset, low_part      what is left is below the width, and of the set
---     low_within, low_inside      nothing is left out of a set below the width, nor of a part of such a set
---     within_from_low      a set of which a cut leaves out nothing is below the width
---     low_narrow      a cut, and then one at a width that is no more
---     low_intersection, low_empty      what is left, met with a set below the width;  of the empty set
---     is_subset_wider      a set below a width is below each width from there on
---     number_low, number_cut      the number of what is left, by a remainder
---     number_fits, fits_number      a set below a width has a number of so many bits, and back
---     cut_8, small_8, fits_8, wider_8 and those at 16, 32 and 64      the same laws at a width, of numbers below 2 ^ 128
--- The ruleset `cuts` has what a proof about sets and their numbers wants: cite it in a crate above by
+-- Laws of `low`, which cuts a set at a width, and of sets and numbers that fit a width. A set is below a width if each
+-- of its members is.
+--     low-is_subset, low_part      a cut set is below the width;  it is a subset of the set
+--     low_within, low_inside      a cut changes neither a set below the width nor a subset of such a set
+--     within_from_low      a set that a cut does not change is below the width
+--     low_narrow      two cuts, the second at a width that is no greater, are the second alone
+--     low_intersection, low_empty      the intersection of a cut set with a set below the width;  a cut of the empty
+--         set
+--     is_subset_wider      a set below a width is below each greater width
+--     number_low, number_cut      the number of a cut set, as a remainder
+--     number_fits, fits_number      a set is below a width exactly if its number has at most so many bits
+--     cut_8, small_8, fits_8, wider_8 and those at 16, 32 and 64      the same at one width, for numbers below 2 ^ 128
+-- The ruleset `cuts` has what a proof about sets and their numbers needs. A crate above cites it by
 -- `#[tactic(auto, using(enumset_repr::specs::Laws::Low::cuts))]`. `cuts_to` has the laws at the widths.
 use Rattle.std.proofs.Common.{◌≡◌, ◌<◌, ◌≤◌, ℕ, ◌-◌, ◌%◌, ◌^◌, true, sym, ap, subst, ◌∙◌, arith}
 use Rattle.std.proofs.lemmas.Bool.Decides.{nat_tests}
@@ -20,7 +22,7 @@ use Rattle.enumset_repr.specs.Laws.Members.{members, same_set, is_subset-contain
 use Rattle.enumset_repr.specs.Laws.Algebra.{is_subset_trans, intersection_right, difference_within, difference_none}
 use Rattle.enumset_repr.specs.Laws.Numbers.{bits-low, bits-number, number-bits, bits-within, number-within}
 
--- ---- what is left
+-- ---- the cut set
 
 pub low-is_subset : (s : BitSet) (n : ℕ) → is_subset (low s n) (below n) ≡ true
 low-is_subset s n = contains-is_subset _ _ (λ q one. grind (arith, members))
@@ -65,7 +67,7 @@ fits_number s n small = subst (λ t. is_subset t (below n) ≡ true) (bits-numbe
 
 pub ruleset cuts = (low-is_subset, low_part, low_within, low_inside, within_from_low, low_intersection, low_empty, bits-number, number-bits, intersection_right, difference_within, difference_none)
 
--- ---- the laws that speak of a width, at each width below 128, for a tactic, which reads no width off a numeral
+-- ---- the laws at each width below 128, since a tactic reads no width off a numeral
 
 abbrev CutLaw : ℕ → Type 0
 CutLaw n = (s : BitSet) → bit_and (number (low s 128)) (2 ^ n - 1) ≡ number (low s n)

@@ -1,11 +1,12 @@
--- The laws of sets by membership: what `contains` answers at each word of `BitSet`.
---     contains-..      what it answers at a word;  the ruleset `members` holds them all
---     same_set, is_same_iff      sets with the same members are one
---     is_subset-.., contains-is_subset, is_subset_iff      a subset, by its members;  by what is outside
---     is_disjoint-.., contains-is_disjoint, is_disjoint_iff      disjoint sets, by their members;  by their intersection
---     ..-is_subset      what stays within one set;  the ruleset `subsets` holds them all
+-- Laws of sets by membership: what `contains` returns for each set in `BitSet`.
+--     contains-..      what `contains` returns for such a set;  the ruleset `members` has them all
+--     same_set, is_same_iff      sets with the same members are equal
+--     is_subset-.., contains-is_subset, is_subset_iff      a subset, by its members;  by an empty difference
+--     is_disjoint-.., contains-is_disjoint, is_disjoint_iff      disjoint sets, by their members;  by an empty
+--         intersection
+--     ..-is_subset      operations on subsets of one set give subsets of it;  the ruleset `subsets` has them all
 --     member_below, contains-past      members of sets of numbers below a bound
---     or_swap, none_of, list_all-each      tests
+--     or_swap, none_of, list_all-each      laws of tests
 use Rattle.std.proofs.Common.{◌≡◌, ◌<◌, ◌≤◌, ℕ, suc, zero, Bool, true, false, cond, not, ◌&&◌, ◌||◌, List, [], ◌∷◌, Option, Some, None, refl, sym, ap, subst, true≢false, ◌∙◌, arith, inl, inr}
 use Rattle.std.specs.Prelude.{◌==◌, nat_lt, is_some, ◌↔◌}
 use Rattle.std.specs.List.{list_any, list_all}
@@ -16,7 +17,7 @@ use Rattle.std.proofs.Math.Bool.{or-false}
 use Rattle.std.proofs.lemmas.Bool.{or_cases, ltb-true, and_parts, and_from, or_left, or_right, not-true, not-false, false_from_ne_true, eqb-true, eq-eqb}
 use Rattle.std.proofs.lemmas.Bool.Decides.{nat_tests, same_from_decides}
 use Rattle.std.specs.declared.cmp.Ordering.TheVariants.{Equal}
-use Rattle.enumset_repr.specs.BitSet.{BitSet, contains, rising, empty, insert, remove, retain, from_list, insert_each, union, intersection, difference, symmetric_difference, is_subset, is_disjoint, is_same, below, low}
+use Rattle.enumset_repr.specs.BitSet.{BitSet, contains, ascending, empty, insert, remove, retain, from_list, insert_each, union, intersection, difference, symmetric_difference, is_subset, is_disjoint, is_same, below, low}
 
 -- ---- tests and options
 
@@ -68,9 +69,9 @@ pub contains-retain : (s : BitSet) (p : ℕ → Bool) (q : ℕ) → contains (re
 unfolding contains retain
 contains-retain s p q = ap is_some (map.get-retain_keys s p q (alike p q)) ∙ kept_if (p q) (map.get s q)
 
-pub contains-rising : (s : BitSet) (q : ℕ) → contains s q ≡ list_any (λ b. q == b) (rising s)
-unfolding contains rising
-contains-rising s q = map.contains_key-keys s q ∙ ap (λ (f : ℕ → Bool). list_any f (map.keys s)) (λ i b. unsigned_tied q b i)
+pub contains-ascending : (s : BitSet) (q : ℕ) → contains s q ≡ list_any (λ b. q == b) (ascending s)
+unfolding contains ascending
+contains-ascending s q = map.contains_key-keys s q ∙ ap (λ (f : ℕ → Bool). list_any f (map.keys s)) (λ i b. unsigned_tied q b i)
 
 pub contains-insert_each : (s : BitSet) (bs : List ℕ) (q : ℕ) → contains (insert_each s bs) q ≡ (contains s q || list_any (λ b. q == b) bs)
 unfolding insert_each
@@ -84,7 +85,7 @@ contains-from_list (b ∷ bs) q = contains-insert _ b q ∙ ap (λ t. (q == b) |
 
 pub contains-union : (s t : BitSet) (q : ℕ) → contains (union s t) q ≡ (contains s q || contains t q)
 unfolding union
-contains-union s t q = contains-insert_each s (rising t) q ∙ ap (λ b. contains s q || b) (sym (contains-rising t q))
+contains-union s t q = contains-insert_each s (ascending t) q ∙ ap (λ b. contains s q || b) (sym (contains-ascending t q))
 
 pub contains-intersection : (s t : BitSet) (q : ℕ) → contains (intersection s t) q ≡ (contains s q && contains t q)
 unfolding intersection
@@ -110,7 +111,7 @@ pub contains-low : (s : BitSet) (n q : ℕ) → contains (low s n) q ≡ (contai
 unfolding low
 contains-low s n q = contains-retain s (λ b. nat_lt b n) q
 
--- ---- sets with the same members are one, and a subset by its members
+-- ---- sets with the same members are equal, and a subset by its members
 
 pub same_set : (s t : BitSet) → ((q : ℕ) → contains s q ≡ contains t q) → s ≡ t
 unfolding contains
@@ -129,45 +130,45 @@ list_all-each p [] each = refl
 list_all-each p (b ∷ bs) each =
     and_from (p b) _ (each b (or_left (b == b) _ (eq-eqb b b refl))) (list_all-each p bs (λ q one. each q (or_right (q == b) _ one)))
 
--- what is false wherever the first test passes
+-- a conjunction is false if its second part is false wherever the first is true
 pub none_of : (a b : Bool) → (a ≡ true → b ≡ false) → (a && b) ≡ false
 none_of true b h = h refl
 none_of false b h = refl
 
 pub is_subset-contains : (s t : BitSet) → is_subset s t ≡ true → (q : ℕ) → contains s q ≡ true → contains t q ≡ true
 unfolding is_subset
-is_subset-contains s t sub q in_s = list_all-any (contains t) (rising s) q sub (sym (contains-rising s q) ∙ in_s)
+is_subset-contains s t sub q in_s = list_all-any (contains t) (ascending s) q sub (sym (contains-ascending s q) ∙ in_s)
 
 pub contains-is_subset : (s t : BitSet) → ((q : ℕ) → contains s q ≡ true → contains t q ≡ true) → is_subset s t ≡ true
 unfolding is_subset
-contains-is_subset s t each = list_all-each (contains t) (rising s) (λ q one. each q (contains-rising s q ∙ one))
+contains-is_subset s t each = list_all-each (contains t) (ascending s) (λ q one. each q (contains-ascending s q ∙ one))
 
 pub is_subset-itself : (s : BitSet) → is_subset s s ≡ true
 is_subset-itself s = contains-is_subset s s (λ q h. h)
 
 pub is_disjoint-contains : (s t : BitSet) → is_disjoint s t ≡ true → (q : ℕ) → contains s q ≡ true → contains t q ≡ false
 unfolding is_disjoint
-is_disjoint-contains s t apart q in_s = not-true _ (list_all-any (λ b. not (contains t b)) (rising s) q apart (sym (contains-rising s q) ∙ in_s))
+is_disjoint-contains s t apart q in_s = not-true _ (list_all-any (λ b. not (contains t b)) (ascending s) q apart (sym (contains-ascending s q) ∙ in_s))
 
 pub contains-is_disjoint : (s t : BitSet) → ((q : ℕ) → contains s q ≡ true → contains t q ≡ false) → is_disjoint s t ≡ true
 unfolding is_disjoint
-contains-is_disjoint s t each = list_all-each (λ b. not (contains t b)) (rising s) (λ q one. ap not (each q (contains-rising s q ∙ one)))
+contains-is_disjoint s t each = list_all-each (λ b. not (contains t b)) (ascending s) (λ q one. ap not (each q (contains-ascending s q ∙ one)))
 
--- sets that have no common member are those whose intersection is empty
+-- two sets are disjoint exactly if their intersection is empty
 pub is_disjoint_iff : (s t : BitSet) → (is_disjoint s t ≡ true) ↔ (intersection s t ≡ empty)
 is_disjoint_iff s t = (
   λ apart. same_set _ _ (λ q. contains-intersection s t q ∙ none_of (contains s q) _ (is_disjoint-contains s t apart q) ∙ sym (contains-empty q)),
   λ none. contains-is_disjoint s t (λ q in_s. sym (ap (λ b. b && contains t q) in_s) ∙ sym (contains-intersection s t q) ∙ ap (λ u. contains u q) none ∙ contains-empty q),
 )
 
--- each member of s is one of t where nothing of s is outside t
+-- s is a subset of t exactly if nothing of s is outside t
 pub is_subset_iff : (s t : BitSet) → (is_subset s t ≡ true) ↔ (difference s t ≡ empty)
 is_subset_iff s t = (
   λ sub. same_set _ _ (λ q. contains-difference s t q ∙ none_of (contains s q) _ (λ in_s. ap not (is_subset-contains s t sub q in_s)) ∙ sym (contains-empty q)),
   λ none. contains-is_subset s t (λ q in_s. not-false _ (sym (ap (λ b. b && not (contains t q)) in_s) ∙ sym (contains-difference s t q) ∙ ap (λ u. contains u q) none ∙ contains-empty q)),
 )
 
--- sets are one exactly if they have the same members
+-- sets are equal exactly if they have the same members
 pub is_same_iff : (s t : BitSet) → (is_same s t ≡ true) ↔ (s ≡ t)
 unfolding is_same
 is_same_iff s t = (
@@ -210,11 +211,11 @@ module _ (v : BitSet) where
 pub member_below : (s : BitSet) (n b : ℕ) → is_subset s (below n) ≡ true → contains s b ≡ true → b < n
 member_below s n b sub in_s = ltb-true b n (sym (contains-below n b) ∙ is_subset-contains s (below n) sub b in_s)
 
--- a number past a bound of the members is no member
+-- a number at or past a bound of the members is not a member
 pub contains-past : (s : BitSet) (n b : ℕ) → is_subset s (below n) ≡ true → n ≤ b → contains s b ≡ false
 contains-past s n b sub past = false_from_ne_true (contains s b) (λ in_s. omega (arith, past, member_below s n b sub in_s))
 
--- What a proof by members wants: `same_set _ _ (λ q. grind (arith, members))`.
+-- What a proof by members needs: `same_set _ _ (λ q. grind (arith, members))`.
 pub ruleset members = (contains-empty, contains-insert, contains-remove, contains-retain, contains-union, contains-intersection, contains-difference, contains-symmetric_difference, contains-below, contains-low)
 
 -- What stays within the valid bits: `#[tactic(auto, using(enumset_repr::specs::Laws::Members::subsets))]`.

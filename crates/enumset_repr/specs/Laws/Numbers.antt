@@ -1,8 +1,8 @@
--- The set of a number, and what the operations on numbers do to it. Each law is over the width or the place.
---     contains-bits, bits-.., len-bits      the set of a number, and of what an operator answers
---     bits-number, number-bits      a set and its number
+-- The set of a number, and what the operations on numbers do to it. Each law holds for every width or place.
+--     contains-bits, bits-.., len-bits      the set of a number, and of the result of an operator
+--     bits-number, number-bits      from a set to its number and back;  from a number to its set and back
 --     least-bits, greatest-bits      `trailing_zeros` and `leading_zeros`
---     on_numbers      those that speak of no width, for `using`
+--     on_numbers      the laws that name no width, for a tactic's `using`
 use Rattle.std.proofs.Common.{◌≡◌, ◌<◌, ◌≤◌, ℕ, suc, zero, ◌+◌, ◌-◌, ◌*◌, ◌/◌, ◌%◌, ◌^◌, min, max, Bool, true, false, not, ◌&&◌, ◌||◌, List, [], ◌∷◌, refl, sym, ap, ◌∙◌, length, arith, inl, inr, ◌⊎◌, true≢false, pow-suc, pow_mono, mul_assoc, mul_comm, suc-mul, pow-add, one-mul, zero-mul}
 use Rattle.std.proofs.Math.Bool.{and-true, or-false, or_comm, and_comm}
 use Rattle.std.specs.Prelude.{◌==◌, nat_lt, sum_by}
@@ -15,10 +15,10 @@ use Rattle.std.proofs.lemmas.Bool.Decides.{nat_tests}
 use Rattle.std.proofs.lemmas.List.Sums.{sum_by-cons}
 use Rattle.std.proofs.lemmas.Nat.{pow_pos, le-div, div_below, pow_below, one_shl, shr-shr, shr_split, mod_below}
 use Rattle.std.proofs.lemmas.Nat.Bits.{and_pow, bit_at_and, bit_at_or, bit_at_xor, bit_at_not, bit_at-pow_same, bit_at-pow_other, bit_at-zero, bit_at_above, bit_at-lt, bit_at_cat_low, bit_at_cat_high, bit_at-trailing_zeros, same_from_bits}
-use Rattle.enumset_repr.specs.BitSet.{is_in, BitSet, contains, rising, len, empty, insert, only, remove, union, intersection, difference, symmetric_difference, is_subset, below, low}
+use Rattle.enumset_repr.specs.BitSet.{is_in, BitSet, contains, ascending, len, empty, insert, only, remove, union, intersection, difference, symmetric_difference, is_subset, below, low}
 use Rattle.enumset_repr.specs.Number.{number, bits}
-use Rattle.enumset_repr.specs.Laws.Members.{same_set, contains-empty, contains-rising, contains-retain, contains-remove, contains-insert, contains-union, contains-intersection, contains-difference, contains-symmetric_difference, contains-below, contains-low, is_subset-contains, contains-is_subset}
-use Rattle.enumset_repr.specs.Laws.Rising.{RisesFrom, rising-rises, rising-empty, is_in-below, len-rising}
+use Rattle.enumset_repr.specs.Laws.Members.{same_set, contains-empty, contains-ascending, contains-retain, contains-remove, contains-insert, contains-union, contains-intersection, contains-difference, contains-symmetric_difference, contains-below, contains-low, is_subset-contains, contains-is_subset}
+use Rattle.enumset_repr.specs.Laws.Ascending.{AscendsFrom, ascending-ascends, ascending-empty, is_in-below, len-ascending}
 
 -- ---- the members of a number's set
 
@@ -30,7 +30,7 @@ and_false : (p q : Bool) → q ≡ false → (p && q) ≡ q
 and_false true q e = refl
 and_false false q e = sym e
 
--- a number's set bits are below it
+-- each bit that is set in a number is below that number
 within_itself : (n b : ℕ) → (nat_lt b n && (bit_at n b == 1)) ≡ (bit_at n b == 1)
 within_itself n b = elim (cases_lt b n) [
   | inl under ↦ ap (λ t. t && (bit_at n b == 1)) (lt-ltb b n under)
@@ -41,22 +41,22 @@ pub contains-bits : (n b : ℕ) → contains (bits n) b ≡ (bit_at n b == 1)
 unfolding bits
 contains-bits n b = contains-retain (below n) _ b ∙ ap (λ t. t && (bit_at n b == 1)) (contains-below n b) ∙ within_itself n b
 
--- a set with a number's bits is the number's
+-- a set with the bits of a number is the set of that number
 bits_is : (n : ℕ) (s : BitSet) → ((q : ℕ) → (bit_at n q == 1) ≡ contains s q) → bits n ≡ s
 bits_is n s is = same_set (bits n) s (λ q. contains-bits n q ∙ is q)
 
--- a bit past the width is not set
+-- a bit at or past the width is not set
 not_past : (n w q : ℕ) → n < 2 ^ w → contains (bits n) q ≡ true → q < w
 not_past n w q fits one = elim (cases_lt q w) [
   | inl under ↦ under
   | inr over ↦ absurd (true≢false (sym one ∙ contains-bits n q ∙ ap (λ d. d == 1) (bit_at_above n w q fits over)))
 ]
 
--- no member of a number's set is past its width
+-- no member of a number's set is at or past its width
 pub bits-within : (n w : ℕ) → n < 2 ^ w → is_subset (bits n) (below w) ≡ true
 bits-within n w fits = contains-is_subset (bits n) (below w) (λ q one. contains-below w q ∙ lt-ltb q w (not_past n w q fits one))
 
--- ---- the sum of the powers of two at a list's numbers
+-- ---- the worth of a list: the sum of the powers of two at its numbers
 
 worth : List ℕ → ℕ
 worth xs = sum_by (λ b. 2 ^ b) xs
@@ -65,13 +65,13 @@ worth-cons : (x : ℕ) (xs : List ℕ) → worth (x ∷ xs) ≡ worth xs + 2 ^ x
 unfolding worth
 worth-cons x xs = omega (arith, sum_by-cons (λ (b : ℕ). 2 ^ b) x xs)
 
-worth-below : (k w : ℕ) (xs : List ℕ) → RisesFrom k xs → k ≤ w → ((q : ℕ) → is_in q xs ≡ true → q < w) → worth xs + 2 ^ k ≤ 2 ^ w
+worth-below : (k w : ℕ) (xs : List ℕ) → AscendsFrom k xs → k ≤ w → ((q : ℕ) → is_in q xs ≡ true → q < w) → worth xs + 2 ^ k ≤ 2 ^ w
 unfolding worth
-worth-below k w [] rises within small = omega (arith, pow_mono within)
-worth-below k w (x ∷ xs) rises within small =
+worth-below k w [] ascends within small = omega (arith, pow_mono within)
+worth-below k w (x ∷ xs) ascends within small =
     let first : x < w = small x (or_left (x == x) _ (eq-eqb x x refl)) in
-    let rest = worth-below (suc x) w xs rises.1 first (λ q one. small q (or_right (q == x) _ one)) in
-    omega (arith, worth-cons x xs, rest, pow-suc 2 x, pow_mono rises.0)
+    let rest = worth-below (suc x) w xs ascends.1 first (λ q one. small q (or_right (q == x) _ one)) in
+    omega (arith, worth-cons x xs, rest, pow-suc 2 x, pow_mono ascends.0)
 
 odd_times : (a p : ℕ) → a * (p * 2) + p ≡ suc (a * 2) * p
 odd_times a p = omega (arith, suc-mul (a * 2) p, mul_assoc a 2 p, ap (λ n. a * n) (mul_comm p 2))
@@ -94,21 +94,21 @@ ones-one = refl
 ones-pow : (k : ℕ) → count_ones (2 ^ k) ≡ 1
 ones-pow k = let e : 2 ^ k ≡ 1 * 2 ^ k + 0 = omega arith in ap count_ones e ∙ ones_cat k 1 0 (pow_pos k) ∙ ap (λ n. n + count_ones 0) ones-one ∙ ap (λ n. 1 + n) ones-zero
 
--- the worth of a list that rises from k is a multiple of 2 ^ k
-worth-multiple : (k : ℕ) (xs : List ℕ) → RisesFrom k xs → (a : ℕ) × (worth xs ≡ a * 2 ^ k)
+-- the worth of a list that ascends from k is a multiple of 2 ^ k
+worth-multiple : (k : ℕ) (xs : List ℕ) → AscendsFrom k xs → (a : ℕ) × (worth xs ≡ a * 2 ^ k)
 unfolding worth
-worth-multiple k [] rises = (0, omega arith)
-worth-multiple k (x ∷ xs) rises =
-    let rest = worth-multiple (suc x) xs rises.1 in (
+worth-multiple k [] ascends = (0, omega arith)
+worth-multiple k (x ∷ xs) ascends =
+    let rest = worth-multiple (suc x) xs ascends.1 in (
       suc (rest.0 * 2) * 2 ^ (x - k),
       worth-cons x xs ∙ ap (λ n. n + 2 ^ x) (rest.1 ∙ ap (λ n. rest.0 * n) (pow-suc 2 x)) ∙ odd_times rest.0 (2 ^ x)
-          ∙ ap (λ n. suc (rest.0 * 2) * n) (pow_split k x rises.0) ∙ sym (mul_assoc (suc (rest.0 * 2)) (2 ^ (x - k)) (2 ^ k)),
+          ∙ ap (λ n. suc (rest.0 * 2) * n) (pow_split k x ascends.0) ∙ sym (mul_assoc (suc (rest.0 * 2)) (2 ^ (x - k)) (2 ^ k)),
     )
 
--- the first of a list that rises is the lowest place, and the rest is a multiple past it
-worth-parts : (k x : ℕ) (xs : List ℕ) → RisesFrom k (x ∷ xs) → (a : ℕ) × (worth xs ≡ a * 2 ^ suc x + 0) × (worth (x ∷ xs) ≡ a * 2 ^ suc x + 2 ^ x)
-worth-parts k x xs rises =
-    let rest = worth-multiple (suc x) xs rises.1 in
+-- the worth of an ascending list is 2 ^ x for its first number x, and a multiple of 2 ^ (x + 1) for the others
+worth-parts : (k x : ℕ) (xs : List ℕ) → AscendsFrom k (x ∷ xs) → (a : ℕ) × (worth xs ≡ a * 2 ^ suc x + 0) × (worth (x ∷ xs) ≡ a * 2 ^ suc x + 2 ^ x)
+worth-parts k x xs ascends =
+    let rest = worth-multiple (suc x) xs ascends.1 in
     (rest.0, omega (arith, rest.1), worth-cons x xs ∙ ap (λ n. n + 2 ^ x) rest.1)
 
 pow_bit : (k q : ℕ) → (bit_at (2 ^ k) q == 1) ≡ (q == k)
@@ -118,36 +118,36 @@ pow_bit k q = elim (q == k) as (λ t. (q == k) ≡ t → (bit_at (2 ^ k) q == 1)
 ] refl
 
 -- the bits of a list's worth are its numbers
-worth-bit : (k : ℕ) (xs : List ℕ) → RisesFrom k xs → (q : ℕ) → (bit_at (worth xs) q == 1) ≡ is_in q xs
+worth-bit : (k : ℕ) (xs : List ℕ) → AscendsFrom k xs → (q : ℕ) → (bit_at (worth xs) q == 1) ≡ is_in q xs
 unfolding worth
-worth-bit k [] rises q = ap (λ d. d == 1) (bit_at-zero q)
-worth-bit k (x ∷ xs) rises q =
-    let parts = worth-parts k x xs rises in elim (cases_lt q (suc x)) [
+worth-bit k [] ascends q = ap (λ d. d == 1) (bit_at-zero q)
+worth-bit k (x ∷ xs) ascends q =
+    let parts = worth-parts k x xs ascends in elim (cases_lt q (suc x)) [
       | inl under ↦
           ap (λ n. bit_at n q == 1) parts.2 ∙ ap (λ d. d == 1) (bit_at_cat_low parts.0 (suc x) (2 ^ x) q under) ∙ pow_bit x q
-          ∙ or_none (q == x) (is_in q xs) (is_in-below (suc x) q xs rises.1 under)
+          ∙ or_none (q == x) (is_in q xs) (is_in-below (suc x) q xs ascends.1 under)
       | inr over ↦
           let apart : (q == x) ≡ false = grind (arith, nat_tests, over) in
           ap (λ n. bit_at n q == 1) parts.2
           ∙ ap (λ d. d == 1) (bit_at_cat_high parts.0 (suc x) (2 ^ x) q (pow_below x (suc x) (omega arith)) over ∙ sym (bit_at_cat_high parts.0 (suc x) 0 q (pow_pos (suc x)) over))
-          ∙ ap (λ n. bit_at n q == 1) (sym parts.1) ∙ worth-bit (suc x) xs rises.1 q ∙ ap (λ t. t || is_in q xs) (sym apart)
+          ∙ ap (λ n. bit_at n q == 1) (sym parts.1) ∙ worth-bit (suc x) xs ascends.1 q ∙ ap (λ t. t || is_in q xs) (sym apart)
     ]
 
--- how many digits of a list's worth are set
-worth-ones : (k : ℕ) (xs : List ℕ) → RisesFrom k xs → count_ones (worth xs) ≡ length xs
+-- as many bits of a list's worth are set as the list has numbers
+worth-ones : (k : ℕ) (xs : List ℕ) → AscendsFrom k xs → count_ones (worth xs) ≡ length xs
 unfolding worth count_ones
-worth-ones k [] rises = refl
-worth-ones k (x ∷ xs) rises =
-    let parts = worth-parts k x xs rises in
+worth-ones k [] ascends = refl
+worth-ones k (x ∷ xs) ascends =
+    let parts = worth-parts k x xs ascends in
     let all = ap count_ones parts.2 ∙ ones_cat (suc x) parts.0 (2 ^ x) (pow_below x (suc x) (omega arith)) in
-    let rest = sym (ap count_ones parts.1 ∙ ones_cat (suc x) parts.0 0 (pow_pos (suc x))) ∙ worth-ones (suc x) xs rises.1 in
+    let rest = sym (ap count_ones parts.1 ∙ ones_cat (suc x) parts.0 0 (pow_pos (suc x))) ∙ worth-ones (suc x) xs ascends.1 in
     omega (arith, all, rest, ones-pow x, ones-zero)
 
 pub number-within : (s : BitSet) (w : ℕ) → is_subset s (below w) ≡ true → number s < 2 ^ w
 unfolding number worth
 number-within s w sub =
-    let small : (q : ℕ) → is_in q (rising s) ≡ true → q < w = λ q one. ltb-true q w (sym (contains-below w q) ∙ is_subset-contains s (below w) sub q (contains-rising s q ∙ one)) in
-    omega (arith, worth-below 0 w (rising s) (rising-rises s) (omega arith) small)
+    let small : (q : ℕ) → is_in q (ascending s) ≡ true → q < w = λ q one. ltb-true q w (sym (contains-below w q) ∙ is_subset-contains s (below w) sub q (contains-ascending s q ∙ one)) in
+    omega (arith, worth-below 0 w (ascending s) (ascending-ascends s) (omega arith) small)
 
 -- ---- the operations
 
@@ -196,14 +196,14 @@ bits-not w n fits = bits_is _ _ (λ q. by q (cases_lt q (width_bits w)) ∙ (λ 
 
 pub bits-number : (s : BitSet) → bits (number s) ≡ s
 unfolding number worth
-bits-number s = bits_is (number s) s (λ q. worth-bit 0 (rising s) (rising-rises s) q ∙ sym (contains-rising s q))
+bits-number s = bits_is (number s) s (λ q. worth-bit 0 (ascending s) (ascending-ascends s) q ∙ sym (contains-ascending s q))
 
 pub number-bits : (n : ℕ) → number (bits n) ≡ n
 number-bits n = same_from_bits (number (bits n)) n (λ q. digit_is _ _ (bit_at-lt (number (bits n)) q) (bit_at-lt n q) (sym (contains-bits (number (bits n)) q) ∙ ap (λ s. contains s q) (bits-number (bits n)) ∙ contains-bits n q))
 
 number-empty : number empty ≡ 0
 unfolding number
-number-empty = ap (sum_by (λ b. 2 ^ b)) rising-empty
+number-empty = ap (sum_by (λ b. 2 ^ b)) ascending-empty
 
 pub bits_empty : (n : ℕ) → bits n ≡ empty → n ≡ 0
 bits_empty n none = sym (number-bits n) ∙ ap number none ∙ number-empty
@@ -211,7 +211,7 @@ bits_empty n none = sym (number-bits n) ∙ ap number none ∙ number-empty
 -- `n.count_ones()`
 pub len-bits : (n : ℕ) → len (bits n) ≡ count_ones n
 unfolding number worth
-len-bits n = len-rising (bits n) ∙ sym (worth-ones 0 (rising (bits n)) (rising-rises (bits n))) ∙ ap count_ones (number-bits n)
+len-bits n = len-ascending (bits n) ∙ sym (worth-ones 0 (ascending (bits n)) (ascending-ascends (bits n))) ∙ ap count_ones (number-bits n)
 
 -- ---- `a & !b`, and one bit
 
@@ -290,9 +290,9 @@ bits-low n k = bits_is _ _ (λ q. by q (cases_lt q k) ∙ ap (λ t. t && nat_lt 
         let past : nat_lt q k ≡ false = grind (arith, nat_tests, over) in
         ap (λ d. d == 1) (bit_at_above (n % 2 ^ k) k q (mod_below n (2 ^ k) (pow_pos k)) over) ∙ sym (and_false (bit_at n q == 1) false refl) ∙ ap (λ t. (bit_at n q == 1) && t) (sym past)
 
--- n / 2 ^ k has the bits from k on, moved down
+-- n / 2 ^ k has the bits of n from k on, each less k
 pub contains-bits-shifted : (n k b : ℕ) → contains (bits (n / 2 ^ k)) b ≡ contains (bits n) (k + b)
 contains-bits-shifted n k b = contains-bits (n / 2 ^ k) b ∙ ap (λ m. m % 2 == 1) (shr-shr n k b) ∙ sym (contains-bits n (k + b))
 
--- What a proof about a number's set wants, of any width.
+-- What a proof about the set of a number needs, at any width.
 pub ruleset on_numbers = (bits-and, bits-or, bits-xor, len-bits, bits-low, contains-bits-shifted, bits-zero, bits_empty)

@@ -1,10 +1,10 @@
 -- The order of two sets.
---     compare-ranks      what `compare` answers, by the numbers of the sets
---     compare-total, compare-same, compare-itself      it is a total order, and equal only for equal sets
---     compare-number, compare-bits      it is the order of the sets' numbers
+--     compare-ranks      the lesser set has the lesser number, and sets that compare as equal are equal
+--     compare-total, compare-same, compare-itself      the order is total, and only equal sets compare as equal
+--     compare-number, compare-bits      the order is that of the sets' numbers
 --     compare-subset      a proper subset is less
---     compare-turned      for subsets of one set, taking each from it turns the order round
---     same-compare, compare-partial      what `PartialOrd` and `Ord` ask besides
+--     compare-turned      for two subsets of one set, their complements in that set compare the other way round
+--     same-compare, compare-partial      what else `PartialOrd` and `Ord` require
 use Rattle.std.proofs.Common.{◌≡◌, ◌≢◌, ◌<◌, ℕ, suc, ◌+◌, ◌*◌, ◌/◌, ◌%◌, ◌^◌, Bool, true, false, cond, not, ◌&&◌, ◌||◌, Option, Some, None, refl, sym, ap, subst, ◌∙◌, arith, true≢false, suc-mul}
 use Rattle.std.specs.Prelude.{◌==◌, ◌↔◌}
 use Rattle.std.specs.declared.cmp.Ordering.{Ordering}
@@ -19,22 +19,22 @@ use Rattle.std.proofs.lemmas.Nat.Bits.{bit_at-lt}
 use Rattle.enumset_repr.specs.BitSet.{BitSet, contains, symmetric_difference, difference, is_subset, is_same}
 use Rattle.enumset_repr.specs.Ends.{greatest}
 use Rattle.enumset_repr.specs.Number.{number, bits}
-use Rattle.enumset_repr.specs.Order.{deciding, by_holder, compare}
+use Rattle.enumset_repr.specs.Order.{deciding_number, by_holder, compare}
 use Rattle.enumset_repr.specs.Laws.Members.{same_set, contains-empty, contains-symmetric_difference, contains-difference, is_subset-contains, is_same_iff}
-use Rattle.enumset_repr.specs.Laws.Ends.{greatest_facts, rising-no_greatest}
-use Rattle.enumset_repr.specs.Laws.Rising.{empty_of_rising}
+use Rattle.enumset_repr.specs.Laws.Ends.{greatest_facts, ascending-no_greatest}
+use Rattle.enumset_repr.specs.Laws.Ascending.{empty_of_ascending}
 use Rattle.enumset_repr.specs.Laws.Numbers.{contains-bits, contains-bits-shifted, bits-number, number-bits}
 
 -- ---- by the bits of a number
 
--- numbers with the same bits are one
+-- numbers with the same bits are equal
 same_number : (n k : ℕ) → ((q : ℕ) → contains (bits n) q ≡ contains (bits k) q) → n ≡ k
 same_number n k same = sym (number-bits n) ∙ ap number (same_set _ _ same) ∙ number-bits k
 
 clear_digit : (d : ℕ) → d < 2 → (d == 1) ≡ false → d ≡ 0
 clear_digit d small clear = grind (arith, nat_tests)
 
--- the lesser number has no bit m, which the other has, where they agree above it
+-- of two numbers that agree above bit m, the one without that bit is less than the one with it
 lesser : (n k m : ℕ) → contains (bits n) m ≡ false → contains (bits k) m ≡ true → ((q : ℕ) → m < q → contains (bits n) q ≡ contains (bits k) q) → n < k
 lesser n k m absent present alike =
     let upper : n / 2 ^ (m + 1) ≡ k / 2 ^ (m + 1) = same_number _ _ (λ b. contains-bits-shifted n (m + 1) b ∙ alike (m + 1 + b) (omega arith) ∙ sym (contains-bits-shifted k (m + 1) b)) in
@@ -59,17 +59,17 @@ differs true false one = refl
 differs false true one = refl
 differs false false one = absurd (true≢false (sym one))
 
--- two sets compare by the number that one of them alone has, where they agree above it
-differs_at : (s t : BitSet) (m : ℕ) → deciding s t ≡ Some m → contains t m ≡ not (contains s m)
+-- the number that decides between two sets is in exactly one of them
+differs_at : (s t : BitSet) (m : ℕ) → deciding_number s t ≡ Some m → contains t m ≡ not (contains s m)
 differs_at s t m some = differs _ _ (sym (contains-symmetric_difference s t m) ∙ (greatest_facts _ m some).0)
 
-agrees_above : (s t : BitSet) (m : ℕ) → deciding s t ≡ Some m → (q : ℕ) → m < q → contains s q ≡ contains t q
+agrees_above : (s t : BitSet) (m : ℕ) → deciding_number s t ≡ Some m → (q : ℕ) → m < q → contains s q ≡ contains t q
 agrees_above s t m some q over = agrees _ _ (sym (contains-symmetric_difference s t q) ∙ (greatest_facts _ m some).1 q over)
 
-same_of_none : (s t : BitSet) → deciding s t ≡ None → s ≡ t
-same_of_none s t none = same_set s t (λ q. agrees _ _ (sym (contains-symmetric_difference s t q) ∙ ap (λ u. contains u q) (empty_of_rising _ (rising-no_greatest _ none)) ∙ contains-empty q))
+same_of_none : (s t : BitSet) → deciding_number s t ≡ None → s ≡ t
+same_of_none s t none = same_set s t (λ q. agrees _ _ (sym (contains-symmetric_difference s t q) ∙ ap (λ u. contains u q) (empty_of_ascending _ (ascending-no_greatest _ none)) ∙ contains-empty q))
 
--- a set without m is the lesser, by its number, of two that agree above m
+-- of two sets that agree above m, the one without m has the lesser number
 lesser_set : (s t : BitSet) (m : ℕ) → contains s m ≡ false → contains t m ≡ true → ((q : ℕ) → m < q → contains s q ≡ contains t q) → number s < number t
 lesser_set s t m absent present alike =
     lesser (number s) (number t) m (of s m ∙ absent) (of t m ∙ present) (λ q over. of s q ∙ alike q over ∙ sym (of t q))
@@ -77,7 +77,7 @@ lesser_set s t m absent present alike =
     of : (u : BitSet) (q : ℕ) → contains (bits (number u)) q ≡ contains u q
     of u q = ap (λ v. contains v q) (bits-number u)
 
-ranks_by : (s t : BitSet) (o : Option ℕ) → deciding s t ≡ o → MatchOrdering (by_holder s o) (number s < number t) (s ≡ t) (number t < number s)
+ranks_by : (s t : BitSet) (o : Option ℕ) → deciding_number s t ≡ o → MatchOrdering (by_holder s o) (number s < number t) (s ≡ t) (number t < number s)
 ranks_by s t None none = same_of_none s t none
 ranks_by s t (Some m) some = elim (contains s m) as (λ b. contains s m ≡ b → MatchOrdering (cond b Greater Less) (number s < number t) (s ≡ t) (number t < number s)) [
   | true ↦ λ held. lesser_set t s m (differs_at s t m some ∙ ap not held) held (λ q over. sym (agrees_above s t m some q over))
@@ -86,7 +86,7 @@ ranks_by s t (Some m) some = elim (contains s m) as (λ b. contains s m ≡ b �
 
 pub compare-ranks : (s t : BitSet) → MatchOrdering (compare s t) (number s < number t) (s ≡ t) (number t < number s)
 unfolding compare
-compare-ranks s t = ranks_by s t (deciding s t) refl
+compare-ranks s t = ranks_by s t (deciding_number s t) refl
 
 -- ---- the laws
 
@@ -123,7 +123,7 @@ compare-same s t = (
 -- ---- subsets
 
 -- a proper subset is less
-subset_by : (s t : BitSet) (o : Option ℕ) → deciding s t ≡ o → is_subset s t ≡ true → s ≢ t → by_holder s o ≡ Less
+subset_by : (s t : BitSet) (o : Option ℕ) → deciding_number s t ≡ o → is_subset s t ≡ true → s ≢ t → by_holder s o ≡ Less
 subset_by s t None none sub apart = absurd (apart (same_of_none s t none))
 subset_by s t (Some m) some sub apart = elim (contains s m) as (λ b. contains s m ≡ b → cond b Greater Less ≡ Less) [
   | true ↦ λ held. absurd (true≢false (sym (is_subset-contains s t sub m held) ∙ differs_at s t m some ∙ ap not held))
@@ -132,9 +132,9 @@ subset_by s t (Some m) some sub apart = elim (contains s m) as (λ b. contains s
 
 pub compare-subset : (s t : BitSet) → is_subset s t ≡ true → s ≢ t → compare s t ≡ Less
 unfolding compare
-compare-subset s t = subset_by s t (deciding s t) refl
+compare-subset s t = subset_by s t (deciding_number s t) refl
 
--- of two parts of u, what the one lacks and the other does not is what the other has and the one does not
+-- for two subsets of u: their complements in u differ exactly where they do
 lacks_at : (a b c : Bool) → (a ≡ true → c ≡ true) → (b ≡ true → c ≡ true) → (((c && not a) && not (c && not b)) || ((c && not b) && not (c && not a))) ≡ ((b && not a) || (a && not b))
 lacks_at true true true p q = refl
 lacks_at true false true p q = refl
@@ -150,24 +150,24 @@ lacks u s t sub also = same_set _ _
     ∙ (λ i. (contains-difference u s q i && not (contains-difference u t q i)) || (contains-difference u t q i && not (contains-difference u s q i)))
     ∙ lacks_at _ _ _ (is_subset-contains s u sub q) (is_subset-contains t u also q) ∙ sym (contains-symmetric_difference t s q))
 
--- what just one of two parts of u has, the rest of the other has
+-- a number in exactly one of two subsets of u is in the complement of the one that lacks it
 held_at : (a b c : Bool) → (a ≡ true → c ≡ true) → (b ≡ true → c ≡ true) → a ≡ not b → (c && not a) ≡ b
 held_at true true c p q apart = absurd (true≢false apart)
 held_at true false c p q apart = ap (λ d. d && false) (p refl)
 held_at false true c p q apart = ap (λ d. d && true) (q refl)
 held_at false false c p q apart = absurd (true≢false (sym apart))
 
-turned_by : (u s t : BitSet) (o : Option ℕ) → deciding t s ≡ o → is_subset s u ≡ true → is_subset t u ≡ true → by_holder (difference u s) o ≡ by_holder t o
+turned_by : (u s t : BitSet) (o : Option ℕ) → deciding_number t s ≡ o → is_subset s u ≡ true → is_subset t u ≡ true → by_holder (difference u s) o ≡ by_holder t o
 turned_by u s t None none sub also = refl
 turned_by u s t (Some m) some sub also =
     ap (λ b. cond b Greater Less) (contains-difference u s m ∙ held_at _ _ _ (is_subset-contains s u sub m) (is_subset-contains t u also m) (differs_at t s m some))
 
--- for subsets of u, taking each from u turns the order round
+-- for two subsets of u, their complements in u compare the other way round
 pub compare-turned : (u s t : BitSet) → is_subset s u ≡ true → is_subset t u ≡ true → compare (difference u s) (difference u t) ≡ compare t s
 unfolding compare
-compare-turned u s t sub also = ap (λ d. by_holder (difference u s) (greatest d)) (lacks u s t sub also) ∙ turned_by u s t (deciding t s) refl sub also
+compare-turned u s t sub also = ap (λ d. by_holder (difference u s) (greatest d)) (lacks u s t sub also) ∙ turned_by u s t (deciding_number t s) refl sub also
 
--- ---- as `Ord` asks
+-- ---- what `Ord` requires
 
 pub same-compare : (s t : BitSet) → is_same s t ≡ is_eq (compare s t)
 same-compare s t = one_answer (is_same s t) (is_eq (compare s t)) (λ tie. (compare-same s t).1 ((is_same_iff s t).0 tie), λ e. (is_same_iff s t).1 ((compare-same s t).0 e)) (Equal-is (compare s t))

@@ -1,7 +1,8 @@
--- A step from an end of a list, which gives an item and leaves the others.
---     last-push, without_last-push      the ends of a list with one item more at the back
---     gives_first, gives_last      the item and what is left, by the words on lists
---     first_goes, last_goes      where a step gave an item, fewer are left
+-- A step from an end of a list, which yields an item and leaves the others.
+--     last-push, without_last-push      the last item of a list with one item pushed, and the list without it
+--     gives_first, gives_last      a step yields `first` of a list and leaves `without_first`;  or `last` and
+--         `without_last`
+--     first_goes, last_goes      a step that yields an item leaves fewer
 use Rattle.std.proofs.Common.{◌≡◌, ℕ, ◌-◌, List, [], ◌∷◌, ◌++◌, length, take, length-append, refl, sym, ap, ◌∙◌, arith}
 use Rattle.std.specs.Prelude.{Option, Some, None, MatchOption, ⊤}
 use Rattle.std.specs.List.{last_or}

@@ -1,16 +1,17 @@
 -- Lists of words of 64 bits: the set of a list, and the words of a set.
---     contains-bits_of      at 64 w + b: whether b is a bit of the word at w
---     by_word      a fact about a number, by its word and the bit in the word
---     same_place      numbers are equal if their words and their bits in the word are
---     contains-zero      an empty word has no bit
+--     contains-bits_of      64 w + b is a member exactly if b is a bit of the word at place w
+--     by_word      a fact about a number, by its word and its bit in the word
+--     same_place      numbers with the same word and the same bit in the word are equal
+--     contains-zero      the word 0 has no bit
 --     word-bits_of, words-bits_of      the words of the set of a list are the list's
 --     word-empty      each word of the empty set is 0
 --     bits_of-zeros      the set of a list of zeros is empty
---     words-none, words-more, length-words, slice_index-words      the list of the words of a set, one more at a time
---     bits_of-words      the set of the words of a set: what is below the last
---     word-past, within_words      a set below a width has no word past it, and back
---     put_next      a set below a word, with its next word put in
---     bits_of-within      the bits of a list of words are below 64 for each of them
+--     words-none, words-more, length-words, slice_index-words      the list of the words of a set, one word more at a
+--         time
+--     bits_of-words      the set of the first words of a set: the members below their end
+--     word-past, within_words      a set is below a width exactly if it has no word past it
+--     put_next      a set cut at a word, with the next word put in
+--     bits_of-within      the bits of a list of words are below 64 times its length
 --     bits_of-halves, number-words      a number of 128 bits, and its two words
 --     low-same_words      a set is below a width if a cut there leaves each word as it is
 use Rattle.std.proofs.Common.{◌≡◌, ◌<◌, ◌≤◌, ◌⊎◌, inl, inr, ℕ, suc, zero, ◌+◌, ◌-◌, ◌*◌, ◌/◌, ◌%◌, ◌^◌, Bool, true, false, ◌&&◌, ◌||◌, not, List, [], ◌∷◌, ◌++◌, length, refl, sym, ap, ◌∙◌, subst, arith, mod-lt, true≢false}
@@ -24,44 +25,44 @@ use Rattle.std.proofs.lemmas.List.{get_or_past}
 use Rattle.std.proofs.lemmas.List.FromFn.{get_or-map-range_with_len, length-map-range_with_len, map-range_with_len_more}
 use Rattle.enumset_repr.specs.BitSet.{BitSet, contains, empty, below, is_subset, low}
 use Rattle.enumset_repr.specs.Number.{bits, number}
-use Rattle.enumset_repr.specs.Words.{word, words, bits_of, is_in_word, with_word, raised}
-use Rattle.enumset_repr.specs.Laws.Rising.{rising-empty}
+use Rattle.enumset_repr.specs.Words.{word, words, bits_of, is_in_word, with_word, upward_shift}
+use Rattle.enumset_repr.specs.Laws.Ascending.{ascending-empty}
 use Rattle.enumset_repr.specs.Laws.Members.{same_set, contains-empty, contains-union, contains-below, contains-low, contains-is_subset, contains-past}
 use Rattle.enumset_repr.specs.Laws.Numbers.{number-bits, bits-zero, bits-within, number-within}
-use Rattle.enumset_repr.specs.Laws.Words.{contains-raised, contains-bits-word, contains-with_word, word-bits}
+use Rattle.enumset_repr.specs.Laws.Words.{contains-upward_shift, contains-bits-word, contains-with_word, word-bits}
 use Rattle.enumset_repr.specs.Laws.Low.{within_from_low, low_within}
 
--- ---- bits past a number, and sets moved up
+-- ---- bits past a number, and sets shifted upward
 
--- a number of k bits has none from k on
+-- a number of k bits has no bit at or past k
 pub contains-bits_above : (n k b : ℕ) → n < 2 ^ k → k ≤ b → contains (bits n) b ≡ false
 contains-bits_above n k b small past = contains-past (bits n) k b (bits-within n k small) past
 
-pub contains-raised_from : (s : BitSet) (k q : ℕ) → k ≤ q → contains (raised s k) q ≡ contains s (q - k)
+pub contains-raised_from : (s : BitSet) (k q : ℕ) → k ≤ q → contains (upward_shift s k) q ≡ contains s (q - k)
 contains-raised_from s k q h =
     let reached : nat_le k q ≡ true = grind (arith, nat_tests, h) in
-    contains-raised s k q ∙ ap (λ t. t && contains s (q - k)) reached
+    contains-upward_shift s k q ∙ ap (λ t. t && contains s (q - k)) reached
 
-pub contains-raised_lower : (s : BitSet) (k q : ℕ) → q < k → contains (raised s k) q ≡ false
+pub contains-raised_lower : (s : BitSet) (k q : ℕ) → q < k → contains (upward_shift s k) q ≡ false
 contains-raised_lower s k q h =
     let under : nat_le k q ≡ false = grind (arith, nat_tests, h) in
-    contains-raised s k q ∙ ap (λ t. t && contains s (q - k)) under
+    contains-upward_shift s k q ∙ ap (λ t. t && contains s (q - k)) under
 
 -- ---- the set of a list of words
 
--- the bits of the words at place w, each 64 w + b
+-- the bits of the word at place w, each 64 w + b
 pub contains-bits_of : (ws : List ℕ) (w b : ℕ) → ((i : ℕ) → slice_index ws i < 2 ^ 64) → b < 64 → contains (bits_of ws) (64 * w + b) ≡ contains (bits (slice_index ws w)) b
 unfolding bits_of
 contains-bits_of [] w b fit small = contains-empty _ ∙ sym (ap (λ s. contains s b) bits-zero ∙ contains-empty b)
 contains-bits_of (n ∷ ns) zero b fit small =
     let here : 64 * zero + b ≡ b = omega arith in
-    ap (contains (bits_of (n ∷ ns))) here ∙ contains-union (bits n) (raised (bits_of ns) 64) b
+    ap (contains (bits_of (n ∷ ns))) here ∙ contains-union (bits n) (upward_shift (bits_of ns) 64) b
     ∙ ap (λ t. contains (bits n) b || t) (contains-raised_lower (bits_of ns) 64 b small) ∙ or-false _
 contains-bits_of (n ∷ ns) (suc w) b fit small =
     let q : ℕ = 64 * suc w + b in
     let lower : q - 64 ≡ 64 * w + b = omega arith in
     let from : 64 ≤ q = omega arith in
-    contains-union (bits n) (raised (bits_of ns) 64) q
+    contains-union (bits n) (upward_shift (bits_of ns) 64) q
     ∙ (λ i. contains-bits_above n 64 q (fit zero) from i || contains-raised_from (bits_of ns) 64 q from i)
     ∙ ap (contains (bits_of ns)) lower
     ∙ contains-bits_of ns w b (λ i. fit (suc i)) small
@@ -72,7 +73,7 @@ at_word q = div-add-mod q 64
 in_word : (q : ℕ) → q % 64 < 64
 in_word q = mod-lt q (omega arith)
 
--- a fact about a number, by its word and the bit in the word
+-- a fact about a number, by its word and its bit in the word
 pub by_word : (P : ℕ → Type 0) → ((w r : ℕ) → r < 64 → P (64 * w + r)) → (q : ℕ) → P q
 by_word P each q = subst P (at_word q) (each (q / 64) (q % 64) (in_word q))
 
@@ -84,7 +85,7 @@ same_place i b w r h k = grind (arith, nat_tests)
 
 -- ---- its words
 
--- a word below 2 ^ 64 is known by its bits below 64
+-- a word below 2 ^ 64 is determined by its bits below 64
 same_word : (x y : ℕ) → x < 2 ^ 64 → ((b : ℕ) → contains (bits y) b ≡ (contains (bits x) b && nat_lt b 64)) → y ≡ x
 same_word x y small each =
     sym (number-bits y) ∙ ap number (same_set (bits y) (bits x) (λ b. each b ∙ at b (cases_lt b 64))) ∙ number-bits x
@@ -100,7 +101,7 @@ word-bits_of ws w fit = same_word (slice_index ws w) (word (bits_of ws) w) (fit 
     at b (inl low) = ap (λ t. t && nat_lt b 64) (contains-bits_of ws w b fit low)
     at b (inr past) = ap (λ t. contains (bits_of ws) (64 * w + b) && t) (le-ltb b 64 past) ∙ and-false _ ∙ sym (ap (λ t. contains (bits (slice_index ws w)) b && t) (le-ltb b 64 past) ∙ and-false _)
 
--- the first list may have left zeros at the end of the second away
+-- the first list may lack zeros at the end of the second
 pub words-bits_of : (us ws : List ℕ) → ((i : ℕ) → slice_index us i < 2 ^ 64) → ((i : ℕ) → slice_index us i ≡ slice_index ws i) → words (bits_of us) (length ws) ≡ ws
 unfolding words
 words-bits_of us ws fit same = same_number_lists _ ws (length-map-range_with_len (word (bits_of us)) 0 (length ws)) (λ k under.
@@ -109,7 +110,7 @@ words-bits_of us ws fit same = same_number_lists _ ws (length-map-range_with_len
 
 pub word-empty : (w : ℕ) → word empty w ≡ 0
 unfolding word
-word-empty w = ap (λ bs. sum_by (λ b. 2 ^ (b - 64 * w)) (filter (is_in_word w) bs)) rising-empty
+word-empty w = ap (λ bs. sum_by (λ b. 2 ^ (b - 64 * w)) (filter (is_in_word w) bs)) ascending-empty
 
 pub bits_of-zeros : (ws : List ℕ) → ((i : ℕ) → slice_index ws i < 2 ^ 64) → ((i : ℕ) → slice_index ws i ≡ 0) → bits_of ws ≡ empty
 bits_of-zeros ws fit none = same_set (bits_of ws) empty (λ q. by_word (λ p. contains (bits_of ws) p ≡ false) (λ w b small. contains-bits_of ws w b fit small ∙ contains-zero _ b (none w)) q ∙ sym (contains-empty q))
@@ -179,7 +180,7 @@ bits_of-within ws fit = within_words (bits_of ws) (length ws) (λ w past. word-b
 
 -- ---- one word after another
 
--- the bits of a word of a set, moved to where they stand
+-- the bits of a word of a set, shifted to their places in the set
 word_there : (s : BitSet) (i q : ℕ) → (nat_le (64 * i) q && contains (bits (word s i)) (q - 64 * i)) ≡ (contains s q && is_in_word i q)
 word_there s i q = elim (cases_lt q (64 * i)) [
   | inl under ↦ let none : nat_le (64 * i) q ≡ false = grind (arith, nat_tests, under) in

@@ -1,9 +1,10 @@
--- Words of 64 bits: what `word`, `raised` and `with_word` are, over every width and place.
---     contains-raised, contains-with_word      their members
---     contains-bits-word      the members of a word, as a number's set
---     word-bits, word-within, same_words      a word of a number;  a word is below 2 ^ 64;  a set is known by its words
+-- Words of 64 bits: laws of `word`, `upward_shift` and `with_word`, at every width and place.
+--     contains-upward_shift, contains-with_word      their members
+--     contains-bits-word      the bits of a word of a set
+--     word-bits, word-within, same_words      a word of a number's set;  a word is below 2 ^ 64;  sets with the same
+--         words are equal
 --     bits-shifted_up      the set of `n << k`
---     bits-put_low, bits-put_word      the set of a number one word of which was replaced
+--     bits-put_low, bits-put_word      the set of a number after one of its words was replaced
 use Rattle.std.proofs.Common.{◌≡◌, ◌<◌, ◌≤◌, ℕ, suc, ◌+◌, ◌-◌, ◌*◌, ◌/◌, ◌%◌, ◌^◌, Bool, true, false, not, ◌&&◌, ◌||◌, List, [], ◌∷◌, refl, sym, ap, ◌∙◌, arith, inl, inr, ◌⊎◌, map, cond}
 use Rattle.std.specs.Prelude.{◌==◌, nat_lt, nat_le, sum_by, filter}
 use Rattle.std.specs.Int.{bit_at, bit_not, Width}
@@ -15,54 +16,54 @@ use Rattle.std.proofs.lemmas.Bool.Decides.{nat_tests}
 use Rattle.std.proofs.lemmas.List.Sums.{sum_by-cons}
 use Rattle.std.proofs.lemmas.Nat.{pow_pos, mod_below}
 use Rattle.std.proofs.lemmas.Nat.Bits.{bit_at_ones, bit_at_ones_above, bit_at_cat_low, bit_at_cat_high, bit_at-zero}
-use Rattle.enumset_repr.specs.BitSet.{is_in, BitSet, contains, rising, from_list, union, difference, low}
+use Rattle.enumset_repr.specs.BitSet.{is_in, BitSet, contains, ascending, from_list, union, difference, low}
 use Rattle.enumset_repr.specs.Number.{number, bits}
-use Rattle.enumset_repr.specs.Words.{is_in_word, word, raised, with_word}
-use Rattle.enumset_repr.specs.Laws.Members.{same_set, contains-rising, contains-retain, contains-from_list, contains-union, contains-difference, contains-low, none_of, member_below}
-use Rattle.enumset_repr.specs.Laws.Rising.{RisesFrom, rising-rises, rising_is}
+use Rattle.enumset_repr.specs.Words.{is_in_word, word, upward_shift, with_word}
+use Rattle.enumset_repr.specs.Laws.Members.{same_set, contains-ascending, contains-retain, contains-from_list, contains-union, contains-difference, contains-low, none_of, member_below}
+use Rattle.enumset_repr.specs.Laws.Ascending.{AscendsFrom, ascending-ascends, ascending_is}
 use Rattle.enumset_repr.specs.Laws.Numbers.{contains-bits, bits-number, number-bits, bits-within, bits-low, bits-or, bits-and_not, contains-bits-shifted}
 
--- ---- a set moved up
+-- ---- a set shifted upward
 
 raised_test : (k q b : ℕ) → (q == k + b) ≡ (nat_le k q && (q - k == b))
 raised_test k q b = grind (arith, nat_tests)
 
-is_in-raised : (k q : ℕ) (bs : List ℕ) → is_in q (map (λ b. k + b) bs) ≡ (nat_le k q && is_in (q - k) bs)
-is_in-raised k q [] = sym (and-false (nat_le k q))
-is_in-raised k q (b ∷ bs) =
-    (λ i. raised_test k q b i || is_in-raised k q bs i) ∙ sym (and-or_distrib_left (nat_le k q) (q - k == b) (is_in (q - k) bs))
+is_in-upward_shift : (k q : ℕ) (bs : List ℕ) → is_in q (map (λ b. k + b) bs) ≡ (nat_le k q && is_in (q - k) bs)
+is_in-upward_shift k q [] = sym (and-false (nat_le k q))
+is_in-upward_shift k q (b ∷ bs) =
+    (λ i. raised_test k q b i || is_in-upward_shift k q bs i) ∙ sym (and-or_distrib_left (nat_le k q) (q - k == b) (is_in (q - k) bs))
 
-pub contains-raised : (s : BitSet) (k q : ℕ) → contains (raised s k) q ≡ (nat_le k q && contains s (q - k))
-unfolding raised
-contains-raised s k q = contains-from_list _ q ∙ is_in-raised k q (rising s) ∙ ap (λ t. nat_le k q && t) (sym (contains-rising s (q - k)))
+pub contains-upward_shift : (s : BitSet) (k q : ℕ) → contains (upward_shift s k) q ≡ (nat_le k q && contains s (q - k))
+unfolding upward_shift
+contains-upward_shift s k q = contains-from_list _ q ∙ is_in-upward_shift k q (ascending s) ∙ ap (λ t. nat_le k q && t) (sym (contains-ascending s (q - k)))
 
 pub contains-with_word : (s : BitSet) (width w n q : ℕ) → contains (with_word s width w n) q ≡ ((contains s q && not (is_in_word w q)) || ((nat_le (64 * w) q && contains (bits n) (q - 64 * w)) && nat_lt q width))
 unfolding with_word
 contains-with_word s width w n q =
     contains-union _ _ q
-    ∙ (λ i. contains-retain s (λ b. not (is_in_word w b)) q i || (contains-low (raised (bits n) (64 * w)) width q ∙ ap (λ t. t && nat_lt q width) (contains-raised (bits n) (64 * w) q)) i)
+    ∙ (λ i. contains-retain s (λ b. not (is_in_word w b)) q i || (contains-low (upward_shift (bits n) (64 * w)) width q ∙ ap (λ t. t && nat_lt q width) (contains-upward_shift (bits n) (64 * w) q)) i)
 
--- ---- the numbers of a word
+-- ---- the members in a word
 
--- the members of a word, counted from its lowest bit
+-- the members in word w, counted from its lowest bit
 cut : ℕ → List ℕ → List ℕ
 cut w xs = map (λ b. b - 64 * w) (filter (is_in_word w) xs)
 
-rises_lower : (j k : ℕ) (xs : List ℕ) → j ≤ k → RisesFrom k xs → RisesFrom j xs
-rises_lower j k [] less rises = tt
-rises_lower j k (x ∷ xs) less rises = (omega (arith, rises.0), rises.1)
+ascends_lower : (j k : ℕ) (xs : List ℕ) → j ≤ k → AscendsFrom k xs → AscendsFrom j xs
+ascends_lower j k [] less ascends = tt
+ascends_lower j k (x ∷ xs) less ascends = (omega (arith, ascends.0), ascends.1)
 
 in_word_from : (w b : ℕ) → is_in_word w b ≡ true → 64 * w ≤ b
 in_word_from w b one = grind (arith, nat_tests)
 
-cut-rises : (w k : ℕ) (xs : List ℕ) → RisesFrom k xs → RisesFrom (k - 64 * w) (cut w xs)
+cut-ascends : (w k : ℕ) (xs : List ℕ) → AscendsFrom k xs → AscendsFrom (k - 64 * w) (cut w xs)
 unfolding cut
-cut-rises w k [] rises = tt
-cut-rises w k (x ∷ xs) rises =
-    let rest : RisesFrom (suc x - 64 * w) (cut w xs) = cut-rises w (suc x) xs rises.1 in
-    elim (is_in_word w x) as (λ t. is_in_word w x ≡ t → RisesFrom (k - 64 * w) (map (λ b. b - 64 * w) (cond t (x ∷ filter (is_in_word w) xs) (filter (is_in_word w) xs)))) [
-      | true ↦ λ e. (omega (arith, rises.0), rises_lower (suc (x - 64 * w)) (suc x - 64 * w) _ (omega (arith, in_word_from w x e)) rest)
-      | false ↦ λ e. rises_lower (k - 64 * w) (suc x - 64 * w) _ (omega (arith, rises.0)) rest
+cut-ascends w k [] ascends = tt
+cut-ascends w k (x ∷ xs) ascends =
+    let rest : AscendsFrom (suc x - 64 * w) (cut w xs) = cut-ascends w (suc x) xs ascends.1 in
+    elim (is_in_word w x) as (λ t. is_in_word w x ≡ t → AscendsFrom (k - 64 * w) (map (λ b. b - 64 * w) (cond t (x ∷ filter (is_in_word w) xs) (filter (is_in_word w) xs)))) [
+      | true ↦ λ e. (omega (arith, ascends.0), ascends_lower (suc (x - 64 * w)) (suc x - 64 * w) _ (omega (arith, in_word_from w x e)) rest)
+      | false ↦ λ e. ascends_lower (k - 64 * w) (suc x - 64 * w) _ (omega (arith, ascends.0)) rest
     ] refl
 
 cut_yes : (w q x : ℕ) → is_in_word w x ≡ true → (q == x - 64 * w) ≡ ((64 * w + q == x) && nat_lt q 64)
@@ -84,19 +85,19 @@ sum_by-map : (f g : ℕ → ℕ) (xs : List ℕ) → sum_by f (map g xs) ≡ sum
 sum_by-map f g [] = refl
 sum_by-map f g (x ∷ xs) = sum_by-cons f (g x) (map g xs) ∙ ap (λ n. f (g x) + n) (sum_by-map f g xs) ∙ sym (sum_by-cons (λ y. f (g y)) x xs)
 
--- a word is the number of the members cut out
-word-number : (s : BitSet) (w : ℕ) → word s w ≡ number (from_list (cut w (rising s)))
+-- a word is the number of its members, counted from its lowest bit
+word-number : (s : BitSet) (w : ℕ) → word s w ≡ number (from_list (cut w (ascending s)))
 unfolding word number cut
 word-number s w =
-    let list : rising (from_list (cut w (rising s))) ≡ cut w (rising s) = rising_is _ _ (rises_lower 0 (0 - 64 * w) _ (omega arith) (cut-rises w 0 (rising s) (rising-rises s))) (λ q. contains-from_list _ q) in
-    sym (sum_by-map (λ b. 2 ^ b) (λ b. b - 64 * w) (filter (is_in_word w) (rising s))) ∙ ap (sum_by (λ b. 2 ^ b)) (sym list)
+    let list : ascending (from_list (cut w (ascending s))) ≡ cut w (ascending s) = ascending_is _ _ (ascends_lower 0 (0 - 64 * w) _ (omega arith) (cut-ascends w 0 (ascending s) (ascending-ascends s))) (λ q. contains-from_list _ q) in
+    sym (sum_by-map (λ b. 2 ^ b) (λ b. b - 64 * w) (filter (is_in_word w) (ascending s))) ∙ ap (sum_by (λ b. 2 ^ b)) (sym list)
 
 pub contains-bits-word : (s : BitSet) (w q : ℕ) → contains (bits (word s w)) q ≡ (contains s (64 * w + q) && nat_lt q 64)
 contains-bits-word s w q =
     ap (λ n. contains (bits n) q) (word-number s w) ∙ ap (λ t. contains t q) (bits-number _) ∙ contains-from_list _ q
-    ∙ is_in-cut w q (rising s) ∙ ap (λ t. t && nat_lt q 64) (sym (contains-rising s (64 * w + q)))
+    ∙ is_in-cut w q (ascending s) ∙ ap (λ t. t && nat_lt q 64) (sym (contains-ascending s (64 * w + q)))
 
--- a number with a set's bits is the set's
+-- numbers whose sets are equal are equal
 number_is : (n m : ℕ) → ((q : ℕ) → contains (bits n) q ≡ contains (bits m) q) → n ≡ m
 number_is n m is = sym (number-bits n) ∙ ap number (same_set _ _ is) ∙ number-bits m
 
@@ -107,9 +108,9 @@ word-bits n w = number_is _ _ (λ q.
 
 -- ---- one word replaced
 
--- `n << k` at a width: the bits of n moved up, of which those past the width are lost
-pub bits-shifted_up : (width n k : ℕ) → bits (n * 2 ^ k % 2 ^ width) ≡ low (raised (bits n) k) width
-bits-shifted_up width n k = bits-low (n * 2 ^ k) width ∙ ap (λ s. low s width) (same_set _ _ (λ q. by q (cases_lt q k) ∙ sym (contains-raised (bits n) k q)))
+-- `n << k` at a width: the bits of n shifted upward, without those that pass the width
+pub bits-shifted_up : (width n k : ℕ) → bits (n * 2 ^ k % 2 ^ width) ≡ low (upward_shift (bits n) k) width
+bits-shifted_up width n k = bits-low (n * 2 ^ k) width ∙ ap (λ s. low s width) (same_set _ _ (λ q. by q (cases_lt q k) ∙ sym (contains-upward_shift (bits n) k q)))
   where
     by : (q : ℕ) → (q < k) ⊎ (k ≤ q) → contains (bits (n * 2 ^ k)) q ≡ (nat_le k q && contains (bits n) (q - k))
     by q (inl under) =
@@ -129,20 +130,20 @@ contains-ones q = contains-bits _ q ∙ elim (cases_lt q 64) [
   | inr over ↦ ap (λ d. d == 1) (bit_at_ones_above 64 q over) ∙ sym (le-ltb q 64 over)
 ]
 
--- where a place below the width is set, it is in the mask of a word exactly if it is in the word
+-- a bit below the width is in the mask of a word exactly if it is in the word
 mask_test : (i q width : ℕ) → q < width → ((nat_le (64 * i) q && nat_lt (q - 64 * i) 64) && nat_lt q width) ≡ is_in_word i q
 mask_test i q width within = grind (arith, nat_tests)
 
 contains-mask : (width i q : ℕ) → contains (bits (18446744073709551615 * 2 ^ (64 * i) % 2 ^ width)) q ≡ ((nat_le (64 * i) q && nat_lt (q - 64 * i) 64) && nat_lt q width)
 contains-mask width i q =
     ap (λ s. contains s q) (bits-shifted_up width 18446744073709551615 (64 * i)) ∙ contains-low _ width q
-    ∙ ap (λ t. t && nat_lt q width) (contains-raised _ (64 * i) q ∙ ap (λ t. nat_le (64 * i) q && t) (contains-ones (q - 64 * i)))
+    ∙ ap (λ t. t && nat_lt q width) (contains-upward_shift _ (64 * i) q ∙ ap (λ t. nat_le (64 * i) q && t) (contains-ones (q - 64 * i)))
 
 kept_outside : (c m o : Bool) → (c ≡ true → m ≡ o) → (c && not m) ≡ (c && not o)
 kept_outside true m o same = ap not (same refl)
 kept_outside false m o same = refl
 
--- any word, at a width: `n & !(u64::MAX << k) | x << k`, where k is 64 times the place
+-- any word, at any width: `n & !(u64::MAX << k) | x << k`, where k is 64 times the place
 pub bits-put_word : (w : Width) (n x i : ℕ) → n < 2 ^ width_bits w → bits (bit_or (bit_and n (bit_not w (18446744073709551615 * 2 ^ (64 * i) % 2 ^ width_bits w))) (x * 2 ^ (64 * i) % 2 ^ width_bits w)) ≡ with_word (bits n) (width_bits w) i x
 bits-put_word w n x i fits =
     bits-or _ _
@@ -153,10 +154,10 @@ bits-put_word w n x i fits =
     outside q = contains-difference (bits n) _ q ∙ kept_outside (contains (bits n) q) _ _ (λ one.
         contains-mask (width_bits w) i q ∙ mask_test i q (width_bits w) (member_below (bits n) (width_bits w) q (bits-within n (width_bits w) fits) one))
 
-    placed : (q : ℕ) → contains (low (raised (bits x) (64 * i)) (width_bits w)) q ≡ ((nat_le (64 * i) q && contains (bits x) (q - 64 * i)) && nat_lt q (width_bits w))
-    placed q = contains-low _ (width_bits w) q ∙ ap (λ t. t && nat_lt q (width_bits w)) (contains-raised (bits x) (64 * i) q)
+    placed : (q : ℕ) → contains (low (upward_shift (bits x) (64 * i)) (width_bits w)) q ≡ ((nat_le (64 * i) q && contains (bits x) (q - 64 * i)) && nat_lt q (width_bits w))
+    placed q = contains-low _ (width_bits w) q ∙ ap (λ t. t && nat_lt q (width_bits w)) (contains-upward_shift (bits x) (64 * i) q)
 
--- the lowest word, at a width of no more than 64 bits
+-- the lowest word, at a width of at most 64 bits
 pub bits-put_low : (width n x : ℕ) → width ≤ 64 → n < 2 ^ width → bits (x % 2 ^ width) ≡ with_word (bits n) width 0 x
 bits-put_low width n x narrow fits = bits-low x width ∙ same_set _ _ (λ q. contains-low (bits x) width q ∙ lowest q ∙ sym (contains-with_word (bits n) width 0 x q))
   where

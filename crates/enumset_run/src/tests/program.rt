@@ -3,7 +3,7 @@
 use super::surroundings::{Source, outcome, text_of};
 use crate::program::answer_input;
 use enumset_kinds::worked::Worked;
-use enumset_machine::serve::INPUT_LIMIT;
+use enumset_machine::INPUT_LIMIT;
 use std::alloc::{AllocError, Global};
 use std::test::Fail;
 
@@ -160,7 +160,7 @@ fn an_input_has_at_most_a_mebibyte(rt: HostRuntime) -> Result<(), Fail> {
     Ok(())
 }
 
-// A reader and a writer whose bytes are known, as the contract of `answer_input` asks.
+// A reader and a writer whose bytes are known, as the contract of `answer_input` assumes.
 #[test]
 fn known_bytes_are_answered(rt: HostRuntime) -> Result<(), Fail> {
     let alloc = rt.alloc();

@@ -5,19 +5,11 @@
 //! has to end.
 
 use super::surroundings::text_of;
-use enumset_commands::command::Command;
-use enumset_commands::mixed_command::MixedCommand;
-use enumset_commands::reply::Reply;
-use enumset_commands::text_fault::TextFault;
+use enumset_commands::{Command, MixedCommand, Reply, TextFault};
 use enumset_kinds::kinds::serve_worked;
 use enumset_kinds::worked::Worked;
-use enumset_machine::machine::Machine;
-use enumset_machine::machine::mixed_machine::MixedMachine;
-use enumset_machine::mixed_runs::run_mixed;
-use enumset_machine::runs::run;
-use enumset_machine::serve::{serve_mixed_text, serve_text};
-use enumset_worked::letters::Letters;
-use enumset_worked::marks::Marks;
+use enumset_machine::{Machine, MixedMachine, run, run_mixed, serve_mixed_text, serve_text};
+use enumset_worked::{Letters, Marks};
 use std::alloc::AllocError;
 use std::process::Abort;
 use std::test::Fail;
@@ -34,11 +26,11 @@ fn is_words(reply: &Reply, wanted: &[u64]) -> bool {
 fn a_step_leaves_its_machine(rt: HostRuntime) -> Result<(), Fail> {
     let mut machine = Machine::<Letters>::new();
     machine.step(rt.alloc(), &Command::Insert { r: 0, bit: 2 })?;
-    let asks = Command::Words { r: 0, count: 2 };
-    let (reply, ended) = match machine.step(rt.alloc(), &asks) {
+    let words = Command::Words { r: 0, count: 2 };
+    let (reply, ended) = match machine.step(rt.alloc(), &words) {
         Ok(reply) => (reply, Ok(())),
         Err(refused) => {
-            let again = machine.step(rt.alloc(), &asks);
+            let again = machine.step(rt.alloc(), &words);
             (again.expect(&rt, "refused once more"), Err(refused))
         }
     };
@@ -50,11 +42,11 @@ fn a_step_leaves_its_machine(rt: HostRuntime) -> Result<(), Fail> {
 fn a_mixed_step_leaves_its_machine(rt: HostRuntime) -> Result<(), Fail> {
     let mut machine = MixedMachine::<Marks>::new();
     machine.step(rt.alloc(), &MixedCommand::InsertBit { r: 0, bit: 7 })?;
-    let asks = MixedCommand::Common(Command::Words { r: 0, count: 2 });
-    let (reply, ended) = match machine.step(rt.alloc(), &asks) {
+    let words = MixedCommand::Common(Command::Words { r: 0, count: 2 });
+    let (reply, ended) = match machine.step(rt.alloc(), &words) {
         Ok(reply) => (reply, Ok(())),
         Err(refused) => {
-            let again = machine.step(rt.alloc(), &asks);
+            let again = machine.step(rt.alloc(), &words);
             (again.expect(&rt, "refused once more"), Err(refused))
         }
     };
@@ -96,7 +88,7 @@ fn mixed_runs(rt: HostRuntime) -> Result<(), Fail> {
     Ok(ended?)
 }
 
-// The text of an answer, and the refusal that came before it, where the only fault that comes is want of memory.
+// The text of an answer, and the refusal that came before it, where the only fault that comes is out of memory.
 fn text_and_refusal<F: Fn() -> Result<Vec<u8>, TextFault>>(
     rt: &impl Abort,
     serve: F,

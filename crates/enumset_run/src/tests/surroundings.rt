@@ -10,7 +10,7 @@ use std::process::Abort;
 use std::str;
 use std::test::Fail;
 
-/// Bytes of which a read gives at most so many. Every other read is interrupted. Reading past the bytes fails,
+/// Bytes, of which a read gives at most `most`. Every other read is interrupted. Reading past the bytes fails,
 /// or else finds the end.
 #[derive(Clone, Copy)]
 pub(super) struct Source<'a> {
@@ -56,8 +56,8 @@ impl BufRead for Source<'_> {
     }
 }
 
-/// Arguments, which commas part, after the program's name; an input; and an output that holds at
-/// most so many bytes and takes at most three at a time. Every other write is interrupted.
+/// Arguments, which commas separate, after the program's name; an input; and an output that holds at
+/// most `room` bytes and takes at most three at a time. Every other write is interrupted.
 #[derive(Drop)]
 pub(super) struct Surroundings<'a> {
     pub(super) arguments: &'a str,
@@ -135,7 +135,7 @@ impl Print for Surroundings<'_> {
     }
 }
 
-/// What the program writes over these arguments, this input and an output that holds at most so many bytes. If it
+/// What the program writes over these arguments, this input and an output that holds at most `room` bytes. If it
 /// fails, an exclamation mark and the status and the text of the fault in a line come after that.
 pub(super) fn outcome(
     alloc: Global,
@@ -169,8 +169,8 @@ pub(super) fn text_of(bytes: &[u8]) -> &str {
 pub(super) fn outputs_as_wanted(rt: &impl Abort, alloc: Global, table: &str) -> Result<(), Fail> {
     assert!(rt; table.starts_with("--\n"));
     for part in table.split("--\n").skip(1) {
-        let (asked, wanted) = part.split_once("==\n").unwrap_or((part, ""));
-        let (names, inputs) = asked.split_once("\n").unwrap_or((asked, ""));
+        let (given, wanted) = part.split_once("==\n").unwrap_or((part, ""));
+        let (names, inputs) = given.split_once("\n").unwrap_or((given, ""));
         for name in names.split(' ') {
             let arguments = format!(in alloc; "program,{name}")?;
             for input in inputs.split('|') {

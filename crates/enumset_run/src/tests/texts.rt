@@ -2,10 +2,7 @@
 
 use super::surroundings::text_of;
 use crate::fault::ProgramFault;
-use enumset_commands::reply::{Refusal, Reply};
-use enumset_commands::text_fault::TextFault;
-use enumset_commands::transcript::write_replies;
-use enumset_commands::word_list::WordList;
+use enumset_commands::{Refusal, Reply, TextFault, WordList, write_replies};
 use std::cmp::Ordering;
 use std::test::Fail;
 

@@ -3,28 +3,24 @@
 ghost use Rattle.std.specs.Prelude.{◌≡◌, IsTrue, IfOk, min};
 ghost use Rattle.std.specs.List.{list_all};
 ghost use Rattle.enumset_machine.specs.Transcripts.{is_within};
+ghost use Rattle.enumset_sets.specs.Elements.{valid_bits};
 
 use super::surroundings::text_of;
-use enumset_commands::command::Command;
-use enumset_commands::mixed_command::MixedCommand;
-use enumset_commands::reply::Reply;
-use enumset_commands::transcript::write_replies;
+use enumset_commands::{Command, MixedCommand, Reply, write_replies};
 use enumset_machine::laws::mixed_transcript;
-use enumset_machine::mixed_runs::run_mixed;
-use enumset_repr::repr::EnumSetTypeRepr;
-use enumset_sets::element::EnumSetType;
-use enumset_sets::with_repr::EnumSetTypeWithRepr;
-use enumset_worked::pair_number::PairNumber;
-use enumset_worked::pair_words::PairWords;
+use enumset_machine::run_mixed;
+use enumset_repr::EnumSetTypeRepr;
+use enumset_sets::{EnumSetType, EnumSetTypeWithRepr};
+use enumset_worked::{PairNumber, PairWords};
 use std::alloc::{AllocError, Global};
 use std::test::Fail;
 
-// The replies over mixed sets of two types with the same valid bits, which are the same, whatever the stores.
+// The replies over mixed sets of two types with the same valid bits. They do not depend on the representations.
 fn replies_over_both<T: EnumSetTypeWithRepr, U: EnumSetTypeWithRepr>(
     alloc: Global,
     commands: &[MixedCommand],
 ) -> Result<(Vec<Reply>, Vec<Reply>), AllocError>
-    requires bits { T.Repr.members T.ALL_BITS ≡ U.Repr.members U.ALL_BITS }
+    requires bits { valid_bits T.elements ≡ valid_bits U.elements }
     requires within { IsTrue (list_all (is_within (min T.Repr.WIDTH U.Repr.WIDTH)) commands.now) }
     ensures { IfOk result (λ both. both.0.items ≡ both.1.items) }
 {
@@ -46,7 +42,7 @@ fn replies_over_pairs(
     replies_over_both::<PairWords, PairNumber>(alloc, commands)
 }
 
-// Commands that hand in no bit at or past 128.
+// Commands whose bits are all below 128.
 fn commands() -> [MixedCommand; 7]
     ensures { IsTrue (list_all (is_within 128) result) }
 {
@@ -62,7 +58,7 @@ fn commands() -> [MixedCommand; 7]
 }
 
 #[test]
-fn the_store_shows_in_no_reply(rt: HostRuntime) -> Result<(), Fail> {
+fn the_representation_shows_in_no_reply(rt: HostRuntime) -> Result<(), Fail> {
     let alloc = rt.alloc();
     let (words, number) = replies_over_pairs(alloc, &commands())?;
     let text = write_replies(alloc, &words)?;

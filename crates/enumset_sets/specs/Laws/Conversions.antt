@@ -1,9 +1,9 @@
--- What becomes of a set on its way through a store or a number.
---     number_within      a cut at a width leaves the number of a set below it
---     low_part_within      what is left of a set within v is within v
---     words_within      the words of a set below the last give it back
---     words_of_store      and so do as many as a store has
--- The ruleset `conversions` holds them.
+-- What becomes of a set that is cut at a width, and of one that is taken through words.
+--     number_within      the number of a set below a width, after a cut there
+--     low_part_within      a subset of v is still one after a cut
+--     words_within      the words of a set up to its last member represent that set
+--     words_of_repr      so do as many words as its representation has
+-- The ruleset `conversions` has the first two.
 use Rattle.std.proofs.Common.{◌≡◌, ℕ, ◌+◌, ◌*◌, ◌/◌, true, ap, ◌∙◌, arith}
 use Rattle.enumset_repr.specs.BitSet.{BitSet, is_subset, below, low}
 use Rattle.enumset_repr.specs.Number.{number}
@@ -21,8 +21,8 @@ low_part_within s v n within = is_subset_trans (low s n) s v (low_part s n) with
 pub words_within : (s : BitSet) (n : ℕ) → is_subset s (below (64 * n)) ≡ true → bits_of (words s n) ≡ s
 words_within s n within = bits_of-words s n ∙ low_within s (64 * n) within
 
-pub words_of_store : (s v : BitSet) (n width : ℕ) → n ≡ (width + 63) / 64 → is_subset v (below width) ≡ true → is_subset s v ≡ true → bits_of (words s n) ≡ s
-words_of_store s v n width is bound part =
+pub words_of_repr : (s v : BitSet) (n width : ℕ) → n ≡ (width + 63) / 64 → is_subset v (below width) ≡ true → is_subset s v ≡ true → bits_of (words s n) ≡ s
+words_of_repr s v n width is bound part =
     words_within s n (is_subset_wider s width (64 * n) (omega (arith, is)) (is_subset_trans s v (below width) part bound))
 
 pub ruleset conversions = (number_within, low_part_within)

@@ -1,8 +1,12 @@
 -- The laws of an enum without fields as an element type, from one test of its bits and its constants.
---     IsLawful, IsLawfulNumber, IsLawfulWords      the test; where it fails it is the fault, by a name that says what to mend
---     lawful_in, lawful_in_integer, lawful_in_words      the laws, over any store; over an integer; over words
+--     IsLawful, IsLawfulNumber, IsLawfulWords      the test, over any representation, an integer or words; if it fails,
+--         it is a fault, whose name says what to mend
+--     BitCountShouldBe, NamesABitTwice, BitWidthShouldBe, VariantCountShouldBe      the faults
+--     AllBitsShouldBe, AllBitsShouldBeWords      the faults of ALL_BITS, over an integer and over words
+--     lawful_in, lawful_in_integer, lawful_in_words      the laws, over any representation, an integer or words
 --     lawful_in_place      the laws where each bit is its variant's place, from those of the same bits as a list
---     derived_eq      what a derived `==` of such an enum answers
+--     one_past_all, or_else      one past the greatest number of a list;  a fault if a test fails, else what comes next
+--     derived_eq      what a derived `==` of such an enum returns
 -- An element type imports the makers of its elements from here too.
 use Rattle.std.proofs.Common.{◌≡◌, ◌<◌, ◌≤◌, ℕ, suc, zero, ◌+◌, ◌^◌, Bool, true, false, cond, eqb, List, Some, sym, ap, ◌∙◌, length, get_or, max, sum_by, arith, true≢false, inl, inr}
 use Rattle.std.specs.Prelude.{◌==◌}
@@ -13,11 +17,11 @@ use denote.Enum.Bare.{Bare, tag_one, sameb, same_true, true_same}
 use Rattle.std.proofs.lemmas.Bool.{or_cases, cases_lt, and_parts, and_from, or_left, or_right, not-true, eqb-true, eq-eqb}
 use Rattle.std.specs.List.{last_or}
 use Rattle.std.proofs.lemmas.List.FromFn.{get_or-range_with_len}
-use Rattle.enumset_repr.specs.BitSet.{BitSet, is_in, contains, from_list, rising, len, is_subset}
+use Rattle.enumset_repr.specs.BitSet.{BitSet, is_in, contains, from_list, ascending, len, is_subset}
 use Rattle.enumset_repr.specs.Number.{bits, is_distinct}
 use Rattle.enumset_repr.specs.Ends.{last, greatest}
-use Rattle.enumset_repr.specs.Laws.Members.{contains-from_list, contains-rising, list_all-each, is_subset-contains}
-use Rattle.enumset_repr.specs.Laws.Rising.{len-empty, len-insert, rising-rises, RisesFrom}
+use Rattle.enumset_repr.specs.Laws.Members.{contains-from_list, contains-ascending, list_all-each, is_subset-contains}
+use Rattle.enumset_repr.specs.Laws.Ascending.{len-empty, len-insert, ascending-ascends, AscendsFrom}
 use Rattle.enumset_repr.specs.Words.{bits_of, in_first_word, in_later_words, lists_words}
 use Rattle.enumset_repr.specs.Laws.Listed.{bits_listed, words_listed}
 use Rattle.std.specs.Prelude.{[], ◌∷◌, refl}
@@ -62,7 +66,7 @@ is_in-one_past q (b ∷ bs) one = elim (or_cases (q == b) _ one) [
   | inr later ↦ omega (arith, is_in-one_past q bs later)
 ]
 
--- what reaches the number is in the list
+-- the greatest number of a list is in it
 one_past_is_in : (bs : List ℕ) (n : ℕ) → one_past_all bs ≡ suc n → is_in n bs ≡ true
 one_past_is_in [] n e = absurd (omega (arith, e))
 one_past_is_in (b ∷ bs) n e = elim (cases_lt (suc b) (one_past_all bs)) [
@@ -70,27 +74,27 @@ one_past_is_in (b ∷ bs) n e = elim (cases_lt (suc b) (one_past_all bs)) [
   | inr most ↦ or_left (n == b) _ (let same : n ≡ b = omega (arith, e, most) in ap (λ x. x == b) same ∙ eq-eqb b b refl)
 ]
 
--- two lists with the same numbers reach as far
+-- lists with the same numbers have the same greatest number
 same_reach : (xs bs : List ℕ) → ((q : ℕ) → is_in q xs ≡ is_in q bs) → one_past_all xs ≤ one_past_all bs
 same_reach xs bs same = reach_of (one_past_all xs) refl where
   reach_of : (n : ℕ) → one_past_all xs ≡ n → one_past_all xs ≤ one_past_all bs
   reach_of zero e = omega (arith, e)
   reach_of (suc n) e = omega (arith, e, is_in-one_past n bs (sym (same n) ∙ one_past_is_in xs n e))
 
--- the last of a list that rises is its greatest
-one_past-last_or : (k b : ℕ) (bs : List ℕ) → RisesFrom k (b ∷ bs) → one_past (last_or (Some b) bs) ≡ one_past_all (b ∷ bs)
-one_past-last_or k b [] rises = omega arith
-one_past-last_or k b (c ∷ bs) rises = one_past-last_or (suc b) c bs rises.1 ∙ omega (arith, rises.1.0)
+-- the last number of an ascending list is its greatest
+one_past-last_or : (k b : ℕ) (bs : List ℕ) → AscendsFrom k (b ∷ bs) → one_past (last_or (Some b) bs) ≡ one_past_all (b ∷ bs)
+one_past-last_or k b [] ascends = omega arith
+one_past-last_or k b (c ∷ bs) ascends = one_past-last_or (suc b) c bs ascends.1 ∙ omega (arith, ascends.1.0)
 
-one_past-last : (bs : List ℕ) → RisesFrom 0 bs → one_past (last bs) ≡ one_past_all bs
-one_past-last [] rises = refl
-one_past-last (b ∷ bs) rises = one_past-last_or 0 b bs rises
+one_past-last : (bs : List ℕ) → AscendsFrom 0 bs → one_past (last bs) ≡ one_past_all bs
+one_past-last [] ascends = refl
+one_past-last (b ∷ bs) ascends = one_past-last_or 0 b bs ascends
 
 one_past_greatest-from_list : (bs : List ℕ) → one_past_greatest (from_list bs) ≡ one_past_all bs
 unfolding greatest
 one_past_greatest-from_list bs =
-    let same : (q : ℕ) → is_in q (rising (from_list bs)) ≡ is_in q bs = λ q. sym (contains-rising (from_list bs) q) ∙ contains-from_list bs q in
-    one_past-last (rising (from_list bs)) (rising-rises (from_list bs))
+    let same : (q : ℕ) → is_in q (ascending (from_list bs)) ≡ is_in q bs = λ q. sym (contains-ascending (from_list bs) q) ∙ contains-from_list bs q in
+    one_past-last (ascending (from_list bs)) (ascending-ascends (from_list bs))
     ∙ omega (arith, same_reach _ bs same, same_reach bs _ (λ q. sym (same q)))
 
 -- ---- the bits of an enum's variants
@@ -107,7 +111,7 @@ module _ (D : Declared) (bare : Bare D.parts) (bs : List ℕ) (variants : length
 
 -- ---- a derived `==`
 
--- the derived `==` of an enum without fields compares the variants, and at one variant it compares nothing
+-- the derived `==` of an enum without fields compares the variants; for an enum of one variant it compares nothing
 abbrev pub of_one : List (List Field) → Bool → Bool
 of_one (Fs ∷ []) same = true
 of_one Fss same = same
@@ -125,7 +129,8 @@ derived_eq-same D v w = of_one-same D.parts (tag_of D v) (tag_of D w) (tag_below
 
 -- ---- the test
 
--- What an element type may get wrong. Nothing is of these types: where one is asked for, its name says what to mend.
+-- What an element type may get wrong. These types have no values. Where a value of one is wanted, its name says what to
+-- mend.
 pub data BitCountShouldBe (variants : ℕ) : Type 0 where
 
 pub data NamesABitTwice : Type 0 where
@@ -138,18 +143,18 @@ pub data AllBitsShouldBe (number : ℕ) : Type 0 where
 
 pub data AllBitsShouldBeWords (words : List ℕ) : Type 0 where
 
--- the fault where the test fails, else what comes next
+-- the fault if the test fails, else what comes next
 abbrev pub or_else : Bool → Type 0 → Type 0 → Type 0
 or_else true fault next = next
 or_else false fault next = fault
 
--- What comes next, once a number is known. So the checker computes nothing of a test before it has found both numbers:
+-- What comes next, once a number is known. It makes the checker find both numbers before it computes any of the test:
 -- half computed, the test of a thousand words takes more memory than a check has.
 abbrev pub once_known : ℕ → Type 0 → Type 0
 once_known zero next = next
 once_known (suc n) next = next
 
--- an enum without fields, one bit for each variant and no two the same, a test of ALL_BITS, and their width and their count
+-- an enum without fields; one bit for each variant, and no two the same; a test of ALL_BITS; the width and the count
 abbrev pub IsLawful : (D : Declared) → List ℕ → Bool → Type 0 → ℕ → ℕ → Type 0
 IsLawful D bs valid fault width count =
     once_known width (once_known count
@@ -164,12 +169,12 @@ abbrev pub IsLawfulNumber : (D : Declared) → List ℕ → ℕ → ℕ → ℕ 
 IsLawfulNumber D bs n width count =
     IsLawful D bs (sum_by (λ b. 2 ^ b) bs == n) (AllBitsShouldBe (sum_by (λ b. 2 ^ b) bs)) width count
 
--- as many words as ns, with the bits that a list names
+-- as many words as ns has, with the bits that a list names
 abbrev pub words_naming : List ℕ → List ℕ → List ℕ
 words_naming bs [] = []
 words_naming bs (n ∷ ns) = sum_by (λ b. 2 ^ b) (in_first_word bs) ∷ words_naming (in_later_words bs) ns
 
--- the same over words: those of ALL_BITS have just the bits of the list
+-- the same over words: the words of ALL_BITS have the bits of the list and no other
 abbrev pub IsLawfulWords : (D : Declared) → List ℕ → List ℕ → ℕ → ℕ → Type 0
 IsLawfulWords D bs ns width count = IsLawful D bs (lists_words bs ns) (AllBitsShouldBeWords (words_naming bs ns)) width count
 
@@ -181,7 +186,7 @@ was_known : (n : ℕ) (next : Type 0) → once_known n next → next
 was_known zero next h = h
 was_known (suc n) next h = h
 
--- what the test says where it passes
+-- what is known if the test passes
 record Passes (D : Declared) (bs : List ℕ) (valid : Bool) (width count : ℕ) : Type 0 where
   variants : length bs ≡ length (rowss D.parts)
   distinct : is_distinct bs ≡ true
@@ -212,18 +217,18 @@ laws D bs test all width count valid p =
       count_is = sym p.count_is ∙ sym (len-from_list bs p.distinct) ∙ ap len (sym valid);
     }
 
--- The laws of an enum without fields, over any store: the value of ALL_BITS means the set of the list.
+-- The laws of an enum without fields, over any representation: the value of ALL_BITS represents the set of the list.
 pub lawful_in : {bs : List ℕ} {all : BitSet} {width count : ℕ} (D : Declared) → all ≡ from_list bs → IsLawful D bs true ⊥ width count → IsElementType (with_bits D bs) (derived_eq D) all width count
 lawful_in {bs} {all} {width} {count} D valid test =
     laws D bs true all width count valid (IsLawful-passes D bs true ⊥ width count (λ h. h) test)
 
--- The same over an integer, whose number ALL_BITS is.
+-- The same over an integer, of which ALL_BITS is the value.
 pub lawful_in_integer : {bs : List ℕ} {width count : ℕ} (D : Declared) (n : ℕ) → IsLawfulNumber D bs n width count → IsElementType (with_bits D bs) (derived_eq D) (bits n) width count
 lawful_in_integer {bs} {width} {count} D n test =
     let p = IsLawful-passes D bs (sum_by (λ b. 2 ^ b) bs == n) _ width count (λ h. elim h [ ]) test in
     laws D bs _ (bits n) width count (bits_listed bs n (and_from _ _ p.distinct p.is_valid)) p
 
--- The same over words, which are those of ALL_BITS.
+-- The same over words, of which ALL_BITS is made.
 pub lawful_in_words : {bs : List ℕ} {width count : ℕ} (D : Declared) (ns : List ℕ) → IsLawfulWords D bs ns width count → IsElementType (with_bits D bs) (derived_eq D) (bits_of ns) width count
 lawful_in_words {bs} {width} {count} D ns test =
     let p = IsLawful-passes D bs (lists_words bs ns) _ width count (λ h. elim h [ ]) test in
@@ -248,12 +253,12 @@ lawful_in_place D {eq} {all} l =
       count_is = l.count_is;
     }
 
--- ---- what the laws give
+-- ---- consequences of the laws
 
 -- the members of a set of valid bits are bits of variants
-pub AreBitsOf-rising : (bs : List ℕ) (all s : BitSet) → all ≡ from_list bs → is_subset s all ≡ true → AreBitsOf bs (rising s)
-AreBitsOf-rising bs all s valid sub =
-    list_all-each (λ b. is_in b bs) (rising s) (λ q one. sym (contains-from_list bs q) ∙ sym (ap (λ t. contains t q) valid) ∙ is_subset-contains s all sub q (contains-rising s q ∙ one))
+pub AreBitsOf-ascending : (bs : List ℕ) (all s : BitSet) → all ≡ from_list bs → is_subset s all ≡ true → AreBitsOf (ascending s) bs
+AreBitsOf-ascending bs all s valid sub =
+    list_all-each (λ b. is_in b bs) (ascending s) (λ q one. sym (contains-from_list bs q) ∙ sym (ap (λ t. contains t q) valid) ∙ is_subset-contains s all sub q (contains-ascending s q ∙ one))
 
 -- the valid bits are the bits of the variants
 pub contains-is_in : (bs : List ℕ) (all : BitSet) (b : ℕ) → all ≡ from_list bs → contains all b ≡ is_in b bs

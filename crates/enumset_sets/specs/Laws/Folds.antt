@@ -1,8 +1,9 @@
--- Folds, as a loop takes them: over nothing, and over one thing more at the end.
+-- Folds of a list in the steps of a loop: the empty list, and a list with one item more at its end.
 --     from_list_none, from_list_more, from_list_taken      the set of a list's numbers
 --     union_all_none, union_all_more, union_all_mapped      the members of any set of a list
---     union_none, all_of_extended      a set extended by nothing;  what the empty set is extended to
--- The ruleset `folds` holds them, and what a union is with nothing and with one number more.
+--     union_none      extending a set by nothing
+--     all_of_extended      extending the empty set
+-- The ruleset `folds` has the first six, and the union with the empty set and with a set that has one number more.
 use Rattle.std.proofs.Common.{◌≡◌, ◌<◌, ◌+◌, ℕ, List, [], ◌∷◌, ◌++◌, length, take, get_or, map, refl, sym, ap, ◌∙◌}
 use Rattle.std.proofs.lemmas.List.{take_more}
 use Rattle.enumset_repr.specs.BitSet.{BitSet, empty, insert, from_list, union}
@@ -19,7 +20,7 @@ from_list_more f [] x = refl
 from_list_more f (y ∷ ys) x =
     ap (λ s. insert s (f y)) (from_list_more f ys x) ∙ insert_comm (from_list (map f ys)) (f x) (f y)
 
--- the same along a list, one place further
+-- the same for the first items of a list, one item further
 pub from_list_taken : {A : Type 0} (f : A → ℕ) (xs : List A) (i : ℕ) (x : A) → i < length xs → x ≡ get_or xs i x → from_list (map f (take (i + 1) xs)) ≡ insert (from_list (map f (take i xs))) (f x)
 from_list_taken f xs i x within is =
     ap (λ ys. from_list (map f ys)) (take_more xs i x within)
@@ -35,7 +36,7 @@ unfolding union_all
 union_all_more [] s = union_empty s ∙ sym (empty_union s)
 union_all_more (t ∷ ts) s = ap (union t) (union_all_more ts s) ∙ sym (union_assoc t (union_all ts) s)
 
--- the same along a list of what each set is of
+-- the same for sets that are made of a list's items
 pub union_all_mapped : {A : Type 0} (f : A → BitSet) (xs : List A) (x : A) → union_all (map f (xs ++ x ∷ [])) ≡ union (f x) (union_all (map f xs))
 unfolding union_all
 union_all_mapped f [] x = refl
@@ -45,11 +46,11 @@ union_all_mapped f (y ∷ ys) x =
     ∙ ap (λ s. union s (union_all (map f ys))) (union_comm (f y) (f x))
     ∙ union_assoc (f x) (f y) (union_all (map f ys))
 
--- a set, extended by nothing
+-- a set extended by nothing
 pub union_none : (s : BitSet) → union s (from_list []) ≡ s
 union_none s = ap (union s) from_list_none ∙ union_empty s
 
--- nothing, extended by a set
+-- the empty set extended by a set
 pub all_of_extended : (s t r : BitSet) → s ≡ empty → r ≡ union s t → r ≡ t
 all_of_extended s t r is_empty is = is ∙ ap (λ u. union u t) is_empty ∙ empty_union t
 

@@ -1,8 +1,8 @@
 -- The text of a set as it is written, one member after another.
---     writes_one_more      one member more is written
---     writes_at      what was written of values is the text of what stands for them, as their bits
---     Tells      the one text is the other, where it is known
---     text_at-tells      the text of a bit is that of its value, where the value is listed
+--     writes_one_more      a separator and a member are written after the others
+--     writes_at      what was written for values is the text of their bits
+--     Tells      the first text is not known, or it is the second
+--     text_at-tells      the text of a bit is that of its value, if the value is listed
 use Rattle.std.proofs.Common.{◌≡◌, ℕ, Bool, true, false, cond, List, [], ◌∷◌, ◌++◌, length, map, Option, Some, None, Ok, refl, sym, ap, subst, ◌∙◌, ◌⊎◌, inl, inr, codes, arith}
 use Rattle.std.proofs.lemmas.Bool.Decides.{nat_tests}
 use Rattle.std.specs.Prelude.{◌==◌}
@@ -12,7 +12,7 @@ use Rattle.std.proofs.Output.{displays_on_IsOk_append, then_text_assoc}
 use Rattle.std.proofs.lemmas.Bool.{eqb-true}
 use Rattle.std.proofs.lemmas.List.{map-append, length-map}
 use Rattle.std.specs.Option.{option_and_then}
-use Rattle.enumset_sets.specs.Texts.{value_of, text_at, separator, joined}
+use Rattle.enumset_sets.specs.Texts.{value_of, text_at, separator, joined_text}
 
 then_nothing : (t : Option (List ℕ)) → t ≡ option_append (Some []) (option_append (Some []) t)
 then_nothing None = refl
@@ -21,32 +21,32 @@ then_nothing (Some t) = refl
 not_first : (u : Option (List ℕ)) (ts : List (Option (List ℕ))) → (length (u ∷ ts) == 0) ≡ false
 not_first u ts = grind (arith, nat_tests)
 
--- a text at the end, after what stands before it
+-- a text after others, with the separator that comes before it
 with_last : List (Option (List ℕ)) → Bool → Option (List ℕ) → Option (List ℕ)
-with_last ts is_first t = option_append (joined ts) (option_append (Some (separator is_first)) t)
+with_last ts is_first t = option_append (joined_text ts) (option_append (Some (separator is_first)) t)
 
-joined-more : (ts : List (Option (List ℕ))) (t : Option (List ℕ)) → joined (ts ++ t ∷ []) ≡ with_last ts (length ts == 0) t
+joined_text-more : (ts : List (Option (List ℕ))) (t : Option (List ℕ)) → joined_text (ts ++ t ∷ []) ≡ with_last ts (length ts == 0) t
 unfolding with_last
-joined-more [] t = then_nothing t
-joined-more (u ∷ []) t = ap (λ b. with_last (u ∷ []) b t) (sym (not_first u []))
-joined-more (u ∷ s ∷ ts) t =
+joined_text-more [] t = then_nothing t
+joined_text-more (u ∷ []) t = ap (λ b. with_last (u ∷ []) b t) (sym (not_first u []))
+joined_text-more (u ∷ s ∷ ts) t =
     let bar = Some (codes " | ") in
-    ap (λ o. option_append u (option_append bar o)) (joined-more (s ∷ ts) t ∙ ap (λ b. with_last (s ∷ ts) b t) (not_first s ts))
-    ∙ ap (option_append u) (sym (then_text_assoc bar (joined (s ∷ ts)) (option_append bar t)))
-    ∙ sym (then_text_assoc u (option_append bar (joined (s ∷ ts))) (option_append bar t))
+    ap (λ o. option_append u (option_append bar o)) (joined_text-more (s ∷ ts) t ∙ ap (λ b. with_last (s ∷ ts) b t) (not_first s ts))
+    ∙ ap (option_append u) (sym (then_text_assoc bar (joined_text (s ∷ ts)) (option_append bar t)))
+    ∙ sym (then_text_assoc u (option_append bar (joined_text (s ∷ ts))) (option_append bar t))
     ∙ ap (λ b. with_last (u ∷ s ∷ ts) b t) (sym (not_first u (s ∷ ts)))
 
 module _ {T : Type 0} (text : T → Option (List ℕ)) where
-  joined-push : (vs : List T) (v : T) → joined (map text (vs ++ v ∷ [])) ≡ with_last (map text vs) (length vs == 0) (text v)
-  joined-push vs v = ap joined (map-append text vs (v ∷ [])) ∙ joined-more (map text vs) (text v) ∙ ap (λ n. with_last (map text vs) (n == 0) (text v)) (length-map vs text)
+  joined_text-push : (vs : List T) (v : T) → joined_text (map text (vs ++ v ∷ [])) ≡ with_last (map text vs) (length vs == 0) (text v)
+  joined_text-push vs v = ap joined_text (map-append text vs (v ∷ [])) ∙ joined_text-more (map text vs) (text v) ∙ ap (λ n. with_last (map text vs) (n == 0) (text v)) (length-map vs text)
 
   module _ {W : Type 0} (took : W → List ℕ → W → Type 0) where
-    -- what stands before a value was written, and then the value
-    pub writes_one_more : (vs : List T) (v : T) (is_first : Bool) (f g h k : Formatter W) → is_first ≡ (length vs == 0) → DisplaysOnOk took f (Ok tt) (joined (map text vs)) g → DisplaysOnOk took g (Ok tt) (Some (separator is_first)) h → DisplaysOnOk took h (Ok tt) (text v) k → DisplaysOnOk took f (Ok tt) (joined (map text (vs ++ v ∷ []))) k
+    -- if the texts of some values were written, and then a separator and a value's text, the texts of all were
+    pub writes_one_more : (vs : List T) (v : T) (is_first : Bool) (f g h k : Formatter W) → is_first ≡ (length vs == 0) → DisplaysOnOk took f (Ok tt) (joined_text (map text vs)) g → DisplaysOnOk took g (Ok tt) (Some (separator is_first)) h → DisplaysOnOk took h (Ok tt) (text v) k → DisplaysOnOk took f (Ok tt) (joined_text (map text (vs ++ v ∷ []))) k
     unfolding with_last
     writes_one_more vs v is_first f g h k first before between value =
-        subst (λ o. DisplaysOnOk took f (Ok tt) o k) (ap (λ b. with_last (map text vs) b (text v)) first ∙ sym (joined-push vs v))
-        (displays_on_IsOk_append took f g k (Ok tt) (Ok tt) (joined (map text vs)) _ (λ ok. ok) before
+        subst (λ o. DisplaysOnOk took f (Ok tt) o k) (ap (λ b. with_last (map text vs) b (text v)) first ∙ sym (joined_text-push vs v))
+        (displays_on_IsOk_append took f g k (Ok tt) (Ok tt) (joined_text (map text vs)) _ (λ ok. ok) before
         (displays_on_IsOk_append took g h k (Ok tt) (Ok tt) (Some (separator is_first)) (text v) (λ ok. ok) between value))
 
 -- ---- the text of a value, by its bit
@@ -55,7 +55,7 @@ append-unknown : (t : Option (List ℕ)) → option_append t None ≡ None
 append-unknown None = refl
 append-unknown (Some t) = refl
 
--- the one is the other, where it is known
+-- the first text is not known, or it is the second
 abbrev pub Tells : Option (List ℕ) → Option (List ℕ) → Type 0
 Tells o p = (o ≡ None) ⊎ (o ≡ p)
 
@@ -65,16 +65,16 @@ Tells-append t o u p (inr same) (inl none) = inl (ap (λ a. option_append t (opt
 Tells-append t o u p (inr same) (inr also) = inr (λ i. option_append (same i) (option_append (Some (codes " | ")) (also i)))
 
 module _ {T I : Type 0} (text : T → Option (List ℕ)) (bit : T → I) (at : I → Option (List ℕ)) (tells : (v : T) → Tells (at (bit v)) (text v)) where
-  joined-tells : (vs : List T) → Tells (joined (map at (map bit vs))) (joined (map text vs))
-  joined-tells [] = inr refl
-  joined-tells (v ∷ []) = tells v
-  joined-tells (v ∷ w ∷ vs) = Tells-append _ _ _ _ (tells v) (joined-tells (w ∷ vs))
+  joined_text-tells : (vs : List T) → Tells (joined_text (map at (map bit vs))) (joined_text (map text vs))
+  joined_text-tells [] = inr refl
+  joined_text-tells (v ∷ []) = tells v
+  joined_text-tells (v ∷ w ∷ vs) = Tells-append _ _ _ _ (tells v) (joined_text-tells (w ∷ vs))
 
-  -- what was written of values is the text of what stands for them
-  pub writes_at : {W : Type 0} (took : W → List ℕ → W → Type 0) (vs : List T) (bs : List I) (f g : Formatter W) → map bit vs ≡ bs → DisplaysOnOk took f (Ok tt) (joined (map text vs)) g → DisplaysOnOk took f (Ok tt) (joined (map at bs)) g
-  writes_at took vs bs f g are wrote = subst (λ xs. DisplaysOnOk took f (Ok tt) (joined (map at xs)) g) are (by (joined-tells vs))
+  -- what was written for values is the text of their bits
+  pub writes_at : {W : Type 0} (took : W → List ℕ → W → Type 0) (vs : List T) (bs : List I) (f g : Formatter W) → map bit vs ≡ bs → DisplaysOnOk took f (Ok tt) (joined_text (map text vs)) g → DisplaysOnOk took f (Ok tt) (joined_text (map at bs)) g
+  writes_at took vs bs f g are wrote = subst (λ xs. DisplaysOnOk took f (Ok tt) (joined_text (map at xs)) g) are (by (joined_text-tells vs))
     where
-      by : Tells (joined (map at (map bit vs))) (joined (map text vs)) → DisplaysOnOk took f (Ok tt) (joined (map at (map bit vs))) g
+      by : Tells (joined_text (map at (map bit vs))) (joined_text (map text vs)) → DisplaysOnOk took f (Ok tt) (joined_text (map at (map bit vs))) g
       by (inl none) = subst (λ o. DisplaysOnOk took f (Ok tt) o g) (sym none) tt
       by (inr same) = subst (λ o. DisplaysOnOk took f (Ok tt) o g) (sym same) wrote
 
@@ -93,7 +93,7 @@ module _ {T : Type 0} (bit : T → ℕ) where
   value_of-bit [] b w found = absurd (no_value w found)
   value_of-bit (v ∷ vs) b w found = found_at v b (value_of bit vs b) w (bit v == b) refl (value_of-bit vs b w) found
 
-  -- the text at the bit of a value is that of the value, as no other has the bit
+  -- the text of the bit of a value is that of the value, since no other value has the bit
   pub text_at-tells : ((v w : T) → bit v ≡ bit w → v ≡ w) → (values : List T) (text : T → Option (List ℕ)) (v : T) → Tells (text_at bit values text (bit v)) (text v)
   text_at-tells one values text v = elim (value_of bit values (bit v)) as (λ o. value_of bit values (bit v) ≡ o → Tells (option_and_then text o) (text v)) [
     | None ↦ λ none. inl refl

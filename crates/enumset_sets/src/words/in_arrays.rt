@@ -3,15 +3,16 @@
 ghost use Rattle.std.specs.Prelude.{◌≡◌, ◌↔◌, ◌*◌, IsTrue, IsSome, IfSome};
 ghost use Rattle.enumset_repr.specs.BitSet as set;
 ghost use Rattle.enumset_repr.specs.Words.{words, bits_of};
+ghost use Rattle.enumset_sets.specs.Elements.{valid_bits};
 
 use crate::element::EnumSetType;
 use crate::enum_set::EnumSet;
-use crate::taken::{checked_of, valid_part_of, whole_of};
-use enumset_repr::arrays::{from_u64_array, to_u64_array, try_from_u64_array, try_to_u64_array};
+use crate::validated::{exact_low, truncated_low, validated_low};
+use enumset_repr::{from_u64_array, to_u64_array, try_from_u64_array, try_to_u64_array};
 
 #[tactic(auto, using(crate::specs::Laws::Conversions::conversions))]
 impl<T: EnumSetType> EnumSet<T> {
-    /// The words of the set. Each member must be in one of them: [`try_as_array`](EnumSet::try_as_array) is the test.
+    /// The words of the set. Every member must be in one of them: [`try_as_array`](EnumSet::try_as_array) is the test.
     pub fn as_array<const O: usize>(&self) -> [u64; O]
         requires fits { IsTrue (set.is_subset self.now (set.below (64 * O))) }
         ensures { result ≡ words self.now O }
@@ -19,7 +20,7 @@ impl<T: EnumSetType> EnumSet<T> {
         self.as_array_truncated()
     }
 
-    /// The words of the set, if each member is in one of them, else `None`.
+    /// The words of the set, if every member is in one of them, else `None`.
     pub fn try_as_array<const O: usize>(&self) -> Option<[u64; O]>
         ensures fits { IsSome result ↔ IsTrue (set.is_subset self.now (set.below (64 * O))) }
         ensures value { IfSome result (λ ws. ws ≡ words self.now O) }
@@ -27,40 +28,40 @@ impl<T: EnumSetType> EnumSet<T> {
         try_to_u64_array(&self.repr)
     }
 
-    /// The words of those members that are in one of them.
+    /// The words of the set, without the members that are in none of them.
     pub fn as_array_truncated<const O: usize>(&self) -> [u64; O]
         ensures { result ≡ words self.now O }
     {
         to_u64_array(&self.repr)
     }
 
-    /// The set of words, whose bits must all be valid: [`try_from_array`](EnumSet::try_from_array) is the test.
+    /// The set of words. Every bit of them must be valid: [`try_from_array`](EnumSet::try_from_array) is the test.
     pub fn from_array<const O: usize>(array: [u64; O]) -> EnumSet<T>
-        requires valid { IsTrue (set.is_subset (bits_of array) (T.Repr.members T.ALL_BITS)) }
+        requires valid { IsTrue (set.is_subset (bits_of array) (valid_bits T.elements)) }
         ensures { result ≡ bits_of array.entry }
     {
-        whole_of(from_u64_array(array))
+        exact_low(from_u64_array(array))
     }
 
-    /// The set of words, if each of their bits is valid, else `None`.
+    /// The set of words, if every bit of them is valid, else `None`.
     pub fn try_from_array<const O: usize>(array: [u64; O]) -> Option<EnumSet<T>>
         ensures valid { IsSome result
-            ↔ IsTrue (set.is_subset (bits_of array.entry) (T.Repr.members T.ALL_BITS)) }
+            ↔ IsTrue (set.is_subset (bits_of array.entry) (valid_bits T.elements)) }
         ensures value { IfSome result (λ s. s ≡ bits_of array.entry) }
     {
-        checked_of(try_from_u64_array(array))
+        validated_low(try_from_u64_array(array))
     }
 
-    /// The set of those bits of words that are valid.
+    /// The set of the valid bits of words.
     pub fn from_array_truncated<const O: usize>(array: [u64; O]) -> EnumSet<T>
-        ensures { result ≡ set.intersection (bits_of array.entry) (T.Repr.members T.ALL_BITS) }
+        ensures { result ≡ set.intersection (bits_of array.entry) (valid_bits T.elements) }
     {
-        valid_part_of(from_u64_array(array))
+        truncated_low(from_u64_array(array))
     }
 
-    /// The set of words, whose bits must all be valid, as [`from_array`](EnumSet::from_array).
+    /// The set of words. Every bit of them must be valid, as for [`from_array`](EnumSet::from_array).
     pub fn from_array_unchecked<const O: usize>(array: [u64; O]) -> EnumSet<T>
-        requires valid { IsTrue (set.is_subset (bits_of array) (T.Repr.members T.ALL_BITS)) }
+        requires valid { IsTrue (set.is_subset (bits_of array) (valid_bits T.elements)) }
         ensures { result ≡ bits_of array.entry }
     {
         Self::from_array(array)

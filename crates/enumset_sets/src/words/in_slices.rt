@@ -3,15 +3,16 @@
 ghost use Rattle.std.specs.Prelude.{◌≡◌, ◌↔◌, ◌*◌, IsTrue, IsSome, IfSome, None, length};
 ghost use Rattle.enumset_repr.specs.BitSet as set;
 ghost use Rattle.enumset_repr.specs.Words.{words, bits_of};
+ghost use Rattle.enumset_sets.specs.Elements.{valid_bits};
 
 use crate::element::EnumSetType;
 use crate::enum_set::EnumSet;
-use crate::taken::{checked_of, valid_part_of, whole_of};
-use enumset_repr::repr::EnumSetTypeRepr;
+use crate::validated::{exact_low, truncated_low, validated_low};
+use enumset_repr::EnumSetTypeRepr;
 
 #[tactic(auto, using(crate::specs::Laws::Conversions::conversions))]
 impl<T: EnumSetType> EnumSet<T> {
-    /// Writes a word of the set to each place of a slice. Each member must be in one of them:
+    /// Writes the words of the set to a slice. Every member must be in one of them:
     /// [`try_copy_into_slice`](EnumSet::try_copy_into_slice) is the test.
     pub fn copy_into_slice(&self, slice: &mut [u64])
         requires fits { IsTrue (set.is_subset self.now (set.below (64 * length slice.old))) }
@@ -20,8 +21,8 @@ impl<T: EnumSetType> EnumSet<T> {
         self.copy_into_slice_truncated(slice);
     }
 
-    /// Writes a word of the set to each place of a slice, if each member is in one of them. Otherwise the answer is
-    /// `None`, and the slice stays as it was.
+    /// Writes the words of the set to a slice, if every member is in one of them. Otherwise returns `None` and leaves
+    /// the slice unchanged.
     pub fn try_copy_into_slice(&self, slice: &mut [u64]) -> Option<()>
         ensures fits { IsSome result
             ↔ IsTrue (set.is_subset self.now (set.below (64 * length slice.old))) }
@@ -31,40 +32,40 @@ impl<T: EnumSetType> EnumSet<T> {
         self.repr.try_to_u64_slice(slice)
     }
 
-    /// Writes a word of the set to each place of a slice, of those members that are in one of them.
+    /// Writes the words of the set to a slice, without the members that are in none of them.
     pub fn copy_into_slice_truncated(&self, slice: &mut [u64])
         ensures { slice.new ≡ words self.now (length slice.old) }
     {
         self.repr.to_u64_slice(slice);
     }
 
-    /// The set of words, whose bits must all be valid: [`try_from_slice`](EnumSet::try_from_slice) is the test.
+    /// The set of words. Every bit of them must be valid: [`try_from_slice`](EnumSet::try_from_slice) is the test.
     pub fn from_slice(slice: &[u64]) -> EnumSet<T>
-        requires valid { IsTrue (set.is_subset (bits_of slice.now) (T.Repr.members T.ALL_BITS)) }
+        requires valid { IsTrue (set.is_subset (bits_of slice.now) (valid_bits T.elements)) }
         ensures { result ≡ bits_of slice.now }
     {
-        whole_of(T::Repr::from_u64_slice(slice))
+        exact_low(T::Repr::from_u64_slice(slice))
     }
 
-    /// The set of words, if each of their bits is valid, else `None`.
+    /// The set of words, if every bit of them is valid, else `None`.
     pub fn try_from_slice(slice: &[u64]) -> Option<EnumSet<T>>
         ensures valid { IsSome result
-            ↔ IsTrue (set.is_subset (bits_of slice.now) (T.Repr.members T.ALL_BITS)) }
+            ↔ IsTrue (set.is_subset (bits_of slice.now) (valid_bits T.elements)) }
         ensures value { IfSome result (λ s. s ≡ bits_of slice.now) }
     {
-        checked_of(T::Repr::try_from_u64_slice(slice))
+        validated_low(T::Repr::try_from_u64_slice(slice))
     }
 
-    /// The set of those bits of words that are valid.
+    /// The set of the valid bits of words.
     pub fn from_slice_truncated(slice: &[u64]) -> EnumSet<T>
-        ensures { result ≡ set.intersection (bits_of slice.now) (T.Repr.members T.ALL_BITS) }
+        ensures { result ≡ set.intersection (bits_of slice.now) (valid_bits T.elements) }
     {
-        valid_part_of(T::Repr::from_u64_slice(slice))
+        truncated_low(T::Repr::from_u64_slice(slice))
     }
 
-    /// The set of words, whose bits must all be valid, as [`from_slice`](EnumSet::from_slice).
+    /// The set of words. Every bit of them must be valid, as for [`from_slice`](EnumSet::from_slice).
     pub fn from_slice_unchecked(slice: &[u64]) -> EnumSet<T>
-        requires valid { IsTrue (set.is_subset (bits_of slice.now) (T.Repr.members T.ALL_BITS)) }
+        requires valid { IsTrue (set.is_subset (bits_of slice.now) (valid_bits T.elements)) }
         ensures { result ≡ bits_of slice.now }
     {
         Self::from_slice(slice)

@@ -5,12 +5,12 @@ ghost use Rattle.enumset_repr.specs.Words.{words};
 
 use crate::element::EnumSetType;
 use crate::enum_set::EnumSet;
-use enumset_repr::repr::EnumSetTypeRepr;
+use enumset_repr::EnumSetTypeRepr;
 use std::alloc::{AllocError, Global};
 
 impl<T: EnumSetType> EnumSet<T> {
-    /// The words of the set, as many as its store has. Room for them is taken once; where it is refused, so is the
-    /// vector.
+    /// The words of the set, as many as its representation has. Memory for them is allocated once. If that fails, the
+    /// call returns `AllocError`: the contract says what is in the words, not when there is memory.
     pub fn to_vec(&self, alloc: Global) -> Result<Vec<u64>, AllocError>
         ensures { IfOk result (λ v. v.items ≡ words self.now T.Repr.PREFERRED_ARRAY_LEN) }
     {

@@ -1,8 +1,8 @@
 use Rattle.std.proofs.Common.{rules, ◌≡◌, ◌+◌, ◌-◌, ◌*◌, ◌<◌, [], length, length-set, refl, sym, ap, ◌∙◌, arith}
-use Rattle.enumset_repr.specs.BitSet.{rising, remove}
+use Rattle.enumset_repr.specs.BitSet.{ascending, remove}
 use Rattle.enumset_repr.specs.Words.{bits_of}
 use Rattle.enumset_array.proofs.Covers.{covers_down}
-use Rattle.enumset_array.proofs.WordLists.{step_last, step_last_set, none_left}
+use Rattle.enumset_array.proofs.BitTakenOut.{step_last, step_last_set, none_left}
 use Rattle.enumset_array.proofs.cursors.step_back.Goals as goal
 
 pub overflow_add-result : goal.overflow_add-result
@@ -14,7 +14,7 @@ overflow_add-result g c =
 pub returns-in-Some-clause-item : goal.returns-in-Some-clause-item
 returns-in-Some-clause-item g c =
     let within : c.loop-back.back - 1 < length (g.R.Row.words c.loop-back.row) = omega (arith, c.loop-back.invariant.covers.within) in
-    ap (λ ws. rising (bits_of ws)) (sym c.loop-back.invariant.same)
+    ap (λ ws. ascending (bits_of ws)) (sym c.loop-back.invariant.same)
     ∙ step_last _ _ _ _ c.in-Some.ensures.are_words.fit within c.in-Some.ensures.others (λ j past. c.loop-back.invariant.covers.past j (omega arith)) c.in-Some.ensures.taken
 
 pub returns-in-Some-clause-words : goal.returns-in-Some-clause-words
@@ -29,8 +29,8 @@ returns-in-Some-clause-words g c =
 
 pub returns-clause-item : goal.returns-clause-item
 returns-clause-item g c =
-    let none : rising (bits_of (g.R.Row.words c.loop-back.row)) ≡ [] = none_left _ _ c.loop-back.invariant.covers c.loop-back-test.false in
-    (ap (λ ws. rising (bits_of ws)) (sym c.loop-back.invariant.same) ∙ none, none)
+    let none : ascending (bits_of (g.R.Row.words c.loop-back.row)) ≡ [] = none_left _ _ c.loop-back.invariant.covers c.loop-back-test.false in
+    (ap (λ ws. ascending (bits_of ws)) (sym c.loop-back.invariant.same) ∙ none, none)
 
 pub returns-in-Some-clause-asks : goal.returns-in-Some-clause-asks
 returns-in-Some-clause-asks g c = rw (← c.cursors.view_is) (record {

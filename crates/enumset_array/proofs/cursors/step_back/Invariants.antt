@@ -2,7 +2,7 @@ use Rattle.std.proofs.Common.{◌-◌, ◌≡◌, ◌+◌, ◌≤◌}
 use Rattle.enumset_array.specs.Cursors.{Covers}
 use Rattle.enumset_array.proofs.cursors.step_back.Given as goal
 
--- the words that were asked had no bit, and each ask moved the back cursor on
+-- each word asked so far was 0, and each ask moved the back cursor down
 abbrev pub invariant-loop-back : goal.invariant-loop-back
 invariant-loop-back g l = record {
   kept : l.cursors-inside.front ≡ l.front;

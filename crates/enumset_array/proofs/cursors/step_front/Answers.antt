@@ -1,8 +1,8 @@
 use Rattle.std.proofs.Common.{rules, ◌≡◌, ◌+◌, ◌*◌, ◌<◌, [], length, length-set, refl, sym, ap, ◌∙◌, arith}
-use Rattle.enumset_repr.specs.BitSet.{rising, remove}
+use Rattle.enumset_repr.specs.BitSet.{ascending, remove}
 use Rattle.enumset_repr.specs.Words.{bits_of}
 use Rattle.enumset_array.proofs.Covers.{covers_next}
-use Rattle.enumset_array.proofs.WordLists.{step_first, step_first_set, none_left}
+use Rattle.enumset_array.proofs.BitTakenOut.{step_first, step_first_set, none_left}
 use Rattle.enumset_array.proofs.cursors.step_front.Goals as goal
 
 pub overflow_add-result : goal.overflow_add-result
@@ -14,7 +14,7 @@ overflow_add-result g c =
 pub returns-in-Some-clause-item : goal.returns-in-Some-clause-item
 returns-in-Some-clause-item g c =
     let within : c.loop-front.front < length (g.R.Row.words c.loop-front.row) = omega (arith, c.loop-front.invariant.covers.within) in
-    ap (λ ws. rising (bits_of ws)) (sym c.loop-front.invariant.same)
+    ap (λ ws. ascending (bits_of ws)) (sym c.loop-front.invariant.same)
     ∙ step_first _ _ _ _ c.in-Some.ensures.are_words.fit within c.in-Some.ensures.others c.loop-front.invariant.covers.before c.in-Some.ensures.taken
 
 pub returns-in-Some-clause-words : goal.returns-in-Some-clause-words
@@ -29,8 +29,8 @@ returns-in-Some-clause-words g c =
 
 pub returns-clause-item : goal.returns-clause-item
 returns-clause-item g c =
-    let none : rising (bits_of (g.R.Row.words c.loop-front.row)) ≡ [] = none_left _ _ c.loop-front.invariant.covers c.loop-front-test.false in
-    (ap (λ ws. rising (bits_of ws)) (sym c.loop-front.invariant.same) ∙ none, none)
+    let none : ascending (bits_of (g.R.Row.words c.loop-front.row)) ≡ [] = none_left _ _ c.loop-front.invariant.covers c.loop-front-test.false in
+    (ap (λ ws. ascending (bits_of ws)) (sym c.loop-front.invariant.same) ∙ none, none)
 
 pub returns-in-Some-clause-asks : goal.returns-in-Some-clause-asks
 returns-in-Some-clause-asks g c = rw (← c.cursors.view_is) (record {

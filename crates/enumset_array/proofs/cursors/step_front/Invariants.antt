@@ -2,7 +2,7 @@ use Rattle.std.proofs.Common.{◌-◌, ◌≡◌, ◌+◌, ◌≤◌}
 use Rattle.enumset_array.specs.Cursors.{Covers}
 use Rattle.enumset_array.proofs.cursors.step_front.Given as goal
 
--- the words that were asked had no bit, and each ask moved the front cursor on
+-- each word asked so far was 0, and each ask advanced the front cursor
 abbrev pub invariant-loop-front : goal.invariant-loop-front
 invariant-loop-front g l = record {
   kept : l.cursors-inside.back ≡ l.back;

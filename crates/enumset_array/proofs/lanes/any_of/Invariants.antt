@@ -4,7 +4,7 @@ use Rattle.std.specs.Simd.Lanes.{zip2}
 use Rattle.enumset_array.proofs.WordLanes.{none_in}
 use Rattle.enumset_array.proofs.lanes.any_of.Given as goal
 
--- what was gone through is 0 exactly if what was gathered is
+-- the lanes are 0 exactly if each result so far is
 abbrev pub invariant-loop-k : goal.invariant-loop-k
 invariant-loop-k g l = record {
   four : length l.lanes ≡ 4;

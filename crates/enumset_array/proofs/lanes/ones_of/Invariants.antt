@@ -4,7 +4,7 @@ use Rattle.enumset_repr.specs.BitSet.{len}
 use Rattle.enumset_repr.specs.Number.{bits}
 use Rattle.enumset_array.proofs.lanes.ones_of.Given as goal
 
--- the bits of the words that were gone through are counted
+-- the bits of the words so far are counted
 abbrev pub invariant-loop-k : goal.invariant-loop-k
 invariant-loop-k l = record {
   counted : l.ones ≡ sum_by (λ w. len (bits w)) (take (4 * l.k) l.words);

@@ -1,8 +1,8 @@
 use Rattle.std.proofs.Common.{rules, arith, ◌∷◌, [], ◌++◌, ◌-◌, ◌<◌, ◌^◌, sym, ap, ◌∙◌, w64}
 use Rattle.std.specs.Int.{leading_zeros}
-use Rattle.enumset_repr.specs.BitSet.{rising}
+use Rattle.enumset_repr.specs.BitSet.{ascending}
 use Rattle.enumset_repr.specs.Laws.Numbers.{greatest-bits, bits-clear}
-use Rattle.enumset_repr.specs.Laws.Rising.{rising-last}
+use Rattle.enumset_repr.specs.Laws.Ascending.{ascending-last}
 use Rattle.enumset_array.proofs.rows.take_greatest.Goals as goal
 
 pub returns : goal.returns
@@ -11,5 +11,5 @@ returns c =
     let some : 0 < c.args.word.now = search rules in
     let found = greatest-bits w64 c.args.word.now some fits in
     let small : 63 - leading_zeros w64 c.args.word.now < 64 = omega arith in
-    rising-last _ _ found.1 found.2
-    ∙ ap (λ s. rising s ++ (63 - leading_zeros w64 c.args.word.now) ∷ []) (sym (bits-clear w64 c.args.word.now (63 - leading_zeros w64 c.args.word.now) fits small))
+    ascending-last _ _ found.1 found.2
+    ∙ ap (λ s. ascending s ++ (63 - leading_zeros w64 c.args.word.now) ∷ []) (sym (bits-clear w64 c.args.word.now (63 - leading_zeros w64 c.args.word.now) fits small))

@@ -1,9 +1,9 @@
 use Rattle.std.proofs.Common.{rules, ◌∷◌, ◌<◌, ◌^◌, sym, ap, ◌∙◌, w64}
 use Rattle.std.specs.Int.{trailing_zeros}
-use Rattle.enumset_repr.specs.BitSet.{rising}
+use Rattle.enumset_repr.specs.BitSet.{ascending}
 use Rattle.enumset_repr.specs.Laws.Members.{member_below}
 use Rattle.enumset_repr.specs.Laws.Numbers.{least-bits, bits-clear, bits-within}
-use Rattle.enumset_repr.specs.Laws.Rising.{rising-first}
+use Rattle.enumset_repr.specs.Laws.Ascending.{ascending-first}
 use Rattle.enumset_array.proofs.rows.take_least.Goals as goal
 
 pub returns : goal.returns
@@ -12,5 +12,5 @@ returns c =
     let some : 0 < c.args.word.now = search rules in
     let found = least-bits w64 c.args.word.now some fits in
     let small : trailing_zeros w64 c.args.word.now < 64 = member_below _ 64 _ (bits-within _ 64 fits) found.0 in
-    rising-first _ _ found.0 found.1
-    ∙ ap (λ s. trailing_zeros w64 c.args.word.now ∷ rising s) (sym (bits-clear w64 c.args.word.now (trailing_zeros w64 c.args.word.now) fits small))
+    ascending-first _ _ found.0 found.1
+    ∙ ap (λ s. trailing_zeros w64 c.args.word.now ∷ ascending s) (sym (bits-clear w64 c.args.word.now (trailing_zeros w64 c.args.word.now) fits small))

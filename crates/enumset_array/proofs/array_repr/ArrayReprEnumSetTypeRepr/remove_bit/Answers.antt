@@ -1,9 +1,9 @@
 use Rattle.std.proofs.Common.{rules}
-use Rattle.enumset_array.specs.Stored.{IsStore}
-use Rattle.enumset_array.proofs.Places.{remove_bit}
+use Rattle.enumset_array.specs.ArrayWords.{IsArrayRepr}
+use Rattle.enumset_array.proofs.ReplacedWord.{remove_bit}
 use Rattle.enumset_array.proofs.array_repr.ArrayReprEnumSetTypeRepr.remove_bit.Goals as goal
 
 pub returns : goal.returns
 returns g c =
-    let store : IsStore g.row.N c.self.inside.0 = record { long = search rules; fit = search rules; past = c.self.invariant } in
-    rw (← c.self.view_is) (remove_bit _ _ _ store c.requires)
+    let is_repr : IsArrayRepr g.row.N c.self.inside.0 = record { long = search rules; fit = search rules; past = c.self.invariant } in
+    rw (← c.self.view_is) (remove_bit _ _ _ is_repr c.requires)

@@ -1,4 +1,4 @@
--- The body makes the marker and puts it into the struct, at the count that the caller picks.
+-- The body makes the marker and puts it into the struct; the count is the one that the caller picks.
 use mathlib.Core.Path.{◌≡◌, refl}
 use mathlib.Core.List.{[], ◌∷◌}
 use seplogic.Ra.Ura.{Ura}
@@ -31,7 +31,7 @@ use Rattle.enumset_array.proofs.asks.Asks.counted.Code as code
 abbrev token : Val
 token = vstruct (vcons (vstruct vnil) vnil)
 
--- the fields alone, which own nothing
+-- the fields alone, which own no memory
 abbrev Fields : RattleType
 Fields = Struct (record { name = (inside.the_type).name; args = []; types = []; fields = (marker.the_field unit).row ∷ [] })
 

@@ -1,9 +1,9 @@
 use Rattle.std.proofs.Common.{◌≡◌, ◌≤◌, ◌<◌, ℕ, length}
 use Rattle.std.specs.Prelude.{slice_index}
-use Rattle.enumset_array.specs.Stored.{in_use}
+use Rattle.enumset_array.specs.ArrayWords.{in_use}
 use Rattle.enumset_array.proofs.operators.ArrayReprNot.not.Given as goal
 
--- the words in use are as they were, and of the others those before i are 0
+-- the words in use stay, and of the others those before i are 0
 abbrev pub invariant-loop-i : goal.invariant-loop-i
 invariant-loop-i g l = record {
   long : length l.words ≡ g.row.N;

@@ -9,4 +9,4 @@ pub returns-clause-words : goal.returns-clause-words
 returns-clause-words g c = cmp_from_yields_List (λ x y. y ≡ x) _ nat_cmp _ c.cmp.ensures.ran (YieldsList-from_rev_slice c.args.self.now cc) (λ it e. YieldsList-from_rev_slice c.args.other.now cc) (λ x y. refl)
 
 pub returns-clause-sets : goal.returns-clause-sets
-returns-clause-sets g c = returns-clause-words g c ∙ rw (← c.self.view_is, ← c.other.view_is) (compare_is g.row.N _ _ c.known.ensures c.known-2.ensures)
+returns-clause-sets g c = returns-clause-words g c ∙ rw (← c.self.view_is, ← c.other.view_is) (compare_is g.row.N _ _ c.learn_is_value.ensures c.learn_is_value-2.ensures)

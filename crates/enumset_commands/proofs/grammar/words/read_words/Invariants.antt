@@ -4,7 +4,7 @@ use Rattle.enumset_commands.specs.Lines.{words_of}
 use Rattle.enumset_commands.proofs.WordTokens.{after_words}
 use Rattle.enumset_commands.proofs.grammar.words.read_words.Given as goal
 
--- Until memory is refused the words so far, before those of what is left, are those of the tokens. Whether the
+-- Until memory runs out, the words so far and those of what is left are those of the tokens. Whether the
 -- tokens are words is decided by what is left.
 abbrev pub invariant-loop-token : goal.invariant-loop-token
 invariant-loop-token l = record {

@@ -1,6 +1,6 @@
 use Rattle.std.proofs.Common.{◌≡◌, ◌==◌, length, map, Ok}
 use Rattle.std.specs.Fmt.{DisplaysOnOk}
-use Rattle.enumset_sets.specs.Texts.{joined}
+use Rattle.enumset_sets.specs.Texts.{joined_text}
 use Rattle.enumset_mixed.specs.Texts.{item_text}
 use Rattle.enumset_mixed.proofs.text.MixedEnumSetDisplay.fmt.Given as goal
 
@@ -8,5 +8,5 @@ use Rattle.enumset_mixed.proofs.text.MixedEnumSetDisplay.fmt.Given as goal
 abbrev pub invariant-loop-member : goal.invariant-loop-member
 invariant-loop-member g l = record {
   first : l.is_first ≡ (length l.yielded == 0);
-  written : DisplaysOnOk g.W.Write.write_str_gives l.fn.f (Ok tt) (joined (map (item_text g.T.Display.output) l.yielded)) l.f;
+  written : DisplaysOnOk g.W.Write.write_str_gives l.fn.f (Ok tt) (joined_text (map (item_text g.T.Display.output) l.yielded)) l.f;
 }

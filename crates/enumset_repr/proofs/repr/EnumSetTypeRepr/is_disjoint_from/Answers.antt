@@ -4,4 +4,4 @@ use Rattle.enumset_repr.proofs.repr.EnumSetTypeRepr.is_disjoint_from.Goals as go
 
 pub returns : goal.returns
 returns g c =
-    same_from_decides _ _ (rw (← g.met.Self.EnumSetTypeRepr.bitand_is _ _ _ c.known.ensures c.known-2.ensures c.bitand.ensures) c.is_empty.ensures) (is_disjoint_iff _ _)
+    same_from_decides _ _ (rw (← g.met.Self.EnumSetTypeRepr.bitand_is _ _ _ c.learn_is_value.ensures c.learn_is_value-2.ensures c.bitand.ensures) c.is_empty.ensures) (is_disjoint_iff _ _)

@@ -6,5 +6,5 @@ use Rattle.enumset_repr.proofs.repr.EnumSetTypeRepr.try_to_u128.Goals as goal
 
 pub returns-clause-value : goal.returns-clause-value
 returns-clause-value g c =
-    c.joined.ensures ∙ number-words _ _ (c.in_ok-try_to_u64_slice.ensures.words refl)
+    c.join_halves.ensures ∙ number-words _ _ (c.in_ok-try_to_u64_slice.ensures.words refl)
     ∙ ap number (low_within _ 128 (c.in_ok-try_to_u64_slice.ensures.fits.0 refl))

@@ -2,7 +2,7 @@ use Rattle.std.proofs.Common.{refl, sym, ◌∙◌, arith, true≢false, inl, in
 use Rattle.std.proofs.lemmas.Bool.{cases_lt}
 use Rattle.enumset_repr.specs.Words.{word}
 use Rattle.enumset_repr.specs.Laws.WordLists.{word-past, within_words}
-use Rattle.enumset_repr.specs.Laws.Filled.{word_past_store}
+use Rattle.enumset_repr.specs.Laws.Filled.{word_past_repr}
 use Rattle.enumset_repr.proofs.Slices.{same_at}
 use Rattle.enumset_repr.proofs.repr.EnumSetTypeRepr.try_to_u64_slice.Goals as goal
 
@@ -22,7 +22,7 @@ pub returns-clause-fits : goal.returns-clause-fits
 returns-clause-fits g c = (
   λ _. within_words _ _ (λ w past. elim (cases_lt w g.Self.EnumSetTypeRepr.PREFERRED_ARRAY_LEN) [
     | inl under ↦ c.loop-i.invariant w past (omega (arith, under, c.loop-i-test.false, c.PREFERRED_ARRAY_LEN-i-end.ensures))
-    | inr from ↦ word_past_store _ _ _ w (g.met.Self.EnumSetTypeRepr.within c.args.self.now c.known.ensures) g.met.Self.EnumSetTypeRepr.words from
+    | inr from ↦ word_past_repr _ _ _ w (g.met.Self.EnumSetTypeRepr.within c.args.self.now c.learn_is_value.ensures) g.met.Self.EnumSetTypeRepr.words from
   ]),
   λ _. refl,
 )

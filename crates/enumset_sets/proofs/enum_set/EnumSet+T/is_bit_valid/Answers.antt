@@ -7,21 +7,21 @@ use Rattle.enumset_sets.proofs.enum_set.EnumSet+T.is_bit_valid.Goals as goal
 pub returns-else-bit-WIDTH-clause-valid : goal.returns-else-bit-WIDTH-clause-valid
 returns-else-bit-WIDTH-clause-valid g c =
     le-ltb _ _ c.if-bit-WIDTH.false
-    ∙ sym (contains-past _ _ _ (g.met.T.Repr.EnumSetTypeRepr.within g.T.EnumSetType.ALL_BITS (rw (← c.valid_repr-all.ensures.value) c.valid_repr-all.ensures.is_value)) (omega (arith, c.if-bit-WIDTH.false, c.WIDTH.ensures)))
+    ∙ sym (contains-past _ _ _ c.valid_repr-all.ensures.within (omega (arith, c.if-bit-WIDTH.false, c.WIDTH.ensures)))
 
 pub returns-else-bit-WIDTH-clause-past : goal.returns-else-bit-WIDTH-clause-past
 returns-else-bit-WIDTH-clause-past g c past = le-ltb _ _ c.if-bit-WIDTH.false
 
 pub returns-else-bit-WIDTH-clause-of_a_variant : goal.returns-else-bit-WIDTH-clause-of_a_variant
 returns-else-bit-WIDTH-clause-of_a_variant g c =
-    returns-else-bit-WIDTH-clause-valid g c ∙ contains-is_in _ _ _ g.met.T.EnumSetType.lawful.valid
+    returns-else-bit-WIDTH-clause-valid g c ∙ contains-is_in _ _ _ refl
 
 pub returns-then-bit-WIDTH-clause-of_a_variant : goal.returns-then-bit-WIDTH-clause-of_a_variant
 returns-then-bit-WIDTH-clause-of_a_variant g c =
-    rw (c.has_bit.ensures, c.valid_repr-all.ensures.value) (contains-is_in _ _ _ g.met.T.EnumSetType.lawful.valid)
+    rw (c.has_bit.ensures, c.valid_repr-all.ensures.members) (contains-is_in _ _ _ refl)
 
 pub returns-then-bit-WIDTH-clause-valid : goal.returns-then-bit-WIDTH-clause-valid
-returns-then-bit-WIDTH-clause-valid g c = rw (c.has_bit.ensures, c.valid_repr-all.ensures.value) refl
+returns-then-bit-WIDTH-clause-valid g c = rw (c.has_bit.ensures, c.valid_repr-all.ensures.members) refl
 
 pub returns-then-bit-WIDTH-clause-past : goal.returns-then-bit-WIDTH-clause-past
 returns-then-bit-WIDTH-clause-past g c past =

@@ -5,7 +5,7 @@ use Rattle.std.proofs.lemmas.Iterator.Consumers.{YieldsList-from_first, YieldsLi
 use Rattle.enumset_sets.specs.Laws.Texts.{writes_one_more, writes_at, text_at-tells}
 use Rattle.enumset_sets.proofs.text.EnumSetDisplay.fmt.Goals as goal
 
--- a list that something was put to is not empty
+-- a list with an item pushed is not empty
 not_empty : (n m : ℕ) → m ≡ n + 1 → false ≡ (m == 0)
 not_empty n m is = grind (arith, nat_tests)
 
@@ -18,5 +18,5 @@ loop-element-preserved g c =
 
 pub returns-clause-writes : goal.returns-clause-writes
 returns-clause-writes g c =
-    let end = YieldsList-end (YieldsList-from_first g.T.EnumSetType.elements.bit (λ bits. bits) _ (c.into_iter-element-iterator.ensures.into_iter_gives ∙ c.iter-element-items.ensures.rising)) c.loop-element.yielded _ c.loop-element.yielded_by _ _ c.in-None.is c.next.ensures.steps in
+    let end = YieldsList-end (YieldsList-from_first g.T.EnumSetType.elements.bit (λ bits. bits) _ (c.into_iter-element-iterator.ensures.into_iter_gives ∙ c.iter-element-items.ensures.ascending)) c.loop-element.yielded _ c.loop-element.yielded_by _ _ c.in-None.is c.next.ensures.steps in
     writes_at g.T.Display.output g.T.EnumSetType.elements.bit _ (text_at-tells g.T.EnumSetType.elements.bit g.met.T.EnumSetType.lawful.bit_tells g.T.EnumSetType.values g.T.Display.output) g.W.Write.write_str_gives c.loop-element.yielded _ _ _ end.0 c.loop-element.invariant.written

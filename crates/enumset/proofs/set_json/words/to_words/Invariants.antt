@@ -1,9 +1,0 @@
-use Rattle.std.proofs.Common.{◌≡◌, map}
-use Rattle.enumset_repr.specs.Words.{words}
-use Rattle.serde_json.specs.View.{view}
-use Rattle.enumset.specs.Json.{number_value}
-use Rattle.enumset.proofs.set_json.words.to_words.Given as goal
-
--- the words before this one are written
-abbrev pub invariant-loop-i : goal.invariant-loop-i
-invariant-loop-i g l = map view l.all.items ≡ map number_value (words (g.T.Repr.EnumSetTypeRepr.members l.repr) l.i)

@@ -1,0 +1,9 @@
+use Rattle.std.proofs.Common.{◌≡◌, map}
+use Rattle.enumset_repr.specs.Words.{words}
+use Rattle.serde_json.specs.View.{view}
+use Rattle.enumset.specs.Json.{number_value}
+use Rattle.enumset.proofs.set_json.words.words_of.Given as goal
+
+-- the words before this one are written
+abbrev pub invariant-loop-i : goal.invariant-loop-i
+invariant-loop-i g l = map view l.all.items ≡ map number_value (words (g.R.EnumSetTypeRepr.members l.repr) l.i)

@@ -1,0 +1,106 @@
+-- JSON lists and maps of names as sets, and what is wrong with one that is none.
+--     values_of, members_in      the elements of an array;  the members of an object, each name with its value, in the order of their names
+--     text_of, is_true      the text that a value is, if it is one;  whether it is `true`
+--     is_no_text, is_no_boolean      the tests that find a fault
+--     is_unknown      whether a text is the name of no variant
+--     known_set      the set of the names that are known
+--     named_set      the same, where unknown names are left out, or the first is the fault
+--     names_in, true_names      the names of members;  of those whose value is `true`
+--     set_of_list, set_of_map      the set that a value is read as, or the fault
+--     list_value, map_value      the values that a set is written as
+use Rattle.std.specs.Prelude.{ℕ, Bool, true, false, is_none, List, [], ◌∷◌, map, filter, filter_map, position, Option, Some, None, unwrap_or, Result, Ok, Err}
+use Rattle.enumset_repr.specs.BitSet.{BitSet, from_list, ascending}
+use Rattle.serde_json.specs.Data.{Data, null, boolean, number, string, array, object, Items, no_items, item, Members, no_members, member, put}
+use Rattle.serde_json.specs.Find.{as_str, as_bool}
+use Rattle.serde_json.specs.View.{items_of}
+use Rattle.enumset.specs.Names.{Names, name_of, bit_named}
+use Rattle.enumset.specs.declared.set_json.unknown.Unknown.{Unknown}
+use Rattle.enumset.specs.declared.set_json.unknown.Unknown.TheVariants.{Drop, Refuse}
+use Rattle.enumset.specs.declared.set_json.fault.JsonFault.{JsonFault}
+use Rattle.enumset.specs.declared.set_json.fault.JsonFault.TheVariants.{NotAnArray, NotAnObject, NotAText, NotABoolean, UnknownName}
+
+-- ---- what is read
+
+abbrev pub values_of : Items → List Data
+values_of no_items = []
+values_of (item value items) = value ∷ values_of items
+
+abbrev pub members_in : Members → List (List ℕ × Data)
+members_in no_members = []
+members_in (member name value members) = (name, value) ∷ members_in members
+
+abbrev pub text_of : Data → List ℕ
+text_of value = unwrap_or (as_str value) []
+
+abbrev pub is_no_text : Data → Bool
+is_no_text value = is_none (as_str value)
+
+abbrev pub is_true : List ℕ × Data → Bool
+is_true m = unwrap_or (as_bool m.1) false
+
+abbrev pub is_no_boolean : List ℕ × Data → Bool
+is_no_boolean m = is_none (as_bool m.1)
+
+abbrev pub is_unknown : Names → List ℕ → Bool
+is_unknown names text = is_none (bit_named names text)
+
+abbrev pub known_set : Names → List (List ℕ) → BitSet
+known_set names texts = from_list (filter_map (bit_named names) texts)
+
+abbrev pub unless_unknown : Option ℕ → BitSet → Result BitSet JsonFault
+unless_unknown None s = Ok s
+unless_unknown (Some place) s = Err (UnknownName place)
+
+-- the set of the names that are chosen among all that are there
+abbrev pub named_set : Names → Unknown → List (List ℕ) → List (List ℕ) → Result BitSet JsonFault
+named_set names Drop all chosen = Ok (known_set names chosen)
+named_set names Refuse all chosen = unless_unknown (position (is_unknown names) all) (known_set names chosen)
+
+abbrev pub set_of_texts : Names → Unknown → Option ℕ → List (List ℕ) → Result BitSet JsonFault
+set_of_texts names unknown None texts = named_set names unknown texts texts
+set_of_texts names unknown (Some place) texts = Err (NotAText place)
+
+abbrev pub set_of_values : Names → Unknown → List Data → Result BitSet JsonFault
+set_of_values names unknown values = set_of_texts names unknown (position is_no_text values) (map text_of values)
+
+abbrev pub set_of_list : Names → Unknown → Data → Result BitSet JsonFault
+set_of_list names unknown (array items) = set_of_values names unknown (values_of items)
+set_of_list names unknown null = Err NotAnArray
+set_of_list names unknown (boolean b) = Err NotAnArray
+set_of_list names unknown (number n) = Err NotAnArray
+set_of_list names unknown (string s) = Err NotAnArray
+set_of_list names unknown (object ms) = Err NotAnArray
+
+abbrev pub names_in : List (List ℕ × Data) → List (List ℕ)
+names_in ms = map (λ m. m.0) ms
+
+abbrev pub true_names : List (List ℕ × Data) → List (List ℕ)
+true_names ms = names_in (filter is_true ms)
+
+abbrev pub set_of_booleans : Names → Unknown → Option ℕ → List (List ℕ × Data) → Result BitSet JsonFault
+set_of_booleans names unknown None ms = named_set names unknown (names_in ms) (true_names ms)
+set_of_booleans names unknown (Some place) ms = Err (NotABoolean place)
+
+abbrev pub set_of_members : Names → Unknown → List (List ℕ × Data) → Result BitSet JsonFault
+set_of_members names unknown ms = set_of_booleans names unknown (position is_no_boolean ms) ms
+
+abbrev pub set_of_map : Names → Unknown → Data → Result BitSet JsonFault
+set_of_map names unknown (object ms) = set_of_members names unknown (members_in ms)
+set_of_map names unknown null = Err NotAnObject
+set_of_map names unknown (boolean b) = Err NotAnObject
+set_of_map names unknown (number n) = Err NotAnObject
+set_of_map names unknown (string s) = Err NotAnObject
+set_of_map names unknown (array items) = Err NotAnObject
+
+-- ---- what is written
+
+abbrev pub list_value : Names → BitSet → Data
+list_value names s = array (items_of (map (λ b. string (name_of names b)) (ascending s)))
+
+-- the members put in so far, with those of further bits
+abbrev pub with_bits_true : Names → Members → List ℕ → Members
+with_bits_true names done [] = done
+with_bits_true names done (b ∷ bs) = with_bits_true names (put (name_of names b) (boolean true) done) bs
+
+abbrev pub map_value : Names → BitSet → Data
+map_value names s = object (with_bits_true names no_members (ascending s))

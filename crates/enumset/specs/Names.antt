@@ -1,0 +1,46 @@
+-- The names of an element type's values.
+--     Names      bits, each with its name
+--     names_of      the valid bits with the names of a list, in the order of the list of bits
+--     name_of      the name of a bit
+--     bit_named      the bit of a name, if there is one
+--     IsNaming      the test that each bit has a name of its own; where it fails it is the fault, by a name that says what to mend
+use Rattle.std.specs.Prelude.{ℕ, Bool, true, false, not, ◌&&◌, ◌==◌, if◌then◌else◌, List, [], ◌∷◌, length, zip, Option, Some, None}
+use Rattle.std.specs.List.{list_any}
+use Rattle.std.specs.Str.{bytes_eq}
+use Rattle.enumset_sets.specs.Elements.{Elements}
+
+abbrev pub Names : Type 0
+Names = List (ℕ × List ℕ)
+
+abbrev pub names_of : {T : Type 0} → Elements T → List (List ℕ) → Names
+names_of elements names = zip elements.bit_list names
+
+abbrev pub name_of : Names → ℕ → List ℕ
+name_of [] b = []
+name_of (n ∷ ns) b = if n.0 == b then n.1 else name_of ns b
+
+abbrev pub bit_named : Names → List ℕ → Option ℕ
+bit_named [] text = None
+bit_named (n ∷ ns) text = if bytes_eq n.1 text then Some n.0 else bit_named ns text
+
+-- ---- the test
+
+-- whether no text comes twice
+abbrev pub are_distinct : List (List ℕ) → Bool
+are_distinct [] = true
+are_distinct (n ∷ ns) = not (list_any (λ m. bytes_eq m n) ns) && are_distinct ns
+
+-- What names may get wrong. Nothing is of these types: where one is asked for, its name says what to mend.
+pub data NameCountShouldBe (count : ℕ) : Type 0 where
+
+pub data NamesAValueTwice : Type 0 where
+
+abbrev pub fault_unless : Bool → Type 0 → Type 0 → Type 0
+fault_unless true fault next = next
+fault_unless false fault next = fault
+
+-- as many names as bits, and no two the same
+abbrev pub IsNaming : List ℕ → List (List ℕ) → Type 0
+IsNaming bs names =
+    fault_unless (length names == length bs) (NameCountShouldBe (length bs))
+    (fault_unless (are_distinct names) NamesAValueTwice (Unit {0}))

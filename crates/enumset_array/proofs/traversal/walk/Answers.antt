@@ -1,0 +1,43 @@
+use Rattle.std.proofs.Common.{◌≡◌, ◌+◌, ◌≤◌, Contains, length, is_some, if◌then◌else◌, None, take, refl, sym, ap, ◌∙◌, subst, arith}
+use Rattle.std.proofs.lemmas.Grind.{common_steps}
+use Rattle.enumset_repr.specs.BitSet.{difference, from_list}
+use Rattle.enumset_array.specs.Walks.{items_among}
+use Rattle.enumset_repr.specs.Words.{bits_of}
+use Rattle.enumset_array.proofs.Covers.{covers_all}
+use Rattle.enumset_array.proofs.Walks.{length-items_among, length-items_among-push, length-answers, difference-none, difference-step, none-push, no_answers, all_left, none_given, none_in_no_answers, answers_next, rest_next}
+use Rattle.enumset_array.proofs.traversal.walk.Goals as goal
+
+pub loop-end-init : goal.loop-end-init
+loop-end-init g c = record {
+  items = c.in_ok-answers.ensures.items ∙ sym (no_answers _);
+  rest = sym (all_left _);
+  set = difference-none _ ∙ ap (λ rs. difference (bits_of (g.R.Row.words c.args.row.now)) (from_list (items_among rs))) (sym c.in_ok-answers.ensures.items);
+  asks = let e : length (items_among c.in_ok-answers.answers.items) ≡ 0 = ap (λ rs. length (items_among rs)) c.in_ok-answers.ensures.items ∙ none_given in
+      rw c.over-cursors.ensures (omega arith);
+  met = λ has. absurd (none_in_no_answers _ c.in_ok-answers.ensures.items has);
+  covers = rw (c.over-cursors.ensures, c.word_count.ensures.count) (covers_all _);
+  count = c.in_ok-answers.ensures.len;
+  room = omega (arith, c.in_ok-answers.ensures.capacity);
+  same = refl;
+}
+
+pub loop-end-preserved : goal.loop-end-preserved
+loop-end-preserved g c = record {
+  items = answers_next _ _ _ _ _ _ _ c.loop-end-test.true c.loop-end.invariant.items c.loop-end.invariant.rest c.step.ensures.item c.in_ok-push.ensures.items;
+  rest = rest_next _ _ _ _ _ c.loop-end-test.true c.loop-end.invariant.rest c.step.ensures.rest;
+  set = difference-step _ _ _ _ _ c.loop-end.invariant.set c.step.ensures.words.set ∙ ap (λ rs. difference (bits_of (g.R.Row.words c.args.row.now)) (from_list (items_among rs))) (sym c.in_ok-push.ensures.items);
+  asks = let e : length (items_among c.push.new.self.items) ≡ length (items_among c.loop-end.answers.items) + (if is_some c.step.result then 1 else 0) = ap (λ rs. length (items_among rs)) c.in_ok-push.ensures.items ∙ length-items_among-push _ _ in
+      omega (arith, c.step.ensures.asks.sum, c.loop-end.invariant.asks);
+  met = λ has. none-push _ _ _ _ c.loop-end.invariant.met (λ met. (c.step.ensures.asks.stays met).0) c.step.ensures.asks.met (subst (λ rs. Contains rs None) c.in_ok-push.ensures.items has);
+  covers = c.step.ensures.covers;
+  count = omega (arith, c.in_ok-push.ensures.len, c.loop-end.invariant.count);
+  room = omega (arith, c.in_ok-push.ensures.capacity, c.loop-end.invariant.room);
+  same = c.step.ensures.words.len ∙ c.loop-end.invariant.same;
+}
+
+pub returns-clause-bound : goal.returns-clause-bound
+returns-clause-bound g c =
+    let few : length (items_among c.loop-end.answers.items) ≤ length c.loop-end.answers.items = length-items_among _ in
+    let many : length c.loop-end.answers.items ≡ length (take c.loop-end.end-index c.args.ends.now) = ap length c.loop-end.invariant.items ∙ length-answers _ _ in
+    let most : length (take c.loop-end.end-index c.args.ends.now) ≤ length c.args.ends.now = grind (arith, common_steps) in
+    omega (arith, c.loop-end.invariant.asks)

@@ -1,0 +1,112 @@
+-- The laws of the words of an `ArrayRepr`.
+--     past_is, empty_past      the words past those in use are 0
+--     used_is, used_fit      the words in use
+--     contains-set_of      64 w + b is a member exactly if b is a bit of word w
+--     set_is      the set, by the bits of each word
+--     word_is, inverse      the words of the set are the words
+--     within      each member is below 64 times the number of words in use
+--     repr_of_none, set_of_none      the words of the empty set are all 0
+--     empty_iff, none_iff      the set is empty exactly if each word is 0;  exactly if the test of all words says so
+--     equal      lists of words are equal exactly if their sets are
+--     same_words-IsEquivalence, same_words-IsPartialEquivalence      having the same words is an equivalence
+--     width_words      there are as many words as the width needs
+use Rattle.std.proofs.Common.{◌≡◌, ◌<◌, ◌≤◌, ◌⊎◌, inl, inr, ℕ, ◌+◌, ◌-◌, ◌*◌, ◌/◌, ◌^◌, true, List, take, drop, sym, ap, ◌∙◌, subst, arith, ◌↔◌, true≢false, lit<}
+use Rattle.std.specs.Prelude.{◌==◌, IsTrue, nat_eq, nat_lt, slice_index, replicate}
+use Rattle.std.specs.List.{list_all}
+use Rattle.std.specs.Cmp.Lexicographic.{pointwise, same_text}
+use Rattle.std.proofs.lemmas.Bool.{cases_lt, lt-ltb}
+use Rattle.std.proofs.lemmas.Cmp.{nat_list_eq_equiv}
+use Rattle.std.specs.Cmp.{IsEquivalence, IsPartialEquivalence}
+use Rattle.std.proofs.lemmas.List.{get_or-take, get_or-drop, get_or_past, length-take, length-replicate, drop-replicate}
+use Rattle.enumset_repr.specs.BitSet.{BitSet, contains, empty, below, is_subset}
+use Rattle.enumset_repr.specs.Number.{bits}
+use Rattle.enumset_repr.specs.Words.{word, words}
+use Rattle.enumset_repr.specs.Laws.Members.{same_set, contains-below, contains-empty, contains-is_subset}
+use Rattle.enumset_array.specs.ArrayWords.{in_use, words_in_use, set_of, is_empty_past, IsArrayRepr}
+use Rattle.enumset_repr.specs.Laws.WordLists.{contains-bits_of, by_word, contains-zero, word-bits_of, words-bits_of, word-empty}
+use Rattle.enumset_array.specs.Laws.Zeros.{each_zero, all_zero, none_at, all_none}
+
+pub past_is : (n : ℕ) (ws : List ℕ) (w : ℕ) → IsTrue (is_empty_past n ws) → in_use n ≤ w → slice_index ws w ≡ 0
+past_is n ws w past from =
+    let place : w ≡ in_use n + (w - in_use n) = omega (arith, from) in
+    ap (slice_index ws) place ∙ sym (get_or-drop (in_use n) ws (w - in_use n) 0) ∙ each_zero (drop (in_use n) ws) (w - in_use n) past
+
+-- past its first k words the list of these has none
+past_taken : (k : ℕ) (ws : List ℕ) (w : ℕ) → k ≤ w → slice_index (take k ws) w ≡ 0
+past_taken k ws w h = get_or_past (take k ws) w 0 (omega (arith, h, length-take k ws))
+
+pub used_is : (n : ℕ) (ws : List ℕ) (w : ℕ) → IsTrue (is_empty_past n ws) → slice_index (words_in_use n ws) w ≡ slice_index ws w
+used_is n ws w past = at (cases_lt w (in_use n))
+  where
+    at : (w < in_use n) ⊎ (in_use n ≤ w) → slice_index (words_in_use n ws) w ≡ slice_index ws w
+    at (inl low) = get_or-take (in_use n) ws w 0 low
+    at (inr from) = past_taken (in_use n) ws w from ∙ sym (past_is n ws w past from)
+
+pub empty_past : (n : ℕ) (ws : List ℕ) → ((w : ℕ) → in_use n ≤ w → slice_index ws w ≡ 0) → IsTrue (is_empty_past n ws)
+empty_past n ws none = all_zero (drop (in_use n) ws) (λ i. get_or-drop (in_use n) ws i 0 ∙ none (in_use n + i) (omega arith))
+
+pub used_fit : (n : ℕ) (ws : List ℕ) → IsArrayRepr n ws → (w : ℕ) → slice_index (words_in_use n ws) w < 2 ^ 64
+used_fit n ws is_repr w = subst (λ x. x < 2 ^ 64) (sym (used_is n ws w is_repr.past)) (is_repr.fit w)
+
+pub contains-set_of : (n : ℕ) (ws : List ℕ) (w b : ℕ) → IsArrayRepr n ws → b < 64 → contains (set_of n ws) (64 * w + b) ≡ contains (bits (slice_index ws w)) b
+contains-set_of n ws w b is_repr small = contains-bits_of (words_in_use n ws) w b (used_fit n ws is_repr) small ∙ ap (λ x. contains (bits x) b) (used_is n ws w is_repr.past)
+
+pub set_is : (n : ℕ) (ws : List ℕ) (s : BitSet) → IsArrayRepr n ws → ((w b : ℕ) → b < 64 → contains (bits (slice_index ws w)) b ≡ contains s (64 * w + b)) → set_of n ws ≡ s
+set_is n ws s is_repr each = same_set (set_of n ws) s (by_word (λ q. contains (set_of n ws) q ≡ contains s q) (λ w b small. contains-set_of n ws w b is_repr small ∙ each w b small))
+
+pub word_is : (n : ℕ) (ws : List ℕ) (w : ℕ) → IsArrayRepr n ws → word (set_of n ws) w ≡ slice_index ws w
+word_is n ws w is_repr = word-bits_of (words_in_use n ws) w (used_fit n ws is_repr) ∙ used_is n ws w is_repr.past
+
+pub inverse : (n : ℕ) (ws : List ℕ) → IsArrayRepr n ws → words (set_of n ws) n ≡ ws
+inverse n ws is_repr = ap (words (set_of n ws)) (sym is_repr.long) ∙ words-bits_of (words_in_use n ws) ws (used_fit n ws is_repr) (λ w. used_is n ws w is_repr.past)
+
+pub within : (n : ℕ) (ws : List ℕ) → IsArrayRepr n ws → IsTrue (is_subset (set_of n ws) (below (64 * in_use n)))
+within n ws is_repr = contains-is_subset _ _ (by_word (λ q. contains (set_of n ws) q ≡ true → contains (below (64 * in_use n)) q ≡ true) (λ w b small one. contains-below _ _ ∙ at w b small one (cases_lt w (in_use n))))
+  where
+    at : (w b : ℕ) → b < 64 → contains (set_of n ws) (64 * w + b) ≡ true → (w < in_use n) ⊎ (in_use n ≤ w) → nat_lt (64 * w + b) (64 * in_use n) ≡ true
+    at w b small one (inl low) = lt-ltb _ _ (omega (arith, low, small))
+    at w b small one (inr past) = absurd (true≢false (sym one ∙ contains-set_of n ws w b is_repr small ∙ contains-zero _ b (past_is n ws w is_repr.past past)))
+
+-- ---- no bits
+
+pub repr_of_none : (n : ℕ) → IsArrayRepr n (replicate n 0)
+repr_of_none n = record {
+  long = length-replicate n 0;
+  fit = λ i. subst (λ x. x < 2 ^ 64) (sym (none_at n i)) (lit< tt);
+  past = ap (list_all (λ w. w == 0)) (drop-replicate (in_use n) n 0) ∙ all_none (n - in_use n);
+}
+
+pub empty_iff : (n : ℕ) (ws : List ℕ) → IsArrayRepr n ws → ((w : ℕ) → slice_index ws w ≡ 0) ↔ (set_of n ws ≡ empty)
+empty_iff n ws is_repr = (
+  λ none. set_is n ws empty is_repr (λ w b small. contains-zero _ b (none w) ∙ sym (contains-empty _)),
+  λ none w. sym (word_is n ws w is_repr) ∙ ap (λ s. word s w) none ∙ word-empty w,
+)
+
+pub none_iff : (n : ℕ) (ws : List ℕ) → IsArrayRepr n ws → IsTrue (list_all (λ w. w == 0) ws) ↔ (set_of n ws ≡ empty)
+none_iff n ws is_repr = (
+  λ none. (empty_iff n ws is_repr).0 (λ w. each_zero ws w none),
+  λ none. all_zero ws ((empty_iff n ws is_repr).1 none),
+)
+
+pub set_of_none : (n : ℕ) → set_of n (replicate n 0) ≡ empty
+set_of_none n = (empty_iff n _ (repr_of_none n)).0 (none_at n)
+
+-- ---- equal words
+
+pub equal : (n : ℕ) (a b : List ℕ) → IsArrayRepr n a → IsArrayRepr n b → IsTrue (pointwise nat_eq a b) ↔ (set_of n a ≡ set_of n b)
+equal n a b p q = (
+  λ same. ap (set_of n) (same_text a b (sym same)),
+  λ same. let e : a ≡ b = sym (inverse n a p) ∙ ap (λ s. words s n) same ∙ inverse n b q in subst (λ c. pointwise nat_eq a c ≡ true) e (nat_list_eq_equiv.refl a),
+)
+
+pub same_words-IsEquivalence : IsEquivalence (pointwise nat_eq)
+same_words-IsEquivalence = nat_list_eq_equiv
+
+pub same_words-IsPartialEquivalence : IsPartialEquivalence (pointwise nat_eq)
+same_words-IsPartialEquivalence = record {
+  symm = nat_list_eq_equiv.symm;
+  trans = λ a b c ab bc. nat_list_eq_equiv.congr a b c ab ∙ bc;
+}
+
+pub width_words : (n : ℕ) → in_use n ≡ (64 * in_use n + 63) / 64
+width_words n = omega arith

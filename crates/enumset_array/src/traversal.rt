@@ -1,0 +1,79 @@
+//! Traversals: many steps of one pair of cursors, each from either end.
+
+ghost use Rattle.std.specs.Prelude.{◌≡◌, ◌+◌, ◌≤◌, Contains, length, IfOk, IfErr, None};
+ghost use Rattle.enumset_repr.specs.BitSet.{difference, from_list};
+ghost use Rattle.enumset_array.specs.Cursors.{span, Covers};
+ghost use Rattle.enumset_array.specs.OneStep.{TakesOut, CountsAsks};
+ghost use Rattle.enumset_array.specs.Walks.{answer, without_answer, answers, without_answers, items_among};
+ghost use Rattle.enumset_repr.specs.Words.{bits_of};
+ghost use Rattle.enumset_array.specs.Items.{items_of};
+
+use crate::cursors::{Cursors, step_back, step_front};
+use crate::row::Row;
+use std::alloc::{AllocError, Global};
+
+/// An end of a list.
+#[derive(Clone, Copy, Debug, PartialEq, Eq)]
+pub enum End {
+    /// The end with the least item.
+    Front,
+    /// The end with the greatest item.
+    Back,
+}
+
+/// One step from an end.
+fn step<R: Row>(row: &mut R, cursors: &mut Cursors, end: End) -> Option<u32>
+    requires { Covers (R.words row.old) cursors.old }
+    ensures item { result ≡ answer end (items_of (R.words row.old)) }
+    ensures rest { items_of (R.words row.new) ≡ without_answer end (items_of (R.words row.old)) }
+    ensures words { TakesOut (R.words row.old) result (R.words row.new) }
+    ensures asks { CountsAsks (R.asks row.old) (span cursors.old) result
+        (R.asks row.new) (span cursors.new) }
+    ensures covers { Covers (R.words row.new) cursors.new }
+{
+    match end {
+        End::Front => step_front(row, cursors),
+        End::Back => step_back(row, cursors),
+    }
+}
+
+/// Takes one step from each of `ends`, in that order, and returns an answer for each: the least or the greatest bit of
+/// the row, which the step takes out, or `None` if the row has no bit.
+///
+/// All steps use one pair of cursors, which starts over the whole row. However long `ends` is, the number of asks that
+/// the call makes is at most the number of bits that it found plus the number of words of the row. If an answer is
+/// `None`, it is exactly that. The number of words stays.
+///
+/// Room for all answers is taken before the first step. If the call returns `AllocError`, no bit was taken out and no
+/// word was asked.
+///
+/// Rust's `enumset` has no such call.
+pub fn walk<R: Row>(
+    alloc: Global,
+    row: &mut R,
+    ends: &[End],
+) -> Result<Vec<Option<u32>>, AllocError>
+    ensures answers { IfOk result (λ v. v.items ≡ answers (items_of (R.words row.old)) ends.now) }
+    ensures rest { IfOk result (λ _.
+        items_of (R.words row.new) ≡ without_answers (items_of (R.words row.old)) ends.now) }
+    ensures set { IfOk result (λ v.
+        bits_of (R.words row.new)
+        ≡ difference (bits_of (R.words row.old)) (from_list (items_among v.items))) }
+    ensures asks { IfOk result (λ v.
+        R.asks row.new ≤ R.asks row.old + length (items_among v.items) + length (R.words row.old)) }
+    ensures all_asked { IfOk result (λ v.
+        Contains v.items None
+        → R.asks row.new
+        ≡ R.asks row.old + length (items_among v.items) + length (R.words row.old)) }
+    ensures bound { IfOk result (λ _.
+        R.asks row.new ≤ R.asks row.old + length ends.now + length (R.words row.old)) }
+    ensures len { length (R.words row.new) ≡ length (R.words row.old) }
+    ensures unchanged { IfErr result (λ _. row.new ≡ row.old) }
+{
+    let mut answers = Vec::with_capacity(alloc, ends.len())?;
+    let mut cursors = Cursors::over(row.word_count());
+    for end in ends {
+        answers.push(step(row, &mut cursors, *end))?;
+    }
+    Ok(answers)
+}

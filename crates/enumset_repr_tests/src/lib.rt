@@ -1,0 +1,27 @@
+//! Tests of `enumset_repr` and `enumset_array`: each call of each representation, calls with their replies written out,
+//! traversals, texts and sizes.
+//!
+//! They test what no contract says: that calls succeed, that the definitions say what they should, `{:?}` texts and
+//! sizes. They are in a crate of their own so that `enumset_repr` and `enumset_array` are proved once.
+#![tactic(auto)]
+
+#[cfg(test)]
+mod each_bit;
+#[cfg(test)]
+mod each_repr;
+#[cfg(test)]
+mod each_word;
+#[cfg(test)]
+mod expect;
+#[cfg(test)]
+mod numbers;
+#[cfg(test)]
+mod refused;
+#[cfg(test)]
+mod slices;
+#[cfg(test)]
+mod texts;
+#[cfg(test)]
+mod walks;
+#[cfg(test)]
+mod written_out;

@@ -1,0 +1,165 @@
+//! Sets to and from JSON lists of names and maps of names to booleans: each form, and each fault, alone and where a
+//! later one would hold too.
+//!
+//! A row is a JSON text, and what it is read as where unknown names are dropped, and where they are refused.
+
+use crate::compare::same_lines;
+use crate::named::{Letters, Nothing, Sparse, Wide};
+use enumset::set_json::{Unknown, from_list, from_map, to_list, to_map};
+use enumset::{EnumSet, EnumSetNames};
+use serde_json::Value;
+use std::alloc::Global;
+use std::fmt;
+use std::process::Abort;
+use std::test::Fail;
+
+// The forms that have names.
+#[derive(Clone, Copy, Debug, PartialEq, Eq)]
+enum Form {
+    List,
+    Map,
+}
+
+// Tests rows of a form.
+fn expect_form<T: EnumSetNames + fmt::Debug>(
+    rt: &impl Abort,
+    alloc: Global,
+    form: Form,
+    rows: &str,
+) -> Result<(), Fail> {
+    for row in rows.lines() {
+        let (json, wanted) = row.split_once(" -> ").unwrap_or((row, "a row"));
+        let value = Value::from_str(alloc, json)?;
+        let mut came = String::new(alloc);
+        for unknown in [Unknown::Drop, Unknown::Refuse] {
+            let read = match form {
+                Form::List => from_list::<T>(&value, unknown),
+                Form::Map => from_map::<T>(&value, unknown),
+            };
+            write!(came, "{read:?} ")?;
+        }
+        assert_eq!(rt; came.as_str().trim_end(), wanted, "{json}");
+    }
+    Ok(())
+}
+
+#[test]
+fn lists_are_read(rt: HostRuntime) -> Result<(), Fail> {
+    expect_form::<Letters>(&rt, rt.alloc(), Form::List, LISTS_OF_LETTERS)?;
+    expect_form::<Sparse>(&rt, rt.alloc(), Form::List, LISTS_OF_SPARSE)?;
+    expect_form::<Wide>(&rt, rt.alloc(), Form::List, LISTS_OF_WIDE)?;
+    expect_form::<Nothing>(&rt, rt.alloc(), Form::List, LISTS_OF_NOTHING)
+}
+
+const LISTS_OF_LETTERS: &str = "\
+[] -> Ok(EnumSet()) Ok(EnumSet())
+[\"A\"] -> Ok(EnumSet(A)) Ok(EnumSet(A))
+[\"A\",\"C\",\"G\"] -> Ok(EnumSet(A | C | G)) Ok(EnumSet(A | C | G))
+[\"G\",\"C\",\"A\"] -> Ok(EnumSet(A | C | G)) Ok(EnumSet(A | C | G))
+[\"A\",\"A\"] -> Ok(EnumSet(A)) Ok(EnumSet(A))
+[\"\\u0041\"] -> Ok(EnumSet(A)) Ok(EnumSet(A))
+[ \"A\" , \"B\" ] -> Ok(EnumSet(A | B)) Ok(EnumSet(A | B))
+[\"H\"] -> Ok(EnumSet()) Err(UnknownName(0))
+[\"A\",\"H\"] -> Ok(EnumSet(A)) Err(UnknownName(1))
+[\"H\",\"A\",\"I\"] -> Ok(EnumSet(A)) Err(UnknownName(0))
+[\"a\"] -> Ok(EnumSet()) Err(UnknownName(0))
+[\"\"] -> Ok(EnumSet()) Err(UnknownName(0))
+[\"AB\"] -> Ok(EnumSet()) Err(UnknownName(0))
+[0] -> Err(NotAText(0)) Err(NotAText(0))
+[\"A\",0] -> Err(NotAText(1)) Err(NotAText(1))
+[\"H\",0,null] -> Err(NotAText(1)) Err(NotAText(1))
+[null] -> Err(NotAText(0)) Err(NotAText(0))
+[[\"A\"]] -> Err(NotAText(0)) Err(NotAText(0))
+\"A\" -> Err(NotAnArray) Err(NotAnArray)
+0 -> Err(NotAnArray) Err(NotAnArray)
+{\"A\":true} -> Err(NotAnArray) Err(NotAnArray)
+null -> Err(NotAnArray) Err(NotAnArray)
+";
+
+const LISTS_OF_SPARSE: &str = "\
+[\"D\",\"A\"] -> Ok(EnumSet(A | D)) Ok(EnumSet(A | D))
+[\"E\",\"D\"] -> Ok(EnumSet(D)) Err(UnknownName(0))
+";
+
+// Names that are the front parts of others.
+const LISTS_OF_WIDE: &str = "\
+[\"\\u0052ead\"] -> Ok(EnumSet(P)) Ok(EnumSet(P))
+[\"Reader\",\"Re\"] -> Ok(EnumSet(Q | R)) Ok(EnumSet(Q | R))
+[\"Rea\",\"Read \",\"Readers\"] -> Ok(EnumSet()) Err(UnknownName(0))
+[\"P\",\"Read\"] -> Ok(EnumSet(P)) Err(UnknownName(0))
+";
+
+const LISTS_OF_NOTHING: &str = "\
+[] -> Ok(EnumSet()) Ok(EnumSet())
+[\"A\"] -> Ok(EnumSet()) Err(UnknownName(0))
+";
+
+#[test]
+fn maps_are_read(rt: HostRuntime) -> Result<(), Fail> {
+    expect_form::<Letters>(&rt, rt.alloc(), Form::Map, MAPS_OF_LETTERS)?;
+    expect_form::<Wide>(&rt, rt.alloc(), Form::Map, MAPS_OF_WIDE)
+}
+
+const MAPS_OF_LETTERS: &str = "\
+{} -> Ok(EnumSet()) Ok(EnumSet())
+{\"A\":true} -> Ok(EnumSet(A)) Ok(EnumSet(A))
+{\"A\":false,\"C\":true} -> Ok(EnumSet(C)) Ok(EnumSet(C))
+{\"G\":true,\"C\":true,\"A\":true} -> Ok(EnumSet(A | C | G)) Ok(EnumSet(A | C | G))
+{\"A\":true,\"A\":false} -> Ok(EnumSet()) Ok(EnumSet())
+{\"A\":false,\"A\":true} -> Ok(EnumSet(A)) Ok(EnumSet(A))
+{\"\\u0041\":true} -> Ok(EnumSet(A)) Ok(EnumSet(A))
+{\"A\":true,\"H\":true} -> Ok(EnumSet(A)) Err(UnknownName(1))
+{\"H\":false,\"A\":true} -> Ok(EnumSet(A)) Err(UnknownName(1))
+{\"A\":1} -> Err(NotABoolean(0)) Err(NotABoolean(0))
+{\"H\":true,\"B\":\"true\"} -> Err(NotABoolean(0)) Err(NotABoolean(0))
+{\"H\":null,\"A\":true} -> Err(NotABoolean(1)) Err(NotABoolean(1))
+{\"A\":{\"B\":true}} -> Err(NotABoolean(0)) Err(NotABoolean(0))
+[] -> Err(NotAnObject) Err(NotAnObject)
+[\"A\"] -> Err(NotAnObject) Err(NotAnObject)
+\"A\" -> Err(NotAnObject) Err(NotAnObject)
+true -> Err(NotAnObject) Err(NotAnObject)
+null -> Err(NotAnObject) Err(NotAnObject)
+";
+
+const MAPS_OF_WIDE: &str = "\
+{\"Re\":true,\"Read\":false,\"Reader\":true} -> Ok(EnumSet(Q | R)) Ok(EnumSet(Q | R))
+{\"Rea\":true} -> Ok(EnumSet()) Err(UnknownName(0))
+";
+
+// Writes a line of each set: its list and its map.
+fn write_sets<T: EnumSetNames>(
+    alloc: Global,
+    text: &mut String,
+    sets: &[EnumSet<T>],
+) -> Result<(), Fail> {
+    for set in sets {
+        writeln!(text, "{} {}", to_list(alloc, set)?, to_map(alloc, set)?)?;
+    }
+    Ok(())
+}
+
+#[test]
+fn names_are_written(rt: HostRuntime) -> Result<(), Fail> {
+    let alloc = rt.alloc();
+    let mut text = String::new(alloc);
+    let letters = [
+        EnumSet::new(),
+        EnumSet::from([Letters::A, Letters::C, Letters::G]),
+    ];
+    let sparse = [EnumSet::from([Sparse::A, Sparse::D]), EnumSet::all()];
+    write_sets(alloc, &mut text, &letters)?;
+    write_sets(alloc, &mut text, &sparse)?;
+    write_sets(alloc, &mut text, &[EnumSet::<Wide>::all()])?;
+    write_sets(alloc, &mut text, &[EnumSet::<Nothing>::all()])?;
+    same_lines(&rt, &text, WRITTEN);
+    Ok(())
+}
+
+const WRITTEN: &str = "\
+[] {}
+[\"A\",\"C\",\"G\"] {\"A\":true,\"C\":true,\"G\":true}
+[\"A\",\"D\"] {\"A\":true,\"D\":true}
+[\"A\",\"B\",\"D\"] {\"A\":true,\"B\":true,\"D\":true}
+[\"Read\",\"Reader\",\"Re\"] {\"Re\":true,\"Read\":true,\"Reader\":true}
+[] {}
+";

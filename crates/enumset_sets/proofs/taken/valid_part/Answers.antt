@@ -1,9 +1,0 @@
-use Rattle.std.proofs.Common.{refl}
-use Rattle.enumset_repr.specs.Laws.Algebra.{intersection_right}
-use Rattle.enumset_sets.proofs.taken.valid_part.Goals as goal
-
-pub of_repr-requires : goal.of_repr-requires
-of_repr-requires g c = rw (c.intersection_of.ensures, c.ALL_BITS.ensures) (intersection_right _ _)
-
-pub returns : goal.returns
-returns g c = rw (c.of_repr.ensures, c.intersection_of.ensures, c.ALL_BITS.ensures) refl

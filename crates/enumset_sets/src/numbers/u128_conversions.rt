@@ -1,0 +1,69 @@
+//! Sets to and from `u128`.
+
+ghost use Rattle.std.specs.Prelude.{◌≡◌, ◌↔◌, IsTrue, IsSome, IfSome};
+ghost use Rattle.enumset_repr.specs.BitSet as set;
+ghost use Rattle.enumset_repr.specs.Number.{bits, number};
+ghost use Rattle.enumset_sets.specs.Elements.{valid_bits};
+
+use crate::element::EnumSetType;
+use crate::enum_set::EnumSet;
+use crate::validated::{exact_low, truncated_low, validated_low};
+use enumset_repr::EnumSetTypeRepr;
+
+#[tactic(auto, using(crate::specs::Laws::Conversions::conversions))]
+impl<T: EnumSetType> EnumSet<T> {
+    /// The set as a number. Every member must be below 128: [`try_as_u128`](EnumSet::try_as_u128) is the test.
+    pub fn as_u128(&self) -> u128
+        requires fits { IsTrue (set.is_subset self.now (set.below u128.BITS)) }
+        ensures { result ≡ number self.now }
+    {
+        self.as_u128_truncated()
+    }
+
+    /// The set as a number, if every member is below 128, else `None`.
+    pub fn try_as_u128(&self) -> Option<u128>
+        ensures fits { IsSome result ↔ IsTrue (set.is_subset self.now (set.below u128.BITS)) }
+        ensures value { IfSome result (λ n. n ≡ number self.now) }
+    {
+        self.repr.try_to_u128()
+    }
+
+    /// The members below 128, as a number.
+    pub fn as_u128_truncated(&self) -> u128
+        ensures { result ≡ number (set.low self.now u128.BITS) }
+    {
+        self.repr.to_u128()
+    }
+
+    /// The set of a number. Every bit of it must be valid: [`try_from_u128`](EnumSet::try_from_u128) is the test.
+    pub fn from_u128(value: u128) -> EnumSet<T>
+        requires valid { IsTrue (set.is_subset (bits value) (valid_bits T.elements)) }
+        ensures { result ≡ bits value }
+    {
+        exact_low(T::Repr::from_u128(value))
+    }
+
+    /// The set of a number, if every bit of it is valid, else `None`.
+    pub fn try_from_u128(value: u128) -> Option<EnumSet<T>>
+        ensures valid { IsSome result
+            ↔ IsTrue (set.is_subset (bits value) (valid_bits T.elements)) }
+        ensures value { IfSome result (λ s. s ≡ bits value) }
+    {
+        validated_low(T::Repr::try_from_u128(value))
+    }
+
+    /// The set of the valid bits of a number.
+    pub fn from_u128_truncated(value: u128) -> EnumSet<T>
+        ensures { result ≡ set.intersection (bits value) (valid_bits T.elements) }
+    {
+        truncated_low(T::Repr::from_u128(value))
+    }
+
+    /// The set of a number. Every bit of it must be valid, as for [`from_u128`](EnumSet::from_u128).
+    pub fn from_u128_unchecked(value: u128) -> EnumSet<T>
+        requires valid { IsTrue (set.is_subset (bits value) (valid_bits T.elements)) }
+        ensures { result ≡ bits value }
+    {
+        Self::from_u128(value)
+    }
+}

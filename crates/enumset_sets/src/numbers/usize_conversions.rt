@@ -1,0 +1,68 @@
+//! Sets to and from `usize`.
+
+ghost use Rattle.std.specs.Prelude.{◌≡◌, ◌↔◌, IsTrue, IsSome, IfSome};
+ghost use Rattle.enumset_repr.specs.BitSet as set;
+ghost use Rattle.enumset_repr.specs.Number.{bits, number};
+ghost use Rattle.enumset_sets.specs.Elements.{valid_bits};
+
+use crate::element::EnumSetType;
+use crate::enum_set::EnumSet;
+use enumset_repr::EnumSetTypeRepr;
+
+#[tactic(auto, using(crate::specs::Laws::Conversions::conversions))]
+impl<T: EnumSetType> EnumSet<T> {
+    /// The set as a number. Every member must be below 64: [`try_as_usize`](EnumSet::try_as_usize) is the test.
+    pub fn as_usize(&self) -> usize
+        requires fits { IsTrue (set.is_subset self.now (set.below usize.BITS)) }
+        ensures { result ≡ number self.now }
+    {
+        self.as_usize_truncated()
+    }
+
+    /// The set as a number, if every member is below 64, else `None`.
+    pub fn try_as_usize(&self) -> Option<usize>
+        ensures fits { IsSome result ↔ IsTrue (set.is_subset self.now (set.below usize.BITS)) }
+        ensures value { IfSome result (λ n. n ≡ number self.now) }
+    {
+        self.repr.try_to_usize()
+    }
+
+    /// The members below 64, as a number.
+    pub fn as_usize_truncated(&self) -> usize
+        ensures { result ≡ number (set.low self.now usize.BITS) }
+    {
+        self.repr.to_usize()
+    }
+
+    /// The set of a number. Every bit of it must be valid: [`try_from_usize`](EnumSet::try_from_usize) is the test.
+    pub fn from_usize(value: usize) -> EnumSet<T>
+        requires valid { IsTrue (set.is_subset (bits value) (valid_bits T.elements)) }
+        ensures { result ≡ bits value }
+    {
+        Self::from_u128(value as u128)
+    }
+
+    /// The set of a number, if every bit of it is valid, else `None`.
+    pub fn try_from_usize(value: usize) -> Option<EnumSet<T>>
+        ensures valid { IsSome result
+            ↔ IsTrue (set.is_subset (bits value) (valid_bits T.elements)) }
+        ensures value { IfSome result (λ s. s ≡ bits value) }
+    {
+        Self::try_from_u128(value as u128)
+    }
+
+    /// The set of the valid bits of a number.
+    pub fn from_usize_truncated(value: usize) -> EnumSet<T>
+        ensures { result ≡ set.intersection (bits value) (valid_bits T.elements) }
+    {
+        Self::from_u128_truncated(value as u128)
+    }
+
+    /// The set of a number. Every bit of it must be valid, as for [`from_usize`](EnumSet::from_usize).
+    pub fn from_usize_unchecked(value: usize) -> EnumSet<T>
+        requires valid { IsTrue (set.is_subset (bits value) (valid_bits T.elements)) }
+        ensures { result ≡ bits value }
+    {
+        Self::from_usize(value)
+    }
+}
