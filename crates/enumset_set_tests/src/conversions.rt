@@ -12,9 +12,9 @@ use std::fmt;
 use std::test::Fail;
 
 // Whether the calls with requirements returned what their tests did, as far as the tests passed.
-fn write_asked(text: &mut String, width: &str, is_same: [bool; 2]) -> Result<(), AllocError> {
+fn write_agreement(text: &mut String, width: &str, is_same: [bool; 2]) -> Result<(), AllocError> {
     let [is_same_number, is_same_set] = is_same;
-    write!(text, "{width}: asked {is_same_number} {is_same_set}")
+    write!(text, "{width}: agrees {is_same_number} {is_same_set}")
 }
 
 // A set as a number, if it fits the type; then its members below the width as a number, and the set of that number.
@@ -55,7 +55,7 @@ macro_rules! write_line {
             }
             None => (None, false),
         };
-        write_asked($text, $width, [is_same_number, is_same_set])?;
+        write_agreement($text, $width, [is_same_number, is_same_set])?;
         write_number($text, number, cut as u128, read)?;
         let (read, valid) = (
             EnumSet::<T>::$try_from_x(other),
@@ -150,23 +150,23 @@ fn numbers_of_sets(rt: HostRuntime) -> Result<(), Fail> {
 }
 
 const NUMBERS: &str = "\
-u8: asked true true, number Some(65), cut 65 is Some(EnumSet(A | G)); \
+u8: agrees true true, number Some(65), cut 65 is Some(EnumSet(A | G)); \
 255 is None, cut EnumSet(A | B | C | D | E | F | G)
-u8: asked true true, number None, cut 0 is Some(EnumSet()); 1 is None, cut EnumSet()
-u16: asked true true, number None, cut 1024 is Some(EnumSet(A)); 1025 is None, cut EnumSet(A)
-u32: asked true true, number None, cut 1024 is Some(EnumSet(A)); 1025 is None, cut EnumSet(A)
-u64: asked true true, number None, cut 1024 is Some(EnumSet(A)); 1025 is None, cut EnumSet(A)
-u128: asked true true, number Some(170141183460469231731687303715884106752), \
+u8: agrees true true, number None, cut 0 is Some(EnumSet()); 1 is None, cut EnumSet()
+u16: agrees true true, number None, cut 1024 is Some(EnumSet(A)); 1025 is None, cut EnumSet(A)
+u32: agrees true true, number None, cut 1024 is Some(EnumSet(A)); 1025 is None, cut EnumSet(A)
+u64: agrees true true, number None, cut 1024 is Some(EnumSet(A)); 1025 is None, cut EnumSet(A)
+u128: agrees true true, number Some(170141183460469231731687303715884106752), \
 cut 170141183460469231731687303715884106752 is Some(EnumSet(A | D)); \
 170141183460469231731687303715884106753 is None, cut EnumSet(A | D)
-usize: asked true true, number None, cut 1024 is Some(EnumSet(A)); 1025 is None, cut EnumSet(A)
-u8: asked true true, number None, cut 8 is Some(EnumSet(P)); 9 is None, cut EnumSet(P)
-u16: asked true true, number None, cut 8 is Some(EnumSet(P)); 9 is None, cut EnumSet(P)
-u32: asked true true, number None, cut 8 is Some(EnumSet(P)); 9 is None, cut EnumSet(P)
-u64: asked true true, number None, cut 8 is Some(EnumSet(P)); 9 is None, cut EnumSet(P)
-u128: asked true true, number Some(18446744073709551624), cut 18446744073709551624 is Some(EnumSet(P | Q)); \
+usize: agrees true true, number None, cut 1024 is Some(EnumSet(A)); 1025 is None, cut EnumSet(A)
+u8: agrees true true, number None, cut 8 is Some(EnumSet(P)); 9 is None, cut EnumSet(P)
+u16: agrees true true, number None, cut 8 is Some(EnumSet(P)); 9 is None, cut EnumSet(P)
+u32: agrees true true, number None, cut 8 is Some(EnumSet(P)); 9 is None, cut EnumSet(P)
+u64: agrees true true, number None, cut 8 is Some(EnumSet(P)); 9 is None, cut EnumSet(P)
+u128: agrees true true, number Some(18446744073709551624), cut 18446744073709551624 is Some(EnumSet(P | Q)); \
 18446744073709551625 is None, cut EnumSet(P | Q)
-usize: asked true true, number None, cut 8 is Some(EnumSet(P)); 9 is None, cut EnumSet(P)
+usize: agrees true true, number None, cut 8 is Some(EnumSet(P)); 9 is None, cut EnumSet(P)
 ";
 
 // Bits on both sides of the boundary of each type of numbers. All bits are valid.
@@ -184,18 +184,18 @@ fn numbers_at_each_boundary(rt: HostRuntime) -> Result<(), Fail> {
 }
 
 const BOUNDARIES: &str = "\
-u8: asked true true, number None, cut 128 is Some(EnumSet(V7)); 128 is Some(EnumSet(V7)), cut EnumSet(V7)
-u16: asked true true, number None, cut 33152 is Some(EnumSet(V7 | V8 | V15)); \
+u8: agrees true true, number None, cut 128 is Some(EnumSet(V7)); 128 is Some(EnumSet(V7)), cut EnumSet(V7)
+u16: agrees true true, number None, cut 33152 is Some(EnumSet(V7 | V8 | V15)); \
 33152 is Some(EnumSet(V7 | V8 | V15)), cut EnumSet(V7 | V8 | V15)
-u32: asked true true, number None, cut 2147582336 is Some(EnumSet(V7 | V8 | V15 | V16 | V31)); \
+u32: agrees true true, number None, cut 2147582336 is Some(EnumSet(V7 | V8 | V15 | V16 | V31)); \
 2147582336 is Some(EnumSet(V7 | V8 | V15 | V16 | V31)), cut EnumSet(V7 | V8 | V15 | V16 | V31)
-u64: asked true true, number None, cut 9223372043297325440 is Some(EnumSet(V7 | V8 | V15 | V16 | V31 | V32 | V63)); \
+u64: agrees true true, number None, cut 9223372043297325440 is Some(EnumSet(V7 | V8 | V15 | V16 | V31 | V32 | V63)); \
 9223372043297325440 is Some(EnumSet(V7 | V8 | V15 | V16 | V31 | V32 | V63)), \
 cut EnumSet(V7 | V8 | V15 | V16 | V31 | V32 | V63)
-u128: asked true true, number Some(170141183460469231759357419832890982784), cut 170141183460469231759357419832890982784 is Some(EnumSet(V7 | V8 | V15 | V16 | V31 | V32 | V63 | V64 | V127)); \
+u128: agrees true true, number Some(170141183460469231759357419832890982784), cut 170141183460469231759357419832890982784 is Some(EnumSet(V7 | V8 | V15 | V16 | V31 | V32 | V63 | V64 | V127)); \
 170141183460469231759357419832890982784 is Some(EnumSet(V7 | V8 | V15 | V16 | V31 | V32 | V63 | V64 | V127)), \
 cut EnumSet(V7 | V8 | V15 | V16 | V31 | V32 | V63 | V64 | V127)
-usize: asked true true, number None, cut 9223372043297325440 is Some(EnumSet(V7 | V8 | V15 | V16 | V31 | V32 | V63)); \
+usize: agrees true true, number None, cut 9223372043297325440 is Some(EnumSet(V7 | V8 | V15 | V16 | V31 | V32 | V63)); \
 9223372043297325440 is Some(EnumSet(V7 | V8 | V15 | V16 | V31 | V32 | V63)), \
 cut EnumSet(V7 | V8 | V15 | V16 | V31 | V32 | V63)
 ";
@@ -254,11 +254,11 @@ pub fn write_read_array<T: EnumSetType + fmt::Debug>(
     let cut = EnumSet::<T>::from_array_truncated(array);
     writeln!(text, "{array:?} is {read:?}, cut {cut:?}")?;
     if read.is_some() {
-        let asked = EnumSet::<T>::from_array(array);
+        let required = EnumSet::<T>::from_array(array);
         let unchecked = EnumSet::<T>::from_array_unchecked(array);
         writeln!(
             text,
-            "from_array={asked:?} from_array_unchecked={unchecked:?}"
+            "from_array={required:?} from_array_unchecked={unchecked:?}"
         )?;
     }
     if let Some(words) = cut.try_as_array::<4>() {
@@ -276,17 +276,17 @@ pub fn write_read_slice<T: EnumSetType + fmt::Debug>(
     let cut = EnumSet::<T>::from_slice_truncated(words);
     writeln!(text, "{words:?} is {read:?}, cut {cut:?}")?;
     if read.is_some() {
-        let asked = EnumSet::<T>::from_slice(words);
+        let required = EnumSet::<T>::from_slice(words);
         let unchecked = EnumSet::<T>::from_slice_unchecked(words);
         writeln!(
             text,
-            "from_slice={asked:?} from_slice_unchecked={unchecked:?}"
+            "from_slice={required:?} from_slice_unchecked={unchecked:?}"
         )?;
     }
-    let (mut tested, mut asked) = ([7; 3], [7; 3]);
+    let (mut tested, mut required) = ([7; 3], [7; 3]);
     if cut.try_copy_into_slice(&mut tested).is_some() {
-        cut.copy_into_slice(&mut asked);
-        writeln!(text, "again {tested:?} {asked:?}")?;
+        cut.copy_into_slice(&mut required);
+        writeln!(text, "again {tested:?} {required:?}")?;
     }
     Ok(())
 }

@@ -59,7 +59,7 @@ fn write_elements<T: EnumSetTypeWithRepr + fmt::Debug>(
     set: &MixedEnumSet<T>,
 ) -> Result<(), AllocError> {
     match set.try_as_enumset() {
-        Some(elements) => write!(text, " elements={elements:?} asked {:?}", set.as_enumset())?,
+        Some(elements) => write!(text, " elements={elements:?} as_enumset {:?}", set.as_enumset())?,
         None => write!(text, " elements=none")?,
     }
     writeln!(text, " cut {:?}", set.as_enumset_truncate())
@@ -88,9 +88,9 @@ fn sets_of_marks(rt: HostRuntime) -> Result<(), Fail> {
 
 const MARKS: &str = "\
 MixedEnumSet(): len=0 valid=0 empty=true unknown=false values=[0, 0, 7, 255, 0] \
-elements=EnumSet() asked EnumSet() cut EnumSet()
+elements=EnumSet() as_enumset EnumSet() cut EnumSet()
 MixedEnumSet(A): len=1 valid=1 empty=false unknown=false values=[1, 1, 6, 254, 0] \
-elements=EnumSet(A) asked EnumSet(A) cut EnumSet(A)
+elements=EnumSet(A) as_enumset EnumSet(A) cut EnumSet(A)
 MixedEnumSet([3]): len=1 valid=0 empty=false unknown=true values=[8, 0, 7, 247, 0] \
 elements=none cut EnumSet()
 MixedEnumSet(A | [3]): len=2 valid=1 empty=false unknown=true values=[9, 1, 6, 246, 0] \

@@ -154,12 +154,12 @@ const ALL: &str = "width 0, variants 0, bits, back, EnumSet(), number Some(0), J
 
 const TEXT: &str = "\
 lens=[0, 0, 0, 0, 0, 0] relations=[true, true, true, true] ends=[true, true] valid=false
-u8: asked true true, number Some(0), cut 0 is Some(EnumSet()); 255 is None, cut EnumSet()
-u16: asked true true, number Some(0), cut 0 is Some(EnumSet()); 65535 is None, cut EnumSet()
-u32: asked true true, number Some(0), cut 0 is Some(EnumSet()); 4294967295 is None, cut EnumSet()
-u64: asked true true, number Some(0), cut 0 is Some(EnumSet()); 18446744073709551615 is None, cut EnumSet()
-u128: asked true true, number Some(0), cut 0 is Some(EnumSet()); 340282366920938463463374607431768211455 is None, cut EnumSet()
-usize: asked true true, number Some(0), cut 0 is Some(EnumSet()); 18446744073709551615 is None, cut EnumSet()
+u8: agrees true true, number Some(0), cut 0 is Some(EnumSet()); 255 is None, cut EnumSet()
+u16: agrees true true, number Some(0), cut 0 is Some(EnumSet()); 65535 is None, cut EnumSet()
+u32: agrees true true, number Some(0), cut 0 is Some(EnumSet()); 4294967295 is None, cut EnumSet()
+u64: agrees true true, number Some(0), cut 0 is Some(EnumSet()); 18446744073709551615 is None, cut EnumSet()
+u128: agrees true true, number Some(0), cut 0 is Some(EnumSet()); 340282366920938463463374607431768211455 is None, cut EnumSet()
+usize: agrees true true, number Some(0), cut 0 is Some(EnumSet()); 18446744073709551615 is None, cut EnumSet()
 [0, 0, 0, 0] is Some(EnumSet()), cut EnumSet()
 from_array=EnumSet() from_array_unchecked=EnumSet()
 again [0, 0, 0, 0] [0, 0, 0, 0]
@@ -171,7 +171,7 @@ again [0, 0, 0] [0, 0, 0]
 [0, 1] is None, cut EnumSet()
 again [0, 0, 0] [0, 0, 0]
 MixedEnumSet(): len=0 valid=0 empty=true unknown=false values=[0, 0, 0, 255, 0] \
-elements=EnumSet() asked EnumSet() cut EnumSet()
+elements=EnumSet() as_enumset EnumSet() cut EnumSet()
 MixedEnumSet([7]): len=1 valid=0 empty=false unknown=true values=[128, 0, 0, 127, 0] \
 elements=none cut EnumSet()
 MixedEnumSet([0] | [1] | [2] | [3] | [4] | [5] | [6] | [7]): len=8 valid=0 empty=false unknown=true \
