@@ -3,21 +3,57 @@
 //!
 //! A row is a text, and what it is read as where unknown names are dropped, and where they are refused.
 
+mod refused;
+
 use crate::compare::same_lines;
 use crate::named::{Letters, Nothing, Sparse, Wide};
 use crate::sending_json::sent_as_list_text;
-use enumset::set_json::{JsonFault, Unknown, from_list_text, from_map_text, to_list_text, to_map_text};
+use enumset::set_json::{
+    JsonFault, JsonWidth, Unknown, from_list_text, from_map_text, from_number_text,
+    from_words_text, to_list_text, to_map_text, to_number_text, to_words_text,
+};
 use enumset::{EnumSet, EnumSetNames};
 use std::alloc::Global;
 use std::fmt;
 use std::process::Abort;
 use std::test::Fail;
 
-// The forms that have names.
+// The forms of a set.
 #[derive(Clone, Copy, Debug, PartialEq, Eq)]
 enum Form {
+    Number,
+    Words,
     List,
     Map,
+}
+
+// Writes a set in a form.
+fn write<T: EnumSetNames>(
+    alloc: Global,
+    form: Form,
+    set: &EnumSet<T>,
+) -> Result<String, JsonFault> {
+    match form {
+        Form::Number => to_number_text(alloc, set, JsonWidth::U64),
+        Form::Words => to_words_text(alloc, set),
+        Form::List => to_list_text(alloc, set),
+        Form::Map => to_map_text(alloc, set),
+    }
+}
+
+// Reads a text of a form.
+fn read<T: EnumSetNames>(
+    alloc: Global,
+    form: Form,
+    text: &str,
+    unknown: Unknown,
+) -> Result<EnumSet<T>, JsonFault> {
+    match form {
+        Form::Number => from_number_text(alloc, text, JsonWidth::U64, unknown),
+        Form::Words => from_words_text(alloc, text, unknown),
+        Form::List => from_list_text(alloc, text, unknown),
+        Form::Map => from_map_text(alloc, text, unknown),
+    }
 }
 
 // Tests rows of a form.
@@ -31,11 +67,7 @@ fn expect_form<T: EnumSetNames + fmt::Debug>(
         let (json, wanted) = row.split_once(" -> ").unwrap_or((row, "a row"));
         let mut came = String::new(alloc);
         for unknown in [Unknown::Drop, Unknown::Refuse] {
-            let read = match form {
-                Form::List => from_list_text::<T>(alloc, json, unknown),
-                Form::Map => from_map_text::<T>(alloc, json, unknown),
-            };
-            write!(came, "{read:?} ")?;
+            write!(came, "{:?} ", read::<T>(alloc, form, json, unknown))?;
         }
         assert_eq!(rt; came.as_str().trim_end(), wanted, "{json}");
     }
