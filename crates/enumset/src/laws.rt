@@ -55,8 +55,8 @@ pub fn json_words_and_back<T: EnumSetType>(set: &EnumSet<T>, unknown: Unknown)
 }
 
 /// The number that `mixed_to_number` writes of a mixed set, and the text that `mixed_to_number_text` writes, are read as
-/// that set, unknown bits included: by `mixed_from_number`, and by `mixed_from_number_text` where there is memory. As the
-/// text, where the representation has 64 bits at most.
+/// that set, unknown bits included: by `mixed_from_number`, and by `mixed_from_number_text` where there is memory. The
+/// text stands for representations of at most 64 bits, as these calls do.
 pub fn json_mixed_number_and_back<T: EnumSetTypeWithRepr>(set: &MixedEnumSet<T>)
     ensures value { mixed_set_of_number T.Repr.WIDTH (number_value (number set.now)) ≡ Ok set.now }
     ensures text { T.Repr.WIDTH ≤ 64
