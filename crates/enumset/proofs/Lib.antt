@@ -6,3 +6,5 @@ mod JsonNamed
 pub mod JsonNumbers
 pub mod JsonWords
 pub mod JsonLaws
+mod TextLaws
+pub mod JsonTextLaws

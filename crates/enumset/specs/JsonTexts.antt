@@ -3,7 +3,7 @@
 use Rattle.std.specs.Prelude.{ℕ, List, ◌++◌, codes}
 use Rattle.std.specs.Fmt.{decimal}
 use Rattle.enumset.specs.declared.set_json.fault.JsonFault.{JsonFault}
-use Rattle.enumset.specs.declared.set_json.fault.JsonFault.TheVariants.{TooWide, NotANumber, NotWhole, OutOfRange, NotAnArray, NotAWord, NotAnObject, NotAText, NotABoolean, UnknownBits, UnknownName, OutOfMemory}
+use Rattle.enumset.specs.declared.set_json.fault.JsonFault.TheVariants.{TooWide, NotANumber, NotWhole, OutOfRange, NotAnArray, NotAWord, NotAnObject, NotAText, NotABoolean, UnknownBits, UnknownName, NotJson, OutOfMemory}
 
 abbrev pub json_fault_text : JsonFault → List ℕ
 json_fault_text TooWide = codes "a member is too large for the width"
@@ -17,4 +17,5 @@ json_fault_text (NotAText place) = codes "element " ++ decimal place ++ codes ":
 json_fault_text (NotABoolean place) = codes "name " ++ decimal place ++ codes ": not a boolean"
 json_fault_text UnknownBits = codes "unknown bits"
 json_fault_text (UnknownName place) = codes "name " ++ decimal place ++ codes ": unknown"
+json_fault_text (NotJson line) = codes "line " ++ decimal line ++ codes ": not JSON"
 json_fault_text OutOfMemory = codes "out of memory"

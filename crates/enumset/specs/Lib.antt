@@ -2,4 +2,5 @@ pub mod Folds
 pub mod Json
 pub mod JsonTexts
 pub mod JsonNames
+pub mod JsonReads
 pub mod Names

@@ -3,7 +3,7 @@
 --     names_of      the valid bits with the names of a list, in the order of the list of bits
 --     name_of      the name of a bit
 --     bit_named      the bit of a name, if there is one
---     IsNaming      the test that each bit has a name of its own; where it fails it is the fault, by a name that says what to mend
+--     IsNaming      the test that each bit has a name of its own;  where it fails, a type whose name says what to mend
 use Rattle.std.specs.Prelude.{ℕ, Bool, true, false, not, ◌&&◌, ◌==◌, if◌then◌else◌, List, [], ◌∷◌, length, zip, Option, Some, None}
 use Rattle.std.specs.List.{list_any}
 use Rattle.std.specs.Str.{bytes_eq}
@@ -30,7 +30,7 @@ abbrev pub are_distinct : List (List ℕ) → Bool
 are_distinct [] = true
 are_distinct (n ∷ ns) = not (list_any (λ m. bytes_eq m n) ns) && are_distinct ns
 
--- What names may get wrong. Nothing is of these types: where one is asked for, its name says what to mend.
+-- What names may get wrong. Nothing is of these types: where a proof has to give one, its name says what to mend.
 pub data NameCountShouldBe (count : ℕ) : Type 0 where
 
 pub data NamesAValueTwice : Type 0 where

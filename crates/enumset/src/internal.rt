@@ -1,4 +1,5 @@
-//! The stores, for who writes one, and what the macros call. It mirrors the module `__internal` of Rust's `enumset`.
+//! What a crate with its own representation names, and what the macros call. It mirrors the module `__internal` of
+//! Rust's `enumset`.
 
 pub mod set;
 

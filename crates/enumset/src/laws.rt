@@ -1,10 +1,10 @@
 //! Laws of round trips: what was written of a set is read as that set.
 //!
-//! Those of numbers and words come from `enumset_sets`, and those of JSON stand here. Each law is a function that does
-//! nothing at run time. Code that needs a law calls it at its set, and the proof of that code then knows what the
-//! function ensures.
+//! Those of numbers and words come from `enumset_sets`, and those of JSON stand here: of a value, and of its text. Each
+//! law is a function that does nothing at run time. Code that needs a law calls it at its set, and the proof of that
+//! code then knows what the function ensures.
 
-ghost use Rattle.std.specs.Prelude.{◌≡◌, Ok, Some, IsTrue};
+ghost use Rattle.std.specs.Prelude.{◌≡◌, ◌≤◌, Ok, Some, IsTrue, decimal};
 ghost use Rattle.enumset_repr.specs.BitSet.{below, is_subset};
 ghost use Rattle.enumset_repr.specs.Number.{number};
 ghost use Rattle.enumset_repr.specs.Words.{words};
@@ -13,7 +13,9 @@ ghost use Rattle.enumset.specs.Json.{set_of_number, set_of_words, mixed_set_of_n
 ghost use Rattle.enumset.specs.Json.{mixed_set_of_words, accepted};
 ghost use Rattle.enumset.specs.Names.{names_of, name_of, bit_named};
 ghost use Rattle.enumset.specs.JsonNames.{set_of_list, list_value, set_of_map, map_value};
+ghost use Rattle.enumset.specs.JsonReads.{value_read};
 ghost use Rattle.enumset_sets.specs.Elements.{valid_bits};
+ghost use Rattle.serde_json.specs.Written.{compact_text};
 
 use crate::names::EnumSetNames;
 use crate::set_json::{JsonWidth, Unknown};
@@ -24,41 +26,56 @@ pub use enumset_sets::laws::{
 };
 use enumset_sets::{EnumSet, EnumSetType, EnumSetTypeWithRepr};
 
-/// The number that `to_number` writes of a set is read as that set, at the same width: where it answered
-/// `Ok(value)`, `from_number(&value, width, unknown)` is `Ok` of the same set, under `Drop` as under `Refuse`.
+/// The number that `to_number` writes of a set, and the text that `to_number_text` writes, are read as that set at the
+/// same width, under `Drop` as under `Refuse`: by `from_number`, and by `from_number_text` where there is memory.
 pub fn json_number_and_back<T: EnumSetType>(set: &EnumSet<T>, width: JsonWidth, unknown: Unknown)
-    ensures { IsTrue (is_subset set.now (below (width_of width)))
+    ensures value { IsTrue (is_subset set.now (below (width_of width)))
         → set_of_number (valid_bits T.elements) (width_of width) unknown
         (number_value (number set.now))
         ≡ Ok set.now }
+    ensures text { IsTrue (is_subset set.now (below (width_of width)))
+        → value_read (set_of_number (valid_bits T.elements) (width_of width) unknown)
+        (decimal (number set.now))
+        ≡ Some (Ok set.now) }
 {
     number_and_back(set);
 }
 
-/// The words that `to_words` writes of a set are read as that set: where it answered `Ok(value)`,
-/// `from_words(&value, unknown)` is `Ok` of the same set, under `Drop` as under `Refuse`.
+/// The words that `to_words` writes of a set, and the text that `to_words_text` writes, are read as that set, under
+/// `Drop` as under `Refuse`: by `from_words`, and by `from_words_text` where there is memory.
 pub fn json_words_and_back<T: EnumSetType>(set: &EnumSet<T>, unknown: Unknown)
-    ensures { set_of_words (valid_bits T.elements) unknown
+    ensures value { set_of_words (valid_bits T.elements) unknown
         (words_value (words set.now T.Repr.PREFERRED_ARRAY_LEN))
         ≡ Ok set.now }
+    ensures text { value_read (set_of_words (valid_bits T.elements) unknown)
+        (compact_text (words_value (words set.now T.Repr.PREFERRED_ARRAY_LEN)))
+        ≡ Some (Ok set.now) }
 {
     all_words_and_back(set);
 }
 
-/// The number that `mixed_to_number` writes of a mixed set is read as that set, unknown bits included:
-/// `mixed_from_number` of it is `Ok` of the same set.
+/// The number that `mixed_to_number` writes of a mixed set, and the text that `mixed_to_number_text` writes, are read as
+/// that set, unknown bits included: by `mixed_from_number`, and by `mixed_from_number_text` where there is memory. The
+/// text stands for representations of at most 64 bits, as these calls do.
 pub fn json_mixed_number_and_back<T: EnumSetTypeWithRepr>(set: &MixedEnumSet<T>)
-    ensures { mixed_set_of_number T.Repr.WIDTH (number_value (number set.now)) ≡ Ok set.now }
+    ensures value { mixed_set_of_number T.Repr.WIDTH (number_value (number set.now)) ≡ Ok set.now }
+    ensures text { T.Repr.WIDTH ≤ 64
+        → value_read (mixed_set_of_number T.Repr.WIDTH) (decimal (number set.now))
+        ≡ Some (Ok set.now) }
 {
     set.as_repr().learn_is_value();
 }
 
-/// The words that `mixed_to_words` writes of a mixed set are read as that set, unknown bits included:
-/// `mixed_from_words` of it is `Ok` of the same set, under `Drop` as under `Refuse`.
+/// The words that `mixed_to_words` writes of a mixed set, and the text that `mixed_to_words_text` writes, are read as
+/// that set, unknown bits included, under `Drop` as under `Refuse`: by `mixed_from_words`, and by
+/// `mixed_from_words_text` where there is memory.
 pub fn json_mixed_words_and_back<T: EnumSetTypeWithRepr>(set: &MixedEnumSet<T>, past: Unknown)
-    ensures { mixed_set_of_words T.Repr.WIDTH past
+    ensures value { mixed_set_of_words T.Repr.WIDTH past
         (words_value (words set.now T.Repr.PREFERRED_ARRAY_LEN))
         ≡ Ok set.now }
+    ensures text { value_read (mixed_set_of_words T.Repr.WIDTH past)
+        (compact_text (words_value (words set.now T.Repr.PREFERRED_ARRAY_LEN)))
+        ≡ Some (Ok set.now) }
 {
     set.as_repr().learn_is_value();
 }
@@ -72,22 +89,28 @@ pub fn name_and_back<T: EnumSetNames>(element: T, text: &str)
         → text.now ≡ name_of (names_of T.elements T.names) (T.elements.bit element) }
 {}
 
-/// The list that `to_list` writes of a set is read as that set: where it answered `Ok(value)`,
-/// `from_list(&value, unknown)` is `Ok` of the same set, under `Drop` as under `Refuse`.
+/// The list that `to_list` writes of a set, and the text that `to_list_text` writes, are read as that set, under `Drop`
+/// as under `Refuse`: by `from_list`, and by `from_list_text` where there is memory.
 pub fn json_list_and_back<T: EnumSetNames>(set: &EnumSet<T>, unknown: Unknown)
-    ensures { set_of_list (names_of T.elements T.names) unknown
+    ensures value { set_of_list (names_of T.elements T.names) unknown
         (list_value (names_of T.elements T.names) set.now)
         ≡ Ok set.now }
+    ensures text { value_read (set_of_list (names_of T.elements T.names) unknown)
+        (compact_text (list_value (names_of T.elements T.names) set.now))
+        ≡ Some (Ok set.now) }
 {
     number_and_back(set);
 }
 
-/// The map that `to_map` writes of a set is read as that set: where it answered `Ok(value)`,
-/// `from_map(&value, unknown)` is `Ok` of the same set, under `Drop` as under `Refuse`.
+/// The map that `to_map` writes of a set, and the text that `to_map_text` writes, are read as that set, under `Drop` as
+/// under `Refuse`: by `from_map`, and by `from_map_text` where there is memory.
 pub fn json_map_and_back<T: EnumSetNames>(set: &EnumSet<T>, unknown: Unknown)
-    ensures { set_of_map (names_of T.elements T.names) unknown
+    ensures value { set_of_map (names_of T.elements T.names) unknown
         (map_value (names_of T.elements T.names) set.now)
         ≡ Ok set.now }
+    ensures text { value_read (set_of_map (names_of T.elements T.names) unknown)
+        (compact_text (map_value (names_of T.elements T.names) set.now))
+        ≡ Some (Ok set.now) }
 {
     number_and_back(set);
 }

@@ -1,8 +1,9 @@
 //! Sets of an enum's variants, by the paths of Rust's crate `enumset`.
 //!
 //! What stands here comes from the crates below: [`EnumSet`] and the traits of its elements from `enumset_sets`,
-//! [`MixedEnumSet`](set::MixedEnumSet) from `enumset_mixed`, and the stores from `enumset_repr` and `enumset_array`.
-//! New here are the macros, as [`enum_set!`], the modules [`folds`] and [`set_json`], and [`laws`] of the latter.
+//! [`MixedEnumSet`](set::MixedEnumSet) from `enumset_mixed`, and the representations from `enumset_repr` and
+//! `enumset_array`. New here are the macros, as [`enum_set!`], the names of elements ([`EnumSetNames`]), the modules
+//! [`folds`] and [`set_json`], and the [`laws`] of JSON.
 #![tactic(auto)]
 
 pub mod folds;

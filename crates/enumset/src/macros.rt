@@ -3,8 +3,8 @@
 //! Each mirrors the macro of its name of Rust's `enumset`. They are expressions in the body of a function; elements and
 //! sets are named by paths.
 
-/// The [`EnumSet`](crate::EnumSet) of elements joined by `|`, as `enum_set!(Right::Read | Right::Share)`, and the empty
-/// set where there is none. The elements are of one type; any number of single `|` may follow.
+/// The [`EnumSet`](crate::EnumSet) of elements joined by `|`, as `enum_set!(Right::Read | Right::Share)`, or the empty
+/// set where there are none. The elements are of one type. Any number of single `|` may follow.
 #[macro_export]
 macro_rules! enum_set {
     ($(|)*) => {
@@ -66,9 +66,9 @@ macro_rules! enum_set_complement {
     };
 }
 
-/// The table that [`EnumSetNames::names`](crate::EnumSetNames::names) answers: `names_of!(Right: Read Write Share)`
-/// names the enum and all its variants, in the order of the list of bits, each to be known by the name that it has
-/// there. Where the names are others, each stands after its variant: `names_of!(Right: Read "read" Write "write")`.
+/// The table that [`EnumSetNames::names`](crate::EnumSetNames::names) returns: `names_of!(Right: Read Write Share)` lists
+/// all variants of the enum in the order of the list of bits, each under its own name. Other names stand each after its
+/// variant: `names_of!(Right: Read "read" Write "write" Share "share")`.
 #[macro_export]
 macro_rules! names_of {
     ($of:ident:) => {

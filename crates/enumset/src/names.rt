@@ -7,9 +7,9 @@ use enumset_sets::EnumSetType;
 
 /// An element type whose values have names, one for each variant and no two the same.
 ///
-/// Rust's `enumset` takes the names that `serde` derives. Here [`named!`](crate::named) lists them.
+/// Rust's `enumset` takes the names that `serde` derives. Here [`names_of!`](crate::names_of) lists them.
 pub trait EnumSetNames: EnumSetType + 'static {
-    // The names, one for each bit of the list of bits and in its order.
+    // The names, one for each bit of the list of bits, in its order.
     ghost names: { List (List ℕ) };
 
     /// Each variant with its name, in the order of the list of bits.
@@ -30,7 +30,7 @@ pub trait EnumSetNames: EnumSetType + 'static {
         ""
     }
 
-    /// The value of a name, if it is one.
+    /// The value that has this name, if there is one.
     final fn of_name(text: &str) -> Option<Self>
         ensures { option_map Self.elements.bit result
             ≡ bit_named (names_of Self.elements names) text.now }

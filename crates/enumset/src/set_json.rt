@@ -1,5 +1,5 @@
-//! Sets to and from JSON values of `serde_json`: as one number, as the array of the set's words of 64 bits, as the list
-//! of its members' names, or as a map of names to booleans.
+//! Sets to and from JSON values of `serde_json`, and to and from their texts: as one number, as the array of the set's
+//! words of 64 bits, as the list of its members' names, or as a map of names to booleans.
 //!
 //! In Rust's `enumset` these are the forms that its `serde` feature writes and reads.
 
@@ -9,7 +9,9 @@ mod known;
 mod lists;
 mod maps;
 mod mixed;
+mod mixed_texts;
 mod numbers;
+mod texts;
 mod unknown;
 mod whole;
 mod width;
@@ -19,7 +21,14 @@ pub use fault::JsonFault;
 pub use lists::{from_list, to_list};
 pub use maps::{from_map, to_map};
 pub use mixed::{mixed_from_number, mixed_from_words, mixed_to_number, mixed_to_words};
+pub use mixed_texts::{
+    mixed_from_number_text, mixed_from_words_text, mixed_to_number_text, mixed_to_words_text,
+};
 pub use numbers::{from_number, to_number};
+pub use texts::{
+    from_list_text, from_map_text, from_number_text, from_words_text, to_list_text, to_map_text,
+    to_number_text, to_words_text,
+};
 pub use unknown::Unknown;
 pub use width::JsonWidth;
 pub use words::{from_words, to_words};

@@ -1,6 +1,7 @@
-//! Sets to and from JSON values: each fault alone, and each beside those that come after it.
+//! Sets to and from JSON texts: each fault alone, and each beside those that come after it. Among them are the texts that
+//! the Rust crate wrote and read.
 //!
-//! A row has a JSON text and what it is read as: first with unknown bits dropped, and then with them refused.
+//! A row has a text and what it is read as: first with unknown bits dropped, and then with them refused.
 
 ghost use Rattle.std.specs.Prelude.{◌≤◌};
 
@@ -8,12 +9,12 @@ use crate::compare::same_lines;
 use crate::sending_json::{sent_as_number, sent_as_words, sent_with_unknown};
 use enumset::set::MixedEnumSet;
 use enumset::set_json::{
-    JsonFault, JsonWidth, Unknown, from_number, from_words, mixed_from_number, mixed_from_words,
-    mixed_to_number, mixed_to_words, to_number, to_words,
+    JsonFault, JsonWidth, Unknown, from_number_text, from_words_text, mixed_from_number_text,
+    mixed_from_words_text, mixed_to_number_text, mixed_to_words_text, to_number_text,
+    to_words_text,
 };
 use enumset::{EnumSet, EnumSetType, EnumSetTypeWithRepr};
 use enumset_worked::{Letters, Marks, Sparse, Wide};
-use serde_json::Value;
 use std::alloc::{AllocError, Global};
 use std::fmt;
 use std::process::Abort;
@@ -47,9 +48,8 @@ pub fn expect_numbers<T: EnumSetType + fmt::Debug>(
 ) -> Result<(), Fail> {
     for row in rows.lines() {
         let (json, wanted) = parts_of(row);
-        let value = Value::from_str(alloc, json)?;
-        let dropped = from_number::<T>(&value, width, Unknown::Drop);
-        let refused = from_number::<T>(&value, width, Unknown::Refuse);
+        let dropped = from_number_text::<T>(alloc, json, width, Unknown::Drop);
+        let refused = from_number_text::<T>(alloc, json, width, Unknown::Refuse);
         expect(rt, alloc, (json, wanted), dropped, refused)?;
     }
     Ok(())
@@ -63,9 +63,8 @@ pub fn expect_words<T: EnumSetType + fmt::Debug>(
 ) -> Result<(), Fail> {
     for row in rows.lines() {
         let (json, wanted) = parts_of(row);
-        let value = Value::from_str(alloc, json)?;
-        let dropped = from_words::<T>(&value, Unknown::Drop);
-        let refused = from_words::<T>(&value, Unknown::Refuse);
+        let dropped = from_words_text::<T>(alloc, json, Unknown::Drop);
+        let refused = from_words_text::<T>(alloc, json, Unknown::Refuse);
         expect(rt, alloc, (json, wanted), dropped, refused)?;
     }
     Ok(())
@@ -102,7 +101,10 @@ fn sets_are_read_of_numbers(rt: HostRuntime) -> Result<(), Fail> {
 
 const IN_8_BITS: &str = "\
 0 -> Ok(EnumSet()) Ok(EnumSet())
-5 -> Ok(EnumSet(A | C)) Ok(EnumSet(A | C))
+1 -> Ok(EnumSet(A)) Ok(EnumSet(A))
+69 -> Ok(EnumSet(A | C | G)) Ok(EnumSet(A | C | G))
+ 69  -> Ok(EnumSet(A | C | G)) Ok(EnumSet(A | C | G))
+127 -> Ok(EnumSet(A | B | C | D | E | F | G)) Ok(EnumSet(A | B | C | D | E | F | G))
 200 -> Ok(EnumSet(D | G)) Err(UnknownBits)
 128 -> Ok(EnumSet()) Err(UnknownBits)
 255 -> Ok(EnumSet(A | B | C | D | E | F | G)) Err(UnknownBits)
@@ -120,12 +122,18 @@ true -> Err(NotANumber) Err(NotANumber)
 \"9\" -> Err(NotANumber) Err(NotANumber)
 \"300\" -> Err(NotANumber) Err(NotANumber)
 [9] -> Err(NotANumber) Err(NotANumber)
+[] -> Err(NotANumber) Err(NotANumber)
 {} -> Err(NotANumber) Err(NotANumber)
+ -> Err(NotJson(1)) Err(NotJson(1))
+0069 -> Err(NotJson(1)) Err(NotJson(1))
+1 2 -> Err(NotJson(1)) Err(NotJson(1))
+0x1 -> Err(NotJson(1)) Err(NotJson(1))
 ";
 
 const IN_64_BITS: &str = "\
 18446744073709551615 -> Ok(EnumSet(A | B | C | D | E | F | G)) Err(UnknownBits)
 18446744073709551616 -> Err(NotWhole) Err(NotWhole)
+256 -> Ok(EnumSet()) Err(UnknownBits)
 1.5 -> Err(NotWhole) Err(NotWhole)
 -1 -> Err(NotWhole) Err(NotWhole)
 ";
@@ -157,6 +165,7 @@ const WORDS_OF_LETTERS: &str = "\
 [0,1.0] -> Err(NotAWord(1)) Err(NotAWord(1))
 [0,0,1e0] -> Err(NotAWord(2)) Err(NotAWord(2))
 [0,0,0,true] -> Err(NotAWord(3)) Err(NotAWord(3))
+[5,] -> Err(NotJson(1)) Err(NotJson(1))
 {} -> Err(NotAnArray) Err(NotAnArray)
 null -> Err(NotAnArray) Err(NotAnArray)
 5 -> Err(NotAnArray) Err(NotAnArray)
@@ -222,12 +231,12 @@ pub fn write_set<T: EnumSetType + fmt::Debug>(
         JsonWidth::U32,
         JsonWidth::U64,
     ] {
-        match to_number(alloc, set, width) {
+        match to_number_text(alloc, set, width) {
             Ok(number) => write!(text, " {number}")?,
             Err(fault) => write!(text, " {fault:?}")?,
         }
     }
-    writeln!(text, " {}", to_words(alloc, set)?)?;
+    writeln!(text, " {}", to_words_text(alloc, set)?)?;
     Ok(())
 }
 
@@ -266,7 +275,8 @@ fn sets_are_written(rt: HostRuntime) -> Result<(), Fail> {
     let mut text = String::new(alloc);
     let letters = [
         EnumSet::new(),
-        EnumSet::from([Letters::A, Letters::C]),
+        EnumSet::only(Letters::A),
+        EnumSet::from([Letters::A, Letters::C, Letters::G]),
         EnumSet::all(),
     ];
     let sparse = [
@@ -283,7 +293,8 @@ fn sets_are_written(rt: HostRuntime) -> Result<(), Fail> {
 
 const WRITTEN: &str = "\
 EnumSet() 0 0 0 0 [0]
-EnumSet(A | C) 5 5 5 5 [5]
+EnumSet(A) 1 1 1 1 [1]
+EnumSet(A | C | G) 69 69 69 69 [69]
 EnumSet(A | B | C | D | E | F | G) 127 127 127 127 [127]
 EnumSet() 0 0 0 0 [0,0]
 EnumSet(A) TooWide 1024 1024 1024 [1024,0]
@@ -302,8 +313,8 @@ pub fn expect_mixed_numbers<T: EnumSetTypeWithRepr + fmt::Debug>(
     for row in rows.lines() {
         let (json, wanted) = parts_of(row);
         let mut came = String::new(alloc);
-        match mixed_from_number::<T>(&Value::from_str(alloc, json)?) {
-            Ok(set) => write!(came, "{set:?} {}", mixed_to_number(alloc, &set)?)?,
+        match mixed_from_number_text::<T>(alloc, json) {
+            Ok(set) => write!(came, "{set:?} {}", mixed_to_number_text(alloc, &set)?)?,
             Err(fault) => write!(came, "{fault:?}")?,
         }
         assert_eq!(rt; came.as_str(), wanted, "{json}");
@@ -321,11 +332,10 @@ pub fn expect_mixed_words<T: EnumSetTypeWithRepr + fmt::Debug>(
 ) -> Result<(), Fail> {
     for row in rows.lines() {
         let (json, wanted) = parts_of(row);
-        let value = Value::from_str(alloc, json)?;
         let mut came = String::new(alloc);
         for past in [Unknown::Drop, Unknown::Refuse] {
-            match mixed_from_words::<T>(&value, past) {
-                Ok(set) => write!(came, "{set:?} {} ", mixed_to_words(alloc, &set)?)?,
+            match mixed_from_words_text::<T>(alloc, json, past) {
+                Ok(set) => write!(came, "{set:?} {} ", mixed_to_words_text(alloc, &set)?)?,
                 Err(fault) => write!(came, "{fault:?} ")?,
             }
         }
@@ -347,6 +357,7 @@ const MIXED_WORDS_OF_MARKS: &str = "\
 [1,1] -> MixedEnumSet(A) [1] OutOfRange
 [256,-1] -> NotAWord(1) NotAWord(1)
 1 -> NotAnArray NotAnArray
+[1 -> NotJson(1) NotJson(1)
 ";
 
 const MIXED_WORDS_OF_SPARSE: &str = "\
@@ -378,6 +389,7 @@ null -> NotANumber
 true -> NotANumber
 [9] -> NotANumber
 {} -> NotANumber
+9] -> NotJson(1)
 ";
 
 #[test]
@@ -395,6 +407,7 @@ fn faults_have_their_texts(rt: HostRuntime) -> Result<(), Fail> {
         JsonFault::NotABoolean(2),
         JsonFault::UnknownBits,
         JsonFault::UnknownName(3),
+        JsonFault::NotJson(4),
         JsonFault::OutOfMemory,
     ];
     let mut text = String::new(rt.alloc());
@@ -417,6 +430,7 @@ element 1: not a text
 name 2: not a boolean
 unknown bits
 name 3: unknown
+line 4: not JSON
 out of memory
 ",
     );

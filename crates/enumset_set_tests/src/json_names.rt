@@ -1,23 +1,59 @@
 //! Sets to and from JSON lists of names and maps of names to booleans: each form, and each fault, alone and where a
-//! later one would hold too.
+//! later one would hold too. Among the lists are those that the Rust crate wrote and read.
 //!
-//! A row is a JSON text, and what it is read as where unknown names are dropped, and where they are refused.
+//! A row is a text, and what it is read as where unknown names are dropped, and where they are refused.
+
+mod refused;
 
 use crate::compare::same_lines;
 use crate::named::{Letters, Nothing, Sparse, Wide};
-use enumset::set_json::{Unknown, from_list, from_map, to_list, to_map};
+use crate::sending_json::sent_as_list_text;
+use enumset::set_json::{
+    JsonFault, JsonWidth, Unknown, from_list_text, from_map_text, from_number_text,
+    from_words_text, to_list_text, to_map_text, to_number_text, to_words_text,
+};
 use enumset::{EnumSet, EnumSetNames};
-use serde_json::Value;
 use std::alloc::Global;
 use std::fmt;
 use std::process::Abort;
 use std::test::Fail;
 
-// The forms that have names.
+// The forms of a set.
 #[derive(Clone, Copy, Debug, PartialEq, Eq)]
 enum Form {
+    Number,
+    Words,
     List,
     Map,
+}
+
+// Writes a set in a form.
+fn write<T: EnumSetNames>(
+    alloc: Global,
+    form: Form,
+    set: &EnumSet<T>,
+) -> Result<String, JsonFault> {
+    match form {
+        Form::Number => to_number_text(alloc, set, JsonWidth::U64),
+        Form::Words => to_words_text(alloc, set),
+        Form::List => to_list_text(alloc, set),
+        Form::Map => to_map_text(alloc, set),
+    }
+}
+
+// Reads a text of a form.
+fn read<T: EnumSetNames>(
+    alloc: Global,
+    form: Form,
+    text: &str,
+    unknown: Unknown,
+) -> Result<EnumSet<T>, JsonFault> {
+    match form {
+        Form::Number => from_number_text(alloc, text, JsonWidth::U64, unknown),
+        Form::Words => from_words_text(alloc, text, unknown),
+        Form::List => from_list_text(alloc, text, unknown),
+        Form::Map => from_map_text(alloc, text, unknown),
+    }
 }
 
 // Tests rows of a form.
@@ -29,14 +65,9 @@ fn expect_form<T: EnumSetNames + fmt::Debug>(
 ) -> Result<(), Fail> {
     for row in rows.lines() {
         let (json, wanted) = row.split_once(" -> ").unwrap_or((row, "a row"));
-        let value = Value::from_str(alloc, json)?;
         let mut came = String::new(alloc);
         for unknown in [Unknown::Drop, Unknown::Refuse] {
-            let read = match form {
-                Form::List => from_list::<T>(&value, unknown),
-                Form::Map => from_map::<T>(&value, unknown),
-            };
-            write!(came, "{read:?} ")?;
+            write!(came, "{:?} ", read::<T>(alloc, form, json, unknown))?;
         }
         assert_eq!(rt; came.as_str().trim_end(), wanted, "{json}");
     }
@@ -70,6 +101,8 @@ const LISTS_OF_LETTERS: &str = "\
 [\"H\",0,null] -> Err(NotAText(1)) Err(NotAText(1))
 [null] -> Err(NotAText(0)) Err(NotAText(0))
 [[\"A\"]] -> Err(NotAText(0)) Err(NotAText(0))
+[\"A\",] -> Err(NotJson(1)) Err(NotJson(1))
+[\"A\" -> Err(NotJson(1)) Err(NotJson(1))
 \"A\" -> Err(NotAnArray) Err(NotAnArray)
 0 -> Err(NotAnArray) Err(NotAnArray)
 {\"A\":true} -> Err(NotAnArray) Err(NotAnArray)
@@ -87,6 +120,7 @@ const LISTS_OF_WIDE: &str = "\
 [\"Reader\",\"Re\"] -> Ok(EnumSet(Q | R)) Ok(EnumSet(Q | R))
 [\"Rea\",\"Read \",\"Readers\"] -> Ok(EnumSet()) Err(UnknownName(0))
 [\"P\",\"Read\"] -> Ok(EnumSet(P)) Err(UnknownName(0))
+[\"Read\",\"Own\"] -> Ok(EnumSet(P)) Err(UnknownName(1))
 ";
 
 const LISTS_OF_NOTHING: &str = "\
@@ -114,6 +148,8 @@ const MAPS_OF_LETTERS: &str = "\
 {\"H\":true,\"B\":\"true\"} -> Err(NotABoolean(0)) Err(NotABoolean(0))
 {\"H\":null,\"A\":true} -> Err(NotABoolean(1)) Err(NotABoolean(1))
 {\"A\":{\"B\":true}} -> Err(NotABoolean(0)) Err(NotABoolean(0))
+{\"A\":true,} -> Err(NotJson(1)) Err(NotJson(1))
+{A:true} -> Err(NotJson(1)) Err(NotJson(1))
 [] -> Err(NotAnObject) Err(NotAnObject)
 [\"A\"] -> Err(NotAnObject) Err(NotAnObject)
 \"A\" -> Err(NotAnObject) Err(NotAnObject)
@@ -126,14 +162,24 @@ const MAPS_OF_WIDE: &str = "\
 {\"Rea\":true} -> Ok(EnumSet()) Err(UnknownName(0))
 ";
 
-// Writes a line of each set: its list and its map.
-fn write_sets<T: EnumSetNames>(
+// A text of two lines has its fault on the second.
+#[test]
+fn the_line_of_a_fault(rt: HostRuntime) -> Result<(), Fail> {
+    let read = from_list_text::<Letters>(rt.alloc(), "[\"A\",\n\"B\",]", Unknown::Drop);
+    assert_eq!(rt; read, Err(JsonFault::NotJson(2)));
+    Ok(())
+}
+
+// Writes a line of each set, its list and its map, and tests that the list is read again.
+fn write_sets<T: EnumSetNames + fmt::Debug>(
+    rt: &impl Abort,
     alloc: Global,
     text: &mut String,
     sets: &[EnumSet<T>],
 ) -> Result<(), Fail> {
     for set in sets {
-        writeln!(text, "{} {}", to_list(alloc, set)?, to_map(alloc, set)?)?;
+        writeln!(text, "{} {}", to_list_text(alloc, set)?, to_map_text(alloc, set)?)?;
+        assert_eq!(rt; sent_as_list_text(alloc, set, Unknown::Refuse)?, *set);
     }
     Ok(())
 }
@@ -144,20 +190,25 @@ fn names_are_written(rt: HostRuntime) -> Result<(), Fail> {
     let mut text = String::new(alloc);
     let letters = [
         EnumSet::new(),
+        EnumSet::only(Letters::A),
         EnumSet::from([Letters::A, Letters::C, Letters::G]),
+        EnumSet::all(),
     ];
     let sparse = [EnumSet::from([Sparse::A, Sparse::D]), EnumSet::all()];
-    write_sets(alloc, &mut text, &letters)?;
-    write_sets(alloc, &mut text, &sparse)?;
-    write_sets(alloc, &mut text, &[EnumSet::<Wide>::all()])?;
-    write_sets(alloc, &mut text, &[EnumSet::<Nothing>::all()])?;
+    write_sets(&rt, alloc, &mut text, &letters)?;
+    write_sets(&rt, alloc, &mut text, &sparse)?;
+    write_sets(&rt, alloc, &mut text, &[EnumSet::<Wide>::all()])?;
+    write_sets(&rt, alloc, &mut text, &[EnumSet::<Nothing>::all()])?;
     same_lines(&rt, &text, WRITTEN);
     Ok(())
 }
 
 const WRITTEN: &str = "\
 [] {}
+[\"A\"] {\"A\":true}
 [\"A\",\"C\",\"G\"] {\"A\":true,\"C\":true,\"G\":true}
+[\"A\",\"B\",\"C\",\"D\",\"E\",\"F\",\"G\"] \
+{\"A\":true,\"B\":true,\"C\":true,\"D\":true,\"E\":true,\"F\":true,\"G\":true}
 [\"A\",\"D\"] {\"A\":true,\"D\":true}
 [\"A\",\"B\",\"D\"] {\"A\":true,\"B\":true,\"D\":true}
 [\"Read\",\"Reader\",\"Re\"] {\"Re\":true,\"Read\":true,\"Reader\":true}

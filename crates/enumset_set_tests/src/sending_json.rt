@@ -7,10 +7,10 @@ ghost use Rattle.enumset.specs.declared.set_json.fault.JsonFault.TheVariants.{Ou
 
 use enumset::set::MixedEnumSet;
 use enumset::set_json::{
-    JsonFault, JsonWidth, Unknown, from_number, from_words, mixed_from_number, mixed_to_number,
-    to_number, to_words,
+    JsonFault, JsonWidth, Unknown, from_list_text, from_number, from_words, mixed_from_number,
+    mixed_to_number, to_list_text, to_number, to_words,
 };
-use enumset::{EnumSet, EnumSetType, EnumSetTypeWithRepr, laws};
+use enumset::{EnumSet, EnumSetNames, EnumSetType, EnumSetTypeWithRepr, laws};
 use std::alloc::Global;
 
 /// Sends flags as a number, and reads them again.
@@ -38,6 +38,20 @@ pub fn sent_as_words<T: EnumSetType>(
 {
     laws::json_words_and_back(flags, unknown);
     from_words(&to_words(alloc, flags)?, unknown)
+}
+
+/// Sends flags as the text of a list, and reads them again.
+pub fn sent_as_list_text<T: EnumSetNames>(
+    alloc: Global,
+    flags: &EnumSet<T>,
+    unknown: Unknown,
+) -> Result<EnumSet<T>, JsonFault>
+    ensures same { IfOk result (λ read. read ≡ flags.now) }
+    ensures fault { IfErr result (λ fault. fault ≡ OutOfMemory) }
+{
+    laws::json_list_and_back(flags, unknown);
+    let text = to_list_text(alloc, flags)?;
+    from_list_text(alloc, text.as_str(), unknown)
 }
 
 /// Sends flags, unknown ones included, as a number, and reads them again.

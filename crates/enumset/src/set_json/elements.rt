@@ -9,7 +9,7 @@ ghost use Rattle.enumset.specs.declared.set_json.fault.JsonFault.TheVariants.{No
 use super::fault::JsonFault;
 use serde_json::Value;
 
-// The word of the element at a place, 0 where it is none, and past the last.
+// The word of the element at a place, or 0 where the element holds none, and past the last.
 pub(super) fn word_at(items: &[Value], place: usize) -> u64
     ensures { result ≡ slice_index (words_of (items_view items.now)) place }
 {
@@ -20,7 +20,7 @@ pub(super) fn word_at(items: &[Value], place: usize) -> u64
     }
 }
 
-// Whether each element is a word: the first that is none is the fault.
+// Whether each element is a word. The first that is no word is the fault.
 fn test_words(items: &[Value]) -> Result<(), JsonFault>
     ensures words { IsOk result ↔ (first_other 0 (items_view items.now) ≡ None) }
     ensures fault { IfErr result (λ fault. (place : ℕ)

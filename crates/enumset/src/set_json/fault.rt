@@ -1,7 +1,7 @@
 //! Why a set has no JSON value, or a JSON value no set.
 
 use std::alloc::{AllocError, AllocFailed};
-use std::error::Error;
+use std::error;
 use std::fmt;
 
 /// Why a set was not written as a JSON value, or a JSON value not read as a set.
@@ -11,7 +11,7 @@ pub enum JsonFault {
     TooWide,
     /// The value is not a JSON number.
     NotANumber,
-    /// The number is not held as a whole number from 0 to 2^64 - 1.
+    /// The parser does not hold the number as a whole number from 0 to 2^64 - 1.
     NotWhole,
     /// A bit of the number or of the words is at or past the width.
     OutOfRange,
@@ -29,7 +29,9 @@ pub enum JsonFault {
     UnknownBits,
     /// The name at this place, counted from 0, is the first of no variant, and such names are refused.
     UnknownName(usize),
-    /// There is no memory left.
+    /// The text is not JSON. The parser found the error at this line, counted from 1.
+    NotJson(usize),
+    /// Memory was refused.
     OutOfMemory,
 }
 
@@ -54,12 +56,13 @@ impl fmt::Display for JsonFault {
             JsonFault::NotABoolean(place) => write!(f, "name {place}: not a boolean"),
             JsonFault::UnknownBits => write!(f, "unknown bits"),
             JsonFault::UnknownName(place) => write!(f, "name {place}: unknown"),
+            JsonFault::NotJson(line) => write!(f, "line {line}: not JSON"),
             JsonFault::OutOfMemory => write!(f, "out of memory"),
         }
     }
 }
 
-impl Error for JsonFault {}
+impl error::Error for JsonFault {}
 
 impl From<AllocError> for JsonFault {
     ghost use Rattle.std.specs.Prelude.{◌≡◌};
@@ -80,5 +83,22 @@ impl<T: Drop> From<AllocFailed<T>> for JsonFault {
 
     fn from(_error: AllocFailed<T>) -> JsonFault {
         JsonFault::OutOfMemory
+    }
+}
+
+impl From<serde_json::Error> for JsonFault {
+    ghost use Rattle.std.specs.Prelude.{◌≡◌, ◌⊎◌, ℕ};
+    ghost use Rattle.serde_json.specs.Errors.{IsMemory};
+    ghost use Rattle.enumset.specs.declared.set_json.fault.JsonFault.TheVariants.{NotJson, OutOfMemory};
+
+    ghost from_gives = { λ error fault. (IsMemory error × (fault ≡ OutOfMemory))
+        ⊎ ((¬ IsMemory error) × ((line : ℕ) × (fault ≡ NotJson line))) };
+
+    fn from(error: serde_json::Error) -> JsonFault {
+        if error.is_memory() {
+            JsonFault::OutOfMemory
+        } else {
+            JsonFault::NotJson(error.line())
+        }
     }
 }

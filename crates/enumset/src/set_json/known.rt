@@ -15,7 +15,7 @@ pub(super) fn is_unknown<T: EnumSetNames>(text: &str) -> bool
     T::of_name(text).is_none()
 }
 
-// Makes the value that a text names a member, if it names one.
+// Inserts the value that a text names, if it names one.
 pub(super) fn insert_known<T: EnumSetNames>(set: &mut EnumSet<T>, text: &str)
     ensures { set.new
         ≡ union set.old (known_set (names_of T.elements T.names) (text.now ∷ [])) }

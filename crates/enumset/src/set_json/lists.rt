@@ -15,8 +15,7 @@ use enumset_sets::EnumSet;
 use serde_json::Value;
 use std::alloc::Global;
 
-/// The names of the set's members, ascending along their bits. The only fault is [`JsonFault::OutOfMemory`], where room
-/// for them was refused.
+/// The names of the set's members, in ascending order of their bits. The only fault is [`JsonFault::OutOfMemory`].
 pub fn to_list<T: EnumSetNames>(alloc: Global, set: &EnumSet<T>) -> Result<Value, JsonFault>
     ensures value { IfOk result (λ value.
         view value ≡ list_value (names_of T.elements T.names) set.now) }
@@ -31,7 +30,7 @@ pub fn to_list<T: EnumSetNames>(alloc: Global, set: &EnumSet<T>) -> Result<Value
 
 /// The set of the names of an array of texts, in any order. A name may be repeated.
 ///
-/// The errors are [`JsonFault::NotAnArray`], [`JsonFault::NotAText`] of the first element that is none and, where
+/// The errors are [`JsonFault::NotAnArray`], [`JsonFault::NotAText`] of the first element that is no text and, where
 /// unknown names are refused, [`JsonFault::UnknownName`] of the first, tested in this order. It takes no memory.
 pub fn from_list<T: EnumSetNames>(value: &Value, unknown: Unknown) -> Result<EnumSet<T>, JsonFault>
     ensures { result ≡ set_of_list (names_of T.elements T.names) unknown (view value.now) }

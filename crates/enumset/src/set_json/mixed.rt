@@ -19,8 +19,8 @@ use enumset_sets::{EnumSetType, EnumSetTypeWithRepr};
 use serde_json::Value;
 use std::alloc::Global;
 
-/// The set's number, unknown bits included. The store may have 64 bits at most. It takes no memory and answers no
-/// fault.
+/// The set's number, unknown bits included. The representation may have 64 bits at most. It takes no memory, and always
+/// succeeds.
 pub fn mixed_to_number<T: EnumSetTypeWithRepr>(
     _alloc: Global,
     set: &MixedEnumSet<T>,
@@ -34,7 +34,7 @@ pub fn mixed_to_number<T: EnumSetTypeWithRepr>(
     Ok(Value::from(repr.to_u64()))
 }
 
-/// The set of all bits of a number below two to the store's width, which may be 64 at most.
+/// The set of all bits of a number below two to the representation's width, which may be 64 at most.
 ///
 /// The errors are [`JsonFault::NotANumber`], [`JsonFault::NotWhole`] and [`JsonFault::OutOfRange`], tested in this
 /// order. It takes no memory.
@@ -49,7 +49,7 @@ pub fn mixed_from_number<T: EnumSetTypeWithRepr>(
 }
 
 /// The set's words of 64 bits, the lowest first, as many as its representation has, unknown bits included. The only
-/// fault is [`JsonFault::OutOfMemory`], where room for them was refused.
+/// fault is [`JsonFault::OutOfMemory`].
 pub fn mixed_to_words<T: EnumSetTypeWithRepr>(
     alloc: Global,
     set: &MixedEnumSet<T>,

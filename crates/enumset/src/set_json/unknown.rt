@@ -1,10 +1,10 @@
-//! What a reader does with bits that no variant has.
+//! What a reader does with bits and names that no variant has.
 
-/// What becomes of bits that are not valid.
+/// What becomes of bits and names that no variant has.
 #[derive(Clone, Copy, Debug, PartialEq, Eq)]
 pub enum Unknown {
-    /// They are left out, as Rust's `enumset` does unless `serialize_deny_unknown` is set.
+    /// They are left out. Rust's `enumset` does so with bits unless `serialize_deny_unknown` is set.
     Drop,
-    /// The value is refused.
+    /// They are a fault.
     Refuse,
 }

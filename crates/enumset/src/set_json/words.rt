@@ -19,7 +19,7 @@ use serde_json::Value;
 use std::alloc::Global;
 
 /// The set's words of 64 bits, the lowest first, as many as its representation has. The only fault is
-/// [`JsonFault::OutOfMemory`], where room for them was refused.
+/// [`JsonFault::OutOfMemory`].
 pub fn to_words<T: EnumSetType>(alloc: Global, set: &EnumSet<T>) -> Result<Value, JsonFault>
     ensures value { IfOk result (λ value.
         view value ≡ words_value (words set.now T.Repr.PREFERRED_ARRAY_LEN)) }
@@ -63,7 +63,7 @@ pub fn from_words<T: EnumSetType>(value: &Value, unknown: Unknown) -> Result<Enu
     }
 }
 
-// The set of the bits of the elements' words below the store's width.
+// The set of the bits of the elements' words below the representation's width.
 pub(super) fn set_of_low_words<R: EnumSetTypeRepr>(items: &[Value]) -> R
     requires small { (i : ℕ) → slice_index (words_of (items_view items.now)) i < 2 ^ 64 }
     ensures { R.members result ≡ low (bits_of (words_of (items_view items.now))) R.WIDTH }

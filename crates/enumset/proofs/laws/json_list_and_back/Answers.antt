@@ -1,5 +1,10 @@
+use Rattle.enumset.proofs.JsonTextLaws.{list_text_back}
 use Rattle.enumset.proofs.NameLaws.{IsNaming-passes, list_back}
 use Rattle.enumset.proofs.laws.json_list_and_back.Goals as goal
 
 pub returns : goal.returns
-returns g c = list_back _ _ (IsNaming-passes g.T.EnumSetType.elements.bit_list g.T.EnumSetNames.names g.met.T.EnumSetNames.named) c.args.set.now c.args.unknown c.number_and_back.ensures.valid
+returns g c =
+    let are = IsNaming-passes g.T.EnumSetType.elements.bit_list g.T.EnumSetNames.names g.met.T.EnumSetNames.named in record {
+      value = list_back _ _ are c.args.set.now c.args.unknown c.number_and_back.ensures.valid;
+      text = list_text_back _ _ are c.args.set.now c.args.unknown c.number_and_back.ensures.valid;
+    }

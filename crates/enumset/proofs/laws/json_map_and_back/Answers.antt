@@ -1,6 +1,11 @@
-use Rattle.enumset.proofs.NameLaws.{IsNaming-passes}
+use Rattle.enumset.proofs.JsonTextLaws.{map_text_back}
 use Rattle.enumset.proofs.MapLaws.{map_back}
+use Rattle.enumset.proofs.NameLaws.{IsNaming-passes}
 use Rattle.enumset.proofs.laws.json_map_and_back.Goals as goal
 
 pub returns : goal.returns
-returns g c = map_back _ _ (IsNaming-passes g.T.EnumSetType.elements.bit_list g.T.EnumSetNames.names g.met.T.EnumSetNames.named) c.args.set.now c.args.unknown c.number_and_back.ensures.valid
+returns g c =
+    let are = IsNaming-passes g.T.EnumSetType.elements.bit_list g.T.EnumSetNames.names g.met.T.EnumSetNames.named in record {
+      value = map_back _ _ are c.args.set.now c.args.unknown c.number_and_back.ensures.valid;
+      text = map_text_back _ _ are c.args.set.now c.args.unknown c.number_and_back.ensures.valid;
+    }

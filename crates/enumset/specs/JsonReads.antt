@@ -1,0 +1,20 @@
+-- What JSON texts are read as.
+--     value_read      what a reader of values makes of the value that a text is, if it is one
+--     IsResult      whether a result is that, or, of a text that is no value, the fault of such a text at some line
+--     IsReadOf      the same, or memory was refused
+use Rattle.std.specs.Prelude.{◌≡◌, ◌⊎◌, ℕ, List, Option, Some, None, option_map, Result, Err}
+use Rattle.enumset_repr.specs.BitSet.{BitSet}
+use Rattle.serde_json.specs.Data.{Data}
+use Rattle.serde_json.specs.Read.{read}
+use Rattle.enumset.specs.declared.set_json.fault.JsonFault.{JsonFault}
+use Rattle.enumset.specs.declared.set_json.fault.JsonFault.TheVariants.{NotJson, OutOfMemory}
+
+abbrev pub value_read : (Data → Result BitSet JsonFault) → List ℕ → Option (Result BitSet JsonFault)
+value_read reader text = option_map reader (read text)
+
+abbrev pub IsResult : Option (Result BitSet JsonFault) → Result BitSet JsonFault → Type 0
+IsResult (Some wanted) result = result ≡ wanted
+IsResult None result = (line : ℕ) × (result ≡ Err (NotJson line))
+
+abbrev pub IsReadOf : (Data → Result BitSet JsonFault) → List ℕ → Result BitSet JsonFault → Type 0
+IsReadOf reader text result = (result ≡ Err OutOfMemory) ⊎ IsResult (value_read reader text) result

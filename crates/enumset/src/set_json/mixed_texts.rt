@@ -1,0 +1,68 @@
+//! Mixed sets to and from JSON texts, as numbers and as words.
+
+ghost use Rattle.std.specs.Prelude.{◌≡◌, ◌≤◌, IfOk, IfErr, string_bytes, decimal};
+ghost use Rattle.enumset_repr.specs.Number.{number};
+ghost use Rattle.enumset_repr.specs.Words.{words};
+ghost use Rattle.serde_json.specs.Written.{compact_text};
+ghost use Rattle.enumset.specs.Json.{words_value, mixed_set_of_number, mixed_set_of_words};
+ghost use Rattle.enumset.specs.JsonReads.{IsReadOf};
+ghost use Rattle.enumset.specs.declared.set_json.fault.JsonFault.TheVariants.{OutOfMemory};
+
+use super::fault::JsonFault;
+use super::mixed::{mixed_from_number, mixed_from_words, mixed_to_number, mixed_to_words};
+use super::unknown::Unknown;
+use enumset_mixed::MixedEnumSet;
+use enumset_repr::EnumSetTypeRepr;
+use enumset_sets::{EnumSetType, EnumSetTypeWithRepr};
+use serde_json::Value;
+use std::alloc::Global;
+
+/// The digits of the set's number, unknown bits included. The representation may have 64 bits at most. The only fault is
+/// [`JsonFault::OutOfMemory`].
+pub fn mixed_to_number_text<T: EnumSetTypeWithRepr>(
+    alloc: Global,
+    set: &MixedEnumSet<T>,
+) -> Result<String, JsonFault>
+    requires narrow { T.Repr.WIDTH ≤ 64 }
+    ensures text { IfOk result (λ text. string_bytes text ≡ decimal (number set.now)) }
+    ensures fault { IfErr result (λ fault. fault ≡ OutOfMemory) }
+{
+    Ok(mixed_to_number(alloc, set)?.to_string(alloc)?)
+}
+
+/// The text of the value that [`mixed_to_words`] writes. The only fault is [`JsonFault::OutOfMemory`].
+#[tactic(auto, using(crate::proofs::JsonTextLaws::words_no_float))]
+pub fn mixed_to_words_text<T: EnumSetTypeWithRepr>(
+    alloc: Global,
+    set: &MixedEnumSet<T>,
+) -> Result<String, JsonFault>
+    ensures text { IfOk result (λ text. string_bytes text
+        ≡ compact_text (words_value (words set.now T.Repr.PREFERRED_ARRAY_LEN))) }
+    ensures fault { IfErr result (λ fault. fault ≡ OutOfMemory) }
+{
+    Ok(mixed_to_words(alloc, set)?.to_string(alloc)?)
+}
+
+/// What [`mixed_from_number`] reads of a text's value. The representation may have 64 bits at most. The other faults are
+/// [`JsonFault::NotJson`] and [`JsonFault::OutOfMemory`], since the parser takes memory.
+pub fn mixed_from_number_text<T: EnumSetTypeWithRepr>(
+    alloc: Global,
+    text: &str,
+) -> Result<MixedEnumSet<T>, JsonFault>
+    requires narrow { T.Repr.WIDTH ≤ 64 }
+    ensures { IsReadOf (mixed_set_of_number T.Repr.WIDTH) text.now result }
+{
+    mixed_from_number(&Value::from_str(alloc, text)?)
+}
+
+/// What [`mixed_from_words`] reads of a text's value. The other faults are [`JsonFault::NotJson`] and
+/// [`JsonFault::OutOfMemory`], since the parser takes memory.
+pub fn mixed_from_words_text<T: EnumSetTypeWithRepr>(
+    alloc: Global,
+    text: &str,
+    past: Unknown,
+) -> Result<MixedEnumSet<T>, JsonFault>
+    ensures { IsReadOf (mixed_set_of_words T.Repr.WIDTH past) text.now result }
+{
+    mixed_from_words(&Value::from_str(alloc, text)?, past)
+}

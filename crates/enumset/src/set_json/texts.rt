@@ -1,0 +1,118 @@
+//! Sets to and from JSON texts, in each form.
+
+ghost use Rattle.std.specs.Prelude.{◌≡◌, ◌↔◌, ◌⊎◌, false, Err, IfOk, IfErr, string_bytes, decimal};
+ghost use Rattle.enumset_repr.specs.BitSet.{below, is_subset};
+ghost use Rattle.enumset_repr.specs.Number.{number};
+ghost use Rattle.enumset_repr.specs.Words.{words};
+ghost use Rattle.serde_json.specs.Written.{compact_text};
+ghost use Rattle.enumset.specs.Json.{width_of, words_value, set_of_number, set_of_words};
+ghost use Rattle.enumset.specs.JsonNames.{list_value, map_value, set_of_list, set_of_map};
+ghost use Rattle.enumset.specs.JsonReads.{IsReadOf};
+ghost use Rattle.enumset.specs.Names.{names_of};
+ghost use Rattle.enumset.specs.declared.set_json.fault.JsonFault.TheVariants.{TooWide, OutOfMemory};
+ghost use Rattle.enumset_sets.specs.Elements.{valid_bits};
+
+use super::fault::JsonFault;
+use super::lists::{from_list, to_list};
+use super::maps::{from_map, to_map};
+use super::numbers::{from_number, to_number};
+use super::unknown::Unknown;
+use super::width::JsonWidth;
+use super::words::{from_words, to_words};
+use crate::names::EnumSetNames;
+use enumset_sets::{EnumSet, EnumSetType};
+use serde_json::Value;
+use std::alloc::Global;
+
+/// The digits of the set's number, if each member is below the width, else [`JsonFault::TooWide`]. The other fault is
+/// [`JsonFault::OutOfMemory`].
+pub fn to_number_text<T: EnumSetType>(
+    alloc: Global,
+    set: &EnumSet<T>,
+    width: JsonWidth,
+) -> Result<String, JsonFault>
+    ensures text { IfOk result (λ text. string_bytes text ≡ decimal (number set.now)) }
+    ensures too_wide { (result ≡ Err TooWide) ↔ (is_subset set.now (below (width_of width)) ≡ false) }
+    ensures fault { IfErr result (λ fault. (fault ≡ TooWide) ⊎ (fault ≡ OutOfMemory)) }
+{
+    Ok(to_number(alloc, set, width)?.to_string(alloc)?)
+}
+
+/// The text of the value that [`to_words`] writes. The only fault is [`JsonFault::OutOfMemory`].
+#[tactic(auto, using(crate::proofs::JsonTextLaws::words_no_float))]
+pub fn to_words_text<T: EnumSetType>(alloc: Global, set: &EnumSet<T>) -> Result<String, JsonFault>
+    ensures text { IfOk result (λ text. string_bytes text
+        ≡ compact_text (words_value (words set.now T.Repr.PREFERRED_ARRAY_LEN))) }
+    ensures fault { IfErr result (λ fault. fault ≡ OutOfMemory) }
+{
+    Ok(to_words(alloc, set)?.to_string(alloc)?)
+}
+
+/// The text of the value that [`to_list`] writes. The only fault is [`JsonFault::OutOfMemory`].
+#[tactic(auto, using(crate::proofs::JsonTextLaws::list_no_float))]
+pub fn to_list_text<T: EnumSetNames>(alloc: Global, set: &EnumSet<T>) -> Result<String, JsonFault>
+    ensures text { IfOk result (λ text. string_bytes text
+        ≡ compact_text (list_value (names_of T.elements T.names) set.now)) }
+    ensures fault { IfErr result (λ fault. fault ≡ OutOfMemory) }
+{
+    Ok(to_list(alloc, set)?.to_string(alloc)?)
+}
+
+/// The text of the value that [`to_map`] writes. The only fault is [`JsonFault::OutOfMemory`].
+#[tactic(auto, using(crate::proofs::JsonTextLaws::map_no_float))]
+pub fn to_map_text<T: EnumSetNames>(alloc: Global, set: &EnumSet<T>) -> Result<String, JsonFault>
+    ensures text { IfOk result (λ text. string_bytes text
+        ≡ compact_text (map_value (names_of T.elements T.names) set.now)) }
+    ensures fault { IfErr result (λ fault. fault ≡ OutOfMemory) }
+{
+    Ok(to_map(alloc, set)?.to_string(alloc)?)
+}
+
+/// What [`from_number`] reads of a text's value. The other faults are [`JsonFault::NotJson`] and
+/// [`JsonFault::OutOfMemory`], since the parser takes memory.
+pub fn from_number_text<T: EnumSetType>(
+    alloc: Global,
+    text: &str,
+    width: JsonWidth,
+    unknown: Unknown,
+) -> Result<EnumSet<T>, JsonFault>
+    ensures { IsReadOf (set_of_number (valid_bits T.elements) (width_of width) unknown) text.now result }
+{
+    from_number(&Value::from_str(alloc, text)?, width, unknown)
+}
+
+/// What [`from_words`] reads of a text's value. The other faults are [`JsonFault::NotJson`] and
+/// [`JsonFault::OutOfMemory`], since the parser takes memory.
+pub fn from_words_text<T: EnumSetType>(
+    alloc: Global,
+    text: &str,
+    unknown: Unknown,
+) -> Result<EnumSet<T>, JsonFault>
+    ensures { IsReadOf (set_of_words (valid_bits T.elements) unknown) text.now result }
+{
+    from_words(&Value::from_str(alloc, text)?, unknown)
+}
+
+/// What [`from_list`] reads of a text's value. The other faults are [`JsonFault::NotJson`] and
+/// [`JsonFault::OutOfMemory`], since the parser takes memory.
+pub fn from_list_text<T: EnumSetNames>(
+    alloc: Global,
+    text: &str,
+    unknown: Unknown,
+) -> Result<EnumSet<T>, JsonFault>
+    ensures { IsReadOf (set_of_list (names_of T.elements T.names) unknown) text.now result }
+{
+    from_list(&Value::from_str(alloc, text)?, unknown)
+}
+
+/// What [`from_map`] reads of a text's value. The other faults are [`JsonFault::NotJson`] and
+/// [`JsonFault::OutOfMemory`], since the parser takes memory.
+pub fn from_map_text<T: EnumSetNames>(
+    alloc: Global,
+    text: &str,
+    unknown: Unknown,
+) -> Result<EnumSet<T>, JsonFault>
+    ensures { IsReadOf (set_of_map (names_of T.elements T.names) unknown) text.now result }
+{
+    from_map(&Value::from_str(alloc, text)?, unknown)
+}
