@@ -3,3 +3,5 @@ pub mod Json
 pub mod JsonTexts
 pub mod JsonNames
 pub mod Names
+pub mod BothEnds
+pub mod Laws

@@ -15,14 +15,31 @@ ghost use Rattle.enumset.specs.Names.{names_of, name_of, bit_named};
 ghost use Rattle.enumset.specs.JsonNames.{set_of_list, list_value, set_of_map, map_value};
 ghost use Rattle.enumset_sets.specs.Elements.{valid_bits};
 
+mod complementary;
+mod elements;
+mod ends;
+mod folds;
+mod mixed_sets;
+mod operations;
+mod subsets;
+
 use crate::names::EnumSetNames;
 use crate::set_json::{JsonWidth, Unknown};
+pub use complementary::{complements, de_morgan};
+pub use elements::{
+    bit_and_back, bits_below, members_are_valid, number_of_bits, valid_bits_listed,
+};
+pub use ends::both_ends;
 use enumset_mixed::MixedEnumSet;
 use enumset_repr::EnumSetTypeRepr;
 pub use enumset_sets::laws::{
     all_words_and_back, cut_number_and_back, cut_words_and_back, number_and_back, words_and_back,
 };
 use enumset_sets::{EnumSet, EnumSetType, EnumSetTypeWithRepr};
+pub use folds::{fold_of_elements, fold_of_sets};
+pub use mixed_sets::{unknown_kept, valid_before_invalid};
+pub use operations::{absorption, differences, distribution, one_bit, order_and_grouping};
+pub use subsets::{disjointness, subset_bounds, subset_equations, subset_order};
 
 /// The number that `to_number` writes of a set is read as that set, at the same width: where it answered
 /// `Ok(value)`, `from_number(&value, width, unknown)` is `Ok` of the same set, under `Drop` as under `Refuse`.

@@ -2,7 +2,7 @@
 //!
 //! What stands here comes from the crates below: [`EnumSet`] and the traits of its elements from `enumset_sets`,
 //! [`MixedEnumSet`](set::MixedEnumSet) from `enumset_mixed`, and the stores from `enumset_repr` and `enumset_array`.
-//! New here are the macros, as [`enum_set!`], the modules [`folds`] and [`set_json`], and [`laws`] of the latter.
+//! New here are the macros, as [`enum_set!`], the modules [`folds`] and [`set_json`], and most of [`laws`].
 #![tactic(auto)]
 
 pub mod folds;
