@@ -4,3 +4,5 @@ pub mod JsonTexts
 pub mod JsonNames
 pub mod JsonReads
 pub mod Names
+pub mod BothEnds
+pub mod Laws

@@ -17,14 +17,31 @@ ghost use Rattle.enumset.specs.JsonReads.{value_read};
 ghost use Rattle.enumset_sets.specs.Elements.{valid_bits};
 ghost use Rattle.serde_json.specs.Written.{compact_text};
 
+mod complementary;
+mod elements;
+mod ends;
+mod folds;
+mod mixed_sets;
+mod operations;
+mod subsets;
+
 use crate::names::EnumSetNames;
 use crate::set_json::{JsonWidth, Unknown};
+pub use complementary::{complements, de_morgan};
+pub use elements::{
+    bit_and_back, bits_below, members_are_valid, number_of_bits, valid_bits_listed,
+};
+pub use ends::both_ends;
 use enumset_mixed::MixedEnumSet;
 use enumset_repr::EnumSetTypeRepr;
 pub use enumset_sets::laws::{
     all_words_and_back, cut_number_and_back, cut_words_and_back, number_and_back, words_and_back,
 };
 use enumset_sets::{EnumSet, EnumSetType, EnumSetTypeWithRepr};
+pub use folds::{fold_of_elements, fold_of_sets};
+pub use mixed_sets::{unknown_kept, valid_before_invalid};
+pub use operations::{absorption, differences, distribution, one_bit, order_and_grouping};
+pub use subsets::{disjointness, subset_bounds, subset_equations, subset_order};
 
 /// The number that `to_number` writes of a set, and the text that `to_number_text` writes, are read as that set at the
 /// same width, under `Drop` as under `Refuse`: by `from_number`, and by `from_number_text` where there is memory.

@@ -38,4 +38,6 @@ mod sending_json;
 #[cfg(test)]
 mod sets;
 #[cfg(test)]
+mod sizes;
+#[cfg(test)]
 mod users_code;

@@ -2,12 +2,14 @@
 
 ghost use Rattle.std.specs.Prelude.{◌≡◌};
 
+use enumset::set::MixedEnumSet;
 use enumset_sets::EnumSet;
 use enumset_worked::{Letters, Wide};
 use my_sets::expressions::{after_and_before, exchange, exchanged};
 use my_sets::granting::grant;
 use my_sets::proving::{grant_then_revoke, is_apart_from_the_rest, rebuilt};
 use my_sets::rights::{Right, may};
+use my_sets::sharing::{all_may, all_rights, replaced, shared_by_all, shared_by_two, with_shared};
 
 #[test]
 fn rights_are_granted(rt: HostRuntime) {
@@ -43,4 +45,29 @@ fn elements_stand_in_expressions(rt: HostRuntime) {
     let (after, before) = after_and_before(granted, Letters::D);
     assert_eq!(rt; before.as_u8_truncated(), 67);
     assert_eq!(rt; after.as_u8_truncated(), 75);
+}
+
+#[test]
+fn many_sets_share(rt: HostRuntime) {
+    let grants = [
+        Letters::A | Letters::C | Letters::G,
+        Letters::C | Letters::G,
+        Letters::B | Letters::C | Letters::G,
+    ];
+    assert_eq!(rt; shared_by_all(&grants).as_u8_truncated(), 68);
+    assert_eq!(rt;
+        [all_may(&grants, Letters::G), all_may(&grants, Letters::A)],
+        [true, false]
+    );
+    assert_eq!(rt; all_may(&[], Letters::A), true);
+    assert_eq!(rt; shared_by_two(&grants[0], &grants[1]).as_u8_truncated(), 68);
+    assert_eq!(rt; with_shared(&grants[0], &grants[2]).as_u8_truncated(), 69);
+    assert_eq!(rt; all_rights().as_u8_truncated(), 7);
+}
+
+#[test]
+fn unknown_bits_stay(rt: HostRuntime) {
+    let mut rights = MixedEnumSet::<Right>::from_repr(0b1001_0001);
+    replaced(&mut rights, Right::Read, Right::Share);
+    assert_eq!(rt; rights.as_repr(), 0b1001_0100);
 }

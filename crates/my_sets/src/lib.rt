@@ -7,3 +7,4 @@ pub mod operators;
 pub mod proving;
 pub mod rights;
 pub mod sending;
+pub mod sharing;

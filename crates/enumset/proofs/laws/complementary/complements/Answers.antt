@@ -1,0 +1,12 @@
+use Rattle.enumset_repr.specs.Laws.Algebra.{complement_twice, complement_union, complement_apart}
+use Rattle.enumset.specs.Laws.Sets.{complement_of_complement, complement_within}
+use Rattle.enumset.proofs.laws.complementary.complements.Goals as goal
+
+pub returns : goal.returns
+returns c = record {
+  twice = complement_twice;
+  twice_of_any = complement_of_complement;
+  together = complement_union;
+  apart = complement_apart;
+  of_greater = complement_within;
+}

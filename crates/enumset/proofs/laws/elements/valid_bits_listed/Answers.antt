@@ -1,0 +1,17 @@
+use Rattle.std.proofs.Common.{sym, ap, ◌∙◌}
+use Rattle.enumset_repr.specs.Laws.Members.{contains-from_list}
+use Rattle.enumset_repr.specs.BitSet.{len}
+use Rattle.enumset_sets.specs.Elements.{one_past_greatest}
+use Rattle.enumset.proofs.laws.elements.valid_bits_listed.Goals as goal
+
+pub returns : goal.returns
+returns g c =
+    let lawful = g.met.T.EnumSetType.lawful in
+    record {
+      listed = contains-from_list g.T.EnumSetType.elements.bit_list;
+      each_once = lawful.distinct;
+      all_bits = lawful.valid;
+      count = ap len (sym lawful.valid) ∙ sym lawful.count_is;
+      width = ap one_past_greatest (sym lawful.valid) ∙ sym lawful.width_is;
+      within = c.valid_repr-all.ensures.within;
+    }

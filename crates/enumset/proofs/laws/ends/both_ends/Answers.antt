@@ -1,0 +1,12 @@
+use Rattle.enumset_repr.specs.Laws.Ascending.{ascending-ascends}
+use Rattle.enumset_repr.specs.BitSet.{ascending}
+use Rattle.enumset.specs.Laws.BothEnds.{both_ends, both_ends_whole, ended_answer, none_twice}
+use Rattle.enumset.proofs.laws.ends.both_ends.Goals as goal
+
+pub returns : goal.returns
+returns c = record {
+  so_far = λ s. both_ends (ascending s);
+  whole = λ s. both_ends_whole (ascending s);
+  ended = λ s. ended_answer (ascending s);
+  once = λ s ends. none_twice (ascending s) ends (ascending-ascends s);
+}

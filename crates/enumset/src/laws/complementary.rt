@@ -1,0 +1,28 @@
+//! Laws of complements within a set v: the valid bits, or for `full_complement` the bits below the width.
+
+ghost use Rattle.std.specs.Prelude.{◌≡◌, IsTrue};
+ghost use Rattle.enumset_repr.specs.BitSet.{BitSet, union, intersection, difference};
+ghost use Rattle.enumset_repr.specs.BitSet.{is_subset, is_disjoint};
+
+/// The complement of the complement of a subset of v is that subset; with its complement it is v. Of any other set, as
+/// a mixed set with unknown members, the complement of the complement has the members in v. The complement within v has
+/// those members of the complement within a greater set that are in v.
+///
+/// The contracts of `EnumSet::complement` and `MixedEnumSet::full_complement` say that the set is such a subset.
+pub fn complements()
+    ensures twice { (v s : BitSet) → IsTrue (is_subset s v) → difference v (difference v s) ≡ s }
+    ensures twice_of_any { (v s : BitSet) → difference v (difference v s) ≡ intersection s v }
+    ensures together { (v s : BitSet) → IsTrue (is_subset s v) → union s (difference v s) ≡ v }
+    ensures apart { (v s : BitSet) → IsTrue (is_disjoint s (difference v s)) }
+    ensures of_greater { (v w s : BitSet)
+        → IsTrue (is_subset v w) → intersection (difference w s) v ≡ difference v s }
+{}
+
+/// De Morgan's laws: the complement of a union is the intersection of the complements, and that of an intersection is
+/// their union.
+pub fn de_morgan()
+    ensures union { (v s t : BitSet)
+        → difference v (union s t) ≡ intersection (difference v s) (difference v t) }
+    ensures intersection { (v s t : BitSet)
+        → difference v (intersection s t) ≡ union (difference v s) (difference v t) }
+{}

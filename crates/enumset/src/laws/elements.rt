@@ -1,0 +1,61 @@
+//! Laws of elements, their bits, and numbers.
+
+ghost use Rattle.std.specs.Prelude.{◌≡◌, ◌<◌, ◌-◌, ◌^◌, ◌↔◌, ℕ, IsTrue};
+ghost use Rattle.std.specs.List.{range_with_len};
+ghost use Rattle.enumset_repr.specs.BitSet.{is_in, contains, from_list, below, len, is_subset};
+ghost use Rattle.enumset_repr.specs.Number.{bits, is_distinct};
+ghost use Rattle.enumset_sets.specs.Elements.{valid_bits, one_past_greatest};
+
+use enumset_repr::EnumSetTypeRepr;
+use enumset_sets::representation::valid_repr;
+use enumset_sets::{EnumSet, EnumSetType};
+
+/// Each member of a set is a valid bit, and so one of the list of the element type and below the width of the
+/// representation.
+pub fn members_are_valid<T: EnumSetType>(set: &EnumSet<T>)
+    ensures valid { IsTrue (is_subset set.now (valid_bits T.elements)) }
+    ensures listed { (bit : ℕ) → IsTrue (contains set.now bit)
+        → IsTrue (is_in bit T.elements.bit_list) }
+    ensures within { IsTrue (is_subset set.now (below T.Repr.WIDTH)) }
+{
+    let _all = valid_repr::<T>();
+    let _count = set.len();
+}
+
+/// Which bits are valid: those in the list of the element type, which has each once, and so those of `ALL_BITS`. They
+/// are below the width of the representation.
+pub fn valid_bits_listed<T: EnumSetType>()
+    ensures listed { (bit : ℕ)
+        → contains (valid_bits T.elements) bit ≡ is_in bit T.elements.bit_list }
+    ensures each_once { IsTrue (is_distinct T.elements.bit_list) }
+    ensures all_bits { T.Repr.members T.ALL_BITS ≡ valid_bits T.elements }
+    ensures count { len (valid_bits T.elements) ≡ T.VARIANT_COUNT }
+    ensures width { one_past_greatest (valid_bits T.elements) ≡ T.BIT_WIDTH }
+    ensures within { IsTrue (is_subset (valid_bits T.elements) (below T.Repr.WIDTH)) }
+{
+    let _all = valid_repr::<T>();
+}
+
+/// From a value to its bit and back: the bit is valid, and no other value has it. So `enum_from_u32` of
+/// `enum_into_u32` is the value, and `==` compares the bits.
+pub fn bit_and_back<T: EnumSetType>()
+    ensures valid { (value : T) → IsTrue (contains (valid_bits T.elements) (T.elements.bit value)) }
+    ensures within { (value : T) → T.elements.bit value < T.Repr.WIDTH }
+    ensures back { (value other : T)
+        → T.elements.bit value ≡ T.elements.bit other → value ≡ other }
+    ensures equal { (value other : T)
+        → IsTrue (T.PartialEq.eq value other) ↔ (T.elements.bit value ≡ T.elements.bit other) }
+{
+    let _all = valid_repr::<T>();
+}
+
+/// Two numbers with the same bits are one.
+pub fn number_of_bits()
+    ensures { (one other : ℕ) → bits one ≡ bits other → one ≡ other }
+{}
+
+/// All bits below a width, as a number and as a list: at 3, `bits 7`, and `from_list` of 0, 1 and 2.
+pub fn bits_below(width: u32)
+    ensures number { bits (2 ^ width - 1) ≡ below width }
+    ensures list { from_list (range_with_len 0 width) ≡ below width }
+{}

@@ -1,0 +1,25 @@
+//! Laws of folds: only which items there are matters, neither their order nor repeats.
+
+ghost use Rattle.std.specs.Prelude.{◌≡◌, ◌↔◌, List, Contains, map};
+ghost use Rattle.enumset_repr.specs.BitSet.{BitSet, from_list};
+ghost use Rattle.enumset_sets.specs.Folds.{union_all};
+ghost use Rattle.enumset.specs.Folds.{intersection_all};
+
+use enumset_sets::EnumSetType;
+
+/// The set of a list's elements: lists with the same elements make the same set.
+pub fn fold_of_elements<T: EnumSetType>()
+    ensures { (items others : List T) → ((item : T) → Contains items item ↔ Contains others item)
+        → from_list (map T.elements.bit items) ≡ from_list (map T.elements.bit others) }
+{}
+
+/// The union of a list's sets, and what a set has in common with all of them: lists with the same sets make the same
+/// set.
+pub fn fold_of_sets()
+    ensures union { (items others : List BitSet)
+        → ((item : BitSet) → Contains items item ↔ Contains others item)
+        → union_all items ≡ union_all others }
+    ensures intersection { (start : BitSet) (items others : List BitSet)
+        → ((item : BitSet) → Contains items item ↔ Contains others item)
+        → intersection_all start items ≡ intersection_all start others }
+{}
