@@ -1,4 +1,4 @@
-//! Tests of sets, mixed sets, folds, macros and JSON at the worked types, and of users' code with its proofs.
+//! Tests of sets, mixed sets, folds and macros at the worked types, and of users' code with its proofs.
 //!
 //! They are in a crate of their own so that the crates that they test are proved once.
 #![tactic(auto)]
@@ -6,25 +6,15 @@
 #[cfg(test)]
 mod compare;
 #[cfg(test)]
-mod config;
-#[cfg(test)]
-mod configs;
-#[cfg(test)]
 mod conversions;
 #[cfg(test)]
 mod each_type;
 #[cfg(test)]
 mod folds;
 #[cfg(test)]
-mod json;
-#[cfg(test)]
-mod json_names;
-#[cfg(test)]
 mod macros;
 #[cfg(test)]
 mod mixed;
-#[cfg(test)]
-mod named;
 #[cfg(test)]
 mod no_variant;
 #[cfg(test)]
@@ -33,8 +23,6 @@ mod operators;
 mod order;
 #[cfg(test)]
 mod refused;
-#[cfg(test)]
-mod sending_json;
 #[cfg(test)]
 mod sets;
 #[cfg(test)]

@@ -59,7 +59,11 @@ fn write_elements<T: EnumSetTypeWithRepr + fmt::Debug>(
     set: &MixedEnumSet<T>,
 ) -> Result<(), AllocError> {
     match set.try_as_enumset() {
-        Some(elements) => write!(text, " elements={elements:?} as_enumset {:?}", set.as_enumset())?,
+        Some(elements) => write!(
+            text,
+            " elements={elements:?} as_enumset {:?}",
+            set.as_enumset()
+        )?,
         None => write!(text, " elements=none")?,
     }
     writeln!(text, " cut {:?}", set.as_enumset_truncate())

@@ -1,19 +1,16 @@
 //! Sets and mixed sets of an enum without variants.
 
-ghost use Rattle.std.specs.Prelude.{◌<◌, ◌≤◌};
+ghost use Rattle.std.specs.Prelude.{◌<◌};
 
 use crate::compare::same_lines;
 use crate::conversions::{write_numbers, write_read_array, write_read_slice};
 use crate::each_type::expect_both;
-use crate::json::{comes_back, expect_mixed_numbers, expect_numbers, expect_words, write_set};
 use crate::mixed::{of_number, write_answers, write_bit_changes};
 use crate::order::bytes_fed;
-use enumset::set_json::JsonWidth;
 use enumset_sets::{EnumSet, EnumSetType, EnumSetTypeWithRepr, variant_of};
-use std::alloc::{AllocError, Global};
+use std::alloc::AllocError;
 use std::fmt;
 use std::hash::Hash;
-use std::process::Abort;
 use std::test::Fail;
 
 // The sizes of the results of operations, and what tests and both ends of an iterator return.
@@ -59,22 +56,6 @@ fn write_calls<T: EnumSetTypeWithRepr + fmt::Debug>(text: &mut String) -> Result
     }
     write_bit_changes(text, &mut of_number::<T>(1), 7)?;
     writeln!(text, "fed {}", bytes_fed(&EnumSet::<T>::all()))
-}
-
-// Tests what is written as JSON, and what is read from it.
-fn expect_json<T: EnumSetTypeWithRepr + fmt::Debug>(
-    rt: &impl Abort,
-    alloc: Global,
-    text: &mut String,
-) -> Result<(), Fail>
-    requires { T.Repr.WIDTH ≤ 64 }
-{
-    write_set(alloc, text, &EnumSet::<T>::all())?;
-    comes_back(rt, alloc, &EnumSet::<T>::all())?;
-    expect_numbers::<T>(rt, alloc, JsonWidth::U8, IN_8_BITS)?;
-    expect_numbers::<T>(rt, alloc, JsonWidth::U64, IN_64_BITS)?;
-    expect_words::<T>(rt, alloc, WORDS)?;
-    expect_mixed_numbers::<T>(rt, alloc, MIXED)
 }
 
 #[test]
@@ -145,7 +126,6 @@ fn no_variant_is_enough(rt: HostRuntime) -> Result<(), Fail> {
         "[0] | [7], elements EnumSet(), complement , 6 others",
     )?;
     write_calls::<Nothing>(&mut text)?;
-    expect_json::<Nothing>(&rt, alloc, &mut text)?;
     same_lines(&rt, &text, TEXT);
     Ok(())
 }
@@ -178,31 +158,4 @@ MixedEnumSet([0] | [1] | [2] | [3] | [4] | [5] | [6] | [7]): len=8 valid=0 empty
 values=[255, 0, 0, 0, 0] elements=none cut EnumSet()
 insert_bit=[true, false] has_bit=[true, false] remove_bit=[true, false]
 fed 0
-EnumSet() 0 0 0 0 [0]
-";
-
-const IN_8_BITS: &str = "\
-0 -> Ok(EnumSet()) Ok(EnumSet())
-255 -> Ok(EnumSet()) Err(UnknownBits)
-256 -> Err(OutOfRange) Err(OutOfRange)
-";
-
-const IN_64_BITS: &str = "\
-0 -> Ok(EnumSet()) Ok(EnumSet())
-1 -> Ok(EnumSet()) Err(UnknownBits)
--0 -> Err(NotWhole) Err(NotWhole)
-";
-
-const WORDS: &str = "\
-[] -> Ok(EnumSet()) Ok(EnumSet())
-[0,0] -> Ok(EnumSet()) Ok(EnumSet())
-[1] -> Ok(EnumSet()) Err(UnknownBits)
-[0,1] -> Ok(EnumSet()) Err(UnknownBits)
-[0,-1] -> Err(NotAWord(1)) Err(NotAWord(1))
-";
-
-const MIXED: &str = "\
-0 -> MixedEnumSet() 0
-128 -> MixedEnumSet([7]) 128
-256 -> OutOfRange
 ";

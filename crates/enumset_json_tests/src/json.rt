@@ -5,7 +5,6 @@
 
 ghost use Rattle.std.specs.Prelude.{◌≤◌};
 
-use crate::compare::same_lines;
 use crate::sending_json::{sent_as_number, sent_as_words, sent_with_unknown};
 use enumset::set::MixedEnumSet;
 use enumset::set_json::{
@@ -287,7 +286,7 @@ fn sets_are_written(rt: HostRuntime) -> Result<(), Fail> {
     ];
     write_sets(&rt, alloc, &mut text, &letters)?;
     write_sets(&rt, alloc, &mut text, &sparse)?;
-    same_lines(&rt, &text, WRITTEN);
+    assert_eq!(rt; text.as_str(), WRITTEN);
     Ok(())
 }
 
@@ -414,9 +413,8 @@ fn faults_have_their_texts(rt: HostRuntime) -> Result<(), Fail> {
     for fault in &faults {
         writeln!(text, "{fault}")?;
     }
-    same_lines(
-        &rt,
-        &text,
+    assert_eq!(rt;
+        text.as_str(),
         "\
 a member is too large for the width
 not a number
@@ -432,7 +430,7 @@ unknown bits
 name 3: unknown
 line 4: not JSON
 out of memory
-",
+"
     );
     Ok(())
 }

@@ -5,8 +5,7 @@
 
 mod refused;
 
-use crate::compare::same_lines;
-use crate::named::{Letters, Nothing, Sparse, Wide};
+use crate::named::{Letters, Sparse, Wide};
 use crate::sending_json::sent_as_list_text;
 use enumset::set_json::{
     JsonFault, JsonWidth, Unknown, from_list_text, from_map_text, from_number_text,
@@ -18,9 +17,9 @@ use std::fmt;
 use std::process::Abort;
 use std::test::Fail;
 
-// The forms of a set.
+/// The forms of a set.
 #[derive(Clone, Copy, Debug, PartialEq, Eq)]
-enum Form {
+pub enum Form {
     Number,
     Words,
     List,
@@ -56,8 +55,8 @@ fn read<T: EnumSetNames>(
     }
 }
 
-// Tests rows of a form.
-fn expect_form<T: EnumSetNames + fmt::Debug>(
+/// Tests rows of a form.
+pub fn expect_form<T: EnumSetNames + fmt::Debug>(
     rt: &impl Abort,
     alloc: Global,
     form: Form,
@@ -78,8 +77,7 @@ fn expect_form<T: EnumSetNames + fmt::Debug>(
 fn lists_are_read(rt: HostRuntime) -> Result<(), Fail> {
     expect_form::<Letters>(&rt, rt.alloc(), Form::List, LISTS_OF_LETTERS)?;
     expect_form::<Sparse>(&rt, rt.alloc(), Form::List, LISTS_OF_SPARSE)?;
-    expect_form::<Wide>(&rt, rt.alloc(), Form::List, LISTS_OF_WIDE)?;
-    expect_form::<Nothing>(&rt, rt.alloc(), Form::List, LISTS_OF_NOTHING)
+    expect_form::<Wide>(&rt, rt.alloc(), Form::List, LISTS_OF_WIDE)
 }
 
 const LISTS_OF_LETTERS: &str = "\
@@ -121,11 +119,6 @@ const LISTS_OF_WIDE: &str = "\
 [\"Rea\",\"Read \",\"Readers\"] -> Ok(EnumSet()) Err(UnknownName(0))
 [\"P\",\"Read\"] -> Ok(EnumSet(P)) Err(UnknownName(0))
 [\"Read\",\"Own\"] -> Ok(EnumSet(P)) Err(UnknownName(1))
-";
-
-const LISTS_OF_NOTHING: &str = "\
-[] -> Ok(EnumSet()) Ok(EnumSet())
-[\"A\"] -> Ok(EnumSet()) Err(UnknownName(0))
 ";
 
 #[test]
@@ -170,15 +163,20 @@ fn the_line_of_a_fault(rt: HostRuntime) -> Result<(), Fail> {
     Ok(())
 }
 
-// Writes a line of each set, its list and its map, and tests that the list is read again.
-fn write_sets<T: EnumSetNames + fmt::Debug>(
+/// Writes a line of each set, its list and its map, and tests that the list is read again.
+pub fn write_sets<T: EnumSetNames + fmt::Debug>(
     rt: &impl Abort,
     alloc: Global,
     text: &mut String,
     sets: &[EnumSet<T>],
 ) -> Result<(), Fail> {
     for set in sets {
-        writeln!(text, "{} {}", to_list_text(alloc, set)?, to_map_text(alloc, set)?)?;
+        writeln!(
+            text,
+            "{} {}",
+            to_list_text(alloc, set)?,
+            to_map_text(alloc, set)?
+        )?;
         assert_eq!(rt; sent_as_list_text(alloc, set, Unknown::Refuse)?, *set);
     }
     Ok(())
@@ -198,8 +196,7 @@ fn names_are_written(rt: HostRuntime) -> Result<(), Fail> {
     write_sets(&rt, alloc, &mut text, &letters)?;
     write_sets(&rt, alloc, &mut text, &sparse)?;
     write_sets(&rt, alloc, &mut text, &[EnumSet::<Wide>::all()])?;
-    write_sets(&rt, alloc, &mut text, &[EnumSet::<Nothing>::all()])?;
-    same_lines(&rt, &text, WRITTEN);
+    assert_eq!(rt; text.as_str(), WRITTEN);
     Ok(())
 }
 
@@ -212,5 +209,4 @@ const WRITTEN: &str = "\
 [\"A\",\"D\"] {\"A\":true,\"D\":true}
 [\"A\",\"B\",\"D\"] {\"A\":true,\"B\":true,\"D\":true}
 [\"Read\",\"Reader\",\"Re\"] {\"Re\":true,\"Read\":true,\"Reader\":true}
-[] {}
 ";

@@ -17,7 +17,7 @@ pub enum Letters {
 
 impl EnumSetType for Letters {
     ghost use Rattle.enumset_sets.specs.Laws.Elements.{in_place, lawful_in_integer, lawful_in_place};
-    ghost use Rattle.enumset_set_tests.specs.contracts.named.Letters.{the_type};
+    ghost use Rattle.enumset_json_tests.specs.contracts.named.Letters.{the_type};
 
     type Repr = u8;
 
@@ -70,7 +70,7 @@ pub enum Sparse {
 impl EnumSetType for Sparse {
     ghost use Rattle.std.specs.Prelude.{◌∷◌, []};
     ghost use Rattle.enumset_sets.specs.Laws.Elements.{with_bits, lawful_in_integer};
-    ghost use Rattle.enumset_set_tests.specs.contracts.named.Sparse.{the_type};
+    ghost use Rattle.enumset_json_tests.specs.contracts.named.Sparse.{the_type};
 
     type Repr = u128;
 
@@ -122,7 +122,7 @@ pub enum Wide {
 impl EnumSetType for Wide {
     ghost use Rattle.std.specs.Prelude.{◌∷◌, []};
     ghost use Rattle.enumset_sets.specs.Laws.Elements.{with_bits, lawful_in_words};
-    ghost use Rattle.enumset_set_tests.specs.contracts.named.Wide.{the_type};
+    ghost use Rattle.enumset_json_tests.specs.contracts.named.Wide.{the_type};
 
     type Repr = ArrayRepr<3>;
 
@@ -158,54 +158,6 @@ impl EnumSetNames for Wide {
 
     fn names() -> &'static [(Wide, &'static str)] {
         names_of!(Wide: P "Read" Q "Reader" R "Re")
-    }
-
-    ghost named = { tt };
-}
-
-/// No variant.
-#[derive(Clone, Copy, Debug, PartialEq, Eq)]
-pub enum Nothing {}
-
-impl EnumSetType for Nothing {
-    ghost use Rattle.std.specs.Prelude.{[]};
-    ghost use Rattle.enumset_sets.specs.Laws.Elements.{with_bits, lawful_in_integer};
-    ghost use Rattle.enumset_set_tests.specs.contracts.named.Nothing.{the_type};
-
-    type Repr = u8;
-
-    ghost elements = { with_bits the_type [] };
-
-    ghost ALL_BITS = { 0 };
-
-    const ALL_BITS: u8 = 0;
-
-    ghost BIT_WIDTH = { 0 };
-
-    const BIT_WIDTH: u32 = 0;
-
-    ghost VARIANT_COUNT = { 0 };
-
-    const VARIANT_COUNT: u32 = 0;
-
-    fn enum_into_u32(self) -> u32 {
-        match self {}
-    }
-
-    fn enum_from_u32(val: u32) -> Nothing {
-        variant_of!(val, Nothing:)
-    }
-
-    ghost lawful = { lawful_in_integer the_type _ tt };
-}
-
-impl EnumSetNames for Nothing {
-    ghost use Rattle.std.specs.Prelude.{[]};
-
-    ghost names = { [] };
-
-    fn names() -> &'static [(Nothing, &'static str)] {
-        names_of!(Nothing:)
     }
 
     ghost named = { tt };

@@ -82,11 +82,7 @@ fn maps_are_read(rt: HostRuntime) -> Result<(), Fail> {
 }
 
 // Writes a mixed set as a number, or as words.
-fn write_mixed(
-    alloc: Global,
-    form: Form,
-    set: &MixedEnumSet<Marks>,
-) -> Result<String, JsonFault> {
+fn write_mixed(alloc: Global, form: Form, set: &MixedEnumSet<Marks>) -> Result<String, JsonFault> {
     match form {
         Form::Number => mixed_to_number_text(alloc, set),
         _ => mixed_to_words_text(alloc, set),
