@@ -1,8 +1,7 @@
 //! Why a set has no JSON value, or a JSON value no set.
 
 use std::alloc::{AllocError, AllocFailed};
-use std::error;
-use std::fmt;
+use std::{error, fmt};
 
 /// Why a set was not written as a JSON value, or a JSON value not read as a set.
 #[derive(Clone, Copy, Debug, PartialEq, Eq)]
