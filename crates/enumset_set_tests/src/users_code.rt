@@ -49,19 +49,17 @@ fn elements_stand_in_expressions(rt: HostRuntime) {
 
 #[test]
 fn many_sets_share(rt: HostRuntime) {
-    let grants = [
-        Letters::A | Letters::C | Letters::G,
-        Letters::C | Letters::G,
-        Letters::B | Letters::C | Letters::G,
-    ];
+    let one = Letters::A | Letters::C | Letters::G;
+    let other = Letters::B | Letters::C | Letters::G;
+    let grants = [one, Letters::C | Letters::G, other];
     assert_eq!(rt; shared_by_all(&grants).as_u8_truncated(), 68);
     assert_eq!(rt;
         [all_may(&grants, Letters::G), all_may(&grants, Letters::A)],
         [true, false]
     );
     assert_eq!(rt; all_may(&[], Letters::A), true);
-    assert_eq!(rt; shared_by_two(&grants[0], &grants[1]).as_u8_truncated(), 68);
-    assert_eq!(rt; with_shared(&grants[0], &grants[2]).as_u8_truncated(), 69);
+    assert_eq!(rt; shared_by_two(&one, &other).as_u8_truncated(), 68);
+    assert_eq!(rt; with_shared(&one, &other).as_u8_truncated(), 69);
     assert_eq!(rt; all_rights().as_u8_truncated(), 7);
 }
 
