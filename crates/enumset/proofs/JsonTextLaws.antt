@@ -1,5 +1,5 @@
 -- The texts of what is written of a set hold no float, and are read as that set.
-use Rattle.std.proofs.Common.{◌≡◌, ℕ, ◌≤◌, Bool, true, false, List, [], ◌∷◌, map, Some, Ok, decimal, option_map, refl, ap, ◌∙◌, arith}
+use Rattle.std.proofs.Common.{◌≡◌, ℕ, ◌≤◌, true, false, List, [], ◌∷◌, map, Some, Ok, decimal, option_map, refl, ap, ◌∙◌, arith}
 use Rattle.std.specs.List.{range_with_len}
 use Rattle.std.specs.Prelude.{zip}
 use Rattle.enumset_repr.specs.BitSet.{BitSet, from_list, is_subset, below, ascending}

@@ -1,5 +1,5 @@
 -- A map of names with `true` is read as the set that it was written of.
-use Rattle.std.proofs.Common.{◌≡◌, ℕ, Bool, true, false, if◌then◌else◌, Ordering, Less, Equal, Greater, Option, Some, None, Ok, List, [], ◌∷◌, map, position, refl, sym, ap, ◌∙◌, subst}
+use Rattle.std.proofs.Common.{◌≡◌, ℕ, Bool, true, if◌then◌else◌, Ordering, Less, Equal, Greater, Option, Some, None, Ok, List, [], ◌∷◌, refl, sym, ap, ◌∙◌, subst}
 use Rattle.std.specs.Prelude.{not, zip, filter, filter_map, is_none}
 use Rattle.std.specs.List.{list_all, cons_option}
 use Rattle.std.specs.Ordering.{nat_cmp, is_eq, match_ordering}
@@ -7,10 +7,10 @@ use Rattle.std.specs.Cmp.Lexicographic.{slice_cmp}
 use Rattle.std.proofs.lemmas.Bool.{and_parts, and_from}
 use Rattle.std.proofs.lemmas.Map.Text.{is_eq-slice_cmp}
 use Rattle.std.proofs.lemmas.Slice.Eq.{bytes_eq-Decides}
-use Rattle.enumset_repr.specs.BitSet.{BitSet, is_in, insert, union, empty, from_list, ascending, is_subset}
+use Rattle.enumset_repr.specs.BitSet.{BitSet, is_in, insert, union, from_list, ascending, is_subset}
 use Rattle.enumset_repr.specs.Laws.Algebra.{from_list_ascending, insert_comm, insert_twice, union_insert, insert_union, union_empty, empty_union}
 use Rattle.enumset_sets.specs.Laws.Elements.{AreBitsOf-ascending}
-use Rattle.enumset_sets.specs.Laws.Folds.{union_none, from_list_none}
+use Rattle.enumset_sets.specs.Laws.Folds.{from_list_none}
 use Rattle.serde_json.specs.Data.{Data, boolean, Members, no_members, member, put}
 use Rattle.enumset.specs.Names.{Names, name_of, bit_named}
 use Rattle.enumset.specs.JsonNames.{members_in, names_in, true_names, is_true, is_no_boolean, is_unknown, known_set, unless_unknown, named_set, set_of_booleans, set_of_map, with_bits_true, map_value}
