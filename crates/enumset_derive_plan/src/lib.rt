@@ -1,0 +1,23 @@
+//! Declarations of enums, and the plan of an element type: its bits, its representation, its constants.
+//!
+//! Nothing here reads or writes a text: `enumset_derive_source` reads declarations, and `enumset_derive_module` writes
+//! modules from declarations and plans.
+#![tactic(auto)]
+
+pub mod declaration;
+pub mod fault;
+pub mod integer_type;
+pub mod number;
+pub mod options;
+pub mod place;
+pub mod plan;
+pub mod text;
+
+pub use declaration::{Discriminant, EnumDeclaration, Item, Variant};
+pub use fault::{DeriveError, Fault, Reason};
+pub use integer_type::IntegerType;
+pub use number::Number;
+pub use options::{Map, Options, Representation, Serialized};
+pub use place::Place;
+pub use plan::{Plan, Store};
+pub use text::Text;
