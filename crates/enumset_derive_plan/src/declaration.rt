@@ -1,15 +1,29 @@
 //! Declarations of enums, as a source text has them.
 
+use crate::fault::Fault;
 use crate::number::Number;
 use crate::options::Options;
 use crate::place::Place;
 use crate::text::Text;
+
+/// What a source file has, as far as it could be read.
+#[derive(Debug, Drop)]
+pub struct Source {
+    /// The inner comments and attributes at its head, as `//! ..`, as they are written.
+    pub head: Text,
+    /// In their order. If there is a fault, those before the item with the fault.
+    pub items: Vec<Item>,
+    /// The first fault of reading, if there is one.
+    pub fault: Option<Fault>,
+}
 
 /// An item of a source file, or a text between items.
 #[derive(Debug, Drop)]
 pub enum Item {
     /// A text that goes through unchanged: other items, and the comments and the space around them.
     Other(Text),
+    /// What one line `use enumset::..;` imports, in its order, each as it is written after `enumset::`.
+    Imports(Vec<Text>),
     /// An enum that is to be an element type.
     Enum(EnumDeclaration),
 }

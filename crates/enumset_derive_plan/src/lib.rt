@@ -13,8 +13,8 @@ pub mod place;
 pub mod plan;
 pub mod text;
 
-pub use declaration::{Discriminant, EnumDeclaration, Item, Variant};
-pub use fault::{DeriveError, Fault, Reason};
+pub use declaration::{Discriminant, EnumDeclaration, Item, Source, Variant};
+pub use fault::{DeriveError, Fault, OutOfRange, Reason, Wanted};
 pub use integer_type::IntegerType;
 pub use number::Number;
 pub use options::{Map, Options, Representation, Serialized};
