@@ -20,7 +20,7 @@ abbrev pub place_text : Place → List ℕ
 place_text p = codes "line " ++ decimal p.line ++ codes ", column " ++ decimal p.column
 
 abbrev pub range_text : OutOfRange → List ℕ
-range_text out = codes "bit " ++ decimal out.bit ++ codes " is not below " ++ decimal out.width
+range_text out = codes "bit " ++ decimal out.bit ++ codes ", width " ++ decimal out.width
 
 abbrev pub wanted_text : Wanted → List ℕ
 wanted_text wanted.EnumName = codes "a name of an enum"

@@ -172,7 +172,7 @@ impl fmt::Display for OutOfRange {
     ghost output = { λ out. Some (range_text out) };
 
     fn fmt<W: fmt::Write>(&self, f: &mut fmt::Formatter<W>) -> fmt::Result {
-        write!(f, "bit {} is not below {}", self.bit, self.width)
+        write!(f, "bit {}, width {}", self.bit, self.width)
     }
 }
 
