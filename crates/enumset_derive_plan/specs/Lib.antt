@@ -1,2 +1,4 @@
+pub mod Steps
 pub mod Integers
 pub mod Faults
+pub mod Bits

@@ -11,6 +11,7 @@ pub mod number;
 pub mod options;
 pub mod place;
 pub mod plan;
+mod planning;
 pub mod text;
 
 pub use declaration::{Discriminant, EnumDeclaration, Item, Source, Variant};

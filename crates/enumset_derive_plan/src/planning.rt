@@ -1,0 +1,3 @@
+//! The planning of element types.
+
+pub mod naming;

@@ -1,0 +1,2 @@
+//! Tests of the program that writes element types.
+#![tactic(auto)]
