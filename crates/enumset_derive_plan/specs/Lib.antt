@@ -1,4 +1,6 @@
 pub mod Steps
+pub mod TempSets
 pub mod Integers
 pub mod Faults
 pub mod Bits
+pub mod Variants

@@ -1,3 +1,5 @@
 //! The planning of element types.
 
+pub mod named;
 pub mod naming;
+pub mod rules;
