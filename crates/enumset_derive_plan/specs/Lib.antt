@@ -1,5 +1,6 @@
 pub mod Steps
 pub mod TempSets
+pub mod TempNumber
 pub mod Integers
 pub mod Faults
 pub mod Bits
