@@ -3,3 +3,4 @@
 pub mod named;
 pub mod naming;
 pub mod rules;
+pub mod store;
