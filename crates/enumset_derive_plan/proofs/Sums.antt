@@ -70,9 +70,9 @@ sum-without w (b ∷ bs) =
 pub sum_below : (w : ℕ) (bs : List ℕ) → is_distinct bs ≡ true → are_below w bs ≡ true → sum_by (λ b. 2 ^ b) bs < 2 ^ w
 sum_below w [] apart below = omega (arith, pow_positive w)
   where
-  pow_positive : (w : ℕ) → 0 < 2 ^ w
-  pow_positive zero = omega arith
-  pow_positive (suc w) = omega (arith, pow_positive w)
+    pow_positive : (w : ℕ) → 0 < 2 ^ w
+    pow_positive zero = omega arith
+    pow_positive (suc w) = omega (arith, pow_positive w)
 sum_below zero (b ∷ bs) apart below = absurd (grind (arith, nat_tests, (and_parts (nat_lt b zero) (are_below zero bs) below).0))
 sum_below (suc w) (b ∷ bs) apart below =
     omega (arith, sum-without w (b ∷ bs), sum_below w (without w (b ∷ bs)) (distinct-without w (b ∷ bs) apart) (below-without w (b ∷ bs) below apart))
@@ -97,14 +97,14 @@ apart_from_before (b ∷ bs) (suc i) apart within =
     let later : i < length bs = omega (arith, within) in
     or_none (get_or bs i 0 == b) _ (differs b bs i (not-true _ parts.0) later) (apart_from_before bs i parts.1 later)
   where
-  or_none : (s t : Bool) → s ≡ false → t ≡ false → (s || t) ≡ false
-  or_none true t h e = absurd (cc)
-  or_none false t h e = e
+    or_none : (s t : Bool) → s ≡ false → t ≡ false → (s || t) ≡ false
+    or_none true t h e = absurd (cc)
+    or_none false t h e = e
 
-  differs : (b : ℕ) (bs : List ℕ) (i : ℕ) → is_in b bs ≡ false → i < length bs → (get_or bs i 0 == b) ≡ false
-  differs b [] i out within = absurd (omega (arith, within))
-  differs b (c ∷ bs) zero out within = let h = (or_parts (b == c) (is_in b bs) out).0 in grind (arith, nat_tests, h)
-  differs b (c ∷ bs) (suc i) out within = differs b bs i (or_parts (b == c) (is_in b bs) out).1 (omega (arith, within))
+    differs : (b : ℕ) (bs : List ℕ) (i : ℕ) → is_in b bs ≡ false → i < length bs → (get_or bs i 0 == b) ≡ false
+    differs b [] i out within = absurd (omega (arith, within))
+    differs b (c ∷ bs) zero out within = let h = (or_parts (b == c) (is_in b bs) out).0 in grind (arith, nat_tests, h)
+    differs b (c ∷ bs) (suc i) out within = differs b bs i (or_parts (b == c) (is_in b bs) out).1 (omega (arith, within))
 
 pub item_below : (n : ℕ) (bs : List ℕ) (i : ℕ) → are_below n bs ≡ true → i < length bs → get_or bs i 0 < n
 item_below n [] i below within = absurd (omega (arith, within))

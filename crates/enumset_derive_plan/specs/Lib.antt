@@ -8,3 +8,4 @@ pub mod Faults
 pub mod Bits
 pub mod Variants
 pub mod Stores
+pub mod Plans
