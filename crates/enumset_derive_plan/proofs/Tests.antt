@@ -7,6 +7,7 @@ use Rattle.enumset_derive_plan.specs.TempWords.{lists_words}
 use Rattle.enumset_derive_plan.specs.TempElements.{one_past_all, once_known, or_else, IsLawful, IsLawfulNumber, IsLawfulWords, BitCountShouldBe, NamesABitTwice, BitWidthShouldBe, VariantCountShouldBe}
 use Rattle.enumset_derive_plan.specs.Stores.{IsStore}
 use Rattle.enumset_derive_plan.specs.Plans.{without_fields, IsLawfulStore}
+use Rattle.enumset_derive_plan.specs.Laws.Plans.{variants_of}
 use Rattle.enumset_derive_plan.specs.declared.options.Representation.{Representation}
 use Rattle.enumset_derive_plan.specs.declared.options.Representation.TheVariants as representation
 use Rattle.enumset_derive_plan.specs.declared.plan.Store.{Store}
@@ -19,10 +20,6 @@ known (suc n) next h = h
 past : (test : Bool) (fault next : Type 0) → test ≡ true → next → or_else test fault next
 past true fault next passes h = h
 past false fault next passes h = absurd (cc)
-
-variants_of : (n : ℕ) → length (rowss (replicate n [])) ≡ n
-variants_of zero = refl
-variants_of (suc n) = ap suc (variants_of n)
 
 bare_of : (n : ℕ) → Bare (replicate n [])
 bare_of zero = tt

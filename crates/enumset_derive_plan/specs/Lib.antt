@@ -9,3 +9,4 @@ pub mod Bits
 pub mod Variants
 pub mod Stores
 pub mod Plans
+pub mod Laws
