@@ -4,7 +4,7 @@
 --     without_fields      an enum of so many variants without fields
 --     IsLawfulPlan      the plan passes the test that proves the laws of an element type
 --     IsStoredAsAsked      a set is kept as the options ask, and is in JSON what they ask
-use Rattle.std.specs.Prelude.{◌≡◌, ℕ, List, [], length, replicate, Option, Result, Ok, Err}
+use Rattle.std.specs.Prelude.{◌≡◌, ℕ, List, [], replicate, Option, Result, Ok, Err}
 use denote.Enum.Enum.{Sum}
 use denote.Enum.Declared.{Declared, rowss}
 use Rattle.enumset_derive_plan.specs.TempElements.{IsLawfulNumber, IsLawfulWords}

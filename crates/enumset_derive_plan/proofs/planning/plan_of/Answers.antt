@@ -1,4 +1,4 @@
-use Rattle.std.proofs.Common.{rules, ◌≡◌, ◌≤◌, ℕ, true, length, List, refl, arith, map, sym, ◌∙◌, ap, subst}
+use Rattle.std.proofs.Common.{rules, ◌≡◌, ℕ, true, length, refl, arith, ◌∙◌, ap, subst}
 use Rattle.std.proofs.lemmas.List.{length-map}
 use Rattle.enumset_derive_plan.specs.TempElements.{one_past_all}
 use Rattle.enumset_derive_plan.specs.Variants.{bits_of}

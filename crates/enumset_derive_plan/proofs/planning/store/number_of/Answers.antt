@@ -1,5 +1,4 @@
-use Rattle.std.proofs.Common.{rules, ◌≡◌, ◌<◌, ◌+◌, ◌^◌, arith, get_or, length, sum_by, true}
-use Rattle.std.proofs.Math.Facts.{Fits-lt-pow}
+use Rattle.std.proofs.Common.{rules, arith}
 use Rattle.enumset_derive_plan.proofs.Sums.{sum_below, power_of_next}
 use Rattle.enumset_derive_plan.proofs.planning.store.number_of.Goals as goal
 

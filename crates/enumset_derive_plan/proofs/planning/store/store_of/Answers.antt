@@ -1,7 +1,6 @@
 use Rattle.std.proofs.Common.{rules, ◌≡◌, ◌≤◌, ◌*◌, true, arith}
-use Rattle.std.specs.Int.{div_ceil}
 use Rattle.enumset_derive_plan.specs.Integers.{width}
-use Rattle.enumset_derive_plan.specs.Stores.{are_below, has_room}
+use Rattle.enumset_derive_plan.specs.Stores.{are_below}
 use Rattle.enumset_derive_plan.proofs.Rooms.{wider, width_most}
 use Rattle.enumset_derive_plan.proofs.planning.store.store_of.Goals as goal
 

@@ -1,4 +1,4 @@
-use Rattle.std.proofs.Common.{◌≡◌, ◌≤◌, drop, max}
+use Rattle.std.proofs.Common.{◌≡◌, drop, max}
 use Rattle.std.specs.Prelude.{IsTrue}
 use Rattle.enumset_derive_plan.specs.Stores.{are_below}
 use Rattle.enumset_derive_plan.specs.TempElements.{one_past_all}
