@@ -5,8 +5,8 @@ use Rattle.std.proofs.lemmas.Bool.{and_parts, and_from, or_parts}
 use Rattle.std.proofs.lemmas.Bool.Decides.{nat_tests}
 use Rattle.std.proofs.lemmas.List.{map-append}
 use Rattle.std.proofs.lemmas.List.Folds.{list_any-append, list_all-append}
-use Rattle.enumset_derive_plan.specs.TempSets.{is_in}
-use Rattle.enumset_derive_plan.specs.TempNumber.{is_distinct}
+use Rattle.enumset_repr.specs.BitSet.{is_in}
+use Rattle.enumset_repr.specs.Number.{is_distinct}
 use Rattle.enumset_derive_plan.specs.Bits.{next_number}
 use Rattle.enumset_derive_plan.specs.Variants.{bits_of, named_variant, named_from, is_in_range, are_in_range}
 use Rattle.enumset_derive_plan.specs.declared.number.Number.{Number}

@@ -5,7 +5,7 @@ use Rattle.std.specs.List.{list_all}
 use Rattle.std.specs.Result.{is_ok}
 use Rattle.std.proofs.lemmas.Bool.{and_parts, and_from}
 use Rattle.std.proofs.lemmas.Bool.Decides.{nat_tests}
-use Rattle.enumset_derive_plan.specs.TempElements.{one_past_all}
+use Rattle.enumset_sets.specs.Laws.Elements.{one_past_all}
 use Rattle.enumset_derive_plan.specs.Integers.{width}
 use Rattle.enumset_derive_plan.specs.Stores.{are_below, kind_of, kind_with, smallest_integer, has_room}
 use Rattle.enumset_derive_plan.specs.Steps.{and_then}

@@ -5,8 +5,8 @@ use Rattle.std.proofs.Math.Pow.{pow-lt}
 use Rattle.std.proofs.lemmas.Bool.{and_parts, and_from, or_parts, not-true}
 use Rattle.std.proofs.lemmas.Bool.Decides.{nat_tests}
 use Rattle.std.proofs.lemmas.List.Sums.{sum_by-cons}
-use Rattle.enumset_derive_plan.specs.TempSets.{is_in}
-use Rattle.enumset_derive_plan.specs.TempNumber.{is_distinct}
+use Rattle.enumset_repr.specs.BitSet.{is_in}
+use Rattle.enumset_repr.specs.Number.{is_distinct}
 use Rattle.enumset_derive_plan.specs.Stores.{are_below}
 
 -- a list without the first place of a number

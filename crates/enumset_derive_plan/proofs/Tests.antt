@@ -1,9 +1,9 @@
 -- The test of an element type, from its parts.
 use Rattle.std.proofs.Common.{◌≡◌, ◌==◌, ℕ, suc, zero, ◌^◌, Bool, true, false, List, [], length, replicate, sum_by, refl, sym, eq-eqb}
 use denote.Enum.Bare.{Bare}
-use Rattle.enumset_derive_plan.specs.TempNumber.{is_distinct}
-use Rattle.enumset_derive_plan.specs.TempWords.{lists_words}
-use Rattle.enumset_derive_plan.specs.TempElements.{one_past_all, once_known, or_else, IsLawful, IsLawfulNumber, IsLawfulWords}
+use Rattle.enumset_repr.specs.Number.{is_distinct}
+use Rattle.enumset_repr.specs.Words.{lists_words}
+use Rattle.enumset_sets.specs.Laws.Elements.{one_past_all, once_known, or_else, IsLawful, IsLawfulNumber, IsLawfulWords}
 use Rattle.enumset_derive_plan.specs.Stores.{IsStore}
 use Rattle.enumset_derive_plan.specs.Plans.{without_fields, IsLawfulStore}
 use Rattle.enumset_derive_plan.specs.Laws.Plans.{variants_of}

@@ -5,9 +5,10 @@ use Rattle.std.proofs.lemmas.Bool.{and_parts, and_from, or_parts}
 use Rattle.std.proofs.lemmas.Bool.Decides.{nat_tests}
 use Rattle.std.proofs.lemmas.List.{take_more, get_or-set_same}
 use Rattle.std.proofs.lemmas.List.Sums.{sum_by-append, sum_by-cons}
-use Rattle.enumset_derive_plan.specs.TempSets.{is_in}
-use Rattle.enumset_derive_plan.specs.TempNumber.{is_distinct}
-use Rattle.enumset_derive_plan.specs.TempWords.{lists_bits, in_first_word, in_later_words, lists_words}
+use Rattle.enumset_repr.specs.BitSet.{is_in}
+use Rattle.enumset_repr.specs.Number.{is_distinct}
+use Rattle.enumset_repr.specs.Words.{in_first_word, in_later_words, lists_words}
+use Rattle.enumset_repr.specs.Number.{lists_bits}
 use Rattle.enumset_derive_plan.specs.Stores.{are_below}
 use Rattle.enumset_derive_plan.proofs.Named.{is_distinct-append}
 use Rattle.enumset_derive_plan.proofs.Sums.{sum_below, shift_64, apart_from_before, item_below}

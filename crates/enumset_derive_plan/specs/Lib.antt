@@ -1,8 +1,4 @@
 pub mod Steps
-pub mod TempSets
-pub mod TempNumber
-pub mod TempWords
-pub mod TempElements
 pub mod Integers
 pub mod Faults
 pub mod Bits

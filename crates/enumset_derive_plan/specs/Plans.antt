@@ -7,7 +7,7 @@
 use Rattle.std.specs.Prelude.{◌≡◌, ℕ, List, [], replicate, Option, Result, Ok, Err}
 use denote.Enum.Enum.{Sum}
 use denote.Enum.Declared.{Declared, rowss}
-use Rattle.enumset_derive_plan.specs.TempElements.{IsLawfulNumber, IsLawfulWords}
+use Rattle.enumset_sets.specs.Laws.Elements.{IsLawfulNumber, IsLawfulWords}
 use Rattle.enumset_derive_plan.specs.Variants.{named_variants, bits_of, numbers_of}
 use Rattle.enumset_derive_plan.specs.Stores.{kind_of, serialized_of, IsStore}
 use Rattle.enumset_derive_plan.specs.declared.number.Number.{Number}

@@ -8,7 +8,7 @@
 use Rattle.std.specs.Prelude.{◌≡◌, ℕ, ◌^◌, Bool, true, nat_lt, nat_le, IsTrue, List, length, sum_by, Option, Some, None, if◌then◌else◌}
 use Rattle.std.specs.Int.{div_ceil}
 use Rattle.std.specs.List.{list_all}
-use Rattle.enumset_derive_plan.specs.TempWords.{lists_words}
+use Rattle.enumset_repr.specs.Words.{lists_words}
 use Rattle.enumset_derive_plan.specs.Integers.{width}
 use Rattle.enumset_derive_plan.specs.declared.integer_type.IntegerType.{IntegerType}
 use Rattle.enumset_derive_plan.specs.declared.integer_type.IntegerType.TheVariants.{U8, U16, U32, U64, U128}

@@ -1,7 +1,7 @@
 //! The planning of element types.
 
 ghost use Rattle.std.specs.Prelude.{◌≡◌, ◌≤◌, length, IsTrue, IfOk, IfErr};
-ghost use Rattle.enumset_derive_plan.specs.TempNumber.{is_distinct};
+ghost use Rattle.enumset_repr.specs.Number.{is_distinct};
 ghost use Rattle.enumset_derive_plan.specs.Variants.{named_variants, bits_of, numbers_of, are_in_range, IsErrorOf};
 ghost use Rattle.enumset_derive_plan.specs.Plans.{IsPlanned, IsLawfulPlan, IsStoredAsAsked};
 

@@ -4,9 +4,9 @@
 use Rattle.std.proofs.Common.{◌≡◌, ◌==◌, ℕ, suc, zero, ◌^◌, Bool, true, false, List, [], length, replicate, sum_by, refl, ap, sym, ◌∙◌, subst}
 use denote.Enum.Declared.{Declared, rowss}
 use denote.Enum.Bare.{Bare}
-use Rattle.enumset_derive_plan.specs.TempNumber.{is_distinct}
-use Rattle.enumset_derive_plan.specs.TempWords.{lists_words}
-use Rattle.enumset_derive_plan.specs.TempElements.{one_past_all, once_known, or_else, IsLawful, IsLawfulNumber, IsLawfulWords, BitCountShouldBe}
+use Rattle.enumset_repr.specs.Number.{is_distinct}
+use Rattle.enumset_repr.specs.Words.{lists_words}
+use Rattle.enumset_sets.specs.Laws.Elements.{one_past_all, once_known, or_else, IsLawful, IsLawfulNumber, IsLawfulWords, BitCountShouldBe}
 use Rattle.enumset_derive_plan.specs.Plans.{without_fields}
 
 pub variants_of : (n : ℕ) → length (rowss (replicate n [])) ≡ n

@@ -2,8 +2,8 @@
 
 ghost use Rattle.std.specs.Prelude.{◌≡◌, ◌+◌, ◌≤◌, ◌==◌, length, false, [], IsTrue, IfOk, IfErr};
 ghost use Rattle.std.specs.List.{find};
-ghost use Rattle.enumset_derive_plan.specs.TempSets.{is_in};
-ghost use Rattle.enumset_derive_plan.specs.TempNumber.{is_distinct};
+ghost use Rattle.enumset_repr.specs.BitSet.{is_in};
+ghost use Rattle.enumset_repr.specs.Number.{is_distinct};
 ghost use Rattle.enumset_derive_plan.specs.declared.number.Number.TheVariants.{Small};
 ghost use Rattle.enumset_derive_plan.specs.Bits.{same_number};
 ghost use Rattle.enumset_derive_plan.specs.Variants.{number_of, number_place, place_of_name, name_test, taken_test, bit_among, named_variant, named_from, is_in_range, are_in_range, bits_of, IsErrorOf};

@@ -2,10 +2,10 @@
 
 ghost use Rattle.std.specs.Prelude.{◌≡◌, ◌*◌, ◌^◌, IsTrue, IfOk, length, nat_lt, nat_le, sum_by};
 ghost use Rattle.std.specs.List.{list_all};
-ghost use Rattle.enumset_derive_plan.specs.TempNumber.{is_distinct};
-ghost use Rattle.enumset_derive_plan.specs.TempWords.{lists_words};
+ghost use Rattle.enumset_repr.specs.Number.{is_distinct};
+ghost use Rattle.enumset_repr.specs.Words.{lists_words};
 ghost use Rattle.enumset_derive_plan.specs.Stores.{kind_of, smallest_integer, serialized_of, word_count, IsStore, are_below, has_room};
-ghost use Rattle.enumset_derive_plan.specs.TempElements.{one_past_all};
+ghost use Rattle.enumset_sets.specs.Laws.Elements.{one_past_all};
 
 use crate::integer_type::IntegerType;
 use crate::options::{Representation, Serialized};

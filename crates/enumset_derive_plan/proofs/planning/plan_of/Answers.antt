@@ -1,6 +1,6 @@
 use Rattle.std.proofs.Common.{rules, ◌≡◌, ℕ, true, length, refl, arith, ◌∙◌, ap, subst}
 use Rattle.std.proofs.lemmas.List.{length-map}
-use Rattle.enumset_derive_plan.specs.TempElements.{one_past_all}
+use Rattle.enumset_sets.specs.Laws.Elements.{one_past_all}
 use Rattle.enumset_derive_plan.specs.Variants.{bits_of}
 use Rattle.enumset_derive_plan.specs.Plans.{IsLawfulStore}
 use Rattle.enumset_derive_plan.specs.Stores.{are_below, IsStore}

@@ -1,6 +1,6 @@
 use Rattle.std.proofs.Common.{◌≡◌, ◌≤◌, take, drop, length, Some, []}
 use Rattle.std.specs.Prelude.{IsTrue}
-use Rattle.enumset_derive_plan.specs.TempNumber.{is_distinct}
+use Rattle.enumset_repr.specs.Number.{is_distinct}
 use Rattle.enumset_derive_plan.specs.declared.number.Number.TheVariants.{Small}
 use Rattle.enumset_derive_plan.specs.Variants.{named_from, bits_of, are_in_range}
 use Rattle.enumset_derive_plan.proofs.planning.named.name_variants.Given as goal

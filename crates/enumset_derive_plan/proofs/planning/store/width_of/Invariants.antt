@@ -1,7 +1,7 @@
 use Rattle.std.proofs.Common.{◌≡◌, drop, max}
 use Rattle.std.specs.Prelude.{IsTrue}
 use Rattle.enumset_derive_plan.specs.Stores.{are_below}
-use Rattle.enumset_derive_plan.specs.TempElements.{one_past_all}
+use Rattle.enumset_sets.specs.Laws.Elements.{one_past_all}
 use Rattle.enumset_derive_plan.proofs.planning.store.width_of.Given as goal
 
 -- the greater of the width so far and that of what is left

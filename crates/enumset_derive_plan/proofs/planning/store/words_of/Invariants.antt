@@ -1,6 +1,6 @@
 use Rattle.std.proofs.Common.{◌≡◌, take, length}
 use Rattle.std.specs.Prelude.{IsTrue}
-use Rattle.enumset_derive_plan.specs.TempWords.{lists_words}
+use Rattle.enumset_repr.specs.Words.{lists_words}
 use Rattle.enumset_derive_plan.proofs.planning.store.words_of.Given as goal
 
 -- the words have the bits so far
