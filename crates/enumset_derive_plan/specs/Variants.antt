@@ -12,9 +12,11 @@
 --     named_from      the variants that are left, after those before
 --     named_variants      the variants of an enum, each with its bit, or the first fault
 --     bits_of, numbers_of      the bits of variants, and their discriminants
---     IsInRange      a bit that what is asked for has, and that is at most the greatest
-use Rattle.std.specs.Prelude.{◌≡◌, ℕ, ◌+◌, ◌==◌, ◌≤◌, Bool, true, nat_lt, nat_le, nat_eq, IsTrue, List, [], ◌∷◌, ◌++◌, length, map, take, Option, Some, None, Result, Ok, Err, if◌then◌else◌}
-use Rattle.std.specs.List.{find}
+--     is_in_range, are_in_range      whether what is asked for has a bit, at most the greatest;  the bits of variants
+--     IsErrorOf      why a result is not there: its fault, or out of memory
+use Rattle.std.specs.Prelude.{◌≡◌, ℕ, ◌+◌, ◌==◌, ◌≤◌, Bool, true, nat_lt, nat_le, nat_eq, ◌&&◌, List, [], ◌∷◌, ◌++◌, length, map, take, Option, Some, None, Result, Ok, Err, if◌then◌else◌}
+use Rattle.std.specs.List.{find, list_all}
+use Rattle.std.specs.Result.{is_ok}
 use Rattle.std.specs.Cmp.Lexicographic.{pointwise}
 use Rattle.enumset_derive_plan.specs.Integers.{width}
 use Rattle.enumset_derive_plan.specs.Steps.{and_then}
@@ -34,6 +36,8 @@ use Rattle.enumset_derive_plan.specs.declared.planning.naming.Naming.{Naming}
 use Rattle.enumset_derive_plan.specs.declared.planning.rules.Rules.{Rules}
 use Rattle.enumset_derive_plan.specs.declared.planning.named.Named.{Named}
 use Rattle.enumset_derive_plan.specs.declared.fault.Fault.{Fault}
+use Rattle.enumset_derive_plan.specs.declared.fault.DeriveError.{DeriveError}
+use Rattle.enumset_derive_plan.specs.declared.fault.DeriveError.TheVariants as error
 use Rattle.enumset_derive_plan.specs.declared.fault.Reason.{Reason}
 use Rattle.enumset_derive_plan.specs.declared.fault.Reason.TheVariants.{IntegerMissing, TooManyVariants, NameTwice, ImpliedTooLarge, PastRepresentation, PastSerialized, BitTwice, DiscriminantTwice}
 
@@ -143,5 +147,14 @@ bits_of named = map (λ n. n.bit) named
 abbrev pub numbers_of : List Named → List Number
 numbers_of named = map (λ n. n.number) named
 
-abbrev pub IsInRange : Rules → ℕ → Type 0
-IsInRange rules b = (b ≤ 4294967231) × (range_test rules b ≡ Ok tt)
+-- a bit that what is asked for has, and that is at most the greatest
+abbrev pub is_in_range : Rules → ℕ → Bool
+is_in_range rules b = nat_le b 4294967231 && is_ok (range_test rules b)
+
+abbrev pub are_in_range : Rules → List Named → Bool
+are_in_range rules named = list_all (is_in_range rules) (bits_of named)
+
+-- memory may always run out; a fault is that of the result
+abbrev pub IsErrorOf : {A : Type 0} → Result A Fault → DeriveError → Type 0
+IsErrorOf r (error.Fault fault) = r ≡ Err fault
+IsErrorOf r error.OutOfMemory = Unit {0}

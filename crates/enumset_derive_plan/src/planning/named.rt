@@ -1,16 +1,19 @@
 //! The variants of an enum, each with its bit.
 
-ghost use Rattle.std.specs.Prelude.{◌≡◌, ◌+◌, ◌≤◌, ◌==◌, length, false, IfOk};
+ghost use Rattle.std.specs.Prelude.{◌≡◌, ◌+◌, ◌≤◌, ◌==◌, length, false, [], IsTrue, IfOk, IfErr};
 ghost use Rattle.std.specs.List.{find};
 ghost use Rattle.enumset_derive_plan.specs.TempSets.{is_in};
+ghost use Rattle.enumset_derive_plan.specs.TempNumber.{is_distinct};
+ghost use Rattle.enumset_derive_plan.specs.declared.number.Number.TheVariants.{Small};
 ghost use Rattle.enumset_derive_plan.specs.Bits.{same_number};
-ghost use Rattle.enumset_derive_plan.specs.Variants.{number_of, number_place, place_of_name, name_test, taken_test, bit_among, named_variant, IsInRange, bits_of};
+ghost use Rattle.enumset_derive_plan.specs.Variants.{number_of, number_place, place_of_name, name_test, taken_test, bit_among, named_variant, named_from, is_in_range, are_in_range, bits_of, IsErrorOf};
 
 use super::rules::Rules;
 use crate::declaration::Variant;
-use crate::fault::{Fault, Reason};
+use crate::fault::{DeriveError, Fault, Reason};
 use crate::number::Number;
 use crate::place::Place;
+use std::alloc::Global;
 
 /// How many variants an enum may have.
 const VARIANT_LIMIT: usize = 256;
@@ -25,6 +28,30 @@ pub struct Named {
     pub place: Place,
 }
 
+/// The variants with their bits, or the first fault.
+pub fn name_variants(
+    alloc: Global,
+    rules: Rules,
+    variants: &[Variant],
+) -> Result<Vec<Named>, DeriveError>
+    ensures named { IfOk result (λ named.
+        named_from rules [] [] (Some (Small 0)) variants.now ≡ Ok named.items) }
+    ensures count { IfOk result (λ named. length named.items ≡ length variants.now) }
+    ensures few { IfOk result (λ named. length named.items ≤ 256) }
+    ensures distinct { IfOk result (λ named. IsTrue (is_distinct (bits_of named.items))) }
+    ensures range { IfOk result (λ named. IsTrue (are_in_range rules named.items)) }
+    ensures fault { IfErr result (IsErrorOf (named_from rules [] [] (Some (Small 0)) variants.now)) }
+{
+    let mut named = Vec::new(alloc);
+    let mut implied = Some(Number::Small(0));
+    for (i, variant) in variants.iter().enumerate() {
+        let next = name_variant(rules, &variants[..i], named.as_slice(), implied, variant)?;
+        implied = next.number.next();
+        named.push(next)?;
+    }
+    Ok(named)
+}
+
 /// The variant with its bit, or its first fault. The variants before it are given, with their bits, and the
 /// discriminant that it has if it gives none.
 pub fn name_variant(
@@ -37,7 +64,8 @@ pub fn name_variant(
     requires { length named.now ≡ length earlier.now }
     ensures variant { result ≡ named_variant rules earlier.now named.now implied variant.now }
     ensures new { IfOk result (λ n. is_in n.bit (bits_of named.now) ≡ false) }
-    ensures range { IfOk result (λ n. IsInRange rules n.bit) }
+    ensures range { IfOk result (λ n. IsTrue (is_in_range rules n.bit)) }
+    ensures few { IfOk result (λ _. length named.now + 1 ≤ 256) }
 {
     test_name(earlier, variant)?;
     let place = number_place(variant);
@@ -111,7 +139,7 @@ fn bit_among(rules: Rules, named: &[Named], number: Number) -> Result<u32, Reaso
     requires { length named.now + 1 ≤ 256 }
     ensures bit { result ≡ bit_among rules named.now number }
     ensures new { IfOk result (λ b. is_in b (bits_of named.now) ≡ false) }
-    ensures range { IfOk result (λ b. IsInRange rules b) }
+    ensures range { IfOk result (λ b. IsTrue (is_in_range rules b)) }
 {
     let bit = rules.naming.bit_of(named.len() as u32, number)?;
     rules.test_range(bit)?;
