@@ -186,7 +186,7 @@ impl Reader {
             }
             State::DeriveNext => {
                 self.note_wanted(token, Wanted::NextDerive);
-                return Ok(());
+                return self.end_derive();
             }
             _ => {
                 self.note_wanted(token, Wanted::DeriveName);

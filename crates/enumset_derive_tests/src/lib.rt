@@ -1,2 +1,0 @@
-//! Tests of the program that writes element types.
-#![tactic(auto)]
