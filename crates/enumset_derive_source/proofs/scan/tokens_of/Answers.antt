@@ -1,4 +1,4 @@
-use Rattle.std.proofs.Common.{rules, ◌≡◌, ◌+◌, ◌-◌, ◌<◌, ◌≤◌, ◌++◌, ℕ, List, [], ◌∷◌, length, map, take, drop, get_or, Option, Some, None, is_ok, true, sym, ◌∙◌, arith}
+use Rattle.std.proofs.Common.{rules, ◌≡◌, ◌+◌, ◌-◌, ◌<◌, ◌≤◌, ◌++◌, ℕ, List, [], ◌∷◌, length, map, take, drop, get_or, Option, Some, None, is_ok, true, refl, arith}
 use Rattle.std.proofs.lemmas.List.{map_push}
 use Rattle.enumset_derive_source.specs.Modes.{first_mode, next_mode, counted}
 use Rattle.enumset_derive_source.specs.Tokens.{TokenShape, after, shape, token, tokens_of}
@@ -26,10 +26,16 @@ loop-index-preserved c =
         }
     | in_default+in_ok-push w ↦
         let is : next_mode l.mode byte ≡ None = search rules in
+        let begun : w.first_mode-mode.result ≡ first_mode byte = search rules in
+        let made : shape w.token.result ≡ token l.mode (take (l.index - l.begin) (drop l.begin s)) l.place = search rules in
+        let kept : is_ok w.push.result ≡ true = search rules in
+        let items : w.push.new.self.items ≡ l.tokens.items ++ w.token.result ∷ [] = rw kept at w.push.ensures.items in
+        let pushed : map shape w.push.new.self.items ≡ map shape l.tokens.items ++ shape w.token.result ∷ [] = rw (items, map_push) refl in
         record {
-          cut = ?;
+          cut = rw (w.tokens-is, w.mode-is, w.begin-is, w.place-is, pushed) (
+              cut-begins (map shape l.tokens.items) (tokens_of s) l.mode w.first_mode-mode.result (shape w.token.result) s l.place l.now c.after-now.result l.begin l.index within l.invariant.begun is begun made later l.invariant.cut);
           begun = omega arith;
-          counted = rw (w.mode-is) ?;
+          counted = rw (w.mode-is, begun, counted-first) (omega arith);
           line = rw later (omega (arith, line-after l.now byte));
           column = rw later (column-after l.now byte (l.index + 1) l.invariant.column);
         }
