@@ -1,0 +1,7 @@
+//! The module of Rattle that a declaration of an enum stands for: the enum, and its implementation as an element type.
+//!
+//! A text is made from templates, in which `$0` to `$9` stand for texts that are put in.
+#![tactic(auto)]
+
+mod layout;
+mod templates;
