@@ -1,2 +1,4 @@
 pub mod Templates
 pub mod Layout
+pub mod Words
+pub mod Forms

@@ -2,6 +2,7 @@
 
 ghost use Rattle.std.specs.Prelude.{◌≡◌, ◌++◌, OnOk};
 ghost use Rattle.enumset_derive_module.specs.Layout.{wrapped, wrapped_from, each_on_a_line};
+ghost use Rattle.enumset_derive_module.specs.Layout.{joined, fits};
 
 use enumset_derive_plan::Text;
 use std::alloc::AllocError;
@@ -62,4 +63,34 @@ pub(crate) fn append_lines(
         out.push(b'\n')?;
     }
     Ok(())
+}
+
+/// Appends texts with a comma and a space between them.
+#[tactic(auto, using(crate::proofs::Joining::joining))]
+pub(crate) fn append_joined(out: &mut Vec<u8>, texts: &[Text]) -> Result<(), AllocError>
+    ensures { OnOk result (out.new.items ≡ out.old.items ++ joined texts.now) }
+{
+    for place in 0..texts.len() {
+        out.extend_from_slice(texts[place].as_bytes())?;
+        if place + 1 < texts.len() {
+            out.extend_from_slice(b", ")?;
+        }
+    }
+    Ok(())
+}
+
+/// Whether words fit the columns that are left on a line, each with a space or a mark after it.
+#[tactic(auto, using(crate::proofs::Joining::fitting))]
+pub(crate) fn fits(room: usize, words: &[Text]) -> bool
+    ensures { result ≡ fits room words.now }
+{
+    let mut room = room;
+    for word in words {
+        let len = word.as_bytes().len();
+        if len >= room {
+            return false;
+        }
+        room = room - 1 - len;
+    }
+    true
 }
