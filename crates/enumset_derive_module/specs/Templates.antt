@@ -1,6 +1,6 @@
 -- Templates of texts.
 --     utf8      the bytes of a character
---     lines_of      lines of characters as one text, with a line feed after each
+--     lines_of      lines of characters as one text, with a line feed between
 --     filled      a template whose marks are replaced: `$0` by the first of some texts, `$1` by the second, and so on
 --     filled_from      the same of what is left of a template, after a `$` or not
 -- A mark that has no text is replaced by nothing.
@@ -15,7 +15,9 @@ utf8 c =
     (224 + c / 4096) ∷ (128 + c / 64 % 64) ∷ (128 + c % 64) ∷ [])
 
 abbrev pub lines_of : List (List ℕ) → List ℕ
-lines_of lines = flat_map (λ line. flat_map utf8 line ++ 10 ∷ []) lines
+lines_of [] = []
+lines_of (line ∷ []) = flat_map utf8 line
+lines_of (line ∷ next ∷ lines) = flat_map utf8 line ++ 10 ∷ lines_of (next ∷ lines)
 
 -- 36 is `$`, and 48 is `0`
 unfoldable pub filled_from : Bool → List ℕ → List (List ℕ) → List ℕ

@@ -3,6 +3,7 @@
 //! A text is made from templates, in which `$0` to `$9` stand for texts that are put in.
 #![tactic(auto)]
 
+mod calls;
 mod form;
 mod layout;
 mod templates;
