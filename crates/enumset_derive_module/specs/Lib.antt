@@ -3,3 +3,6 @@ pub mod Layout
 pub mod Words
 pub mod Forms
 pub mod Calls
+pub mod Lists
+pub mod Constants
+pub mod ElementTypes

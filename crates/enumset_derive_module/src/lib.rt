@@ -4,7 +4,10 @@
 #![tactic(auto)]
 
 mod calls;
+mod constants;
+mod element_type;
 mod form;
 mod layout;
+mod lists;
 mod templates;
 mod words;
