@@ -3,6 +3,7 @@
 --     bits_text, values_text      the list of the variants' bits;  that of the values
 --     elements_text, laws_text, law_text      the elements of a form;  the names of its laws;  its law
 --     needs_lists      lists are written in the implementation
+--     element_uses_text      what it imports
 --     element_head_text      its beginning
 --     into_text, from_text      the bit of a value;  the value of a bit
 --     element_type_text      the whole
@@ -85,16 +86,21 @@ values_template = lines_of
     codes "" ∷
     codes "    ghost values = { $0 };" ∷ [])
 
+-- what the implementation of an element type imports
+abbrev pub element_uses_template : List ℕ
+element_uses_template = lines_of
+    (codes "$0    ghost use Rattle.enumset_sets.specs.Laws.Elements.{$1};" ∷
+    codes "    ghost use Rattle.$2.specs.contracts.$3.$4.{the_type};" ∷
+    codes "$5" ∷ [])
+
 -- the beginning of the implementation of an element type
 abbrev pub element_head_template : List ℕ
 element_head_template = lines_of
     (codes "impl EnumSetType for $0 {" ∷
-    codes "$1    ghost use Rattle.enumset_sets.specs.Laws.Elements.{$2};" ∷
-    codes "    ghost use Rattle.$3.specs.contracts.$4.$0.{the_type};" ∷
-    codes "$5" ∷
-    codes "    type Repr = $6;" ∷
+    codes "$1" ∷
+    codes "    type Repr = $2;" ∷
     codes "" ∷
-    codes "    ghost elements = { $7 };$8" ∷ [])
+    codes "    ghost elements = { $3 };$4" ∷ [])
 
 -- the bit of a value that is its discriminant
 abbrev pub by_discriminant_template : List ℕ
@@ -192,15 +198,21 @@ values_text declaration plan =
         (list_text 79 (words_of value_word_template declaration.name declaration.variants.items plan.bits.items) ∷ [])
     else []
 
+unfoldable pub element_uses_text : List ℕ → List ℕ → EnumDeclaration → Plan → Form → List ℕ
+element_uses_text crate_name module_name declaration plan form =
+    filled element_uses_template
+    ((if needs_lists form plan.store declaration.options.has_display then list_words_template else [])
+    ∷ laws_text form (law_name plan.store)
+    ∷ crate_name
+    ∷ module_name
+    ∷ declaration.name
+    ∷ variants_use_text crate_name module_name declaration ∷ [])
+
 unfoldable pub element_head_text : List ℕ → List ℕ → EnumDeclaration → Plan → Form → List ℕ
 element_head_text crate_name module_name declaration plan form =
     filled element_head_template
     (declaration.name
-    ∷ (if needs_lists form plan.store declaration.options.has_display then list_words_template else [])
-    ∷ laws_text form (law_name plan.store)
-    ∷ crate_name
-    ∷ module_name
-    ∷ variants_use_text crate_name module_name declaration
+    ∷ element_uses_text crate_name module_name declaration plan form
     ∷ representation_text plan.store
     ∷ elements_text form declaration plan
     ∷ values_text declaration plan ∷ [])

@@ -1,6 +1,9 @@
 //! The constants of an element type.
 
-ghost use Rattle.std.specs.Prelude.{◌≡◌, IfOk};
+ghost use Rattle.std.specs.Prelude.{◌≡◌, ◌∷◌, [], IfOk};
+ghost use Rattle.std.specs.Fmt.{decimal};
+ghost use Rattle.enumset_derive_module.specs.Templates.{filled};
+ghost use Rattle.enumset_derive_module.specs.Constants.{constants_template};
 ghost use Rattle.enumset_derive_module.specs.Constants.{representation_text, has_long, array_on_lines, array_on_a_line};
 ghost use Rattle.enumset_derive_module.specs.Constants.{array_text, all_bits_text, all_bits_list, constants_text};
 
@@ -58,12 +61,27 @@ pub(crate) fn constants_text(alloc: Global, plan: &Plan) -> Result<Vec<u8>, Allo
     let list = all_bits_list(alloc, &plan.store)?;
     let representation = representation_text(alloc, &plan.store)?;
     let all_bits = all_bits_text(alloc, &representation, &plan.store)?;
+    filled_constants(alloc, &list, &representation, &all_bits, plan)
+}
+
+// The same with the parts that depend on what keeps a set.
+fn filled_constants<'a>(
+    alloc: Global,
+    list: &'a [u8],
+    representation: &'a [u8],
+    all_bits: &'a [u8],
+    plan: &Plan,
+) -> Result<Vec<u8>, AllocError>
+    ensures { IfOk result (λ out. out.items ≡ filled constants_template
+        (list.now ∷ representation.now ∷ all_bits.now
+        ∷ decimal plan.now.bit_width ∷ decimal plan.now.variant_count ∷ [])) }
+{
     let width = plan.bit_width.to_string(alloc)?;
     let count = plan.variant_count.to_string(alloc)?;
     filled(
         alloc,
         CONSTANTS,
-        &[&list, &representation, &all_bits, width.as_bytes(), count.as_bytes()],
+        &[list, representation, all_bits, width.as_bytes(), count.as_bytes()],
     )
 }
 

@@ -2,7 +2,7 @@
 
 ghost use Rattle.std.specs.Prelude.{◌≡◌, [], if◌then◌else◌, IfOk};
 ghost use Rattle.enumset_derive_module.specs.ElementTypes.{law_name, elements_text, laws_text, law_text, needs_lists};
-ghost use Rattle.enumset_derive_module.specs.ElementTypes.{variants_use_text, values_text, element_head_text};
+ghost use Rattle.enumset_derive_module.specs.ElementTypes.{variants_use_text, values_text, element_uses_text, element_head_text};
 ghost use Rattle.enumset_derive_module.specs.ElementTypes.{arms_text, cast_text, into_text, from_text, element_type_text};
 ghost use Rattle.enumset_derive_module.specs.ElementTypes.{list_words_template, variant_word_of};
 ghost use Rattle.enumset_derive_module.specs.Lists.{list_text};
@@ -55,15 +55,19 @@ const VALUES: &str = "
 
     ghost values = { $0 };";
 
+/// What the implementation of an element type imports.
+const ELEMENT_USES: &str = "\
+$0    ghost use Rattle.enumset_sets.specs.Laws.Elements.{$1};
+    ghost use Rattle.$2.specs.contracts.$3.$4.{the_type};
+$5";
+
 /// The beginning of the implementation of an element type.
 const ELEMENT_HEAD: &str = "\
 impl EnumSetType for $0 {
-$1    ghost use Rattle.enumset_sets.specs.Laws.Elements.{$2};
-    ghost use Rattle.$3.specs.contracts.$4.$0.{the_type};
-$5
-    type Repr = $6;
+$1
+    type Repr = $2;
 
-    ghost elements = { $7 };$8";
+    ghost elements = { $3 };$4";
 
 /// The bit of a value that is its discriminant.
 const BY_DISCRIMINANT: &str = "    fn enum_into_u32(self) -> u32 {
@@ -113,10 +117,10 @@ $3
 
 /// The implementation of an element type.
 #[tactic(auto, unfolding(crate::specs::ElementTypes::element_type_text))]
-pub(crate) fn element_type_text(
+pub(crate) fn element_type_text<'a>(
     alloc: Global,
-    crate_name: &[u8],
-    module_name: &[u8],
+    crate_name: &'a [u8],
+    module_name: &'a [u8],
     declaration: &EnumDeclaration,
     plan: &Plan,
     form: Form,
@@ -134,10 +138,10 @@ pub(crate) fn element_type_text(
 
 // Its beginning, up to the values.
 #[tactic(auto, unfolding(crate::specs::ElementTypes::element_head_text))]
-fn element_head_text(
+fn element_head_text<'a>(
     alloc: Global,
-    crate_name: &[u8],
-    module_name: &[u8],
+    crate_name: &'a [u8],
+    module_name: &'a [u8],
     declaration: &EnumDeclaration,
     plan: &Plan,
     form: Form,
@@ -145,36 +149,53 @@ fn element_head_text(
     ensures { IfOk result (λ out. out.items
         ≡ element_head_text crate_name.now module_name.now declaration.now plan.now form) }
 {
-    let laws = laws_text(alloc, form, law_name(&plan.store))?;
-    let variants_use = variants_use_text(alloc, crate_name, module_name, declaration)?;
+    let uses = element_uses_text(alloc, crate_name, module_name, declaration, plan, form)?;
     let representation = representation_text(alloc, &plan.store)?;
     let elements = elements_text(alloc, form, declaration, plan)?;
     let values = values_text(alloc, declaration, plan)?;
-    let lists = list_words(form, &plan.store, declaration.options.has_display);
     filled(
         alloc,
         ELEMENT_HEAD,
-        &[
-            declaration.name.as_bytes(),
-            lists,
-            &laws,
-            crate_name,
-            module_name,
-            &variants_use,
-            &representation,
-            &elements,
-            &values,
-        ],
+        &[declaration.name.as_bytes(), &uses, &representation, &elements, &values],
+    )
+}
+
+// What it imports.
+#[tactic(auto, unfolding(crate::specs::ElementTypes::element_uses_text))]
+fn element_uses_text<'a>(
+    alloc: Global,
+    crate_name: &'a [u8],
+    module_name: &'a [u8],
+    declaration: &EnumDeclaration,
+    plan: &Plan,
+    form: Form,
+) -> Result<Vec<u8>, AllocError>
+    ensures { IfOk result (λ out. out.items
+        ≡ element_uses_text crate_name.now module_name.now declaration.now plan.now form) }
+{
+    let lists = list_words(alloc, form, &plan.store, declaration.options.has_display)?;
+    let laws = laws_text(alloc, form, law_name(&plan.store))?;
+    let variants_use = variants_use_text(alloc, crate_name, module_name, declaration)?;
+    filled(
+        alloc,
+        ELEMENT_USES,
+        &[&lists, &laws, crate_name, module_name, declaration.name.as_bytes(), &variants_use],
     )
 }
 
 // What lists are written with, if there are lists.
-fn list_words(form: Form, store: &Store, has_values: bool) -> &'static [u8]
-    ensures { result.now ≡ (if needs_lists form store.now has_values then list_words_template else []) }
+fn list_words(
+    alloc: Global,
+    form: Form,
+    store: &Store,
+    has_values: bool,
+) -> Result<Vec<u8>, AllocError>
+    ensures { IfOk result (λ out. out.items
+        ≡ (if needs_lists form store.now has_values then list_words_template else [])) }
 {
     match (form, store) {
-        (Form::InPlace, Store::Integer(_, _)) if !has_values => b"",
-        _ => LIST_WORDS.as_bytes(),
+        (Form::InPlace, Store::Integer(_, _)) if !has_values => Ok(Vec::new(alloc)),
+        _ => Vec::from_slice(alloc, LIST_WORDS.as_bytes()),
     }
 }
 
@@ -254,10 +275,10 @@ fn list_of(
 
 // Where the variants are from, if the values are listed.
 #[tactic(auto, unfolding(crate::specs::ElementTypes::variants_use_text))]
-fn variants_use_text(
+fn variants_use_text<'a>(
     alloc: Global,
-    crate_name: &[u8],
-    module_name: &[u8],
+    crate_name: &'a [u8],
+    module_name: &'a [u8],
     declaration: &EnumDeclaration,
 ) -> Result<Vec<u8>, AllocError>
     ensures { IfOk result (λ out. out.items
