@@ -6,3 +6,6 @@ pub mod Calls
 pub mod Lists
 pub mod Constants
 pub mod ElementTypes
+pub mod Names
+pub mod Operators
+pub mod Enums

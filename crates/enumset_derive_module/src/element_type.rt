@@ -89,13 +89,13 @@ $0        }
 const ARM_WORD: &str = "Self::$0 => $1,";
 
 /// A variant.
-const VARIANT_WORD: &str = "$0";
+pub(crate) const VARIANT_WORD: &str = "$0";
 
 /// A variant after its bit.
 const BIT_VARIANT_WORD: &str = "$1 $0";
 
 /// The enum, before its variants.
-const ENUM_WORD: &str = "$0:";
+pub(crate) const ENUM_WORD: &str = "$0:";
 
 /// The value of a bit.
 const FROM_BIT: &str = "    fn enum_from_u32(val: u32) -> Self {
@@ -250,8 +250,8 @@ fn elements_text(
     }
 }
 
-// A list with a word for each variant.
-fn list_of(
+/// A list with a word for each variant, where a line has so many columns left.
+pub(crate) fn list_of(
     alloc: Global,
     room: usize,
     template: &str,

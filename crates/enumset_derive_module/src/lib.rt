@@ -6,8 +6,11 @@
 mod calls;
 mod constants;
 mod element_type;
+mod enums;
 mod form;
 mod layout;
 mod lists;
+mod names;
+mod operators;
 mod templates;
 mod words;

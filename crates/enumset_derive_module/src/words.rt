@@ -3,7 +3,7 @@
 ghost use Rattle.std.specs.Prelude.{◌≡◌, ◌++◌, ◌∷◌, [], IfOk, OnOk};
 ghost use Rattle.std.specs.Fmt.{decimal};
 ghost use Rattle.enumset_derive_module.specs.Templates.{filled};
-ghost use Rattle.enumset_derive_module.specs.Words.{words_of, numbers_of};
+ghost use Rattle.enumset_derive_module.specs.Words.{words_of, numbers_of, texts_of};
 
 use crate::templates::filled;
 use enumset_derive_plan::{Text, Variant};
@@ -74,6 +74,22 @@ fn number_word(alloc: Global, template: &str, number: u64) -> Result<Text, Alloc
 {
     let number = number.to_string(alloc)?;
     Ok(Text::from(filled(alloc, template, &[number.as_bytes()])?))
+}
+
+/// Appends a word for each text: the template with the text.
+pub(crate) fn append_texts(
+    alloc: Global,
+    words: &mut Vec<Text>,
+    template: &str,
+    texts: &[Text],
+) -> Result<(), AllocError>
+    ensures { OnOk result (words.new.items
+        ≡ words.old.items ++ texts_of template.now texts.now) }
+{
+    for text in texts {
+        append_word(alloc, words, template, text.as_bytes())?;
+    }
+    Ok(())
 }
 
 /// Appends one word.
