@@ -2,10 +2,12 @@
 --     visibility_text, discriminant_text, comment_text      what stands before a name, after it, and after a variant
 --     variant_text, variants_text      a variant;  all variants
 --     body_text      what is between the braces
---     derives_of, derive_text      the derives;  their line or lines
+--     supertraits, derives_of      the derives that an element type needs;  all derives
+--     derive_text, derive_lines_text      the line or the lines of the derives;  a line for each
 --     dropped_text      a comment, if discriminants are left out
+--     before_enum_text      what stands on the lines before the enum
 --     enum_text      the enum
-use Rattle.std.specs.Prelude.{ℕ, Bool, true, false, if◌then◌else◌, nat_lt, List, [], ◌∷◌, ◌++◌, length, codes, map, Option, Some, None}
+use Rattle.std.specs.Prelude.{ℕ, Bool, true, false, if◌then◌else◌, ◌==◌, nat_lt, List, [], ◌∷◌, ◌++◌, length, codes, Option, Some, None}
 use Rattle.std.specs.List.{flat_map}
 use Rattle.enumset_derive_plan.specs.declared.declaration.EnumDeclaration.{EnumDeclaration}
 use Rattle.enumset_derive_plan.specs.declared.declaration.Variant.{Variant}
@@ -60,10 +62,15 @@ dropped_template = lines_of
     (codes "// Its discriminants are left out: one of them is past those that Rattle takes, -2^63 to 2^63 - 1." ∷
     codes "" ∷ [])
 
+-- what stands on the lines before an enum
+abbrev pub before_enum_template : List ℕ
+before_enum_template = lines_of
+    (codes "$0$1$2" ∷ [])
+
 -- an enum
 abbrev pub enum_template : List ℕ
 enum_template = lines_of
-    (codes "$0$1$2$3enum $4 {$5}" ∷ [])
+    (codes "$0$1enum $2 {$3}" ∷ [])
 
 -- a text in a template, unless it is empty
 abbrev pub unless_empty : List ℕ → List ℕ → List ℕ
@@ -103,22 +110,32 @@ abbrev pub derives_of : EnumDeclaration → List (List ℕ)
 derives_of declaration =
     (if declaration.options.leaves_out_supertraits then [] else supertraits) ++ declaration.derives.items
 
+unfoldable pub derive_lines_text : List (List ℕ) → List ℕ
+derive_lines_text ds =
+    filled derive_lines_template (each_on_a_line (codes "    ") (texts_of derive_word_template ds) ∷ [])
+
+-- one line has no more than 100 columns
 unfoldable pub derive_text : List (List ℕ) → List ℕ
-derive_text [] = []
-derive_text (d ∷ ds) =
-    if nat_lt (length (joined (d ∷ ds))) 90
-    then filled derive_line_template (joined (d ∷ ds) ∷ [])
-    else filled derive_lines_template (each_on_a_line (codes "    ") (texts_of derive_word_template (d ∷ ds)) ∷ [])
+derive_text ds =
+    if length ds == 0 then [] else
+    (if nat_lt (length (joined ds)) 90
+    then filled derive_line_template (joined ds ∷ [])
+    else derive_lines_text ds)
 
 abbrev pub dropped_text : List Variant → List ℕ
 dropped_text variants = if are_kept variants then [] else dropped_template
 
+unfoldable pub before_enum_text : EnumDeclaration → List ℕ
+before_enum_text declaration =
+    filled before_enum_template
+    (each_on_a_line [] declaration.attributes.items
+    ∷ dropped_text declaration.variants.items
+    ∷ derive_text (derives_of declaration) ∷ [])
+
 unfoldable pub enum_text : EnumDeclaration → List ℕ
 enum_text declaration =
     filled enum_template
-    (each_on_a_line [] declaration.attributes.items
-    ∷ dropped_text declaration.variants.items
-    ∷ derive_text (derives_of declaration)
+    (before_enum_text declaration
     ∷ unless_empty visibility_template declaration.visibility
     ∷ declaration.name
     ∷ body_text declaration ∷ [])

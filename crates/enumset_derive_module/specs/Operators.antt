@@ -1,9 +1,12 @@
 -- The operators on elements.
---     operator_text      one operator, with an element or a set on the right: the name of the enum, the trait, its function,
---         the operation on sets, the sign, and the operation in words
+--     trait_name, function_name, operation, sign, in_words      what an operator is called
+--     operator_text      an operator, with an element or a set on the right
+--     complement_text      the operator `!`
 --     operators_text      the five operators, unless they are left out
 use Rattle.std.specs.Prelude.{ℕ, if◌then◌else◌, List, [], ◌∷◌, codes}
 use Rattle.enumset_derive_plan.specs.declared.declaration.EnumDeclaration.{EnumDeclaration}
+use Rattle.enumset_derive_module.specs.declared.operators.Operator.{Operator}
+use Rattle.enumset_derive_module.specs.declared.operators.Operator.TheVariants.{And, Or, Xor, Sub}
 use Rattle.enumset_derive_module.specs.Templates.{lines_of, filled}
 
 -- an operator with a value on the left
@@ -69,18 +72,50 @@ abbrev pub operators_template : List ℕ
 operators_template = lines_of
     (codes "$0$1$2$3$4" ∷ [])
 
-unfoldable pub operator_text : List ℕ → List ℕ → List ℕ → List ℕ → List ℕ → List ℕ → List ℕ
-operator_text name trait_name method operation sign words =
-    filled operator_template (name ∷ trait_name ∷ method ∷ operation ∷ sign ∷ words ∷ [])
+abbrev pub trait_name : Operator → List ℕ
+trait_name And = codes "BitAnd"
+trait_name Or = codes "BitOr"
+trait_name Xor = codes "BitXor"
+trait_name Sub = codes "Sub"
+
+abbrev pub function_name : Operator → List ℕ
+function_name And = codes "bitand"
+function_name Or = codes "bitor"
+function_name Xor = codes "bitxor"
+function_name Sub = codes "sub"
+
+-- the operation on sets, in `enumset_repr/specs/BitSet.antt`
+abbrev pub operation : Operator → List ℕ
+operation And = codes "intersection"
+operation Or = codes "union"
+operation Xor = codes "symmetric_difference"
+operation Sub = codes "difference"
+
+abbrev pub sign : Operator → List ℕ
+sign And = codes "&"
+sign Or = codes "|"
+sign Xor = codes "^"
+sign Sub = codes "-"
+
+abbrev pub in_words : Operator → List ℕ
+in_words And = codes "intersection"
+in_words Or = codes "union"
+in_words Xor = codes "symmetric difference"
+in_words Sub = codes "difference"
+
+unfoldable pub operator_text : List ℕ → Operator → List ℕ
+operator_text name op =
+    filled operator_template
+    (name ∷ trait_name op ∷ function_name op ∷ operation op ∷ sign op ∷ in_words op ∷ [])
+
+unfoldable pub complement_text : List ℕ → List ℕ
+complement_text name = filled complement_template (name ∷ [])
 
 unfoldable pub all_operators_text : List ℕ → List ℕ
 all_operators_text name =
     filled operators_template
-    (operator_text name (codes "BitAnd") (codes "bitand") (codes "intersection") (codes "&") (codes "intersection")
-    ∷ operator_text name (codes "BitOr") (codes "bitor") (codes "union") (codes "|") (codes "union")
-    ∷ operator_text name (codes "BitXor") (codes "bitxor") (codes "symmetric_difference") (codes "^") (codes "symmetric difference")
-    ∷ operator_text name (codes "Sub") (codes "sub") (codes "difference") (codes "-") (codes "difference")
-    ∷ filled complement_template (name ∷ []) ∷ [])
+    (operator_text name And ∷ operator_text name Or ∷ operator_text name Xor ∷ operator_text name Sub
+    ∷ complement_text name ∷ [])
 
 unfoldable pub operators_text : EnumDeclaration → List ℕ
 operators_text declaration =

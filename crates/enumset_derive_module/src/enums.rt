@@ -2,12 +2,13 @@
 
 ghost use Rattle.std.specs.Prelude.{◌≡◌, ◌++◌, IfOk, OnOk};
 ghost use Rattle.enumset_derive_module.specs.Enums.{unless_empty, discriminant_text, variant_text, variants_text};
-ghost use Rattle.enumset_derive_module.specs.Enums.{body_text, on_lines, derives_of, derive_text, dropped_text, enum_text};
+ghost use Rattle.enumset_derive_module.specs.Enums.{body_text, on_lines, derives_of, supertraits, derive_lines_text, derive_text};
+ghost use Rattle.enumset_derive_module.specs.Enums.{dropped_text, before_enum_text, enum_text};
 
 use crate::form::are_kept;
 use crate::layout::{append_joined, append_lines};
 use crate::templates::filled;
-use crate::words::append_texts;
+use crate::words::{append_copies, append_texts};
 use enumset_derive_plan::{Discriminant, EnumDeclaration, Text, Variant};
 use std::alloc::{AllocError, Global};
 
@@ -44,8 +45,11 @@ const DROPPED: &str = "\
 // Its discriminants are left out: one of them is past those that Rattle takes, -2^63 to 2^63 - 1.
 ";
 
+/// What stands on the lines before an enum.
+const BEFORE_ENUM: &str = "$0$1$2";
+
 /// An enum.
-const ENUM: &str = "$0$1$2$3enum $4 {$5}";
+const ENUM: &str = "$0$1enum $2 {$3}";
 
 /// The enum.
 #[tactic(auto, unfolding(crate::specs::Enums::enum_text))]
@@ -55,18 +59,30 @@ pub(crate) fn enum_text(
 ) -> Result<Vec<u8>, AllocError>
     ensures { IfOk result (λ out. out.items ≡ enum_text declaration.now) }
 {
-    let mut attributes = Vec::new(alloc);
-    append_lines(&mut attributes, "", &declaration.attributes)?;
-    let dropped = dropped_text(alloc, &declaration.variants)?;
-    let derives = derives_of(alloc, declaration)?;
-    let derive = derive_text(alloc, &derives)?;
+    let before = before_enum_text(alloc, declaration)?;
     let visibility = unless_empty(alloc, VISIBILITY, declaration.visibility.as_bytes())?;
     let body = body_text(alloc, declaration)?;
     filled(
         alloc,
         ENUM,
-        &[&attributes, &dropped, &derive, &visibility, declaration.name.as_bytes(), &body],
+        &[&before, &visibility, declaration.name.as_bytes(), &body],
     )
+}
+
+// What stands on the lines before the enum.
+#[tactic(auto, unfolding(crate::specs::Enums::before_enum_text))]
+fn before_enum_text(
+    alloc: Global,
+    declaration: &EnumDeclaration,
+) -> Result<Vec<u8>, AllocError>
+    ensures { IfOk result (λ out. out.items ≡ before_enum_text declaration.now) }
+{
+    let mut attributes = Vec::new(alloc);
+    append_lines(&mut attributes, "", &declaration.attributes)?;
+    let dropped = dropped_text(alloc, &declaration.variants)?;
+    let derives = derives_of(alloc, declaration)?;
+    let derive = derive_text(alloc, &derives)?;
+    filled(alloc, BEFORE_ENUM, &[&attributes, &dropped, &derive])
 }
 
 // A comment, if discriminants are left out.
@@ -94,13 +110,24 @@ fn unless_empty(alloc: Global, template: &str, text: &[u8]) -> Result<Vec<u8>, A
 fn derives_of(alloc: Global, declaration: &EnumDeclaration) -> Result<Vec<Text>, AllocError>
     ensures { IfOk result (λ derives. derives.items ≡ derives_of declaration.now) }
 {
+    let mut derives = if declaration.options.leaves_out_supertraits {
+        Vec::new(alloc)
+    } else {
+        supertraits(alloc)?
+    };
+    append_copies(alloc, &mut derives, &declaration.derives)?;
+    Ok(derives)
+}
+
+// The derives that an element type needs.
+fn supertraits(alloc: Global) -> Result<Vec<Text>, AllocError>
+    ensures { IfOk result (λ derives. derives.items ≡ supertraits) }
+{
     let mut derives = Vec::new(alloc);
-    if !declaration.options.leaves_out_supertraits {
-        for name in [b"Clone".as_slice(), b"Copy", b"PartialEq", b"Eq"] {
-            derives.push(Text::from(Vec::from_slice(alloc, name)?))?;
-        }
-    }
-    append_texts(alloc, &mut derives, "$0", &declaration.derives)?;
+    derives.push(Text::from(Vec::from_slice(alloc, b"Clone")?))?;
+    derives.push(Text::from(Vec::from_slice(alloc, b"Copy")?))?;
+    derives.push(Text::from(Vec::from_slice(alloc, b"PartialEq")?))?;
+    derives.push(Text::from(Vec::from_slice(alloc, b"Eq")?))?;
     Ok(derives)
 }
 
@@ -117,6 +144,14 @@ fn derive_text(alloc: Global, derives: &[Text]) -> Result<Vec<u8>, AllocError>
     if line.len() < 90 {
         return filled(alloc, DERIVE_LINE, &[&line]);
     }
+    derive_lines_text(alloc, derives)
+}
+
+// The derives on a line each.
+#[tactic(auto, unfolding(crate::specs::Enums::derive_lines_text))]
+fn derive_lines_text(alloc: Global, derives: &[Text]) -> Result<Vec<u8>, AllocError>
+    ensures { IfOk result (λ out. out.items ≡ derive_lines_text derives.now) }
+{
     let mut words = Vec::new(alloc);
     append_texts(alloc, &mut words, DERIVE_WORD, derives)?;
     let mut lines = Vec::new(alloc);

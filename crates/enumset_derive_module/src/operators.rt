@@ -1,7 +1,8 @@
 //! The operators on elements.
 
-ghost use Rattle.std.specs.Prelude.{◌≡◌, IfOk};
-ghost use Rattle.enumset_derive_module.specs.Operators.{operator_text, all_operators_text, operators_text};
+ghost use Rattle.std.specs.Prelude.{◌≡◌, ◌∷◌, [], IfOk};
+ghost use Rattle.enumset_derive_module.specs.Templates.{filled};
+ghost use Rattle.enumset_derive_module.specs.Operators.{operator_template, operator_text, complement_text, all_operators_text, operators_text};
 
 use crate::templates::filled;
 use enumset_derive_plan::EnumDeclaration;
@@ -83,39 +84,127 @@ pub(crate) fn operators_text(
 fn all_operators_text(alloc: Global, name: &[u8]) -> Result<Vec<u8>, AllocError>
     ensures { IfOk result (λ out. out.items ≡ all_operators_text name.now) }
 {
-    let and = operator_text(alloc, name, b"BitAnd", b"bitand", b"intersection", b"&", b"intersection")?;
-    let or = operator_text(alloc, name, b"BitOr", b"bitor", b"union", b"|", b"union")?;
-    let xor = operator_text(
-        alloc,
-        name,
-        b"BitXor",
-        b"bitxor",
-        b"symmetric_difference",
-        b"^",
-        b"symmetric difference",
-    )?;
-    let sub = operator_text(alloc, name, b"Sub", b"sub", b"difference", b"-", b"difference")?;
-    let not = filled(alloc, COMPLEMENT, &[name])?;
+    let and = operator_text(alloc, name, Operator::And)?;
+    let or = operator_text(alloc, name, Operator::Or)?;
+    let xor = operator_text(alloc, name, Operator::Xor)?;
+    let sub = operator_text(alloc, name, Operator::Sub)?;
+    let not = complement_text(alloc, name)?;
     filled(alloc, OPERATORS, &[&and, &or, &xor, &sub, &not])
 }
 
-// One operator, with an element or a set on the right.
+// An operator, with an element or a set on the right.
 #[tactic(auto, unfolding(crate::specs::Operators::operator_text))]
-fn operator_text<'a>(
+fn operator_text(alloc: Global, name: &[u8], operator: Operator) -> Result<Vec<u8>, AllocError>
+    ensures { IfOk result (λ out. out.items ≡ operator_text name.now operator) }
+{
+    filled_operator(
+        alloc,
+        name,
+        operator.trait_name(),
+        operator.function_name(),
+        operator.operation(),
+        operator.sign(),
+        operator.in_words(),
+    )
+}
+
+// The template of an operator with what it is called.
+fn filled_operator<'a>(
     alloc: Global,
     name: &'a [u8],
     trait_name: &'a [u8],
-    method: &'a [u8],
+    function_name: &'a [u8],
     operation: &'a [u8],
     sign: &'a [u8],
-    words: &'a [u8],
+    in_words: &'a [u8],
 ) -> Result<Vec<u8>, AllocError>
-    ensures { IfOk result (λ out. out.items
-        ≡ operator_text name.now trait_name.now method.now operation.now sign.now words.now) }
+    ensures { IfOk result (λ out. out.items ≡ filled operator_template
+        (name.now ∷ trait_name.now ∷ function_name.now ∷ operation.now ∷ sign.now ∷ in_words.now ∷ [])) }
 {
     filled(
         alloc,
         OPERATOR,
-        &[name, trait_name, method, operation, sign, words],
+        &[name, trait_name, function_name, operation, sign, in_words],
     )
+}
+
+// The operator `!`.
+#[tactic(auto, unfolding(crate::specs::Operators::complement_text))]
+fn complement_text(alloc: Global, name: &[u8]) -> Result<Vec<u8>, AllocError>
+    ensures { IfOk result (λ out. out.items ≡ complement_text name.now) }
+{
+    filled(alloc, COMPLEMENT, &[name])
+}
+
+/// An operator on elements, other than `!`.
+#[derive(Clone, Copy, Debug, PartialEq, Eq)]
+pub(crate) enum Operator {
+    And,
+    Or,
+    Xor,
+    Sub,
+}
+
+impl Operator {
+    ghost use Rattle.enumset_derive_module.specs.Operators.{trait_name, function_name, operation, sign, in_words};
+
+    // Its trait.
+    fn trait_name(self) -> &'static [u8]
+        ensures { result.now ≡ trait_name self }
+    {
+        match self {
+            Operator::And => b"BitAnd",
+            Operator::Or => b"BitOr",
+            Operator::Xor => b"BitXor",
+            Operator::Sub => b"Sub",
+        }
+    }
+
+    // The function of the trait.
+    fn function_name(self) -> &'static [u8]
+        ensures { result.now ≡ function_name self }
+    {
+        match self {
+            Operator::And => b"bitand",
+            Operator::Or => b"bitor",
+            Operator::Xor => b"bitxor",
+            Operator::Sub => b"sub",
+        }
+    }
+
+    // The operation on sets.
+    fn operation(self) -> &'static [u8]
+        ensures { result.now ≡ operation self }
+    {
+        match self {
+            Operator::And => b"intersection",
+            Operator::Or => b"union",
+            Operator::Xor => b"symmetric_difference",
+            Operator::Sub => b"difference",
+        }
+    }
+
+    // Its sign.
+    fn sign(self) -> &'static [u8]
+        ensures { result.now ≡ sign self }
+    {
+        match self {
+            Operator::And => b"&",
+            Operator::Or => b"|",
+            Operator::Xor => b"^",
+            Operator::Sub => b"-",
+        }
+    }
+
+    // The operation in words.
+    fn in_words(self) -> &'static [u8]
+        ensures { result.now ≡ in_words self }
+    {
+        match self {
+            Operator::And => b"intersection",
+            Operator::Or => b"union",
+            Operator::Xor => b"symmetric difference",
+            Operator::Sub => b"difference",
+        }
+    }
 }

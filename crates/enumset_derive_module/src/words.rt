@@ -92,6 +92,20 @@ pub(crate) fn append_texts(
     Ok(())
 }
 
+/// Appends copies of texts.
+pub(crate) fn append_copies(
+    alloc: Global,
+    words: &mut Vec<Text>,
+    texts: &[Text],
+) -> Result<(), AllocError>
+    ensures { OnOk result (words.new.items ≡ words.old.items ++ texts.now) }
+{
+    for text in texts {
+        words.push(Text::from(Vec::from_slice(alloc, text.as_bytes())?))?;
+    }
+    Ok(())
+}
+
 /// Appends one word.
 pub(crate) fn append_word(
     alloc: Global,
