@@ -1,0 +1,16 @@
+//! The module of Rattle that a declaration of an enum stands for: the enum, and its implementation as an element type.
+//!
+//! A text is made from templates, in which `$0` to `$9` stand for texts that are put in.
+#![tactic(auto)]
+
+mod calls;
+mod constants;
+mod element_type;
+mod enums;
+mod form;
+mod layout;
+mod lists;
+mod names;
+mod operators;
+mod templates;
+mod words;
