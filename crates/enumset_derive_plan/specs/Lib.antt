@@ -1,7 +1,12 @@
 pub mod Steps
 pub mod TempSets
 pub mod TempNumber
+pub mod TempWords
+pub mod TempElements
 pub mod Integers
 pub mod Faults
 pub mod Bits
 pub mod Variants
+pub mod Stores
+pub mod Plans
+pub mod Laws

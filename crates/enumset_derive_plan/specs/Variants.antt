@@ -14,7 +14,7 @@
 --     bits_of, numbers_of      the bits of variants, and their discriminants
 --     is_in_range, are_in_range      whether what is asked for has a bit, at most the greatest;  the bits of variants
 --     IsErrorOf      why a result is not there: its fault, or out of memory
-use Rattle.std.specs.Prelude.{◌≡◌, ℕ, ◌+◌, ◌==◌, ◌≤◌, Bool, true, nat_lt, nat_le, nat_eq, ◌&&◌, List, [], ◌∷◌, ◌++◌, length, map, take, Option, Some, None, Result, Ok, Err, if◌then◌else◌}
+use Rattle.std.specs.Prelude.{◌≡◌, ℕ, ◌==◌, Bool, nat_le, nat_eq, ◌&&◌, List, [], ◌∷◌, ◌++◌, length, map, Option, Some, None, Result, Ok, Err, if◌then◌else◌}
 use Rattle.std.specs.List.{find, list_all}
 use Rattle.std.specs.Result.{is_ok}
 use Rattle.std.specs.Cmp.Lexicographic.{pointwise}

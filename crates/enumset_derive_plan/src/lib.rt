@@ -11,7 +11,7 @@ pub mod number;
 pub mod options;
 pub mod place;
 pub mod plan;
-mod planning;
+pub mod planning;
 pub mod text;
 
 pub use declaration::{Discriminant, EnumDeclaration, Item, Source, Variant};
@@ -21,4 +21,5 @@ pub use number::Number;
 pub use options::{Map, Options, Representation, Serialized};
 pub use place::Place;
 pub use plan::{Plan, Store};
+pub use planning::plan_enum;
 pub use text::Text;

@@ -1,6 +1,6 @@
 //! What the options of an enum ask of its bits.
 
-ghost use Rattle.std.specs.Prelude.{◌≡◌};
+ghost use Rattle.std.specs.Prelude.{◌≡◌, IfOk};
 ghost use Rattle.enumset_derive_plan.specs.Variants.{rules_of, range_test};
 
 use super::naming::Naming;
@@ -21,7 +21,9 @@ pub struct Rules {
 impl Rules {
     /// The rules of these options, or the fault of `map = "msb"` without an integer.
     pub fn of(options: &Options) -> Result<Rules, Fault>
-        ensures { result ≡ rules_of options.now }
+        ensures rules { result ≡ rules_of options.now }
+        ensures representation { IfOk result (λ rules. rules.representation ≡ options.now.representation) }
+        ensures serialized { IfOk result (λ rules. rules.serialized ≡ options.now.serialized) }
     {
         match Naming::of(options.map, options.representation) {
             Some(naming) => Ok(Rules {
