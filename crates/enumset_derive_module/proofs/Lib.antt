@@ -3,3 +3,6 @@ pub mod Wrapping
 pub mod WordLists
 pub mod Joining
 pub mod FormSteps
+pub mod Inserting
+pub mod Naming
+pub mod Writing

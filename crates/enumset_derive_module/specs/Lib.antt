@@ -9,3 +9,5 @@ pub mod ElementTypes
 pub mod Names
 pub mod Operators
 pub mod Enums
+pub mod Imports
+pub mod Modules

@@ -1,0 +1,96 @@
+//! The names that a module imports.
+
+ghost use Rattle.std.specs.Prelude.{◌≡◌, [], IfOk, OnOk};
+ghost use Rattle.enumset_derive_module.specs.Modules.{store_name, needed_names, names_after};
+ghost use Rattle.enumset_derive_module.specs.Modules.{facade_after, has_imports};
+ghost use Rattle.enumset_derive_module.specs.Imports.{insert_names};
+
+use crate::imports::{insert_name, insert_names};
+use enumset_derive_plan::{EnumDeclaration, Item, Plan, Store, Text};
+use std::alloc::{AllocError, Global};
+
+/// The names that items import and need, in the order of their bytes.
+#[tactic(auto, using(crate::proofs::Naming::naming))]
+pub(crate) fn names_of_items(
+    alloc: Global,
+    items: &[Item],
+    plans: &[Plan],
+) -> Result<Vec<Text>, AllocError>
+    ensures { IfOk result (λ names. names.items ≡ names_after [] items.now plans.now) }
+{
+    let mut names = Vec::new(alloc);
+    let mut left = plans;
+    for item in items {
+        match item {
+            Item::Other(_) => {}
+            Item::Imports(more) => insert_names(alloc, &mut names, more)?,
+            Item::Enum(declaration) => {
+                if let Some((plan, rest)) = left.split_first() {
+                    insert_needed(alloc, &mut names, declaration, &plan.store)?;
+                    left = rest;
+                }
+            }
+        }
+    }
+    Ok(names)
+}
+
+// Inserts the names that the text of an enum needs.
+fn insert_needed(
+    alloc: Global,
+    names: &mut Vec<Text>,
+    declaration: &EnumDeclaration,
+    store: &Store,
+) -> Result<(), AllocError>
+    ensures { OnOk result (names.new.items
+        ≡ insert_names (needed_names declaration.now store.now) names.old.items) }
+{
+    insert_name(alloc, names, b"EnumSetNames")?;
+    insert_name(alloc, names, b"EnumSetType")?;
+    insert_name(alloc, names, b"names_of")?;
+    insert_name(alloc, names, b"variant_of")?;
+    insert_name(alloc, names, store_name(store))?;
+    if !declaration.options.leaves_out_operators {
+        insert_name(alloc, names, b"EnumSet")?;
+    }
+    Ok(())
+}
+
+// The name that what keeps a set needs.
+fn store_name(store: &Store) -> &'static [u8]
+    ensures { result.now ≡ store_name store.now }
+{
+    match store {
+        Store::Integer(_, _) => b"EnumSetTypeWithRepr",
+        Store::Words(_) => b"internal::ArrayRepr",
+    }
+}
+
+/// What the facade is called: the last name that an enum asks for, or the one given.
+
+pub(crate) fn facade_of<'a>(facade: &'a [u8], items: &'a [Item]) -> &'a [u8]
+    ensures { result.now ≡ facade_after facade.now items.now }
+{
+    let mut facade = facade;
+    for item in items {
+        if let Item::Enum(declaration) = item {
+            if let Some(name) = &declaration.options.crate_name {
+                facade = name.as_bytes();
+            }
+        }
+    }
+    facade
+}
+
+/// Whether some item imports names of the facade.
+
+pub(crate) fn has_imports(items: &[Item]) -> bool
+    ensures { result ≡ has_imports items.now }
+{
+    for item in items {
+        if let Item::Imports(_) = item {
+            return true;
+        }
+    }
+    false
+}
