@@ -1,2 +1,2 @@
 pub mod Faults
-pub mod Arguments
+pub mod Written

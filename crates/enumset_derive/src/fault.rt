@@ -11,9 +11,9 @@ use std::fmt;
 pub enum ProgramFault {
     /// There are not exactly two arguments.
     TwoArguments,
-    /// An argument is no name of a crate or of a module.
-    NotAName,
-    /// The input has no module.
+    /// An argument is too long to be a name.
+    LongName,
+    /// The source has no module.
     Source(DeriveError),
     /// Standard input failed.
     Reading,
@@ -24,15 +24,15 @@ pub enum ProgramFault {
 impl ProgramFault {
     ghost use Rattle.enumset_derive.specs.Faults.{status_of};
 
-    /// The exit status of the program: 2 where the request is at fault, 3 if memory ran out, and 1 if standard input or
-    /// output failed.
+    /// The exit status of the program: 2 where the request is at fault, 3 if memory ran out, and 1 if the source is at
+    /// fault, or standard input or output failed.
     pub fn status(&self) -> u8
         ensures { result ≡ status_of self.now }
     {
         match self {
-            ProgramFault::TwoArguments | ProgramFault::NotAName => 2,
+            ProgramFault::TwoArguments | ProgramFault::LongName => 2,
             ProgramFault::Source(DeriveError::OutOfMemory) => 3,
-            ProgramFault::Source(DeriveError::Fault(_)) => 2,
+            ProgramFault::Source(DeriveError::Fault(_)) => 1,
             ProgramFault::Reading | ProgramFault::Writing => 1,
         }
     }
@@ -47,8 +47,10 @@ impl fmt::Display for ProgramFault {
 
     fn fmt<W: fmt::Write>(&self, f: &mut fmt::Formatter<W>) -> fmt::Result {
         match self {
-            ProgramFault::TwoArguments => write!(f, "two arguments: a crate and a module"),
-            ProgramFault::NotAName => write!(f, "not a name of a crate or a module"),
+            ProgramFault::TwoArguments => {
+                write!(f, "two arguments: the names of the crate and of the module")
+            }
+            ProgramFault::LongName => write!(f, "a name is too long"),
             ProgramFault::Source(error) => write!(f, "{error}"),
             ProgramFault::Reading => write!(f, "reading failed"),
             ProgramFault::Writing => write!(f, "writing failed"),
@@ -59,7 +61,6 @@ impl fmt::Display for ProgramFault {
 impl Error for ProgramFault {}
 
 impl From<DeriveError> for ProgramFault {
-    ghost use Rattle.std.specs.Prelude.{◌≡◌};
     ghost use Rattle.enumset_derive.specs.declared.fault.ProgramFault.TheVariants.{Source};
 
     ghost from_gives = { λ error fault. fault ≡ Source error };

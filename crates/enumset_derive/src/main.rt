@@ -1,10 +1,9 @@
-//! Writes element types from enums.
+//! Writes the module of Rattle for a source of enums.
 //!
-//! `enumset_derive CRATE MODULE` reads a source text from standard input, and prints the module of Rattle in which each
-//! enum that derives `EnumSetType` is an element type. The module is to be `MODULE` of the crate `CRATE`.
+//! `enumset_derive CRATE MODULE` reads the source from standard input and prints the module. The names are those of the
+//! crate and of the module in it that the text is for.
 #![tactic(auto)]
 
-mod derive;
 mod fault;
 mod program;
 

@@ -6,3 +6,4 @@ pub mod FormSteps
 pub mod Inserting
 pub mod Naming
 pub mod Writing
+pub mod Planning

@@ -11,3 +11,4 @@ pub mod Operators
 pub mod Enums
 pub mod Imports
 pub mod Modules
+pub mod Sources

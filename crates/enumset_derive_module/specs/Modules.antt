@@ -1,5 +1,5 @@
 -- The text of a module.
---     needed_names      the names of the facade that the text of an enum needs
+--     always_needed, needed_names      the names of the facade that the text of an enum needs
 --     names_after      the names that items import and need, in order, with those before
 --     facade_after      what the facade is called: the last name that an enum asks for, or the one before
 --     item_text      all that is written for an enum
@@ -29,10 +29,12 @@ abbrev pub operator_names : Bool → List (List ℕ)
 operator_names true = []
 operator_names false = codes "EnumSet" ∷ []
 
-abbrev pub needed_names : EnumDeclaration → Store → List (List ℕ)
+abbrev pub always_needed : List (List ℕ)
+always_needed = codes "EnumSetNames" ∷ codes "EnumSetType" ∷ codes "names_of" ∷ codes "variant_of" ∷ []
+
+unfoldable pub needed_names : EnumDeclaration → Store → List (List ℕ)
 needed_names declaration store =
-    codes "EnumSetNames" ∷ codes "EnumSetType" ∷ codes "names_of" ∷ codes "variant_of" ∷ store_name store
-    ∷ operator_names declaration.options.leaves_out_operators
+    (always_needed ++ store_name store ∷ []) ++ operator_names declaration.options.leaves_out_operators
 
 unfoldable pub names_after : List (List ℕ) → List Item → List Plan → List (List ℕ)
 names_after names [] plans = names

@@ -174,7 +174,7 @@ pub(crate) fn insert_names(
 
 /// Inserts a name, unless it is there.
 #[tactic(auto, unfolding(crate::specs::Imports::insert_name))]
-pub(crate) fn insert_name(
+fn insert_name(
     alloc: Global,
     names: &mut Vec<Text>,
     name: &[u8],

@@ -16,5 +16,9 @@ pub mod modules;
 mod names;
 mod needs;
 mod operators;
+pub mod sources;
 mod templates;
 mod words;
+
+pub use modules::module_text;
+pub use sources::write_items;

@@ -1,11 +1,11 @@
 //! The names that a module imports.
 
 ghost use Rattle.std.specs.Prelude.{◌≡◌, [], IfOk, OnOk};
-ghost use Rattle.enumset_derive_module.specs.Modules.{store_name, needed_names, names_after};
+ghost use Rattle.enumset_derive_module.specs.Modules.{store_name, always_needed, needed_names, names_after};
 ghost use Rattle.enumset_derive_module.specs.Modules.{facade_after, has_imports};
 ghost use Rattle.enumset_derive_module.specs.Imports.{insert_names};
 
-use crate::imports::{insert_name, insert_names};
+use crate::imports::insert_names;
 use enumset_derive_plan::{EnumDeclaration, Item, Plan, Store, Text};
 use std::alloc::{AllocError, Global};
 
@@ -45,15 +45,37 @@ fn insert_needed(
     ensures { OnOk result (names.new.items
         ≡ insert_names (needed_names declaration.now store.now) names.old.items) }
 {
-    insert_name(alloc, names, b"EnumSetNames")?;
-    insert_name(alloc, names, b"EnumSetType")?;
-    insert_name(alloc, names, b"names_of")?;
-    insert_name(alloc, names, b"variant_of")?;
-    insert_name(alloc, names, store_name(store))?;
+    let needed = needed_names(alloc, declaration, store)?;
+    insert_names(alloc, names, &needed)
+}
+
+// The names that the text of an enum needs.
+#[tactic(auto, unfolding(crate::specs::Modules::needed_names))]
+fn needed_names(
+    alloc: Global,
+    declaration: &EnumDeclaration,
+    store: &Store,
+) -> Result<Vec<Text>, AllocError>
+    ensures { IfOk result (λ names. names.items ≡ needed_names declaration.now store.now) }
+{
+    let mut names = always_needed(alloc)?;
+    names.push(Text::from(Vec::from_slice(alloc, store_name(store))?))?;
     if !declaration.options.leaves_out_operators {
-        insert_name(alloc, names, b"EnumSet")?;
+        names.push(Text::from(Vec::from_slice(alloc, b"EnumSet")?))?;
     }
-    Ok(())
+    Ok(names)
+}
+
+// The names that the text of each enum needs.
+fn always_needed(alloc: Global) -> Result<Vec<Text>, AllocError>
+    ensures { IfOk result (λ names. names.items ≡ always_needed) }
+{
+    let mut names = Vec::new(alloc);
+    names.push(Text::from(Vec::from_slice(alloc, b"EnumSetNames")?))?;
+    names.push(Text::from(Vec::from_slice(alloc, b"EnumSetType")?))?;
+    names.push(Text::from(Vec::from_slice(alloc, b"names_of")?))?;
+    names.push(Text::from(Vec::from_slice(alloc, b"variant_of")?))?;
+    Ok(names)
 }
 
 // The name that what keeps a set needs.
@@ -67,7 +89,6 @@ fn store_name(store: &Store) -> &'static [u8]
 }
 
 /// What the facade is called: the last name that an enum asks for, or the one given.
-
 pub(crate) fn facade_of<'a>(facade: &'a [u8], items: &'a [Item]) -> &'a [u8]
     ensures { result.now ≡ facade_after facade.now items.now }
 {
@@ -83,7 +104,6 @@ pub(crate) fn facade_of<'a>(facade: &'a [u8], items: &'a [Item]) -> &'a [u8]
 }
 
 /// Whether some item imports names of the facade.
-
 pub(crate) fn has_imports(items: &[Item]) -> bool
     ensures { result ≡ has_imports items.now }
 {
