@@ -47,8 +47,10 @@ fn plans_of(alloc: Global, items: &[Item]) -> Result<Vec<Plan>, DeriveError>
 {
     let mut plans = Vec::new(alloc);
     for item in items {
-        if let Item::Enum(declaration) = item {
-            plans.push(plan_enum(alloc, declaration)?)?;
+        match item {
+            Item::Other(_) => {}
+            Item::Imports(_) => {}
+            Item::Enum(declaration) => plans.push(plan_enum(alloc, declaration)?)?,
         }
     }
     Ok(plans)
