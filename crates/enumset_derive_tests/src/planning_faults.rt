@@ -192,3 +192,20 @@ fn more_than_256_variants(rt: HostRuntime) -> Result<(), Fail> {
         Reason::TooManyVariants,
     )
 }
+
+#[test]
+fn two_variants_of_one_name(rt: HostRuntime) -> Result<(), Fail> {
+    let alloc = rt.alloc();
+    let mut declaration = enum_with(alloc, no_options(), implied(alloc, 2)?.as_slice())?;
+    let again = enum_with(alloc, no_options(), &[None])?;
+    for variant in again.variants {
+        declaration.variants.push(variant)?;
+    }
+    let place = at(2, 5);
+    let reason = Reason::NameTwice(place);
+    match plan_enum(alloc, &declaration) {
+        Ok(_) => assert!(rt; false, "no fault"),
+        Err(error) => assert_eq!(rt; error, DeriveError::Fault(Fault { place, reason })),
+    }
+    Ok(())
+}
