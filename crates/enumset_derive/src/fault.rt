@@ -3,6 +3,7 @@
 ghost use Rattle.std.specs.Prelude.{◌≡◌};
 
 use enumset_derive_plan::DeriveError;
+use std::alloc::AllocError;
 use std::error::Error;
 use std::fmt;
 
@@ -67,5 +68,16 @@ impl From<DeriveError> for ProgramFault {
 
     fn from(error: DeriveError) -> ProgramFault {
         ProgramFault::Source(error)
+    }
+}
+
+impl From<AllocError> for ProgramFault {
+    ghost use Rattle.enumset_derive_plan.specs.declared.fault.DeriveError.TheVariants.{OutOfMemory};
+    ghost use Rattle.enumset_derive.specs.declared.fault.ProgramFault.TheVariants.{Source};
+
+    ghost from_gives = { λ _ fault. fault ≡ Source OutOfMemory };
+
+    fn from(_error: AllocError) -> ProgramFault {
+        ProgramFault::Source(DeriveError::OutOfMemory)
     }
 }

@@ -74,7 +74,7 @@ fn read_input<R: Read + Drop>(alloc: Global, reader: R) -> Result<Vec<u8>, Progr
     for _ in 0..u64::MAX {
         match reader.read(&mut block) {
             Ok(0) => return Ok(input),
-            Ok(count) => input.extend_from_slice(&block[..count]).map_err(DeriveError::from)?,
+            Ok(count) => input.extend_from_slice(&block[..count])?,
             Err(error) if error.kind() == ErrorKind::Interrupted => {}
             Err(_) => return Err(ProgramFault::Reading),
         }
