@@ -44,7 +44,11 @@ fn module_of(
 }
 
 // Reads a name among the arguments, and returns its length. No clause can say what the arguments are.
-fn read_name<E: Env>(env: &E, place: usize, name: &mut [u8; NAME_LIMIT]) -> Result<usize, ProgramFault>
+fn read_name<E: Env>(
+    env: &E,
+    place: usize,
+    name: &mut [u8; NAME_LIMIT],
+) -> Result<usize, ProgramFault>
     ensures { IfOk result (λ len. len ≤ NAME_LIMIT) }
 {
     match env.arg(place, name) {

@@ -195,7 +195,7 @@ unfoldable pub values_text : EnumDeclaration → Plan → List ℕ
 values_text declaration plan =
     if declaration.options.has_display
     then filled values_template
-        (list_text 79 (words_of value_word_template declaration.name declaration.variants.items plan.bits.items) ∷ [])
+    (list_text 79 (words_of value_word_template declaration.name declaration.variants.items plan.bits.items) ∷ [])
     else []
 
 unfoldable pub element_uses_text : List ℕ → List ℕ → EnumDeclaration → Plan → Form → List ℕ
@@ -221,7 +221,7 @@ unfoldable pub arms_text : EnumDeclaration → Plan → List ℕ
 arms_text declaration plan =
     filled by_arms_template
     (each_on_a_line (codes "            ")
-        (words_of arm_word_template declaration.name declaration.variants.items plan.bits.items) ∷ [])
+    (words_of arm_word_template declaration.name declaration.variants.items plan.bits.items) ∷ [])
 
 -- `self as u32`, where there is a value
 abbrev pub cast_text : List Variant → List ℕ
@@ -241,7 +241,7 @@ unfoldable pub from_text : Form → EnumDeclaration → Plan → List ℕ
 from_text form declaration plan =
     filled from_bit_template
     (variant_of_text (filled enum_word_template (declaration.name ∷ [])
-        ∷ words_of (variant_word_of form) declaration.name declaration.variants.items plan.bits.items) ∷ [])
+    ∷ words_of (variant_word_of form) declaration.name declaration.variants.items plan.bits.items) ∷ [])
 
 unfoldable pub element_type_text : List ℕ → List ℕ → EnumDeclaration → Plan → Form → List ℕ
 element_type_text crate_name module_name declaration plan form =

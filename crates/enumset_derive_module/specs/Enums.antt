@@ -101,7 +101,7 @@ on_lines (c ∷ cs) = 10 ∷ c ∷ cs
 unfoldable pub body_text : EnumDeclaration → List ℕ
 body_text declaration =
     on_lines (variants_text (are_kept declaration.variants.items) declaration.variants.items
-        ++ each_on_a_line (codes "    ") declaration.last_comments.items)
+    ++ each_on_a_line (codes "    ") declaration.last_comments.items)
 
 abbrev pub supertraits : List (List ℕ)
 supertraits = codes "Clone" ∷ codes "Copy" ∷ codes "PartialEq" ∷ codes "Eq" ∷ []

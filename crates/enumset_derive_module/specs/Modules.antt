@@ -70,7 +70,7 @@ unfoldable pub item_text : List ℕ → List ℕ → EnumDeclaration → Plan �
 item_text crate_name module_name declaration plan =
     parts_text declaration plan
     (element_type_text crate_name module_name declaration plan
-        (form_of declaration.variants.items plan.discriminants.items plan.bits.items))
+    (form_of declaration.variants.items plan.discriminants.items plan.bits.items))
 
 abbrev pub has_imports : List Item → Bool
 has_imports [] = false

@@ -72,7 +72,7 @@ names_text declaration plan =
     (declaration.name
     ∷ list_text 80 (words_of name_word_template declaration.name declaration.variants.items plan.bits.items)
     ∷ names_of_text (filled enum_word_template (declaration.name ∷ [])
-        ∷ words_of variant_word_template declaration.name declaration.variants.items plan.bits.items) ∷ [])
+    ∷ words_of variant_word_template declaration.name declaration.variants.items plan.bits.items) ∷ [])
 
 unfoldable pub display_text : EnumDeclaration → List ℕ
 display_text declaration =

@@ -81,7 +81,13 @@ fn filled_constants<'a>(
     filled(
         alloc,
         CONSTANTS,
-        &[list, representation, all_bits, width.as_bytes(), count.as_bytes()],
+        &[
+            list,
+            representation,
+            all_bits,
+            width.as_bytes(),
+            count.as_bytes(),
+        ],
     )
 }
 
@@ -101,11 +107,7 @@ pub(crate) fn representation_text(alloc: Global, store: &Store) -> Result<Vec<u8
 
 // The value of `ALL_BITS` in code.
 #[tactic(auto, unfolding(crate::specs::Constants::all_bits_text))]
-fn all_bits_text(
-    alloc: Global,
-    representation: &[u8],
-    store: &Store,
-) -> Result<Vec<u8>, AllocError>
+fn all_bits_text(alloc: Global, representation: &[u8], store: &Store) -> Result<Vec<u8>, AllocError>
     ensures { IfOk result (λ out. out.items ≡ all_bits_text representation.now store.now) }
 {
     match store {
@@ -131,11 +133,7 @@ fn all_bits_list(alloc: Global, store: &Store) -> Result<Vec<u8>, AllocError>
 
 // Words as the value of a representation.
 #[tactic(auto, unfolding(crate::specs::Constants::array_text))]
-fn array_text(
-    alloc: Global,
-    representation: &[u8],
-    words: &[u64],
-) -> Result<Vec<u8>, AllocError>
+fn array_text(alloc: Global, representation: &[u8], words: &[u64]) -> Result<Vec<u8>, AllocError>
     ensures { IfOk result (λ out. out.items ≡ array_text representation.now words.now) }
 {
     let line = array_on_a_line(alloc, words)?;

@@ -133,7 +133,11 @@ pub(crate) fn element_type_text<'a>(
     let into = into_text(alloc, form, declaration, plan)?;
     let from = from_text(alloc, form, declaration, plan)?;
     let law = law_text(alloc, form, law_name(&plan.store))?;
-    filled(alloc, ELEMENT_TYPE, &[&head, &constants, &into, &from, &law])
+    filled(
+        alloc,
+        ELEMENT_TYPE,
+        &[&head, &constants, &into, &from, &law],
+    )
 }
 
 // Its beginning, up to the values.
@@ -156,7 +160,13 @@ fn element_head_text<'a>(
     filled(
         alloc,
         ELEMENT_HEAD,
-        &[declaration.name.as_bytes(), &uses, &representation, &elements, &values],
+        &[
+            declaration.name.as_bytes(),
+            &uses,
+            &representation,
+            &elements,
+            &values,
+        ],
     )
 }
 
@@ -179,7 +189,14 @@ fn element_uses_text<'a>(
     filled(
         alloc,
         ELEMENT_USES,
-        &[&lists, &laws, crate_name, module_name, declaration.name.as_bytes(), &variants_use],
+        &[
+            &lists,
+            &laws,
+            crate_name,
+            module_name,
+            declaration.name.as_bytes(),
+            &variants_use,
+        ],
     )
 }
 

@@ -53,10 +53,7 @@ const ENUM: &str = "$0$1enum $2 {$3}";
 
 /// The enum.
 #[tactic(auto, unfolding(crate::specs::Enums::enum_text))]
-pub(crate) fn enum_text(
-    alloc: Global,
-    declaration: &EnumDeclaration,
-) -> Result<Vec<u8>, AllocError>
+pub(crate) fn enum_text(alloc: Global, declaration: &EnumDeclaration) -> Result<Vec<u8>, AllocError>
     ensures { IfOk result (λ out. out.items ≡ enum_text declaration.now) }
 {
     let before = before_enum_text(alloc, declaration)?;
@@ -71,10 +68,7 @@ pub(crate) fn enum_text(
 
 // What stands on the lines before the enum.
 #[tactic(auto, unfolding(crate::specs::Enums::before_enum_text))]
-fn before_enum_text(
-    alloc: Global,
-    declaration: &EnumDeclaration,
-) -> Result<Vec<u8>, AllocError>
+fn before_enum_text(alloc: Global, declaration: &EnumDeclaration) -> Result<Vec<u8>, AllocError>
     ensures { IfOk result (λ out. out.items ≡ before_enum_text declaration.now) }
 {
     let mut attributes = Vec::new(alloc);
@@ -202,11 +196,7 @@ fn append_variants(
 
 // A variant.
 #[tactic(auto, unfolding(crate::specs::Enums::variant_text))]
-fn variant_text(
-    alloc: Global,
-    is_kept: bool,
-    variant: &Variant,
-) -> Result<Vec<u8>, AllocError>
+fn variant_text(alloc: Global, is_kept: bool, variant: &Variant) -> Result<Vec<u8>, AllocError>
     ensures { IfOk result (λ out. out.items ≡ variant_text is_kept variant.now) }
 {
     let mut attributes = Vec::new(alloc);
@@ -216,7 +206,12 @@ fn variant_text(
     filled(
         alloc,
         VARIANT,
-        &[&attributes, variant.name.as_bytes(), &discriminant, &comment],
+        &[
+            &attributes,
+            variant.name.as_bytes(),
+            &discriminant,
+            &comment,
+        ],
     )
 }
 
@@ -230,7 +225,11 @@ fn discriminant_text(
     ensures { IfOk result (λ out. out.items ≡ discriminant_text is_kept discriminant.now) }
 {
     match discriminant {
-        Some(discriminant) if is_kept => filled(alloc, DISCRIMINANT, &[discriminant.text.as_bytes()]),
+        Some(discriminant) if is_kept => filled(
+            alloc,
+            DISCRIMINANT,
+            &[discriminant.text.as_bytes()],
+        ),
         _ => Ok(Vec::new(alloc)),
     }
 }

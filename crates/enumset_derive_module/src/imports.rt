@@ -37,11 +37,7 @@ const USES: &str = "$0$1";
 
 /// The imports of names of the crate that is called `facade`.
 #[tactic(auto, unfolding(crate::specs::Imports::uses_text))]
-pub(crate) fn uses_text(
-    alloc: Global,
-    facade: &[u8],
-    names: &[Text],
-) -> Result<Vec<u8>, AllocError>
+pub(crate) fn uses_text(alloc: Global, facade: &[u8], names: &[Text]) -> Result<Vec<u8>, AllocError>
     ensures { IfOk result (λ out. out.items ≡ uses_text facade.now names.now) }
 {
     let paths = paths_text(alloc, facade, names)?;
@@ -174,11 +170,7 @@ pub(crate) fn insert_names(
 
 /// Inserts a name, unless it is there.
 #[tactic(auto, unfolding(crate::specs::Imports::insert_name))]
-fn insert_name(
-    alloc: Global,
-    names: &mut Vec<Text>,
-    name: &[u8],
-) -> Result<(), AllocError>
+fn insert_name(alloc: Global, names: &mut Vec<Text>, name: &[u8]) -> Result<(), AllocError>
     ensures { OnOk result (names.new.items ≡ insert_name name.now names.old.items) }
 {
     if let Some(place) = place_of(names, name) {

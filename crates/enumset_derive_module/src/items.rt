@@ -53,6 +53,13 @@ fn parts_text(
     filled(
         alloc,
         ITEM,
-        &[&the_enum, element_type, &with_repr, &names, &display, &operators],
+        &[
+            &the_enum,
+            element_type,
+            &with_repr,
+            &names,
+            &display,
+            &operators,
+        ],
     )
 }

@@ -21,7 +21,12 @@ pub(crate) fn append_wrapped(
         return Ok(());
     };
     out.extend_from_slice(first.as_bytes())?;
-    append_next(out, start, room.saturating_sub(first.as_bytes().len()), rest)
+    append_next(
+        out,
+        start,
+        room.saturating_sub(first.as_bytes().len()),
+        rest,
+    )
 }
 
 // Appends words, each after a space or on a new line.

@@ -12,11 +12,7 @@ pub(crate) const LIST_START: &str = "\n        ";
 
 /// The list of words that each have `∷` after them. `room` is how many columns are left on the line.
 #[tactic(auto, unfolding(crate::specs::Lists::list_text))]
-pub(crate) fn list_text(
-    alloc: Global,
-    room: usize,
-    words: Vec<Text>,
-) -> Result<Vec<u8>, AllocError>
+pub(crate) fn list_text(alloc: Global, room: usize, words: Vec<Text>) -> Result<Vec<u8>, AllocError>
     ensures { IfOk result (λ out. out.items ≡ list_text room words.items) }
 {
     let mut words = words;

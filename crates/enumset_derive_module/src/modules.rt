@@ -33,7 +33,15 @@ pub fn module_text<'a>(
     let uses = uses_of(alloc, items, plans)?;
     let mut out = Vec::from_slice(alloc, head)?;
     out.extend_from_slice(&leading_uses(alloc, items, &uses)?)?;
-    append_items(alloc, &mut out, crate_name, module_name, &uses, items, plans)?;
+    append_items(
+        alloc,
+        &mut out,
+        crate_name,
+        module_name,
+        &uses,
+        items,
+        plans,
+    )?;
     Ok(Text::from(out))
 }
 
@@ -82,7 +90,13 @@ fn append_items<'a>(
             }
             Item::Enum(declaration) => {
                 if let Some((plan, rest)) = left.split_first() {
-                    out.extend_from_slice(&item_text(alloc, crate_name, module_name, declaration, plan)?)?;
+                    out.extend_from_slice(&item_text(
+                        alloc,
+                        crate_name,
+                        module_name,
+                        declaration,
+                        plan,
+                    )?)?;
                     left = rest;
                 }
             }

@@ -7,11 +7,7 @@ ghost use Rattle.enumset_derive_module.specs.Templates.{filled};
 use std::alloc::{AllocError, Global};
 
 /// The template with its marks replaced: `$0` by the first text, `$1` by the second, and so on.
-pub(crate) fn filled(
-    alloc: Global,
-    template: &str,
-    texts: &[&[u8]],
-) -> Result<Vec<u8>, AllocError>
+pub(crate) fn filled(alloc: Global, template: &str, texts: &[&[u8]]) -> Result<Vec<u8>, AllocError>
     ensures { IfOk result (λ out. out.items ≡ filled template.now (map (λ t. t.now) texts.now)) }
 {
     let mut out = Vec::new(alloc);

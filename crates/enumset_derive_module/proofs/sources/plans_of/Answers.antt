@@ -10,7 +10,7 @@ returns-in_err-plan_enum-in-Enum-clause-fault c =
     let given : c.from_residual.result ≡ Err c.in_err-plan_enum-in-Enum.field-0.0 = search rules in
     let same = sym c.item-item.is ∙ c.in-Enum.is in
     rw given (subst (λ (f : Option Fault). IsErrorOf f c.in_err-plan_enum-in-Enum.field-0.0) c.loop-item.invariant.fault
-        (fault_here c.args.items.now c.loop-item.item-index c.item-item.result c.in-Enum.declaration c.in_err-plan_enum-in-Enum.field-0.0 c.loop-item-test.true same c.in_err-plan_enum-in-Enum.ensures.fault))
+    (fault_here c.args.items.now c.loop-item.item-index c.item-item.result c.in-Enum.declaration c.in_err-plan_enum-in-Enum.field-0.0 c.loop-item-test.true same c.in_err-plan_enum-in-Enum.ensures.fault))
 
 pub loop-item-preserved : goal.loop-item-preserved
 loop-item-preserved c =
