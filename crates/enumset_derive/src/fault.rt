@@ -12,8 +12,8 @@ use std::fmt;
 pub enum ProgramFault {
     /// There are not exactly two arguments.
     TwoArguments,
-    /// An argument is too long to be a name.
-    LongName,
+    /// An argument is no name of a crate or a module.
+    NotAName,
     /// The source has no module.
     Source(DeriveError),
     /// Standard input failed.
@@ -31,7 +31,7 @@ impl ProgramFault {
         ensures { result ≡ status_of self.now }
     {
         match self {
-            ProgramFault::TwoArguments | ProgramFault::LongName => 2,
+            ProgramFault::TwoArguments | ProgramFault::NotAName => 2,
             ProgramFault::Source(DeriveError::OutOfMemory) => 3,
             ProgramFault::Source(DeriveError::Fault(_)) => 1,
             ProgramFault::Reading | ProgramFault::Writing => 1,
@@ -51,7 +51,7 @@ impl fmt::Display for ProgramFault {
             ProgramFault::TwoArguments => {
                 write!(f, "two arguments: the names of the crate and of the module")
             }
-            ProgramFault::LongName => write!(f, "a name is too long"),
+            ProgramFault::NotAName => write!(f, "an argument is no name"),
             ProgramFault::Source(error) => write!(f, "{error}"),
             ProgramFault::Reading => write!(f, "reading failed"),
             ProgramFault::Writing => write!(f, "writing failed"),

@@ -1,7 +1,9 @@
 //! What the program does: its arguments, its input and its output.
 
 ghost use Rattle.std.specs.Prelude.{◌≡◌, ◌+◌, ◌≤◌, [], length, take, IfOk, IfErr, IfSome, OnOk, OnErr, IsOk};
+ghost use Rattle.std.specs.List.{list_all};
 ghost use Rattle.std.specs.Io.KnownBytes.{Appends};
+ghost use Rattle.enumset_derive.specs.Arguments.{is_name, begins_a_name, is_of_name};
 ghost use Rattle.enumset_derive.specs.Written.{AppendsFrontOf};
 
 use crate::fault::ProgramFault;
@@ -52,10 +54,39 @@ fn read_name<E: Env>(
     ensures { IfOk result (λ len. len ≤ NAME_LIMIT) }
 {
     match env.arg(place, name) {
-        Ok(len) => Ok(len),
+        Ok(len) if is_name(&name[..len]) => Ok(len),
+        Ok(_) => Err(ProgramFault::NotAName),
         Err(FillError::NotPresent) => Err(ProgramFault::TwoArguments),
-        Err(FillError::TooLong) => Err(ProgramFault::LongName),
+        Err(FillError::TooLong) => Err(ProgramFault::NotAName),
     }
+}
+
+// Whether a text is a small letter or `_`, and then small letters, digits and `_`.
+fn is_name(text: &[u8]) -> bool
+    ensures { result ≡ is_name text.now }
+{
+    begins_a_name(text) && are_of_name(text)
+}
+
+fn begins_a_name(text: &[u8]) -> bool
+    ensures { result ≡ begins_a_name text.now }
+{
+    match text {
+        [] => false,
+        [first, ..] => !first.is_ascii_digit(),
+    }
+}
+
+fn are_of_name(text: &[u8]) -> bool
+    ensures { result ≡ list_all is_of_name text.now }
+{
+    text.iter().all(|byte| is_of_name(*byte))
+}
+
+fn is_of_name(byte: u8) -> bool
+    ensures { result ≡ is_of_name byte }
+{
+    byte.is_ascii_lowercase() || byte.is_ascii_digit() || byte == b'_'
 }
 
 // Tests that there is no third argument.
