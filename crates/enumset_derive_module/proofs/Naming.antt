@@ -1,5 +1,5 @@
 -- One more item whose names are collected.
-use Rattle.std.proofs.Common.{◌≡◌, ℕ, ◌+◌, ◌<◌, ◌≤◌, true, false, List, [], ◌∷◌, ◌++◌, drop, length, get_or, refl, append_assoc, add-one, drop-cons, arith, Option, Some, None}
+use Rattle.std.proofs.Common.{◌≡◌, ℕ, ◌+◌, ◌<◌, ◌≤◌, List, [], ◌∷◌, drop, length, get_or, refl, add-one, drop-cons, arith}
 use Rattle.std.proofs.Math.ListN.{drop_of_length-le}
 use Rattle.enumset_derive_plan.specs.declared.declaration.EnumDeclaration.{EnumDeclaration}
 use Rattle.enumset_derive_plan.specs.declared.declaration.Item.{Item}
@@ -7,7 +7,7 @@ use Rattle.enumset_derive_plan.specs.declared.declaration.Item.TheVariants.{Othe
 use Rattle.enumset_derive_plan.specs.declared.plan.Plan.{Plan}
 use Rattle.std.proofs.Common.{Vec, Global}
 use Rattle.enumset_derive_module.specs.Imports.{insert_names}
-use Rattle.enumset_derive_module.specs.Modules.{names_after, needed_names, facade_after, has_imports}
+use Rattle.enumset_derive_module.specs.Modules.{names_after, needed_names}
 
 pub naming_other : (names : List (List ℕ)) (is : List Item) (ps : List Plan) (i : ℕ) (d : Item) (t : List ℕ) → i < length is → get_or is i d ≡ Other t → names_after names (drop i is) ps ≡ names_after names (drop (i + 1) is) ps
 unfolding names_after

@@ -1,9 +1,9 @@
 -- One more word of a wrapped text.
-use Rattle.std.proofs.Common.{◌≡◌, ℕ, ◌+◌, ◌-◌, ◌<◌, ◌≤◌, Bool, true, false, cond, List, [], ◌∷◌, ◌++◌, drop, length, get_or, refl, ap, sym, ◌∙◌, arith, append_assoc, add-one, drop-cons}
+use Rattle.std.proofs.Common.{◌≡◌, ℕ, ◌+◌, ◌-◌, ◌<◌, ◌≤◌, true, false, List, [], ◌∷◌, ◌++◌, drop, length, get_or, append_assoc, add-one, drop-cons}
 use Rattle.std.specs.Prelude.{nat_lt}
 use Rattle.std.proofs.lemmas.List.{append-nil}
 use Rattle.std.proofs.Math.ListN.{drop_of_length-le}
-use Rattle.enumset_derive_module.specs.Layout.{wrapped_from, room_after}
+use Rattle.enumset_derive_module.specs.Layout.{wrapped_from}
 
 -- a word for which there is room
 pub word_after_space : (done start : List ℕ) (room : ℕ) (words : List (List ℕ)) (i : ℕ) → i < length words → nat_lt (length (get_or words i [])) room ≡ true → done ++ wrapped_from start room (drop i words) ≡ ((done ++ 32 ∷ []) ++ get_or words i []) ++ wrapped_from start (room - 1 - length (get_or words i [])) (drop (i + 1) words)

@@ -1,5 +1,5 @@
 -- One more item that is written.
-use Rattle.std.proofs.Common.{◌≡◌, ℕ, ◌+◌, ◌<◌, ◌≤◌, true, false, List, [], ◌∷◌, ◌++◌, drop, length, get_or, refl, append_assoc, add-one, drop-cons, arith, Option, Some, None}
+use Rattle.std.proofs.Common.{◌≡◌, ℕ, ◌+◌, ◌<◌, ◌≤◌, List, [], ◌∷◌, ◌++◌, drop, length, get_or, refl, append_assoc, add-one, drop-cons, arith}
 use Rattle.std.proofs.Math.ListN.{drop_of_length-le}
 use Rattle.enumset_derive_plan.specs.declared.declaration.EnumDeclaration.{EnumDeclaration}
 use Rattle.enumset_derive_plan.specs.declared.declaration.Item.{Item}

@@ -7,7 +7,7 @@
 --     element_head_text      its beginning
 --     into_text, from_text      the bit of a value;  the value of a bit
 --     element_type_text      the whole
-use Rattle.std.specs.Prelude.{ℕ, Bool, true, false, if◌then◌else◌, List, [], ◌∷◌, codes}
+use Rattle.std.specs.Prelude.{ℕ, Bool, true, if◌then◌else◌, List, [], ◌∷◌, codes}
 use Rattle.enumset_derive_plan.specs.declared.declaration.EnumDeclaration.{EnumDeclaration}
 use Rattle.enumset_derive_plan.specs.declared.declaration.Variant.{Variant}
 use Rattle.enumset_derive_plan.specs.declared.plan.Plan.{Plan}
@@ -20,7 +20,6 @@ use Rattle.enumset_derive_module.specs.Layout.{each_on_a_line}
 use Rattle.enumset_derive_module.specs.Words.{words_of}
 use Rattle.enumset_derive_module.specs.Calls.{variant_of_text}
 use Rattle.enumset_derive_module.specs.Constants.{representation_text, constants_text}
-use Rattle.enumset_derive_module.specs.Forms.{form_of}
 use Rattle.enumset_derive_module.specs.Lists.{list_text}
 
 abbrev pub law_name : Store → List ℕ

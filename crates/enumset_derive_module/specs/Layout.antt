@@ -5,7 +5,7 @@
 --     each_on_a_line      texts, each on a line of its own
 --     joined      texts with a comma and a space between
 --     fits      words, each with a space or a mark after it, take no more columns than are left
-use Rattle.std.specs.Prelude.{ℕ, ◌+◌, ◌-◌, Bool, true, ◌&&◌, if◌then◌else◌, nat_lt, List, [], ◌∷◌, ◌++◌, length, codes}
+use Rattle.std.specs.Prelude.{ℕ, ◌-◌, Bool, true, ◌&&◌, if◌then◌else◌, nat_lt, List, [], ◌∷◌, ◌++◌, length, codes}
 use Rattle.std.specs.List.{flat_map}
 
 -- a new line begins with a line feed, which is no column

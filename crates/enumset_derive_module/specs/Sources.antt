@@ -5,7 +5,7 @@
 --     first_fault      the first fault of planning among items
 --     fault_of      the fault of a source: the first of planning, or else that of reading
 --     IsErrorOf      why a text is not there: the fault, or out of memory
-use Rattle.std.specs.Prelude.{◌≡◌, ℕ, List, [], ◌∷◌, length, Option, Some, None, Result, Ok, Err}
+use Rattle.std.specs.Prelude.{◌≡◌, List, [], ◌∷◌, length, Option, Some, None, Result, Ok, Err}
 use Rattle.enumset_derive_plan.specs.declared.declaration.EnumDeclaration.{EnumDeclaration}
 use Rattle.enumset_derive_plan.specs.declared.declaration.Item.{Item}
 use Rattle.enumset_derive_plan.specs.declared.declaration.Item.TheVariants.{Other, Imports, Enum}

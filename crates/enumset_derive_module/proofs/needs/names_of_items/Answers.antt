@@ -1,4 +1,4 @@
-use Rattle.std.proofs.Common.{◌≡◌, sym, ◌∙◌, arith}
+use Rattle.std.proofs.Common.{sym, ◌∙◌, arith}
 use Rattle.std.proofs.lemmas.Grind.{common_steps}
 use Rattle.enumset_derive_module.proofs.Naming.{naming_other, naming_imports, naming_enum, naming_unplanned}
 use Rattle.enumset_derive_module.proofs.needs.names_of_items.Goals as goal
