@@ -3,10 +3,10 @@
 --     names_after      the names that items import and need, in order, with those before
 --     facade_after      what the facade is called: the last name that an enum asks for, or the one before
 --     item_text      all that is written for an enum
---     has_imports      some item imports names of the facade
+--     has_imports, has_enum      some item imports names of the facade;  some item is an enum
 --     items_text      the texts of items; the imports stand where the first of the source stand
 --     module_text      the text of a module, from its head, its items, and the plans of its enums
-use Rattle.std.specs.Prelude.{ℕ, Bool, true, false, if◌then◌else◌, List, [], ◌∷◌, ◌++◌, codes, unwrap_or}
+use Rattle.std.specs.Prelude.{ℕ, Bool, true, false, not, ◌||◌, if◌then◌else◌, List, [], ◌∷◌, ◌++◌, codes, unwrap_or}
 use Rattle.enumset_derive_plan.specs.declared.declaration.EnumDeclaration.{EnumDeclaration}
 use Rattle.enumset_derive_plan.specs.declared.declaration.Item.{Item}
 use Rattle.enumset_derive_plan.specs.declared.declaration.Item.TheVariants.{Other, Imports, Enum}
@@ -78,6 +78,12 @@ has_imports (Other t ∷ is) = has_imports is
 has_imports (Imports ts ∷ is) = true
 has_imports (Enum d ∷ is) = has_imports is
 
+abbrev pub has_enum : List Item → Bool
+has_enum [] = false
+has_enum (Other t ∷ is) = has_enum is
+has_enum (Imports ts ∷ is) = has_enum is
+has_enum (Enum d ∷ is) = true
+
 -- `uses` is what is written where names are imported next
 unfoldable pub items_text : List ℕ → List ℕ → List ℕ → List Item → List Plan → List ℕ
 items_text crate_name module_name uses [] plans = []
@@ -102,7 +108,7 @@ uses_line_template = lines_of
 
 -- where no item imports names, the imports stand after the head, before an empty line
 unfoldable pub leading_uses : List Item → List ℕ → List ℕ
-leading_uses items uses = if has_imports items then [] else filled uses_line_template (uses ∷ [])
+leading_uses items uses = if has_imports items || not (has_enum items) then [] else filled uses_line_template (uses ∷ [])
 
 unfoldable pub module_text : List ℕ → List ℕ → List ℕ → List Item → List Plan → List ℕ
 module_text crate_name module_name head items plans =

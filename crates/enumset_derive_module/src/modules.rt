@@ -5,7 +5,7 @@ ghost use Rattle.enumset_derive_module.specs.Modules.{items_text, uses_of, leadi
 
 use crate::imports::uses_text;
 use crate::items::item_text;
-use crate::needs::{facade_of, has_imports, names_of_items};
+use crate::needs::{facade_of, has_enum, has_imports, names_of_items};
 use crate::templates::filled;
 use enumset_derive_plan::{Item, Plan, Text};
 use std::alloc::{AllocError, Global};
@@ -53,12 +53,12 @@ fn uses_of(alloc: Global, items: &[Item], plans: &[Plan]) -> Result<Vec<u8>, All
     uses_text(alloc, facade_of(b"enumset", items), &names)
 }
 
-// The imports where no item imports names.
+// The imports where no item imports names, and some item is an enum.
 #[tactic(auto, unfolding(crate::specs::Modules::leading_uses))]
 fn leading_uses(alloc: Global, items: &[Item], uses: &[u8]) -> Result<Vec<u8>, AllocError>
     ensures { IfOk result (λ out. out.items ≡ leading_uses items.now uses.now) }
 {
-    if has_imports(items) {
+    if has_imports(items) || !has_enum(items) {
         Ok(Vec::new(alloc))
     } else {
         filled(alloc, USES_LINE, &[uses])

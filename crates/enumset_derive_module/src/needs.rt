@@ -2,7 +2,7 @@
 
 ghost use Rattle.std.specs.Prelude.{◌≡◌, [], IfOk, OnOk};
 ghost use Rattle.enumset_derive_module.specs.Modules.{store_name, always_needed, needed_names, names_after};
-ghost use Rattle.enumset_derive_module.specs.Modules.{facade_after, has_imports};
+ghost use Rattle.enumset_derive_module.specs.Modules.{facade_after, has_imports, has_enum};
 ghost use Rattle.enumset_derive_module.specs.Imports.{insert_names};
 
 use crate::imports::insert_names;
@@ -109,6 +109,18 @@ pub(crate) fn has_imports(items: &[Item]) -> bool
 {
     for item in items {
         if let Item::Imports(_) = item {
+            return true;
+        }
+    }
+    false
+}
+
+/// Whether some item is an enum.
+pub(crate) fn has_enum(items: &[Item]) -> bool
+    ensures { result ≡ has_enum items.now }
+{
+    for item in items {
+        if let Item::Enum(_) = item {
             return true;
         }
     }
