@@ -1,0 +1,109 @@
+-- What a module imports.
+--     place_from      where a name goes among names in order, counted from a number, unless it is there
+--     insert_name, insert_names      names in order with one more name;  with more names
+--     is_path, is_glob, has_glob      a name is a path;  it stands for all;  some name does
+--     path_text, paths_text      the import of a name that is a path;  of all such names, each on a line
+--     plain_names      the names that are no paths
+--     names_on_a_line, names_on_lines, listed_text      the import of such names
+--     names_text      the same, or of all names at once
+--     uses_text      the imports
+use Rattle.std.specs.Prelude.{ℕ, ◌+◌, Bool, if◌then◌else◌, ◌==◌, nat_lt, List, [], ◌∷◌, length, codes, insert, Option, Some, None}
+use Rattle.std.specs.List.{flat_map, list_any}
+use Rattle.std.specs.Ordering.{nat_cmp, match_ordering}
+use Rattle.std.specs.Cmp.Lexicographic.{slice_cmp}
+use Rattle.enumset_derive_module.specs.Templates.{lines_of, filled}
+use Rattle.enumset_derive_module.specs.Layout.{wrapped, joined}
+use Rattle.enumset_derive_module.specs.Words.{texts_of}
+
+unfoldable pub place_from : ℕ → List ℕ → List (List ℕ) → Option ℕ
+place_from i name [] = Some i
+place_from i name (n ∷ ns) =
+    match_ordering (slice_cmp nat_cmp name n) (Some i) None (place_from (i + 1) name ns)
+
+abbrev pub insert_at : Option ℕ → List ℕ → List (List ℕ) → List (List ℕ)
+insert_at None name names = names
+insert_at (Some i) name names = insert names i name
+
+unfoldable pub insert_name : List ℕ → List (List ℕ) → List (List ℕ)
+insert_name name names = insert_at (place_from 0 name names) name names
+
+unfoldable pub insert_names : List (List ℕ) → List (List ℕ) → List (List ℕ)
+insert_names [] names = names
+insert_names (n ∷ ns) names = insert_names ns (insert_name n names)
+
+-- the import of a path
+abbrev pub path_use_template : List ℕ
+path_use_template = lines_of
+    (codes "use $0::$1;" ∷
+    codes "" ∷ [])
+
+-- the import of names on one line
+abbrev pub names_use_line_template : List ℕ
+names_use_line_template = lines_of
+    (codes "use $0::{$1};" ∷ [])
+
+-- the import of names on several lines
+abbrev pub names_use_lines_template : List ℕ
+names_use_lines_template = lines_of
+    (codes "use $0::{" ∷
+    codes "    $1" ∷
+    codes "};" ∷ [])
+
+-- a name on a line of several
+abbrev pub name_item_template : List ℕ
+name_item_template = lines_of
+    (codes "$0," ∷ [])
+
+-- the import of all names
+abbrev pub glob_use_template : List ℕ
+glob_use_template = lines_of
+    (codes "use $0::*;" ∷ [])
+
+-- the imports
+abbrev pub uses_template : List ℕ
+uses_template = lines_of
+    (codes "$0$1" ∷ [])
+
+-- 58 is `:`
+abbrev pub is_path : List ℕ → Bool
+is_path name = list_any (λ c. c == 58) name
+
+abbrev pub path_text : List ℕ → List ℕ → List ℕ
+path_text facade name = if is_path name then filled path_use_template (facade ∷ name ∷ []) else []
+
+abbrev pub paths_text : List ℕ → List (List ℕ) → List ℕ
+paths_text facade names = flat_map (λ n. path_text facade n) names
+
+abbrev pub plain_names : List (List ℕ) → List (List ℕ)
+plain_names names = flat_map (λ n. if is_path n then [] else (n ∷ [])) names
+
+-- 42 is `*`
+abbrev pub is_glob : List ℕ → Bool
+is_glob name = list_any (λ c. c == 42) name
+
+abbrev pub has_glob : List (List ℕ) → Bool
+has_glob names = list_any (λ n. is_glob n) names
+
+unfoldable pub names_on_lines : List ℕ → List (List ℕ) → List ℕ
+names_on_lines facade names =
+    filled names_use_lines_template
+    (facade ∷ wrapped (10 ∷ codes "    ") 96 (texts_of name_item_template names) ∷ [])
+
+unfoldable pub names_on_a_line : List ℕ → List (List ℕ) → List ℕ
+names_on_a_line facade names = filled names_use_line_template (facade ∷ joined names ∷ [])
+
+-- on one line, if it has no more than 100 columns then
+unfoldable pub listed_text : List ℕ → List (List ℕ) → List ℕ
+listed_text facade names =
+    if nat_lt (length (names_on_a_line facade names)) 101
+    then names_on_a_line facade names
+    else names_on_lines facade names
+
+-- all names of the crate are imported at once, if some line of the source does so
+unfoldable pub names_text : List ℕ → List (List ℕ) → List ℕ
+names_text facade names =
+    if has_glob names then filled glob_use_template (facade ∷ []) else listed_text facade names
+
+unfoldable pub uses_text : List ℕ → List (List ℕ) → List ℕ
+uses_text facade names =
+    filled uses_template (paths_text facade names ∷ names_text facade (plain_names names) ∷ [])

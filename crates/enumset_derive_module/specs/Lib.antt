@@ -1,0 +1,14 @@
+pub mod Templates
+pub mod Layout
+pub mod Words
+pub mod Forms
+pub mod Calls
+pub mod Lists
+pub mod Constants
+pub mod ElementTypes
+pub mod Names
+pub mod Operators
+pub mod Enums
+pub mod Imports
+pub mod Modules
+pub mod Sources

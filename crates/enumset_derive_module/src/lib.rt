@@ -1,0 +1,24 @@
+//! The module of Rattle that a declaration of an enum stands for: the enum, and its implementation as an element type.
+//!
+//! A text is made from templates, in which `$0` to `$9` stand for texts that are put in.
+#![tactic(auto)]
+
+mod calls;
+mod constants;
+mod element_type;
+mod enums;
+mod form;
+mod imports;
+mod items;
+mod layout;
+mod lists;
+pub mod modules;
+mod names;
+mod needs;
+mod operators;
+pub mod sources;
+mod templates;
+mod words;
+
+pub use modules::module_text;
+pub use sources::write_items;

@@ -1,0 +1,5 @@
+pub mod Named
+pub mod Sums
+pub mod WordBits
+pub mod Rooms
+pub mod Tests

@@ -1,0 +1,16 @@
+use Rattle.std.proofs.Common.{◌≡◌, ◌≤◌, take, drop, length, Some, []}
+use Rattle.std.specs.Prelude.{IsTrue}
+use Rattle.enumset_repr.specs.Number.{is_distinct}
+use Rattle.enumset_derive_plan.specs.declared.number.Number.TheVariants.{Small}
+use Rattle.enumset_derive_plan.specs.Variants.{named_from, bits_of, are_in_range}
+use Rattle.enumset_derive_plan.proofs.planning.named.name_variants.Given as goal
+
+-- what is left goes on from the variants so far
+abbrev pub invariant-loop-i : goal.invariant-loop-i
+invariant-loop-i l = record {
+  same : named_from l.rules (take l.i l.variants) l.named.items l.implied (drop l.i l.variants) ≡ named_from l.rules [] [] (Some (Small 0)) l.variants;
+  count : length l.named.items ≡ l.i;
+  few : l.i ≤ 256;
+  distinct : IsTrue (is_distinct (bits_of l.named.items));
+  range : IsTrue (are_in_range l.rules l.named.items);
+}

@@ -1,0 +1,8 @@
+pub mod Steps
+pub mod Integers
+pub mod Faults
+pub mod Bits
+pub mod Variants
+pub mod Stores
+pub mod Plans
+pub mod Laws

@@ -1,0 +1,49 @@
+//! The unsigned integer types.
+
+ghost use Rattle.std.specs.Prelude.{◌≡◌};
+ghost use Rattle.enumset_derive_plan.specs.Integers.{width};
+
+use std::fmt;
+
+/// An unsigned integer type.
+#[derive(Clone, Copy, Debug, PartialEq, Eq)]
+pub enum IntegerType {
+    U8,
+    U16,
+    U32,
+    U64,
+    U128,
+}
+
+impl IntegerType {
+    /// How many bits the type has.
+    pub fn width(self) -> u32
+        ensures { result ≡ width self }
+    {
+        match self {
+            IntegerType::U8 => 8,
+            IntegerType::U16 => 16,
+            IntegerType::U32 => 32,
+            IntegerType::U64 => 64,
+            IntegerType::U128 => 128,
+        }
+    }
+}
+
+/// The name of the type, as `u8`.
+impl fmt::Display for IntegerType {
+    ghost use Rattle.std.specs.Prelude.{Some};
+    ghost use Rattle.enumset_derive_plan.specs.Integers.{type_name};
+
+    ghost output = { λ integer. Some (type_name integer) };
+
+    fn fmt<W: fmt::Write>(&self, f: &mut fmt::Formatter<W>) -> fmt::Result {
+        match self {
+            IntegerType::U8 => write!(f, "u8"),
+            IntegerType::U16 => write!(f, "u16"),
+            IntegerType::U32 => write!(f, "u32"),
+            IntegerType::U64 => write!(f, "u64"),
+            IntegerType::U128 => write!(f, "u128"),
+        }
+    }
+}

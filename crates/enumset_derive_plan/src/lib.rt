@@ -1,0 +1,25 @@
+//! Declarations of enums, and the plan of an element type: its bits, its representation, its constants.
+//!
+//! Nothing here reads or writes a text: `enumset_derive_source` reads declarations, and `enumset_derive_module` writes
+//! modules from declarations and plans.
+#![tactic(auto)]
+
+pub mod declaration;
+pub mod fault;
+pub mod integer_type;
+pub mod number;
+pub mod options;
+pub mod place;
+pub mod plan;
+pub mod planning;
+pub mod text;
+
+pub use declaration::{Discriminant, EnumDeclaration, Item, Source, Variant};
+pub use fault::{DeriveError, Fault, OutOfRange, Reason, Wanted};
+pub use integer_type::IntegerType;
+pub use number::Number;
+pub use options::{Map, Options, Representation, Serialized};
+pub use place::Place;
+pub use plan::{Plan, Store};
+pub use planning::plan_enum;
+pub use text::Text;

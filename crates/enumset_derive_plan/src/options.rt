@@ -1,0 +1,63 @@
+//! What an enum's `#[enumset(..)]` may ask for.
+
+use crate::integer_type::IntegerType;
+use crate::place::Place;
+use crate::text::Text;
+
+/// The options of an element type.
+#[derive(Debug, Drop)]
+pub struct Options {
+    /// Which bit a discriminant names: `map`, by default `Lsb`.
+    pub map: Map,
+    /// Where the value of `map` is; where the enum's name is, if there is none.
+    pub map_place: Place,
+    /// What keeps a set: `repr`, if it is given.
+    pub representation: Option<Representation>,
+    /// What a set is in JSON: `serialize_repr`, if it is given.
+    pub serialized: Option<Serialized>,
+    /// Whether a set in JSON with an unknown bit is refused: `serialize_deny_unknown`.
+    pub denies_unknown: bool,
+    /// Whether the operators on elements are left out: `no_ops`.
+    pub leaves_out_operators: bool,
+    /// Whether the author writes `Copy`, `Clone`, `PartialEq` and `Eq`: `no_super_impls`.
+    pub leaves_out_supertraits: bool,
+    /// Whether `Display` by the variants' names is written: `display`.
+    pub has_display: bool,
+    /// The name of the crate `enumset` in the code that is written: `crate_name`, if it is given.
+    pub crate_name: Option<Text>,
+}
+
+/// Which bit a discriminant names.
+#[derive(Clone, Copy, Debug, PartialEq, Eq)]
+pub enum Map {
+    /// Its own number, counted from the least significant bit.
+    Lsb,
+    /// Its own number, counted from the most significant bit of the representation.
+    Msb,
+    /// The bit of which it is the mask.
+    Mask,
+    /// The variant's place in the declaration, whatever the discriminant.
+    Compact,
+}
+
+/// What keeps a set.
+#[derive(Clone, Copy, Debug, PartialEq, Eq)]
+pub enum Representation {
+    /// One integer.
+    Integer(IntegerType),
+    /// Words of 64 bits: `array`.
+    Words,
+}
+
+/// What a set is in JSON.
+#[derive(Clone, Copy, Debug, PartialEq, Eq)]
+pub enum Serialized {
+    /// A number of this type.
+    Integer(IntegerType),
+    /// A list of words: `array`.
+    Words,
+    /// A list of the elements' names: `list`.
+    List,
+    /// A map from the elements' names to whether they are members: `map`.
+    Map,
+}

@@ -1,0 +1,79 @@
+//! The brackets that a text is in.
+
+use super::stop::{Stop, fault};
+use crate::token::{Kind, Token};
+use enumset_derive_plan::{Place, Reason};
+use std::alloc::Global;
+
+/// A bracket that has begun.
+#[derive(Clone, Copy)]
+struct Bracket {
+    /// The byte that is to end it.
+    end: u8,
+    place: Place,
+}
+
+/// The brackets that have begun, the outermost first.
+#[derive(Drop)]
+pub(crate) struct Brackets {
+    open: Vec<Bracket>,
+}
+
+impl Brackets {
+    pub(crate) fn new(alloc: Global) -> Brackets {
+        Brackets {
+            open: Vec::new(alloc),
+        }
+    }
+
+    /// How many brackets have begun.
+    pub(crate) fn depth(&self) -> usize {
+        self.open.len()
+    }
+
+    /// Where the innermost bracket is, or the place that is given.
+    pub(crate) fn innermost(&self, place: Place) -> Place {
+        match self.open.last() {
+            Some(bracket) => bracket.place,
+            None => place,
+        }
+    }
+
+    /// Takes a token. It stops at a token without an end and at a bracket with another end or none.
+    pub(crate) fn take(&mut self, token: &Token) -> Result<(), Stop> {
+        match token.kind {
+            Kind::UnclosedComment => Err(fault(token.place, Reason::UnclosedComment)),
+            Kind::UnclosedQuote => Err(fault(token.place, Reason::UnclosedQuote)),
+            Kind::End => match self.open.first() {
+                Some(bracket) => Err(fault(bracket.place, Reason::UnclosedBracket)),
+                None => Ok(()),
+            },
+            _ => self.take_mark(token.mark(), token.place),
+        }
+    }
+
+    fn take_mark(&mut self, mark: u8, place: Place) -> Result<(), Stop> {
+        match mark {
+            b'(' => self.begin(b')', place),
+            b'[' => self.begin(b']', place),
+            b'{' => self.begin(b'}', place),
+            b')' | b']' | b'}' => self.end(mark),
+            _ => Ok(()),
+        }
+    }
+
+    fn begin(&mut self, end: u8, place: Place) -> Result<(), Stop> {
+        self.open.push(Bracket { end, place })?;
+        Ok(())
+    }
+
+    /// An end without a beginning is no fault.
+    fn end(&mut self, end: u8) -> Result<(), Stop> {
+        match self.open.pop() {
+            Some(bracket) if bracket.end != end => {
+                Err(fault(bracket.place, Reason::UnclosedBracket))
+            }
+            _ => Ok(()),
+        }
+    }
+}

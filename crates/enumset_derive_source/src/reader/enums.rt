@@ -1,0 +1,57 @@
+//! An enum from its keyword on.
+
+use super::Reader;
+use super::draft::{Draft, VariantDraft};
+use super::state::State;
+use super::stop::{Stop, fault, wanted};
+use crate::token::Token;
+use enumset_derive_plan::{Item, Reason, Wanted};
+use std::mem;
+
+impl Reader {
+    /// Takes a token after `enum`.
+    pub(super) fn take_enum(&mut self, token: &Token) -> Result<(), Stop> {
+        match self.state {
+            State::EnumName | State::EnumVariants if token.is_blank() => Ok(()),
+            State::EnumName => self.take_enum_name(token),
+            State::EnumVariants => self.take_enum_variants(token),
+            State::VariantName | State::VariantHash | State::VariantAttribute => {
+                self.take_variant_start(token)
+            }
+            _ => self.take_variant_end(token),
+        }
+    }
+
+    fn take_enum_name(&mut self, token: &Token) -> Result<(), Stop> {
+        if !token.is_name() {
+            return Err(wanted(token.place, Wanted::EnumName));
+        }
+        self.draft.place = token.place;
+        self.draft.name.extend_from_slice(token.text)?;
+        self.state = State::EnumVariants;
+        Ok(())
+    }
+
+    fn take_enum_variants(&mut self, token: &Token) -> Result<(), Stop> {
+        match token.mark() {
+            b'{' => {
+                self.state = State::VariantName;
+                Ok(())
+            }
+            b'<' => Err(fault(token.place, Reason::HasParameters)),
+            _ if token.is_word(b"where") => Err(fault(token.place, Reason::HasParameters)),
+            _ => Err(wanted(token.place, Wanted::Variants)),
+        }
+    }
+
+    /// Ends the enum. The comments after its last variant are those of the variant that does not come.
+    pub(super) fn end_enum(&mut self) -> Result<(), Stop> {
+        self.end_other()?;
+        let draft = mem::replace(&mut self.draft, Draft::new(self.alloc));
+        let rest = mem::replace(&mut self.variant, VariantDraft::new(self.alloc));
+        self.items
+            .push(Item::Enum(draft.into_declaration(rest.attributes)))?;
+        self.state = State::Between;
+        Ok(())
+    }
+}
