@@ -19,15 +19,15 @@ span_more s begin index h b =
 tokens_from-some : (mode next : Mode) (text : List ℕ) (place now : Place) (b : ℕ) (bs : List ℕ) → next_mode mode b ≡ Some next → tokens_from mode text place now (b ∷ bs) ≡ tokens_from next (text ++ b ∷ []) place (after now b) bs
 tokens_from-some mode next text place now b bs is =
     ap (λ (o : Option Mode). elim o [
-      Some m ↦ tokens_from m (text ++ b ∷ []) place (after now b) bs
-    | None ↦ token mode text place ∷ tokens_from (first_mode b) (b ∷ []) now (after now b) bs
+      | Some m ↦ tokens_from m (text ++ b ∷ []) place (after now b) bs
+      | None ↦ token mode text place ∷ tokens_from (first_mode b) (b ∷ []) now (after now b) bs
     ]) is
 
 tokens_from-none : (mode : Mode) (text : List ℕ) (place now : Place) (b : ℕ) (bs : List ℕ) → next_mode mode b ≡ None → tokens_from mode text place now (b ∷ bs) ≡ token mode text place ∷ tokens_from (first_mode b) (b ∷ []) now (after now b) bs
 tokens_from-none mode text place now b bs is =
     ap (λ (o : Option Mode). elim o [
-      Some m ↦ tokens_from m (text ++ b ∷ []) place (after now b) bs
-    | None ↦ token mode text place ∷ tokens_from (first_mode b) (b ∷ []) now (after now b) bs
+      | Some m ↦ tokens_from m (text ++ b ∷ []) place (after now b) bs
+      | None ↦ token mode text place ∷ tokens_from (first_mode b) (b ∷ []) now (after now b) bs
     ]) is
 
 rest_from : (s : List ℕ) (index : ℕ) → index < length s → drop index s ≡ get_or s index 0 ∷ drop (index + 1) s

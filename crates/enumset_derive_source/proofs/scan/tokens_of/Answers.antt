@@ -14,29 +14,29 @@ loop-index-preserved c =
     let within : l.index < length s = omega arith in
     let later : c.after-now.result ≡ after l.now byte = c.after-now.ensures in
     elim c.match-next_mode.branch [
-      in-Some w ↦
-        let is : next_mode l.mode byte ≡ Some w.in-Some.next = search rules in
-        record {
-          cut = rw (w.tokens-is, w.mode-is, w.begin-is, w.place-is) (
-              cut-goes_on (map shape l.tokens.items) (tokens_of s) l.mode w.in-Some.next s l.place l.now c.after-now.result l.begin l.index within l.invariant.begun is later l.invariant.cut);
-          begun = omega arith;
-          counted = let h : counted w.in-Some.next ≤ counted l.mode + 1 = counted-next l.mode w.in-Some.next byte is in rw w.mode-is (omega arith);
-          line = rw later (omega (arith, line-after l.now byte));
-          column = rw later (column-after l.now byte (l.index + 1) l.invariant.column);
-        }
-    | in_default+in_ok-push w ↦
-        let is : next_mode l.mode byte ≡ None = search rules in
-        let begun : w.first_mode-mode.result ≡ first_mode byte = search rules in
-        let made : shape w.token.result ≡ token l.mode (take (l.index - l.begin) (drop l.begin s)) l.place = search rules in
-        let kept : is_ok w.push.result ≡ true = search rules in
-        let items : w.push.new.self.items ≡ l.tokens.items ++ w.token.result ∷ [] = rw kept at w.push.ensures.items in
-        let pushed : map shape w.push.new.self.items ≡ map shape l.tokens.items ++ shape w.token.result ∷ [] = rw (items, map_push) refl in
-        record {
-          cut = rw (w.tokens-is, w.mode-is, w.begin-is, w.place-is, pushed) (
-              cut-begins (map shape l.tokens.items) (tokens_of s) l.mode w.first_mode-mode.result (shape w.token.result) s l.place l.now c.after-now.result l.begin l.index within l.invariant.begun is begun made later l.invariant.cut);
-          begun = omega arith;
-          counted = rw (w.mode-is, begun, counted-first) (omega arith);
-          line = rw later (omega (arith, line-after l.now byte));
-          column = rw later (column-after l.now byte (l.index + 1) l.invariant.column);
-        }
+      | in-Some w ↦
+          let is : next_mode l.mode byte ≡ Some w.in-Some.next = search rules in
+          record {
+            cut = rw (w.tokens-is, w.mode-is, w.begin-is, w.place-is) (
+                cut-goes_on (map shape l.tokens.items) (tokens_of s) l.mode w.in-Some.next s l.place l.now c.after-now.result l.begin l.index within l.invariant.begun is later l.invariant.cut);
+            begun = omega arith;
+            counted = let h : counted w.in-Some.next ≤ counted l.mode + 1 = counted-next l.mode w.in-Some.next byte is in rw w.mode-is (omega arith);
+            line = rw later (omega (arith, line-after l.now byte));
+            column = rw later (column-after l.now byte (l.index + 1) l.invariant.column);
+          }
+      | in_default+in_ok-push w ↦
+          let is : next_mode l.mode byte ≡ None = search rules in
+          let begun : w.first_mode-mode.result ≡ first_mode byte = search rules in
+          let made : shape w.token.result ≡ token l.mode (take (l.index - l.begin) (drop l.begin s)) l.place = search rules in
+          let kept : is_ok w.push.result ≡ true = search rules in
+          let items : w.push.new.self.items ≡ l.tokens.items ++ w.token.result ∷ [] = rw kept at w.push.ensures.items in
+          let pushed : map shape w.push.new.self.items ≡ map shape l.tokens.items ++ shape w.token.result ∷ [] = rw (items, map_push) refl in
+          record {
+            cut = rw (w.tokens-is, w.mode-is, w.begin-is, w.place-is, pushed) (
+                cut-begins (map shape l.tokens.items) (tokens_of s) l.mode w.first_mode-mode.result (shape w.token.result) s l.place l.now c.after-now.result l.begin l.index within l.invariant.begun is begun made later l.invariant.cut);
+            begun = omega arith;
+            counted = rw (w.mode-is, begun, counted-first) (omega arith);
+            line = rw later (omega (arith, line-after l.now byte));
+            column = rw later (column-after l.now byte (l.index + 1) l.invariant.column);
+          }
     ]
