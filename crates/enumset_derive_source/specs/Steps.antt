@@ -1,8 +1,7 @@
--- What a reader does at a token: where it was, it goes on to another state, or stops at a fault. One definition for each
--- function of `src/reader`.
---     take_brackets      the brackets that have begun
---     take      the reader at any token
---     source_of      what a source text has
+-- The faults of reading, and the brackets that have begun.
+--     fault, stop      a fault at a place;  a step that stops there
+--     wanted_at, is_wanted      the same, where something else is wanted
+--     take_brackets      the brackets that have begun, after a token
 use Rattle.std.specs.Prelude.{ℕ, ◌+◌, ◌-◌, ◌==◌, Bool, true, false, not, ◌&&◌, ◌||◌, List, [], ◌∷◌, ◌++◌, codes, length, take, Option, Some, None, Result, Ok, Err, if◌then◌else◌, slice_get}
 use Rattle.std.specs.List.{list_any}
 use Rattle.std.specs.Str.{bytes_eq}
