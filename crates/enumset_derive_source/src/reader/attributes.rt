@@ -34,7 +34,7 @@ impl Reader {
                 self.piece.extend_from_slice(token.text)?;
                 self.state = State::AttributeHash;
             }
-            Kind::Word if token.is_word(b"pub") => {
+            Kind::Word if token.is_word("pub") => {
                 self.draft.visibility.extend_from_slice(token.text)?;
                 self.state = State::Visibility;
             }
@@ -75,7 +75,7 @@ impl Reader {
         if token.kind == Kind::End {
             return Err(wanted(token.place, Wanted::Item));
         }
-        if !token.is_word(b"enum") {
+        if !token.is_word("enum") {
             return Err(fault(token.place, Reason::NotAnEnum));
         }
         self.state = State::EnumName;
@@ -115,11 +115,11 @@ impl Reader {
                 }
                 self.state = State::AttributeName;
             }
-            State::AttributeName if token.is_word(b"derive") => {
+            State::AttributeName if token.is_word("derive") => {
                 self.piece.clear();
                 self.state = State::DeriveArguments;
             }
-            State::AttributeName if token.is_word(b"enumset") => {
+            State::AttributeName if token.is_word("enumset") => {
                 self.piece.clear();
                 self.state = State::OptionArguments;
             }
@@ -178,7 +178,7 @@ impl Reader {
     fn take_derive_path(&mut self, token: &Token) -> Result<(), Stop> {
         match self.state {
             State::DeriveName | State::DerivePath if token.is_name() => {
-                self.names_element_type = token.is_word(b"EnumSetType");
+                self.names_element_type = token.is_word("EnumSetType");
                 self.state = State::DeriveNext;
             }
             State::DeriveName | State::DeriveNext if token.is_path_separator() => {

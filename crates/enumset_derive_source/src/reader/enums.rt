@@ -39,7 +39,7 @@ impl Reader {
                 Ok(())
             }
             b'<' => Err(fault(token.place, Reason::HasParameters)),
-            _ if token.is_word(b"where") => Err(fault(token.place, Reason::HasParameters)),
+            _ if token.is_word("where") => Err(fault(token.place, Reason::HasParameters)),
             _ => Err(wanted(token.place, Wanted::Variants)),
         }
     }

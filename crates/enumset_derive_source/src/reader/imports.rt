@@ -15,7 +15,7 @@ impl Reader {
         match self.state {
             State::UseTree => self.take_tree(token),
             _ if token.is_blank() => Ok(()),
-            State::UseCrate if token.is_word(b"enumset") => {
+            State::UseCrate if token.is_word("enumset") => {
                 self.state = State::UsePath;
                 Ok(())
             }

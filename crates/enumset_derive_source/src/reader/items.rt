@@ -88,7 +88,7 @@ impl Reader {
                     .push(Text::from(token.text.to_vec(self.alloc)?))?;
                 self.state = State::Attributes;
             }
-            Kind::Word if token.is_word(b"use") => {
+            Kind::Word if token.is_word("use") => {
                 self.draft.held.extend_from_slice(token.text)?;
                 self.state = State::UseCrate;
             }

@@ -1,6 +1,11 @@
 //! The options of an element type, as they are read.
 
-use crate::token::{Kind, Token};
+ghost use Rattle.std.specs.Prelude.{◌≡◌, ◌≤◌, IfOk, length};
+ghost use Rattle.enumset_derive_source.specs.Tokens.{shape};
+ghost use Rattle.enumset_derive_source.specs.Words.{is_text};
+ghost use Rattle.enumset_derive_source.specs.Settings.{integer_named, map_named, representation_named, serialized_named, unquoted};
+
+use crate::token::{Kind, Token, is};
 use enumset_derive_plan::{
     IntegerType, Map, Options, Place, Reason, Representation, Serialized, Text,
 };
@@ -20,23 +25,30 @@ pub(crate) enum Key {
 }
 
 impl Key {
+    ghost use Rattle.std.specs.Prelude.{◌≡◌};
+    ghost use Rattle.enumset_derive_source.specs.Settings.{has_value, key_named};
+
     /// The option of this name.
-    pub(crate) fn named(name: &[u8]) -> Option<Key> {
-        match name {
-            b"map" => Some(Key::Map),
-            b"repr" => Some(Key::Representation),
-            b"serialize_repr" => Some(Key::Serialized),
-            b"serialize_deny_unknown" => Some(Key::DenyUnknown),
-            b"no_ops" => Some(Key::NoOps),
-            b"no_super_impls" => Some(Key::NoSuperImpls),
-            b"display" => Some(Key::Display),
-            b"crate_name" => Some(Key::CrateName),
-            _ => None,
-        }
+    pub(crate) fn named(name: &[u8]) -> Option<Key>
+        ensures { result ≡ key_named name.now }
+    {
+        Some(match name {
+            _ if is(name, "map") => Key::Map,
+            _ if is(name, "repr") => Key::Representation,
+            _ if is(name, "serialize_repr") => Key::Serialized,
+            _ if is(name, "serialize_deny_unknown") => Key::DenyUnknown,
+            _ if is(name, "no_ops") => Key::NoOps,
+            _ if is(name, "no_super_impls") => Key::NoSuperImpls,
+            _ if is(name, "display") => Key::Display,
+            _ if is(name, "crate_name") => Key::CrateName,
+            _ => return None,
+        })
     }
 
     /// Whether the option has a value.
-    pub(crate) fn has_value(self) -> bool {
+    pub(crate) fn has_value(self) -> bool
+        ensures { result ≡ has_value self }
+    {
         match self {
             Key::Map | Key::Representation | Key::Serialized | Key::CrateName => true,
             Key::DenyUnknown | Key::NoOps | Key::NoSuperImpls | Key::Display => false,
@@ -58,8 +70,13 @@ struct Given {
 }
 
 impl Given {
+    ghost use Rattle.std.specs.Prelude.{◌≡◌};
+    ghost use Rattle.enumset_derive_source.specs.Settings.{given_at, given_too};
+
     /// Where the option was given.
-    fn get(&self, key: Key) -> Option<Place> {
+    fn get(&self, key: Key) -> Option<Place>
+        ensures { result ≡ given_at key self.now }
+    {
         match key {
             Key::Map => self.map,
             Key::Representation => self.representation,
@@ -72,7 +89,9 @@ impl Given {
         }
     }
 
-    fn set(&mut self, key: Key, place: Place) {
+    fn set(&mut self, key: Key, place: Place)
+        ensures { self.new ≡ given_too key place self.old }
+    {
         let place = Some(place);
         match key {
             Key::Map => self.map = place,
@@ -99,6 +118,8 @@ pub(crate) struct Settings {
 }
 
 impl Settings {
+    ghost use Rattle.std.specs.Prelude.{◌≤◌, length};
+
     /// No option.
     pub(crate) fn new() -> Settings {
         Settings {
@@ -135,7 +156,9 @@ impl Settings {
         alloc: Global,
         key: Key,
         value: &Token,
-    ) -> Result<Option<Reason>, AllocError> {
+    ) -> Result<Option<Reason>, AllocError>
+        requires { 2 ≤ length value.now.text.now }
+    {
         match key {
             Key::Map => match map_named(value.text) {
                 Some(map) => {
@@ -175,52 +198,65 @@ impl Settings {
 }
 
 /// Whether a token is a text in quotes.
-pub(crate) fn is_text(token: &Token) -> bool {
-    token.kind == Kind::Quoted && matches!(token.text, [b'"', .., b'"'])
+pub(crate) fn is_text(token: &Token) -> bool
+    ensures { result ≡ is_text (shape token.now) }
+{
+    matches!(token.kind, Kind::Quoted) && matches!(token.text, [b'"', .., b'"'])
 }
 
 /// The text in quotes.
-fn unquoted(alloc: Global, value: &[u8]) -> Result<Text, AllocError> {
-    let text = match value {
-        [b'"', text @ .., b'"'] => text,
-        text => text,
-    };
-    Ok(Text::from(text.to_vec(alloc)?))
+fn unquoted(alloc: Global, value: &[u8]) -> Result<Text, AllocError>
+    requires { 2 ≤ length value.now }
+    ensures { IfOk result (λ text. text ≡ unquoted value.now) }
+{
+    Ok(Text::from(value[1..value.len() - 1].to_vec(alloc)?))
 }
 
-fn map_named(value: &[u8]) -> Option<Map> {
-    match value {
-        b"\"lsb\"" => Some(Map::Lsb),
-        b"\"msb\"" => Some(Map::Msb),
-        b"\"mask\"" => Some(Map::Mask),
-        b"\"compact\"" => Some(Map::Compact),
-        _ => None,
-    }
+/// The map of a text in quotes.
+fn map_named(value: &[u8]) -> Option<Map>
+    ensures { result ≡ map_named value.now }
+{
+    Some(match value {
+        _ if is(value, "\"lsb\"") => Map::Lsb,
+        _ if is(value, "\"msb\"") => Map::Msb,
+        _ if is(value, "\"mask\"") => Map::Mask,
+        _ if is(value, "\"compact\"") => Map::Compact,
+        _ => return None,
+    })
 }
 
-fn integer_named(value: &[u8]) -> Option<IntegerType> {
-    match value {
-        b"\"u8\"" => Some(IntegerType::U8),
-        b"\"u16\"" => Some(IntegerType::U16),
-        b"\"u32\"" => Some(IntegerType::U32),
-        b"\"u64\"" => Some(IntegerType::U64),
-        b"\"u128\"" => Some(IntegerType::U128),
-        _ => None,
-    }
+/// The integer type of a text in quotes.
+fn integer_named(value: &[u8]) -> Option<IntegerType>
+    ensures { result ≡ integer_named value.now }
+{
+    Some(match value {
+        _ if is(value, "\"u8\"") => IntegerType::U8,
+        _ if is(value, "\"u16\"") => IntegerType::U16,
+        _ if is(value, "\"u32\"") => IntegerType::U32,
+        _ if is(value, "\"u64\"") => IntegerType::U64,
+        _ if is(value, "\"u128\"") => IntegerType::U128,
+        _ => return None,
+    })
 }
 
-fn representation_named(value: &[u8]) -> Option<Representation> {
-    match value {
-        b"\"array\"" => Some(Representation::Words),
-        _ => Some(Representation::Integer(integer_named(value)?)),
+/// The representation of a text in quotes.
+fn representation_named(value: &[u8]) -> Option<Representation>
+    ensures { result ≡ representation_named value.now }
+{
+    if is(value, "\"array\"") {
+        return Some(Representation::Words);
     }
+    Some(Representation::Integer(integer_named(value)?))
 }
 
-fn serialized_named(value: &[u8]) -> Option<Serialized> {
-    match value {
-        b"\"array\"" => Some(Serialized::Words),
-        b"\"list\"" => Some(Serialized::List),
-        b"\"map\"" => Some(Serialized::Map),
-        _ => Some(Serialized::Integer(integer_named(value)?)),
-    }
+/// The form in JSON of a text in quotes.
+fn serialized_named(value: &[u8]) -> Option<Serialized>
+    ensures { result ≡ serialized_named value.now }
+{
+    Some(match value {
+        _ if is(value, "\"array\"") => Serialized::Words,
+        _ if is(value, "\"list\"") => Serialized::List,
+        _ if is(value, "\"map\"") => Serialized::Map,
+        _ => Serialized::Integer(integer_named(value)?),
+    })
 }

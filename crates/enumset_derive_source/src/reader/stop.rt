@@ -1,5 +1,9 @@
 //! Why reading stops.
 
+ghost use Rattle.std.specs.Prelude.{◌≡◌};
+ghost use Rattle.enumset_derive_source.specs.declared.reader.stop.Stop.TheVariants as TheStop;
+ghost use Rattle.enumset_derive_source.specs.Steps.{fault, wanted_at};
+
 use enumset_derive_plan::{Fault, Place, Reason, Wanted};
 use std::alloc::{AllocError, AllocFailed};
 
@@ -33,11 +37,15 @@ impl<T: Drop> From<AllocFailed<T>> for Stop {
 }
 
 /// A stop at a place for a reason.
-pub(crate) fn fault(place: Place, reason: Reason) -> Stop {
+pub(crate) fn fault(place: Place, reason: Reason) -> Stop
+    ensures { result ≡ TheStop.Fault (fault place reason) }
+{
     Stop::Fault(Fault { place, reason })
 }
 
 /// A stop at a place where something else is wanted.
-pub(crate) fn wanted(place: Place, wanted: Wanted) -> Stop {
+pub(crate) fn wanted(place: Place, wanted: Wanted) -> Stop
+    ensures { result ≡ TheStop.Fault (wanted_at place wanted) }
+{
     fault(place, Reason::Wanted(wanted))
 }
