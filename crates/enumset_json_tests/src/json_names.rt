@@ -163,21 +163,32 @@ fn the_line_of_a_fault(rt: HostRuntime) -> Result<(), Fail> {
     Ok(())
 }
 
-/// Writes a line of each set, its list and its map, and tests that the list is read again.
-pub fn write_sets<T: EnumSetNames + fmt::Debug>(
+/// Writes a line of a set, its list and its map, and tests that the list is read again.
+pub fn write_named<T: EnumSetNames + fmt::Debug>(
+    rt: &impl Abort,
+    alloc: Global,
+    text: &mut String,
+    set: &EnumSet<T>,
+) -> Result<(), Fail> {
+    writeln!(
+        text,
+        "{} {}",
+        to_list_text(alloc, set)?,
+        to_map_text(alloc, set)?
+    )?;
+    assert_eq!(rt; sent_as_list_text(alloc, set, Unknown::Refuse)?, *set);
+    Ok(())
+}
+
+// Writes a line of each set.
+fn write_sets<T: EnumSetNames + fmt::Debug>(
     rt: &impl Abort,
     alloc: Global,
     text: &mut String,
     sets: &[EnumSet<T>],
 ) -> Result<(), Fail> {
     for set in sets {
-        writeln!(
-            text,
-            "{} {}",
-            to_list_text(alloc, set)?,
-            to_map_text(alloc, set)?
-        )?;
-        assert_eq!(rt; sent_as_list_text(alloc, set, Unknown::Refuse)?, *set);
+        write_named(rt, alloc, text, set)?;
     }
     Ok(())
 }

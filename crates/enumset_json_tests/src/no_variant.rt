@@ -3,7 +3,7 @@
 ghost use Rattle.std.specs.Prelude.{◌≤◌};
 
 use crate::json::{comes_back, expect_mixed_numbers, expect_numbers, expect_words, write_set};
-use crate::json_names::{Form, expect_form, write_sets};
+use crate::json_names::{Form, expect_form, write_named};
 use enumset::set_json::JsonWidth;
 use enumset::{EnumSet, EnumSetNames, EnumSetType, EnumSetTypeWithRepr, names_of, variant_of};
 use std::alloc::Global;
@@ -31,7 +31,7 @@ fn expect_numbers_and_words<T: EnumSetTypeWithRepr + fmt::Debug>(
 // Tests what lists and maps are written, and what is read from them.
 fn expect_names<T: EnumSetNames + fmt::Debug>(rt: &impl Abort, alloc: Global) -> Result<(), Fail> {
     let mut text = String::new(alloc);
-    write_sets(rt, alloc, &mut text, &[EnumSet::<T>::all()])?;
+    write_named(rt, alloc, &mut text, &EnumSet::<T>::all())?;
     assert_eq!(rt; text.as_str(), "[] {}\n");
     expect_form::<T>(rt, alloc, Form::List, LISTS)?;
     expect_form::<T>(rt, alloc, Form::Map, MAPS)
