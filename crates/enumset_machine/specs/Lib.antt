@@ -3,5 +3,6 @@ pub mod Plans
 pub mod Runs
 pub mod MixedRuns
 pub mod Transcripts
+pub mod Alike
 pub mod Operands
 pub mod Answers

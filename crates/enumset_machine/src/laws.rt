@@ -1,9 +1,12 @@
-//! A law of runs of mixed sets, as a function that does nothing at run time: calling it gives the proof the law.
+//! Laws of runs, as functions that do nothing at run time: calling one gives the proof its law.
 
-ghost use Rattle.std.specs.Prelude.{◌≡◌, ℕ, min, IsTrue, List};
+ghost use Rattle.std.specs.Prelude.{◌≡◌, ◌↔◌, ℕ, min, IsTrue, List};
 ghost use Rattle.std.specs.List.{list_all};
-ghost use Rattle.enumset_repr.specs.BitSet.{BitSet};
-ghost use Rattle.enumset_machine.specs.MixedRuns.{mixed_replies};
+ghost use Rattle.enumset_repr.specs.BitSet.{BitSet, below};
+ghost use Rattle.enumset_machine.specs.States.{State};
+ghost use Rattle.enumset_machine.specs.Runs.{outcome};
+ghost use Rattle.enumset_machine.specs.MixedRuns.{mixed_outcome, mixed_replies};
+ghost use Rattle.enumset_machine.specs.Alike.{IsStateOver, ReplyAlike};
 ghost use Rattle.enumset_machine.specs.Transcripts.{is_within};
 ghost use Rattle.enumset_commands.specs.declared.mixed_command.MixedCommand.{MixedCommand};
 
@@ -14,4 +17,18 @@ pub fn mixed_transcript()
     ensures { (valid : BitSet) (one other : ℕ) (commands : List MixedCommand)
         → IsTrue (list_all (is_within (min one other)) commands)
         → mixed_replies valid one commands ≡ mixed_replies valid other commands }
+{}
+
+/// Two states of a run reply alike to every list of commands exactly if they are the same: if their registers hold the
+/// same sets, and their iterators have the same items left. So the model has nothing that no run can see.
+pub fn exact_states()
+    ensures { (valid : BitSet) (s t : State) → IsStateOver valid s → IsStateOver valid t
+        → ReplyAlike (outcome valid) s t ↔ (s ≡ t) }
+{}
+
+/// The same of runs of mixed sets, in a representation of any width.
+pub fn exact_mixed_states()
+    ensures { (valid : BitSet) (width : ℕ) (s t : State)
+        → IsStateOver (below width) s → IsStateOver (below width) t
+        → ReplyAlike (mixed_outcome valid width) s t ↔ (s ≡ t) }
 {}
