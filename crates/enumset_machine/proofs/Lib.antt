@@ -3,4 +3,5 @@ pub mod Cuts
 pub mod MixedItems
 pub mod OneTranscript
 pub mod Alike
+pub mod StatesOfRuns
 pub mod Operands

@@ -21,7 +21,7 @@ use Rattle.enumset_machine.specs.Runs.{plan}
 use Rattle.enumset_machine.specs.MixedRuns.{mixed_plan, mixed_outcome, mixed_replies}
 use Rattle.enumset_machine.specs.Transcripts.{input_bits, mixed_input_bits, inverts_all_bits, is_within}
 
-both : (a b : Bool) → (a && b) ≡ true → (a ≡ true) × (b ≡ true)
+pub both : (a b : Bool) → (a && b) ≡ true → (a ≡ true) × (b ≡ true)
 both true true h = (refl, refl)
 both true false h = (refl, h)
 both false b h = (h, absurd (cc))

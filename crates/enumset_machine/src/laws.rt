@@ -2,12 +2,13 @@
 
 ghost use Rattle.std.specs.Prelude.{◌≡◌, ◌↔◌, ℕ, min, IsTrue, List};
 ghost use Rattle.std.specs.List.{list_all};
-ghost use Rattle.enumset_repr.specs.BitSet.{BitSet, below};
-ghost use Rattle.enumset_machine.specs.States.{State};
+ghost use Rattle.enumset_repr.specs.BitSet.{BitSet, is_subset, below};
+ghost use Rattle.enumset_machine.specs.States.{State, start};
 ghost use Rattle.enumset_machine.specs.Runs.{outcome};
 ghost use Rattle.enumset_machine.specs.MixedRuns.{mixed_outcome, mixed_replies};
 ghost use Rattle.enumset_machine.specs.Alike.{IsStateOver, ReplyAlike};
 ghost use Rattle.enumset_machine.specs.Transcripts.{is_within};
+ghost use Rattle.enumset_commands.specs.declared.command.Command.{Command};
 ghost use Rattle.enumset_commands.specs.declared.mixed_command.MixedCommand.{MixedCommand};
 
 /// Two types with the same valid bits, in representations of any widths, give the same replies to commands of mixed
@@ -17,6 +18,17 @@ pub fn mixed_transcript()
     ensures { (valid : BitSet) (one other : ℕ) (commands : List MixedCommand)
         → IsTrue (list_all (is_within (min one other)) commands)
         → mixed_replies valid one commands ≡ mixed_replies valid other commands }
+{}
+
+/// A run begins in a state of four sets of valid bits and two lists, and each command leaves such a state; in a run of
+/// mixed sets the bits are below the width.
+pub fn states_of_runs()
+    ensures start { (bits : BitSet) → IsStateOver bits start }
+    ensures step { (valid : BitSet) (s : State) (command : Command)
+        → IsStateOver valid s → IsStateOver valid (outcome valid s command).state }
+    ensures mixed_step { (valid : BitSet) (width : ℕ) (s : State) (command : MixedCommand)
+        → IsTrue (is_subset valid (below width))
+        → IsStateOver (below width) s → IsStateOver (below width) (mixed_outcome valid width s command).state }
 {}
 
 /// Two states of a run reply alike to every list of commands exactly if they are the same: if their registers hold the
