@@ -5,3 +5,4 @@ pub mod Literals
 pub mod Seen
 pub mod Steps
 pub mod Settings
+pub mod Laws

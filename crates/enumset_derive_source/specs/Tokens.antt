@@ -4,7 +4,9 @@
 --     after      the place after a byte
 --     kind_of      what a token is, from where the text is after its last byte, and its bytes
 --     tokens_of      the tokens of a text, the end among them
+--     texts_of      the bytes of tokens, one after another
 use Rattle.std.specs.Prelude.{ℕ, ◌+◌, ◌==◌, Bool, not, ◌&&◌, List, [], ◌∷◌, ◌++◌, Option, Some, None, if◌then◌else◌, slice_index}
+use Rattle.std.specs.List.{flat_map}
 use Rattle.enumset_derive_plan.specs.declared.place.Place.{Place}
 use Rattle.enumset_derive_source.specs.declared.token.Token.{Token}
 use Rattle.enumset_derive_source.specs.declared.token.Kind.{Kind}
@@ -86,3 +88,6 @@ start = record { line = 1; column = 1 }
 -- the first token is one of space, of no bytes if the text begins otherwise
 abbrev pub tokens_of : List ℕ → List TokenShape
 tokens_of text = tokens_from Space [] start start text
+
+abbrev pub texts_of : List TokenShape → List ℕ
+texts_of tokens = flat_map (λ t. t.text) tokens

@@ -1,7 +1,7 @@
 //! Cuts a source text into tokens.
 
 ghost use Rattle.std.specs.Prelude.{◌≡◌, ◌+◌, ◌<◌, ◌^◌, IfOk, map, slice_index};
-ghost use Rattle.enumset_derive_source.specs.Tokens.{after, comment_kind, kind_of, token, shape, tokens_of};
+ghost use Rattle.enumset_derive_source.specs.Tokens.{after, comment_kind, kind_of, token, shape, texts_of, tokens_of};
 
 pub mod mode;
 
@@ -15,7 +15,8 @@ use std::alloc::{AllocError, Global};
 /// The first token is one of space, of no bytes if the text begins otherwise. The texts of the tokens are the text.
 #[tactic(auto, using(crate::proofs::Cutting::scan_steps))]
 pub fn tokens_of<'a>(alloc: Global, text: &'a [u8]) -> Result<Vec<Token<'a>>, AllocError>
-    ensures { IfOk result (λ tokens. map shape tokens.items ≡ tokens_of text.now) }
+    ensures tokens { IfOk result (λ tokens. map shape tokens.items ≡ tokens_of text.now) }
+    ensures texts { IfOk result (λ tokens. texts_of (map shape tokens.items) ≡ text.now) }
 {
     let mut tokens = Vec::new(alloc);
     let mut mode = Mode::Space;

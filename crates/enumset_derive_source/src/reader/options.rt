@@ -118,10 +118,14 @@ pub(crate) struct Settings {
 }
 
 impl Settings {
-    ghost use Rattle.std.specs.Prelude.{◌≤◌, length};
+    ghost use Rattle.std.specs.Prelude.{◌≡◌, ◌≤◌, OnOk, IfOk, length};
+    ghost use Rattle.enumset_derive_source.specs.Tokens.{shape};
+    ghost use Rattle.enumset_derive_source.specs.Settings.{give, given_at, no_settings, options_of, set_value, wrong_value};
 
     /// No option.
-    pub(crate) fn new() -> Settings {
+    pub(crate) fn new() -> Settings
+        ensures { result ≡ no_settings }
+    {
         Settings {
             given: Given {
                 map: None,
@@ -142,7 +146,10 @@ impl Settings {
     }
 
     /// Notes that an option is given, or says where it was given before.
-    pub(crate) fn give(&mut self, key: Key, place: Place) -> Option<Place> {
+    pub(crate) fn give(&mut self, key: Key, place: Place) -> Option<Place>
+        ensures before { result ≡ given_at key self.old.given }
+        ensures settings { self.new ≡ give key place self.old }
+    {
         let before = self.given.get(key);
         if before.is_none() {
             self.given.set(key, place);
@@ -150,7 +157,8 @@ impl Settings {
         before
     }
 
-    /// Sets the value of an option to a text in quotes, or says what is wrong with it. The only error is out of memory.
+    /// Sets the value of an option to a text in quotes, or says what is wrong with it and sets nothing. The only error is
+    /// out of memory.
     pub(crate) fn set_value(
         &mut self,
         alloc: Global,
@@ -158,6 +166,8 @@ impl Settings {
         value: &Token,
     ) -> Result<Option<Reason>, AllocError>
         requires { 2 ≤ length value.now.text.now }
+        ensures fault { IfOk result (λ reason. reason ≡ wrong_value key value.now.text.now) }
+        ensures settings { OnOk result (self.new ≡ set_value key (shape value.now) self.old) }
     {
         match key {
             Key::Map => match map_named(value.text) {
@@ -182,7 +192,9 @@ impl Settings {
     }
 
     /// The options of the enum whose name is there.
-    pub(crate) fn into_options(self, name: Place) -> Options {
+    pub(crate) fn into_options(self, name: Place) -> Options
+        ensures { result ≡ options_of name self }
+    {
         Options {
             map: self.map,
             map_place: self.map_place.unwrap_or(name),

@@ -1,8 +1,10 @@
-use Rattle.std.proofs.Common.{rules, ◌≡◌, ◌+◌, ◌-◌, ◌<◌, ◌≤◌, ◌++◌, ℕ, List, [], ◌∷◌, length, map, take, drop, get_or, Option, Some, None, is_ok, true, refl, arith}
+use Rattle.std.proofs.Common.{rules, ◌≡◌, ◌+◌, ◌-◌, ◌<◌, ◌≤◌, ◌++◌, ℕ, List, [], ◌∷◌, length, map, take, drop, get_or, Option, Some, None, is_ok, true, refl, ap, ◌∙◌, arith}
+use Rattle.std.proofs.lemmas.Grind.{common_steps}
 use Rattle.std.proofs.lemmas.List.{map_push}
 use Rattle.enumset_derive_source.specs.Modes.{first_mode, next_mode, counted}
-use Rattle.enumset_derive_source.specs.Tokens.{TokenShape, after, shape, token, tokens_of}
-use Rattle.enumset_derive_source.proofs.Cutting.{cut-goes_on, cut-begins, counted-next, counted-first, line-after, column-after}
+use Rattle.enumset_derive_source.specs.Tokens.{TokenShape, after, shape, texts_of, token, tokens_of}
+use Rattle.enumset_derive_source.specs.Laws.Tokens.{texts_of-tokens_of}
+use Rattle.enumset_derive_source.proofs.Cutting.{cut-goes_on, cut-begins, counted-next, counted-first, line-after, column-after, scan_steps}
 use Rattle.enumset_derive_source.proofs.scan.tokens_of.Goals as goal
 use Rattle.enumset_derive_source.proofs.scan.tokens_of.Goals.{in-Some, in_default+in_ok-push}
 
@@ -40,3 +42,9 @@ loop-index-preserved c =
             column = rw later (column-after l.now byte (l.index + 1) l.invariant.column);
           }
     ]
+
+pub returns-clause-texts : goal.returns-clause-texts
+returns-clause-texts c =
+    let s : List ℕ = c.args.text.now in
+    let whole : map shape c.push-3.new.self.items ≡ tokens_of s = grind (arith, common_steps, scan_steps) in
+    ap texts_of whole ∙ texts_of-tokens_of s
