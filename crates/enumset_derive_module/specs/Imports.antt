@@ -2,15 +2,17 @@
 --     place_from      where a name goes among names in order, counted from a number, unless it is there
 --     insert_name, insert_names      names in order with one more name;  with more names
 --     is_path, is_glob, has_glob      a name is a path;  it stands for all;  some name does
+--     is_array_below      a name is the representation in words, and the facade has it not
 --     path_text, paths_text      the import of a name that is a path;  of all such names, each on a line
 --     plain_names      the names that are no paths
 --     names_on_a_line, names_on_lines, listed_text      the import of such names
 --     names_text      the same, or of all names at once
 --     uses_text      the imports
-use Rattle.std.specs.Prelude.{ℕ, ◌+◌, Bool, if◌then◌else◌, ◌==◌, nat_lt, List, [], ◌∷◌, length, codes, insert, Option, Some, None}
+use Rattle.std.specs.Prelude.{ℕ, ◌+◌, Bool, not, ◌&&◌, if◌then◌else◌, ◌==◌, nat_lt, List, [], ◌∷◌, length, codes, insert, Option, Some, None}
 use Rattle.std.specs.List.{flat_map, list_any}
 use Rattle.std.specs.Ordering.{nat_cmp, match_ordering}
 use Rattle.std.specs.Cmp.Lexicographic.{slice_cmp}
+use Rattle.std.specs.Str.{bytes_eq}
 use Rattle.enumset_derive_module.specs.Templates.{lines_of, filled}
 use Rattle.enumset_derive_module.specs.Layout.{wrapped, joined}
 use Rattle.enumset_derive_module.specs.Words.{texts_of}
@@ -35,6 +37,12 @@ insert_names (n ∷ ns) names = insert_names ns (insert_name n names)
 abbrev pub path_use_template : List ℕ
 path_use_template = lines_of
     (codes "use $0::$1;" ∷
+    codes "" ∷ [])
+
+-- the import of the representation in words where the crate `enumset` does not stand between
+abbrev pub array_use_template : List ℕ
+array_use_template = lines_of
+    (codes "use enumset_array::ArrayRepr;" ∷
     codes "" ∷ [])
 
 -- the import of names on one line
@@ -68,8 +76,16 @@ uses_template = lines_of
 abbrev pub is_path : List ℕ → Bool
 is_path name = list_any (λ c. c == 58) name
 
+-- the crate `enumset_sets` has no representation in words
+abbrev pub is_array_below : List ℕ → List ℕ → Bool
+is_array_below facade name = bytes_eq facade (codes "enumset_sets") && bytes_eq name (codes "internal::ArrayRepr")
+
 abbrev pub path_text : List ℕ → List ℕ → List ℕ
-path_text facade name = if is_path name then filled path_use_template (facade ∷ name ∷ []) else []
+path_text facade name =
+    if not (is_path name) then [] else
+    (if is_array_below facade name
+    then array_use_template
+    else filled path_use_template (facade ∷ name ∷ []))
 
 abbrev pub paths_text : List ℕ → List (List ℕ) → List ℕ
 paths_text facade names = flat_map (λ n. path_text facade n) names

@@ -7,6 +7,7 @@ pub mod Lists
 pub mod Constants
 pub mod ElementTypes
 pub mod Names
+pub mod Displays
 pub mod Operators
 pub mod Enums
 pub mod Imports

@@ -1,5 +1,5 @@
 -- The text of a module.
---     always_needed, needed_names      the names of the facade that the text of an enum needs
+--     always_needed, needed_names      the names of the facade that the text of each enum needs;  that of one enum
 --     names_after      the names that items import and need, in order, with those before
 --     facade_after      what the facade is called: the last name that an enum asks for, or the one before
 --     item_text      all that is written for an enum
@@ -17,24 +17,30 @@ use Rattle.enumset_derive_module.specs.Templates.{lines_of, filled}
 use Rattle.enumset_derive_module.specs.Enums.{enum_text}
 use Rattle.enumset_derive_module.specs.Forms.{form_of}
 use Rattle.enumset_derive_module.specs.ElementTypes.{element_type_text}
-use Rattle.enumset_derive_module.specs.Names.{names_text, display_text, with_repr_text}
+use Rattle.enumset_derive_module.specs.Names.{is_by_names, names_text, is_narrow, with_repr_text}
+use Rattle.enumset_derive_module.specs.Displays.{display_text}
 use Rattle.enumset_derive_module.specs.Operators.{operators_text}
 use Rattle.enumset_derive_module.specs.Imports.{insert_names, uses_text}
 
-abbrev pub store_name : Store → List ℕ
-store_name (Integer t n) = codes "EnumSetTypeWithRepr"
-store_name (Words ws) = codes "internal::ArrayRepr"
-
-abbrev pub operator_names : Bool → List (List ℕ)
-operator_names true = []
-operator_names false = codes "EnumSet" ∷ []
-
 abbrev pub always_needed : List (List ℕ)
-always_needed = codes "EnumSetNames" ∷ codes "EnumSetType" ∷ codes "names_of" ∷ codes "variant_of" ∷ []
+always_needed = codes "EnumSetType" ∷ codes "variant_of" ∷ []
+
+abbrev pub is_in_words : Store → Bool
+is_in_words (Integer t n) = false
+is_in_words (Words ws) = true
+
+abbrev pub name_if : Bool → List ℕ → List (List ℕ)
+name_if true name = name ∷ []
+name_if false name = []
 
 unfoldable pub needed_names : EnumDeclaration → Store → List (List ℕ)
 needed_names declaration store =
-    (always_needed ++ store_name store ∷ []) ++ operator_names declaration.options.leaves_out_operators
+    ((((always_needed
+    ++ name_if (is_in_words store) (codes "internal::ArrayRepr"))
+    ++ name_if (is_narrow store) (codes "EnumSetTypeWithRepr"))
+    ++ name_if (not declaration.options.leaves_out_operators) (codes "EnumSet"))
+    ++ name_if (is_by_names declaration.options.serialized) (codes "EnumSetNames"))
+    ++ name_if (is_by_names declaration.options.serialized) (codes "names_of")
 
 unfoldable pub names_after : List (List ℕ) → List Item → List Plan → List (List ℕ)
 names_after names [] plans = names
@@ -56,14 +62,14 @@ item_template = lines_of
     codes "" ∷
     codes "$1$2$3$4$5" ∷ [])
 
-unfoldable pub parts_text : EnumDeclaration → Plan → List ℕ → List ℕ
-parts_text declaration plan element_type =
+unfoldable pub parts_text : EnumDeclaration → Plan → List ℕ → List ℕ → List ℕ
+parts_text declaration plan element_type display =
     filled item_template
     (enum_text declaration
     ∷ element_type
     ∷ with_repr_text declaration.name plan.store
     ∷ names_text declaration plan
-    ∷ display_text declaration
+    ∷ display
     ∷ operators_text declaration ∷ [])
 
 unfoldable pub item_text : List ℕ → List ℕ → EnumDeclaration → Plan → List ℕ
@@ -71,6 +77,7 @@ item_text crate_name module_name declaration plan =
     parts_text declaration plan
     (element_type_text crate_name module_name declaration plan
     (form_of declaration.variants.items plan.discriminants.items plan.bits.items))
+    (display_text crate_name module_name declaration plan)
 
 abbrev pub has_imports : List Item → Bool
 has_imports [] = false

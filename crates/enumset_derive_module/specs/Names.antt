@@ -1,9 +1,12 @@
--- The names of an element type's values, its `Display`, and its sets as values of their representation.
---     names_text      the names
---     display_text      the `Display` by the names, if it is asked for
---     with_repr_text      sets as values of their representation, if that is an integer
-use Rattle.std.specs.Prelude.{ℕ, if◌then◌else◌, List, [], ◌∷◌, codes}
+-- The names of an element type's values, and its sets as values of their representation.
+--     is_by_names      sets are written in JSON by the names of their elements
+--     all_names_text, names_text      the names;  the names if they are needed so
+--     is_narrow      a representation has at most 128 bits
+--     with_repr_text      sets as values of their representation, if it is narrow
+use Rattle.std.specs.Prelude.{ℕ, Bool, true, false, if◌then◌else◌, nat_le, List, [], ◌∷◌, length, codes, Option, Some, None}
 use Rattle.enumset_derive_plan.specs.declared.declaration.EnumDeclaration.{EnumDeclaration}
+use Rattle.enumset_derive_plan.specs.declared.options.Serialized.{Serialized}
+use Rattle.enumset_derive_plan.specs.declared.options.Serialized.TheVariants as form
 use Rattle.enumset_derive_plan.specs.declared.plan.Plan.{Plan}
 use Rattle.enumset_derive_plan.specs.declared.plan.Store.{Store}
 use Rattle.enumset_derive_plan.specs.declared.plan.Store.TheVariants.{Integer, Words}
@@ -35,25 +38,6 @@ names_template = lines_of
     codes "    ghost named = { tt };" ∷
     codes "}" ∷ [])
 
--- the name as the text of a value
-abbrev pub display_template : List ℕ
-display_template = lines_of
-    (codes "" ∷
-    codes "" ∷
-    codes "/// The name of the variant." ∷
-    codes "impl std::fmt::Display for $0 {" ∷
-    codes "    ghost use Rattle.std.specs.Prelude.{Some};" ∷
-    codes "    ghost use Rattle.enumset.specs.Names.{name_of, names_of};" ∷
-    codes "" ∷
-    codes "    ghost output = { λ v. Some (name_of" ∷
-    codes "        (names_of ⟦<$0 as EnumSetType>⟧.elements ⟦<$0 as EnumSetNames>⟧.names)" ∷
-    codes "        (⟦<$0 as EnumSetType>⟧.elements.bit v)) };" ∷
-    codes "" ∷
-    codes "    fn fmt<W: std::fmt::Write>(&self, f: &mut std::fmt::Formatter<W>) -> std::fmt::Result {" ∷
-    codes "        f.write_str(self.name())" ∷
-    codes "    }" ∷
-    codes "}" ∷ [])
-
 -- sets as values of their representation
 abbrev pub with_repr_template : List ℕ
 with_repr_template = lines_of
@@ -65,19 +49,30 @@ with_repr_template = lines_of
     codes "    ghost narrow = { Prim.search rules };" ∷
     codes "}" ∷ [])
 
+abbrev pub is_by_names : Option Serialized → Bool
+is_by_names (Some form.List) = true
+is_by_names (Some form.Map) = true
+is_by_names (Some form.Words) = false
+is_by_names (Some (form.Integer t)) = false
+is_by_names None = false
+
 -- after `    ghost names = { ` a line has 80 columns left
-unfoldable pub names_text : EnumDeclaration → Plan → List ℕ
-names_text declaration plan =
+unfoldable pub all_names_text : EnumDeclaration → Plan → List ℕ
+all_names_text declaration plan =
     filled names_template
     (declaration.name
     ∷ list_text 80 (words_of name_word_template declaration.name declaration.variants.items plan.bits.items)
     ∷ names_of_text (filled enum_word_template (declaration.name ∷ [])
     ∷ words_of variant_word_template declaration.name declaration.variants.items plan.bits.items) ∷ [])
 
-unfoldable pub display_text : EnumDeclaration → List ℕ
-display_text declaration =
-    if declaration.options.has_display then filled display_template (declaration.name ∷ []) else []
+unfoldable pub names_text : EnumDeclaration → Plan → List ℕ
+names_text declaration plan =
+    if is_by_names declaration.options.serialized then all_names_text declaration plan else []
+
+-- two words have 128 bits
+abbrev pub is_narrow : Store → Bool
+is_narrow (Integer t n) = true
+is_narrow (Words ws) = nat_le (length ws.items) 2
 
 unfoldable pub with_repr_text : List ℕ → Store → List ℕ
-with_repr_text name (Integer t n) = filled with_repr_template (name ∷ [])
-with_repr_text name (Words ws) = []
+with_repr_text name store = if is_narrow store then filled with_repr_template (name ∷ []) else []

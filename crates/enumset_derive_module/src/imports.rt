@@ -2,7 +2,7 @@
 
 ghost use Rattle.std.specs.Prelude.{◌≡◌, ◌≤◌, length, IfOk, OnOk, IfSome};
 ghost use Rattle.enumset_derive_module.specs.Imports.{place_from, insert_name, insert_names, is_path, is_glob, has_glob};
-ghost use Rattle.enumset_derive_module.specs.Imports.{path_text, paths_text, plain_names, names_on_lines};
+ghost use Rattle.enumset_derive_module.specs.Imports.{is_array_below, path_text, paths_text, plain_names, names_on_lines};
 ghost use Rattle.enumset_derive_module.specs.Imports.{names_on_a_line, listed_text, names_text, uses_text};
 
 use crate::layout::{append_joined, append_wrapped};
@@ -15,6 +15,11 @@ use std::cmp::Ordering;
 /// The import of a path.
 const PATH_USE: &str = "\
 use $0::$1;
+";
+
+/// The import of the representation in words where the crate `enumset` does not stand between.
+const ARRAY_USE: &str = "\
+use enumset_array::ArrayRepr;
 ";
 
 /// The import of names on one line.
@@ -61,11 +66,20 @@ fn paths_text(alloc: Global, facade: &[u8], names: &[Text]) -> Result<Vec<u8>, A
 fn path_text(alloc: Global, facade: &[u8], name: &[u8]) -> Result<Vec<u8>, AllocError>
     ensures { IfOk result (λ out. out.items ≡ path_text facade.now name.now) }
 {
-    if is_path(name) {
-        filled(alloc, PATH_USE, &[facade, name])
-    } else {
+    if !is_path(name) {
         Ok(Vec::new(alloc))
+    } else if is_array_below(facade, name) {
+        Vec::from_slice(alloc, ARRAY_USE.as_bytes())
+    } else {
+        filled(alloc, PATH_USE, &[facade, name])
     }
+}
+
+// Whether a name is the representation in words, and the facade is a crate that has it not.
+fn is_array_below(facade: &[u8], name: &[u8]) -> bool
+    ensures { result ≡ is_array_below facade.now name.now }
+{
+    facade == "enumset_sets".as_bytes() && name == "internal::ArrayRepr".as_bytes()
 }
 
 // The names that are no paths.

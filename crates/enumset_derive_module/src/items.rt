@@ -3,10 +3,11 @@
 ghost use Rattle.std.specs.Prelude.{◌≡◌, IfOk};
 ghost use Rattle.enumset_derive_module.specs.Modules.{item_text, parts_text};
 
+use crate::display::display_text;
 use crate::element_type::element_type_text;
 use crate::enums::enum_text;
 use crate::form::Form;
-use crate::names::{display_text, names_text, with_repr_text};
+use crate::names::{names_text, with_repr_text};
 use crate::operators::operators_text;
 use crate::templates::filled;
 use enumset_derive_plan::{EnumDeclaration, Plan};
@@ -32,23 +33,25 @@ pub(crate) fn item_text<'a>(
 {
     let form = Form::of(&declaration.variants, &plan.discriminants, &plan.bits);
     let element_type = element_type_text(alloc, crate_name, module_name, declaration, plan, form)?;
-    parts_text(alloc, declaration, plan, &element_type)
+    let display = display_text(alloc, crate_name, module_name, declaration, plan)?;
+    parts_text(alloc, declaration, plan, &element_type, &display)
 }
 
-// The same with the implementation of the element type.
+// The same with the implementations of the element type and of `Display`.
 #[tactic(auto, unfolding(crate::specs::Modules::parts_text))]
-fn parts_text(
+fn parts_text<'a>(
     alloc: Global,
     declaration: &EnumDeclaration,
     plan: &Plan,
-    element_type: &[u8],
+    element_type: &'a [u8],
+    display: &'a [u8],
 ) -> Result<Vec<u8>, AllocError>
-    ensures { IfOk result (λ out. out.items ≡ parts_text declaration.now plan.now element_type.now) }
+    ensures { IfOk result (λ out. out.items
+        ≡ parts_text declaration.now plan.now element_type.now display.now) }
 {
     let the_enum = enum_text(alloc, declaration)?;
     let with_repr = with_repr_text(alloc, declaration.name.as_bytes(), &plan.store)?;
     let names = names_text(alloc, declaration, plan)?;
-    let display = display_text(alloc, declaration)?;
     let operators = operators_text(alloc, declaration)?;
     filled(
         alloc,
@@ -58,7 +61,7 @@ fn parts_text(
             element_type,
             &with_repr,
             &names,
-            &display,
+            display,
             &operators,
         ],
     )

@@ -5,6 +5,7 @@
 
 mod calls;
 mod constants;
+mod display;
 mod element_type;
 mod enums;
 mod form;

@@ -1,17 +1,17 @@
-//! The names of an element type's values, its `Display`, and its sets as values of their representation.
+//! The names of an element type's values, and its sets as values of their representation.
 
 ghost use Rattle.std.specs.Prelude.{◌≡◌, IfOk};
-ghost use Rattle.enumset_derive_module.specs.Names.{names_text, display_text, with_repr_text};
+ghost use Rattle.enumset_derive_module.specs.Names.{is_by_names, all_names_text, names_text, is_narrow, with_repr_text};
 
 use crate::calls::names_of_text;
 use crate::element_type::{ENUM_WORD, VARIANT_WORD, list_of};
 use crate::templates::filled;
 use crate::words::{append_word, append_words};
-use enumset_derive_plan::{EnumDeclaration, Plan, Store};
+use enumset_derive_plan::{EnumDeclaration, Plan, Serialized, Store};
 use std::alloc::{AllocError, Global};
 
 /// A name in a list.
-const NAME_WORD: &str = "codes \"$0\" ∷";
+pub(crate) const NAME_WORD: &str = "codes \"$0\" ∷";
 
 /// The names of the values.
 const NAMES: &str = "
@@ -28,23 +28,6 @@ $2
     ghost named = { tt };
 }";
 
-/// The name as the text of a value.
-const DISPLAY: &str = "
-
-/// The name of the variant.
-impl std::fmt::Display for $0 {
-    ghost use Rattle.std.specs.Prelude.{Some};
-    ghost use Rattle.enumset.specs.Names.{name_of, names_of};
-
-    ghost output = { λ v. Some (name_of
-        (names_of ⟦<$0 as EnumSetType>⟧.elements ⟦<$0 as EnumSetNames>⟧.names)
-        (⟦<$0 as EnumSetType>⟧.elements.bit v)) };
-
-    fn fmt<W: std::fmt::Write>(&self, f: &mut std::fmt::Formatter<W>) -> std::fmt::Result {
-        f.write_str(self.name())
-    }
-}";
-
 /// Sets as values of their representation.
 const WITH_REPR: &str = "
 
@@ -54,7 +37,7 @@ impl EnumSetTypeWithRepr for $0 {
     ghost narrow = { Prim.search rules };
 }";
 
-/// The names of the values.
+/// The names of the values, if sets are written in JSON by them.
 #[tactic(auto, unfolding(crate::specs::Names::names_text))]
 pub(crate) fn names_text(
     alloc: Global,
@@ -62,6 +45,32 @@ pub(crate) fn names_text(
     plan: &Plan,
 ) -> Result<Vec<u8>, AllocError>
     ensures { IfOk result (λ out. out.items ≡ names_text declaration.now plan.now) }
+{
+    if is_by_names(declaration.options.serialized) {
+        all_names_text(alloc, declaration, plan)
+    } else {
+        Ok(Vec::new(alloc))
+    }
+}
+
+/// Whether sets are written in JSON by the names of their elements.
+pub(crate) fn is_by_names(serialized: Option<Serialized>) -> bool
+    ensures { result ≡ is_by_names serialized }
+{
+    match serialized {
+        Some(Serialized::List) | Some(Serialized::Map) => true,
+        Some(Serialized::Integer(_)) | Some(Serialized::Words) | None => false,
+    }
+}
+
+// The names of the values.
+#[tactic(auto, unfolding(crate::specs::Names::all_names_text))]
+fn all_names_text(
+    alloc: Global,
+    declaration: &EnumDeclaration,
+    plan: &Plan,
+) -> Result<Vec<u8>, AllocError>
+    ensures { IfOk result (λ out. out.items ≡ all_names_text declaration.now plan.now) }
 {
     let list = list_of(alloc, 80, NAME_WORD, declaration, plan)?;
     let mut words = Vec::new(alloc);
@@ -78,21 +87,7 @@ pub(crate) fn names_text(
     filled(alloc, NAMES, &[declaration.name.as_bytes(), &list, &call])
 }
 
-/// The `Display` by the names, if it is asked for.
-#[tactic(auto, unfolding(crate::specs::Names::display_text))]
-pub(crate) fn display_text(
-    alloc: Global,
-    declaration: &EnumDeclaration,
-) -> Result<Vec<u8>, AllocError>
-    ensures { IfOk result (λ out. out.items ≡ display_text declaration.now) }
-{
-    if !declaration.options.has_display {
-        return Ok(Vec::new(alloc));
-    }
-    filled(alloc, DISPLAY, &[declaration.name.as_bytes()])
-}
-
-/// Sets as values of their representation, if that is an integer.
+/// Sets as values of their representation, if that has at most 128 bits.
 #[tactic(auto, unfolding(crate::specs::Names::with_repr_text))]
 pub(crate) fn with_repr_text(
     alloc: Global,
@@ -101,8 +96,19 @@ pub(crate) fn with_repr_text(
 ) -> Result<Vec<u8>, AllocError>
     ensures { IfOk result (λ out. out.items ≡ with_repr_text name.now store.now) }
 {
+    if is_narrow(store) {
+        filled(alloc, WITH_REPR, &[name])
+    } else {
+        Ok(Vec::new(alloc))
+    }
+}
+
+/// Whether the representation has at most 128 bits.
+pub(crate) fn is_narrow(store: &Store) -> bool
+    ensures { result ≡ is_narrow store.now }
+{
     match store {
-        Store::Integer(_, _) => filled(alloc, WITH_REPR, &[name]),
-        Store::Words(_) => Ok(Vec::new(alloc)),
+        Store::Integer(_, _) => true,
+        Store::Words(words) => words.len() <= 2,
     }
 }

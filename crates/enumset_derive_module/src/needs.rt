@@ -1,11 +1,12 @@
 //! The names that a module imports.
 
-ghost use Rattle.std.specs.Prelude.{◌≡◌, [], IfOk, OnOk};
-ghost use Rattle.enumset_derive_module.specs.Modules.{store_name, always_needed, needed_names, names_after};
+ghost use Rattle.std.specs.Prelude.{◌≡◌, ◌++◌, [], IfOk, OnOk};
+ghost use Rattle.enumset_derive_module.specs.Modules.{is_in_words, name_if, always_needed, needed_names, names_after};
 ghost use Rattle.enumset_derive_module.specs.Modules.{facade_after, has_imports, has_enum};
 ghost use Rattle.enumset_derive_module.specs.Imports.{insert_names};
 
 use crate::imports::insert_names;
+use crate::names::{is_by_names, is_narrow};
 use enumset_derive_plan::{EnumDeclaration, Item, Plan, Store, Text};
 use std::alloc::{AllocError, Global};
 
@@ -58,11 +59,19 @@ fn needed_names(
 ) -> Result<Vec<Text>, AllocError>
     ensures { IfOk result (λ names. names.items ≡ needed_names declaration.now store.now) }
 {
+    let options = &declaration.options;
+    let is_by_names = is_by_names(options.serialized);
     let mut names = always_needed(alloc)?;
-    names.push(Text::from(Vec::from_slice(alloc, store_name(store))?))?;
-    if !declaration.options.leaves_out_operators {
-        names.push(Text::from(Vec::from_slice(alloc, b"EnumSet")?))?;
-    }
+    push_if(
+        alloc,
+        &mut names,
+        is_in_words(store),
+        b"internal::ArrayRepr",
+    )?;
+    push_if(alloc, &mut names, is_narrow(store), b"EnumSetTypeWithRepr")?;
+    push_if(alloc, &mut names, !options.leaves_out_operators, b"EnumSet")?;
+    push_if(alloc, &mut names, is_by_names, b"EnumSetNames")?;
+    push_if(alloc, &mut names, is_by_names, b"names_of")?;
     Ok(names)
 }
 
@@ -71,21 +80,31 @@ fn always_needed(alloc: Global) -> Result<Vec<Text>, AllocError>
     ensures { IfOk result (λ names. names.items ≡ always_needed) }
 {
     let mut names = Vec::new(alloc);
-    names.push(Text::from(Vec::from_slice(alloc, b"EnumSetNames")?))?;
     names.push(Text::from(Vec::from_slice(alloc, b"EnumSetType")?))?;
-    names.push(Text::from(Vec::from_slice(alloc, b"names_of")?))?;
     names.push(Text::from(Vec::from_slice(alloc, b"variant_of")?))?;
     Ok(names)
 }
 
-// The name that what keeps a set needs.
-fn store_name(store: &Store) -> &'static [u8]
-    ensures { result.now ≡ store_name store.now }
+// Appends a name, if it is needed.
+fn push_if(
+    alloc: Global,
+    names: &mut Vec<Text>,
+    is_needed: bool,
+    name: &[u8],
+) -> Result<(), AllocError>
+    ensures { OnOk result (names.new.items ≡ names.old.items ++ name_if is_needed name.now) }
 {
-    match store {
-        Store::Integer(_, _) => b"EnumSetTypeWithRepr",
-        Store::Words(_) => b"internal::ArrayRepr",
+    if is_needed {
+        names.push(Text::from(Vec::from_slice(alloc, name)?))?;
     }
+    Ok(())
+}
+
+// Whether a set is kept in words.
+fn is_in_words(store: &Store) -> bool
+    ensures { result ≡ is_in_words store.now }
+{
+    matches!(store, Store::Words(_))
 }
 
 /// What the facade is called: the last name that an enum asks for, or the one given.
