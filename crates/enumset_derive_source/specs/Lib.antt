@@ -5,4 +5,13 @@ pub mod Literals
 pub mod Seen
 pub mod Steps
 pub mod Settings
+pub mod Drafts
+pub mod Pieces
+pub mod Items
+pub mod Attributes
+pub mod Heads
+pub mod Imports
+pub mod Variants
+pub mod Enums
+pub mod Sources
 pub mod Laws

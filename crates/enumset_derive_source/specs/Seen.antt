@@ -2,7 +2,10 @@
 --     VariantShape, DeclarationShape, ItemShape, SourceShape      a variant, an enum, an item, what a text has, with lists for the program's vectors
 --     DraftSeen, VariantSeen, Seen      what is known of an item, of a variant, of a text, so far
 --     seen      what a reader of the program has seen
+--     part_of      what a source has so far, and the fault at which reading stops
 --     Steps      the call ends as this step: in what it gives, with its fault, or out of memory
+--     Reads      the call reads what the definition reads, from what was seen before to what is seen after it
+--     Makes      the same of a definition without faults
 use Rattle.std.specs.Prelude.{◌≡◌, ℕ, Bool, List, [], ◌∷◌, map, Option, Result, Ok, Err}
 use Rattle.enumset_derive_plan.specs.declared.place.Place.{Place}
 use Rattle.enumset_derive_plan.specs.declared.fault.Fault.{Fault}
@@ -161,3 +164,23 @@ StopsBy (stop.Fault fault) step = step ≡ Err fault
 abbrev pub Steps : {A S : Type 0} → Result A Stop → S → Result S Fault → Type 0
 Steps (Ok done) new step = step ≡ Ok new
 Steps (Err stop) new step = StopsBy stop step
+
+abbrev pub part_of : Seen → Option Fault → SourceShape
+part_of s fault = record { head = s.head; items = s.items; fault = fault }
+
+-- the step has this fault, and no more of the source is there than before
+pub record IsStopped (old new : Seen) (step : Result Seen Fault) (fault : Fault) : Type 0 where
+  pub at : step ≡ Err fault
+  pub head : new.head ≡ old.head
+  pub items : new.items ≡ old.items
+
+abbrev pub Reaches : {A : Type 0} → Result A Stop → Seen → Seen → Result Seen Fault → Type 0
+Reaches (Ok done) old new step = step ≡ Ok new
+Reaches (Err stop.OutOfMemory) old new step = Unit {0}
+Reaches (Err (stop.Fault fault)) old new step = IsStopped old new step fault
+
+abbrev pub Reads : {A : Type 0} → Result A Stop → Reader → Reader → (Seen → Result Seen Fault) → Type 0
+Reads result old new read = Reaches result (seen old) (seen new) (read (seen old))
+
+abbrev pub Makes : {A : Type 0} → Result A Stop → Reader → Reader → (Seen → Seen) → Type 0
+Makes result old new make = Reads result old new (λ s. Ok (make s))

@@ -1,6 +1,7 @@
 -- The faults of reading, and the brackets that have begun.
 --     fault, stop      a fault at a place;  a step that stops there
 --     wanted_at, is_wanted      the same, where something else is wanted
+--     and_then      the next step, if this one has no fault
 --     take_brackets      the brackets that have begun, after a token
 use Rattle.std.specs.Prelude.{ℕ, ◌+◌, ◌-◌, ◌==◌, Bool, true, false, not, ◌&&◌, ◌||◌, List, [], ◌∷◌, ◌++◌, codes, length, take, Option, Some, None, Result, Ok, Err, if◌then◌else◌, slice_get}
 use Rattle.std.specs.List.{list_any}
@@ -31,6 +32,10 @@ wanted_at place what = fault place (reason.Wanted what)
 
 abbrev pub is_wanted : {S : Type 0} → Place → Wanted → Result S Fault
 is_wanted place what = Err (wanted_at place what)
+
+abbrev pub and_then : Result Seen Fault → (Seen → Result Seen Fault) → Result Seen Fault
+and_then (Ok s) next = next s
+and_then (Err e) next = Err e
 
 -- The brackets that have begun, the outermost first.
 abbrev pub begin : ℕ → Place → List Bracket → Result (List Bracket) Fault

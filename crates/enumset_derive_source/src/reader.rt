@@ -1,5 +1,9 @@
 //! Reads the tokens of a source text, one after another.
 
+ghost use Rattle.std.specs.Prelude.{◌≡◌, IfOk, map};
+ghost use Rattle.enumset_derive_source.specs.Seen.{part_of, seen, source_shape};
+ghost use Rattle.enumset_derive_source.specs.Sources.{nothing_seen, source_of, step};
+
 mod attributes;
 mod brackets;
 mod draft;
@@ -23,7 +27,9 @@ use stop::Stop;
 
 /// What a source text has, as far as it can be read: its enums that are to be element types, what it imports of
 /// `enumset`, and the texts between them. The only error is out of memory.
-pub fn read_source(alloc: Global, text: &[u8]) -> Result<Source, AllocError> {
+pub fn read_source(alloc: Global, text: &[u8]) -> Result<Source, AllocError>
+    ensures { IfOk result (λ source. source_shape source ≡ source_of text.now) }
+{
     let tokens = tokens_of(alloc, text)?;
     let mut reader = Reader::new(alloc);
     match reader.take_all(tokens.as_slice()) {
@@ -59,8 +65,15 @@ pub(crate) struct Reader {
 }
 
 impl Reader {
+    ghost use Rattle.std.specs.Prelude.{◌≡◌, map};
+    ghost use Rattle.enumset_derive_source.specs.Tokens.{shape};
+    ghost use Rattle.enumset_derive_source.specs.Seen.{Reads, part_of, seen, source_shape};
+    ghost use Rattle.enumset_derive_source.specs.Sources.{Ends, nothing_seen, read_from, step};
+
     /// A reader before the first token of a text.
-    fn new(alloc: Global) -> Reader {
+    fn new(alloc: Global) -> Reader
+        ensures { seen result ≡ nothing_seen }
+    {
         Reader {
             alloc,
             state: State::Head,
@@ -79,7 +92,9 @@ impl Reader {
     }
 
     /// What was read, with the fault at which reading stopped.
-    fn into_source(self, fault: Option<Fault>) -> Source {
+    fn into_source(self, fault: Option<Fault>) -> Source
+        ensures { source_shape result ≡ part_of (seen self) fault }
+    {
         Source {
             head: Text::from(self.head),
             items: self.items,
@@ -87,7 +102,9 @@ impl Reader {
         }
     }
 
-    fn take_all(&mut self, tokens: &[Token]) -> Result<(), Stop> {
+    fn take_all(&mut self, tokens: &[Token]) -> Result<(), Stop>
+        ensures { Ends result (seen self.new) (read_from (map shape tokens.now) (seen self.old)) }
+    {
         for token in tokens {
             self.take(token)?;
         }
@@ -95,7 +112,9 @@ impl Reader {
     }
 
     /// Takes the next token.
-    fn take(&mut self, token: &Token) -> Result<(), Stop> {
+    fn take(&mut self, token: &Token) -> Result<(), Stop>
+        ensures { Reads result self.old self.new (step (shape token.now)) }
+    {
         self.brackets.take(token)?;
         match self.state {
             State::Head | State::HeadHash | State::HeadAttribute => self.take_head(token),

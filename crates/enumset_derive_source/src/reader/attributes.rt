@@ -8,8 +8,15 @@ use crate::token::{Kind, Token};
 use enumset_derive_plan::{Fault, Place, Reason, Text, Wanted};
 
 impl Reader {
+    ghost use Rattle.std.specs.Prelude.{◌≡◌};
+    ghost use Rattle.enumset_derive_source.specs.Tokens.{shape};
+    ghost use Rattle.enumset_derive_source.specs.Seen.{Makes, Reads, seen};
+    ghost use Rattle.enumset_derive_source.specs.Attributes.{end_attribute, end_derive, note_fault, note_wanted, take_attribute, take_attribute_start, take_before_enum, take_derive, take_derive_path, take_in_attribute, take_keyword, take_option, take_option_name, take_visibility, take_visibility_arguments};
+
     /// Takes a token of an item that has comments or attributes, up to its keyword.
-    pub(super) fn take_before_enum(&mut self, token: &Token) -> Result<(), Stop> {
+    pub(super) fn take_before_enum(&mut self, token: &Token) -> Result<(), Stop>
+        ensures { Reads result self.old self.new (take_before_enum (shape token.now)) }
+    {
         self.draft.held.extend_from_slice(token.text)?;
         match self.state {
             State::Attributes => self.take_attribute(token),
@@ -23,7 +30,9 @@ impl Reader {
     }
 
     /// Takes a token after a comment or an attribute.
-    fn take_attribute(&mut self, token: &Token) -> Result<(), Stop> {
+    fn take_attribute(&mut self, token: &Token) -> Result<(), Stop>
+        ensures { Reads result self.old self.new (take_attribute (shape token.now)) }
+    {
         match token.kind {
             Kind::Space => {}
             Kind::Comment | Kind::OuterDoc | Kind::InnerDoc => {
@@ -43,7 +52,9 @@ impl Reader {
         Ok(())
     }
 
-    fn take_visibility(&mut self, token: &Token) -> Result<(), Stop> {
+    fn take_visibility(&mut self, token: &Token) -> Result<(), Stop>
+        ensures { Reads result self.old self.new (take_visibility (shape token.now)) }
+    {
         if token.is_blank() {
             return Ok(());
         }
@@ -55,7 +66,9 @@ impl Reader {
         self.take_keyword(token)
     }
 
-    fn take_visibility_arguments(&mut self, token: &Token) -> Result<(), Stop> {
+    fn take_visibility_arguments(&mut self, token: &Token) -> Result<(), Stop>
+        ensures { Makes result self.old self.new (take_visibility_arguments (shape token.now)) }
+    {
         self.draft.visibility.extend_from_slice(token.text)?;
         if self.brackets.depth() == 0 {
             self.state = State::Visibility;
@@ -64,7 +77,9 @@ impl Reader {
     }
 
     /// Takes the token after which it is known what an item is.
-    fn take_keyword(&mut self, token: &Token) -> Result<(), Stop> {
+    fn take_keyword(&mut self, token: &Token) -> Result<(), Stop>
+        ensures { Reads result self.old self.new (take_keyword (shape token.now)) }
+    {
         if !self.draft.is_element_type {
             self.let_through()?;
             return self.go_through(token);
@@ -72,7 +87,7 @@ impl Reader {
         if let Some(fault) = self.draft.fault {
             return Err(Stop::Fault(fault));
         }
-        if token.kind == Kind::End {
+        if matches!(token.kind, Kind::End) {
             return Err(wanted(token.place, Wanted::Item));
         }
         if !token.is_word("enum") {
@@ -83,7 +98,9 @@ impl Reader {
     }
 
     /// Takes a token from the `#` of an attribute on.
-    fn take_in_attribute(&mut self, token: &Token) -> Result<(), Stop> {
+    fn take_in_attribute(&mut self, token: &Token) -> Result<(), Stop>
+        ensures { Reads result self.old self.new (take_in_attribute (shape token.now)) }
+    {
         match self.state {
             State::AttributeHash | State::AttributeName | State::OtherAttribute => {
                 self.piece.extend_from_slice(token.text)?;
@@ -106,7 +123,9 @@ impl Reader {
     }
 
     /// Takes a token of an attribute up to its name.
-    fn take_attribute_start(&mut self, token: &Token) -> Result<(), Stop> {
+    fn take_attribute_start(&mut self, token: &Token) -> Result<(), Stop>
+        ensures { Reads result self.old self.new (take_attribute_start (shape token.now)) }
+    {
         match self.state {
             _ if token.is_blank() => {}
             State::AttributeHash => {
@@ -129,7 +148,9 @@ impl Reader {
     }
 
     /// Ends the attribute, if the token is its end.
-    fn end_attribute(&mut self, token: &Token) -> Result<(), Stop> {
+    fn end_attribute(&mut self, token: &Token) -> Result<(), Stop>
+        ensures { Makes result self.old self.new (end_attribute (shape token.now)) }
+    {
         if token.mark() != b']' || self.brackets.depth() > 0 {
             return Ok(());
         }
@@ -143,19 +164,25 @@ impl Reader {
     }
 
     /// Notes a fault of the derives or options, if it is the first, and passes over the rest of the attribute.
-    fn note_fault(&mut self, place: Place, reason: Reason) {
+    fn note_fault(&mut self, place: Place, reason: Reason)
+        ensures { seen self.new ≡ note_fault place reason (seen self.old) }
+    {
         if self.draft.fault.is_none() {
             self.draft.fault = Some(Fault { place, reason });
         }
         self.state = State::FaultyAttribute;
     }
 
-    fn note_wanted(&mut self, token: &Token, wanted: Wanted) {
+    fn note_wanted(&mut self, token: &Token, wanted: Wanted)
+        ensures { seen self.new ≡ note_wanted token.now.place wanted (seen self.old) }
+    {
         self.note_fault(token.place, Reason::Wanted(wanted));
     }
 
     /// Takes a token of `#[derive(..)]` after its name.
-    fn take_derive(&mut self, token: &Token) -> Result<(), Stop> {
+    fn take_derive(&mut self, token: &Token) -> Result<(), Stop>
+        ensures { Makes result self.old self.new (take_derive (shape token.now)) }
+    {
         let mark = token.mark();
         match self.state {
             State::DeriveArguments if mark == b'(' => self.state = State::DeriveName,
@@ -175,7 +202,9 @@ impl Reader {
     }
 
     /// Takes a token of the path of a name that is derived.
-    fn take_derive_path(&mut self, token: &Token) -> Result<(), Stop> {
+    fn take_derive_path(&mut self, token: &Token) -> Result<(), Stop>
+        ensures { Makes result self.old self.new (take_derive_path (shape token.now)) }
+    {
         match self.state {
             State::DeriveName | State::DerivePath if token.is_name() => {
                 self.names_element_type = token.is_word("EnumSetType");
@@ -197,7 +226,9 @@ impl Reader {
         Ok(())
     }
 
-    fn end_derive(&mut self) -> Result<(), Stop> {
+    fn end_derive(&mut self) -> Result<(), Stop>
+        ensures { Makes result self.old self.new end_derive }
+    {
         let name = self.take_piece();
         if self.names_element_type {
             self.draft.is_element_type = true;
@@ -208,7 +239,9 @@ impl Reader {
     }
 
     /// Takes a token of `#[enumset(..)]` after its name.
-    fn take_option(&mut self, token: &Token) -> Result<(), Stop> {
+    fn take_option(&mut self, token: &Token) -> Result<(), Stop>
+        ensures { Makes result self.old self.new (take_option (shape token.now)) }
+    {
         let mark = token.mark();
         match self.state {
             State::OptionArguments if mark == b'(' => self.state = State::OptionName,
@@ -231,8 +264,10 @@ impl Reader {
         Ok(())
     }
 
-    fn take_option_name(&mut self, token: &Token) {
-        if token.kind != Kind::Word {
+    fn take_option_name(&mut self, token: &Token)
+        ensures { seen self.new ≡ take_option_name (shape token.now) (seen self.old) }
+    {
+        if !matches!(token.kind, Kind::Word) {
             self.note_wanted(token, Wanted::OptionName);
             return;
         }

@@ -24,7 +24,13 @@ pub(crate) struct Draft {
 }
 
 impl Draft {
-    pub(crate) fn new(alloc: Global) -> Draft {
+    ghost use Rattle.std.specs.Prelude.{◌≡◌};
+    ghost use Rattle.enumset_derive_source.specs.Drafts.{declaration_of, no_draft};
+    ghost use Rattle.enumset_derive_source.specs.Seen.{declaration_shape, draft_seen};
+
+    pub(crate) fn new(alloc: Global) -> Draft
+        ensures { draft_seen result ≡ no_draft }
+    {
         Draft {
             held: Vec::new(alloc),
             attributes: Vec::new(alloc),
@@ -40,7 +46,9 @@ impl Draft {
     }
 
     /// The declaration, with the comments after its last variant.
-    pub(crate) fn into_declaration(self, last_comments: Vec<Text>) -> EnumDeclaration {
+    pub(crate) fn into_declaration(self, last_comments: Vec<Text>) -> EnumDeclaration
+        ensures { declaration_shape result ≡ declaration_of (draft_seen self) last_comments.items }
+    {
         EnumDeclaration {
             place: self.place,
             attributes: self.attributes,
@@ -68,7 +76,13 @@ pub(crate) struct VariantDraft {
 }
 
 impl VariantDraft {
-    pub(crate) fn new(alloc: Global) -> VariantDraft {
+    ghost use Rattle.std.specs.Prelude.{◌≡◌};
+    ghost use Rattle.enumset_derive_source.specs.Drafts.{no_variant, variant_of};
+    ghost use Rattle.enumset_derive_source.specs.Seen.{variant_seen, variant_shape};
+
+    pub(crate) fn new(alloc: Global) -> VariantDraft
+        ensures { variant_seen result ≡ no_variant }
+    {
         VariantDraft {
             attributes: Vec::new(alloc),
             has_attribute: false,
@@ -79,7 +93,9 @@ impl VariantDraft {
         }
     }
 
-    pub(crate) fn into_variant(self) -> Variant {
+    pub(crate) fn into_variant(self) -> Variant
+        ensures { variant_shape result ≡ variant_of (variant_seen self) }
+    {
         Variant {
             place: self.place,
             attributes: self.attributes,

@@ -9,8 +9,16 @@ use enumset_derive_plan::{Item, Reason, Wanted};
 use std::mem;
 
 impl Reader {
+    ghost use Rattle.std.specs.Prelude.{◌≡◌};
+    ghost use Rattle.enumset_derive_source.specs.Tokens.{shape};
+    ghost use Rattle.enumset_derive_source.specs.Seen.{Makes, Reads};
+    ghost use Rattle.enumset_derive_source.specs.Enums.{take_enum, take_enum_name, take_enum_variants};
+    ghost use Rattle.enumset_derive_source.specs.Variants.{end_enum};
+
     /// Takes a token after `enum`.
-    pub(super) fn take_enum(&mut self, token: &Token) -> Result<(), Stop> {
+    pub(super) fn take_enum(&mut self, token: &Token) -> Result<(), Stop>
+        ensures { Reads result self.old self.new (take_enum (shape token.now)) }
+    {
         match self.state {
             State::EnumName | State::EnumVariants if token.is_blank() => Ok(()),
             State::EnumName => self.take_enum_name(token),
@@ -22,7 +30,9 @@ impl Reader {
         }
     }
 
-    fn take_enum_name(&mut self, token: &Token) -> Result<(), Stop> {
+    fn take_enum_name(&mut self, token: &Token) -> Result<(), Stop>
+        ensures { Reads result self.old self.new (take_enum_name (shape token.now)) }
+    {
         if !token.is_name() {
             return Err(wanted(token.place, Wanted::EnumName));
         }
@@ -32,7 +42,9 @@ impl Reader {
         Ok(())
     }
 
-    fn take_enum_variants(&mut self, token: &Token) -> Result<(), Stop> {
+    fn take_enum_variants(&mut self, token: &Token) -> Result<(), Stop>
+        ensures { Reads result self.old self.new (take_enum_variants (shape token.now)) }
+    {
         match token.mark() {
             b'{' => {
                 self.state = State::VariantName;
@@ -45,7 +57,9 @@ impl Reader {
     }
 
     /// Ends the enum. The comments after its last variant are those of the variant that does not come.
-    pub(super) fn end_enum(&mut self) -> Result<(), Stop> {
+    pub(super) fn end_enum(&mut self) -> Result<(), Stop>
+        ensures { Makes result self.old self.new end_enum }
+    {
         self.end_other()?;
         let draft = mem::replace(&mut self.draft, Draft::new(self.alloc));
         let rest = mem::replace(&mut self.variant, VariantDraft::new(self.alloc));

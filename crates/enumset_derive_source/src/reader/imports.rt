@@ -9,8 +9,15 @@ use enumset_derive_plan::Item;
 use std::mem;
 
 impl Reader {
+    ghost use Rattle.std.specs.Prelude.{◌≡◌};
+    ghost use Rattle.enumset_derive_source.specs.Tokens.{shape};
+    ghost use Rattle.enumset_derive_source.specs.Seen.{Makes};
+    ghost use Rattle.enumset_derive_source.specs.Imports.{end_import, end_imports, go_on_with_import, leave_import, take_import, take_tree};
+
     /// Takes a token after `use`.
-    pub(super) fn take_import(&mut self, token: &Token) -> Result<(), Stop> {
+    pub(super) fn take_import(&mut self, token: &Token) -> Result<(), Stop>
+        ensures { Makes result self.old self.new (take_import (shape token.now)) }
+    {
         self.draft.held.extend_from_slice(token.text)?;
         match self.state {
             State::UseTree => self.take_tree(token),
@@ -28,17 +35,21 @@ impl Reader {
     }
 
     /// Lets the line go through.
-    fn leave_import(&mut self, token: &Token) -> Result<(), Stop> {
+    fn leave_import(&mut self, token: &Token) -> Result<(), Stop>
+        ensures { Makes result self.old self.new (leave_import (shape token.now)) }
+    {
         self.piece.clear();
         self.is_grouped = false;
         self.let_through()?;
         self.go_through(token)
     }
 
-    fn take_tree(&mut self, token: &Token) -> Result<(), Stop> {
+    fn take_tree(&mut self, token: &Token) -> Result<(), Stop>
+        ensures { Makes result self.old self.new (take_tree (shape token.now)) }
+    {
         let depth = self.brackets.depth();
         match token.mark() {
-            _ if token.kind == Kind::End => self.leave_import(token),
+            _ if matches!(token.kind, Kind::End) => self.leave_import(token),
             b';' if depth == 0 => self.end_imports(),
             b'{' if depth == 1 && !self.is_grouped && self.piece.is_empty() => {
                 self.is_grouped = true;
@@ -54,7 +65,9 @@ impl Reader {
         }
     }
 
-    fn go_on_with_import(&mut self, text: &[u8]) -> Result<(), Stop> {
+    fn go_on_with_import(&mut self, text: &[u8]) -> Result<(), Stop>
+        ensures { Makes result self.old self.new (go_on_with_import text.now) }
+    {
         if self.has_gap && !self.piece.is_empty() {
             self.piece.push(b' ')?;
         }
@@ -63,7 +76,9 @@ impl Reader {
         Ok(())
     }
 
-    fn end_import(&mut self) -> Result<(), Stop> {
+    fn end_import(&mut self) -> Result<(), Stop>
+        ensures { Makes result self.old self.new end_import }
+    {
         self.has_gap = false;
         if !self.piece.is_empty() {
             let import = self.take_piece();
@@ -72,7 +87,9 @@ impl Reader {
         Ok(())
     }
 
-    fn end_imports(&mut self) -> Result<(), Stop> {
+    fn end_imports(&mut self) -> Result<(), Stop>
+        ensures { Makes result self.old self.new end_imports }
+    {
         self.end_import()?;
         self.end_other()?;
         let draft = mem::replace(&mut self.draft, Draft::new(self.alloc));

@@ -10,8 +10,15 @@ use enumset_derive_plan::{Discriminant, Place, Reason, Text, Wanted};
 use std::mem;
 
 impl Reader {
+    ghost use Rattle.std.specs.Prelude.{◌≡◌};
+    ghost use Rattle.enumset_derive_source.specs.Tokens.{shape};
+    ghost use Rattle.enumset_derive_source.specs.Seen.{Makes, Reads};
+    ghost use Rattle.enumset_derive_source.specs.Variants.{discriminant_place, end_variant, take_after_name, take_comment_after, take_discriminant, take_discriminant_next, take_literal, take_variant_attribute, take_variant_end, take_variant_hash, take_variant_line, take_variant_name, take_variant_next, take_variant_start, take_variant_stop};
+
     /// Takes a token of a variant up to its name.
-    pub(super) fn take_variant_start(&mut self, token: &Token) -> Result<(), Stop> {
+    pub(super) fn take_variant_start(&mut self, token: &Token) -> Result<(), Stop>
+        ensures { Reads result self.old self.new (take_variant_start (shape token.now)) }
+    {
         match self.state {
             State::VariantHash => {
                 self.piece.extend_from_slice(token.text)?;
@@ -25,7 +32,9 @@ impl Reader {
         }
     }
 
-    fn take_variant_hash(&mut self, token: &Token) -> Result<(), Stop> {
+    fn take_variant_hash(&mut self, token: &Token) -> Result<(), Stop>
+        ensures { Reads result self.old self.new (take_variant_hash (shape token.now)) }
+    {
         if token.is_blank() {
             return Ok(());
         }
@@ -36,7 +45,9 @@ impl Reader {
         Ok(())
     }
 
-    fn take_variant_attribute(&mut self, token: &Token) -> Result<(), Stop> {
+    fn take_variant_attribute(&mut self, token: &Token) -> Result<(), Stop>
+        ensures { Makes result self.old self.new (take_variant_attribute (shape token.now)) }
+    {
         if token.mark() == b']' && self.brackets.depth() == 1 {
             let attribute = self.take_piece();
             self.variant.attributes.push(attribute)?;
@@ -46,9 +57,11 @@ impl Reader {
         Ok(())
     }
 
-    fn take_variant_name(&mut self, token: &Token) -> Result<(), Stop> {
+    fn take_variant_name(&mut self, token: &Token) -> Result<(), Stop>
+        ensures { Reads result self.old self.new (take_variant_name (shape token.now)) }
+    {
         match token.mark() {
-            _ if token.kind == Kind::Space => Ok(()),
+            _ if matches!(token.kind, Kind::Space) => Ok(()),
             _ if token.is_comment() => {
                 let comment = Text::from(token.text.to_vec(self.alloc)?);
                 self.variant.attributes.push(comment)?;
@@ -71,11 +84,22 @@ impl Reader {
     }
 
     /// Takes a token after the name of a variant.
-    pub(super) fn take_variant_end(&mut self, token: &Token) -> Result<(), Stop> {
+    pub(super) fn take_variant_end(&mut self, token: &Token) -> Result<(), Stop>
+        ensures { Reads result self.old self.new (take_variant_end (shape token.now)) }
+    {
         match self.state {
             State::VariantLine => self.take_variant_line(token),
-            _ if token.kind == Kind::Space => Ok(()),
+            _ if matches!(token.kind, Kind::Space) => Ok(()),
             _ if token.is_comment() => self.take_comment_after(token.text),
+            _ => self.take_after_name(token),
+        }
+    }
+
+    /// Takes a token of a discriminant, or of the end of a variant.
+    fn take_after_name(&mut self, token: &Token) -> Result<(), Stop>
+        ensures { Reads result self.old self.new (take_after_name (shape token.now)) }
+    {
+        match self.state {
             State::VariantNext => self.take_variant_next(token),
             State::DiscriminantNext => self.take_discriminant_next(token),
             State::NegativeDiscriminant => self.take_literal(token, true),
@@ -83,7 +107,9 @@ impl Reader {
         }
     }
 
-    fn take_comment_after(&mut self, comment: &[u8]) -> Result<(), Stop> {
+    fn take_comment_after(&mut self, comment: &[u8]) -> Result<(), Stop>
+        ensures { Makes result self.old self.new (take_comment_after comment.now) }
+    {
         if !self.variant.comment_after.is_empty() {
             self.variant.comment_after.push(b' ')?;
         }
@@ -92,7 +118,9 @@ impl Reader {
     }
 
     /// Takes a token after the comma of a variant. What documents the next variant, and a new line, end this one.
-    fn take_variant_line(&mut self, token: &Token) -> Result<(), Stop> {
+    fn take_variant_line(&mut self, token: &Token) -> Result<(), Stop>
+        ensures { Reads result self.old self.new (take_variant_line (shape token.now)) }
+    {
         match token.kind {
             Kind::Space if !token.text.contains(&b'\n') => Ok(()),
             Kind::Comment => self.take_comment_after(token.text),
@@ -103,7 +131,9 @@ impl Reader {
         }
     }
 
-    fn take_variant_next(&mut self, token: &Token) -> Result<(), Stop> {
+    fn take_variant_next(&mut self, token: &Token) -> Result<(), Stop>
+        ensures { Reads result self.old self.new (take_variant_next (shape token.now)) }
+    {
         match token.mark() {
             b',' | b'}' => self.take_variant_stop(token),
             b'=' => {
@@ -116,7 +146,9 @@ impl Reader {
     }
 
     /// Takes the `,` or the `}` after a variant.
-    fn take_variant_stop(&mut self, token: &Token) -> Result<(), Stop> {
+    fn take_variant_stop(&mut self, token: &Token) -> Result<(), Stop>
+        ensures { Makes result self.old self.new (take_variant_stop (shape token.now)) }
+    {
         if token.mark() == b',' {
             self.state = State::VariantLine;
             return Ok(());
@@ -125,14 +157,18 @@ impl Reader {
         self.end_enum()
     }
 
-    fn end_variant(&mut self) -> Result<(), Stop> {
+    fn end_variant(&mut self) -> Result<(), Stop>
+        ensures { Makes result self.old self.new end_variant }
+    {
         let draft = mem::replace(&mut self.variant, VariantDraft::new(self.alloc));
         self.draft.variants.push(draft.into_variant())?;
         self.state = State::VariantName;
         Ok(())
     }
 
-    fn take_discriminant(&mut self, token: &Token) -> Result<(), Stop> {
+    fn take_discriminant(&mut self, token: &Token) -> Result<(), Stop>
+        ensures { Reads result self.old self.new (take_discriminant (shape token.now)) }
+    {
         if token.mark() != b'-' {
             return self.take_literal(token, false);
         }
@@ -143,9 +179,11 @@ impl Reader {
     }
 
     /// Takes the token where a literal should be.
-    fn take_literal(&mut self, token: &Token, is_negative: bool) -> Result<(), Stop> {
+    fn take_literal(&mut self, token: &Token, is_negative: bool) -> Result<(), Stop>
+        ensures { Reads result self.old self.new (take_literal (shape token.now) is_negative) }
+    {
         let place = if is_negative { self.minus } else { token.place };
-        if token.kind != Kind::Word {
+        if !matches!(token.kind, Kind::Word) {
             return Err(fault(place, Reason::NotALiteral));
         }
         match number_of(token.text, is_negative) {
@@ -165,7 +203,9 @@ impl Reader {
     }
 
     /// A literal with anything else after it is no literal.
-    fn take_discriminant_next(&mut self, token: &Token) -> Result<(), Stop> {
+    fn take_discriminant_next(&mut self, token: &Token) -> Result<(), Stop>
+        ensures { Reads result self.old self.new (take_discriminant_next (shape token.now)) }
+    {
         match token.mark() {
             b',' | b'}' => self.take_variant_stop(token),
             _ => Err(fault(self.discriminant_place(token.place), Reason::NotALiteral)),
@@ -173,7 +213,9 @@ impl Reader {
     }
 
     /// Where the discriminant is, or the place that is given.
-    fn discriminant_place(&self, place: Place) -> Place {
+    fn discriminant_place(&self, place: Place) -> Place
+        ensures { result ≡ discriminant_place place self.now.variant.discriminant }
+    {
         match &self.variant.discriminant {
             Some(discriminant) => discriminant.place,
             None => place,
