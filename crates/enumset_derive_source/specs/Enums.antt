@@ -10,7 +10,7 @@ use Rattle.enumset_derive_source.specs.Pieces.{to_state}
 use Rattle.enumset_derive_source.specs.Seen.{Seen}
 use Rattle.enumset_derive_source.specs.Steps.{is_wanted, stop}
 use Rattle.enumset_derive_source.specs.Tokens.{TokenShape}
-use Rattle.enumset_derive_source.specs.Variants.{take_variant_end, take_variant_start}
+use Rattle.enumset_derive_source.specs.Variants.{take_variant_end, take_variant_line, take_variant_start}
 use Rattle.enumset_derive_source.specs.Words.{is_blank, is_name, is_the_word, mark}
 
 abbrev pub take_enum_name : TokenShape → Seen → Result Seen Fault
@@ -31,6 +31,7 @@ enum_in state.EnumVariants t s = if is_blank t then Ok s else take_enum_variants
 enum_in state.VariantName t s = take_variant_start t s
 enum_in state.VariantHash t s = take_variant_start t s
 enum_in state.VariantAttribute t s = take_variant_start t s
+enum_in state.VariantLine t s = take_variant_line t s
 enum_in other t s = take_variant_end t s
 
 abbrev pub take_enum : TokenShape → Seen → Result Seen Fault

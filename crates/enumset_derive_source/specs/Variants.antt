@@ -1,7 +1,8 @@
 -- The variants of an enum.
 --     end_variant, end_enum      a variant ends;  the enum ends
 --     take_variant_start      a token of a variant up to its name
---     take_variant_end      a token after the name of a variant
+--     take_variant_line      a token after the comma of a variant
+--     take_variant_end      a token after the name of a variant, up to its end
 use Rattle.std.specs.Prelude.{ℕ, ◌==◌, Bool, true, false, not, ◌&&◌, ◌||◌, List, [], ◌∷◌, ◌++◌, codes, length, Option, Some, None, Result, Ok, Err, if◌then◌else◌}
 use Rattle.std.specs.List.{list_any}
 use Rattle.enumset_derive_plan.specs.declared.place.Place.{Place}
@@ -136,11 +137,7 @@ after_name other t s = take_discriminant t s
 abbrev pub take_after_name : TokenShape → Seen → Result Seen Fault
 take_after_name t s = after_name s.state t s
 
-abbrev pub end_in : State → TokenShape → Seen → Result Seen Fault
-end_in state.VariantLine t s = take_variant_line t s
-end_in other t s =
+abbrev pub take_variant_end : TokenShape → Seen → Result Seen Fault
+take_variant_end t s =
     if is_space_kind t.kind then Ok s else
     if is_comment t then Ok (take_comment_after t.text s) else take_after_name t s
-
-abbrev pub take_variant_end : TokenShape → Seen → Result Seen Fault
-take_variant_end t s = end_in s.state t s

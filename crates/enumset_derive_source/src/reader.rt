@@ -130,7 +130,23 @@ impl Reader {
             | State::NegativeDiscriminant
             | State::DiscriminantNext
             | State::VariantLine => self.take_enum(token),
-            _ => self.take_before_enum(token),
+            State::Attributes
+            | State::AttributeHash
+            | State::AttributeName
+            | State::OtherAttribute
+            | State::FaultyAttribute
+            | State::AttributeEnd
+            | State::DeriveArguments
+            | State::DeriveName
+            | State::DerivePath
+            | State::DeriveNext
+            | State::OptionArguments
+            | State::OptionName
+            | State::OptionEquals(_)
+            | State::OptionValue(_)
+            | State::OptionNext
+            | State::Visibility
+            | State::VisibilityArguments => self.take_before_enum(token),
         }
     }
 }

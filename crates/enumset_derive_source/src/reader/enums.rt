@@ -26,6 +26,7 @@ impl Reader {
             State::VariantName | State::VariantHash | State::VariantAttribute => {
                 self.take_variant_start(token)
             }
+            State::VariantLine => self.take_variant_line(token),
             _ => self.take_variant_end(token),
         }
     }

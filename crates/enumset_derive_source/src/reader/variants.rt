@@ -83,13 +83,12 @@ impl Reader {
         }
     }
 
-    /// Takes a token after the name of a variant.
+    /// Takes a token after the name of a variant, up to its end.
     pub(super) fn take_variant_end(&mut self, token: &Token) -> Result<(), Stop>
         ensures { Reads result self.old self.new (take_variant_end (shape token.now)) }
     {
-        match self.state {
-            State::VariantLine => self.take_variant_line(token),
-            _ if matches!(token.kind, Kind::Space) => Ok(()),
+        match token.kind {
+            Kind::Space => Ok(()),
             _ if token.is_comment() => self.take_comment_after(token.text),
             _ => self.take_after_name(token),
         }
@@ -118,7 +117,7 @@ impl Reader {
     }
 
     /// Takes a token after the comma of a variant. What documents the next variant, and a new line, end this one.
-    fn take_variant_line(&mut self, token: &Token) -> Result<(), Stop>
+    pub(super) fn take_variant_line(&mut self, token: &Token) -> Result<(), Stop>
         ensures { Reads result self.old self.new (take_variant_line (shape token.now)) }
     {
         match token.kind {
