@@ -1,4 +1,3 @@
 pub mod Faults
 pub mod Written
 pub mod Arguments
-pub mod Modules

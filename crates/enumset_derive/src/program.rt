@@ -4,7 +4,6 @@ ghost use Rattle.std.specs.Prelude.{◌≡◌, ◌+◌, ◌≤◌, [], length, t
 ghost use Rattle.std.specs.List.{list_all};
 ghost use Rattle.std.specs.Io.KnownBytes.{Appends};
 ghost use Rattle.enumset_derive.specs.Arguments.{is_name, begins_a_name, is_of_name};
-ghost use Rattle.enumset_derive.specs.Modules.{IsModuleOf, IsRefusedBy};
 ghost use Rattle.enumset_derive.specs.Written.{AppendsFrontOf};
 
 use crate::fault::ProgramFault;
@@ -35,16 +34,13 @@ pub fn answer<R: Env + Input + Print + AllocGlobal>(rt: &R) -> Result<(), Progra
     write_output(&mut io::writer(rt), text.as_bytes())
 }
 
-/// The text of the module of what an input has, or the first fault of that: of planning, or else of reading.
-pub fn module_of(
+// The module of a source.
+fn module_of(
     alloc: Global,
     crate_name: &[u8],
     module_name: &[u8],
     input: &[u8],
-) -> Result<Text, DeriveError>
-    ensures text { IfOk result (IsModuleOf crate_name.now module_name.now input.now) }
-    ensures fault { IfErr result (λ error. IsRefusedBy error input.now) }
-{
+) -> Result<Text, DeriveError> {
     let source = read_source(alloc, input)?;
     write_items(alloc, crate_name, module_name, &source)
 }
