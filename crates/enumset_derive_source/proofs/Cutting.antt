@@ -1,12 +1,12 @@
 -- How the tokens of a text go on, byte by byte.
-use Rattle.std.proofs.Common.{◌≡◌, ℕ, ◌+◌, ◌-◌, ◌<◌, ◌≤◌, ◌==◌, Bool, true, false, not, cond, List, [], ◌∷◌, ◌++◌, length, map, get_or, take, drop, Option, Some, None, refl, ap, sym, ◌∙◌, arith, drop-cons, add-one, append_assoc, append-nil, length-drop, get_or-drop}
-use Rattle.std.proofs.lemmas.List.{drop_all, take_more, take_all}
+use Rattle.std.proofs.Common.{◌≡◌, ℕ, ◌+◌, ◌-◌, ◌<◌, ◌≤◌, ◌==◌, Bool, true, false, not, cond, List, [], ◌∷◌, ◌++◌, length, get_or, take, drop, Option, Some, None, refl, ap, sym, ◌∙◌, arith, drop-cons, add-one, append_assoc, length-drop, get_or-drop}
+use Rattle.std.proofs.lemmas.List.{drop_all, take_more}
 use Rattle.std.proofs.lemmas.Bool.Decides.{nat_tests}
 use Rattle.enumset_derive_plan.specs.declared.place.Place.{Place}
 use Rattle.enumset_derive_source.specs.declared.scan.mode.Mode.{Mode}
 use Rattle.enumset_derive_source.specs.declared.scan.mode.Mode.TheVariants.{Space, Word, BytesPrefix, RawPrefix, Hashes, Mark, Colon, Slash, LineComment, BlockComment, BlockStar, BlockSlash, CommentEnd, Quote, QuoteEscape, RawQuote, RawQuoteEnd, Tick, TickWord, TickEscape, Character, Lifetime, QuoteEnd}
 use Rattle.enumset_derive_source.specs.Modes.{is_space, is_word, is_continuation, first_mode, next_mode, counted, after_prefix, in_comment, in_quote, in_character, goes_on}
-use Rattle.enumset_derive_source.specs.Tokens.{TokenShape, after, token, end, shape, tokens_from, tokens_of}
+use Rattle.enumset_derive_source.specs.Tokens.{TokenShape, after, token, end, tokens_from}
 
 -- the bytes from one index up to another, and the byte there
 pub span_more : (s : List ℕ) (begin index : ℕ) → index < length s → begin ≤ index → take (index + 1 - begin) (drop begin s) ≡ take (index - begin) (drop begin s) ++ get_or s index 0 ∷ []

@@ -5,7 +5,7 @@
 --     take_in_attribute, end_attribute      a token from the `#` of an attribute on;  its end
 --     take_keyword      the token after which it is known what an item is
 --     take_before_enum      a token of an item that has comments or attributes, up to its keyword
-use Rattle.std.specs.Prelude.{ℕ, ◌==◌, Bool, true, not, ◌&&◌, List, [], ◌∷◌, ◌++◌, codes, length, Option, Some, None, Result, Ok, Err, if◌then◌else◌}
+use Rattle.std.specs.Prelude.{ℕ, ◌==◌, true, ◌&&◌, List, [], ◌∷◌, ◌++◌, codes, length, Some, None, Result, Ok, Err, if◌then◌else◌}
 use Rattle.std.specs.Option.{option_or}
 use Rattle.std.specs.Str.{bytes_eq}
 use Rattle.enumset_derive_plan.specs.declared.place.Place.{Place}
@@ -93,10 +93,10 @@ give_option key t s =
 abbrev pub take_option_name : TokenShape → Seen → Seen
 take_option_name t s =
     if is_word_kind t.kind then
-      (elim (key_named t.text) [
-        | Some key ↦ give_option key t s
-        | None ↦ note_fault t.place reason.UnknownOption s
-      ])
+    (elim (key_named t.text) [
+      | Some key ↦ give_option key t s
+      | None ↦ note_fault t.place reason.UnknownOption s
+    ])
     else note_wanted t.place wanted.OptionName s
 
 abbrev pub take_option_value : Key → TokenShape → Seen → Seen

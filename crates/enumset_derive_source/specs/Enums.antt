@@ -1,6 +1,6 @@
 -- An enum from its keyword on.
 --     take_enum      a token after `enum`
-use Rattle.std.specs.Prelude.{ℕ, ◌==◌, Bool, ◌||◌, ◌++◌, codes, Result, Ok, if◌then◌else◌}
+use Rattle.std.specs.Prelude.{◌==◌, ◌||◌, ◌++◌, codes, Result, Ok, if◌then◌else◌}
 use Rattle.enumset_derive_plan.specs.declared.fault.Fault.{Fault}
 use Rattle.enumset_derive_plan.specs.declared.fault.Reason.TheVariants as reason
 use Rattle.enumset_derive_plan.specs.declared.fault.Wanted.TheVariants as wanted

@@ -1,7 +1,7 @@
 -- What stands before the first item: inner comments and attributes.
 --     end_head      the text so far belongs to the head
 --     take_head      a token before the first item
-use Rattle.std.specs.Prelude.{ℕ, ◌==◌, not, ◌&&◌, ◌||◌, [], ◌++◌, length, nat_lt, Result, Ok, if◌then◌else◌}
+use Rattle.std.specs.Prelude.{◌==◌, not, ◌&&◌, ◌||◌, [], ◌++◌, length, nat_lt, Result, Ok, if◌then◌else◌}
 use Rattle.enumset_derive_plan.specs.declared.fault.Fault.{Fault}
 use Rattle.enumset_derive_plan.specs.declared.fault.Wanted.TheVariants as wanted
 use Rattle.enumset_derive_source.specs.declared.token.Kind.{Kind}

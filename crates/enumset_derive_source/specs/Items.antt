@@ -2,7 +2,7 @@
 --     go_through      after a token that goes through: it may be the last of its item
 --     take_elsewhere      a token that goes through
 --     take_between, take_outside      a token between items;  or in one that goes through
-use Rattle.std.specs.Prelude.{ℕ, ◌==◌, Bool, ◌&&◌, ◌||◌, List, [], ◌∷◌, ◌++◌, codes, length, if◌then◌else◌}
+use Rattle.std.specs.Prelude.{◌==◌, Bool, ◌&&◌, ◌||◌, [], ◌∷◌, ◌++◌, codes, length, if◌then◌else◌}
 use Rattle.enumset_derive_source.specs.declared.token.Kind.{Kind}
 use Rattle.enumset_derive_source.specs.declared.token.Kind.TheVariants as kind
 use Rattle.enumset_derive_source.specs.declared.reader.state.State.{State}

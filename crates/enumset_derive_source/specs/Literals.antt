@@ -4,7 +4,7 @@
 --     value_with, exponent_with      of the digits so far and one more: their number, below 2^128;  of which power of two it is
 --     digits_of      the digits of a literal after its prefix: no digit yet, or their number and power; nothing, if they are no literal
 --     number_of      the number of a literal, maybe after a minus sign
-use Rattle.std.specs.Prelude.{ℕ, ◌+◌, ◌-◌, ◌*◌, ◌^◌, ◌==◌, Bool, true, false, not, ◌&&◌, ◌||◌, List, [], ◌∷◌, codes, length, drop, nat_lt, slice_index, Option, Some, None, Result, Ok, Err, if◌then◌else◌}
+use Rattle.std.specs.Prelude.{ℕ, ◌+◌, ◌-◌, ◌*◌, ◌^◌, ◌==◌, Bool, true, false, ◌&&◌, ◌||◌, List, [], ◌∷◌, codes, length, drop, nat_lt, slice_index, Option, Some, None, Result, Ok, Err, if◌then◌else◌}
 use Rattle.std.specs.Option.{option_and_then}
 use Rattle.std.specs.Str.{bytes_eq}
 use Rattle.enumset_derive_plan.specs.declared.fault.Reason.{Reason}

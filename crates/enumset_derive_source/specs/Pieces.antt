@@ -8,7 +8,7 @@
 use Rattle.std.specs.Prelude.{ℕ, ◌==◌, Bool, true, false, List, [], ◌∷◌, ◌++◌, length, if◌then◌else◌}
 use Rattle.enumset_derive_source.specs.declared.reader.state.State.{State}
 use Rattle.enumset_derive_source.specs.Drafts.{no_draft}
-use Rattle.enumset_derive_source.specs.Seen.{ItemShape, Other, Seen}
+use Rattle.enumset_derive_source.specs.Seen.{Other, Seen}
 
 abbrev pub to_state : State → Seen → Seen
 to_state state s = record s { state = state }

@@ -6,7 +6,7 @@
 --     Steps      the call ends as this step: in what it gives, with its fault, or out of memory
 --     Reads      the call reads what the definition reads, from what was seen before to what is seen after it
 --     Makes      the same of a definition without faults
-use Rattle.std.specs.Prelude.{◌≡◌, ℕ, Bool, List, [], ◌∷◌, map, Option, Result, Ok, Err}
+use Rattle.std.specs.Prelude.{◌≡◌, ℕ, Bool, List, map, Option, Result, Ok, Err}
 use Rattle.enumset_derive_plan.specs.declared.place.Place.{Place}
 use Rattle.enumset_derive_plan.specs.declared.fault.Fault.{Fault}
 use Rattle.enumset_derive_plan.specs.declared.options.Options.{Options}

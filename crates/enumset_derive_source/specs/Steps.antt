@@ -3,22 +3,17 @@
 --     wanted_at, is_wanted      the same, where something else is wanted
 --     and_then      the next step, if this one has no fault
 --     take_brackets      the brackets that have begun, after a token
-use Rattle.std.specs.Prelude.{ℕ, ◌+◌, ◌-◌, ◌==◌, Bool, true, false, not, ◌&&◌, ◌||◌, List, [], ◌∷◌, ◌++◌, codes, length, take, Option, Some, None, Result, Ok, Err, if◌then◌else◌, slice_get}
-use Rattle.std.specs.List.{list_any}
-use Rattle.std.specs.Str.{bytes_eq}
+use Rattle.std.specs.Prelude.{ℕ, ◌-◌, ◌==◌, ◌||◌, List, [], ◌∷◌, ◌++◌, length, take, Some, None, Result, Ok, Err, if◌then◌else◌, slice_get}
 use Rattle.enumset_derive_plan.specs.declared.place.Place.{Place}
 use Rattle.enumset_derive_plan.specs.declared.fault.Fault.{Fault}
 use Rattle.enumset_derive_plan.specs.declared.fault.Reason.{Reason}
 use Rattle.enumset_derive_plan.specs.declared.fault.Reason.TheVariants as reason
 use Rattle.enumset_derive_plan.specs.declared.fault.Wanted.{Wanted}
-use Rattle.enumset_derive_plan.specs.declared.fault.Wanted.TheVariants as wanted
 use Rattle.enumset_derive_source.specs.declared.token.Kind.{Kind}
 use Rattle.enumset_derive_source.specs.declared.token.Kind.TheVariants as kind
 use Rattle.enumset_derive_source.specs.declared.reader.brackets.Bracket.{Bracket}
-use Rattle.enumset_derive_source.specs.declared.reader.state.State.{State}
-use Rattle.enumset_derive_source.specs.declared.reader.state.State.TheVariants as state
 use Rattle.enumset_derive_source.specs.Tokens.{TokenShape}
-use Rattle.enumset_derive_source.specs.Words.{is_blank, is_comment, is_end_kind, is_name, is_path_separator, is_space_kind, is_the_word, is_text, is_word_kind, mark}
+use Rattle.enumset_derive_source.specs.Words.{mark}
 use Rattle.enumset_derive_source.specs.Seen.{Seen}
 
 abbrev pub fault : Place → Reason → Fault

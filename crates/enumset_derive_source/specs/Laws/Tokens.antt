@@ -1,12 +1,12 @@
 -- The bytes of the tokens of a text are the text.
 --     texts_of-tokens_from      the same of what is left of a text, where a token has begun
 --     texts_of-tokens_of      of a text
-use Rattle.std.proofs.Common.{◌≡◌, ℕ, List, [], ◌∷◌, ◌++◌, Option, Some, None, refl, ap, sym, ◌∙◌, append_assoc}
+use Rattle.std.proofs.Common.{◌≡◌, ℕ, List, [], ◌∷◌, ◌++◌, Option, Some, None, refl, ap, ◌∙◌, append_assoc}
 use Rattle.enumset_derive_plan.specs.declared.place.Place.{Place}
 use Rattle.enumset_derive_source.specs.declared.scan.mode.Mode.{Mode}
 use Rattle.enumset_derive_source.specs.declared.scan.mode.Mode.TheVariants.{Space}
 use Rattle.enumset_derive_source.specs.Modes.{first_mode, next_mode}
-use Rattle.enumset_derive_source.specs.Tokens.{TokenShape, after, start, texts_of, token, tokens_from, tokens_of}
+use Rattle.enumset_derive_source.specs.Tokens.{after, start, texts_of, token, tokens_from, tokens_of}
 
 pub texts_of-tokens_from : (mode : Mode) (text : List ℕ) (place now : Place) (bs : List ℕ) → texts_of (tokens_from mode text place now bs) ≡ text ++ bs
 texts_of-tokens_from mode text place now [] = refl

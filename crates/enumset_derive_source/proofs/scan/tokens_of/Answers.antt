@@ -1,8 +1,8 @@
-use Rattle.std.proofs.Common.{rules, ◌≡◌, ◌+◌, ◌-◌, ◌<◌, ◌≤◌, ◌++◌, ℕ, List, [], ◌∷◌, length, map, take, drop, get_or, Option, Some, None, is_ok, true, refl, ap, ◌∙◌, arith}
+use Rattle.std.proofs.Common.{rules, ◌≡◌, ◌+◌, ◌-◌, ◌<◌, ◌≤◌, ◌++◌, ℕ, List, [], ◌∷◌, length, map, take, drop, get_or, Some, None, is_ok, true, refl, ap, ◌∙◌, arith}
 use Rattle.std.proofs.lemmas.Grind.{common_steps}
 use Rattle.std.proofs.lemmas.List.{map_push}
 use Rattle.enumset_derive_source.specs.Modes.{first_mode, next_mode, counted}
-use Rattle.enumset_derive_source.specs.Tokens.{TokenShape, after, shape, texts_of, token, tokens_of}
+use Rattle.enumset_derive_source.specs.Tokens.{after, shape, texts_of, token, tokens_of}
 use Rattle.enumset_derive_source.specs.Laws.Tokens.{texts_of-tokens_of}
 use Rattle.enumset_derive_source.proofs.Cutting.{cut-goes_on, cut-begins, counted-next, counted-first, line-after, column-after, scan_steps}
 use Rattle.enumset_derive_source.proofs.scan.tokens_of.Goals as goal
