@@ -1,8 +1,9 @@
 //! The twelve months over a `u16`.
+
 use enumset_sets::{EnumSetType, EnumSetTypeWithRepr, variant_of};
 
 /// A month of the year, on bits 0 to 11.
-#[derive(Clone, Copy, Debug, PartialEq, Eq, PartialOrd, Ord, Hash)]
+#[derive(Clone, Copy, PartialEq, Eq, Debug, PartialOrd, Ord, Hash)]
 pub enum Month {
     January,
     February,
@@ -19,7 +20,7 @@ pub enum Month {
 }
 
 impl EnumSetType for Month {
-    ghost use Rattle.enumset_sets.specs.Laws.Elements.{in_place, lawful_in_place, lawful_in_integer};
+    ghost use Rattle.enumset_sets.specs.Laws.Elements.{in_place, lawful_in_integer, lawful_in_place};
     ghost use Rattle.enumset_sizes.specs.contracts.month.Month.{the_type};
 
     type Repr = u16;
@@ -42,8 +43,11 @@ impl EnumSetType for Month {
         self as u32
     }
 
-    fn enum_from_u32(val: u32) -> Month {
-        variant_of!(val, Month: January February March April May June July August September October November December)
+    fn enum_from_u32(val: u32) -> Self {
+        variant_of!(
+            val, Month: January February March April May June July August September October November
+            December
+        )
     }
 
     ghost lawful = { lawful_in_place the_type (lawful_in_integer the_type _ tt) };

@@ -1,8 +1,9 @@
 //! An enum of 128 variants over a `u128`.
+
 use enumset_sets::{EnumSetType, EnumSetTypeWithRepr, variant_of};
 
 /// A variant for each bit of a `u128`.
-#[derive(Clone, Copy, Debug, PartialEq, Eq)]
+#[derive(Clone, Copy, PartialEq, Eq, Debug)]
 pub enum Of128 {
     V0,
     V1,
@@ -135,7 +136,7 @@ pub enum Of128 {
 }
 
 impl EnumSetType for Of128 {
-    ghost use Rattle.enumset_sets.specs.Laws.Elements.{in_place, lawful_in_place, lawful_in_integer};
+    ghost use Rattle.enumset_sets.specs.Laws.Elements.{in_place, lawful_in_integer, lawful_in_place};
     ghost use Rattle.enumset_sizes.specs.contracts.of_128.Of128.{the_type};
 
     type Repr = u128;
@@ -158,14 +159,15 @@ impl EnumSetType for Of128 {
         self as u32
     }
 
-    fn enum_from_u32(val: u32) -> Of128 {
+    fn enum_from_u32(val: u32) -> Self {
         variant_of!(
-            val, Of128:
-            V0 V1 V2 V3 V4 V5 V6 V7 V8 V9 V10 V11 V12 V13 V14 V15 V16 V17 V18 V19 V20 V21 V22 V23 V24 V25 V26 V27 V28
-            V29 V30 V31 V32 V33 V34 V35 V36 V37 V38 V39 V40 V41 V42 V43 V44 V45 V46 V47 V48 V49 V50 V51 V52 V53 V54 V55
-            V56 V57 V58 V59 V60 V61 V62 V63 V64 V65 V66 V67 V68 V69 V70 V71 V72 V73 V74 V75 V76 V77 V78 V79 V80 V81 V82
-            V83 V84 V85 V86 V87 V88 V89 V90 V91 V92 V93 V94 V95 V96 V97 V98 V99 V100 V101 V102 V103 V104 V105 V106 V107
-            V108 V109 V110 V111 V112 V113 V114 V115 V116 V117 V118 V119 V120 V121 V122 V123 V124 V125 V126 V127
+            val, Of128: V0 V1 V2 V3 V4 V5 V6 V7 V8 V9 V10 V11 V12 V13 V14 V15 V16 V17 V18 V19 V20
+            V21 V22 V23 V24 V25 V26 V27 V28 V29 V30 V31 V32 V33 V34 V35 V36 V37 V38 V39 V40 V41 V42
+            V43 V44 V45 V46 V47 V48 V49 V50 V51 V52 V53 V54 V55 V56 V57 V58 V59 V60 V61 V62 V63 V64
+            V65 V66 V67 V68 V69 V70 V71 V72 V73 V74 V75 V76 V77 V78 V79 V80 V81 V82 V83 V84 V85 V86
+            V87 V88 V89 V90 V91 V92 V93 V94 V95 V96 V97 V98 V99 V100 V101 V102 V103 V104 V105 V106
+            V107 V108 V109 V110 V111 V112 V113 V114 V115 V116 V117 V118 V119 V120 V121 V122 V123
+            V124 V125 V126 V127
         )
     }
 

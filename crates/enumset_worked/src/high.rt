@@ -1,9 +1,9 @@
 //! The worked type `high`.
+
 use enumset_sets::{EnumSetType, EnumSetTypeWithRepr, variant_of};
-use std::fmt;
 
 /// Three variants, on bits 7, 6 and 5: a discriminant counts down from the highest bit of the representation.
-#[derive(Clone, Copy, Debug, PartialEq, Eq, PartialOrd, Ord, Hash)]
+#[derive(Clone, Copy, PartialEq, Eq, Debug, PartialOrd, Ord, Hash)]
 pub enum High {
     A,
     B,
@@ -13,15 +13,14 @@ pub enum High {
 impl EnumSetType for High {
     ghost use Rattle.std.specs.Prelude.{◌∷◌, []};
     ghost use Rattle.enumset_sets.specs.Laws.Elements.{with_bits, lawful_in_integer};
-    ghost use Rattle.enumset_worked.specs.Bits.{high_bits};
     ghost use Rattle.enumset_worked.specs.contracts.high.High.{the_type};
-    ghost use Rattle.enumset_worked.specs.declared.high.High.TheVariants.{A, B, C};
+    ghost use Rattle.enumset_worked.specs.declared.high.High.TheVariants as variant;
 
     type Repr = u8;
 
-    ghost elements = { with_bits the_type high_bits };
+    ghost elements = { with_bits the_type (7 ∷ 6 ∷ 5 ∷ []) };
 
-    ghost values = { A ∷ B ∷ C ∷ [] };
+    ghost values = { variant.A ∷ variant.B ∷ variant.C ∷ [] };
 
     ghost ALL_BITS = { 224 };
 
@@ -36,10 +35,14 @@ impl EnumSetType for High {
     const VARIANT_COUNT: u32 = 3;
 
     fn enum_into_u32(self) -> u32 {
-        u8::BITS - 1 - self as u32
+        match self {
+            Self::A => 7,
+            Self::B => 6,
+            Self::C => 5,
+        }
     }
 
-    fn enum_from_u32(val: u32) -> High {
+    fn enum_from_u32(val: u32) -> Self {
         variant_of!(val, High: 7 A 6 B 5 C)
     }
 
@@ -53,18 +56,21 @@ impl EnumSetTypeWithRepr for High {
 }
 
 /// The name of the variant.
-impl fmt::Display for High {
+impl std::fmt::Display for High {
     ghost use Rattle.std.specs.Prelude.{Some, ◌∷◌, [], codes};
-    ghost use Rattle.enumset_worked.specs.Names.{name_of};
+    ghost use Rattle.std.specs.List.{slice_index_or};
+    ghost use denote.Enum.Declared.{tag_of};
     ghost use Rattle.enumset_worked.specs.contracts.high.High.{the_type};
 
-    ghost output = { λ v. Some (name_of the_type (codes "A" ∷ codes "B" ∷ codes "C" ∷ []) v) };
+    ghost output = { λ v. Some (slice_index_or
+        (codes "A" ∷ codes "B" ∷ codes "C" ∷ [])
+        (tag_of the_type v) []) };
 
-    fn fmt<W: fmt::Write>(&self, f: &mut fmt::Formatter<W>) -> fmt::Result {
+    fn fmt<W: std::fmt::Write>(&self, f: &mut std::fmt::Formatter<W>) -> std::fmt::Result {
         match self {
-            High::A => write!(f, "A"),
-            High::B => write!(f, "B"),
-            High::C => write!(f, "C"),
+            Self::A => f.write_str("A"),
+            Self::B => f.write_str("B"),
+            Self::C => f.write_str("C"),
         }
     }
 }

@@ -1,9 +1,9 @@
 //! The worked type `letters`.
-use enumset_sets::{EnumSetType, EnumSetTypeWithRepr, variant_of};
-use std::fmt;
+
+use enumset_sets::{EnumSet, EnumSetType, EnumSetTypeWithRepr, variant_of};
 
 /// Seven variants, on bits 0 to 6.
-#[derive(Clone, Copy, Debug, PartialEq, Eq, PartialOrd, Ord, Hash)]
+#[derive(Clone, Copy, PartialEq, Eq, Debug, PartialOrd, Ord, Hash)]
 pub enum Letters {
     A,
     B,
@@ -16,16 +16,16 @@ pub enum Letters {
 
 impl EnumSetType for Letters {
     ghost use Rattle.std.specs.Prelude.{◌∷◌, []};
-    ghost use Rattle.enumset_sets.specs.Laws.Elements.{with_bits, lawful_in_integer};
-    ghost use Rattle.enumset_worked.specs.Bits.{letters_bits};
+    ghost use Rattle.enumset_sets.specs.Laws.Elements.{in_place, lawful_in_integer, lawful_in_place};
     ghost use Rattle.enumset_worked.specs.contracts.letters.Letters.{the_type};
-    ghost use Rattle.enumset_worked.specs.declared.letters.Letters.TheVariants.{A, B, C, D, E, F, G};
+    ghost use Rattle.enumset_worked.specs.declared.letters.Letters.TheVariants as variant;
 
     type Repr = u8;
 
-    ghost elements = { with_bits the_type letters_bits };
+    ghost elements = { in_place the_type };
 
-    ghost values = { A ∷ B ∷ C ∷ D ∷ E ∷ F ∷ G ∷ [] };
+    ghost values = { variant.A ∷ variant.B ∷ variant.C ∷ variant.D ∷ variant.E ∷
+        variant.F ∷ variant.G ∷ [] };
 
     ghost ALL_BITS = { 127 };
 
@@ -43,11 +43,11 @@ impl EnumSetType for Letters {
         self as u32
     }
 
-    fn enum_from_u32(val: u32) -> Letters {
+    fn enum_from_u32(val: u32) -> Self {
         variant_of!(val, Letters: A B C D E F G)
     }
 
-    ghost lawful = { lawful_in_integer the_type _ tt };
+    ghost lawful = { lawful_in_place the_type (lawful_in_integer the_type _ tt) };
 }
 
 impl EnumSetTypeWithRepr for Letters {
@@ -57,24 +57,167 @@ impl EnumSetTypeWithRepr for Letters {
 }
 
 /// The name of the variant.
-impl fmt::Display for Letters {
+impl std::fmt::Display for Letters {
     ghost use Rattle.std.specs.Prelude.{Some, ◌∷◌, [], codes};
-    ghost use Rattle.enumset_worked.specs.Names.{name_of};
+    ghost use Rattle.std.specs.List.{slice_index_or};
+    ghost use denote.Enum.Declared.{tag_of};
     ghost use Rattle.enumset_worked.specs.contracts.letters.Letters.{the_type};
 
-    ghost output = { λ v. Some (name_of the_type
-        (codes "A" ∷ codes "B" ∷ codes "C" ∷ codes "D"
-        ∷ codes "E" ∷ codes "F" ∷ codes "G" ∷ []) v) };
+    ghost output = { λ v. Some (slice_index_or
+        (codes "A" ∷ codes "B" ∷ codes "C" ∷ codes "D" ∷ codes "E" ∷ codes "F" ∷
+        codes "G" ∷ [])
+        (tag_of the_type v) []) };
 
-    fn fmt<W: fmt::Write>(&self, f: &mut fmt::Formatter<W>) -> fmt::Result {
+    fn fmt<W: std::fmt::Write>(&self, f: &mut std::fmt::Formatter<W>) -> std::fmt::Result {
         match self {
-            Letters::A => write!(f, "A"),
-            Letters::B => write!(f, "B"),
-            Letters::C => write!(f, "C"),
-            Letters::D => write!(f, "D"),
-            Letters::E => write!(f, "E"),
-            Letters::F => write!(f, "F"),
-            Letters::G => write!(f, "G"),
+            Self::A => f.write_str("A"),
+            Self::B => f.write_str("B"),
+            Self::C => f.write_str("C"),
+            Self::D => f.write_str("D"),
+            Self::E => f.write_str("E"),
+            Self::F => f.write_str("F"),
+            Self::G => f.write_str("G"),
         }
+    }
+}
+
+/// The intersection of the set of the one and that of the other.
+impl std::ops::BitAnd for Letters {
+    ghost use Rattle.std.specs.Prelude.{◌≡◌};
+    ghost use Rattle.enumset_repr.specs.BitSet as set;
+
+    type Output = EnumSet<Letters>;
+
+    ghost bitand_gives = { λ a b r. r ≡ set.intersection
+        (set.only (⟦<Letters as EnumSetType>⟧.elements.bit a))
+        (set.only (⟦<Letters as EnumSetType>⟧.elements.bit b)) };
+
+    fn bitand(self, rhs: Self) -> EnumSet<Self> {
+        EnumSet::only(self) & EnumSet::only(rhs)
+    }
+}
+
+/// The intersection of the set of the one and the other.
+impl std::ops::BitAnd<EnumSet<Letters>> for Letters {
+    ghost use Rattle.std.specs.Prelude.{◌≡◌};
+    ghost use Rattle.enumset_repr.specs.BitSet as set;
+
+    type Output = EnumSet<Letters>;
+
+    ghost bitand_gives = { λ a b r. r ≡ set.intersection
+        (set.only (⟦<Letters as EnumSetType>⟧.elements.bit a)) b };
+
+    fn bitand(self, rhs: EnumSet<Self>) -> EnumSet<Self> {
+        EnumSet::only(self) & rhs
+    }
+}
+
+/// The union of the set of the one and that of the other.
+impl std::ops::BitOr for Letters {
+    ghost use Rattle.std.specs.Prelude.{◌≡◌};
+    ghost use Rattle.enumset_repr.specs.BitSet as set;
+
+    type Output = EnumSet<Letters>;
+
+    ghost bitor_gives = { λ a b r. r ≡ set.union
+        (set.only (⟦<Letters as EnumSetType>⟧.elements.bit a))
+        (set.only (⟦<Letters as EnumSetType>⟧.elements.bit b)) };
+
+    fn bitor(self, rhs: Self) -> EnumSet<Self> {
+        EnumSet::only(self) | EnumSet::only(rhs)
+    }
+}
+
+/// The union of the set of the one and the other.
+impl std::ops::BitOr<EnumSet<Letters>> for Letters {
+    ghost use Rattle.std.specs.Prelude.{◌≡◌};
+    ghost use Rattle.enumset_repr.specs.BitSet as set;
+
+    type Output = EnumSet<Letters>;
+
+    ghost bitor_gives = { λ a b r. r ≡ set.union
+        (set.only (⟦<Letters as EnumSetType>⟧.elements.bit a)) b };
+
+    fn bitor(self, rhs: EnumSet<Self>) -> EnumSet<Self> {
+        EnumSet::only(self) | rhs
+    }
+}
+
+/// The symmetric difference of the set of the one and that of the other.
+impl std::ops::BitXor for Letters {
+    ghost use Rattle.std.specs.Prelude.{◌≡◌};
+    ghost use Rattle.enumset_repr.specs.BitSet as set;
+
+    type Output = EnumSet<Letters>;
+
+    ghost bitxor_gives = { λ a b r. r ≡ set.symmetric_difference
+        (set.only (⟦<Letters as EnumSetType>⟧.elements.bit a))
+        (set.only (⟦<Letters as EnumSetType>⟧.elements.bit b)) };
+
+    fn bitxor(self, rhs: Self) -> EnumSet<Self> {
+        EnumSet::only(self) ^ EnumSet::only(rhs)
+    }
+}
+
+/// The symmetric difference of the set of the one and the other.
+impl std::ops::BitXor<EnumSet<Letters>> for Letters {
+    ghost use Rattle.std.specs.Prelude.{◌≡◌};
+    ghost use Rattle.enumset_repr.specs.BitSet as set;
+
+    type Output = EnumSet<Letters>;
+
+    ghost bitxor_gives = { λ a b r. r ≡ set.symmetric_difference
+        (set.only (⟦<Letters as EnumSetType>⟧.elements.bit a)) b };
+
+    fn bitxor(self, rhs: EnumSet<Self>) -> EnumSet<Self> {
+        EnumSet::only(self) ^ rhs
+    }
+}
+
+/// The difference of the set of the one and that of the other.
+impl std::ops::Sub for Letters {
+    ghost use Rattle.std.specs.Prelude.{◌≡◌};
+    ghost use Rattle.enumset_repr.specs.BitSet as set;
+
+    type Output = EnumSet<Letters>;
+
+    ghost sub_gives = { λ a b r. r ≡ set.difference
+        (set.only (⟦<Letters as EnumSetType>⟧.elements.bit a))
+        (set.only (⟦<Letters as EnumSetType>⟧.elements.bit b)) };
+
+    fn sub(self, rhs: Self) -> EnumSet<Self> {
+        EnumSet::only(self) - EnumSet::only(rhs)
+    }
+}
+
+/// The difference of the set of the one and the other.
+impl std::ops::Sub<EnumSet<Letters>> for Letters {
+    ghost use Rattle.std.specs.Prelude.{◌≡◌};
+    ghost use Rattle.enumset_repr.specs.BitSet as set;
+
+    type Output = EnumSet<Letters>;
+
+    ghost sub_gives = { λ a b r. r ≡ set.difference
+        (set.only (⟦<Letters as EnumSetType>⟧.elements.bit a)) b };
+
+    fn sub(self, rhs: EnumSet<Self>) -> EnumSet<Self> {
+        EnumSet::only(self) - rhs
+    }
+}
+
+/// The set of all the others.
+impl std::ops::Not for Letters {
+    ghost use Rattle.std.specs.Prelude.{◌≡◌};
+    ghost use Rattle.enumset_repr.specs.BitSet as set;
+    ghost use Rattle.enumset_sets.specs.Elements.{valid_bits};
+
+    type Output = EnumSet<Letters>;
+
+    ghost not_gives = { λ a r. r ≡ set.difference
+        (valid_bits ⟦<Letters as EnumSetType>⟧.elements)
+        (set.only (⟦<Letters as EnumSetType>⟧.elements.bit a)) };
+
+    fn not(self) -> EnumSet<Self> {
+        !EnumSet::only(self)
     }
 }

@@ -1,4 +1,6 @@
 //! The worked types: element types that the program can run commands over.
+//!
+//! `enumset_derive` writes each module from its file in `enums/`: change that file, and call `scripts/written-types`.
 #![tactic(auto)]
 
 pub mod four;
@@ -6,7 +8,6 @@ pub mod high;
 pub mod letters;
 pub mod marks;
 pub mod masks;
-pub mod operators;
 pub mod pair_number;
 pub mod pair_words;
 pub mod single;

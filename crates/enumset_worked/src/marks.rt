@@ -1,9 +1,9 @@
 //! The worked type `marks`.
+
 use enumset_sets::{EnumSetType, EnumSetTypeWithRepr, variant_of};
-use std::fmt;
 
 /// Three variants, on bits 0, 1 and 2.
-#[derive(Clone, Copy, Debug, PartialEq, Eq, PartialOrd, Ord, Hash)]
+#[derive(Clone, Copy, PartialEq, Eq, Debug, PartialOrd, Ord, Hash)]
 pub enum Marks {
     A,
     B,
@@ -12,16 +12,15 @@ pub enum Marks {
 
 impl EnumSetType for Marks {
     ghost use Rattle.std.specs.Prelude.{◌∷◌, []};
-    ghost use Rattle.enumset_sets.specs.Laws.Elements.{with_bits, lawful_in_integer};
-    ghost use Rattle.enumset_worked.specs.Bits.{marks_bits};
+    ghost use Rattle.enumset_sets.specs.Laws.Elements.{in_place, lawful_in_integer, lawful_in_place};
     ghost use Rattle.enumset_worked.specs.contracts.marks.Marks.{the_type};
-    ghost use Rattle.enumset_worked.specs.declared.marks.Marks.TheVariants.{A, B, C};
+    ghost use Rattle.enumset_worked.specs.declared.marks.Marks.TheVariants as variant;
 
     type Repr = u8;
 
-    ghost elements = { with_bits the_type marks_bits };
+    ghost elements = { in_place the_type };
 
-    ghost values = { A ∷ B ∷ C ∷ [] };
+    ghost values = { variant.A ∷ variant.B ∷ variant.C ∷ [] };
 
     ghost ALL_BITS = { 7 };
 
@@ -39,11 +38,11 @@ impl EnumSetType for Marks {
         self as u32
     }
 
-    fn enum_from_u32(val: u32) -> Marks {
+    fn enum_from_u32(val: u32) -> Self {
         variant_of!(val, Marks: A B C)
     }
 
-    ghost lawful = { lawful_in_integer the_type _ tt };
+    ghost lawful = { lawful_in_place the_type (lawful_in_integer the_type _ tt) };
 }
 
 impl EnumSetTypeWithRepr for Marks {
@@ -53,18 +52,21 @@ impl EnumSetTypeWithRepr for Marks {
 }
 
 /// The name of the variant.
-impl fmt::Display for Marks {
+impl std::fmt::Display for Marks {
     ghost use Rattle.std.specs.Prelude.{Some, ◌∷◌, [], codes};
-    ghost use Rattle.enumset_worked.specs.Names.{name_of};
+    ghost use Rattle.std.specs.List.{slice_index_or};
+    ghost use denote.Enum.Declared.{tag_of};
     ghost use Rattle.enumset_worked.specs.contracts.marks.Marks.{the_type};
 
-    ghost output = { λ v. Some (name_of the_type (codes "A" ∷ codes "B" ∷ codes "C" ∷ []) v) };
+    ghost output = { λ v. Some (slice_index_or
+        (codes "A" ∷ codes "B" ∷ codes "C" ∷ [])
+        (tag_of the_type v) []) };
 
-    fn fmt<W: fmt::Write>(&self, f: &mut fmt::Formatter<W>) -> fmt::Result {
+    fn fmt<W: std::fmt::Write>(&self, f: &mut std::fmt::Formatter<W>) -> std::fmt::Result {
         match self {
-            Marks::A => write!(f, "A"),
-            Marks::B => write!(f, "B"),
-            Marks::C => write!(f, "C"),
+            Self::A => f.write_str("A"),
+            Self::B => f.write_str("B"),
+            Self::C => f.write_str("C"),
         }
     }
 }

@@ -1,9 +1,9 @@
 //! The worked type `masks`.
+
 use enumset_sets::{EnumSetType, EnumSetTypeWithRepr, variant_of};
-use std::fmt;
 
 /// Three variants, on bits 0, 4 and 6: each discriminant is the mask of its bit.
-#[derive(Clone, Copy, Debug, PartialEq, Eq, PartialOrd, Ord, Hash)]
+#[derive(Clone, Copy, PartialEq, Eq, Debug, PartialOrd, Ord, Hash)]
 pub enum Masks {
     P = 1,
     Q = 16,
@@ -13,15 +13,14 @@ pub enum Masks {
 impl EnumSetType for Masks {
     ghost use Rattle.std.specs.Prelude.{◌∷◌, []};
     ghost use Rattle.enumset_sets.specs.Laws.Elements.{with_bits, lawful_in_integer};
-    ghost use Rattle.enumset_worked.specs.Bits.{masks_bits};
     ghost use Rattle.enumset_worked.specs.contracts.masks.Masks.{the_type};
-    ghost use Rattle.enumset_worked.specs.declared.masks.Masks.TheVariants.{P, Q, R};
+    ghost use Rattle.enumset_worked.specs.declared.masks.Masks.TheVariants as variant;
 
     type Repr = u8;
 
-    ghost elements = { with_bits the_type masks_bits };
+    ghost elements = { with_bits the_type (0 ∷ 4 ∷ 6 ∷ []) };
 
-    ghost values = { P ∷ Q ∷ R ∷ [] };
+    ghost values = { variant.P ∷ variant.Q ∷ variant.R ∷ [] };
 
     ghost ALL_BITS = { 81 };
 
@@ -36,10 +35,14 @@ impl EnumSetType for Masks {
     const VARIANT_COUNT: u32 = 3;
 
     fn enum_into_u32(self) -> u32 {
-        (self as u32).trailing_zeros()
+        match self {
+            Self::P => 0,
+            Self::Q => 4,
+            Self::R => 6,
+        }
     }
 
-    fn enum_from_u32(val: u32) -> Masks {
+    fn enum_from_u32(val: u32) -> Self {
         variant_of!(val, Masks: 0 P 4 Q 6 R)
     }
 
@@ -53,18 +56,21 @@ impl EnumSetTypeWithRepr for Masks {
 }
 
 /// The name of the variant.
-impl fmt::Display for Masks {
+impl std::fmt::Display for Masks {
     ghost use Rattle.std.specs.Prelude.{Some, ◌∷◌, [], codes};
-    ghost use Rattle.enumset_worked.specs.Names.{name_of};
+    ghost use Rattle.std.specs.List.{slice_index_or};
+    ghost use denote.Enum.Declared.{tag_of};
     ghost use Rattle.enumset_worked.specs.contracts.masks.Masks.{the_type};
 
-    ghost output = { λ v. Some (name_of the_type (codes "P" ∷ codes "Q" ∷ codes "R" ∷ []) v) };
+    ghost output = { λ v. Some (slice_index_or
+        (codes "P" ∷ codes "Q" ∷ codes "R" ∷ [])
+        (tag_of the_type v) []) };
 
-    fn fmt<W: fmt::Write>(&self, f: &mut fmt::Formatter<W>) -> fmt::Result {
+    fn fmt<W: std::fmt::Write>(&self, f: &mut std::fmt::Formatter<W>) -> std::fmt::Result {
         match self {
-            Masks::P => write!(f, "P"),
-            Masks::Q => write!(f, "Q"),
-            Masks::R => write!(f, "R"),
+            Self::P => f.write_str("P"),
+            Self::Q => f.write_str("Q"),
+            Self::R => f.write_str("R"),
         }
     }
 }

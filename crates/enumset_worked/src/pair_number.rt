@@ -1,9 +1,9 @@
 //! The worked type `pair-number`.
+
 use enumset_sets::{EnumSetType, EnumSetTypeWithRepr, variant_of};
-use std::fmt;
 
 /// Two variants, on bits 0 and 64 of one integer: the bits of [`PairWords`](crate::pair_words::PairWords).
-#[derive(Clone, Copy, Debug, PartialEq, Eq, PartialOrd, Ord, Hash)]
+#[derive(Clone, Copy, PartialEq, Eq, Debug, PartialOrd, Ord, Hash)]
 pub enum PairNumber {
     A = 0,
     B = 64,
@@ -12,19 +12,18 @@ pub enum PairNumber {
 impl EnumSetType for PairNumber {
     ghost use Rattle.std.specs.Prelude.{◌∷◌, []};
     ghost use Rattle.enumset_sets.specs.Laws.Elements.{with_bits, lawful_in_integer};
-    ghost use Rattle.enumset_worked.specs.Bits.{pair_bits};
     ghost use Rattle.enumset_worked.specs.contracts.pair_number.PairNumber.{the_type};
-    ghost use Rattle.enumset_worked.specs.declared.pair_number.PairNumber.TheVariants.{A, B};
+    ghost use Rattle.enumset_worked.specs.declared.pair_number.PairNumber.TheVariants as variant;
 
     type Repr = u128;
 
-    ghost elements = { with_bits the_type pair_bits };
+    ghost elements = { with_bits the_type (0 ∷ 64 ∷ []) };
 
-    ghost values = { A ∷ B ∷ [] };
+    ghost values = { variant.A ∷ variant.B ∷ [] };
 
     ghost ALL_BITS = { 18446744073709551617 };
 
-    const ALL_BITS: u128 = 1 | 1 << 64;
+    const ALL_BITS: u128 = 18446744073709551617;
 
     ghost BIT_WIDTH = { 65 };
 
@@ -38,7 +37,7 @@ impl EnumSetType for PairNumber {
         self as u32
     }
 
-    fn enum_from_u32(val: u32) -> PairNumber {
+    fn enum_from_u32(val: u32) -> Self {
         variant_of!(val, PairNumber: 0 A 64 B)
     }
 
@@ -52,17 +51,20 @@ impl EnumSetTypeWithRepr for PairNumber {
 }
 
 /// The name of the variant.
-impl fmt::Display for PairNumber {
+impl std::fmt::Display for PairNumber {
     ghost use Rattle.std.specs.Prelude.{Some, ◌∷◌, [], codes};
-    ghost use Rattle.enumset_worked.specs.Names.{name_of};
+    ghost use Rattle.std.specs.List.{slice_index_or};
+    ghost use denote.Enum.Declared.{tag_of};
     ghost use Rattle.enumset_worked.specs.contracts.pair_number.PairNumber.{the_type};
 
-    ghost output = { λ v. Some (name_of the_type (codes "A" ∷ codes "B" ∷ []) v) };
+    ghost output = { λ v. Some (slice_index_or
+        (codes "A" ∷ codes "B" ∷ [])
+        (tag_of the_type v) []) };
 
-    fn fmt<W: fmt::Write>(&self, f: &mut fmt::Formatter<W>) -> fmt::Result {
+    fn fmt<W: std::fmt::Write>(&self, f: &mut std::fmt::Formatter<W>) -> std::fmt::Result {
         match self {
-            PairNumber::A => write!(f, "A"),
-            PairNumber::B => write!(f, "B"),
+            Self::A => f.write_str("A"),
+            Self::B => f.write_str("B"),
         }
     }
 }

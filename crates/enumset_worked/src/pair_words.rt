@@ -1,10 +1,10 @@
 //! The worked type `pair-words`.
+
 use enumset_array::ArrayRepr;
 use enumset_sets::{EnumSetType, EnumSetTypeWithRepr, variant_of};
-use std::fmt;
 
 /// Two variants, on bits 0 and 64, each in its own word: the bits of [`PairNumber`](crate::pair_number::PairNumber).
-#[derive(Clone, Copy, Debug, PartialEq, Eq, PartialOrd, Ord, Hash)]
+#[derive(Clone, Copy, PartialEq, Eq, Debug, PartialOrd, Ord, Hash)]
 pub enum PairWords {
     A = 0,
     B = 64,
@@ -13,15 +13,14 @@ pub enum PairWords {
 impl EnumSetType for PairWords {
     ghost use Rattle.std.specs.Prelude.{◌∷◌, []};
     ghost use Rattle.enumset_sets.specs.Laws.Elements.{with_bits, lawful_in_words};
-    ghost use Rattle.enumset_worked.specs.Bits.{pair_bits};
     ghost use Rattle.enumset_worked.specs.contracts.pair_words.PairWords.{the_type};
-    ghost use Rattle.enumset_worked.specs.declared.pair_words.PairWords.TheVariants.{A, B};
+    ghost use Rattle.enumset_worked.specs.declared.pair_words.PairWords.TheVariants as variant;
 
     type Repr = ArrayRepr<2>;
 
-    ghost elements = { with_bits the_type pair_bits };
+    ghost elements = { with_bits the_type (0 ∷ 64 ∷ []) };
 
-    ghost values = { A ∷ B ∷ [] };
+    ghost values = { variant.A ∷ variant.B ∷ [] };
 
     ghost ALL_BITS = { 1 ∷ 1 ∷ [] };
 
@@ -39,7 +38,7 @@ impl EnumSetType for PairWords {
         self as u32
     }
 
-    fn enum_from_u32(val: u32) -> PairWords {
+    fn enum_from_u32(val: u32) -> Self {
         variant_of!(val, PairWords: 0 A 64 B)
     }
 
@@ -53,17 +52,20 @@ impl EnumSetTypeWithRepr for PairWords {
 }
 
 /// The name of the variant.
-impl fmt::Display for PairWords {
+impl std::fmt::Display for PairWords {
     ghost use Rattle.std.specs.Prelude.{Some, ◌∷◌, [], codes};
-    ghost use Rattle.enumset_worked.specs.Names.{name_of};
+    ghost use Rattle.std.specs.List.{slice_index_or};
+    ghost use denote.Enum.Declared.{tag_of};
     ghost use Rattle.enumset_worked.specs.contracts.pair_words.PairWords.{the_type};
 
-    ghost output = { λ v. Some (name_of the_type (codes "A" ∷ codes "B" ∷ []) v) };
+    ghost output = { λ v. Some (slice_index_or
+        (codes "A" ∷ codes "B" ∷ [])
+        (tag_of the_type v) []) };
 
-    fn fmt<W: fmt::Write>(&self, f: &mut fmt::Formatter<W>) -> fmt::Result {
+    fn fmt<W: std::fmt::Write>(&self, f: &mut std::fmt::Formatter<W>) -> std::fmt::Result {
         match self {
-            PairWords::A => write!(f, "A"),
-            PairWords::B => write!(f, "B"),
+            Self::A => f.write_str("A"),
+            Self::B => f.write_str("B"),
         }
     }
 }

@@ -1,25 +1,24 @@
 //! The worked type `single`.
+
 use enumset_sets::{EnumSetType, EnumSetTypeWithRepr, variant_of};
-use std::fmt;
 
 /// One variant, on bit 0.
-#[derive(Clone, Copy, Debug, PartialEq, Eq, PartialOrd, Ord, Hash)]
+#[derive(Clone, Copy, PartialEq, Eq, Debug, PartialOrd, Ord, Hash)]
 pub enum Single {
     A,
 }
 
 impl EnumSetType for Single {
     ghost use Rattle.std.specs.Prelude.{◌∷◌, []};
-    ghost use Rattle.enumset_sets.specs.Laws.Elements.{with_bits, lawful_in_integer};
-    ghost use Rattle.enumset_worked.specs.Bits.{single_bits};
+    ghost use Rattle.enumset_sets.specs.Laws.Elements.{in_place, lawful_in_integer, lawful_in_place};
     ghost use Rattle.enumset_worked.specs.contracts.single.Single.{the_type};
-    ghost use Rattle.enumset_worked.specs.declared.single.Single.TheVariants.{A};
+    ghost use Rattle.enumset_worked.specs.declared.single.Single.TheVariants as variant;
 
     type Repr = u8;
 
-    ghost elements = { with_bits the_type single_bits };
+    ghost elements = { in_place the_type };
 
-    ghost values = { A ∷ [] };
+    ghost values = { variant.A ∷ [] };
 
     ghost ALL_BITS = { 1 };
 
@@ -37,11 +36,11 @@ impl EnumSetType for Single {
         self as u32
     }
 
-    fn enum_from_u32(val: u32) -> Single {
+    fn enum_from_u32(val: u32) -> Self {
         variant_of!(val, Single: A)
     }
 
-    ghost lawful = { lawful_in_integer the_type _ tt };
+    ghost lawful = { lawful_in_place the_type (lawful_in_integer the_type _ tt) };
 }
 
 impl EnumSetTypeWithRepr for Single {
@@ -51,16 +50,19 @@ impl EnumSetTypeWithRepr for Single {
 }
 
 /// The name of the variant.
-impl fmt::Display for Single {
+impl std::fmt::Display for Single {
     ghost use Rattle.std.specs.Prelude.{Some, ◌∷◌, [], codes};
-    ghost use Rattle.enumset_worked.specs.Names.{name_of};
+    ghost use Rattle.std.specs.List.{slice_index_or};
+    ghost use denote.Enum.Declared.{tag_of};
     ghost use Rattle.enumset_worked.specs.contracts.single.Single.{the_type};
 
-    ghost output = { λ v. Some (name_of the_type (codes "A" ∷ []) v) };
+    ghost output = { λ v. Some (slice_index_or
+        (codes "A" ∷ [])
+        (tag_of the_type v) []) };
 
-    fn fmt<W: fmt::Write>(&self, f: &mut fmt::Formatter<W>) -> fmt::Result {
+    fn fmt<W: std::fmt::Write>(&self, f: &mut std::fmt::Formatter<W>) -> std::fmt::Result {
         match self {
-            Single::A => write!(f, "A"),
+            Self::A => f.write_str("A"),
         }
     }
 }

@@ -1,9 +1,9 @@
 //! The worked type `sparse`.
+
 use enumset_sets::{EnumSetType, EnumSetTypeWithRepr, variant_of};
-use std::fmt;
 
 /// Four variants, on bits 10, 20, 30 and 127.
-#[derive(Clone, Copy, Debug, PartialEq, Eq, PartialOrd, Ord, Hash)]
+#[derive(Clone, Copy, PartialEq, Eq, Debug, PartialOrd, Ord, Hash)]
 pub enum Sparse {
     A = 10,
     B = 20,
@@ -14,19 +14,18 @@ pub enum Sparse {
 impl EnumSetType for Sparse {
     ghost use Rattle.std.specs.Prelude.{◌∷◌, []};
     ghost use Rattle.enumset_sets.specs.Laws.Elements.{with_bits, lawful_in_integer};
-    ghost use Rattle.enumset_worked.specs.Bits.{sparse_bits};
     ghost use Rattle.enumset_worked.specs.contracts.sparse.Sparse.{the_type};
-    ghost use Rattle.enumset_worked.specs.declared.sparse.Sparse.TheVariants.{A, B, C, D};
+    ghost use Rattle.enumset_worked.specs.declared.sparse.Sparse.TheVariants as variant;
 
     type Repr = u128;
 
-    ghost elements = { with_bits the_type sparse_bits };
+    ghost elements = { with_bits the_type (10 ∷ 20 ∷ 30 ∷ 127 ∷ []) };
 
-    ghost values = { A ∷ B ∷ C ∷ D ∷ [] };
+    ghost values = { variant.A ∷ variant.B ∷ variant.C ∷ variant.D ∷ [] };
 
     ghost ALL_BITS = { 170141183460469231731687303716958897152 };
 
-    const ALL_BITS: u128 = 1 << 10 | 1 << 20 | 1 << 30 | 1 << 127;
+    const ALL_BITS: u128 = 170141183460469231731687303716958897152;
 
     ghost BIT_WIDTH = { 128 };
 
@@ -40,7 +39,7 @@ impl EnumSetType for Sparse {
         self as u32
     }
 
-    fn enum_from_u32(val: u32) -> Sparse {
+    fn enum_from_u32(val: u32) -> Self {
         variant_of!(val, Sparse: 10 A 20 B 30 C 127 D)
     }
 
@@ -54,20 +53,22 @@ impl EnumSetTypeWithRepr for Sparse {
 }
 
 /// The name of the variant.
-impl fmt::Display for Sparse {
+impl std::fmt::Display for Sparse {
     ghost use Rattle.std.specs.Prelude.{Some, ◌∷◌, [], codes};
-    ghost use Rattle.enumset_worked.specs.Names.{name_of};
+    ghost use Rattle.std.specs.List.{slice_index_or};
+    ghost use denote.Enum.Declared.{tag_of};
     ghost use Rattle.enumset_worked.specs.contracts.sparse.Sparse.{the_type};
 
-    ghost output = { λ v. Some (name_of the_type
-        (codes "A" ∷ codes "B" ∷ codes "C" ∷ codes "D" ∷ []) v) };
+    ghost output = { λ v. Some (slice_index_or
+        (codes "A" ∷ codes "B" ∷ codes "C" ∷ codes "D" ∷ [])
+        (tag_of the_type v) []) };
 
-    fn fmt<W: fmt::Write>(&self, f: &mut fmt::Formatter<W>) -> fmt::Result {
+    fn fmt<W: std::fmt::Write>(&self, f: &mut std::fmt::Formatter<W>) -> std::fmt::Result {
         match self {
-            Sparse::A => write!(f, "A"),
-            Sparse::B => write!(f, "B"),
-            Sparse::C => write!(f, "C"),
-            Sparse::D => write!(f, "D"),
+            Self::A => f.write_str("A"),
+            Self::B => f.write_str("B"),
+            Self::C => f.write_str("C"),
+            Self::D => f.write_str("D"),
         }
     }
 }

@@ -1,10 +1,10 @@
 //! The worked type `wide`.
+
 use enumset_array::ArrayRepr;
 use enumset_sets::{EnumSetType, variant_of};
-use std::fmt;
 
 /// Three variants, on bits 3, 64 and 130, each in a word of its own.
-#[derive(Clone, Copy, Debug, PartialEq, Eq, PartialOrd, Ord, Hash)]
+#[derive(Clone, Copy, PartialEq, Eq, Debug, PartialOrd, Ord, Hash)]
 pub enum Wide {
     P = 3,
     Q = 64,
@@ -14,15 +14,14 @@ pub enum Wide {
 impl EnumSetType for Wide {
     ghost use Rattle.std.specs.Prelude.{◌∷◌, []};
     ghost use Rattle.enumset_sets.specs.Laws.Elements.{with_bits, lawful_in_words};
-    ghost use Rattle.enumset_worked.specs.Bits.{wide_bits};
     ghost use Rattle.enumset_worked.specs.contracts.wide.Wide.{the_type};
-    ghost use Rattle.enumset_worked.specs.declared.wide.Wide.TheVariants.{P, Q, R};
+    ghost use Rattle.enumset_worked.specs.declared.wide.Wide.TheVariants as variant;
 
     type Repr = ArrayRepr<3>;
 
-    ghost elements = { with_bits the_type wide_bits };
+    ghost elements = { with_bits the_type (3 ∷ 64 ∷ 130 ∷ []) };
 
-    ghost values = { P ∷ Q ∷ R ∷ [] };
+    ghost values = { variant.P ∷ variant.Q ∷ variant.R ∷ [] };
 
     ghost ALL_BITS = { 8 ∷ 1 ∷ 4 ∷ [] };
 
@@ -40,7 +39,7 @@ impl EnumSetType for Wide {
         self as u32
     }
 
-    fn enum_from_u32(val: u32) -> Wide {
+    fn enum_from_u32(val: u32) -> Self {
         variant_of!(val, Wide: 3 P 64 Q 130 R)
     }
 
@@ -48,18 +47,21 @@ impl EnumSetType for Wide {
 }
 
 /// The name of the variant.
-impl fmt::Display for Wide {
+impl std::fmt::Display for Wide {
     ghost use Rattle.std.specs.Prelude.{Some, ◌∷◌, [], codes};
-    ghost use Rattle.enumset_worked.specs.Names.{name_of};
+    ghost use Rattle.std.specs.List.{slice_index_or};
+    ghost use denote.Enum.Declared.{tag_of};
     ghost use Rattle.enumset_worked.specs.contracts.wide.Wide.{the_type};
 
-    ghost output = { λ v. Some (name_of the_type (codes "P" ∷ codes "Q" ∷ codes "R" ∷ []) v) };
+    ghost output = { λ v. Some (slice_index_or
+        (codes "P" ∷ codes "Q" ∷ codes "R" ∷ [])
+        (tag_of the_type v) []) };
 
-    fn fmt<W: fmt::Write>(&self, f: &mut fmt::Formatter<W>) -> fmt::Result {
+    fn fmt<W: std::fmt::Write>(&self, f: &mut std::fmt::Formatter<W>) -> std::fmt::Result {
         match self {
-            Wide::P => write!(f, "P"),
-            Wide::Q => write!(f, "Q"),
-            Wide::R => write!(f, "R"),
+            Self::P => f.write_str("P"),
+            Self::Q => f.write_str("Q"),
+            Self::R => f.write_str("R"),
         }
     }
 }
