@@ -2,6 +2,7 @@ mod Results
 mod NameLists
 mod NameLaws
 mod MapLaws
+mod OtherNames
 mod JsonNamed
 pub mod JsonNumbers
 pub mod JsonWords

@@ -74,6 +74,10 @@ true_all : (ms : List (List ℕ × Data)) → list_all is_true ms ≡ true → t
 true_all [] all = refl
 true_all (m ∷ ms) all = ap (λ t. names_in (if t then m ∷ filter is_true ms else filter is_true ms)) (and_parts _ _ all).0 ∙ ap (λ ns. m.0 ∷ ns) (true_all ms (and_parts _ _ all).1)
 
+of_names : (q : List ℕ → Bool) (ms : List (List ℕ × Data)) → list_all (λ m. q m.0) ms ≡ true → list_all q (names_in ms) ≡ true
+of_names q [] all = refl
+of_names q (m ∷ ms) all = and_from _ _ (and_parts _ _ all).0 (of_names q ms (and_parts _ _ all).1)
+
 module _ (bs : List ℕ) (names : List (List ℕ)) (are : AreNames bs names) where
   -- a test that each known name with `true` passes
   all_passes : (p : List ℕ × Data → Bool) (ms : List ℕ) (done : Members) → ((m : ℕ) → is_in m bs ≡ true → p (name_of (zip bs names) m, boolean true) ≡ true)
@@ -99,32 +103,43 @@ module _ (bs : List ℕ) (names : List (List ℕ)) (are : AreNames bs names) whe
   listed : (s : BitSet) → is_subset s (from_list bs) ≡ true → list_all (λ b. is_in b bs) (ascending s) ≡ true
   listed s within = AreBitsOf-ascending bs (from_list bs) s refl within
 
-  set_back : (s : BitSet) → is_subset s (from_list bs) ≡ true → known_set (zip bs names) (true_names (members_in (with_bits_true (zip bs names) no_members (ascending s)))) ≡ s
+  -- the names of a map that was written, all with `true`
+  pub trues_back : (s : BitSet) → is_subset s (from_list bs) ≡ true
+      → true_names (members_in (with_bits_true (zip bs names) no_members (ascending s))) ≡ names_in (members_in (with_bits_true (zip bs names) no_members (ascending s)))
+  trues_back s within =
+      true_all (members_in (with_bits_true (zip bs names) no_members (ascending s))) (all_passes is_true (ascending s) no_members (λ m one. refl) (listed s within) refl)
+
+  pub set_back : (s : BitSet) → is_subset s (from_list bs) ≡ true → known_set (zip bs names) (names_in (members_in (with_bits_true (zip bs names) no_members (ascending s)))) ≡ s
   set_back s within =
-      ap (known_set (zip bs names)) (true_all (members_in (with_bits_true (zip bs names) no_members (ascending s)))
-      (all_passes is_true (ascending s) no_members (λ m one. refl) (listed s within) refl))
-      ∙ all_named (ascending s) no_members (listed s within)
+      all_named (ascending s) no_members (listed s within)
       ∙ ap (λ t. union t (from_list (ascending s))) from_list_none
       ∙ empty_union (from_list (ascending s))
       ∙ from_list_ascending s
 
-  names_pass : (q : List ℕ → Bool) (ms : List (List ℕ × Data)) → list_all (λ m. q m.0) ms ≡ true → list_all q (names_in ms) ≡ true
-  names_pass q [] all = refl
-  names_pass q (m ∷ ms) all = and_from _ _ (and_parts _ _ all).0 (names_pass q ms (and_parts _ _ all).1)
+  -- a test that the name of each bit passes
+  pub names_pass : (q : List ℕ → Bool) (s : BitSet) → ((m : ℕ) → is_in m bs ≡ true → q (name_of (zip bs names) m) ≡ true) → is_subset s (from_list bs) ≡ true
+      → list_all q (names_in (members_in (with_bits_true (zip bs names) no_members (ascending s)))) ≡ true
+  names_pass q s each within =
+      of_names q (members_in (with_bits_true (zip bs names) no_members (ascending s))) (all_passes (λ m. q m.0) (ascending s) no_members each (listed s within) refl)
 
   named_back : (s : BitSet) (unknown : Unknown) → is_subset s (from_list bs) ≡ true
-      → named_set (zip bs names) unknown (names_in (members_in (with_bits_true (zip bs names) no_members (ascending s)))) (true_names (members_in (with_bits_true (zip bs names) no_members (ascending s)))) ≡ Ok s
+      → named_set (zip bs names) unknown (names_in (members_in (with_bits_true (zip bs names) no_members (ascending s)))) (names_in (members_in (with_bits_true (zip bs names) no_members (ascending s)))) ≡ Ok s
   named_back s Drop within = ap Ok (set_back s within)
   named_back s Refuse within =
-      ap (λ o. unless_unknown o (known_set (zip bs names) (true_names (members_in (with_bits_true (zip bs names) no_members (ascending s))))))
+      ap (λ o. unless_unknown o (known_set (zip bs names) (names_in (members_in (with_bits_true (zip bs names) no_members (ascending s))))))
       (position_none (is_unknown (zip bs names)) (names_in (members_in (with_bits_true (zip bs names) no_members (ascending s))))
-      (names_pass (λ t. not (is_unknown (zip bs names) t)) (members_in (with_bits_true (zip bs names) no_members (ascending s)))
-      (all_passes (λ m. not (is_unknown (zip bs names) m.0)) (ascending s) no_members (λ m one. ap (λ o. not (is_none o)) (name_back bs names m are.as_many are.distinct one)) (listed s within) refl)))
+      (names_pass (λ t. not (is_unknown (zip bs names) t)) s (λ m one. ap (λ o. not (is_none o)) (name_back bs names m are.as_many are.distinct one)) within))
       ∙ ap Ok (set_back s within)
 
-  pub map_back : (s : BitSet) (unknown : Unknown) → is_subset s (from_list bs) ≡ true → set_of_map (zip bs names) unknown (map_value (zip bs names) s) ≡ Ok s
-  map_back s unknown within =
-      ap (λ o. set_of_booleans (zip bs names) unknown o (members_in (with_bits_true (zip bs names) no_members (ascending s))))
+  -- what a reader takes of a map that was written, by its names
+  pub map_taken : (readers : Names) (s : BitSet) (unknown : Unknown) → is_subset s (from_list bs) ≡ true
+      → set_of_map readers unknown (map_value (zip bs names) s)
+      ≡ named_set readers unknown (names_in (members_in (with_bits_true (zip bs names) no_members (ascending s)))) (names_in (members_in (with_bits_true (zip bs names) no_members (ascending s))))
+  map_taken readers s unknown within =
+      ap (λ o. set_of_booleans readers unknown o (members_in (with_bits_true (zip bs names) no_members (ascending s))))
       (position_none is_no_boolean (members_in (with_bits_true (zip bs names) no_members (ascending s)))
       (all_passes (λ m. not (is_no_boolean m)) (ascending s) no_members (λ m one. refl) (listed s within) refl))
-      ∙ named_back s unknown within
+      ∙ ap (named_set readers unknown (names_in (members_in (with_bits_true (zip bs names) no_members (ascending s))))) (trues_back s within)
+
+  pub map_back : (s : BitSet) (unknown : Unknown) → is_subset s (from_list bs) ≡ true → set_of_map (zip bs names) unknown (map_value (zip bs names) s) ≡ Ok s
+  map_back s unknown within = map_taken (zip bs names) s unknown within ∙ named_back s unknown within

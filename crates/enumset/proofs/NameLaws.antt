@@ -11,13 +11,13 @@ use Rattle.enumset_repr.specs.Laws.Algebra.{from_list_ascending}
 use Rattle.enumset_sets.specs.Laws.Elements.{AreBitsOf-ascending}
 use Rattle.serde_json.specs.Data.{Data, string}
 use Rattle.serde_json.specs.View.{items_of}
-use Rattle.enumset.specs.Names.{name_of, bit_named, are_distinct, fault_unless, IsNaming, NameCountShouldBe, NamesAValueTwice}
+use Rattle.enumset.specs.Names.{Names, name_of, bit_named, are_distinct, fault_unless, IsNaming, NameCountShouldBe, NamesAValueTwice}
 use Rattle.enumset.specs.JsonNames.{values_of, text_of, is_no_text, is_unknown, known_set, unless_unknown, named_set, set_of_texts, set_of_list, list_value}
 use Rattle.enumset.specs.declared.set_json.unknown.Unknown.{Unknown}
 use Rattle.enumset.specs.declared.set_json.unknown.Unknown.TheVariants.{Drop, Refuse}
 use Rattle.enumset.proofs.JsonWords.{refuted}
 
-by_test : {P : Type 0} (b : Bool) → (b ≡ true → P) → (b ≡ false → P) → P
+pub by_test : {P : Type 0} (b : Bool) → (b ≡ true → P) → (b ≡ false → P) → P
 by_test true one none = one refl
 by_test false one none = none refl
 
@@ -40,7 +40,7 @@ IsNaming-passes bs names test =
 
 -- ---- a bit's name
 
-later_in : (b c : ℕ) (bs : List ℕ) → (c == b) ≡ false → is_in b (c ∷ bs) ≡ true → is_in b bs ≡ true
+pub later_in : (b c : ℕ) (bs : List ℕ) → (c == b) ≡ false → is_in b (c ∷ bs) ≡ true → is_in b bs ≡ true
 later_in b c bs other one = elim (or_cases (b == c) _ one) [
   | inl here ↦ absurd (true≢false (sym (eq-eqb c b (sym (eqb-true b c here))) ∙ other))
   | inr later ↦ later
@@ -118,6 +118,15 @@ texts_back : (f : ℕ → List ℕ) (bs : List ℕ) → map text_of (map (λ b. 
 texts_back f [] = refl
 texts_back f (b ∷ bs) = ap (λ ts. f b ∷ ts) (texts_back f bs)
 
+-- what a reader takes of a list that a writer wrote, by its names
+pub list_taken : (readers writers : Names) (s : BitSet) (unknown : Unknown)
+    → set_of_list readers unknown (list_value writers s) ≡ named_set readers unknown (map (name_of writers) (ascending s)) (map (name_of writers) (ascending s))
+list_taken readers writers s unknown =
+    ap (λ ds. set_of_texts readers unknown (position is_no_text ds) (map text_of ds)) (values_back (map (λ b. string (name_of writers b)) (ascending s)))
+    ∙ (λ j. set_of_texts readers unknown
+    (position_none is_no_text (map (λ b. string (name_of writers b)) (ascending s)) (all_texts (name_of writers) (ascending s)) j)
+    (texts_back (name_of writers) (ascending s) j))
+
 module _ (bs : List ℕ) (names : List (List ℕ)) (are : AreNames bs names) where
   names_known : (ms : List ℕ) → list_all (λ b. is_in b bs) ms ≡ true → list_all (λ t. not (is_unknown (zip bs names) t)) (map (name_of (zip bs names)) ms) ≡ true
   names_known [] each = refl
@@ -143,9 +152,4 @@ module _ (bs : List ℕ) (names : List (List ℕ)) (are : AreNames bs names) whe
       ∙ ap Ok (set_back s within)
 
   pub list_back : (s : BitSet) (unknown : Unknown) → is_subset s (from_list bs) ≡ true → set_of_list (zip bs names) unknown (list_value (zip bs names) s) ≡ Ok s
-  list_back s unknown within =
-      ap (λ ds. set_of_texts (zip bs names) unknown (position is_no_text ds) (map text_of ds)) (values_back (map (λ b. string (name_of (zip bs names) b)) (ascending s)))
-      ∙ (λ j. set_of_texts (zip bs names) unknown
-      (position_none is_no_text (map (λ b. string (name_of (zip bs names) b)) (ascending s)) (all_texts (name_of (zip bs names)) (ascending s)) j)
-      (texts_back (name_of (zip bs names)) (ascending s) j))
-      ∙ named_back s unknown within
+  list_back s unknown within = list_taken (zip bs names) (zip bs names) s unknown ∙ named_back s unknown within

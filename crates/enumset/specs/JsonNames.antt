@@ -8,8 +8,11 @@
 --     names_in, true_names      the names of members;  of those whose value is `true`
 --     set_of_list, set_of_map      the set that a value is read as, or the fault
 --     list_value, map_value      the values that a set is written as
-use Rattle.std.specs.Prelude.{ℕ, Bool, true, false, is_none, List, [], ◌∷◌, map, filter, filter_map, position, Option, Some, None, unwrap_or, Result, Ok, Err}
-use Rattle.enumset_repr.specs.BitSet.{BitSet, from_list, ascending}
+--     in_map      the members of a set in the order in which a map has their names
+--     accepted_by_name      the set of valid bits that is taken of a set whose members' names come in an order, or the fault
+use Rattle.std.specs.Prelude.{ℕ, Bool, true, false, if◌then◌else◌, is_none, List, [], ◌∷◌, map, filter, filter_map, position, Option, Some, None, unwrap_or, Result, Ok, Err}
+use Rattle.std.specs.List.{prefix_len}
+use Rattle.enumset_repr.specs.BitSet.{BitSet, from_list, ascending, contains, intersection, is_subset}
 use Rattle.serde_json.specs.Data.{Data, null, boolean, number, string, array, object, Items, no_items, item, Members, no_members, member, put}
 use Rattle.serde_json.specs.Find.{as_str, as_bool}
 use Rattle.serde_json.specs.View.{items_of}
@@ -104,3 +107,13 @@ with_bits_true names done (b ∷ bs) = with_bits_true names (put (name_of names 
 
 abbrev pub map_value : Names → BitSet → Data
 map_value names s = object (with_bits_true names no_members (ascending s))
+
+-- ---- what a reader of another type takes
+
+abbrev pub in_map : Names → BitSet → List ℕ
+in_map names s = filter_map (bit_named names) (names_in (members_in (with_bits_true names no_members (ascending s))))
+
+-- the place of the first other name is the number of valid bits before it
+abbrev pub accepted_by_name : BitSet → Unknown → BitSet → List ℕ → Result BitSet JsonFault
+accepted_by_name valid Drop s bits = Ok (intersection s valid)
+accepted_by_name valid Refuse s bits = if is_subset s valid then Ok s else Err (UnknownName (prefix_len (contains valid) bits))

@@ -3,9 +3,11 @@
 --     names_of      the valid bits with the names of a list, in the order of the list of bits
 --     name_of      the name of a bit
 --     bit_named      the bit of a name, if there is one
+--     names_agree      whether any bit of one type and any bit of another are the same exactly where their names are
 --     IsNaming      the test that each bit has a name of its own;  where it fails, a type whose name says what to mend
 use Rattle.std.specs.Prelude.{ℕ, Bool, true, false, not, ◌&&◌, ◌==◌, if◌then◌else◌, List, [], ◌∷◌, length, zip, Option, Some, None}
-use Rattle.std.specs.List.{list_any}
+use Rattle.std.specs.Bool.{beq}
+use Rattle.std.specs.List.{list_any, list_all}
 use Rattle.std.specs.Str.{bytes_eq}
 use Rattle.enumset_sets.specs.Elements.{Elements}
 
@@ -22,6 +24,9 @@ name_of (n ∷ ns) b = if n.0 == b then n.1 else name_of ns b
 abbrev pub bit_named : Names → List ℕ → Option ℕ
 bit_named [] text = None
 bit_named (n ∷ ns) text = if bytes_eq n.1 text then Some n.0 else bit_named ns text
+
+abbrev pub names_agree : Names → Names → Bool
+names_agree ns ms = list_all (λ n. list_all (λ m. beq (n.0 == m.0) (bytes_eq n.1 m.1)) ms) ns
 
 -- ---- the test
 

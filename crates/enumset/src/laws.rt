@@ -1,8 +1,10 @@
-//! Laws of round trips: what was written of a set is read as that set.
-//!
-//! Those of numbers and words come from `enumset_sets`, and those of JSON stand here: of a value, and of its text. Each
-//! law is a function that does nothing at run time. Code that needs a law calls it at its set, and the proof of that
+//! Laws of sets. Each is a function that does nothing at run time: code that needs a law calls it, and the proof of that
 //! code then knows what the function ensures.
+//!
+//! Here stand the laws of round trips through JSON, of a value and of its text: what was written of a set is read as
+//! that set. Those of numbers and words without JSON come from `enumset_sets`, and all others from the modules below:
+//! what a reader of another element type reads, elements, operations, subsets, complements, mixed sets, folds, and
+//! iterators from both ends.
 
 ghost use Rattle.std.specs.Prelude.{◌≡◌, ◌≤◌, Ok, Some, IsTrue, decimal};
 ghost use Rattle.enumset_repr.specs.BitSet.{below, is_subset};
@@ -10,7 +12,7 @@ ghost use Rattle.enumset_repr.specs.Number.{number};
 ghost use Rattle.enumset_repr.specs.Words.{words};
 ghost use Rattle.enumset.specs.Json.{width_of, number_value, words_value};
 ghost use Rattle.enumset.specs.Json.{set_of_number, set_of_words, mixed_set_of_number};
-ghost use Rattle.enumset.specs.Json.{mixed_set_of_words, accepted};
+ghost use Rattle.enumset.specs.Json.{mixed_set_of_words};
 ghost use Rattle.enumset.specs.Names.{names_of, name_of, bit_named};
 ghost use Rattle.enumset.specs.JsonNames.{set_of_list, list_value, set_of_map, map_value};
 ghost use Rattle.enumset.specs.JsonReads.{value_read};
@@ -23,6 +25,7 @@ mod ends;
 mod folds;
 mod mixed_sets;
 mod operations;
+mod readers;
 mod subsets;
 
 use crate::names::EnumSetNames;
@@ -41,6 +44,7 @@ use enumset_sets::{EnumSet, EnumSetType, EnumSetTypeWithRepr};
 pub use folds::{fold_of_elements, fold_of_sets};
 pub use mixed_sets::{unknown_kept, valid_before_invalid};
 pub use operations::{absorption, differences, distribution, one_bit, order_and_grouping};
+pub use readers::{carried_along, carried_along_in_number, older_reader, older_reader_of_names};
 pub use subsets::{disjointness, subset_bounds, subset_equations, subset_order};
 
 /// The number that `to_number` writes of a set, and the text that `to_number_text` writes, are read as that set at the
@@ -130,42 +134,4 @@ pub fn json_map_and_back<T: EnumSetNames>(set: &EnumSet<T>, unknown: Unknown)
         ≡ Some (Ok set.now) }
 {
     number_and_back(set);
-}
-
-/// What a writer of one element type wrote of a set, a reader of another reads as exactly the members that it knows
-/// under `Drop`, and under `Refuse` exactly where there is no other: as numbers at a width that the members are below,
-/// and as words.
-pub fn older_reader<Old: EnumSetType, New: EnumSetType>(
-    set: &EnumSet<New>,
-    width: JsonWidth,
-    unknown: Unknown,
-)
-    ensures number { IsTrue (is_subset set.now (below (width_of width)))
-        → set_of_number (valid_bits Old.elements) (width_of width) unknown
-        (number_value (number set.now))
-        ≡ accepted (valid_bits Old.elements) unknown set.now }
-    ensures words { set_of_words (valid_bits Old.elements) unknown
-        (words_value (words set.now New.Repr.PREFERRED_ARRAY_LEN))
-        ≡ accepted (valid_bits Old.elements) unknown set.now }
-{
-    all_words_and_back(set);
-}
-
-/// A mixed set of one element type carries what a writer of another wrote, where its representation has room for it,
-/// and what it writes again the other reads as it was: as words, whatever the two representations.
-pub fn carried_along<Old: EnumSetTypeWithRepr, New: EnumSetType>(
-    set: &EnumSet<New>,
-    past: Unknown,
-    unknown: Unknown,
-)
-    ensures carried { IsTrue (is_subset set.now (below Old.Repr.WIDTH))
-        → mixed_set_of_words Old.Repr.WIDTH past
-        (words_value (words set.now New.Repr.PREFERRED_ARRAY_LEN))
-        ≡ Ok set.now }
-    ensures as_it_was { IsTrue (is_subset set.now (below Old.Repr.WIDTH))
-        → set_of_words (valid_bits New.elements) unknown
-        (words_value (words set.now Old.Repr.PREFERRED_ARRAY_LEN))
-        ≡ Ok set.now }
-{
-    all_words_and_back(set);
 }

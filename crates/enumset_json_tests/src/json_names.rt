@@ -26,8 +26,8 @@ pub enum Form {
     Map,
 }
 
-// Writes a set in a form.
-fn write<T: EnumSetNames>(
+/// Writes a set in a form.
+pub fn write<T: EnumSetNames>(
     alloc: Global,
     form: Form,
     set: &EnumSet<T>,
@@ -40,8 +40,8 @@ fn write<T: EnumSetNames>(
     }
 }
 
-// Reads a text of a form.
-fn read<T: EnumSetNames>(
+/// Reads a text of a form.
+pub fn read<T: EnumSetNames>(
     alloc: Global,
     form: Form,
     text: &str,

@@ -16,4 +16,8 @@ mod named;
 #[cfg(test)]
 mod no_variant;
 #[cfg(test)]
+mod older_readers;
+#[cfg(test)]
+mod reading_newer;
+#[cfg(test)]
 mod sending_json;
