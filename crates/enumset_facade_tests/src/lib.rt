@@ -1,0 +1,28 @@
+//! Tests of the crate `enumset`: macros, folds and JSON, at the worked types and at types whose values have names; and of
+//! users' code over it, with its proofs.
+//!
+//! They are in a crate of their own so that they are proved beside the tests of sets.
+#![tactic(auto)]
+
+#[cfg(test)]
+mod config;
+#[cfg(test)]
+mod configs;
+#[cfg(test)]
+mod folds;
+#[cfg(test)]
+mod json;
+#[cfg(test)]
+mod macros;
+#[cfg(test)]
+mod mixed_json;
+#[cfg(test)]
+mod named;
+#[cfg(test)]
+mod no_variant;
+#[cfg(test)]
+mod refused;
+#[cfg(test)]
+mod sending_json;
+#[cfg(test)]
+mod users_code;
