@@ -2,6 +2,7 @@
 use enumset_mixed::MixedEnumSet;
 use enumset_sets::{EnumSet, EnumSetType, raw};
 use enumset_worked::{High, Letters, Marks, PairNumber, PairWords, Wide};
+use std::cmp::Ordering;
 use std::hash::{Hash, Hasher};
 use std::test::Fail;
 
@@ -23,9 +24,12 @@ fn sets_are_sorted(rt: HostRuntime) -> Result<(), Fail> {
         text.as_str(),
         "{} {P} {Q} {P | Q} {R} {P | R} {Q | R} {P | Q | R} "
     );
-    assert!(rt; EnumSet::only(PairWords::A) < EnumSet::only(PairWords::B));
-    assert!(rt; EnumSet::only(PairNumber::A) < EnumSet::only(PairNumber::B));
-    assert!(rt; EnumSet::only(High::B) < EnumSet::only(High::A));
+    let orders = [
+        EnumSet::only(PairWords::A).cmp(&EnumSet::only(PairWords::B)),
+        EnumSet::only(PairNumber::A).cmp(&EnumSet::only(PairNumber::B)),
+        EnumSet::only(High::B).cmp(&EnumSet::only(High::A)),
+    ];
+    assert_eq!(rt; orders, [Ordering::Less; 3]);
     Ok(())
 }
 
