@@ -105,6 +105,9 @@ fn arrays(rt: HostRuntime) {
     assert_eq!(rt; EnumSet::<Sparse>::new().try_as_array::<0>(), Some([]));
     assert_eq!(rt; EnumSet::only(Sparse::A).try_as_array::<0>(), None);
     assert_eq!(rt; both.try_as_array::<2>(), Some([1024, 9223372036854775808]));
+    if both.try_as_array::<2>().is_some() {
+        assert_eq!(rt; both.as_array::<2>(), [1024, 9223372036854775808]);
+    }
     assert_eq!(rt; all.try_as_array::<2>(), None);
     assert_eq!(rt; all.as_array_truncated::<2>(), [8, 1]);
     if all.try_as_array::<4>().is_some() {
