@@ -1,7 +1,6 @@
 //! Declarations of enums that are made up.
 use enumset_derive_plan::{
-    Discriminant, EnumDeclaration, IntegerType, Map, Number, Options, Place, Representation, Text,
-    Variant,
+    Discriminant, EnumDeclaration, Map, Number, Options, Place, Representation, Text, Variant,
 };
 use std::alloc::{AllocError, Global};
 
@@ -23,11 +22,11 @@ pub fn no_options() -> Options {
     }
 }
 
-/// The options of a map, over an integer.
-pub fn map_over(map: Map, integer: IntegerType) -> Options {
+/// The options of a map, and of a representation if one is asked for.
+pub fn options_of(map: Map, representation: Option<Representation>) -> Options {
     let mut options = no_options();
     options.map = map;
-    options.representation = Some(Representation::Integer(integer));
+    options.representation = representation;
     options
 }
 

@@ -1,4 +1,4 @@
-//! Tests of the program that writes element types.
+//! Tests of the program that writes element types: of reading enums, and of planning.
 #![tactic(auto)]
 
 #[cfg(test)]
@@ -7,3 +7,9 @@ mod declarations;
 mod planning;
 #[cfg(test)]
 mod planning_faults;
+#[cfg(test)]
+mod reading;
+#[cfg(test)]
+mod reading_faults;
+#[cfg(test)]
+mod shown;

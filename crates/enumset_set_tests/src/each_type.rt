@@ -1,6 +1,7 @@
 //! What can be wrong in one element type: its constants, its bits and names from both ends, the set of all, and a mixed
 //! set.
-use enumset::set_json::{JsonWidth, Unknown, from_words, to_number, to_words};
+
+use crate::compare::same_lines;
 use enumset_mixed::MixedEnumSet;
 use enumset_repr::EnumSetTypeRepr;
 use enumset_sets::{EnumSet, EnumSetType, EnumSetTypeWithRepr};
@@ -10,69 +11,34 @@ use enumset_worked::{
 };
 use std::alloc::{AllocError, Global};
 use std::fmt;
-use std::process::Abort;
 use std::test::Fail;
 
-// The width, the number of variants, and their bits from the front and from the back.
-fn write_bits<T: EnumSetType>(text: &mut String) -> Result<(), AllocError> {
+// The width of a type and the number of its variants, and the number and the words of the set of all.
+fn write_size<T: EnumSetType>(alloc: Global, text: &mut String) -> Result<(), AllocError> {
     let (width, count) = (EnumSet::<T>::bit_width(), EnumSet::<T>::variant_count());
-    write!(text, "width {width}, variants {count}, bits")?;
-    for element in EnumSet::<T>::all().iter() {
+    let all = EnumSet::<T>::all();
+    let (number, words) = (all.try_as_u128(), all.to_vec(alloc)?);
+    writeln!(
+        text,
+        "width {width}, variants {count}, number {number:?}, words {:?}",
+        words.as_slice()
+    )
+}
+
+// The texts of the set of all, and its bits from the front and from the back.
+fn write_elements<T: EnumSetType + fmt::Debug + fmt::Display>(
+    text: &mut String,
+) -> Result<(), AllocError> {
+    let all = EnumSet::<T>::all();
+    write!(text, "{all}, {all:?}, bits")?;
+    for element in all.iter() {
         write!(text, " {}", EnumSet::bit_index(element))?;
     }
     write!(text, ", back")?;
-    for element in EnumSet::<T>::all().iter().rev() {
+    for element in all.iter().rev() {
         write!(text, " {}", EnumSet::bit_index(element))?;
     }
-    Ok(())
-}
-
-// The set of all elements: its `{:?}` text, its number, its words and its number as JSON. Its words are read back as
-// that set.
-fn write_all<T: EnumSetType + fmt::Debug>(
-    rt: &impl Abort,
-    alloc: Global,
-    text: &mut String,
-) -> Result<(), Fail> {
-    let all = EnumSet::<T>::all();
-    let words = to_words(alloc, &all)?;
-    assert_eq!(rt; from_words::<T>(&words, Unknown::Refuse)?, all);
-    write!(
-        text,
-        ", {all:?}, number {:?}, JSON {words}",
-        all.try_as_u128()
-    )?;
-    match to_number(alloc, &all, JsonWidth::U64) {
-        Ok(number) => write!(text, " {number}")?,
-        Err(fault) => write!(text, " {fault:?}")?,
-    }
-    Ok(())
-}
-
-/// Tests the line of a type.
-fn expect<T: EnumSetType + fmt::Debug>(
-    rt: &impl Abort,
-    alloc: Global,
-    wanted: &str,
-) -> Result<(), Fail> {
-    let mut text = String::new(alloc);
-    write_bits::<T>(&mut text)?;
-    write_all::<T>(rt, alloc, &mut text)?;
-    assert_eq!(rt; text.as_str(), wanted);
-    Ok(())
-}
-
-/// Tests the line of a type whose elements have names, and the text of the set of all.
-fn expect_named<T: EnumSetType + fmt::Debug + fmt::Display>(
-    rt: &impl Abort,
-    alloc: Global,
-    names: &str,
-    wanted: &str,
-) -> Result<(), Fail> {
-    let mut text = String::new(alloc);
-    write!(text, "{}", EnumSet::<T>::all())?;
-    assert_eq!(rt; text.as_str(), names);
-    expect::<T>(rt, alloc, wanted)
+    writeln!(text)
 }
 
 // A mixed set by its number: its text, its elements, its complement, and the size of its full complement.
@@ -84,167 +50,116 @@ fn write_mixed<T: EnumSetTypeWithRepr + fmt::Debug + fmt::Display>(
     let elements = set.as_enumset_truncate();
     let complement = set.complement();
     let left = set.full_complement().len();
-    write!(
+    writeln!(
         text,
         "{set}, elements {elements:?}, complement {complement}, {left} others"
     )
 }
 
-/// Tests the lines of a type that has mixed sets. The second line is that of a mixed set, by its number.
-pub fn expect_both<T: EnumSetTypeWithRepr + fmt::Debug + fmt::Display>(
-    rt: &impl Abort,
+// The lines of a type that has mixed sets. The third is that of a mixed set, by its number.
+fn write_both<T: EnumSetTypeWithRepr + fmt::Debug + fmt::Display>(
     alloc: Global,
-    names: &str,
-    wanted: &str,
+    text: &mut String,
     number: u128,
-    wanted_mixed: &str,
-) -> Result<(), Fail> {
-    expect_named::<T>(rt, alloc, names, wanted)?;
-    let mut text = String::new(alloc);
-    write_mixed::<T>(&mut text, number)?;
-    assert_eq!(rt; text.as_str(), wanted_mixed);
-    Ok(())
+) -> Result<(), AllocError> {
+    write_size::<T>(alloc, text)?;
+    write_elements::<T>(text)?;
+    write_mixed::<T>(text, number)
 }
 
 #[test]
 fn types_in_an_integer(rt: HostRuntime) -> Result<(), Fail> {
-    let alloc = rt.alloc();
-    expect_both::<Letters>(
-        &rt,
-        alloc,
-        "A | B | C | D | E | F | G",
-        "width 7, variants 7, bits 0 1 2 3 4 5 6, back 6 5 4 3 2 1 0, EnumSet(A | B | C | D | E | F | G), \
-        number Some(127), JSON [127] 127",
-        192,
-        "G | [7], elements EnumSet(G), complement A | B | C | D | E | F, 6 others",
-    )?;
-    expect_both::<Marks>(
-        &rt,
-        alloc,
-        "A | B | C",
-        "width 3, variants 3, bits 0 1 2, back 2 1 0, EnumSet(A | B | C), number Some(7), JSON [7] 7",
-        12,
-        "C | [3], elements EnumSet(C), complement A | B, 6 others",
-    )?;
-    expect_both::<Four>(
-        &rt,
-        alloc,
-        "A | B | C | D",
-        "width 4, variants 4, bits 0 1 2 3, back 3 2 1 0, EnumSet(A | B | C | D), number Some(15), JSON [15] 15",
-        24,
-        "D | [4], elements EnumSet(D), complement A | B | C, 6 others",
-    )?;
-    expect_both::<Sparse>(
-        &rt,
-        alloc,
-        "A | B | C | D",
-        "width 128, variants 4, bits 10 20 30 127, back 127 30 20 10, EnumSet(A | B | C | D), \
-        number Some(170141183460469231731687303716958897152), JSON [1074791424,9223372036854775808] TooWide",
-        3 << 126,
-        "[126] | D, elements EnumSet(D), complement A | B | C, 126 others",
-    )?;
-    expect_both::<PairNumber>(&rt, alloc, "A | B", PAIR, 3 << 64, MIXED_PAIR)
+    let (alloc, mut text) = (rt.alloc(), String::new(rt.alloc()));
+    write_both::<Letters>(alloc, &mut text, 192)?;
+    write_both::<Marks>(alloc, &mut text, 12)?;
+    write_both::<Four>(alloc, &mut text, 24)?;
+    write_both::<Sparse>(alloc, &mut text, 3 << 126)?;
+    write_both::<PairNumber>(alloc, &mut text, 3 << 64)?;
+    same_lines(&rt, &text, IN_AN_INTEGER);
+    Ok(())
 }
 
-const PAIR: &str = "\
-width 65, variants 2, bits 0 64, back 64 0, EnumSet(A | B), number Some(18446744073709551617), JSON [1,1] TooWide";
-
-const MIXED_PAIR: &str = "B | [65], elements EnumSet(B), complement A, 126 others";
+const IN_AN_INTEGER: &str = "\
+width 7, variants 7, number Some(127), words [127]
+A | B | C | D | E | F | G, EnumSet(A | B | C | D | E | F | G), bits 0 1 2 3 4 5 6, back 6 5 4 3 2 1 0
+G | [7], elements EnumSet(G), complement A | B | C | D | E | F, 6 others
+width 3, variants 3, number Some(7), words [7]
+A | B | C, EnumSet(A | B | C), bits 0 1 2, back 2 1 0
+C | [3], elements EnumSet(C), complement A | B, 6 others
+width 4, variants 4, number Some(15), words [15]
+A | B | C | D, EnumSet(A | B | C | D), bits 0 1 2 3, back 3 2 1 0
+D | [4], elements EnumSet(D), complement A | B | C, 6 others
+width 128, variants 4, number Some(170141183460469231731687303716958897152), words [1074791424, 9223372036854775808]
+A | B | C | D, EnumSet(A | B | C | D), bits 10 20 30 127, back 127 30 20 10
+[126] | D, elements EnumSet(D), complement A | B | C, 126 others
+width 65, variants 2, number Some(18446744073709551617), words [1, 1]
+A | B, EnumSet(A | B), bits 0 64, back 64 0
+B | [65], elements EnumSet(B), complement A, 126 others
+";
 
 #[test]
 fn types_over_words(rt: HostRuntime) -> Result<(), Fail> {
-    let alloc = rt.alloc();
-    expect_both::<PairWords>(&rt, alloc, "A | B", PAIR, 3 << 64, MIXED_PAIR)?;
-    expect_named::<Wide>(
-        &rt,
-        alloc,
-        "P | Q | R",
-        "width 131, variants 3, bits 3 64 130, back 130 64 3, EnumSet(P | Q | R), number None, JSON [8,1,4] TooWide",
-    )
+    let (alloc, mut text) = (rt.alloc(), String::new(rt.alloc()));
+    write_both::<PairWords>(alloc, &mut text, 3 << 64)?;
+    write_size::<Wide>(alloc, &mut text)?;
+    write_elements::<Wide>(&mut text)?;
+    same_lines(&rt, &text, OVER_WORDS);
+    Ok(())
 }
+
+const OVER_WORDS: &str = "\
+width 65, variants 2, number Some(18446744073709551617), words [1, 1]
+A | B, EnumSet(A | B), bits 0 64, back 64 0
+B | [65], elements EnumSet(B), complement A, 126 others
+width 131, variants 3, number None, words [8, 1, 4]
+P | Q | R, EnumSet(P | Q | R), bits 3 64 130, back 130 64 3
+";
 
 #[test]
 fn types_on_other_bits(rt: HostRuntime) -> Result<(), Fail> {
-    let alloc = rt.alloc();
-    expect_both::<High>(
-        &rt,
-        alloc,
-        "C | B | A",
-        "width 8, variants 3, bits 5 6 7, back 7 6 5, EnumSet(C | B | A), number Some(224), JSON [224] 224",
-        129,
-        "[0] | A, elements EnumSet(A), complement C | B, 6 others",
-    )?;
-    expect_both::<Masks>(
-        &rt,
-        alloc,
-        "P | Q | R",
-        "width 7, variants 3, bits 0 4 6, back 6 4 0, EnumSet(P | Q | R), number Some(81), JSON [81] 81",
-        96,
-        "[5] | R, elements EnumSet(R), complement P | Q, 6 others",
-    )?;
-    expect_both::<Single>(
-        &rt,
-        alloc,
-        "A",
-        "width 1, variants 1, bits 0, back 0, EnumSet(A), number Some(1), JSON [1] 1",
-        129,
-        "A | [7], elements EnumSet(A), complement , 6 others",
-    )
+    let (alloc, mut text) = (rt.alloc(), String::new(rt.alloc()));
+    write_both::<High>(alloc, &mut text, 129)?;
+    write_both::<Masks>(alloc, &mut text, 96)?;
+    write_both::<Single>(alloc, &mut text, 129)?;
+    same_lines(&rt, &text, ON_OTHER_BITS);
+    Ok(())
 }
 
-// Tests the line of a type with variants `V0`, `V1` and so on, whose bits are the multiples of `step`.
-fn expect_steps<T: EnumSetType + fmt::Debug>(
-    rt: &impl Abort,
-    alloc: Global,
-    [width, count, step]: [u64; 3],
-    rest: &str,
-) -> Result<(), Fail> {
-    let mut wanted = String::new(alloc);
-    write!(wanted, "width {width}, variants {count}, bits")?;
-    for place in 0..count {
-        write!(wanted, " {}", place.saturating_mul(step))?;
-    }
-    write!(wanted, ", back")?;
-    for place in (0..count).rev() {
-        write!(wanted, " {}", place.saturating_mul(step))?;
-    }
-    write!(wanted, ", EnumSet(")?;
-    for place in 0..count {
-        write!(wanted, "{}V{place}", if place == 0 { "" } else { " | " })?;
-    }
-    write!(wanted, "), {rest}")?;
-    expect::<T>(rt, alloc, wanted.as_str())
-}
+const ON_OTHER_BITS: &str = "\
+width 8, variants 3, number Some(224), words [224]
+C | B | A, EnumSet(C | B | A), bits 5 6 7, back 7 6 5
+[0] | A, elements EnumSet(A), complement C | B, 6 others
+width 7, variants 3, number Some(81), words [81]
+P | Q | R, EnumSet(P | Q | R), bits 0 4 6, back 6 4 0
+[5] | R, elements EnumSet(R), complement P | Q, 6 others
+width 1, variants 1, number Some(1), words [1]
+A, EnumSet(A), bits 0, back 0
+A | [7], elements EnumSet(A), complement , 6 others
+";
 
 #[test]
-fn bits_in_order(rt: HostRuntime) -> Result<(), Fail> {
-    let alloc = rt.alloc();
-    expect::<Month>(
-        &rt,
-        alloc,
-        "width 12, variants 12, bits 0 1 2 3 4 5 6 7 8 9 10 11, back 11 10 9 8 7 6 5 4 3 2 1 0, \
-        EnumSet(January | February | March | April | May | June | July | August | September | October | November \
-        | December), number Some(4095), JSON [4095] 4095",
-    )?;
-    let rest = "number Some(4294967295), JSON [4294967295] 4294967295";
-    expect_steps::<Of32>(&rt, alloc, [32, 32, 1], rest)?;
-    let rest = "number Some(8589934591), JSON [8589934591] 8589934591";
-    expect_steps::<Of33>(&rt, alloc, [33, 33, 1], rest)?;
-    let rest = "number Some(340282366920938463463374607431768211455), \
-        JSON [18446744073709551615,18446744073709551615] TooWide";
-    expect_steps::<Of128>(&rt, alloc, [128, 128, 1], rest)?;
-    let rest = "number None, \
-        JSON [18446744073709551615,18446744073709551615,18446744073709551615,18446744073709551615] TooWide";
-    expect_steps::<Of256>(&rt, alloc, [256, 256, 1], rest)
+fn types_of_many_variants(rt: HostRuntime) -> Result<(), Fail> {
+    let (alloc, mut text) = (rt.alloc(), String::new(rt.alloc()));
+    write_size::<Month>(alloc, &mut text)?;
+    write_size::<Of32>(alloc, &mut text)?;
+    write_size::<Of33>(alloc, &mut text)?;
+    write_size::<Of128>(alloc, &mut text)?;
+    write_size::<Of256>(alloc, &mut text)?;
+    write_size::<GapsInU128>(alloc, &mut text)?;
+    write_size::<GapsInWords>(alloc, &mut text)?;
+    same_lines(&rt, &text, OF_MANY_VARIANTS);
+    Ok(())
 }
 
-#[test]
-fn bits_with_gaps(rt: HostRuntime) -> Result<(), Fail> {
-    let alloc = rt.alloc();
-    let rest = "number Some(113427455640312821154458202477256070485), \
-        JSON [6148914691236517205,6148914691236517205] TooWide";
-    expect_steps::<GapsInU128>(&rt, alloc, [127, 64, 2], rest)?;
-    let rest =
-        "number None, JSON [10540996613548315209,5270498306774157604,2635249153387078802] TooWide";
-    expect_steps::<GapsInWords>(&rt, alloc, [190, 64, 3], rest)
-}
+const OF_MANY_VARIANTS: &str = "\
+width 12, variants 12, number Some(4095), words [4095]
+width 32, variants 32, number Some(4294967295), words [4294967295]
+width 33, variants 33, number Some(8589934591), words [8589934591]
+width 128, variants 128, number Some(340282366920938463463374607431768211455), \
+words [18446744073709551615, 18446744073709551615]
+width 256, variants 256, number None, \
+words [18446744073709551615, 18446744073709551615, 18446744073709551615, 18446744073709551615]
+width 127, variants 64, number Some(113427455640312821154458202477256070485), \
+words [6148914691236517205, 6148914691236517205]
+width 190, variants 64, number None, words [10540996613548315209, 5270498306774157604, 2635249153387078802]
+";

@@ -1,6 +1,7 @@
-//! Tests of sets, mixed sets, folds and macros at the worked types, and of users' code with its proofs.
+//! Tests of sets and mixed sets at the worked types: calls that no command makes, texts, sizes, and each type by itself.
 //!
-//! They are in a crate of their own so that the crates that they test are proved once.
+//! They are in a crate of their own so that the crates that they test are proved once. They name no call of the crate
+//! `enumset`, so they are proved beside it.
 #![tactic(auto)]
 
 #[cfg(test)]
@@ -10,13 +11,9 @@ mod conversions;
 #[cfg(test)]
 mod each_type;
 #[cfg(test)]
-mod folds;
-#[cfg(test)]
-mod macros;
+mod items;
 #[cfg(test)]
 mod mixed;
-#[cfg(test)]
-mod no_variant;
 #[cfg(test)]
 mod operators;
 #[cfg(test)]
@@ -27,5 +24,3 @@ mod refused;
 mod sets;
 #[cfg(test)]
 mod sizes;
-#[cfg(test)]
-mod users_code;

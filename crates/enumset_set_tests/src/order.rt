@@ -1,95 +1,35 @@
 //! The order of sets, and what they feed to a hasher, over an integer and over words.
 use enumset_mixed::MixedEnumSet;
-use enumset_repr::EnumSetTypeRepr;
-use enumset_sets::{EnumSet, EnumSetType, EnumSetTypeWithRepr, raw};
+use enumset_sets::{EnumSet, EnumSetType, raw};
 use enumset_worked::{High, Letters, Marks, PairNumber, PairWords, Wide};
-use std::alloc::{AllocError, Global};
-use std::fmt;
+use std::cmp::Ordering;
 use std::hash::{Hash, Hasher};
 use std::test::Fail;
-
-// The texts of all sets of three elements, sorted.
-fn sorted_texts<T: EnumSetType + fmt::Display>(
-    alloc: Global,
-    p: T,
-    q: T,
-    r: T,
-) -> Result<String, AllocError> {
-    let mut sets = Vec::new(alloc);
-    for number in [7, 4, 1, 6, 0, 3, 5, 2] {
-        let mut set = EnumSet::new();
-        if number & 1 != 0 {
-            set.insert(p);
-        }
-        if number & 2 != 0 {
-            set.insert(q);
-        }
-        if number & 4 != 0 {
-            set.insert(r);
-        }
-        sets.push(set)?;
-    }
-    sets.sort()?;
-    let mut text = String::new(alloc);
-    for set in &sets {
-        write!(text, "{{{set}}} ")?;
-    }
-    Ok(text)
-}
 
 // The greatest bit that differs decides, over words as over an integer. The first variant of `high` has the greatest
 // bit.
 #[test]
 fn sets_are_sorted(rt: HostRuntime) -> Result<(), Fail> {
-    assert_eq!(rt;
-        sorted_texts(rt.alloc(), Wide::P, Wide::Q, Wide::R)?.as_str(),
-        "{} {P} {Q} {P | Q} {R} {P | R} {Q | R} {P | Q | R} "
-    );
-    assert_eq!(rt;
-        sorted_texts(rt.alloc(), High::A, High::B, High::C)?.as_str(),
-        "{} {C} {B} {C | B} {A} {C | A} {B | A} {C | B | A} "
-    );
-    Ok(())
-}
-
-// 100 numbers, unsorted.
-fn numbers(alloc: Global) -> Result<Vec<u128>, AllocError> {
-    let mut numbers = Vec::new(alloc);
-    let mut last: u128 = 1;
-    for _ in 0..100 {
-        last = last
-            .wrapping_mul(47026247687942121848144207491837523525)
-            .wrapping_add(1);
-        numbers.push(last)?;
-    }
-    Ok(numbers)
-}
-
-// Numbers sorted as mixed sets of a type.
-fn sorted_over<T: EnumSetTypeWithRepr>(
-    alloc: Global,
-    numbers: &[u128],
-) -> Result<Vec<u128>, AllocError> {
-    let mut sets = Vec::new(alloc);
-    for number in numbers {
-        sets.push(MixedEnumSet::<T>::from_repr(T::Repr::from_u128(*number)))?;
+    let mut sets = Vec::new(rt.alloc());
+    for number in [7, 4, 1, 6, 0, 3, 5, 2] {
+        let words = [number << 3 & 8, number >> 1 & 1, number & 4];
+        sets.push(EnumSet::<Wide>::from_array_truncated(words))?;
     }
     sets.sort()?;
-    let mut sorted = Vec::new(alloc);
+    let mut text = String::new(rt.alloc());
     for set in &sets {
-        sorted.push(set.as_repr().to_u128())?;
+        write!(text, "{{{set}}} ")?;
     }
-    Ok(sorted)
-}
-
-#[test]
-fn sets_over_words_and_over_an_integer_sort_alike(rt: HostRuntime) -> Result<(), Fail> {
-    let mut numbers = numbers(rt.alloc())?;
-    let over_words = sorted_over::<PairWords>(rt.alloc(), &numbers)?;
-    let over_an_integer = sorted_over::<PairNumber>(rt.alloc(), &numbers)?;
-    numbers.sort()?;
-    assert_eq!(rt; over_words.as_slice(), numbers.as_slice());
-    assert_eq!(rt; over_an_integer.as_slice(), numbers.as_slice());
+    assert_eq!(rt;
+        text.as_str(),
+        "{} {P} {Q} {P | Q} {R} {P | R} {Q | R} {P | Q | R} "
+    );
+    let orders = [
+        EnumSet::only(PairWords::A).cmp(&EnumSet::only(PairWords::B)),
+        EnumSet::only(PairNumber::A).cmp(&EnumSet::only(PairNumber::B)),
+        EnumSet::only(High::B).cmp(&EnumSet::only(High::A)),
+    ];
+    assert_eq!(rt; orders, [Ordering::Less; 3]);
     Ok(())
 }
 
@@ -115,7 +55,7 @@ impl Hasher for ByteSum {
     }
 }
 
-pub fn bytes_fed<V: Hash>(value: &V) -> u64 {
+fn bytes_fed<V: Hash>(value: &V) -> u64 {
     let mut sum = ByteSum(0);
     value.hash(&mut sum);
     sum.finish()

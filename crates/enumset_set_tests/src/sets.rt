@@ -1,122 +1,59 @@
-//! The calls of a set and of its iterator that no command makes, over any element type, and at `letters`.
+//! The calls of a set and of its iterator that no command makes, at `letters`, and their texts.
 
-use crate::compare::same_lines;
-use enumset_sets::{EnumSet, EnumSetType, EnumSetTypeWithRepr, laws, raw};
+use enumset_sets::{EnumSet, EnumSetType, laws, raw};
 use enumset_worked::{Letters, Masks, Sparse};
-use std::alloc::AllocError;
-use std::fmt;
 use std::test::Fail;
 
 pub fn two_of<T: EnumSetType>(a: T, b: T) -> EnumSet<T> {
     EnumSet::only(a).union(EnumSet::only(b))
 }
 
-// Empty sets, and `symmetric_difference` under its older name.
-fn write_makers<T: EnumSetType + fmt::Debug>(
-    text: &mut String,
-    a: T,
-    b: T,
-) -> Result<(), AllocError> {
-    let (empty, default) = (EnumSet::<T>::empty(), EnumSet::<T>::default());
-    let older = two_of(a, b).symmetrical_difference(EnumSet::only(a));
-    writeln!(
-        text,
-        "empty={empty:?} default={default:?} symmetrical_difference={older:?}"
-    )
-}
-
-// Whether each of some sets is that of one element alone.
-fn write_sets_of_one<T: EnumSetType>(text: &mut String, a: T, b: T) -> Result<(), AllocError> {
-    let answers = [
-        EnumSet::only(a).eq_element(a),
-        EnumSet::only(b).eq_element(a),
-        two_of(a, b).eq_element(a),
-    ];
-    writeln!(text, "eq_element={answers:?}")
-}
-
-// A clone and a copy of a set, and the items left of an iterator and then of its clone.
-fn write_clones<T: EnumSetType + fmt::Debug>(
-    text: &mut String,
-    a: T,
-    b: T,
-) -> Result<(), AllocError> {
-    let set = two_of(a, b).clone().unwrap();
-    let copy = set.copied();
-    let mut iter = set.iter();
-    iter.next();
-    let mut same = iter.clone().unwrap();
-    let (hint, last) = (iter.size_hint(), same.next_back());
-    writeln!(
-        text,
-        "clone={set:?} copied={copy:?} size_hint={hint:?} next_back={last:?}"
-    )
-}
-
-// The sets that are made from the value that represents a set.
-fn write_values<T: EnumSetTypeWithRepr + fmt::Debug>(
-    text: &mut String,
-    a: T,
-    b: T,
-) -> Result<(), AllocError> {
-    let set = two_of(a, b);
+#[test]
+fn sets_of_letters(rt: HostRuntime) {
+    let set = two_of(Letters::A, Letters::C);
     laws::number_and_back(&set);
-    let repr = EnumSet::<T>::from_repr(set.as_repr());
-    let unchecked = EnumSet::<T>::from_repr_unchecked(set.as_repr());
-    let read: EnumSet<T> = raw::new(raw::get(set));
-    writeln!(
-        text,
-        "raw={read:?} from_repr={repr:?} from_repr_unchecked={unchecked:?}"
-    )
-}
-
-// The sets that are made from a value that may have unknown bits: one refuses them, and one drops them.
-fn write_tested_values<T: EnumSetTypeWithRepr + fmt::Debug>(
-    text: &mut String,
-    value: T::Repr,
-) -> Result<(), AllocError> {
-    let read = EnumSet::<T>::try_from_repr(value);
-    let cut = EnumSet::<T>::from_repr_truncated(value);
-    writeln!(text, "try_from_repr={read:?} from_repr_truncated={cut:?}")
-}
-
-// The texts of a set, and of its iterator.
-fn write_texts<T: EnumSetType + fmt::Debug + fmt::Display>(
-    text: &mut String,
-    set: EnumSet<T>,
-) -> Result<(), AllocError> {
-    writeln!(text, "<{set}> <{set:?}> <{:?}>", set.iter())
+    let sets = [
+        EnumSet::empty(),
+        EnumSet::default(),
+        set.symmetrical_difference(EnumSet::only(Letters::A)),
+        set.clone().unwrap(),
+        set.copied(),
+        raw::new(raw::get(set)),
+        EnumSet::from_repr(set.as_repr()),
+        EnumSet::from_repr_unchecked(set.as_repr()),
+        EnumSet::from_repr_truncated(133),
+    ];
+    let numbers = [0, 0, 4, 5, 5, 5, 5, 5, 5];
+    assert_eq!(rt; sets.map(|set| set.as_u8_truncated()), numbers);
+    let read = [5, 128, 133].map(EnumSet::<Letters>::try_from_repr);
+    assert_eq!(rt; read, [Some(set), None, None]);
+    let only = EnumSet::only(Letters::A);
+    let is_a = [
+        only.eq_element(Letters::A),
+        only.eq_element(Letters::C),
+        set.eq_element(Letters::A),
+    ];
+    assert_eq!(rt; is_a, [true, false, false]);
 }
 
 #[test]
-fn sets_of_letters(rt: HostRuntime) -> Result<(), Fail> {
-    let mut text = String::new(rt.alloc());
-    let (a, c) = (Letters::A, Letters::C);
-    write_makers(&mut text, a, c)?;
-    write_sets_of_one(&mut text, a, c)?;
-    write_clones(&mut text, a, c)?;
-    write_values(&mut text, a, c)?;
-    for value in [5, 128, 133] {
-        write_tested_values::<Letters>(&mut text, value)?;
-    }
-    for set in [two_of(a, c), EnumSet::new()] {
-        write_texts(&mut text, set)?;
-    }
-    same_lines(&rt, &text, LETTERS);
+fn texts_of_letters(rt: HostRuntime) -> Result<(), Fail> {
+    let set = two_of(Letters::A, Letters::C);
+    let mut iter = set.iter();
+    let text = format!(in rt.alloc(); "<{set}> <{set:?}> <{iter:?}>")?;
+    assert_eq!(rt;
+        text.as_str(),
+        "<A | C> <EnumSet(A | C)> <EnumSetIter { iter: PrimitiveIter(5) }>"
+    );
+    let none = EnumSet::<Letters>::new();
+    let text = format!(in rt.alloc(); "<{none}> <{none:?}>")?;
+    assert_eq!(rt; text.as_str(), "<> <EnumSet()>");
+    iter.next();
+    let mut same = iter.clone().unwrap();
+    assert_eq!(rt; iter.size_hint(), (1, Some(1)));
+    assert_eq!(rt; same.next_back(), Some(Letters::C));
     Ok(())
 }
-
-const LETTERS: &str = "\
-empty=EnumSet() default=EnumSet() symmetrical_difference=EnumSet(C)
-eq_element=[true, false, false]
-clone=EnumSet(A | C) copied=EnumSet(A | C) size_hint=(1, Some(1)) next_back=Some(C)
-raw=EnumSet(A | C) from_repr=EnumSet(A | C) from_repr_unchecked=EnumSet(A | C)
-try_from_repr=Some(EnumSet(A | C)) from_repr_truncated=EnumSet(A | C)
-try_from_repr=None from_repr_truncated=EnumSet()
-try_from_repr=None from_repr_truncated=EnumSet(A | C)
-<A | C> <EnumSet(A | C)> <EnumSetIter { iter: PrimitiveIter(5) }>
-<> <EnumSet()> <EnumSetIter { iter: PrimitiveIter(0) }>
-";
 
 #[test]
 fn elements_come_and_go(rt: HostRuntime) {

@@ -1,4 +1,5 @@
-//! Tests of sets and mixed sets in JSON, at the worked types and at types whose values have names.
+//! Tests of the crate `enumset`: macros, folds and JSON, at the worked types and at types whose values have names; and of
+//! users' code over it, with its proofs.
 //!
 //! They are in a crate of their own so that they are proved beside the tests of sets.
 #![tactic(auto)]
@@ -8,9 +9,13 @@ mod config;
 #[cfg(test)]
 mod configs;
 #[cfg(test)]
+mod folds;
+#[cfg(test)]
 mod json;
 #[cfg(test)]
-mod json_names;
+mod macros;
+#[cfg(test)]
+mod mixed_json;
 #[cfg(test)]
 mod named;
 #[cfg(test)]
@@ -20,4 +25,8 @@ mod older_readers;
 #[cfg(test)]
 mod reading_newer;
 #[cfg(test)]
+mod refused;
+#[cfg(test)]
 mod sending_json;
+#[cfg(test)]
+mod users_code;

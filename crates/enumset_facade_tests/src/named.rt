@@ -17,7 +17,7 @@ pub enum Letters {
 
 impl EnumSetType for Letters {
     ghost use Rattle.enumset_sets.specs.Laws.Elements.{in_place, lawful_in_integer, lawful_in_place};
-    ghost use Rattle.enumset_json_tests.specs.contracts.named.Letters.{the_type};
+    ghost use Rattle.enumset_facade_tests.specs.contracts.named.Letters.{the_type};
 
     type Repr = u8;
 
@@ -59,41 +59,42 @@ impl EnumSetNames for Letters {
     ghost named = { tt };
 }
 
-/// Three variants, on bits 10, 20 and 127 of an integer.
+/// Four variants, on bits 10, 20, 30 and 127 of an integer.
 #[derive(Clone, Copy, Debug, PartialEq, Eq)]
 pub enum Sparse {
     A = 10,
     B = 20,
+    C = 30,
     D = 127,
 }
 
 impl EnumSetType for Sparse {
     ghost use Rattle.std.specs.Prelude.{◌∷◌, []};
     ghost use Rattle.enumset_sets.specs.Laws.Elements.{with_bits, lawful_in_integer};
-    ghost use Rattle.enumset_json_tests.specs.contracts.named.Sparse.{the_type};
+    ghost use Rattle.enumset_facade_tests.specs.contracts.named.Sparse.{the_type};
 
     type Repr = u128;
 
-    ghost elements = { with_bits the_type (10 ∷ 20 ∷ 127 ∷ []) };
+    ghost elements = { with_bits the_type (10 ∷ 20 ∷ 30 ∷ 127 ∷ []) };
 
-    ghost ALL_BITS = { 170141183460469231731687303715885155328 };
+    ghost ALL_BITS = { 170141183460469231731687303716958897152 };
 
-    const ALL_BITS: u128 = 1 << 10 | 1 << 20 | 1 << 127;
+    const ALL_BITS: u128 = 1 << 10 | 1 << 20 | 1 << 30 | 1 << 127;
 
     ghost BIT_WIDTH = { 128 };
 
     const BIT_WIDTH: u32 = 128;
 
-    ghost VARIANT_COUNT = { 3 };
+    ghost VARIANT_COUNT = { 4 };
 
-    const VARIANT_COUNT: u32 = 3;
+    const VARIANT_COUNT: u32 = 4;
 
     fn enum_into_u32(self) -> u32 {
         self as u32
     }
 
     fn enum_from_u32(val: u32) -> Sparse {
-        variant_of!(val, Sparse: 10 A 20 B 127 D)
+        variant_of!(val, Sparse: 10 A 20 B 30 C 127 D)
     }
 
     ghost lawful = { lawful_in_integer the_type _ tt };
@@ -102,10 +103,10 @@ impl EnumSetType for Sparse {
 impl EnumSetNames for Sparse {
     ghost use Rattle.std.specs.Prelude.{codes, ◌∷◌, []};
 
-    ghost names = { codes "A" ∷ codes "B" ∷ codes "D" ∷ [] };
+    ghost names = { codes "A" ∷ codes "B" ∷ codes "C" ∷ codes "D" ∷ [] };
 
     fn names() -> &'static [(Sparse, &'static str)] {
-        names_of!(Sparse: A B D)
+        names_of!(Sparse: A B C D)
     }
 
     ghost named = { tt };
@@ -122,7 +123,7 @@ pub enum Wide {
 impl EnumSetType for Wide {
     ghost use Rattle.std.specs.Prelude.{◌∷◌, []};
     ghost use Rattle.enumset_sets.specs.Laws.Elements.{with_bits, lawful_in_words};
-    ghost use Rattle.enumset_json_tests.specs.contracts.named.Wide.{the_type};
+    ghost use Rattle.enumset_facade_tests.specs.contracts.named.Wide.{the_type};
 
     type Repr = ArrayRepr<3>;
 

@@ -58,18 +58,4 @@ fn sets_have_operations(rt: HostRuntime) {
     for (set, number) in sets.iter().zip([1, 7, 2, 2, 9, 9, 13, 12, 9, 14]) {
         assert!(rt; set.as_u8_truncated() == number);
     }
-    let (ab, bc) = (
-        enum_set!(Letters::A | Letters::B),
-        enum_set!(Letters::B | Letters::C),
-    );
-    let sets = [
-        enum_set_union!(ab, bc),
-        enum_set_intersection!(ab, bc),
-        enum_set_difference!(ab, bc),
-        enum_set_symmetric_difference!(ab, bc),
-        enum_set_complement!(ab),
-    ];
-    for (set, number) in sets.iter().zip([7, 2, 1, 5, 124]) {
-        assert!(rt; set.as_u8_truncated() == number);
-    }
 }

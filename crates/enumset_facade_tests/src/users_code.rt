@@ -4,11 +4,12 @@ ghost use Rattle.std.specs.Prelude.{◌≡◌};
 
 use enumset::set::MixedEnumSet;
 use enumset_sets::EnumSet;
-use enumset_worked::{Letters, Wide};
+use enumset_worked::{Letters, Sparse, Wide};
 use my_sets::expressions::{after_and_before, exchange, exchanged};
 use my_sets::granting::grant;
 use my_sets::proving::{grant_then_revoke, is_apart_from_the_rest, rebuilt};
 use my_sets::rights::{Right, may};
+use my_sets::sending::{as_byte, granted_by, sent_and_read};
 use my_sets::sharing::{all_may, all_rights, replaced, shared_by_all, shared_by_two, with_shared};
 
 #[test]
@@ -68,4 +69,17 @@ fn unknown_bits_stay(rt: HostRuntime) {
     let mut rights = MixedEnumSet::<Right>::from_repr(0b1001_0001);
     replaced(&mut rights, Right::Read, Right::Share);
     assert_eq!(rt; rights.as_repr(), 0b1001_0100);
+}
+
+#[test]
+fn bytes_are_sent(rt: HostRuntime) {
+    let letters = Letters::A | Letters::C;
+    assert_eq!(rt;
+        [as_byte(&letters), as_byte(&EnumSet::only(Letters::G))],
+        [5, 64]
+    );
+    assert_eq!(rt; granted_by::<Letters>(5), letters);
+    assert_eq!(rt; granted_by::<Letters>(200), EnumSet::new());
+    assert_eq!(rt; sent_and_read(&letters), Some(letters));
+    assert_eq!(rt; sent_and_read(&EnumSet::only(Sparse::A)), None);
 }

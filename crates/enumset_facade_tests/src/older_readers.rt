@@ -1,7 +1,7 @@
 //! What a program that knows `Letters` reads of the sets of a newer one, which has two variants more and a store of two
 //! words.
 
-use crate::json_names::{Form, expect_form, read, write};
+use crate::json::{Form, expect_form, read, write};
 use crate::named::Letters;
 use crate::reading_newer::read_by_older;
 use enumset::internal::ArrayRepr;
@@ -31,7 +31,7 @@ pub enum Later {
 impl EnumSetType for Later {
     ghost use Rattle.std.specs.Prelude.{◌∷◌, []};
     ghost use Rattle.enumset_sets.specs.Laws.Elements.{with_bits, lawful_in_words};
-    ghost use Rattle.enumset_json_tests.specs.contracts.older_readers.Later.{the_type};
+    ghost use Rattle.enumset_facade_tests.specs.contracts.older_readers.Later.{the_type};
 
     type Repr = ArrayRepr<2>;
 
@@ -92,7 +92,7 @@ fn expect_older(rt: &impl Abort, alloc: Global, form: Form, rows: &str) -> Resul
 #[test]
 fn each_form(rt: HostRuntime) -> Result<(), Fail> {
     let alloc = rt.alloc();
-    expect_older(&rt, alloc, Form::Number, NUMBERS)?;
+    expect_older(&rt, alloc, Form::Number(JsonWidth::U64), NUMBERS)?;
     expect_older(&rt, alloc, Form::Words, WORDS)?;
     expect_older(&rt, alloc, Form::List, LISTS)?;
     expect_older(&rt, alloc, Form::Map, MAPS)

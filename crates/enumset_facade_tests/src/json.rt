@@ -1,0 +1,392 @@
+//! Sets to and from JSON texts: each form, each fault alone, and each beside those that come after it. Among them are the
+//! texts that the Rust crate wrote and read.
+//!
+//! A row has a text and what it is read as: where what is unknown is dropped, and where it is refused.
+
+use crate::named::{Letters, Sparse, Wide};
+use crate::sending_json::{sent_as_list_text, sent_as_number, sent_as_words};
+use enumset::set_json::{
+    JsonFault, JsonWidth, Unknown, from_list_text, from_map_text, from_number_text,
+    from_words_text, to_list_text, to_map_text, to_number_text, to_words_text,
+};
+use enumset::{EnumSet, EnumSetNames};
+use std::alloc::Global;
+use std::fmt;
+use std::process::Abort;
+use std::test::Fail;
+
+/// The forms of a set.
+#[derive(Clone, Copy)]
+pub enum Form {
+    Number(JsonWidth),
+    Words,
+    List,
+    Map,
+}
+
+/// Writes a set in a form.
+pub fn write<T: EnumSetNames>(
+    alloc: Global,
+    form: Form,
+    set: &EnumSet<T>,
+) -> Result<String, JsonFault> {
+    match form {
+        Form::Number(width) => to_number_text(alloc, set, width),
+        Form::Words => to_words_text(alloc, set),
+        Form::List => to_list_text(alloc, set),
+        Form::Map => to_map_text(alloc, set),
+    }
+}
+
+/// Reads a text of a form.
+pub fn read<T: EnumSetNames>(
+    alloc: Global,
+    form: Form,
+    text: &str,
+    unknown: Unknown,
+) -> Result<EnumSet<T>, JsonFault> {
+    match form {
+        Form::Number(width) => from_number_text(alloc, text, width, unknown),
+        Form::Words => from_words_text(alloc, text, unknown),
+        Form::List => from_list_text(alloc, text, unknown),
+        Form::Map => from_map_text(alloc, text, unknown),
+    }
+}
+
+/// The JSON text of a row, and what is wanted.
+pub fn parts_of(row: &str) -> (&str, &str) {
+    row.split_once(" -> ").unwrap_or((row, "a row"))
+}
+
+/// Tests rows of a form.
+pub fn expect_form<T: EnumSetNames + fmt::Debug>(
+    rt: &impl Abort,
+    alloc: Global,
+    form: Form,
+    rows: &str,
+) -> Result<(), Fail> {
+    for row in rows.lines() {
+        let (json, wanted) = parts_of(row);
+        let dropped = read::<T>(alloc, form, json, Unknown::Drop);
+        let refused = read::<T>(alloc, form, json, Unknown::Refuse);
+        let came = format!(in alloc; "{dropped:?} {refused:?}")?;
+        assert_eq!(rt; came.as_str(), wanted, "{json}");
+    }
+    Ok(())
+}
+
+#[test]
+fn numbers_are_read(rt: HostRuntime) -> Result<(), Fail> {
+    let alloc = rt.alloc();
+    expect_form::<Letters>(&rt, alloc, Form::Number(JsonWidth::U8), IN_8_BITS)?;
+    expect_form::<Sparse>(&rt, alloc, Form::Number(JsonWidth::U16), IN_16_BITS)?;
+    expect_form::<Sparse>(&rt, alloc, Form::Number(JsonWidth::U32), IN_32_BITS)?;
+    expect_form::<Letters>(&rt, alloc, Form::Number(JsonWidth::U64), IN_64_BITS)
+}
+
+const IN_8_BITS: &str = "\
+0 -> Ok(EnumSet()) Ok(EnumSet())
+69 -> Ok(EnumSet(A | C | G)) Ok(EnumSet(A | C | G))
+ 69  -> Ok(EnumSet(A | C | G)) Ok(EnumSet(A | C | G))
+200 -> Ok(EnumSet(D | G)) Err(UnknownBits)
+128 -> Ok(EnumSet()) Err(UnknownBits)
+255 -> Ok(EnumSet(A | B | C | D | E | F | G)) Err(UnknownBits)
+256 -> Err(OutOfRange) Err(OutOfRange)
+300 -> Err(OutOfRange) Err(OutOfRange)
+18446744073709551615 -> Err(OutOfRange) Err(OutOfRange)
+-1 -> Err(NotWhole) Err(NotWhole)
+-0 -> Err(NotWhole) Err(NotWhole)
+1.0 -> Err(NotWhole) Err(NotWhole)
+1e0 -> Err(NotWhole) Err(NotWhole)
+300.0 -> Err(NotWhole) Err(NotWhole)
+18446744073709551616 -> Err(NotWhole) Err(NotWhole)
+null -> Err(NotANumber) Err(NotANumber)
+true -> Err(NotANumber) Err(NotANumber)
+\"9\" -> Err(NotANumber) Err(NotANumber)
+\"300\" -> Err(NotANumber) Err(NotANumber)
+[9] -> Err(NotANumber) Err(NotANumber)
+{} -> Err(NotANumber) Err(NotANumber)
+ -> Err(NotJson(1)) Err(NotJson(1))
+0069 -> Err(NotJson(1)) Err(NotJson(1))
+1 2 -> Err(NotJson(1)) Err(NotJson(1))
+0x1 -> Err(NotJson(1)) Err(NotJson(1))
+";
+
+const IN_16_BITS: &str = "\
+1024 -> Ok(EnumSet(A)) Ok(EnumSet(A))
+1025 -> Ok(EnumSet(A)) Err(UnknownBits)
+65535 -> Ok(EnumSet(A)) Err(UnknownBits)
+65536 -> Err(OutOfRange) Err(OutOfRange)
+";
+
+const IN_32_BITS: &str = "\
+1074791424 -> Ok(EnumSet(A | B | C)) Ok(EnumSet(A | B | C))
+4294967295 -> Ok(EnumSet(A | B | C)) Err(UnknownBits)
+4294967296 -> Err(OutOfRange) Err(OutOfRange)
+";
+
+const IN_64_BITS: &str = "\
+18446744073709551615 -> Ok(EnumSet(A | B | C | D | E | F | G)) Err(UnknownBits)
+18446744073709551616 -> Err(NotWhole) Err(NotWhole)
+256 -> Ok(EnumSet()) Err(UnknownBits)
+1.5 -> Err(NotWhole) Err(NotWhole)
+-1 -> Err(NotWhole) Err(NotWhole)
+";
+
+#[test]
+fn words_are_read(rt: HostRuntime) -> Result<(), Fail> {
+    expect_form::<Letters>(&rt, rt.alloc(), Form::Words, WORDS_OF_LETTERS)?;
+    expect_form::<Sparse>(&rt, rt.alloc(), Form::Words, WORDS_OF_SPARSE)?;
+    expect_form::<Wide>(&rt, rt.alloc(), Form::Words, WORDS_OF_WIDE)
+}
+
+const WORDS_OF_LETTERS: &str = "\
+[] -> Ok(EnumSet()) Ok(EnumSet())
+[5] -> Ok(EnumSet(A | C)) Ok(EnumSet(A | C))
+[5,0,0] -> Ok(EnumSet(A | C)) Ok(EnumSet(A | C))
+[5,0,1] -> Ok(EnumSet(A | C)) Err(UnknownBits)
+[200] -> Ok(EnumSet(D | G)) Err(UnknownBits)
+[0,18446744073709551615] -> Ok(EnumSet()) Err(UnknownBits)
+[1,\"x\",-1] -> Err(NotAWord(1)) Err(NotAWord(1))
+[1,1.5] -> Err(NotAWord(1)) Err(NotAWord(1))
+[\"x\",-1] -> Err(NotAWord(0)) Err(NotAWord(0))
+[[1]] -> Err(NotAWord(0)) Err(NotAWord(0))
+[200,\"x\"] -> Err(NotAWord(1)) Err(NotAWord(1))
+[0,1,null] -> Err(NotAWord(2)) Err(NotAWord(2))
+[18446744073709551616] -> Err(NotAWord(0)) Err(NotAWord(0))
+[-0] -> Err(NotAWord(0)) Err(NotAWord(0))
+[0,0,0,true] -> Err(NotAWord(3)) Err(NotAWord(3))
+[5,] -> Err(NotJson(1)) Err(NotJson(1))
+{} -> Err(NotAnArray) Err(NotAnArray)
+null -> Err(NotAnArray) Err(NotAnArray)
+5 -> Err(NotAnArray) Err(NotAnArray)
+\"[5]\" -> Err(NotAnArray) Err(NotAnArray)
+";
+
+const WORDS_OF_SPARSE: &str = "\
+[1024,9223372036854775808] -> Ok(EnumSet(A | D)) Ok(EnumSet(A | D))
+[1024,9223372036854775808,1] -> Ok(EnumSet(A | D)) Err(UnknownBits)
+[1,9223372036854775808] -> Ok(EnumSet(D)) Err(UnknownBits)
+";
+
+const WORDS_OF_WIDE: &str = "\
+[8,1] -> Ok(EnumSet(P | Q)) Ok(EnumSet(P | Q))
+[8,1,4,0,0] -> Ok(EnumSet(P | Q | R)) Ok(EnumSet(P | Q | R))
+[8,1,4,1] -> Ok(EnumSet(P | Q | R)) Err(UnknownBits)
+[0,0,5] -> Ok(EnumSet(R)) Err(UnknownBits)
+";
+
+// Rows with what follows one word and zeros up to place 999.
+#[test]
+fn words_far_past_the_width(rt: HostRuntime) -> Result<(), Fail> {
+    let alloc = rt.alloc();
+    let mut rows = String::new(alloc);
+    for row in FAR_PAST_THE_STORE.lines() {
+        let (rest, wanted) = parts_of(row);
+        write!(rows, "[5")?;
+        for _ in 1..1000 {
+            write!(rows, ",0")?;
+        }
+        writeln!(rows, "{rest}] -> {wanted}")?;
+    }
+    expect_form::<Letters>(&rt, alloc, Form::Words, &rows)
+}
+
+const FAR_PAST_THE_STORE: &str = "\
+,0 -> Ok(EnumSet(A | C)) Ok(EnumSet(A | C))
+,1 -> Ok(EnumSet(A | C)) Err(UnknownBits)
+,\"x\",-1 -> Err(NotAWord(1000)) Err(NotAWord(1000))
+,1,-1 -> Err(NotAWord(1001)) Err(NotAWord(1001))
+";
+
+#[test]
+fn lists_are_read(rt: HostRuntime) -> Result<(), Fail> {
+    expect_form::<Letters>(&rt, rt.alloc(), Form::List, LISTS_OF_LETTERS)?;
+    expect_form::<Sparse>(&rt, rt.alloc(), Form::List, LISTS_OF_SPARSE)?;
+    expect_form::<Wide>(&rt, rt.alloc(), Form::List, LISTS_OF_WIDE)
+}
+
+const LISTS_OF_LETTERS: &str = "\
+[] -> Ok(EnumSet()) Ok(EnumSet())
+[\"A\",\"C\",\"G\"] -> Ok(EnumSet(A | C | G)) Ok(EnumSet(A | C | G))
+[\"G\",\"C\",\"A\"] -> Ok(EnumSet(A | C | G)) Ok(EnumSet(A | C | G))
+[\"A\",\"A\"] -> Ok(EnumSet(A)) Ok(EnumSet(A))
+[\"\\u0041\"] -> Ok(EnumSet(A)) Ok(EnumSet(A))
+[ \"A\" , \"B\" ] -> Ok(EnumSet(A | B)) Ok(EnumSet(A | B))
+[\"H\"] -> Ok(EnumSet()) Err(UnknownName(0))
+[\"A\",\"H\"] -> Ok(EnumSet(A)) Err(UnknownName(1))
+[\"H\",\"A\",\"I\"] -> Ok(EnumSet(A)) Err(UnknownName(0))
+[\"a\"] -> Ok(EnumSet()) Err(UnknownName(0))
+[\"\"] -> Ok(EnumSet()) Err(UnknownName(0))
+[\"AB\"] -> Ok(EnumSet()) Err(UnknownName(0))
+[\"A\",0] -> Err(NotAText(1)) Err(NotAText(1))
+[\"H\",0,null] -> Err(NotAText(1)) Err(NotAText(1))
+[[\"A\"]] -> Err(NotAText(0)) Err(NotAText(0))
+[\"A\",] -> Err(NotJson(1)) Err(NotJson(1))
+\"A\" -> Err(NotAnArray) Err(NotAnArray)
+0 -> Err(NotAnArray) Err(NotAnArray)
+{\"A\":true} -> Err(NotAnArray) Err(NotAnArray)
+null -> Err(NotAnArray) Err(NotAnArray)
+";
+
+const LISTS_OF_SPARSE: &str = "\
+[\"D\",\"A\"] -> Ok(EnumSet(A | D)) Ok(EnumSet(A | D))
+[\"E\",\"D\"] -> Ok(EnumSet(D)) Err(UnknownName(0))
+";
+
+// Names that are the front parts of others.
+const LISTS_OF_WIDE: &str = "\
+[\"\\u0052ead\"] -> Ok(EnumSet(P)) Ok(EnumSet(P))
+[\"Reader\",\"Re\"] -> Ok(EnumSet(Q | R)) Ok(EnumSet(Q | R))
+[\"Rea\",\"Read \",\"Readers\"] -> Ok(EnumSet()) Err(UnknownName(0))
+[\"P\",\"Read\"] -> Ok(EnumSet(P)) Err(UnknownName(0))
+[\"Read\",\"Own\"] -> Ok(EnumSet(P)) Err(UnknownName(1))
+";
+
+#[test]
+fn maps_are_read(rt: HostRuntime) -> Result<(), Fail> {
+    expect_form::<Letters>(&rt, rt.alloc(), Form::Map, MAPS_OF_LETTERS)?;
+    expect_form::<Wide>(&rt, rt.alloc(), Form::Map, MAPS_OF_WIDE)
+}
+
+const MAPS_OF_LETTERS: &str = "\
+{} -> Ok(EnumSet()) Ok(EnumSet())
+{\"A\":false,\"C\":true} -> Ok(EnumSet(C)) Ok(EnumSet(C))
+{\"G\":true,\"C\":true,\"A\":true} -> Ok(EnumSet(A | C | G)) Ok(EnumSet(A | C | G))
+{\"A\":true,\"A\":false} -> Ok(EnumSet()) Ok(EnumSet())
+{\"A\":false,\"A\":true} -> Ok(EnumSet(A)) Ok(EnumSet(A))
+{\"\\u0041\":true} -> Ok(EnumSet(A)) Ok(EnumSet(A))
+{\"A\":true,\"H\":true} -> Ok(EnumSet(A)) Err(UnknownName(1))
+{\"H\":false,\"A\":true} -> Ok(EnumSet(A)) Err(UnknownName(1))
+{\"A\":1} -> Err(NotABoolean(0)) Err(NotABoolean(0))
+{\"H\":true,\"B\":\"true\"} -> Err(NotABoolean(0)) Err(NotABoolean(0))
+{\"H\":null,\"A\":true} -> Err(NotABoolean(1)) Err(NotABoolean(1))
+{\"A\":{\"B\":true}} -> Err(NotABoolean(0)) Err(NotABoolean(0))
+{\"A\":true,} -> Err(NotJson(1)) Err(NotJson(1))
+{A:true} -> Err(NotJson(1)) Err(NotJson(1))
+[] -> Err(NotAnObject) Err(NotAnObject)
+\"A\" -> Err(NotAnObject) Err(NotAnObject)
+true -> Err(NotAnObject) Err(NotAnObject)
+";
+
+const MAPS_OF_WIDE: &str = "\
+{\"Re\":true,\"Read\":false,\"Reader\":true} -> Ok(EnumSet(Q | R)) Ok(EnumSet(Q | R))
+{\"Rea\":true} -> Ok(EnumSet()) Err(UnknownName(0))
+";
+
+// A text of two lines has its fault on the second.
+#[test]
+fn the_line_of_a_fault(rt: HostRuntime) -> Result<(), Fail> {
+    let read = from_list_text::<Letters>(rt.alloc(), "[\"A\",\n\"B\",]", Unknown::Drop);
+    assert_eq!(rt; read, Err(JsonFault::NotJson(2)));
+    Ok(())
+}
+
+// Writes a line of each set: its number at each width, or the fault, its words, its list and its map. Tests that it is
+// read again.
+fn write_sets<T: EnumSetNames + fmt::Debug>(
+    rt: &impl Abort,
+    alloc: Global,
+    text: &mut String,
+    sets: &[EnumSet<T>],
+) -> Result<(), Fail> {
+    for set in sets {
+        let wanted = set.copied();
+        for width in [
+            JsonWidth::U8,
+            JsonWidth::U16,
+            JsonWidth::U32,
+            JsonWidth::U64,
+        ] {
+            match write(alloc, Form::Number(width), set) {
+                Ok(number) => write!(text, "{number} ")?,
+                Err(fault) => write!(text, "{fault:?} ")?,
+            }
+        }
+        let (list, map) = (to_list_text(alloc, set)?, to_map_text(alloc, set)?);
+        writeln!(text, "{} {list} {map}", to_words_text(alloc, set)?)?;
+        let sent = sent_as_words(alloc, set, Unknown::Refuse)?;
+        assert_eq!(rt;
+            [sent, sent_as_list_text(alloc, set, Unknown::Refuse)?],
+            [wanted, wanted]
+        );
+        if set.try_as_u64().is_some() {
+            let sent = sent_as_number(alloc, set, JsonWidth::U64, Unknown::Refuse)?;
+            assert_eq!(rt; sent, wanted);
+        }
+    }
+    Ok(())
+}
+
+#[test]
+fn sets_are_written(rt: HostRuntime) -> Result<(), Fail> {
+    let alloc = rt.alloc();
+    let mut text = String::new(alloc);
+    let letters = [
+        EnumSet::new(),
+        EnumSet::from([Letters::A, Letters::C, Letters::G]),
+        EnumSet::all(),
+    ];
+    let sparse = [
+        EnumSet::only(Sparse::A),
+        EnumSet::from([Sparse::A, Sparse::B, Sparse::C]),
+        EnumSet::from([Sparse::A, Sparse::D]),
+    ];
+    write_sets(&rt, alloc, &mut text, &letters)?;
+    write_sets(&rt, alloc, &mut text, &sparse)?;
+    write_sets(&rt, alloc, &mut text, &[EnumSet::<Wide>::all()])?;
+    assert_eq!(rt; text.as_str(), WRITTEN);
+    Ok(())
+}
+
+const WRITTEN: &str = "\
+0 0 0 0 [0] [] {}
+69 69 69 69 [69] [\"A\",\"C\",\"G\"] {\"A\":true,\"C\":true,\"G\":true}
+127 127 127 127 [127] [\"A\",\"B\",\"C\",\"D\",\"E\",\"F\",\"G\"] \
+{\"A\":true,\"B\":true,\"C\":true,\"D\":true,\"E\":true,\"F\":true,\"G\":true}
+TooWide 1024 1024 1024 [1024,0] [\"A\"] {\"A\":true}
+TooWide TooWide 1074791424 1074791424 [1074791424,0] [\"A\",\"B\",\"C\"] {\"A\":true,\"B\":true,\"C\":true}
+TooWide TooWide TooWide TooWide [1024,9223372036854775808] [\"A\",\"D\"] {\"A\":true,\"D\":true}
+TooWide TooWide TooWide TooWide [8,1,4] [\"Read\",\"Reader\",\"Re\"] {\"Re\":true,\"Read\":true,\"Reader\":true}
+";
+
+#[test]
+fn faults_have_their_texts(rt: HostRuntime) -> Result<(), Fail> {
+    let faults = [
+        JsonFault::TooWide,
+        JsonFault::NotANumber,
+        JsonFault::NotWhole,
+        JsonFault::OutOfRange,
+        JsonFault::NotAnArray,
+        JsonFault::NotAWord(18446744073709551615),
+        JsonFault::NotAnObject,
+        JsonFault::NotAText(1),
+        JsonFault::NotABoolean(2),
+        JsonFault::UnknownBits,
+        JsonFault::UnknownName(3),
+        JsonFault::NotJson(4),
+        JsonFault::OutOfMemory,
+    ];
+    let mut text = String::new(rt.alloc());
+    for fault in &faults {
+        writeln!(text, "{fault}")?;
+    }
+    assert_eq!(rt; text.as_str(), FAULTS);
+    Ok(())
+}
+
+const FAULTS: &str = "\
+a member is too large for the width
+not a number
+not a whole number of 64 bits
+number out of range
+not an array
+element 18446744073709551615: not a whole number of 64 bits
+not an object
+element 1: not a text
+name 2: not a boolean
+unknown bits
+name 3: unknown
+line 4: not JSON
+out of memory
+";
