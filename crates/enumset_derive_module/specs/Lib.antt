@@ -8,6 +8,10 @@ pub mod Constants
 pub mod ElementTypes
 pub mod Names
 pub mod Displays
+pub mod JsonForms
+pub mod JsonWrites
+pub mod JsonReads
+pub mod Json
 pub mod Operators
 pub mod Enums
 pub mod Imports

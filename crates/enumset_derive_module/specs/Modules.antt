@@ -6,7 +6,7 @@
 --     has_imports, has_enum      some item imports names of the facade;  some item is an enum
 --     items_text      the texts of items; the imports stand where the first of the source stand
 --     module_text      the text of a module, from its head, its items, and the plans of its enums
-use Rattle.std.specs.Prelude.{ℕ, Bool, true, false, not, ◌||◌, if◌then◌else◌, List, [], ◌∷◌, ◌++◌, codes, unwrap_or}
+use Rattle.std.specs.Prelude.{ℕ, Bool, true, false, not, ◌||◌, if◌then◌else◌, List, [], ◌∷◌, ◌++◌, codes, is_some, unwrap_or}
 use Rattle.enumset_derive_plan.specs.declared.declaration.EnumDeclaration.{EnumDeclaration}
 use Rattle.enumset_derive_plan.specs.declared.declaration.Item.{Item}
 use Rattle.enumset_derive_plan.specs.declared.declaration.Item.TheVariants.{Other, Imports, Enum}
@@ -20,6 +20,7 @@ use Rattle.enumset_derive_module.specs.ElementTypes.{element_type_text}
 use Rattle.enumset_derive_module.specs.Names.{is_by_names, names_text, is_narrow, with_repr_text}
 use Rattle.enumset_derive_module.specs.Displays.{display_text}
 use Rattle.enumset_derive_module.specs.Operators.{operators_text}
+use Rattle.enumset_derive_module.specs.Json.{json_text_of}
 use Rattle.enumset_derive_module.specs.Imports.{insert_names, uses_text}
 
 abbrev pub always_needed : List (List ℕ)
@@ -35,12 +36,14 @@ name_if false name = []
 
 unfoldable pub needed_names : EnumDeclaration → Store → List (List ℕ)
 needed_names declaration store =
-    ((((always_needed
+    ((((((always_needed
     ++ name_if (is_in_words store) (codes "internal::ArrayRepr"))
     ++ name_if (is_narrow store) (codes "EnumSetTypeWithRepr"))
     ++ name_if (not declaration.options.leaves_out_operators) (codes "EnumSet"))
     ++ name_if (is_by_names declaration.options.serialized) (codes "EnumSetNames"))
-    ++ name_if (is_by_names declaration.options.serialized) (codes "names_of")
+    ++ name_if (is_by_names declaration.options.serialized) (codes "names_of"))
+    ++ name_if (is_some declaration.options.serialized) (codes "EnumSet"))
+    ++ name_if (is_some declaration.options.serialized) (codes "set_json")
 
 unfoldable pub names_after : List (List ℕ) → List Item → List Plan → List (List ℕ)
 names_after names [] plans = names
@@ -60,7 +63,7 @@ abbrev pub item_template : List ℕ
 item_template = lines_of
     (codes "$0" ∷
     codes "" ∷
-    codes "$1$2$3$4$5" ∷ [])
+    codes "$1$2$3$4$5$6" ∷ [])
 
 unfoldable pub parts_text : EnumDeclaration → Plan → List ℕ → List ℕ → List ℕ
 parts_text declaration plan element_type display =
@@ -70,7 +73,8 @@ parts_text declaration plan element_type display =
     ∷ with_repr_text declaration.name plan.store
     ∷ names_text declaration plan
     ∷ display
-    ∷ operators_text declaration ∷ [])
+    ∷ operators_text declaration
+    ∷ json_text_of declaration.options.serialized declaration plan.store ∷ [])
 
 unfoldable pub item_text : List ℕ → List ℕ → EnumDeclaration → Plan → List ℕ
 item_text crate_name module_name declaration plan =

@@ -7,6 +7,7 @@ use crate::display::display_text;
 use crate::element_type::element_type_text;
 use crate::enums::enum_text;
 use crate::form::Form;
+use crate::json::json_text;
 use crate::names::{names_text, with_repr_text};
 use crate::operators::operators_text;
 use crate::templates::filled;
@@ -17,7 +18,7 @@ use std::alloc::{AllocError, Global};
 const ITEM: &str = "\
 $0
 
-$1$2$3$4$5";
+$1$2$3$4$5$6";
 
 /// All that is written for an enum.
 #[tactic(auto, unfolding(crate::specs::Modules::item_text))]
@@ -53,6 +54,7 @@ fn parts_text<'a>(
     let with_repr = with_repr_text(alloc, declaration.name.as_bytes(), &plan.store)?;
     let names = names_text(alloc, declaration, plan)?;
     let operators = operators_text(alloc, declaration)?;
+    let json = json_text(alloc, declaration, &plan.store)?;
     filled(
         alloc,
         ITEM,
@@ -63,6 +65,7 @@ fn parts_text<'a>(
             &names,
             display,
             &operators,
+            &json,
         ],
     )
 }

@@ -61,6 +61,7 @@ fn needed_names(
 {
     let options = &declaration.options;
     let is_by_names = is_by_names(options.serialized);
+    let is_in_json = options.serialized.is_some();
     let mut names = always_needed(alloc)?;
     push_if(
         alloc,
@@ -72,6 +73,8 @@ fn needed_names(
     push_if(alloc, &mut names, !options.leaves_out_operators, b"EnumSet")?;
     push_if(alloc, &mut names, is_by_names, b"EnumSetNames")?;
     push_if(alloc, &mut names, is_by_names, b"names_of")?;
+    push_if(alloc, &mut names, is_in_json, b"EnumSet")?;
+    push_if(alloc, &mut names, is_in_json, b"set_json")?;
     Ok(names)
 }
 
