@@ -1,7 +1,9 @@
 -- The laws of lists of words, each proved. Nothing here has to be believed: contracts cite the definitions alone.
+--     Asks      the asks of an iterator
 --     Zeros      lists of zeros
 --     ArrayWords      the laws of the words of an `ArrayRepr`
 --     Order      the order of words is that of the sets
+pub mod Asks
 pub mod Zeros
 pub mod ArrayWords
 pub mod Order

@@ -1,6 +1,5 @@
--- What contracts see of a row of words, and of an iterator over words.
+-- What contracts see of a row of words.
 --     RowView      a row: its words, and the number of asks so far
---     IterView      an iterator: the items left, the number of asks so far, and the span of its cursors
 --     AreWords      what holds of the words of a row: they are fewer than the limit, and each is a number of 64 bits
 use Rattle.std.specs.Prelude.{ℕ, ◌<◌, ◌^◌, List, length, slice_index}
 use Rattle.enumset_array.specs.declared.array_repr.TheConstants.{WORD_LIMIT}
@@ -8,11 +7,6 @@ use Rattle.enumset_array.specs.declared.array_repr.TheConstants.{WORD_LIMIT}
 pub record RowView : Type 0 where
   pub words : List ℕ
   pub asks : ℕ
-
-pub record IterView : Type 0 where
-  pub items : List ℕ
-  pub asks : ℕ
-  pub span : ℕ
 
 pub record AreWords (words : List ℕ) : Type 0 where
   pub limit : length words < WORD_LIMIT

@@ -1,7 +1,7 @@
 //! The iterator of the representation of many words.
 
 ghost use Rattle.std.specs.Prelude.{◌≡◌, length, IfSome, Some, ⊤};
-ghost use Rattle.std.specs.Iterator.{YieldsFirst, YieldsLast, item_count, at_most, UpTo, MakesProgress};
+ghost use Rattle.std.specs.Iterator.{YieldsFirst, YieldsLast, item_count, at_most, UpTo};
 ghost use Rattle.std.specs.Iterator.SizeHint.{IsWithinCount};
 ghost use Rattle.enumset_repr.specs.BitSet.{ascending};
 ghost use Rattle.enumset_array.specs.OneStep.{CountsAsks};
@@ -25,7 +25,7 @@ pub struct ArrayIter<const N: usize> {
 }
 
 impl<const N: usize> Model for ArrayIter<N> {
-    ghost use Rattle.enumset_array.specs.Views.{IterView};
+    ghost use Rattle.enumset_repr.specs.Asks.{IterView};
     ghost use Rattle.enumset_array.specs.Cursors.{span, Covers};
     ghost use Rattle.enumset_array.specs.Items.{items_of};
 
@@ -69,17 +69,13 @@ impl<const N: usize> ArrayIter<N> {
 impl<const N: usize> Iterator for ArrayIter<N> {
     type Item = u32;
 
-    ghost next_gives = { YieldsFirst (λ i. i.items) };
+    ghost next_gives = { λ i r j. YieldsFirst (λ i. i.items) i r j × CountsAsks i.asks i.span r j.asks j.span };
 
     ghost remaining = { item_count (λ i. i.items) };
 
     /// Takes out the least item that is left and returns it, or returns `None` if no item is left. The sum of asks and
     /// span grows by one if an item is returned, and stays otherwise, as by [`step_front`].
-    fn next(&mut self) -> Option<u32>
-        ensures steps { YieldsFirst (λ i. i.items) self.old result self.new }
-        ensures goes { MakesProgress (λ _. ⊤) (item_count (λ i. i.items)) self.old result self.new }
-        ensures asks { CountsAsks self.old.asks self.old.span result self.new.asks self.new.span }
-    {
+    fn next(&mut self) -> Option<u32> {
         step_front(&mut self.row, &mut self.cursors)
     }
 
@@ -95,15 +91,11 @@ impl<const N: usize> Iterator for ArrayIter<N> {
 }
 
 impl<const N: usize> DoubleEndedIterator for ArrayIter<N> {
-    ghost next_back_gives = { YieldsLast (λ i. i.items) };
+    ghost next_back_gives = { λ i r j. YieldsLast (λ i. i.items) i r j × CountsAsks i.asks i.span r j.asks j.span };
 
     /// Takes out the greatest item that is left and returns it, or returns `None` if no item is left. The sum of asks
     /// and span grows by one if an item is returned, and stays otherwise, as by [`step_back`].
-    fn next_back(&mut self) -> Option<u32>
-        ensures steps { YieldsLast (λ i. i.items) self.old result self.new }
-        ensures goes { MakesProgress (λ _. ⊤) (item_count (λ i. i.items)) self.old result self.new }
-        ensures asks { CountsAsks self.old.asks self.old.span result self.new.asks self.new.span }
-    {
+    fn next_back(&mut self) -> Option<u32> {
         step_back(&mut self.row, &mut self.cursors)
     }
 }

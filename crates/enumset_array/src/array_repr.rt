@@ -1,11 +1,12 @@
 //! The representation of many words.
 
-ghost use Rattle.std.specs.Prelude.{◌≡◌, ◌<◌, ◌*◌, ◌==◌, length, replicate, sum_by, refl};
+ghost use Rattle.std.specs.Prelude.{◌≡◌, ◌<◌, ◌≤◌, ◌*◌, ◌==◌, length, replicate, sum_by, refl};
 ghost use Rattle.std.specs.List.{list_all};
 ghost use Rattle.enumset_repr.specs.BitSet.{ascending, len};
 ghost use Rattle.enumset_repr.specs.Number.{bits};
 ghost use Rattle.enumset_array.specs.ArrayWords.{in_use, set_of, IsArrayRepr};
 ghost use Rattle.enumset_repr.specs.Words.{words as words_of_set};
+ghost use Rattle.enumset_array.specs.Laws.Asks.{counted};
 ghost use Rattle.enumset_array.specs.Laws.Order.{compare_is};
 ghost use Rattle.enumset_array.specs.Laws.ArrayWords.{set_of_none, within, inverse, width_words, equal};
 
@@ -89,6 +90,10 @@ impl<const N: usize> EnumSetTypeRepr for ArrayRepr<N> {
 
     ghost rest = { λ i. i.items };
 
+    ghost asks = { λ i. i.asks };
+
+    ghost span = { λ i. i.span };
+
     fn learn_is_value(self) {
         let _words = &self.0;
     }
@@ -159,6 +164,7 @@ impl<const N: usize> EnumSetTypeRepr for ArrayRepr<N> {
         ensures rest { result.items ≡ ascending (set_of N self.entry) }
         ensures asks { result.asks ≡ 0 }
         ensures span { result.span ≡ in_use N }
+        ensures within { result.span ≤ in_use N }
     {
         ArrayIter::over(self)
     }
@@ -214,11 +220,13 @@ impl<const N: usize> EnumSetTypeRepr for ArrayRepr<N> {
 
     ghost can_step_back = { λ _. tt };
 
-    ghost steps = { λ _ _ _ step. step };
+    ghost steps = { λ _ _ _ step. step.0 };
 
-    ghost steps_back = { λ _ _ _ step. step };
+    ghost steps_back = { λ _ _ _ step. step.0 };
 
     ghost clones = { λ i j copy k. (copy k).items };
 
     ghost left = { λ _. refl };
+
+    ghost counts = { counted };
 }

@@ -14,6 +14,7 @@
 --     Listed      the set of a number, or of words, whose bits are listed
 --     Steps      a step from an end of a list
 --     Integers      an integer as a representation
+--     Asks      bounds on counted reads of words
 pub mod Members
 pub mod Algebra
 pub mod Ascending
@@ -28,3 +29,4 @@ pub mod Listed
 pub mod Low
 pub mod WordLists
 pub mod Filled
+pub mod Asks

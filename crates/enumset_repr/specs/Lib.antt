@@ -2,5 +2,6 @@ pub mod BitSet
 pub mod Number
 pub mod Words
 pub mod Ends
+pub mod Asks
 pub mod Order
 pub mod Laws

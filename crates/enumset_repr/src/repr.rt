@@ -2,6 +2,7 @@
 
 ghost use Rattle.std.specs.Prelude.{◌≡◌, ℕ, ◌+◌, ◌*◌, ◌/◌, ◌<◌, ◌≤◌, ◌↔◌, List, length, IsTrue, Option, IsSome, IfSome};
 ghost use Rattle.std.specs.Iterator.{YieldsFirst, YieldsLast, item_count};
+ghost use Rattle.enumset_repr.specs.Asks.{IsCounted};
 ghost use Rattle.enumset_repr.specs.BitSet as set;
 ghost use Rattle.enumset_repr.specs.BitSet.{BitSet};
 ghost use Rattle.enumset_repr.specs.Number.{bits, number};
@@ -61,6 +62,12 @@ pub trait EnumSetTypeRepr: Copy
 
     // The items that an iterator has not yet yielded.
     ghost rest: { Self.Iter → List ℕ };
+
+    // How many asks an iterator has made, which are counted reads of a word.
+    ghost asks: { Self.Iter → ℕ } = { λ _. 0 };
+
+    // How many asks an iterator may still need beyond one for each item.
+    ghost span: { Self.Iter → ℕ } = { λ _. 0 };
 
     /// Does nothing at run time. Calling it tells the proof that the value is one of its type.
     fn learn_is_value(self)
@@ -158,7 +165,9 @@ pub trait EnumSetTypeRepr: Copy
 
     /// An iterator over the members, ascending.
     fn iter(self) -> Self::Iter
-        ensures { rest result ≡ set.ascending (members self) };
+        ensures rest { rest result ≡ set.ascending (members self) }
+        ensures asks { asks result ≡ 0 }
+        ensures span { span result ≤ PREFERRED_ARRAY_LEN };
 
     /// The number of items that an iterator has left. Code over any representation calls it in place of `size_hint`.
     fn items_left(iter: &Self::Iter) -> usize
@@ -166,7 +175,9 @@ pub trait EnumSetTypeRepr: Copy
 
     /// An iterator with the same items left. Code over any representation calls it in place of `clone`.
     fn same_iter(iter: &Self::Iter) -> Self::Iter
-        ensures { rest result ≡ rest iter.now };
+        ensures rest { rest result ≡ rest iter.now }
+        ensures asks { asks result ≡ asks iter.now }
+        ensures span { span result ≡ span iter.now };
 
     /// The word of 64 bits at place `i`: the bits from `64 * i` to `64 * i + 63`. The place must be below
     /// [`PREFERRED_ARRAY_LEN`](EnumSetTypeRepr::PREFERRED_ARRAY_LEN).
@@ -500,6 +511,11 @@ pub trait EnumSetTypeRepr: Copy
 
     // An iterator yields no more items than are left.
     ghost left: { (i : Self.Iter) → Self.Iter.Iterator.remaining i ≡ item_count rest i };
+
+    // A step raises the sum of asks and span by at most one if it yields an item, and not at all otherwise. A clone has
+    // the same asks and span.
+    ghost counts: { IsCounted asks span Self.Iter.Iterator.next_gives
+        Self.Iter.DoubleEndedIterator.next_back_gives Self.Iter.Clone.is_clone };
 }
 
 /// The word of 64 bits at any place of a set, or 0 past the last word of the representation.

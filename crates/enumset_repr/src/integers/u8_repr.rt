@@ -4,6 +4,7 @@ ghost use Rattle.std.specs.Prelude.{◌≡◌, ◌<◌, ◌^◌, refl};
 ghost use Rattle.std.specs.Int.{w8};
 ghost use Rattle.enumset_repr.specs.BitSet as set;
 ghost use Rattle.enumset_repr.specs.Number.{bits, number};
+ghost use Rattle.enumset_repr.specs.Laws.Asks.{no_asks};
 ghost use Rattle.enumset_repr.specs.Laws.Numbers.{bits-zero};
 ghost use Rattle.enumset_repr.specs.Laws.Order.{compare-bits};
 ghost use Rattle.enumset_repr.specs.Laws.Integers.{within_width, number_of_bits, equal_bits, and_is, or_is, xor_is, not_is};
@@ -148,4 +149,6 @@ impl EnumSetTypeRepr for u8 {
     ghost clones = { λ i j copy k. set.ascending (bits (copy k).0) };
 
     ghost left = { λ _. refl };
+
+    ghost counts = { no_asks };
 }
