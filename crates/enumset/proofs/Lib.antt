@@ -1,4 +1,5 @@
 mod Results
+mod AskedSteps
 mod NameLists
 mod NameLaws
 mod MapLaws

@@ -1,10 +1,10 @@
-//! Laws of sets. Each is a function that does nothing at run time: code that needs a law calls it, and the proof of that
-//! code then knows what the function ensures.
+//! Laws of sets. Each is a function that does nothing at run time, but for those of asks: code that needs a law calls it,
+//! and the proof of that code then knows what the function ensures.
 //!
 //! Here stand the laws of round trips through JSON, of a value and of its text: what was written of a set is read as
 //! that set. Those of numbers and words without JSON come from `enumset_sets`, and all others from the modules below:
-//! what a reader of another element type reads, elements, operations, subsets, complements, mixed sets, folds, and
-//! iterators from both ends.
+//! what a reader of another element type reads, elements, operations, subsets, complements, mixed sets, folds, iterators
+//! from both ends, and asks.
 
 ghost use Rattle.std.specs.Prelude.{◌≡◌, ◌≤◌, Ok, Some, IsTrue, decimal};
 ghost use Rattle.enumset_repr.specs.BitSet.{below, is_subset};
@@ -19,6 +19,7 @@ ghost use Rattle.enumset.specs.JsonReads.{value_read};
 ghost use Rattle.enumset_sets.specs.Elements.{valid_bits};
 ghost use Rattle.serde_json.specs.Written.{compact_text};
 
+mod asks;
 mod complementary;
 mod elements;
 mod ends;
@@ -30,11 +31,13 @@ mod subsets;
 
 use crate::names::EnumSetNames;
 use crate::set_json::{JsonWidth, Unknown};
+pub use asks::{asks_of_mixed_steps, asks_of_steps, take_mixed_steps, take_steps};
 pub use complementary::{complements, de_morgan};
 pub use elements::{
     bit_and_back, bits_below, members_are_valid, number_of_bits, valid_bits_listed,
 };
 pub use ends::both_ends;
+pub use enumset_array::End;
 use enumset_mixed::MixedEnumSet;
 use enumset_repr::EnumSetTypeRepr;
 pub use enumset_sets::laws::{

@@ -1,6 +1,5 @@
 pub mod Replies
 pub mod Cuts
-pub mod MixedItems
 pub mod OneTranscript
 pub mod Alike
 pub mod StatesOfRuns

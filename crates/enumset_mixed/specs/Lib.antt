@@ -1,2 +1,3 @@
 pub mod Mixed
 pub mod Texts
+pub mod Laws

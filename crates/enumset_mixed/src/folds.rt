@@ -2,6 +2,7 @@
 
 ghost use Rattle.std.specs.Prelude.{◌≡◌, ⊤, List, map, IsOk, IfOk};
 ghost use Rattle.std.specs.Iterator.{ExtendsWithItems, DrainsIf, IsFiniteIterable};
+ghost use Rattle.enumset_repr.specs.Asks.{IsFresh};
 ghost use Rattle.enumset_repr.specs.BitSet as set;
 ghost use Rattle.enumset_sets.specs.Folds.{union_all};
 
@@ -46,7 +47,7 @@ impl<T: EnumSetTypeWithRepr> IntoIterator for MixedEnumSet<T> {
 
     type IntoIter = MixedEnumSetIter<T>;
 
-    ghost into_iter_gives = { λ s i. i ≡ set.ascending s };
+    ghost into_iter_gives = { λ s i. IsFresh (set.ascending s) T.Repr.PREFERRED_ARRAY_LEN i };
 
     fn into_iter(self) -> MixedEnumSetIter<T> {
         self.iter()

@@ -381,7 +381,9 @@ impl<T: EnumSetTypeWithRepr> MixedEnumSet<T> {
     /// number for an unknown one. Later changes to the set do not affect it. Each member of the set is below the width
     /// of the representation.
     pub fn iter(&self) -> MixedEnumSetIter<T>
-        ensures ascending { result ≡ set.ascending self.now }
+        ensures ascending { result.items ≡ set.ascending self.now }
+        ensures asks { result.asks ≡ 0 }
+        ensures span { result.span ≤ T.Repr.PREFERRED_ARRAY_LEN }
         ensures within { IsTrue (set.is_subset self.now (set.below T.Repr.WIDTH)) }
     {
         self.repr.learn_is_value();

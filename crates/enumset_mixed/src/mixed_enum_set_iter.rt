@@ -1,8 +1,11 @@
 //! The iterator over the members of a mixed set.
 
 ghost use Rattle.std.specs.Prelude.{◌≡◌, length};
+ghost use Rattle.std.specs.Iterator.{YieldsFirstBy, YieldsLastBy, item_count};
+ghost use Rattle.enumset_repr.specs.Asks.{BoundsAsks, IsFresh};
 ghost use Rattle.enumset_repr.specs.BitSet as set;
 ghost use Rattle.enumset_sets.specs.Elements.{valid_bits};
+ghost use Rattle.enumset_mixed.specs.Mixed.{bit_with_validity, with_validity};
 
 use crate::mixed_value::{MixedValue, value_of};
 use enumset_repr::EnumSetTypeRepr;
@@ -14,18 +17,20 @@ use std::marker::Model;
 /// An iterator over the members of a mixed set, ascending by bit: the element for a valid bit, the number for an
 /// unknown one.
 ///
-/// It mirrors `MixedEnumSetIter` of Rust's `enumset`. Contracts see the list of the bits left. Once one end has yielded
-/// `None`, both ends yield `None` from then on.
+/// It mirrors `MixedEnumSetIter` of Rust's `enumset`. Contracts see the list of the bits left, the count of asks, which
+/// are counted reads of a word, and the span: how many asks the iterator may still need beyond one for each member. So k
+/// steps, from either end, make at most k asks plus the span. Once one end has yielded `None`, both ends yield `None`
+/// from then on.
 pub struct MixedEnumSetIter<T: EnumSetType> {
     iter: <T::Repr as EnumSetTypeRepr>::Iter,
 }
 
 impl<T: EnumSetType> Model for MixedEnumSetIter<T> {
-    ghost use Rattle.std.specs.Prelude.{ℕ, List};
+    ghost use Rattle.enumset_repr.specs.Asks.{IterView};
 
-    ghost Value = { List ℕ };
+    ghost Value = { IterView };
 
-    ghost view = { λ i. T.Repr.rest i.iter };
+    ghost view = { λ i. record { items = T.Repr.rest i.iter; asks = T.Repr.asks i.iter; span = T.Repr.span i.iter } };
 }
 
 impl<T: EnumSetType> Drop for MixedEnumSetIter<T> {
@@ -37,7 +42,7 @@ impl<T: EnumSetType> Drop for MixedEnumSetIter<T> {
 impl<T: EnumSetType> MixedEnumSetIter<T> {
     // The iterator over the members of a value.
     pub(crate) fn over(repr: T::Repr) -> MixedEnumSetIter<T>
-        ensures { result ≡ set.ascending (T.Repr.members repr) }
+        ensures { IsFresh (set.ascending (T.Repr.members repr)) T.Repr.PREFERRED_ARRAY_LEN result }
     {
         MixedEnumSetIter { iter: repr.iter() }
     }
@@ -68,15 +73,14 @@ impl<T: EnumSetType> fmt::Debug for MixedEnumSetIter<T> {
 impl<T: EnumSetTypeWithRepr> Iterator for MixedEnumSetIter<T> {
     type Item = MixedValue<T>;
 
-    ghost use Rattle.std.specs.Iterator.{YieldsFirstBy, item_count};
-    ghost use Rattle.enumset_mixed.specs.Mixed.{bit_with_validity, with_validity};
+    ghost next_gives = { λ i r j. YieldsFirstBy (bit_with_validity T.elements.bit)
+        (λ i. with_validity (valid_bits T.elements) i.items) i r j
+        × BoundsAsks i.asks i.span r j.asks j.span };
 
-    ghost next_gives = { YieldsFirstBy
-        (bit_with_validity T.elements.bit) (with_validity (valid_bits T.elements)) };
-
-    ghost remaining = { item_count (λ bits. bits) };
+    ghost remaining = { item_count (λ i. i.items) };
 
     /// Takes out the member of the least bit left and returns it, or returns `None` if no member is left.
+    /// The sum of asks and span grows by at most one if a member is returned, and not at all otherwise.
     fn next(&mut self) -> Option<MixedValue<T>> {
         let bit = self.iter.next()?;
         Some(value_of(bit))
@@ -84,8 +88,8 @@ impl<T: EnumSetTypeWithRepr> Iterator for MixedEnumSetIter<T> {
 
     /// Exactly how many members are left.
     fn size_hint(&self) -> (usize, Option<usize>)
-        ensures lower { result.0 ≡ length self.now }
-        ensures upper { result.1 ≡ Some (length self.now) }
+        ensures lower { result.0 ≡ length self.now.items }
+        ensures upper { result.1 ≡ Some (length self.now.items) }
     {
         let left = T::Repr::items_left(&self.iter);
         (left, Some(left))
@@ -93,13 +97,12 @@ impl<T: EnumSetTypeWithRepr> Iterator for MixedEnumSetIter<T> {
 }
 
 impl<T: EnumSetTypeWithRepr> DoubleEndedIterator for MixedEnumSetIter<T> {
-    ghost use Rattle.std.specs.Iterator.{YieldsLastBy};
-    ghost use Rattle.enumset_mixed.specs.Mixed.{bit_with_validity, with_validity};
-
-    ghost next_back_gives = { YieldsLastBy
-        (bit_with_validity T.elements.bit) (with_validity (valid_bits T.elements)) };
+    ghost next_back_gives = { λ i r j. YieldsLastBy (bit_with_validity T.elements.bit)
+        (λ i. with_validity (valid_bits T.elements) i.items) i r j
+        × BoundsAsks i.asks i.span r j.asks j.span };
 
     /// Takes out the member of the greatest bit left and returns it, or returns `None` if no member is left.
+    /// The sum of asks and span grows by at most one if a member is returned, and not at all otherwise.
     fn next_back(&mut self) -> Option<MixedValue<T>> {
         let bit = self.iter.next_back()?;
         Some(value_of(bit))

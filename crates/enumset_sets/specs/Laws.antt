@@ -2,8 +2,10 @@
 --     Conversions      sets cut at a width, and sets taken through words
 --     Elements      the laws of an enum without fields, from one test of its bits and constants
 --     Folds      folds of a list with one item more at its end
+--     Iterators      what iterators that bound their asks yield
 --     Texts      the text of a set as it is written
 pub mod Conversions
 pub mod Elements
 pub mod Folds
+pub mod Iterators
 pub mod Texts

@@ -340,7 +340,9 @@ impl<T: EnumSetType> EnumSet<T> {
     /// An iterator over the elements, each once, ascending by bit, from both ends. Later changes to the set do not
     /// affect it. Each member of the set is a valid bit.
     pub fn iter(&self) -> EnumSetIter<T>
-        ensures ascending { result ≡ set.ascending self.now }
+        ensures ascending { result.items ≡ set.ascending self.now }
+        ensures asks { result.asks ≡ 0 }
+        ensures span { result.span ≤ T.Repr.PREFERRED_ARRAY_LEN }
         ensures valid { IsTrue (set.is_subset self.now (valid_bits T.elements)) }
     {
         EnumSetIter::over(self.repr)

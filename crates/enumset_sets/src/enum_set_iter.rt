@@ -1,6 +1,8 @@
 //! The iterator over a set's elements.
 
 ghost use Rattle.std.specs.Prelude.{◌≡◌, length, IsTrue};
+ghost use Rattle.std.specs.Iterator.{YieldsFirstBy, YieldsLastBy, item_count};
+ghost use Rattle.enumset_repr.specs.Asks.{BoundsAsks, IsFresh};
 ghost use Rattle.enumset_repr.specs.BitSet as set;
 ghost use Rattle.enumset_sets.specs.Elements.{valid_bits};
 
@@ -12,19 +14,21 @@ use std::marker::Model;
 
 /// An iterator over the elements of a set, ascending by bit.
 ///
-/// It mirrors `EnumSetIter` of Rust's `enumset`. Contracts see the list of the bits left. Once one end has yielded
-/// `None`, both ends yield `None` from then on.
+/// It mirrors `EnumSetIter` of Rust's `enumset`. Contracts see the list of the bits left, the count of asks, which are
+/// counted reads of a word, and the span: how many asks the iterator may still need beyond one for each element. So k
+/// steps, from either end, make at most k asks plus the span. Once one end has yielded `None`, both ends yield `None`
+/// from then on.
 pub struct EnumSetIter<T: EnumSetType> {
     iter: <T::Repr as EnumSetTypeRepr>::Iter,
 }
 
 impl<T: EnumSetType> Model for EnumSetIter<T> {
-    ghost use Rattle.std.specs.Prelude.{ℕ, List};
+    ghost use Rattle.enumset_repr.specs.Asks.{IterView};
     ghost use Rattle.enumset_sets.specs.Elements.{AreBitsOf};
 
-    ghost Value = { List ℕ };
+    ghost Value = { IterView };
 
-    ghost view = { λ i. T.Repr.rest i.iter };
+    ghost view = { λ i. record { items = T.Repr.rest i.iter; asks = T.Repr.asks i.iter; span = T.Repr.span i.iter } };
 
     ghost invariant = { λ i. AreBitsOf (T.Repr.rest i.iter) T.elements.bit_list };
 }
@@ -39,7 +43,7 @@ impl<T: EnumSetType> EnumSetIter<T> {
     // The iterator over the members of a value, which must be valid bits.
     pub(crate) fn over(repr: T::Repr) -> EnumSetIter<T>
         requires { IsTrue (set.is_subset (T.Repr.members repr) (valid_bits T.elements)) }
-        ensures { result ≡ set.ascending (T.Repr.members repr) }
+        ensures { IsFresh (set.ascending (T.Repr.members repr)) T.Repr.PREFERRED_ARRAY_LEN result }
     {
         EnumSetIter { iter: repr.iter() }
     }
@@ -70,13 +74,13 @@ impl<T: EnumSetType> fmt::Debug for EnumSetIter<T> {
 impl<T: EnumSetType> Iterator for EnumSetIter<T> {
     type Item = T;
 
-    ghost use Rattle.std.specs.Iterator.{YieldsFirstBy, item_count};
+    ghost next_gives = { λ i r j. YieldsFirstBy T.elements.bit (λ i. i.items) i r j
+        × BoundsAsks i.asks i.span r j.asks j.span };
 
-    ghost next_gives = { YieldsFirstBy T.elements.bit (λ bits. bits) };
-
-    ghost remaining = { item_count (λ bits. bits) };
+    ghost remaining = { item_count (λ i. i.items) };
 
     /// Takes out the element of the least bit left and returns it, or returns `None` if no element is left.
+    /// The sum of asks and span grows by at most one if an element is returned, and not at all otherwise.
     fn next(&mut self) -> Option<T> {
         let bit = self.iter.next()?;
         Some(T::enum_from_u32(bit))
@@ -84,8 +88,8 @@ impl<T: EnumSetType> Iterator for EnumSetIter<T> {
 
     /// Exactly how many elements are left.
     fn size_hint(&self) -> (usize, Option<usize>)
-        ensures lower { result.0 ≡ length self.now }
-        ensures upper { result.1 ≡ Some (length self.now) }
+        ensures lower { result.0 ≡ length self.now.items }
+        ensures upper { result.1 ≡ Some (length self.now.items) }
     {
         let left = T::Repr::items_left(&self.iter);
         (left, Some(left))
@@ -93,11 +97,11 @@ impl<T: EnumSetType> Iterator for EnumSetIter<T> {
 }
 
 impl<T: EnumSetType> DoubleEndedIterator for EnumSetIter<T> {
-    ghost use Rattle.std.specs.Iterator.{YieldsLastBy};
-
-    ghost next_back_gives = { YieldsLastBy T.elements.bit (λ bits. bits) };
+    ghost next_back_gives = { λ i r j. YieldsLastBy T.elements.bit (λ i. i.items) i r j
+        × BoundsAsks i.asks i.span r j.asks j.span };
 
     /// Takes out the element of the greatest bit left and returns it, or returns `None` if no element is left.
+    /// The sum of asks and span grows by at most one if an element is returned, and not at all otherwise.
     fn next_back(&mut self) -> Option<T> {
         let bit = self.iter.next_back()?;
         Some(T::enum_from_u32(bit))

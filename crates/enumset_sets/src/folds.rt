@@ -2,6 +2,7 @@
 
 ghost use Rattle.std.specs.Prelude.{◌≡◌, ⊤, List, map, IsOk, IfOk};
 ghost use Rattle.std.specs.Iterator.{ExtendsWithItems, DrainsIf, IsFiniteIterable};
+ghost use Rattle.enumset_repr.specs.Asks.{IsFresh};
 ghost use Rattle.enumset_repr.specs.BitSet as set;
 ghost use Rattle.enumset_sets.specs.Folds.{union_all};
 
@@ -26,7 +27,7 @@ impl<T: EnumSetType> IntoIterator for EnumSet<T> {
 
     type IntoIter = EnumSetIter<T>;
 
-    ghost into_iter_gives = { λ s i. i ≡ set.ascending s };
+    ghost into_iter_gives = { λ s i. IsFresh (set.ascending s) T.Repr.PREFERRED_ARRAY_LEN i };
 
     fn into_iter(self) -> EnumSetIter<T> {
         self.iter()

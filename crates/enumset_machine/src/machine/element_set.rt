@@ -28,7 +28,7 @@ impl<T: EnumSetType> RunSet for EnumSet<T> {
 
     type Items = EnumSetIter<T>;
 
-    ghost rest = { λ items. items };
+    ghost rest = { λ items. items.items };
 
     fn is_bit_valid(bit: u32) -> bool {
         EnumSet::<T>::is_bit_valid(bit)

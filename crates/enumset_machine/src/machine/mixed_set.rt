@@ -23,7 +23,7 @@ impl<T: EnumSetTypeWithRepr> RunSet for MixedEnumSet<T> {
 
     type Items = MixedEnumSetIter<T>;
 
-    ghost rest = { λ items. items };
+    ghost rest = { λ items. items.items };
 
     fn is_bit_valid(bit: u32) -> bool {
         MixedEnumSet::<T>::is_bit_valid(bit)

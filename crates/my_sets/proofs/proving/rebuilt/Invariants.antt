@@ -4,4 +4,4 @@ use Rattle.my_sets.proofs.proving.rebuilt.Given as goal
 
 -- the copy, with the rights that are still to come, is the granted set
 abbrev pub invariant-loop-right : goal.invariant-loop-right
-invariant-loop-right g l = insert_each l.copy l.right-iterator ≡ l.granted
+invariant-loop-right g l = insert_each l.copy l.right-iterator.items ≡ l.granted

@@ -8,5 +8,5 @@ use Rattle.enumset.proofs.set_json.maps.to_map.Given as goal
 -- the members so far, with those of the bits that are left
 abbrev pub invariant-loop-element : goal.invariant-loop-element
 invariant-loop-element g l =
-    with_bits_true (names_of g.T.EnumSetType.elements g.T.EnumSetNames.names) (members_view l.members.entries) l.element-iterator
-    ≡ with_bits_true (names_of g.T.EnumSetType.elements g.T.EnumSetNames.names) no_members l.initial.element-iterator
+    with_bits_true (names_of g.T.EnumSetType.elements g.T.EnumSetNames.names) (members_view l.members.entries) l.element-iterator.items
+    ≡ with_bits_true (names_of g.T.EnumSetType.elements g.T.EnumSetNames.names) no_members l.initial.element-iterator.items

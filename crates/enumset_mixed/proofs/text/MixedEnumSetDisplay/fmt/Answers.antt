@@ -1,7 +1,8 @@
 use Rattle.std.proofs.Common.{ℕ, List, Option, refl, ap, inr, ◌∙◌, arith}
 use Rattle.std.proofs.lemmas.List.{length_push}
 use Rattle.std.proofs.lemmas.Bool.Decides.{nat_tests}
-use Rattle.std.proofs.lemmas.Iterator.Consumers.{YieldsList-from_first, YieldsList-end}
+use Rattle.std.proofs.lemmas.Iterator.Consumers.{YieldsList-end}
+use Rattle.enumset_sets.specs.Laws.Iterators.{of_shown}
 use Rattle.enumset_sets.specs.Elements.{valid_bits}
 use Rattle.enumset_sets.specs.Texts.{text_at}
 use Rattle.enumset_sets.specs.Laws.Texts.{Tells, writes_one_more, writes_at, text_at-tells}
@@ -26,7 +27,7 @@ pub returns-clause-writes : goal.returns-clause-writes
 returns-clause-writes g c =
     let bit = g.T.EnumSetType.elements.bit in
     let valid = valid_bits g.T.EnumSetType.elements in
-    let end = YieldsList-end (YieldsList-from_first (bit_with_validity bit) (with_validity valid) _ (ap (with_validity valid) (c.into_iter-member-iterator.ensures.into_iter_gives ∙ c.iter-member-items.ensures.ascending))) c.loop-member.yielded _ c.loop-member.yielded_by _ _ c.in-None.is c.next.ensures.steps in
+    let end = YieldsList-end (of_shown (bit_with_validity bit) (with_validity valid) _ _ (ap (with_validity valid) (ap (λ i. i.items) c.into_iter-member-iterator.ensures.into_iter_gives ∙ c.iter-member-items.ensures.ascending))) c.loop-member.yielded _ c.loop-member.yielded_by _ _ c.in-None.is c.next.ensures.steps in
     let text = g.T.Display.output in
     let at = text_at bit g.T.EnumSetType.values text in
     writes_at (item_text text) (bit_with_validity bit) (text_with_validity at) (item_text-tells bit at text (text_at-tells bit g.met.T.EnumSetType.lawful.bit_tells g.T.EnumSetType.values text)) g.W.Write.write_str_gives c.loop-member.yielded _ _ _ end.0 c.loop-member.invariant.written

@@ -3,4 +3,4 @@ use Rattle.enumset_sets.specs.Laws.Elements.{AreBitsOf-ascending}
 use Rattle.enumset_sets.proofs.enum_set_iter.EnumSetIter.over.Goals as goal
 
 pub invariant_of-result : goal.invariant_of-result
-invariant_of-result g c = rw c.iter.ensures (AreBitsOf-ascending _ _ _ refl c.requires)
+invariant_of-result g c = rw c.iter.ensures.rest (AreBitsOf-ascending _ _ _ refl c.requires)

@@ -1,7 +1,8 @@
-use Rattle.std.proofs.Common.{◌≡◌, ◌==◌, ◌+◌, ℕ, false, ◌∙◌, arith}
+use Rattle.std.proofs.Common.{◌≡◌, ◌==◌, ◌+◌, ℕ, false, ap, ◌∙◌, arith}
 use Rattle.std.proofs.lemmas.List.{length_push}
 use Rattle.std.proofs.lemmas.Bool.Decides.{nat_tests}
-use Rattle.std.proofs.lemmas.Iterator.Consumers.{YieldsList-from_first, YieldsList-end}
+use Rattle.std.proofs.lemmas.Iterator.Consumers.{YieldsList-end}
+use Rattle.enumset_sets.specs.Laws.Iterators.{of_bits}
 use Rattle.enumset_sets.specs.Laws.Texts.{writes_one_more, writes_at, text_at-tells}
 use Rattle.enumset_sets.proofs.text.EnumSetDisplay.fmt.Goals as goal
 
@@ -18,5 +19,5 @@ loop-element-preserved g c =
 
 pub returns-clause-writes : goal.returns-clause-writes
 returns-clause-writes g c =
-    let end = YieldsList-end (YieldsList-from_first g.T.EnumSetType.elements.bit (λ bits. bits) _ (c.into_iter-element-iterator.ensures.into_iter_gives ∙ c.iter-element-items.ensures.ascending)) c.loop-element.yielded _ c.loop-element.yielded_by _ _ c.in-None.is c.next.ensures.steps in
+    let end = YieldsList-end (of_bits g.T.EnumSetType.elements.bit _ _ (ap (λ i. i.items) c.into_iter-element-iterator.ensures.into_iter_gives ∙ c.iter-element-items.ensures.ascending)) c.loop-element.yielded _ c.loop-element.yielded_by _ _ c.in-None.is c.next.ensures.steps in
     writes_at g.T.Display.output g.T.EnumSetType.elements.bit _ (text_at-tells g.T.EnumSetType.elements.bit g.met.T.EnumSetType.lawful.bit_tells g.T.EnumSetType.values g.T.Display.output) g.W.Write.write_str_gives c.loop-element.yielded _ _ _ end.0 c.loop-element.invariant.written

@@ -2,17 +2,17 @@ use Rattle.std.proofs.Common.{Some, ap, sym, ◌∙◌}
 use Rattle.enumset_repr.specs.Ends.{first, without_first}
 use Rattle.enumset_mixed.specs.Mixed.{bit_with_validity}
 use Rattle.enumset_sets.specs.Elements.{valid_bits}
-use Rattle.enumset_machine.proofs.MixedItems.{gave_first}
+use Rattle.enumset_mixed.specs.Laws.Items.{gave_first}
 use Rattle.enumset_machine.proofs.machine.mixed_set.MixedEnumSetRunSet.next.Goals as goal
 
 pub returns-in-Some-clause-given : goal.returns-in-Some-clause-given
 returns-in-Some-clause-given g c =
     let valid = valid_bits g.T.EnumSetType.elements in
     let item = bit_with_validity g.T.EnumSetType.elements.bit c.in-Some.value in
-    ap Some c.bit_of.ensures ∙ sym (ap first (gave_first valid c.args.items.now c.next.new.self item c.in-Some.ensures.steps))
+    ap Some c.bit_of.ensures ∙ sym (ap first (gave_first valid c.args.items.now.items c.next.new.self.items item c.in-Some.ensures.steps.0))
 
 pub returns-in-Some-clause-rest : goal.returns-in-Some-clause-rest
 returns-in-Some-clause-rest g c =
     let valid = valid_bits g.T.EnumSetType.elements in
     let item = bit_with_validity g.T.EnumSetType.elements.bit c.in-Some.value in
-    sym (ap without_first (gave_first valid c.args.items.now c.next.new.self item c.in-Some.ensures.steps))
+    sym (ap without_first (gave_first valid c.args.items.now.items c.next.new.self.items item c.in-Some.ensures.steps.0))

@@ -1,4 +1,6 @@
 -- The bits of the items that a mixed set's iterator gives.
+--     none_left      no bit is left where no item is
+--     gave_first, gave_last      the first bit of a list, or the last, from the first item or the last
 use Rattle.std.proofs.Common.{◌≡◌, ℕ, Bool, List, [], ◌∷◌, ◌++◌, map, refl, sym, ap, ◌∙◌}
 use Rattle.std.proofs.lemmas.List.{map-append}
 use Rattle.enumset_repr.specs.BitSet.{BitSet}

@@ -1,0 +1,17 @@
+use Rattle.std.proofs.Common.{◌≤◌, length, sym, ◌∙◌, arith}
+use Rattle.enumset.proofs.AskedSteps.{left_next, asks_next, left_last}
+use Rattle.enumset.proofs.laws.asks.take_mixed_steps.Goals as goal
+
+pub loop-end-preserved : goal.loop-end-preserved
+loop-end-preserved g c = record {
+  items = left_next _ _ _ _ _ c.loop-end-test.true c.loop-end.invariant.items c.mixed_step.ensures.items;
+  asks = asks_next _ _ _ _ _ _ _ _ _ c.loop-end-test.true c.loop-end.invariant.asks c.mixed_step.ensures.items c.mixed_step.ensures.asks;
+}
+
+pub returns-clause-items : goal.returns-clause-items
+returns-clause-items g c =
+    let done : length c.args.ends.now ≤ c.loop-end.end-index = omega (arith, c.loop-end-test.false) in
+    sym (left_last c.args.ends.now c.loop-end.end-index c.loop-end.iter.items done) ∙ c.loop-end.invariant.items
+
+pub returns-clause-asks : goal.returns-clause-asks
+returns-clause-asks g c = omega (arith, c.loop-end.invariant.asks)
