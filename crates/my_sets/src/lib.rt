@@ -2,6 +2,7 @@
 #![tactic(auto)]
 
 pub mod expressions;
+pub mod finding;
 pub mod granting;
 pub mod operators;
 pub mod proving;
