@@ -1,0 +1,23 @@
+//! Relays frames, and keeps the flags of later versions.
+//!
+//! `headers` reads a frame a line from standard input, in hex, and writes the frame that is sent on. Standard error says
+//! what was understood.
+#![tactic(auto)]
+
+mod flag;
+mod flags;
+mod frame;
+mod newer_flag;
+mod program;
+
+use std::process::ExitCode;
+
+fn main(rt: HostRuntime) -> ExitCode {
+    match program::relay(&rt) {
+        Ok(()) => ExitCode::SUCCESS,
+        Err(error) => {
+            let _ = eprintln!(rt; "headers: {error:#}");
+            ExitCode::from(2)
+        }
+    }
+}
