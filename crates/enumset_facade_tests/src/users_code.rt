@@ -6,6 +6,7 @@ use enumset::set::MixedEnumSet;
 use enumset_sets::EnumSet;
 use enumset_worked::{Letters, Sparse, Wide};
 use my_sets::expressions::{after_and_before, exchange, exchanged};
+use my_sets::finding::first_that;
 use my_sets::granting::grant;
 use my_sets::proving::{grant_then_revoke, is_apart_from_the_rest, rebuilt};
 use my_sets::rights::{Right, may};
@@ -62,6 +63,17 @@ fn many_sets_share(rt: HostRuntime) {
     assert_eq!(rt; shared_by_two(&one, &other).as_u8_truncated(), 68);
     assert_eq!(rt; with_shared(&one, &other).as_u8_truncated(), 69);
     assert_eq!(rt; all_rights().as_u8_truncated(), 7);
+}
+
+#[test]
+fn the_first_is_found(rt: HostRuntime) {
+    let granted = Letters::B | Letters::D | Letters::E;
+    let (found, later) = first_that(&granted, |letter| *letter > Letters::C);
+    assert_eq!(rt; found, Some(Letters::D));
+    assert_eq!(rt; later.len(), 1);
+    let (missing, rest) = first_that(&granted, |letter| *letter > Letters::E);
+    assert_eq!(rt; missing, None);
+    assert_eq!(rt; rest.len(), 0);
 }
 
 #[test]
