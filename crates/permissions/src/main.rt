@@ -10,6 +10,8 @@ mod program;
 mod reader;
 mod rights;
 mod roles;
+#[cfg(test)]
+mod tests;
 
 use std::process::ExitCode;
 
