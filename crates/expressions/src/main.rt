@@ -1,0 +1,51 @@
+//! Answers arithmetic expressions.
+//!
+//! `expressions` reads an expression a line from standard input, and answers with a line each: its value, or where it goes
+//! wrong and what could have come there. The exit status is 0 if each has a value, 1 if one has none, and 2 if reading or
+//! writing fails.
+#![tactic(auto)]
+
+mod kind;
+mod parser;
+mod token;
+mod value;
+
+use anyhow::{Context, Result};
+use std::alloc::Global;
+use std::process::ExitCode;
+
+// The value of an expression.
+fn answer(alloc: Global, line: &str) -> Result<i64> {
+    let tokens = token::tokens(alloc, line)?;
+    if let Err(fault) = parser::check(&tokens) {
+        let column = token::column_of(&tokens, fault.place, line);
+        return Err(fault).context(format_args!("column {column}"));
+    }
+    value::evaluate(alloc, &tokens)
+}
+
+// Answers each line, and returns whether each has a value.
+fn answer_all<R: Input + Print + AllocGlobal>(rt: &R) -> Result<bool> {
+    let mut all_have_values = true;
+    for line in rt.lines(rt.alloc()) {
+        match answer(rt.alloc(), line?.as_str()) {
+            Ok(value) => println!(rt; "{value}")?,
+            Err(fault) => {
+                println!(rt; "{fault:#}")?;
+                all_have_values = false;
+            }
+        }
+    }
+    Ok(all_have_values)
+}
+
+fn main(rt: HostRuntime) -> ExitCode {
+    match answer_all(&rt) {
+        Ok(true) => ExitCode::SUCCESS,
+        Ok(false) => ExitCode::from(1),
+        Err(fault) => {
+            let _ = eprintln!(rt; "expressions: {fault}");
+            ExitCode::from(2)
+        }
+    }
+}
