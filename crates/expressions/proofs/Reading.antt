@@ -21,7 +21,7 @@ use Rattle.expressions.specs.declared.parser.State.{State}
 use Rattle.expressions.specs.declared.parser.Unexpected.{Unexpected}
 use Rattle.expressions.specs.declared.token.Token.{Token}
 use Rattle.expressions.specs.Grammar.{bit, kinds_of, is_operator, IsExpression, number, negated, joined, grouped, Begins, IsFault}
-use Rattle.expressions.specs.States.{closing, coming, at, after_at, after}
+use Rattle.expressions.specs.States.{coming, at, after_at, after}
 
 -- ---- the states over a list of kinds
 

@@ -1,6 +1,6 @@
 //! Whether tokens are an expression, and what could have come where they are none.
 
-ghost use Rattle.std.specs.Prelude.{◌≡◌, ◌<◌, ◌+◌, suc, map, true, OnOk, IfErr};
+ghost use Rattle.std.specs.Prelude.{◌≡◌, ◌<◌, map, OnOk, IfErr};
 ghost use Rattle.enumset_repr.specs.BitSet as set;
 ghost use Rattle.expressions.specs.Grammar.{bit, kinds_of, IsExpression, IsFault};
 ghost use Rattle.expressions.specs.States.{at, coming, after};

@@ -1,4 +1,4 @@
-use Rattle.std.proofs.Common.{sym, ap, ◌∙◌, arith}
+use Rattle.std.proofs.Common.{sym, ap, ◌∙◌}
 use Rattle.enumset_repr.specs.BitSet.{contains}
 use Rattle.expressions.specs.declared.kind.Kind.TheVariants.{Close, End}
 use Rattle.expressions.specs.Grammar.{bit}
