@@ -1,0 +1,47 @@
+//! A door with a magnetic lock.
+//!
+//! `door` reads an event a line from standard input, and prints after each which flags are set, or why it is refused. The
+//! exit status is 0 if all events are taken, 1 if one is refused, and 2 at a fault.
+#![tactic(auto)]
+
+mod door;
+mod event;
+mod flag;
+mod machine;
+
+use anyhow::Context;
+use door::Door;
+use event::Event;
+use std::process::ExitCode;
+
+// Lets the events happen in turn, and returns whether none is refused.
+fn take_all<R: Input + Print + AllocGlobal>(rt: &R) -> anyhow::Result<bool> {
+    let mut door = Door::new();
+    let mut all_are_taken = true;
+    for (index, line) in rt.lines(rt.alloc()).enumerate() {
+        let line = line?;
+        let event = Event::named(line.trim()).context(format_args!(
+            "line {}: no event `{line}`",
+            index + 1
+        ))?;
+        match door.take(event) {
+            Ok(()) => println!(rt; "{event}: [{}]", door.flags)?,
+            Err(refusal) => {
+                println!(rt; "{event}: {refusal}")?;
+                all_are_taken = false;
+            }
+        }
+    }
+    Ok(all_are_taken)
+}
+
+fn main(rt: HostRuntime) -> ExitCode {
+    match take_all(&rt) {
+        Ok(true) => ExitCode::SUCCESS,
+        Ok(false) => ExitCode::from(1),
+        Err(fault) => {
+            let _ = eprintln!(rt; "door: {fault}");
+            ExitCode::from(2)
+        }
+    }
+}
