@@ -1,5 +1,6 @@
 pub mod ItemCounts
 pub mod WordLanes
+pub mod HighestApart
 pub mod Covers
 pub mod Walks
 pub mod CombinedWords

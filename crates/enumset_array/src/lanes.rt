@@ -1,6 +1,6 @@
 //! Operations on lists of words, four words at a time.
 
-ghost use Rattle.std.specs.Prelude.{◌≡◌, ◌<◌, ◌==◌, ℕ, bit_and, bit_or, bit_xor, length, sum_by};
+ghost use Rattle.std.specs.Prelude.{◌≡◌, ◌<◌, ◌≤◌, ◌==◌, ℕ, bit_and, bit_or, bit_xor, drop, length, sum_by};
 ghost use Rattle.std.specs.Int.{w64, bit_not};
 ghost use Rattle.std.specs.List.{list_all};
 ghost use Rattle.std.specs.Simd.Lanes.{zip2};
@@ -153,6 +153,29 @@ pub(crate) fn are_none<O: WordOperation>(words: &[u64], others: &[u64]) -> bool
     }
     let i = words.len() / 16 * 16;
     any_of::<O>(&words[i..], &others[i..]) == 0
+}
+
+/// A place from which on the lists are equal. They must have the same length.
+///
+/// The words are compared from the top, sixteen at a time, up to the first sixteen that differ: the place is the end of
+/// these. If no sixteen differ, it is the number of words below them. From sixteen words on the last word is compared
+/// alone first, and if it differs, the place is the end of the lists.
+pub(crate) fn equal_from(words: &[u64], others: &[u64]) -> usize
+    requires { length words.now ≡ length others.now }
+    ensures within { result ≤ length words.now }
+    ensures equal { drop result words.now ≡ drop result others.now }
+{
+    let len = words.len();
+    if len >= 16 && words[len - 1] != others[len - 1] {
+        return len;
+    }
+    for k in 0..len / 16 {
+        let i = len - 16 * (k + 1);
+        if any_of::<Xor>(&words[i..i + 16], &others[i..i + 16]) != 0 {
+            return i + 16;
+        }
+    }
+    len % 16
 }
 
 /// The results for all pairs of words, combined by `|`: it is 0 exactly if each result is 0.

@@ -1,12 +1,13 @@
 //! The order of the representation of many words: that of the sets.
 
-ghost use Rattle.std.specs.Prelude.{◌≡◌, Some, refl};
+ghost use Rattle.std.specs.Prelude.{◌≡◌, Some, length, refl};
 ghost use Rattle.enumset_repr.specs.Order.{compare};
 ghost use Rattle.enumset_array.specs.Order.{highest_first};
 ghost use Rattle.enumset_array.specs.ArrayWords.{set_of};
 ghost use Rattle.enumset_array.specs.Laws.Order.{highest_first-total, highest_first-partial, highest_first-ties};
 
 use crate::array_repr::ArrayRepr;
+use crate::lanes::equal_from;
 use enumset_repr::EnumSetTypeRepr;
 use std::cmp::Ordering;
 
@@ -37,6 +38,21 @@ impl<const N: usize> Ord for ArrayRepr<N> {
     {
         self.learn_is_value();
         other.learn_is_value();
-        self.0.iter().rev().cmp(other.0.iter().rev())
+        compare_words(&self.0, &other.0)
     }
+}
+
+/// How two lists of the same length compare: the highest place where they differ decides.
+fn compare_words(words: &[u64], others: &[u64]) -> Ordering
+    requires { length words.now ≡ length others.now }
+    ensures { result ≡ highest_first words.now others.now }
+{
+    let mut end = equal_from(words, others);
+    while end > 0 {
+        end -= 1;
+        if words[end] != others[end] {
+            return words[end].cmp(&others[end]);
+        }
+    }
+    Ordering::Equal
 }

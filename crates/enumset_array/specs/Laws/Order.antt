@@ -1,6 +1,7 @@
 -- The order of the words of an `ArrayRepr` is that of the sets that they represent.
 --     highest_first-total, highest_first-partial, highest_first-ties      the order is total, and only equal lists
 --         compare as equal
+--     highest_first-cons      of two lists the first words decide only if the words after them are equal
 --     compare_is      the order of the words of an `ArrayRepr` is that of their sets
 use Rattle.std.proofs.Common.{◌≡◌, ◌<◌, ◌≤◌, ◌⊎◌, inl, inr, ℕ, suc, ◌+◌, ◌-◌, ◌*◌, ◌^◌, true, ◌||◌, List, [], ◌∷◌, ◌++◌, length, Some, refl, sym, ap, ◌∙◌, arith}
 use Rattle.std.specs.Prelude.{◌==◌, nat_eq, slice_index, reverse}
@@ -72,6 +73,12 @@ slice_cmp-push [] (b ∷ ys) x y long = absurd (omega (arith, long))
 slice_cmp-push (a ∷ xs) [] x y long = absurd (omega (arith, long))
 slice_cmp-push (a ∷ xs) (b ∷ ys) x y long = ap (ordering_then (nat_cmp a b)) (slice_cmp-push xs ys x y (omega (arith, long))) ∙ then_then (nat_cmp a b) (slice_cmp nat_cmp xs ys) (nat_cmp x y)
 
+-- the first words decide only if the words after them are equal
+pub highest_first-cons : (x y : ℕ) (xs ys : List ℕ) → length xs ≡ length ys → highest_first (x ∷ xs) (y ∷ ys) ≡ ordering_then (highest_first xs ys) (nat_cmp x y)
+highest_first-cons x y xs ys long =
+    (λ i. slice_cmp nat_cmp (reverse-append (x ∷ []) xs i) (reverse-append (y ∷ []) ys i))
+    ∙ slice_cmp-push (reverse xs) (reverse ys) x y (length-reverse xs ∙ long ∙ sym (length-reverse ys))
+
 module _ (a b x y : ℕ) (fit_x : x < 2 ^ 64) (fit_y : y < 2 ^ 64) where
   then_ranks : (o p : Ordering) → MatchOrdering o (a < b) (a ≡ b) (b < a) → MatchOrdering p (x < y) (x ≡ y) (y < x) → MatchOrdering (ordering_then o p) (a * 2 ^ 64 + x < b * 2 ^ 64 + y) (a * 2 ^ 64 + x ≡ b * 2 ^ 64 + y) (b * 2 ^ 64 + y < a * 2 ^ 64 + x)
   then_ranks Less p h k = omega (arith, h, fit_x)
@@ -90,8 +97,7 @@ by_value [] (y ∷ ys) p q long = absurd (omega (arith, long))
 by_value (x ∷ xs) [] p q long = absurd (omega (arith, long))
 by_value (x ∷ xs) (y ∷ ys) p q long =
     let shorter : length xs ≡ length ys = omega (arith, long) in
-    (λ i. slice_cmp nat_cmp (reverse-append (x ∷ []) xs i) (reverse-append (y ∷ []) ys i))
-    ∙ slice_cmp-push (reverse xs) (reverse ys) x y (length-reverse xs ∙ shorter ∙ sym (length-reverse ys))
+    highest_first-cons x y xs ys shorter
     ∙ ap (λ o. ordering_then o (nat_cmp x y)) (by_value xs ys (λ i. p (suc i)) (λ i. q (suc i)) shorter)
     ∙ then_numbers (value xs) (value ys) x y (p 0) (q 0)
 
