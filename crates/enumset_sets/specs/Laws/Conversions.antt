@@ -1,12 +1,15 @@
 -- What becomes of a set that is cut at a width, and of one that is taken through words.
 --     number_within      the number of a set below a width, after a cut there
 --     low_part_within      a subset of v is still one after a cut
+--     bits_masked      the bits that a number shares with that of a set, after a cut at the number's width
 --     words_within      the words of a set up to its last member represent that set
 --     words_of_repr      so do as many words as its representation has
 -- The ruleset `conversions` has the first two.
-use Rattle.std.proofs.Common.{◌≡◌, ℕ, ◌+◌, ◌*◌, ◌/◌, true, ap, ◌∙◌, arith}
-use Rattle.enumset_repr.specs.BitSet.{BitSet, is_subset, below, low}
-use Rattle.enumset_repr.specs.Number.{number}
+use Rattle.std.proofs.Common.{◌≡◌, ◌<◌, ℕ, ◌+◌, ◌*◌, ◌/◌, ◌^◌, true, bit_and, ap, ◌∙◌, arith}
+use Rattle.enumset_repr.specs.BitSet.{BitSet, intersection, is_subset, below, low}
+use Rattle.enumset_repr.specs.Number.{bits, number}
+use Rattle.enumset_repr.specs.Laws.Members.{same_set, is_subset-contains, members}
+use Rattle.enumset_repr.specs.Laws.Numbers.{bits-and, bits-number, bits-within}
 use Rattle.enumset_repr.specs.Laws.Algebra.{is_subset_trans}
 use Rattle.enumset_repr.specs.Words.{words, bits_of}
 use Rattle.enumset_repr.specs.Laws.Low.{low_part, low_within, is_subset_wider}
@@ -17,6 +20,11 @@ number_within s n within = ap number (low_within s n within)
 
 pub low_part_within : (s v : BitSet) (n : ℕ) → is_subset s v ≡ true → is_subset (low s n) v ≡ true
 low_part_within s v n within = is_subset_trans (low s n) s v (low_part s n) within
+
+pub bits_masked : (v : ℕ) (s : BitSet) (n : ℕ) → v < 2 ^ n → bits (bit_and v (number (low s n))) ≡ intersection (bits v) s
+bits_masked v s n small =
+    bits-and v (number (low s n)) ∙ ap (intersection (bits v)) (bits-number (low s n))
+    ∙ same_set _ _ (λ q. let each = is_subset-contains (bits v) (below n) (bits-within v n small) q in grind (arith, members))
 
 pub words_within : (s : BitSet) (n : ℕ) → is_subset s (below (64 * n)) ≡ true → bits_of (words s n) ≡ s
 words_within s n within = bits_of-words s n ∙ low_within s (64 * n) within

@@ -7,7 +7,7 @@ ghost use Rattle.enumset_sets.specs.Elements.{valid_bits};
 
 use crate::element::EnumSetType;
 use crate::enum_set::EnumSet;
-use crate::validated::{exact_low, truncated_low, validated_low};
+use crate::validated::{exact_low, validated_low};
 use enumset_repr::EnumSetTypeRepr;
 
 #[tactic(auto, using(crate::specs::Laws::Conversions::conversions))]
@@ -56,7 +56,7 @@ impl<T: EnumSetType> EnumSet<T> {
     pub fn from_u128_truncated(value: u128) -> EnumSet<T>
         ensures { result ≡ set.intersection (bits value) (valid_bits T.elements) }
     {
-        truncated_low(T::Repr::from_u128(value))
+        Self::from_u128(value & Self::all().as_u128_truncated())
     }
 
     /// The set of a number. Every bit of it must be valid, as for [`from_u128`](EnumSet::from_u128).
