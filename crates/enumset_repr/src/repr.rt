@@ -214,11 +214,8 @@ pub trait EnumSetTypeRepr: Copy
         ensures words { IsSome result → out.new ≡ words_of (members self.now) (length out.old) }
         ensures unchanged { result ≡ None → out.new ≡ out.old }
     {
-        self.learn_is_value();
-        for i in out.len()..Self::PREFERRED_ARRAY_LEN {
-            if self.word(i) != 0 {
-                return None;
-            }
+        if !has_no_word_from(self, out.len()) {
+            return None;
         }
         self.to_u64_slice(out);
         Some(())
@@ -249,7 +246,7 @@ pub trait EnumSetTypeRepr: Copy
         Some(repr)
     }
 
-    // ---- u128, by words; the smaller types go by u128
+    // ---- u128, by words; the smaller types go by u128, and by one word where a number may be refused
 
     /// The set with the bits of a number. Bits at or past the width are left out.
     final fn from_u128(v: u128) -> Self
@@ -316,7 +313,7 @@ pub trait EnumSetTypeRepr: Copy
             ↔ IsTrue (set.is_subset (members self.now) (set.below u8.BITS)) }
         ensures value { IfSome result (λ n. n ≡ number (members self.now)) }
     {
-        u8::try_from(self.try_to_u128()?).ok()
+        u8::try_from(self.try_to_u64()?).ok()
     }
 
     // ---- u16
@@ -349,7 +346,7 @@ pub trait EnumSetTypeRepr: Copy
             ↔ IsTrue (set.is_subset (members self.now) (set.below u16.BITS)) }
         ensures value { IfSome result (λ n. n ≡ number (members self.now)) }
     {
-        u16::try_from(self.try_to_u128()?).ok()
+        u16::try_from(self.try_to_u64()?).ok()
     }
 
     // ---- u32
@@ -382,7 +379,7 @@ pub trait EnumSetTypeRepr: Copy
             ↔ IsTrue (set.is_subset (members self.now) (set.below u32.BITS)) }
         ensures value { IfSome result (λ n. n ≡ number (members self.now)) }
     {
-        u32::try_from(self.try_to_u128()?).ok()
+        u32::try_from(self.try_to_u64()?).ok()
     }
 
     // ---- u64
@@ -415,7 +412,9 @@ pub trait EnumSetTypeRepr: Copy
             ↔ IsTrue (set.is_subset (members self.now) (set.below u64.BITS)) }
         ensures value { IfSome result (λ n. n ≡ number (members self.now)) }
     {
-        u64::try_from(self.try_to_u128()?).ok()
+        let mut word = [0];
+        self.try_to_u64_slice(&mut word)?;
+        Some(word[0])
     }
 
     // ---- usize
@@ -448,7 +447,7 @@ pub trait EnumSetTypeRepr: Copy
             ↔ IsTrue (set.is_subset (members self.now) (set.below usize.BITS)) }
         ensures value { IfSome result (λ n. n ≡ number (members self.now)) }
     {
-        usize::try_from(self.try_to_u128()?).ok()
+        Some(self.try_to_u64()? as usize)
     }
 
     // The empty set has no member.
@@ -530,4 +529,44 @@ pub fn word_or_zero<R: EnumSetTypeRepr>(repr: &R, i: usize) -> u64
     } else {
         0
     }
+}
+
+/// Whether every member is below 64 times `from`: whether each word from that place on is 0.
+///
+/// The words are read sixteen at a time, up to the first sixteen that have one which is not 0. If there are sixteen or
+/// more, the first is read alone before.
+fn has_no_word_from<R: EnumSetTypeRepr>(repr: &R, from: usize) -> bool
+    ensures { result ≡ set.is_subset (R.members repr.now) (set.below (64 * from)) }
+{
+    repr.learn_is_value();
+    let len = R::PREFERRED_ARRAY_LEN;
+    if len <= from {
+        return true;
+    }
+    let blocks = (len - from) / 16;
+    if blocks > 0 && repr.word(from) != 0 {
+        return false;
+    }
+    for k in 0..blocks {
+        let i = from + 16 * k;
+        if !are_zero(repr, i, i + 16) {
+            return false;
+        }
+    }
+    are_zero(repr, from + 16 * blocks, len)
+}
+
+/// Whether each word from one place up to another is 0. The second place must be no less than the first, and at most
+/// the number of words.
+fn are_zero<R: EnumSetTypeRepr>(repr: &R, from: usize, to: usize) -> bool
+    requires ordered { from ≤ to }
+    requires within { to ≤ R.PREFERRED_ARRAY_LEN }
+    ensures { IsTrue result
+        ↔ ((w : ℕ) → from ≤ w → w < to → word_of (R.members repr.now) w ≡ 0) }
+{
+    let mut any = 0;
+    for i in from..to {
+        any |= repr.word(i);
+    }
+    any == 0
 }

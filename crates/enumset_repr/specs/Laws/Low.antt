@@ -9,7 +9,8 @@
 --     is_subset_wider      a set below a width is below each greater width
 --     number_low, number_cut      the number of a cut set, as a remainder
 --     number_fits, fits_number      a set is below a width exactly if its number has at most so many bits
---     cut_8, small_8, fits_8, wider_8 and those at 16, 32 and 64      the same at one width, for numbers below 2 ^ 128
+--     cut_8, small_8, fits_8 and those at 16, 32 and 64      the same at one width, for numbers below 2 ^ 128
+--     wider_8, wider_16, wider_32      a set below the width is below 64
 -- The ruleset `cuts` has what a proof about sets and their numbers needs. A crate above cites it by
 -- `#[tactic(auto, using(enumset_repr::specs::Laws::Low::cuts))]`. `cuts_to` has the laws at the widths.
 use Rattle.std.proofs.Common.{◌≡◌, ◌<◌, ◌≤◌, ℕ, ◌-◌, ◌%◌, ◌^◌, true, sym, ap, subst, ◌∙◌, arith}
@@ -79,7 +80,7 @@ abbrev FitsLaw : ℕ → Type 0
 FitsLaw n = (s : BitSet) → number s < 2 ^ n → is_subset s (below n) ≡ true
 
 abbrev WiderLaw : ℕ → Type 0
-WiderLaw n = (s : BitSet) → is_subset s (below n) ≡ true → is_subset s (below 128) ≡ true
+WiderLaw n = (s : BitSet) → is_subset s (below n) ≡ true → is_subset s (below 64) ≡ true
 
 cut_at : (n : ℕ) → n ≤ 128 → CutLaw n
 cut_at n less s = and_mask _ n ∙ number_cut s 128 n less
@@ -90,8 +91,8 @@ small_at n s within = number_fits s n within
 fits_at : (n : ℕ) → FitsLaw n
 fits_at n s below_power = fits_number s n below_power
 
-wider_at : (n : ℕ) → n ≤ 128 → WiderLaw n
-wider_at n less s within = is_subset_wider s n 128 less within
+wider_at : (n : ℕ) → n ≤ 64 → WiderLaw n
+wider_at n less s within = is_subset_wider s n 64 less within
 
 pub cut_8 : CutLaw 8
 cut_8 = cut_at 8 (omega arith)
@@ -138,7 +139,4 @@ small_64 = small_at 64
 pub fits_64 : FitsLaw 64
 fits_64 = fits_at 64
 
-pub wider_64 : WiderLaw 64
-wider_64 = wider_at 64 (omega arith)
-
-pub ruleset cuts_to = (cut_8, small_8, fits_8, wider_8, cut_16, small_16, fits_16, wider_16, cut_32, small_32, fits_32, wider_32, cut_64, small_64, fits_64, wider_64)
+pub ruleset cuts_to = (cut_8, small_8, fits_8, wider_8, cut_16, small_16, fits_16, wider_16, cut_32, small_32, fits_32, wider_32, cut_64, small_64, fits_64)

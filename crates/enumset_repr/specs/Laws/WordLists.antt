@@ -12,6 +12,7 @@
 --     word-past, within_words      a set is below a width exactly if it has no word past it
 --     put_next      a set cut at a word, with the next word put in
 --     bits_of-within      the bits of a list of words are below 64 times its length
+--     number-word      the number of the members below 64, by the one word
 --     bits_of-halves, number-words      a number of 128 bits, and its two words
 --     low-same_words      a set is below a width if a cut there leaves each word as it is
 use Rattle.std.proofs.Common.{◌≡◌, ◌<◌, ◌≤◌, ◌⊎◌, inl, inr, ℕ, suc, zero, ◌+◌, ◌-◌, ◌*◌, ◌/◌, ◌%◌, ◌^◌, Bool, true, false, ◌&&◌, ◌||◌, not, List, [], ◌∷◌, ◌++◌, length, refl, sym, ap, ◌∙◌, subst, arith, mod-lt, true≢false}
@@ -217,7 +218,15 @@ low-same_words s width n within same = within_from_low s width (same_set _ _ (by
         let none : contains s (64 * w + b) ≡ false = contains-past s (64 * n) (64 * w + b) within (omega (arith, past)) in
         contains-low s width (64 * w + b) ∙ ap (λ t. t && nat_lt (64 * w + b) width) none ∙ sym none
 
--- ---- two words
+-- ---- one word, and two
+
+pub number-word : (s : BitSet) (ws : List ℕ) → ws ≡ words s 1 → slice_index ws 0 ≡ number (low s 64)
+number-word s ws is =
+    (λ i. slice_index (is i) 0) ∙ slice_index-words s 1 0 (omega arith) ∙ sym (number-bits (word s 0))
+    ∙ ap number (same_set _ _ (λ q. contains-bits-word s 0 q ∙ ap (λ n. contains s n && nat_lt q 64) (by q) ∙ sym (contains-low s 64 q)))
+  where
+    by : (q : ℕ) → 64 * 0 + q ≡ q
+    by q = omega arith
 
 pub bits_of-halves : (n : ℕ) → n < 2 ^ 128 → bits_of (n % 2 ^ 64 ∷ n / 2 ^ 64 ∷ []) ≡ bits n
 unfolding words
