@@ -1,6 +1,4 @@
-use Rattle.std.proofs.Common.{◌≡◌, ◌∙◌, ap, bit_and}
-use Rattle.enumset_repr.specs.BitSet.{intersection}
-use Rattle.enumset_repr.specs.Number.{bits}
+use Rattle.std.proofs.Common.{◌∙◌}
 use Rattle.enumset_repr.specs.Laws.Algebra.{intersection_right}
 use Rattle.enumset_sets.specs.Elements.{valid_bits}
 use Rattle.enumset_sets.specs.Laws.Conversions.{bits_masked}
