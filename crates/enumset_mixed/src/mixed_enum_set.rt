@@ -277,7 +277,7 @@ impl<T: EnumSetTypeWithRepr> MixedEnumSet<T> {
         ensures past { T.Repr.WIDTH ≤ value → (result ≡ false) × (self.new ≡ self.old) }
     {
         let is_present = self.has_bit(value);
-        if is_present {
+        if value < T::Repr::WIDTH {
             self.repr.remove_bit(value);
             self.repr.learn_is_value();
         }
