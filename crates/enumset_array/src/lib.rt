@@ -13,7 +13,6 @@
 
 pub mod array_iter;
 pub mod array_repr;
-mod asks;
 pub mod cursors;
 mod lanes;
 mod operators;

@@ -7,9 +7,8 @@ ghost use Rattle.enumset_array.specs.ArrayWords.{words_in_use};
 ghost use Rattle.enumset_array.specs.Items.{items_of};
 
 use crate::array_repr::{ArrayRepr, WORD_LIMIT};
-use crate::asks::Asks;
 use crate::row::Row;
-use enumset_repr::{EnumSetTypeRepr, PrimitiveIter};
+use enumset_repr::{Asks, EnumSetTypeRepr, PrimitiveIter};
 use std::fmt::{Debug, Error, Formatter, Write};
 use std::marker::Model;
 

@@ -7,6 +7,7 @@
 //!   ends.
 //! - [`integers`]: `u8`, `u16`, `u32`, `u64` and `u128` as representations.
 //! - [`laws`]: laws that a proof learns from a call.
+//! - [`asks`]: a count of asks, which are counted reads of a word, that takes no bytes.
 //!
 //! Contracts are about the finite sets of `specs/BitSet.antt`. `specs/Number.antt` says which set a number represents,
 //! `specs/Words.antt` what the words of 64 bits of a set are, `specs/Ends.antt` what its least and its greatest member
@@ -14,6 +15,7 @@
 #![tactic(auto)]
 
 pub mod arrays;
+pub mod asks;
 mod halves;
 pub mod integers;
 pub mod laws;
@@ -22,6 +24,7 @@ pub mod primitive_iter;
 pub mod repr;
 
 pub use arrays::{from_u64_array, to_u64_array, try_from_u64_array, try_to_u64_array};
+pub use asks::Asks;
 pub use primitive::Primitive;
 pub use primitive_iter::PrimitiveIter;
 pub use repr::EnumSetTypeRepr;

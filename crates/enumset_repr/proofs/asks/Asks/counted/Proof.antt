@@ -21,11 +21,11 @@ use denote.Triple.Entry.{on_entry}
 use denote.Triple.Walked.{walk_of, ends_at}
 use Rattle.std.proofs.raw_atomic.Walks.{proved}
 use Rattle.std.specs.contracts.marker.PhantomData as marker
-use Rattle.enumset_array.specs.declared.asks.Asks.TheInside.{Inside}
-use Rattle.enumset_array.specs.contracts.asks.Asks.TheInside as inside
-use Rattle.enumset_array.specs.contracts.asks.Asks.counted as f
-use Rattle.enumset_array.proofs.asks.Asks.counted.Statement.{statement}
-use Rattle.enumset_array.proofs.asks.Asks.counted.Code as code
+use Rattle.enumset_repr.specs.declared.asks.Asks.TheInside.{Inside}
+use Rattle.enumset_repr.specs.contracts.asks.Asks.TheInside as inside
+use Rattle.enumset_repr.specs.contracts.asks.Asks.counted as f
+use Rattle.enumset_repr.proofs.asks.Asks.counted.Statement.{statement}
+use Rattle.enumset_repr.proofs.asks.Asks.counted.Code as code
 
 -- the one machine value
 abbrev token : Val

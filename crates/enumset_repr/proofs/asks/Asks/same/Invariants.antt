@@ -1,4 +1,4 @@
-use Rattle.enumset_array.proofs.asks.Asks.same.Given as goal
+use Rattle.enumset_repr.proofs.asks.Asks.same.Given as goal
 
 abbrev pub ghost-counted_from : goal.ghost-counted_from
 ghost-counted_from a = a.other.now

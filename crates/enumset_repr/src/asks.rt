@@ -5,11 +5,12 @@ ghost use Rattle.std.specs.Prelude.{◌≡◌, ℕ, ◌+◌};
 use std::fmt::{Debug, Error, Formatter, Write};
 use std::marker::{Model, PhantomData};
 
-/// A number of asks.
+/// A number of asks, which are counted reads of a word.
 ///
-/// It takes no bytes at run time and has no upper limit. Contracts see it as a number.
+/// It takes no bytes at run time and has no upper limit. Contracts see it as a number. It is for iterators that count
+/// what they read, and Rust's `enumset` has nothing like it.
 #[derive(Drop)]
-pub(crate) struct Asks {
+pub struct Asks {
     marker: PhantomData<()>,
     pub ghost count: { ℕ },
 }
@@ -26,8 +27,9 @@ impl Model for Asks {
 }
 
 impl Asks {
-    /// The only way to make a count: the proof of the caller picks the number.
-    fn counted() -> Asks
+    /// A count of `n` asks, where the proof of the caller picks the number. The other calls make their counts by this
+    /// one.
+    pub fn counted() -> Asks
         ghost n: { ℕ }
         ensures { result ≡ n }
     {
@@ -45,14 +47,14 @@ impl Asks {
     }
 
     /// A count of no asks.
-    pub(crate) fn new() -> Asks
+    pub fn new() -> Asks
         ensures { result ≡ 0 }
     {
         Asks::counted()
     }
 
     /// Adds one ask.
-    pub(crate) fn raise(&mut self)
+    pub fn raise(&mut self)
         ensures { self.new ≡ self.old + 1 }
     {
         let more = Asks::counted_from(self);
@@ -60,7 +62,7 @@ impl Asks {
     }
 
     /// The same count.
-    pub(crate) fn same(&self) -> Asks
+    pub fn same(&self) -> Asks
         ensures { result ≡ self.now }
     {
         Asks::counted_from(self)
