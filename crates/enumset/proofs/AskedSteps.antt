@@ -33,7 +33,8 @@ mixed_last_by item valid xs (Some x) ys step = last_by (λ y. (item y).0) xs (So
 
 -- a bound by whether one answer is an item holds by another that is so too
 pub bounds_by : {A B : Type 0} (asks span : ℕ) (r : Option A) (o : Option B) (new_asks new_span : ℕ) → is_some r ≡ is_some o → BoundsAsks asks span r new_asks new_span → BoundsAsks asks span o new_asks new_span
-bounds_by asks span r o new_asks new_span same bounds = subst (λ b. new_asks + new_span ≤ asks + span + (if b then 1 else 0)) same bounds
+bounds_by asks span r o new_asks new_span same bounds =
+    (bounds.0, subst (λ b. new_asks + new_span ≤ asks + span + (if b then 1 else 0)) same bounds.1)
 
 -- ---- many steps
 
@@ -74,7 +75,7 @@ asks_next total es i ys zs asks span new_asks new_span h before step bounds =
     ap (λ l. length (items_among (answers ys l))) (drop_more es i Front h)
     ∙ answers-cons ys e (drop (i + 1) es)
     ∙ ap (λ l. (if is_some (answer e ys) then 1 else 0) + length (items_among (answers l (drop (i + 1) es)))) (sym step) in
-    omega (arith, before, bounds, count)
+    omega (arith, before, bounds.1, count)
 
 -- the end of a list of ends
 pub left_last : (es : List End) (i : ℕ) (ys : List ℕ) → length es ≤ i → without_answers ys (drop i es) ≡ ys

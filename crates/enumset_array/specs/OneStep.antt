@@ -1,8 +1,9 @@
 -- One step over words, from either end: what it does to their set, to the number of asks and to the cursors.
 --     TakesOut      the bit that the step yields is taken out of the set, and no other; if it yields none, the set
 --         stays; the number of words stays
---     CountsAsks      the sum of asks and span grows by one if the step yields a bit, and stays otherwise; if it yields
---         none, the cursors have met; if they had met before, it yields none and makes no ask
+--     CountsAsks      the sum of asks and span grows by one if the step yields a bit, and stays otherwise; the span does
+--         not grow; if the step yields none, the cursors have met; if they had met before, it yields none and makes no
+--         ask
 --     MovesFront, MovesBack      that cursor alone may move, towards the other and not past it
 use Rattle.std.specs.Prelude.{◌≡◌, ℕ, ◌+◌, ◌≤◌, List, length, Option, None, IfNone, MatchOption, is_some, if◌then◌else◌}
 use Rattle.enumset_repr.specs.BitSet.{remove}
@@ -15,6 +16,7 @@ pub record TakesOut (ws : List ℕ) (r : Option ℕ) (vs : List ℕ) : Type 0 wh
 
 pub record CountsAsks (asks span : ℕ) (r : Option ℕ) (new_asks new_span : ℕ) : Type 0 where
   pub sum : new_asks + new_span ≡ asks + span + (if is_some r then 1 else 0)
+  pub shrinks : new_span ≤ span
   pub met : IfNone r (new_span ≡ 0)
   pub stays : span ≡ 0 → (r ≡ None) × (new_asks ≡ asks)
 

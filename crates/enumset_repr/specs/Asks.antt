@@ -1,8 +1,8 @@
 -- Asks: counted reads of a word.
 --     IterView      what contracts see of an iterator over the members of a set: the items left, the number of asks so
 --         far, and the span, which is the number of asks that may still be needed beyond one for each item
---     BoundsAsks      a step raises the sum of asks and span by at most one if it yields an item, and not at all
---         otherwise
+--     BoundsAsks      a step never lowers the count of asks, and raises the sum of asks and span by at most one if it
+--         yields an item, and not at all otherwise
 --     IsCounted      each step of a type of iterators does so, from either end, and a clone has the same asks and span
 --     IsFresh      an iterator that has all items of a list left, has made no ask, and has a span of at most so many
 --         words
@@ -14,7 +14,8 @@ pub record IterView : Type 0 where
   pub span : ℕ
 
 abbrev pub BoundsAsks : {A : Type 0} → ℕ → ℕ → Option A → ℕ → ℕ → Type 0
-BoundsAsks asks span r new_asks new_span = new_asks + new_span ≤ asks + span + (if is_some r then 1 else 0)
+BoundsAsks asks span r new_asks new_span =
+    (asks ≤ new_asks) × (new_asks + new_span ≤ asks + span + (if is_some r then 1 else 0))
 
 pub record IsCounted {I : Type 0} (asks span : I → ℕ) (gives gives_back : I → Option ℕ → I → Type 0) (is_clone : I → I → Type 0) : Type 0 where
   pub step : (i : I) (r : Option ℕ) (j : I) → gives i r j → BoundsAsks (asks i) (span i) r (asks j) (span j)

@@ -10,7 +10,7 @@ pub counted : IsCounted (λ (i : IterView). i.asks) (λ i. i.span)
     (λ i r j. YieldsLast (λ (i : IterView). i.items) i r j × CountsAsks i.asks i.span r j.asks j.span)
     (λ i j. j ≡ i)
 counted = record {
-  step = λ i r j step. omega (arith, step.1.sum);
-  step_back = λ i r j step. omega (arith, step.1.sum);
+  step = λ i r j step. (omega (arith, step.1.sum, step.1.shrinks), omega (arith, step.1.sum));
+  step_back = λ i r j step. (omega (arith, step.1.sum, step.1.shrinks), omega (arith, step.1.sum));
   clone = λ i j copy. (ap (λ (k : IterView). k.asks) copy, ap (λ (k : IterView). k.span) copy);
 }

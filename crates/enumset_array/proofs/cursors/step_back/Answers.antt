@@ -35,6 +35,7 @@ returns-clause-item g c =
 pub returns-in-Some-clause-asks : goal.returns-in-Some-clause-asks
 returns-in-Some-clause-asks g c = rw (← c.cursors.view_is) (record {
   sum = omega (arith, c.in-Some.ensures.counted, c.loop-back.invariant.asks, c.loop-back.invariant.kept);
+  shrinks = omega (arith, c.loop-back.invariant.down_to, c.loop-back.invariant.kept);
   met = tt;
   stays = λ none. absurd (omega (arith, none, c.loop-back-test.true, c.loop-back.invariant.kept, c.loop-back.invariant.down_to));
 })
@@ -48,6 +49,7 @@ returns-clause-words g c = record { set = ap bits_of c.loop-back.invariant.same;
 pub returns-clause-asks : goal.returns-clause-asks
 returns-clause-asks g c = rw (← c.cursors.view_is) (record {
   sum = omega (arith, c.loop-back.invariant.asks, c.loop-back.invariant.kept);
+  shrinks = omega (arith, c.loop-back.invariant.down_to, c.loop-back.invariant.kept);
   met = omega (arith, c.loop-back-test.false, c.loop-back.invariant.kept);
   stays = λ met. (refl, omega (arith, met, c.loop-back.invariant.asks, c.loop-back-test.false, c.loop-back.invariant.kept));
 })

@@ -35,6 +35,7 @@ returns-clause-item g c =
 pub returns-in-Some-clause-asks : goal.returns-in-Some-clause-asks
 returns-in-Some-clause-asks g c = rw (← c.cursors.view_is) (record {
   sum = omega (arith, c.in-Some.ensures.counted, c.loop-front.invariant.asks, c.loop-front.invariant.kept);
+  shrinks = omega (arith, c.loop-front.invariant.from, c.loop-front.invariant.kept);
   met = tt;
   stays = λ none. absurd (omega (arith, none, c.loop-front-test.true, c.loop-front.invariant.kept, c.loop-front.invariant.from));
 })
@@ -48,6 +49,7 @@ returns-clause-words g c = record { set = ap bits_of c.loop-front.invariant.same
 pub returns-clause-asks : goal.returns-clause-asks
 returns-clause-asks g c = rw (← c.cursors.view_is) (record {
   sum = omega (arith, c.loop-front.invariant.asks, c.loop-front.invariant.kept);
+  shrinks = omega (arith, c.loop-front.invariant.from, c.loop-front.invariant.kept);
   met = omega (arith, c.loop-front-test.false, c.loop-front.invariant.kept);
   stays = λ met. (refl, omega (arith, met, c.loop-front.invariant.asks, c.loop-front-test.false, c.loop-front.invariant.kept));
 })

@@ -19,7 +19,7 @@ loop-right-preserved g c =
           ∙ sym (append_assoc (map bits before) (bits c.in-Some.right ∷ []) c.next.new.self.items)
           ∙ ap (λ xs. xs ++ c.next.new.self.items) (sym (map-append bits before (c.in-Some.right ∷ []))),
       All-push (λ other. FnReturnsAt g.F.Fn c.args.passes other false) before c.in-Some.right c.loop-right.invariant.2 (says_at g.F.Fn c.passes.ensures c.if-passes.false),
-      omega (arith, c.loop-right.invariant.3, c.in-Some.ensures.steps.1, length-append before (c.in-Some.right ∷ [])),
+      omega (arith, c.loop-right.invariant.3, c.in-Some.ensures.steps.1.1, length-append before (c.in-Some.right ∷ [])),
     )
 
 pub returns-then-passes-clause-passes : goal.returns-then-passes-clause-passes
@@ -31,7 +31,7 @@ returns-then-passes-clause-first g c =
       c.loop-right.invariant.0,
       c.loop-right.invariant.1 ∙ ap (λ xs. map bits c.loop-right.invariant.0 ++ xs) c.in-Some.ensures.steps.0,
       c.loop-right.invariant.2,
-      omega (arith, c.loop-right.invariant.3, c.in-Some.ensures.steps.1),
+      omega (arith, c.loop-right.invariant.3, c.in-Some.ensures.steps.1.1),
     )
 
 pub returns-clause-none : goal.returns-clause-none
@@ -40,5 +40,5 @@ returns-clause-none g c =
       c.loop-right.invariant.0,
       c.loop-right.invariant.1 ∙ ap (λ xs. map bits c.loop-right.invariant.0 ++ xs) c.in_default.ensures.steps.0.0 ∙ append-nil (map bits c.loop-right.invariant.0),
       c.loop-right.invariant.2,
-      omega (arith, c.loop-right.invariant.3, c.in_default.ensures.steps.1),
+      omega (arith, c.loop-right.invariant.3, c.in_default.ensures.steps.1.1),
     )
