@@ -4,3 +4,4 @@ pub mod OneTranscript
 pub mod Alike
 pub mod StatesOfRuns
 pub mod Operands
+pub mod Asks

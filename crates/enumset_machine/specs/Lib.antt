@@ -1,4 +1,5 @@
 pub mod States
+pub mod Asks
 pub mod Plans
 pub mod Runs
 pub mod MixedRuns

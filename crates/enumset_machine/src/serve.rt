@@ -60,8 +60,8 @@ where
         (commands_of M.Command.command_of input.now)) fault) }
 {
     let commands = commands_of::<M::Command>(alloc, input)?;
-    let replies = run_by_steps::<M>(alloc, &commands)?;
-    Ok(write_replies(alloc, &replies)?)
+    let run = run_by_steps::<M>(alloc, &commands)?;
+    Ok(write_replies(alloc, &run.replies)?)
 }
 
 /// The commands of an input. Its length is tested first.

@@ -17,8 +17,11 @@ impl<S: RunSet> Runner<S> {
     pub(super) fn with_bit(&mut self, r: u8, bit: u32, operation: SetAndBit) -> Reply
         requires register { is_set_register r ≡ true }
         requires valid { contains S.rules.valid bit ≡ true }
-        ensures reply { result ≡ (plan_of (on.SetAndBit r bit operation)).reply S.rules self.old }
-        ensures state { self.new ≡ (plan_of (on.SetAndBit r bit operation)).after S.rules self.old }
+        ensures reply { result
+            ≡ (plan_of (on.SetAndBit r bit operation)).reply S.rules self.old.state }
+        ensures state { self.new ≡ record self.old {
+          state = (plan_of (on.SetAndBit r bit operation)).after S.rules self.old.state;
+        } }
     {
         let mut set = self.sets.get(r);
         match operation {

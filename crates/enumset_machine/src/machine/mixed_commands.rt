@@ -4,6 +4,7 @@ ghost use Rattle.std.specs.Prelude.{◌≡◌, ◌∷◌, [], true, false, IsOk,
 ghost use Rattle.enumset_commands.specs.declared.mixed_command.MixedCommand.TheVariants.{HasBit, InsertBit, RemoveBit, FullComplement, ValidLen, Unknown, AsEnumset, Truncate};
 ghost use Rattle.enumset_machine.specs.Plans.{names_registers, outcome_of, set_names, takes_memory};
 ghost use Rattle.enumset_machine.specs.MixedRuns.{mixed_plan};
+ghost use Rattle.enumset_machine.specs.Asks.{CountsAsks, is_common, is_step, makes_iterator};
 
 use super::mixed_run_set::MixedRunSet;
 use super::registers::is_set_register;
@@ -20,9 +21,13 @@ impl<S: MixedRunSet> Runner<S> {
         command: &MixedCommand,
     ) -> Result<Reply, AllocError>
         ensures succeeds { takes_memory
-            (outcome_of S.rules self.old (mixed_plan command.now)).reply ≡ false → IsOk result }
-        ensures step { IfOk result (λ reply. outcome_of S.rules self.old (mixed_plan command.now)
-            ≡ record { reply = reply; state = self.new }) }
+            (outcome_of S.rules self.old.state (mixed_plan command.now)).reply ≡ false
+            → IsOk result }
+        ensures step { IfOk result (λ reply.
+            outcome_of S.rules self.old.state (mixed_plan command.now)
+            ≡ record { reply = reply; state = self.new.state }) }
+        ensures asks { CountsAsks S.word_count (is_common is_step command.now)
+            (is_common makes_iterator command.now) self.old self.new }
         ensures err { OnErr result (self.new ≡ self.old) }
     {
         match *command {
@@ -43,8 +48,9 @@ impl<S: MixedRunSet> Runner<S> {
 #[tactic(auto, unfolding(crate::specs::MixedRuns::mixed_plan))]
 impl<S: MixedRunSet> Runner<S> {
     fn has_bit(&mut self, r: u8, bit: u32) -> Reply
-        ensures { outcome_of S.rules self.old (mixed_plan (HasBit r bit))
-            ≡ record { reply = result; state = self.new } }
+        ensures reply { outcome_of S.rules self.old.state (mixed_plan (HasBit r bit))
+            ≡ record { reply = result; state = self.new.state } }
+        ensures asks { (self.new.asks ≡ self.old.asks) × (self.new.span ≡ self.old.span) }
     {
         if !is_set_register(r) {
             return Reply::Refused(Refusal::NoRegister);
@@ -53,8 +59,9 @@ impl<S: MixedRunSet> Runner<S> {
     }
 
     fn insert_bit(&mut self, r: u8, bit: u32) -> Reply
-        ensures { outcome_of S.rules self.old (mixed_plan (InsertBit r bit))
-            ≡ record { reply = result; state = self.new } }
+        ensures reply { outcome_of S.rules self.old.state (mixed_plan (InsertBit r bit))
+            ≡ record { reply = result; state = self.new.state } }
+        ensures asks { (self.new.asks ≡ self.old.asks) × (self.new.span ≡ self.old.span) }
     {
         if !is_set_register(r) {
             return Reply::Refused(Refusal::NoRegister);
@@ -69,8 +76,9 @@ impl<S: MixedRunSet> Runner<S> {
     }
 
     fn remove_bit(&mut self, r: u8, bit: u32) -> Reply
-        ensures { outcome_of S.rules self.old (mixed_plan (RemoveBit r bit))
-            ≡ record { reply = result; state = self.new } }
+        ensures reply { outcome_of S.rules self.old.state (mixed_plan (RemoveBit r bit))
+            ≡ record { reply = result; state = self.new.state } }
+        ensures asks { (self.new.asks ≡ self.old.asks) × (self.new.span ≡ self.old.span) }
     {
         if !is_set_register(r) {
             return Reply::Refused(Refusal::NoRegister);
@@ -82,8 +90,9 @@ impl<S: MixedRunSet> Runner<S> {
     }
 
     fn full_complement(&mut self, to: u8, a: u8) -> Reply
-        ensures { outcome_of S.rules self.old (mixed_plan (FullComplement to a))
-            ≡ record { reply = result; state = self.new } }
+        ensures reply { outcome_of S.rules self.old.state (mixed_plan (FullComplement to a))
+            ≡ record { reply = result; state = self.new.state } }
+        ensures asks { (self.new.asks ≡ self.old.asks) × (self.new.span ≡ self.old.span) }
     {
         if !are_set_registers(to, a) {
             return Reply::Refused(Refusal::NoRegister);
@@ -93,8 +102,9 @@ impl<S: MixedRunSet> Runner<S> {
     }
 
     fn valid_len(&mut self, r: u8) -> Reply
-        ensures { outcome_of S.rules self.old (mixed_plan (ValidLen r))
-            ≡ record { reply = result; state = self.new } }
+        ensures reply { outcome_of S.rules self.old.state (mixed_plan (ValidLen r))
+            ≡ record { reply = result; state = self.new.state } }
+        ensures asks { (self.new.asks ≡ self.old.asks) × (self.new.span ≡ self.old.span) }
     {
         if !is_set_register(r) {
             return Reply::Refused(Refusal::NoRegister);
@@ -103,8 +113,9 @@ impl<S: MixedRunSet> Runner<S> {
     }
 
     fn has_unknown_bits(&mut self, r: u8) -> Reply
-        ensures { outcome_of S.rules self.old (mixed_plan (Unknown r))
-            ≡ record { reply = result; state = self.new } }
+        ensures reply { outcome_of S.rules self.old.state (mixed_plan (Unknown r))
+            ≡ record { reply = result; state = self.new.state } }
+        ensures asks { (self.new.asks ≡ self.old.asks) × (self.new.span ≡ self.old.span) }
     {
         if !is_set_register(r) {
             return Reply::Refused(Refusal::NoRegister);
@@ -113,8 +124,9 @@ impl<S: MixedRunSet> Runner<S> {
     }
 
     fn as_enumset(&mut self, to: u8, a: u8) -> Reply
-        ensures { outcome_of S.rules self.old (mixed_plan (AsEnumset to a))
-            ≡ record { reply = result; state = self.new } }
+        ensures reply { outcome_of S.rules self.old.state (mixed_plan (AsEnumset to a))
+            ≡ record { reply = result; state = self.new.state } }
+        ensures asks { (self.new.asks ≡ self.old.asks) × (self.new.span ≡ self.old.span) }
     {
         if !are_set_registers(to, a) {
             return Reply::Refused(Refusal::NoRegister);
@@ -126,8 +138,9 @@ impl<S: MixedRunSet> Runner<S> {
     }
 
     fn truncate(&mut self, to: u8, a: u8) -> Reply
-        ensures { outcome_of S.rules self.old (mixed_plan (Truncate to a))
-            ≡ record { reply = result; state = self.new } }
+        ensures reply { outcome_of S.rules self.old.state (mixed_plan (Truncate to a))
+            ≡ record { reply = result; state = self.new.state } }
+        ensures asks { (self.new.asks ≡ self.old.asks) × (self.new.span ≡ self.old.span) }
     {
         if !are_set_registers(to, a) {
             return Reply::Refused(Refusal::NoRegister);

@@ -17,9 +17,11 @@ impl<S: RunSet> Runner<S> {
     pub(super) fn with_width(&mut self, r: u8, width: u32, operation: SetAndWidth) -> Reply
         requires register { is_set_register r ≡ true }
         requires width { is_width width ≡ true }
-        ensures reply { result ≡ (plan_of (on.SetAndWidth r width operation)).reply S.rules self.old }
-        ensures state { self.new
-            ≡ (plan_of (on.SetAndWidth r width operation)).after S.rules self.old }
+        ensures reply { result
+            ≡ (plan_of (on.SetAndWidth r width operation)).reply S.rules self.old.state }
+        ensures state { self.new ≡ record self.old {
+          state = (plan_of (on.SetAndWidth r width operation)).after S.rules self.old.state;
+        } }
     {
         let set = self.sets.get(r);
         match operation {
@@ -44,9 +46,10 @@ impl<S: RunSet> Runner<S> {
         requires width { is_width width ≡ true }
         requires fits { value < 2 ^ width }
         ensures reply { result
-            ≡ (plan_of (on.SetAndValue r width value operation)).reply S.rules self.old }
-        ensures state { self.new
-            ≡ (plan_of (on.SetAndValue r width value operation)).after S.rules self.old }
+            ≡ (plan_of (on.SetAndValue r width value operation)).reply S.rules self.old.state }
+        ensures state { self.new ≡ record self.old {
+          state = (plan_of (on.SetAndValue r width value operation)).after S.rules self.old.state;
+        } }
     {
         match operation {
             SetAndValue::FromNumber => match S::from_number(width, value) {

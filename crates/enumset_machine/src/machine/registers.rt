@@ -1,10 +1,12 @@
 //! The registers of a run.
 
-ghost use Rattle.std.specs.Prelude.{◌≡◌, true, slice_set, slice_index_or, [], length};
+ghost use Rattle.std.specs.Prelude.{◌≡◌, ◌+◌, ◌≤◌, true, slice_set, slice_index_or, [], length};
+ghost use Rattle.enumset_repr.specs.Asks.{BoundsAsks};
 ghost use Rattle.enumset_repr.specs.BitSet.{empty};
 ghost use Rattle.enumset_repr.specs.Ends.{first, last, without_first, without_last};
 ghost use Rattle.enumset_machine.specs.States as model;
 
+use super::iterator_register::IteratorRegister;
 use super::run_set::RunSet;
 use std::marker::Model;
 
@@ -91,81 +93,91 @@ impl<S: RunSet> Registers<S> {
     }
 }
 
-/// Two iterators, in registers 0 and 1.
+/// Registers 0 and 1 for iterators, at first without one.
+///
+/// Contracts see the items left in each, and together the asks of all iterators that they have had, and the span of
+/// those that they have.
 #[derive(Drop)]
 pub(super) struct IteratorRegisters<S: RunSet> {
-    zero: S::Items,
-    one: S::Items,
+    zero: IteratorRegister<S>,
+    one: IteratorRegister<S>,
 }
 
 impl<S: RunSet> Model for IteratorRegisters<S> {
-    ghost use Rattle.std.specs.Prelude.{ℕ, List, [], ◌∷◌};
-    ghost use Rattle.std.specs.Coded.{coded_list, coded_ℕ};
+    ghost use Rattle.std.specs.Prelude.{◌+◌, [], ◌∷◌};
+    ghost use Rattle.enumset_machine.specs.Asks.{IteratorsView, coded_iterators};
 
-    ghost Value = { List (List ℕ) };
+    ghost Value = { IteratorsView };
 
-    ghost coded = { coded_list (coded_list coded_ℕ) };
+    ghost coded = { coded_iterators };
 
-    ghost view = { λ s. S.rest s.zero ∷ S.rest s.one ∷ [] };
+    ghost view = { λ s. record {
+      lists = s.zero.items ∷ s.one.items ∷ [];
+      asks = s.zero.asks + s.one.asks;
+      span = s.zero.span + s.one.span;
+    } };
 }
 
 impl<S: RunSet> IteratorRegisters<S> {
-    /// Two iterators with nothing left.
+    /// Two registers without an iterator.
     pub(super) fn new() -> IteratorRegisters<S>
-        ensures { result ≡ model.no_lists }
+        ensures { result ≡ record { lists = model.no_lists; asks = 0; span = 0 } }
     {
-        let empty = S::new();
         IteratorRegisters {
-            zero: empty.items(),
-            one: empty.items(),
+            zero: IteratorRegister::new(),
+            one: IteratorRegister::new(),
         }
     }
 
     /// Puts an iterator into a register.
     pub(super) fn put(&mut self, i: u8, items: S::Items)
         requires { model.is_iterator_register i ≡ true }
-        ensures { self.new ≡ slice_set self.old i (S.rest items) }
+        ensures lists { self.new.lists ≡ slice_set self.old.lists i (S.rest items) }
+        ensures asks { self.new.asks ≡ self.old.asks + S.asks items }
+        ensures span { self.new.span ≤ self.old.span + S.span items }
     {
         match i {
-            0 => self.zero = items,
-            _ => self.one = items,
+            0 => self.zero.put(items),
+            _ => self.one.put(items),
         }
     }
 
     /// One step from the front of the iterator in a register.
     pub(super) fn next(&mut self, i: u8) -> Option<u32>
         requires { model.is_iterator_register i ≡ true }
-        ensures given { result ≡ first (slice_index_or self.old i []) }
-        ensures rest { self.new
-            ≡ slice_set self.old i (without_first (slice_index_or self.old i [])) }
+        ensures given { result ≡ first (slice_index_or self.old.lists i []) }
+        ensures rest { self.new.lists
+            ≡ slice_set self.old.lists i (without_first (slice_index_or self.old.lists i [])) }
+        ensures asks { BoundsAsks self.old.asks self.old.span result self.new.asks self.new.span }
     {
         match i {
-            0 => S::next(&mut self.zero),
-            _ => S::next(&mut self.one),
+            0 => self.zero.next(),
+            _ => self.one.next(),
         }
     }
 
     /// One step from the back of the iterator in a register.
     pub(super) fn next_back(&mut self, i: u8) -> Option<u32>
         requires { model.is_iterator_register i ≡ true }
-        ensures given { result ≡ last (slice_index_or self.old i []) }
-        ensures rest { self.new
-            ≡ slice_set self.old i (without_last (slice_index_or self.old i [])) }
+        ensures given { result ≡ last (slice_index_or self.old.lists i []) }
+        ensures rest { self.new.lists
+            ≡ slice_set self.old.lists i (without_last (slice_index_or self.old.lists i [])) }
+        ensures asks { BoundsAsks self.old.asks self.old.span result self.new.asks self.new.span }
     {
         match i {
-            0 => S::next_back(&mut self.zero),
-            _ => S::next_back(&mut self.one),
+            0 => self.zero.next_back(),
+            _ => self.one.next_back(),
         }
     }
 
     /// How many members are left in the iterator in a register.
     pub(super) fn items_left(&self, i: u8) -> usize
         requires { model.is_iterator_register i ≡ true }
-        ensures { result ≡ length (slice_index_or self.now i []) }
+        ensures { result ≡ length (slice_index_or self.now.lists i []) }
     {
         match i {
-            0 => S::items_left(&self.zero),
-            _ => S::items_left(&self.one),
+            0 => self.zero.items_left(),
+            _ => self.one.items_left(),
         }
     }
 }

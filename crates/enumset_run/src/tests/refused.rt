@@ -60,13 +60,14 @@ fn runs(rt: HostRuntime) -> Result<(), Fail> {
         Command::Insert { r: 0, bit: 2 },
         Command::WordsCut { r: 0, count: 1 },
     ];
-    let (replies, ended) = match run::<Letters>(rt.alloc(), &commands) {
-        Ok(replies) => (replies, Ok(())),
+    let (finished, ended) = match run::<Letters>(rt.alloc(), &commands) {
+        Ok(finished) => (finished, Ok(())),
         Err(refused) => {
             let again = run::<Letters>(rt.alloc(), &commands);
             (again.expect(&rt, "refused once more"), Err(refused))
         }
     };
+    let replies = &finished.replies;
     assert!(rt; replies.len() == 2 && is_words(&replies[1], [4].as_slice()));
     Ok(ended?)
 }
@@ -77,13 +78,14 @@ fn mixed_runs(rt: HostRuntime) -> Result<(), Fail> {
         MixedCommand::InsertBit { r: 0, bit: 7 },
         MixedCommand::Common(Command::WordsCut { r: 0, count: 1 }),
     ];
-    let (replies, ended) = match run_mixed::<Marks>(rt.alloc(), &commands) {
-        Ok(replies) => (replies, Ok(())),
+    let (finished, ended) = match run_mixed::<Marks>(rt.alloc(), &commands) {
+        Ok(finished) => (finished, Ok(())),
         Err(refused) => {
             let again = run_mixed::<Marks>(rt.alloc(), &commands);
             (again.expect(&rt, "refused once more"), Err(refused))
         }
     };
+    let replies = &finished.replies;
     assert!(rt; replies.len() == 2 && is_words(&replies[1], [128].as_slice()));
     Ok(ended?)
 }

@@ -25,10 +25,9 @@ fn replies_over_both<T: EnumSetTypeWithRepr, U: EnumSetTypeWithRepr>(
     ensures { IfOk result (λ both. both.0.items ≡ both.1.items) }
 {
     mixed_transcript();
-    Ok((
-        run_mixed::<T>(alloc, commands)?,
-        run_mixed::<U>(alloc, commands)?,
-    ))
+    let one = run_mixed::<T>(alloc, commands)?;
+    let other = run_mixed::<U>(alloc, commands)?;
+    Ok((one.replies, other.replies))
 }
 
 // The same at two types with the same valid bits, kept in two words and in an integer, both of 128 bits.
