@@ -1,5 +1,5 @@
 //! Tests of the crate `enumset`: macros, folds, steps and JSON, at the worked types and at types whose values have names;
-//! and of users' code over it, with its proofs.
+//! of types whose sets have a form in JSON of their own; and of users' code over it, with its proofs.
 //!
 //! They are in a crate of their own so that they are proved beside the tests of sets.
 #![tactic(auto)]
@@ -28,6 +28,10 @@ mod reading_newer;
 mod refused;
 #[cfg(test)]
 mod sending_json;
+#[cfg(test)]
+mod serialized;
+#[cfg(test)]
+mod serialized_sets;
 #[cfg(test)]
 mod steps;
 #[cfg(test)]

@@ -1,0 +1,36 @@
+//! An enum for each form that its sets have in JSON.
+
+use enumset::EnumSetType;
+
+/// Rights whose sets are numbers.
+#[derive(EnumSetType, Debug)]
+#[enumset(no_ops, serialize_repr = "u8")]
+pub enum Numbered {
+    Read,
+    Write,
+    Share,
+}
+
+/// Two variants of four words, whose sets are these. Unknown bits are a fault.
+#[derive(EnumSetType, Debug)]
+#[enumset(no_ops, serialize_repr = "array", serialize_deny_unknown)]
+pub enum InWords {
+    Low = 1,
+    High = 200,
+}
+
+/// Rights whose sets are lists of their names.
+#[derive(EnumSetType, Debug)]
+#[enumset(no_ops, serialize_repr = "list")]
+pub enum Listed {
+    Read,
+    Write,
+}
+
+/// Rights whose sets are maps from their names. Unknown names are a fault.
+#[derive(EnumSetType, Debug)]
+#[enumset(no_ops, serialize_repr = "map", serialize_deny_unknown)]
+pub enum Mapped {
+    Read,
+    Write,
+}
