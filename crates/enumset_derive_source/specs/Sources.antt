@@ -2,9 +2,10 @@
 --     nothing_seen      before the first token
 --     step      a token more
 --     read_from      what the source has, from what was seen and the tokens that are left
+--     without_order_mark      a text after the byte order mark that it may begin with
 --     source_of      what a text has
 --     Ends      the call ends the reading with this source, or out of memory
-use Rattle.std.specs.Prelude.{◌≡◌, ℕ, false, List, [], ◌∷◌, Some, None, Result, Ok, Err}
+use Rattle.std.specs.Prelude.{◌≡◌, ℕ, ◌==◌, false, ◌&&◌, List, [], ◌∷◌, length, drop, nat_lt, slice_index, Some, None, Result, Ok, Err, if◌then◌else◌}
 use Rattle.enumset_derive_plan.specs.declared.fault.Fault.{Fault}
 use Rattle.enumset_derive_source.specs.declared.reader.state.State.{State}
 use Rattle.enumset_derive_source.specs.declared.reader.state.State.TheVariants as state
@@ -70,8 +71,14 @@ abbrev pub read_from : List TokenShape → Seen → SourceShape
 read_from [] s = part_of s None
 read_from (t ∷ ts) s = elim (step t s) [ Ok next ↦ read_from ts next | Err fault ↦ part_of s (Some fault) ]
 
+-- the bytes of U+FEFF are 239, 187 and 191
+abbrev pub without_order_mark : List ℕ → List ℕ
+without_order_mark text =
+    if nat_lt 2 (length text) && slice_index text 0 == 239 && slice_index text 1 == 187 && slice_index text 2 == 191
+    then drop 3 text else text
+
 abbrev pub source_of : List ℕ → SourceShape
-source_of text = read_from (tokens_of text) nothing_seen
+source_of text = read_from (tokens_of (without_order_mark text)) nothing_seen
 
 abbrev pub Ends : {A : Type 0} → Result A Stop → Seen → SourceShape → Type 0
 Ends (Ok done) s source = source ≡ part_of s None

@@ -2,7 +2,7 @@
 
 ghost use Rattle.std.specs.Prelude.{◌≡◌, IfOk, map};
 ghost use Rattle.enumset_derive_source.specs.Seen.{part_of, seen, source_shape};
-ghost use Rattle.enumset_derive_source.specs.Sources.{nothing_seen, source_of, step};
+ghost use Rattle.enumset_derive_source.specs.Sources.{nothing_seen, source_of, step, without_order_mark};
 
 mod attributes;
 mod brackets;
@@ -26,16 +26,27 @@ use std::alloc::{AllocError, Global};
 use stop::Stop;
 
 /// What a source text has, as far as it can be read: its enums that are to be element types, what it imports of
-/// `enumset`, and the texts between them. The only error is out of memory.
+/// `enumset`, and the texts between them. A byte order mark at its beginning is no part of it. The only error is out of
+/// memory.
 pub fn read_source(alloc: Global, text: &[u8]) -> Result<Source, AllocError>
     ensures { IfOk result (λ source. source_shape source ≡ source_of text.now) }
 {
-    let tokens = tokens_of(alloc, text)?;
+    let tokens = tokens_of(alloc, without_order_mark(text))?;
     let mut reader = Reader::new(alloc);
     match reader.take_all(tokens.as_slice()) {
         Ok(()) => Ok(reader.into_source(None)),
         Err(Stop::Fault(fault)) => Ok(reader.into_source(Some(fault))),
         Err(Stop::OutOfMemory) => Err(AllocError),
+    }
+}
+
+/// The text after a byte order mark, if it begins with one.
+fn without_order_mark(text: &[u8]) -> &[u8]
+    ensures { result.now ≡ without_order_mark text.now }
+{
+    match text {
+        [0xEF, 0xBB, 0xBF, rest @ ..] => rest,
+        _ => text,
     }
 }
 

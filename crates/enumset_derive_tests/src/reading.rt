@@ -34,6 +34,14 @@ fn plain(rt: HostRuntime) -> Result<(), Fail> {
 }
 
 #[test]
+fn after_a_byte_order_mark(rt: HostRuntime) -> Result<(), Fail> {
+    let source = b"\xEF\xBB\xBF#[derive(EnumSetType)] enum A {}";
+    let text =
+        "enum || |A| at line 1, column 29\n attributes\n derives\n options Lsb at line 1, column 29 None None\n last\n";
+    expect(&rt, rt.alloc(), source, text)
+}
+
+#[test]
 fn options_and_derives(rt: HostRuntime) -> Result<(), Fail> {
     let source =
         b"/// Doc.\n#[derive(Clone, Copy,)]\n#[enumset(map = \"msb\", no_ops)]\n// note\n#[derive(enumset::EnumSetType, fmt::Debug)]\n#[enumset(repr = \"u16\", serialize_repr = \"list\",)]\n#[enumset(serialize_deny_unknown, display, no_super_impls, crate_name = \"sets\")]\n#[repr(u8)]\npub(crate) enum r#type { }";
