@@ -5,7 +5,7 @@ use Rattle.std.specs.Str.Parse.{digits_value, digits_value_after}
 use Rattle.std.specs.Char.{is_ascii_digit, digit_value}
 use Rattle.std.proofs.lemmas.List.{drop_all}
 use Rattle.std.proofs.lemmas.Bool.Decides.{nat_tests}
-use Rattle.enumset_commands.specs.Lines.{is_empty, field, register, bit, word}
+use Rattle.enumset_commands.specs.Lines.{is_empty, field, register, bit, word, value}
 
 pub digits_value_after-ge : (ds : List ℕ) (n : ℕ) → n ≤ digits_value_after 10 n ds
 digits_value_after-ge [] n = omega arith
@@ -58,26 +58,29 @@ field-fewer few many n token le h = grind (arith, nat_tests)
 field-fewer_none : (few many : ℕ) (token : List ℕ) → 2 ^ few ≤ 2 ^ many → field many token ≡ None → field few token ≡ None
 field-fewer_none few many token le h = grind (arith, nat_tests)
 
-pub register-some : (token : List ℕ) (n : ℕ) → field 128 token ≡ Some n → register token ≡ cond (nat_lt n (2 ^ 8)) (Some n) None
-register-some token n h = field-fewer 8 128 n token (lit≤ tt) h
+pub register-some : (token : List ℕ) (n : ℕ) → word token ≡ Some n → register token ≡ cond (nat_lt n (2 ^ 8)) (Some n) None
+register-some token n h = field-fewer 8 64 n token (lit≤ tt) h
 
-pub register-no_number : (token : List ℕ) → field 128 token ≡ None → register token ≡ None
-register-no_number token h = field-fewer_none 8 128 token (lit≤ tt) h
+pub register-no_word : (token : List ℕ) → word token ≡ None → register token ≡ None
+register-no_word token h = field-fewer_none 8 64 token (lit≤ tt) h
 
-pub bit-some : (token : List ℕ) (n : ℕ) → field 128 token ≡ Some n → bit token ≡ cond (nat_lt n (2 ^ 32)) (Some n) None
-bit-some token n h = field-fewer 32 128 n token (lit≤ tt) h
+pub bit-some : (token : List ℕ) (n : ℕ) → word token ≡ Some n → bit token ≡ cond (nat_lt n (2 ^ 32)) (Some n) None
+bit-some token n h = field-fewer 32 64 n token (lit≤ tt) h
 
-pub bit-no_number : (token : List ℕ) → field 128 token ≡ None → bit token ≡ None
-bit-no_number token h = field-fewer_none 32 128 token (lit≤ tt) h
+pub bit-no_word : (token : List ℕ) → word token ≡ None → bit token ≡ None
+bit-no_word token h = field-fewer_none 32 64 token (lit≤ tt) h
 
-pub word-some : (token : List ℕ) (n : ℕ) → field 128 token ≡ Some n → word token ≡ cond (nat_lt n (2 ^ 64)) (Some n) None
-word-some token n h = field-fewer 64 128 n token (lit≤ tt) h
+-- a token that is a bit, or a value, may be a register
+pub register-of_bit : (token : List ℕ) (n : ℕ) → bit token ≡ Some n → register token ≡ cond (nat_lt n (2 ^ 8)) (Some n) None
+register-of_bit token n h = field-fewer 8 32 n token (lit≤ tt) h
 
-pub word-no_number : (token : List ℕ) → field 128 token ≡ None → word token ≡ None
-word-no_number token h = field-fewer_none 64 128 token (lit≤ tt) h
+pub register-no_bit : (token : List ℕ) → bit token ≡ None → register token ≡ None
+register-no_bit token h = field-fewer_none 8 32 token (lit≤ tt) h
 
--- a token that is not a bit is not a register
-pub register-none : (token : List ℕ) → bit token ≡ None → register token ≡ None
-register-none token h = field-fewer_none 8 32 token (lit≤ tt) h
+pub register-of_value : (token : List ℕ) (n : ℕ) → value token ≡ Some n → register token ≡ cond (nat_lt n (2 ^ 8)) (Some n) None
+register-of_value token n h = field-fewer 8 128 n token (lit≤ tt) h
 
-pub ruleset limits = (register-some, register-no_number, bit-some, bit-no_number, word-some, word-no_number, register-none)
+pub register-no_value : (token : List ℕ) → value token ≡ None → register token ≡ None
+register-no_value token h = field-fewer_none 8 128 token (lit≤ tt) h
+
+pub ruleset limits = (register-some, register-no_word, bit-some, bit-no_word, register-of_bit, register-no_bit, register-of_value, register-no_value)

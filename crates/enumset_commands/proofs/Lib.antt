@@ -1,5 +1,7 @@
 pub mod Lines
+pub mod LineFeeds
 pub mod Tokens
+pub mod Names
 pub mod Fields
 pub mod Commands
 pub mod WordTokens

@@ -35,8 +35,8 @@ positive : (x : ℕ) (xs : List ℕ) (j : ℕ) → not (x == 32) ≡ true → (g
 positive x xs zero token space = absurd (cc)
 positive x xs (suc j) token space = omega arith
 
--- a token goes up to the first space after it
-tokens_of-token : (t : List ℕ) (j : ℕ) → not (get_or t 0 0 == 32) ≡ true → 0 < length t → position (λ b. b == 32) t ≡ Some j → tokens_of t ≡ take j t ∷ tokens_of (drop j t)
+-- a token goes up to the first space after it, which no other has
+tokens_of-token : (t : List ℕ) (j : ℕ) → not (get_or t 0 0 == 32) ≡ true → 0 < length t → position (λ b. b == 32) t ≡ Some j → tokens_of t ≡ take j t ∷ tokens_of (drop (j + 1) t)
 tokens_of-token [] j token nonempty end = absurd (omega arith)
 tokens_of-token (x ∷ xs) j token nonempty end =
     let t : List ℕ = x ∷ xs in
@@ -45,10 +45,8 @@ tokens_of-token (x ∷ xs) j token nonempty end =
     let first = position-at (position_or_len p t) (length t) j end in
     let cut : slice_split p t ≡ take j t ∷ slice_split p (drop (j + 1) t) = rw (← first.1) (slice_split_first p t 0 first.0) in
     let long : 0 < length (take j t) = omega (arith, positive x xs j token at.1, length-take-le j t) in
-    let next : tokens_of (drop j t) ≡ tokens_of (drop (suc j) t) = ap tokens_of (drop-cons t j 0 at.0) ∙ tokens_of-space (get_or t j 0) (drop (suc j) t) at.1 in
     ap (filter (λ token. not (is_empty token))) cut
     ∙ filter-nonempty (take j t) (slice_split p (drop (j + 1) t)) long
-    ∙ ap (λ more. take j t ∷ more) (rw add-one (sym next))
 
 -- the first byte that is not a space
 token_start : (s : List ℕ) (i : ℕ) → position (λ b. not (b == 32)) s ≡ Some i → (not (get_or (drop i s) 0 0 == 32) ≡ true) × (0 < length (drop i s))
@@ -56,7 +54,7 @@ token_start s i h =
     let at = position-Some (λ b. not (b == 32)) s i 0 h in
     (rw (drop-cons s i 0 at.0) at.1, omega (arith, length-drop i s, at.0))
 
-pub tokens_of-at : (s : List ℕ) (i j : ℕ) → position (λ b. not (b == 32)) s ≡ Some i → position (λ b. b == 32) (drop i s) ≡ Some j → tokens_of s ≡ take j (drop i s) ∷ tokens_of (drop j (drop i s))
+pub tokens_of-at : (s : List ℕ) (i j : ℕ) → position (λ b. not (b == 32)) s ≡ Some i → position (λ b. b == 32) (drop i s) ≡ Some j → tokens_of s ≡ take j (drop i s) ∷ tokens_of (drop (j + 1) (drop i s))
 tokens_of-at s i j start end =
     let at = token_start s i start in
     tokens_of-from s i start ∙ tokens_of-token (drop i s) j at.0 at.1 end

@@ -1,8 +1,10 @@
 //! The command that a name and its fields write.
 ghost use Rattle.std.specs.Prelude.{◌≡◌};
+ghost use Rattle.std.specs.Option.{option_or};
 ghost use Rattle.enumset_commands.specs.Lines.{command_of, with_fields, one_field, two_fields, three_fields};
+ghost use Rattle.enumset_commands.specs.Tables.{two_registers, register_and_count};
 
-use super::fields::{read_bit, read_number, read_register};
+use super::fields::{read_bit, read_register, read_value};
 use super::line_command::LineCommand;
 use super::tables::{
     one_register, register_and_bit, register_and_count, register_and_width, register_and_words,
@@ -64,12 +66,19 @@ fn two_fields(name: &[u8], x: &[u8], y: &[u8]) -> Option<Command>
     if let Some(command) = register_and_width(name, first, number) {
         return Some(command);
     }
-    // a count is a number of 8 bits, like a register
-    let second = read_register(y)?;
-    if let Some(command) = two_registers(name, first, second) {
+    // a register and a count are numbers of 8 bits
+    register_and_byte(name, first, u8::try_from(number).ok()?)
+}
+
+/// The command of this name over a register and another register or a count.
+#[inline(always)]
+fn register_and_byte(name: &[u8], x: u8, y: u8) -> Option<Command>
+    ensures { result ≡ option_or (two_registers name.now x y) (register_and_count name.now x y) }
+{
+    if let Some(command) = two_registers(name, x, y) {
         return Some(command);
     }
-    register_and_count(name, first, second)
+    register_and_count(name, x, y)
 }
 
 #[tactic(auto, using(crate::proofs::Fields::limits))]
@@ -78,8 +87,10 @@ fn three_fields(name: &[u8], x: &[u8], y: &[u8], z: &[u8]) -> Option<Command>
 {
     let first = read_register(x)?;
     let width = read_bit(y)?;
-    if let Some(command) = register_width_and_value(name, first, width, read_number(z)?) {
+    let value = read_value(z)?;
+    if let Some(command) = register_width_and_value(name, first, width, value) {
         return Some(command);
     }
-    three_registers(name, first, read_register(y)?, read_register(z)?)
+    // registers are numbers of 8 bits
+    three_registers(name, first, u8::try_from(width).ok()?, u8::try_from(value).ok()?)
 }

@@ -1,13 +1,13 @@
 //! The fields of a command.
 ghost use Rattle.std.specs.Prelude.{◌≡◌};
-ghost use Rattle.enumset_commands.specs.Lines.{register, bit, word, field};
+ghost use Rattle.enumset_commands.specs.Lines.{register, bit, word, value};
 
 /// The number that a token of decimal digits writes, if it is a `u8`.
 #[tactic(auto, using(crate::proofs::Fields::limits))]
 pub(super) fn read_register(token: &[u8]) -> Option<u8>
     ensures { result ≡ register token.now }
 {
-    u8::try_from(read_number(token)?).ok()
+    u8::try_from(read_word(token)?).ok()
 }
 
 /// The number that a token of decimal digits writes, if it is a `u32`.
@@ -15,21 +15,35 @@ pub(super) fn read_register(token: &[u8]) -> Option<u8>
 pub(super) fn read_bit(token: &[u8]) -> Option<u32>
     ensures { result ≡ bit token.now }
 {
-    u32::try_from(read_number(token)?).ok()
+    u32::try_from(read_word(token)?).ok()
 }
 
 /// The number that a token of decimal digits writes, if it is a `u64`.
-#[tactic(auto, using(crate::proofs::Fields::limits))]
+#[tactic(auto, using(crate::proofs::Fields::field_steps))]
 pub(super) fn read_word(token: &[u8]) -> Option<u64>
     ensures { result ≡ word token.now }
 {
-    u64::try_from(read_number(token)?).ok()
+    if token.is_empty() {
+        return None;
+    }
+    let mut number = 0u64;
+    for digit in token {
+        if !digit.is_ascii_digit() {
+            return None;
+        }
+        number = number
+            .checked_mul(10)?
+            .checked_add(u64::from(*digit - b'0'))?;
+    }
+    Some(number)
 }
 
 /// The number that a token of decimal digits writes, if it is a `u128`. No field is larger.
+///
+/// Only a value may be so large, and steps of 128 bits take longer.
 #[tactic(auto, using(crate::proofs::Fields::field_steps))]
-pub(super) fn read_number(token: &[u8]) -> Option<u128>
-    ensures { result ≡ field 128 token.now }
+pub(super) fn read_value(token: &[u8]) -> Option<u128>
+    ensures { result ≡ value token.now }
 {
     if token.is_empty() {
         return None;

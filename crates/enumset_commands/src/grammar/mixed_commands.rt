@@ -40,8 +40,9 @@ fn own_command(name: &[u8], mut tokens: Tokens) -> Option<MixedCommand>
     if tokens.next().is_some() {
         return None;
     }
-    if let Some(command) = mixed_register_and_bit(name, register, read_bit(second)?) {
+    let bit = read_bit(second)?;
+    if let Some(command) = mixed_register_and_bit(name, register, bit) {
         return Some(command);
     }
-    mixed_two_registers(name, register, read_register(second)?)
+    mixed_two_registers(name, register, u8::try_from(bit).ok()?)
 }

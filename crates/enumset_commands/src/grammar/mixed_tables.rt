@@ -10,8 +10,8 @@ pub(super) fn mixed_one_register(name: &[u8], r: u8) -> Option<MixedCommand>
     ensures { result ≡ mixed_one_register name.now r }
 {
     Some(match name {
-        _ if is(name, "valid_len") => MixedCommand::ValidLen { r },
-        _ if is(name, "unknown") => MixedCommand::Unknown { r },
+        _ if is(name, b"valid_len") => MixedCommand::ValidLen { r },
+        _ if is(name, b"unknown") => MixedCommand::Unknown { r },
         _ => return None,
     })
 }
@@ -21,9 +21,9 @@ pub(super) fn mixed_two_registers(name: &[u8], to: u8, a: u8) -> Option<MixedCom
     ensures { result ≡ mixed_two_registers name.now to a }
 {
     Some(match name {
-        _ if is(name, "full_complement") => MixedCommand::FullComplement { to, a },
-        _ if is(name, "as_enumset") => MixedCommand::AsEnumset { to, a },
-        _ if is(name, "truncate") => MixedCommand::Truncate { to, a },
+        _ if is(name, b"full_complement") => MixedCommand::FullComplement { to, a },
+        _ if is(name, b"as_enumset") => MixedCommand::AsEnumset { to, a },
+        _ if is(name, b"truncate") => MixedCommand::Truncate { to, a },
         _ => return None,
     })
 }
@@ -33,9 +33,9 @@ pub(super) fn mixed_register_and_bit(name: &[u8], r: u8, bit: u32) -> Option<Mix
     ensures { result ≡ mixed_register_and_bit name.now r bit }
 {
     Some(match name {
-        _ if is(name, "has_bit") => MixedCommand::HasBit { r, bit },
-        _ if is(name, "insert_bit") => MixedCommand::InsertBit { r, bit },
-        _ if is(name, "remove_bit") => MixedCommand::RemoveBit { r, bit },
+        _ if is(name, b"has_bit") => MixedCommand::HasBit { r, bit },
+        _ if is(name, b"insert_bit") => MixedCommand::InsertBit { r, bit },
+        _ if is(name, b"remove_bit") => MixedCommand::RemoveBit { r, bit },
         _ => return None,
     })
 }

@@ -52,9 +52,9 @@ impl<'a> Iterator for Tokens<'a> {
         let line = &self.rest[start..];
         match token_end(line) {
             Some(end) => {
-                let (token, rest) = line.split_at(end);
-                self.rest = rest;
-                Some(token)
+                // the space ends the token, and starts no other
+                self.rest = &line[end + 1..];
+                Some(&line[..end])
             }
             None => {
                 self.rest = &[];
