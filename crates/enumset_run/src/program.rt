@@ -22,6 +22,9 @@ const NAME_LIMIT: usize = 64;
 /// The most bytes of an input that are read: one more than it may have, which shows that it is too long.
 const READ_LIMIT: usize = INPUT_LIMIT + 1;
 
+/// How many bytes are read at once, at most. A pipe holds no more.
+const BLOCK: usize = 65_536;
+
 /// Tests the argument, reads the input, and writes the answer once.
 ///
 /// Room for the input is taken before it is read, so that running out of memory hides no fault of the input.
@@ -102,7 +105,7 @@ fn read_input<R: Read + Drop>(room: Vec<u8>, reader: R) -> Result<Vec<u8>, Progr
 {
     let mut input = room;
     let mut reader = reader.take(READ_LIMIT as u64);
-    let mut block = [0u8; 16384];
+    let mut block = [0u8; BLOCK];
     for _ in 0..u64::MAX {
         match reader.read(&mut block) {
             Ok(0) => return Ok(input),
