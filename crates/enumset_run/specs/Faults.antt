@@ -1,7 +1,8 @@
 -- The faults of the program: their texts and exit statuses, and where they may come.
 --     program_fault_text, status_of      the text and the exit status of a fault of the program
+--     said_of, exit_status_of      what a run says on standard error, and its exit status
 --     IsFaultOver      the program may fail so, over an input whose answer is given
-use Rattle.std.specs.Prelude.{◌≢◌, ℕ, List, [], codes, Result, IsOkAnd, ⊤}
+use Rattle.std.specs.Prelude.{◌≢◌, ℕ, List, [], ◌∷◌, ◌++◌, codes, Result, Ok, Err, IsOkAnd, ⊤}
 use Rattle.enumset_commands.specs.declared.text_fault.TextFault.{TextFault}
 use Rattle.enumset_commands.specs.declared.text_fault.TextFault.TheVariants.{TooLong, BadLine, OutOfMemory}
 use Rattle.enumset_run.specs.declared.fault.ProgramFault.{ProgramFault}
@@ -24,6 +25,16 @@ status_of (Text (BadLine n)) = 2
 status_of (Text OutOfMemory) = 3
 status_of Reading = 1
 status_of Writing = 1
+
+-- the text of its fault in a line
+abbrev pub said_of : Result (Unit {0}) ProgramFault → List ℕ
+said_of (Ok _) = []
+said_of (Err fault) = program_fault_text fault ++ (10 ∷ [])
+
+-- 0 if it succeeded
+abbrev pub exit_status_of : Result (Unit {0}) ProgramFault → ℕ
+exit_status_of (Ok _) = 0
+exit_status_of (Err fault) = status_of fault
 
 -- Reading may fail over any input, memory may be refused where there are replies, and writing may fail where
 -- there is something to write. Else the fault is the input's own.

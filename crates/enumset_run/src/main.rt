@@ -4,6 +4,7 @@
 //! and prints one reply a line.
 #![tactic(auto)]
 
+mod ending;
 mod fault;
 mod program;
 #[cfg(test)]
@@ -12,11 +13,8 @@ mod tests;
 use std::process::ExitCode;
 
 fn main(rt: HostRuntime) -> ExitCode {
-    match program::answer(&rt) {
-        Ok(()) => ExitCode::SUCCESS,
-        Err(fault) => {
-            let _ = eprintln!(rt; "{fault}");
-            ExitCode::from(fault.status())
-        }
-    }
+    let answered = program::answer(&rt);
+    // If standard error fails too, the exit status still tells the fault.
+    let _ = ending::report(&answered, &mut rt.stderr());
+    ExitCode::from(ending::exit_status(&answered))
 }
