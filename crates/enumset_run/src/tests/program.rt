@@ -1,14 +1,13 @@
 //! The program as a whole: its arguments, and input and output that fail.
 
-use super::surroundings::{Source, outcome, text_of};
+use super::surroundings::{ENOUGH, Pace, Room, Source, outcome, text_of};
 use crate::program::answer_input;
 use enumset_kinds::worked::Worked;
 use enumset_machine::INPUT_LIMIT;
-use std::alloc::{AllocError, Global};
 use std::test::Fail;
 
-// Each row has the arguments, what fails, the input, and the outcome. Reading fails at the end of the input, or
-// writing fails once so many bytes are written.
+// Each row has the arguments, what fails, the input, and the outcome. Reading fails at the end of the input; or an output
+// of so many bytes is full, which then fails or takes none.
 const ROWS: &str = "\
 --
 |reading||!2 one argument: the name of a type
@@ -70,46 +69,45 @@ program,sparse|reading|len 0
 program,sparse|reading|len
 |!1 reading failed
 --
-program,wide|0|len 0
+program,wide|0 fails|len 0
 |!1 writing failed
 --
-program,wide|4|all 0
+program,wide|0 takes none|len 0
+|!1 writing failed
+--
+program,wide|4 fails|all 0
 len 0
 |ok
 3!1 writing failed
 --
-program,wide|5|all 0
+program,wide|4 takes none|all 0
+len 0
+|ok
+3!1 writing failed
+--
+program,wide|5 fails|all 0
 len 0
 |ok
 3
 --
-program,wide|0|
+program,wide|0 fails|
 |--
-program,wide|0|len 0
+program,wide|0 fails|len 0
 len|!2 line 2: not a command
 ";
 
-// The outcome over a row's arguments and input, of which a read gives one byte.
-fn outcome_of(
-    alloc: Global,
-    arguments: &str,
-    failing: &str,
-    input: &str,
-) -> Result<Vec<u8>, AllocError> {
-    let input = Source {
-        bytes: input.as_bytes(),
-        most: 1,
-        fails_at_end: failing == "reading",
-        is_interrupted: false,
-    };
-    outcome(
-        alloc,
-        arguments,
-        input,
-        failing.parse().unwrap_or(usize::MAX),
-    )
+// The room that is left where this fails.
+fn room_of(failing: &str) -> Room {
+    match failing.split_once(' ') {
+        Some((bytes, then)) => Room {
+            bytes: bytes.parse().unwrap_or(0),
+            takes_none: then == "takes none",
+        },
+        None => ENOUGH,
+    }
 }
 
+// Each call is of one byte, after one, two and ten that are interrupted.
 #[test]
 fn each_row_has_its_outcome(rt: HostRuntime) -> Result<(), Fail> {
     assert!(rt; ROWS.starts_with("--\n"));
@@ -117,34 +115,28 @@ fn each_row_has_its_outcome(rt: HostRuntime) -> Result<(), Fail> {
         let mut parts = row.split('|');
         let arguments = parts.next().unwrap_or("");
         let failing = parts.next().unwrap_or("");
-        let input = parts.next().unwrap_or("");
+        let input = parts.next().unwrap_or("").as_bytes();
         let wanted = parts.next().unwrap_or("");
-        let outcome = outcome_of(rt.alloc(), arguments, failing, input)?;
-        assert_eq!(rt; text_of(&outcome), wanted, "{row}");
+        for interruptions in [1, 2, 10] {
+            let pace = Pace {
+                most: 1,
+                interruptions,
+            };
+            let input = Source::new(input, pace, failing == "reading");
+            let outcome = outcome(rt.alloc(), arguments, input, room_of(failing))?;
+            assert_eq!(rt; text_of(&outcome), wanted, "{row}");
+        }
     }
     Ok(())
-}
-
-// The outcome over an input of so many bytes of one kind.
-fn outcome_of_bytes(
-    alloc: Global,
-    byte: u8,
-    count: usize,
-    fails_at_end: bool,
-) -> Result<Vec<u8>, AllocError> {
-    let bytes = vec![in alloc; byte; count]?;
-    let input = Source {
-        bytes: &bytes,
-        most: 4096,
-        fails_at_end,
-        is_interrupted: false,
-    };
-    outcome(alloc, "program,sparse", input, 0)
 }
 
 #[test]
 fn an_input_has_at_most_a_mebibyte(rt: HostRuntime) -> Result<(), Fail> {
     let alloc = rt.alloc();
+    let pace = Pace {
+        most: 4096,
+        interruptions: 1,
+    };
     for (byte, count, fails_at_end, wanted) in [
         (b'\n', 1_048_576, false, ""),
         (b'\n', 1_048_576, true, "!1 reading failed\n"),
@@ -154,9 +146,24 @@ fn an_input_has_at_most_a_mebibyte(rt: HostRuntime) -> Result<(), Fail> {
         // bytes that are no text
         (b'\xff', 1, false, "!2 line 1: not a command\n"),
     ] {
-        let outcome = outcome_of_bytes(alloc, byte, count, fails_at_end)?;
+        let bytes = vec![in alloc; byte; count]?;
+        let input = Source::new(&bytes, pace, fails_at_end);
+        let outcome = outcome(alloc, "program,sparse", input, ENOUGH)?;
         assert_eq!(rt; text_of(&outcome), wanted, "{count} times the byte {byte}");
     }
+    Ok(())
+}
+
+// In all more reads than an input may have bytes, and hundreds of thousands of writes.
+#[test]
+fn a_call_is_tried_until_it_answers(rt: HostRuntime) -> Result<(), Fail> {
+    let pace = Pace {
+        most: 1,
+        interruptions: 180_000,
+    };
+    let source = Source::new(b"len 0", pace, false);
+    let outcome = outcome(rt.alloc(), "program,letters", source, ENOUGH)?;
+    assert_eq!(rt; text_of(&outcome), "0\n");
     Ok(())
 }
 

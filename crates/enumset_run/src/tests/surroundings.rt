@@ -10,38 +10,63 @@ use std::process::Abort;
 use std::str;
 use std::test::Fail;
 
-/// Bytes, of which a read gives at most `most`. Every other read is interrupted. Reading past the bytes fails,
-/// or else finds the end.
+/// How input and output go: a read or a write is of at most `most` bytes, and so many before it are interrupted.
+#[derive(Clone, Copy)]
+pub(super) struct Pace {
+    pub(super) most: usize,
+    pub(super) interruptions: usize,
+}
+
+/// Any number of bytes, and no interruption.
+const AT_ONCE: Pace = Pace {
+    most: usize::MAX,
+    interruptions: 0,
+};
+
+/// Bytes that are read at a pace. Reading past them fails, or else finds the end.
 #[derive(Clone, Copy)]
 pub(super) struct Source<'a> {
-    pub(super) bytes: &'a [u8],
-    pub(super) most: usize,
-    pub(super) fails_at_end: bool,
-    pub(super) is_interrupted: bool,
+    bytes: &'a [u8],
+    pace: Pace,
+    fails_at_end: bool,
+    interrupted: usize,
 }
 
 impl<'a> Source<'a> {
-    /// A text, all of which may be read.
-    pub(super) fn new(text: &'a str) -> Source<'a> {
+    pub(super) fn new(bytes: &'a [u8], pace: Pace, fails_at_end: bool) -> Source<'a> {
         Source {
-            bytes: text.as_bytes(),
-            most: usize::MAX,
-            fails_at_end: false,
-            is_interrupted: false,
+            bytes,
+            pace,
+            fails_at_end,
+            interrupted: 0,
         }
     }
 }
 
+/// How many bytes an output holds. A full one fails, or else takes no byte.
+#[derive(Clone, Copy)]
+pub(super) struct Room {
+    pub(super) bytes: usize,
+    pub(super) takes_none: bool,
+}
+
+/// Room for any output.
+pub(super) const ENOUGH: Room = Room {
+    bytes: usize::MAX,
+    takes_none: false,
+};
+
 impl Read for Source<'_> {
     fn read(&mut self, buf: &mut [u8]) -> io::Result<usize> {
-        self.is_interrupted = !self.is_interrupted;
-        if self.is_interrupted {
+        if self.interrupted < self.pace.interruptions {
+            self.interrupted += 1;
             return Err(io::Error::from(ErrorKind::Interrupted));
         }
+        self.interrupted = 0;
         if self.bytes.is_empty() && self.fails_at_end {
             return Err(io::Error::from(ErrorKind::Other));
         }
-        let most = buf.len().min(self.most);
+        let most = buf.len().min(self.pace.most);
         Read::read(&mut self.bytes, &mut buf[..most])
     }
 }
@@ -56,15 +81,14 @@ impl BufRead for Source<'_> {
     }
 }
 
-/// Arguments, which commas separate, after the program's name; an input; and an output that holds at
-/// most `room` bytes and takes at most three at a time. Every other write is interrupted.
+/// Arguments, which commas separate, after the program's name; an input; and an output at the same pace.
 #[derive(Drop)]
-pub(super) struct Surroundings<'a> {
-    pub(super) arguments: &'a str,
-    pub(super) input: Source<'a>,
-    pub(super) room: usize,
-    pub(super) is_interrupted: Cell<bool>,
-    pub(super) output: RefCell<Vec<u8>>,
+struct Surroundings<'a> {
+    arguments: &'a str,
+    input: Source<'a>,
+    room: Room,
+    interrupted: Cell<usize>,
+    output: RefCell<Vec<u8>>,
 }
 
 impl Env for Surroundings<'_> {
@@ -118,16 +142,18 @@ impl Print for Surroundings<'_> {
     }
 
     fn write_some(&self, bytes: &[u8]) -> io::Result<usize> {
-        self.is_interrupted.set(!self.is_interrupted.get());
-        if self.is_interrupted.get() {
+        let (pace, interrupted) = (self.input.pace, self.interrupted.get());
+        if interrupted < pace.interruptions {
+            self.interrupted.set(interrupted + 1);
             return Err(io::Error::from(ErrorKind::Interrupted));
         }
+        self.interrupted.set(0);
         let Ok(mut output) = self.output.try_borrow_mut() else {
             return Err(io::Error::from(ErrorKind::Other));
         };
-        let room = self.room.saturating_sub(output.len());
-        let count = bytes.len().min(room).min(3);
-        if count == 0 {
+        let room = self.room.bytes.saturating_sub(output.len());
+        let count = bytes.len().min(room).min(pace.most);
+        if count == 0 && !self.room.takes_none {
             return Err(io::Error::from(ErrorKind::BrokenPipe));
         }
         output.extend_from_slice(&bytes[..count])?;
@@ -135,19 +161,19 @@ impl Print for Surroundings<'_> {
     }
 }
 
-/// What the program writes over these arguments, this input and an output that holds at most `room` bytes. If it
-/// fails, an exclamation mark and the status and the text of the fault in a line come after that.
+/// What the program writes over these arguments and this input where there is this room. If it fails, an exclamation
+/// mark and the status and the text of the fault in a line come after that.
 pub(super) fn outcome(
     alloc: Global,
     arguments: &str,
     input: Source,
-    room: usize,
+    room: Room,
 ) -> Result<Vec<u8>, AllocError> {
     let surroundings = Surroundings {
         arguments,
         input,
         room,
-        is_interrupted: Cell::new(false),
+        interrupted: Cell::new(0),
         output: RefCell::new(Vec::new(alloc)),
     };
     let answered = answer(&(&surroundings, alloc));
@@ -174,7 +200,8 @@ pub(super) fn outputs_as_wanted(rt: &impl Abort, alloc: Global, table: &str) -> 
         for name in names.split(' ') {
             let arguments = format!(in alloc; "program,{name}")?;
             for input in inputs.split('|') {
-                let output = outcome(alloc, &arguments, Source::new(input), usize::MAX)?;
+                let source = Source::new(input.as_bytes(), AT_ONCE, false);
+                let output = outcome(alloc, &arguments, source, ENOUGH)?;
                 assert_eq!(rt; text_of(&output), wanted, "over {name}: {input:?}");
             }
         }
