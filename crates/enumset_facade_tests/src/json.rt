@@ -9,7 +9,8 @@ use enumset::set_json::{
     JsonFault, JsonWidth, Unknown, from_list_text, from_map_text, from_number_text,
     from_words_text, to_list_text, to_map_text, to_number_text, to_words_text,
 };
-use enumset::{EnumSet, EnumSetNames};
+use enumset::{EnumSet, EnumSetNames, EnumSetType};
+use enumset_sizes::{In5Words, In17Words};
 use std::alloc::Global;
 use std::fmt;
 use std::process::Abort;
@@ -175,6 +176,25 @@ const WORDS_OF_WIDE: &str = "\
 [8,1,4,1] -> Ok(EnumSet(P | Q | R)) Err(UnknownBits)
 [0,0,5] -> Ok(EnumSet(R)) Err(UnknownBits)
 ";
+
+// The words of a set, which is read from them again.
+fn expect_words<T: EnumSetType + fmt::Debug>(
+    rt: &impl Abort,
+    alloc: Global,
+    wanted: &str,
+) -> Result<(), Fail> {
+    let all = EnumSet::<T>::all();
+    assert_eq!(rt; to_words_text(alloc, &all)?.as_str(), wanted);
+    assert_eq!(rt; from_words_text(alloc, wanted, Unknown::Refuse), Ok(all));
+    Ok(())
+}
+
+#[test]
+fn words_of_wide_sets(rt: HostRuntime) -> Result<(), Fail> {
+    expect_words::<In5Words>(&rt, rt.alloc(), "[8,0,0,0,17592186044416]")?;
+    let words = "[8,0,0,0,0,0,0,0,0,0,0,0,0,0,0,0,9223372036854775808]";
+    expect_words::<In17Words>(&rt, rt.alloc(), words)
+}
 
 // Rows with what follows one word and zeros up to place 999.
 #[test]

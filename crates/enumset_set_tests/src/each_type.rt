@@ -5,7 +5,9 @@ use crate::compare::same_lines;
 use enumset_mixed::MixedEnumSet;
 use enumset_repr::EnumSetTypeRepr;
 use enumset_sets::{EnumSet, EnumSetType, EnumSetTypeWithRepr};
-use enumset_sizes::{GapsInU128, GapsInWords, Month, Of32, Of33, Of128, Of256};
+use enumset_sizes::{
+    GapsInU128, GapsInWords, In5Words, In17Words, Month, Of32, Of33, Of128, Of256,
+};
 use enumset_worked::{
     Four, High, Letters, Marks, Masks, PairNumber, PairWords, Single, Sparse, Wide,
 };
@@ -147,6 +149,8 @@ fn types_of_many_variants(rt: HostRuntime) -> Result<(), Fail> {
     write_size::<Of256>(alloc, &mut text)?;
     write_size::<GapsInU128>(alloc, &mut text)?;
     write_size::<GapsInWords>(alloc, &mut text)?;
+    write_size::<In5Words>(alloc, &mut text)?;
+    write_size::<In17Words>(alloc, &mut text)?;
     same_lines(&rt, &text, OF_MANY_VARIANTS);
     Ok(())
 }
@@ -164,4 +168,6 @@ words [6148914691236517205, 6148914691236517205]
 width 385, variants 129, number None, \
 words [10540996613548315209, 5270498306774157604, 2635249153387078802, \
 10540996613548315209, 5270498306774157604, 2635249153387078802, 1]
+width 301, variants 2, number None, words [8, 0, 0, 0, 17592186044416]
+width 1088, variants 2, number None, words [8, 0, 0, 0, 0, 0, 0, 0, 0, 0, 0, 0, 0, 0, 0, 0, 9223372036854775808]
 ";

@@ -348,3 +348,9 @@ impl fmt::Debug for Of256 {
         f.write_str(NAMES[*self as usize])
     }
 }
+
+impl fmt::Display for Of256 {
+    fn fmt<W: fmt::Write>(&self, f: &mut fmt::Formatter<W>) -> fmt::Result {
+        f.write_str(NAMES[*self as usize])
+    }
+}

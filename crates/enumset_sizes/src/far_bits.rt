@@ -1,0 +1,101 @@
+//! Enums of two variants, one in the first word and one in the last of more words than the other types have.
+
+use enumset_array::ArrayRepr;
+use enumset_sets::{EnumSetType, variant_of};
+
+/// Two variants, on bits 3 and 300, in five words.
+#[derive(Clone, Copy, PartialEq, Eq, Debug)]
+pub enum In5Words {
+    A = 3,
+    B = 300,
+}
+
+impl EnumSetType for In5Words {
+    ghost use Rattle.std.specs.Prelude.{◌∷◌, []};
+    ghost use Rattle.enumset_sets.specs.Laws.Elements.{with_bits, lawful_in_words};
+    ghost use Rattle.enumset_sizes.specs.contracts.far_bits.In5Words.{the_type};
+
+    type Repr = ArrayRepr<5>;
+
+    ghost elements = { with_bits the_type (3 ∷ 300 ∷ []) };
+
+    ghost ALL_BITS = { 8 ∷ 0 ∷ 0 ∷ 0 ∷ 17592186044416 ∷ [] };
+
+    const ALL_BITS: ArrayRepr<5> = ArrayRepr([8, 0, 0, 0, 17592186044416]);
+
+    ghost BIT_WIDTH = { 301 };
+
+    const BIT_WIDTH: u32 = 301;
+
+    ghost VARIANT_COUNT = { 2 };
+
+    const VARIANT_COUNT: u32 = 2;
+
+    fn enum_into_u32(self) -> u32 {
+        self as u32
+    }
+
+    fn enum_from_u32(val: u32) -> Self {
+        variant_of!(val, In5Words: 3 A 300 B)
+    }
+
+    ghost lawful = { lawful_in_words the_type _ tt };
+}
+
+/// Two variants, on bits 3 and 1087, in seventeen words.
+#[derive(Clone, Copy, PartialEq, Eq, Debug)]
+pub enum In17Words {
+    A = 3,
+    B = 1087,
+}
+
+impl EnumSetType for In17Words {
+    ghost use Rattle.std.specs.Prelude.{◌∷◌, []};
+    ghost use Rattle.enumset_sets.specs.Laws.Elements.{with_bits, lawful_in_words};
+    ghost use Rattle.enumset_sizes.specs.contracts.far_bits.In17Words.{the_type};
+
+    type Repr = ArrayRepr<17>;
+
+    ghost elements = { with_bits the_type (3 ∷ 1087 ∷ []) };
+
+    ghost ALL_BITS = { 8 ∷ 0 ∷ 0 ∷ 0 ∷ 0 ∷ 0 ∷ 0 ∷ 0 ∷ 0 ∷ 0 ∷ 0 ∷ 0 ∷ 0 ∷
+        0 ∷ 0 ∷ 0 ∷ 9223372036854775808 ∷ [] };
+
+    const ALL_BITS: ArrayRepr<17> = ArrayRepr([
+        8,
+        0,
+        0,
+        0,
+        0,
+        0,
+        0,
+        0,
+        0,
+        0,
+        0,
+        0,
+        0,
+        0,
+        0,
+        0,
+        9223372036854775808,
+    ]);
+
+    ghost BIT_WIDTH = { 1088 };
+
+    const BIT_WIDTH: u32 = 1088;
+
+    ghost VARIANT_COUNT = { 2 };
+
+    const VARIANT_COUNT: u32 = 2;
+
+    fn enum_into_u32(self) -> u32 {
+        self as u32
+    }
+
+    fn enum_from_u32(val: u32) -> Self {
+        variant_of!(val, In17Words: 3 A 1087 B)
+    }
+
+    ghost lawful = { lawful_in_words the_type _ tt };
+}
