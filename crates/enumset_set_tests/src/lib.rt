@@ -13,6 +13,8 @@ mod each_type;
 #[cfg(test)]
 mod items;
 #[cfg(test)]
+mod long_texts;
+#[cfg(test)]
 mod mixed;
 #[cfg(test)]
 mod operators;

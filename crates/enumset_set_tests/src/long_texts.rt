@@ -1,0 +1,88 @@
+//! Texts of many members, and texts that a writer does not take to their end.
+
+use crate::sets::two_of;
+use enumset_mixed::{MixedEnumSet, MixedValue};
+use enumset_sets::EnumSet;
+use enumset_sizes::Of256;
+use enumset_worked::{Letters, Marks, PairNumber};
+use std::fmt::{self, Write};
+use std::test::Fail;
+
+// Sets of 64, 128, 192 and 256 variants, of which V0 has bit 0, V1 bit 1 and so on.
+#[test]
+fn texts_of_many_elements(rt: HostRuntime) -> Result<(), Fail> {
+    let (alloc, mut words, mut names) = (rt.alloc(), [0; 4], String::new(rt.alloc()));
+    for place in 0..4 {
+        words[place] = u64::MAX;
+        for bit in 64 * place..64 * place + 64 {
+            let separator = if bit == 0 { "" } else { " | " };
+            write!(names, "{separator}V{bit}")?;
+        }
+        let set = EnumSet::<Of256>::from_array_truncated(words);
+        let text = format!(in alloc; "{set} {set:?}")?;
+        let wanted = format!(in alloc; "{names} EnumSet({names})")?;
+        assert_eq!(rt; text.as_str(), wanted.as_str());
+    }
+    Ok(())
+}
+
+// All bits of 128, of which two have variants.
+#[test]
+fn texts_of_many_unknown_bits(rt: HostRuntime) -> Result<(), Fail> {
+    let (alloc, mut members) = (rt.alloc(), String::from_str(rt.alloc(), "A")?);
+    for bit in 1..128 {
+        match bit {
+            64 => write!(members, " | B")?,
+            _ => write!(members, " | [{bit}]")?,
+        }
+    }
+    let all = MixedEnumSet::<PairNumber>::new().full_complement();
+    let text = format!(in alloc; "{all} {all:?}")?;
+    let wanted = format!(in alloc; "{members} MixedEnumSet({members})")?;
+    assert_eq!(rt; text.as_str(), wanted.as_str());
+    Ok(())
+}
+
+/// Takes so many pieces of a text, and refuses those that come after.
+#[derive(Drop)]
+struct Pieces {
+    left: usize,
+    refused: usize,
+}
+
+impl fmt::Write for Pieces {
+    fn write_str(&mut self, _piece: &str) -> fmt::Result {
+        if self.left == 0 {
+            self.refused = self.refused.saturating_add(1);
+            return Err(fmt::Error);
+        }
+        self.left -= 1;
+        Ok(())
+    }
+}
+
+// The refusal comes out, and nothing is written after it, whichever piece is refused.
+#[test]
+fn a_refused_piece_ends_a_text(rt: HostRuntime) {
+    let (set, mixed) = (
+        two_of(Letters::A, Letters::C),
+        MixedEnumSet::<Marks>::from_repr(13),
+    );
+    let (items, members) = (set.iter(), mixed.iter());
+    let (valid, unknown) = (MixedValue::Valid(Marks::A), MixedValue::<Marks>::Invalid(3));
+    let mut is_whole = false;
+    for left in 0..100 {
+        let mut writer = Pieces { left, refused: 0 };
+        let written = write!(
+            writer,
+            "{set} {set:?} {items:?} {mixed} {mixed:?} {members:?} {valid} {valid:?} {unknown} {unknown:?}"
+        );
+        assert_eq!(rt;
+            writer.refused,
+            usize::from(written.is_err()),
+            "{left} pieces"
+        );
+        is_whole = written.is_ok();
+    }
+    assert!(rt; is_whole);
+}
