@@ -27,7 +27,7 @@ fn mixed_sets_are_made_of_items(rt: HostRuntime) -> Result<(), Fail> {
     let mut extended = MixedEnumSet::<Marks>::from_repr(128);
     extended.extend(marks)?;
     let collected: MixedEnumSet<Marks> = marks.iter().copied().collect(rt.alloc())?;
-    let pair = [MixedEnumSet::from(Marks::B), MixedEnumSet::from_repr(8)];
+    let pair = [MixedEnumSet::from(Marks::B), MixedEnumSet::from_repr(10)];
     let sum: MixedEnumSet<Marks> = pair.iter().copied().sum();
     let converted = MixedEnumSet::from(EnumSet::from(marks));
     let sets = [

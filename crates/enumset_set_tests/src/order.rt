@@ -1,5 +1,5 @@
 //! The order of sets, and what they feed to a hasher, over an integer and over words.
-use enumset_mixed::MixedEnumSet;
+use enumset_mixed::{MixedEnumSet, MixedValue};
 use enumset_sets::{EnumSet, EnumSetType, raw};
 use enumset_worked::{High, Letters, Marks, PairNumber, PairWords, Wide};
 use std::cmp::Ordering;
@@ -82,4 +82,7 @@ fn a_set_feeds_a_hasher_its_representation(rt: HostRuntime) {
         let set = MixedEnumSet::<Marks>::from_repr(number);
         assert_eq!(rt; bytes_fed(&set), u64::from(number));
     }
+    // the number of the variant, and then what it holds
+    let members = [MixedValue::Valid(Marks::C), MixedValue::Invalid(3)];
+    assert_eq!(rt; members.map(|member| bytes_fed(&member)), [2, 4]);
 }

@@ -4,6 +4,7 @@
 //! `scripts/refused-memory` refuses each allocation in turn, and knows how each test must end.
 
 use crate::sets::two_of;
+use enumset_mixed::MixedEnumSet;
 use enumset_sets::{EnumSet, EnumSetType};
 use enumset_worked::{Letters, Sparse, Wide};
 use std::alloc::{AllocError, Global};
@@ -27,7 +28,14 @@ fn words_of<T: EnumSetType>(
 
 #[test]
 fn vectors_of_words(rt: HostRuntime) -> Result<(), Fail> {
-    let (letters, in_letters) = words_of(&rt, rt.alloc(), &two_of(Letters::A, Letters::C));
+    // collecting takes no memory
+    let collected: EnumSet<Letters> = [Letters::A, Letters::C]
+        .iter()
+        .copied()
+        .collect(rt.alloc())?;
+    let mixed: MixedEnumSet<Letters> = collected.iter().collect(rt.alloc())?;
+    assert_eq!(rt; mixed.as_repr(), 5);
+    let (letters, in_letters) = words_of(&rt, rt.alloc(), &collected);
     let (sparse, in_sparse) = words_of(&rt, rt.alloc(), &two_of(Sparse::A, Sparse::D));
     let (wide, in_wide) = words_of(&rt, rt.alloc(), &two_of(Wide::P, Wide::R));
     assert_eq!(rt; letters.as_slice(), [5].as_slice());
