@@ -13,7 +13,7 @@ use enumset_worked::{Letters, Marks};
 
 #[test]
 fn sets_are_extended(rt: HostRuntime) {
-    let sets = [enum_set!(Letters::C), enum_set!(Letters::A | Letters::C)];
+    let sets = [enum_set!(Letters::A | Letters::C), enum_set!(Letters::C)];
     let mut extended = [enum_set!(Letters::G); 3];
     extend_refs(&mut extended[0], [Letters::C, Letters::A].iter());
     extend_sets(&mut extended[1], sets.iter().copied());
@@ -39,7 +39,7 @@ fn sets_are_folded(rt: HostRuntime) {
 // Each extends the mixed set of bit 3.
 #[test]
 fn mixed_sets_are_extended(rt: HostRuntime) {
-    let sets = [4, 129].map(MixedEnumSet::<Marks>::from_repr);
+    let sets = [5, 129].map(MixedEnumSet::<Marks>::from_repr);
     let only_b = [EnumSet::only(Marks::B)];
     let mut extended = [MixedEnumSet::<Marks>::from_repr(8); 5];
     mixed_extend_refs(&mut extended[0], [Marks::C, Marks::A].iter());
@@ -54,7 +54,7 @@ fn mixed_sets_are_extended(rt: HostRuntime) {
 fn mixed_sets_are_folded(rt: HostRuntime) {
     let elements = [Marks::A, Marks::C, Marks::A];
     let enumsets = elements.map(EnumSet::only);
-    let sets = [4, 129].map(MixedEnumSet::<Marks>::from_repr);
+    let sets = [5, 129].map(MixedEnumSet::<Marks>::from_repr);
     let folded = [
         mixed_from_refs(elements.iter()),
         mixed_sum_elements(elements.iter().copied()),

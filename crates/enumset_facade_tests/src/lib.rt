@@ -23,6 +23,8 @@ mod no_variant;
 #[cfg(test)]
 mod older_readers;
 #[cfg(test)]
+mod paths;
+#[cfg(test)]
 mod reading_newer;
 #[cfg(test)]
 mod refused;

@@ -14,16 +14,19 @@ fn elements_make_sets(rt: HostRuntime) {
         enum_set!(Letters::B | |),
         enum_set!(Letters::A | Letters::C |),
         enum_set!(Letters::A | Letters::C | Letters::G),
+        enum_set!(Letters::A | Letters::A),
+        enum_set!(Letters::A | Letters::C | Letters::A | Letters::A),
     ];
-    for (set, number) in letters.iter().zip([1, 2, 5, 69]) {
+    for (set, number) in letters.iter().zip([1, 2, 5, 69, 1, 5]) {
         assert!(rt; set.as_u8_truncated() == number);
     }
     let mixed = [
         mixed_enum_set!(),
         mixed_enum_set!(Marks::B),
         mixed_enum_set!(Marks::B | Marks::C |),
+        mixed_enum_set!(Marks::B | Marks::B),
     ];
-    for (set, number) in mixed.iter().zip([0, 2, 6]) {
+    for (set, number) in mixed.iter().zip([0, 2, 6, 2]) {
         assert!(rt; set.as_repr() == number);
     }
     assert!(rt; mixed_enum_set!(Four::A | Four::D).as_repr() == 9);
@@ -54,8 +57,15 @@ fn sets_have_operations(rt: HostRuntime) {
         enum_set_symmetric_difference!(abd, bc, a,),
         enum_set_complement!(bc),
         enum_set_complement!(a,),
+        enum_set_union!(ab, ab, bc),
+        enum_set_intersection!(ab, ab),
+        enum_set_difference!(ab, ab),
+        enum_set_symmetric_difference!(ab, ab),
     ];
-    for (set, number) in sets.iter().zip([1, 7, 2, 2, 9, 9, 13, 12, 9, 14]) {
+    for (set, number) in sets
+        .iter()
+        .zip([1, 7, 2, 2, 9, 9, 13, 12, 9, 14, 7, 3, 0, 0])
+    {
         assert!(rt; set.as_u8_truncated() == number);
     }
 }
