@@ -7,3 +7,4 @@ pub mod Inserting
 pub mod Naming
 pub mod Writing
 pub mod Planning
+pub mod Marking

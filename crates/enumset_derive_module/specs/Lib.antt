@@ -17,3 +17,4 @@ pub mod Enums
 pub mod Imports
 pub mod Modules
 pub mod Sources
+pub mod Marks

@@ -17,6 +17,7 @@ mod json_reads;
 mod json_writes;
 mod layout;
 mod lists;
+pub mod marks;
 pub mod modules;
 mod names;
 mod needs;
@@ -25,5 +26,6 @@ pub mod sources;
 mod templates;
 mod words;
 
+pub use marks::{MarkError, between_marks};
 pub use modules::module_text;
 pub use sources::write_items;
