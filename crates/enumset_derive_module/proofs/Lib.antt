@@ -8,3 +8,4 @@ pub mod Naming
 pub mod Writing
 pub mod Planning
 pub mod Marking
+pub mod Filing

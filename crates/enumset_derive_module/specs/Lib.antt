@@ -18,3 +18,6 @@ pub mod Imports
 pub mod Modules
 pub mod Sources
 pub mod Marks
+pub mod Definitions
+pub mod ValueLaws
+pub mod ProofFiles

@@ -116,9 +116,9 @@ fn all_bits_text(alloc: Global, representation: &[u8], store: &Store) -> Result<
     }
 }
 
-// The value of `ALL_BITS` in a specification.
+/// The value of `ALL_BITS` in a specification.
 #[tactic(auto, unfolding(crate::specs::Constants::all_bits_list))]
-fn all_bits_list(alloc: Global, store: &Store) -> Result<Vec<u8>, AllocError>
+pub(crate) fn all_bits_list(alloc: Global, store: &Store) -> Result<Vec<u8>, AllocError>
     ensures { IfOk result (λ out. out.items ≡ all_bits_list store.now) }
 {
     match store {

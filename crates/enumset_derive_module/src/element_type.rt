@@ -22,7 +22,7 @@ use std::alloc::{AllocError, Global};
 const BIT_WORD: &str = "$1 ∷";
 
 /// A value in a list.
-const VALUE_WORD: &str = "variant.$0 ∷";
+pub(crate) const VALUE_WORD: &str = "variant.$0 ∷";
 
 /// The elements where each bit is its place.
 const IN_PLACE: &str = "in_place the_type";
@@ -216,8 +216,8 @@ fn list_words(
     }
 }
 
-// The test that the laws come from.
-fn law_name(store: &Store) -> &'static [u8]
+/// The test that the laws come from.
+pub(crate) fn law_name(store: &Store) -> &'static [u8]
     ensures { result.now ≡ law_name store.now }
 {
     match store {
@@ -237,9 +237,9 @@ fn laws_text(alloc: Global, form: Form, law: &[u8]) -> Result<Vec<u8>, AllocErro
     }
 }
 
-// The law of a form.
+/// The law of a form.
 #[tactic(auto, unfolding(crate::specs::ElementTypes::law_text))]
-fn law_text(alloc: Global, form: Form, law: &[u8]) -> Result<Vec<u8>, AllocError>
+pub(crate) fn law_text(alloc: Global, form: Form, law: &[u8]) -> Result<Vec<u8>, AllocError>
     ensures { IfOk result (λ out. out.items ≡ law_text form law.now) }
 {
     match form {
@@ -248,9 +248,9 @@ fn law_text(alloc: Global, form: Form, law: &[u8]) -> Result<Vec<u8>, AllocError
     }
 }
 
-// The elements of a form.
+/// The elements of a form.
 #[tactic(auto, unfolding(crate::specs::ElementTypes::elements_text))]
-fn elements_text(
+pub(crate) fn elements_text(
     alloc: Global,
     form: Form,
     declaration: &EnumDeclaration,

@@ -5,6 +5,7 @@
 
 mod calls;
 mod constants;
+mod definitions;
 mod display;
 mod element_type;
 mod enums;
@@ -22,10 +23,13 @@ pub mod modules;
 mod names;
 mod needs;
 mod operators;
+pub mod proof_files;
 pub mod sources;
 mod templates;
+mod value_laws;
 mod words;
 
 pub use marks::{MarkError, between_marks};
 pub use modules::module_text;
-pub use sources::write_items;
+pub use proof_files::ProofFile;
+pub use sources::{write_items, write_proofs};
