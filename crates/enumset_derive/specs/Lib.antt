@@ -1,3 +1,4 @@
 pub mod Faults
 pub mod Written
 pub mod Arguments
+pub mod Modules

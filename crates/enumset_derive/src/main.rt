@@ -1,11 +1,14 @@
 //! Writes the module of Rattle for a source of enums.
 //!
 //! `enumset_derive CRATE MODULE` reads the source from standard input and prints the module. The names are those of the
-//! crate and of the module in it that the text is for.
+//! crate and of the module in it that the text is for. With `--proofs FOLDER` after them the program also writes, into
+//! the crate's folder, what proofs about the enums want.
 #![tactic(auto)]
 
 mod fault;
+mod outputs;
 mod program;
+mod proof_files;
 
 use std::process::ExitCode;
 

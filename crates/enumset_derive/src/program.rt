@@ -7,42 +7,40 @@ ghost use Rattle.enumset_derive.specs.Arguments.{is_name, begins_a_name, is_of_n
 ghost use Rattle.enumset_derive.specs.Written.{AppendsFrontOf};
 
 use crate::fault::ProgramFault;
-use enumset_derive_module::write_items;
-use enumset_derive_plan::{DeriveError, Text};
-use enumset_derive_source::read_source;
+use crate::outputs::{module_of, proofs_of};
+use crate::proof_files::update_files;
 use std::alloc::Global;
 use std::env::{Env, FillError};
 use std::io::{self, ErrorKind, Input, Print, Read, Write};
+use std::rt::Files;
 
 /// The longest name has so many bytes.
 const NAME_LIMIT: usize = 256;
 
-/// Tests the arguments, reads the source, and writes the module once.
-pub fn answer<R: Env + Input + Print + AllocGlobal>(rt: &R) -> Result<(), ProgramFault> {
+/// The longest path of a folder has so many bytes.
+const FOLDER_LIMIT: usize = 4096;
+
+/// Tests the arguments, reads the source, writes the files that proofs want, if they are asked for, and prints the
+/// module.
+pub fn answer<R: Env + Files + Input + Print + AllocGlobal>(rt: &R) -> Result<(), ProgramFault> {
     let mut crate_name = [0u8; NAME_LIMIT];
     let crate_len = read_name(rt, 1, &mut crate_name)?;
     let mut module_name = [0u8; NAME_LIMIT];
     let module_len = read_name(rt, 2, &mut module_name)?;
-    test_no_more(rt)?;
+    let mut folder = [0u8; FOLDER_LIMIT];
+    let folder_len = read_folder(rt, &mut folder)?;
     let input = read_input(rt.alloc(), rt.reader())?;
-    let text = module_of(
-        rt.alloc(),
-        &crate_name[..crate_len],
-        &module_name[..module_len],
-        &input,
-    )?;
+    let crate_name = &crate_name[..crate_len];
+    let module_name = &module_name[..module_len];
+    let text = module_of(rt.alloc(), crate_name, module_name, &input)?;
+    if let Some(len) = folder_len {
+        let Ok(folder) = str::from_utf8(&folder[..len]) else {
+            return Err(ProgramFault::Arguments);
+        };
+        let files = proofs_of(rt.alloc(), crate_name, module_name, &input)?;
+        update_files(rt, folder, module_name, &files)?;
+    }
     write_output(&mut io::writer(rt), text.as_bytes())
-}
-
-// The module of a source.
-fn module_of(
-    alloc: Global,
-    crate_name: &[u8],
-    module_name: &[u8],
-    input: &[u8],
-) -> Result<Text, DeriveError> {
-    let source = read_source(alloc, input)?;
-    write_items(alloc, crate_name, module_name, &source)
 }
 
 // Reads a name among the arguments, and returns its length. No clause can say what the arguments are.
@@ -56,7 +54,7 @@ fn read_name<E: Env>(
     match env.arg(place, name) {
         Ok(len) if is_name(&name[..len]) => Ok(len),
         Ok(_) => Err(ProgramFault::NotAName),
-        Err(FillError::NotPresent) => Err(ProgramFault::TwoArguments),
+        Err(FillError::NotPresent) => Err(ProgramFault::Arguments),
         Err(FillError::TooLong) => Err(ProgramFault::NotAName),
     }
 }
@@ -89,12 +87,32 @@ fn is_of_name(byte: u8) -> bool
     byte.is_ascii_lowercase() || byte.is_ascii_digit() || byte == b'_'
 }
 
-// Tests that there is no third argument.
-fn test_no_more<E: Env>(env: &E) -> Result<(), ProgramFault> {
+// Reads the folder after `--proofs`, if that stands there, and returns its length.
+fn read_folder<E: Env>(
+    env: &E,
+    folder: &mut [u8; FOLDER_LIMIT],
+) -> Result<Option<usize>, ProgramFault>
+    ensures { IfOk result (λ len. IfSome len (λ len. len ≤ FOLDER_LIMIT)) }
+{
+    let mut flag = [0u8; NAME_LIMIT];
+    match env.arg(3, &mut flag) {
+        Err(FillError::NotPresent) => Ok(None),
+        Ok(len) if &flag[..len] == "--proofs".as_bytes() => {
+            let len = read_last(env, folder)?;
+            Ok(Some(len))
+        }
+        _ => Err(ProgramFault::Arguments),
+    }
+}
+
+// Reads the folder, after which there is no argument, and returns its length.
+fn read_last<E: Env>(env: &E, folder: &mut [u8; FOLDER_LIMIT]) -> Result<usize, ProgramFault>
+    ensures { IfOk result (λ len. len ≤ FOLDER_LIMIT) }
+{
     let mut next = [0u8; 1];
-    match env.arg(3, &mut next) {
-        Err(FillError::NotPresent) => Ok(()),
-        _ => Err(ProgramFault::TwoArguments),
+    match (env.arg(4, folder), env.arg(5, &mut next)) {
+        (Ok(len), Err(FillError::NotPresent)) => Ok(len),
+        _ => Err(ProgramFault::Arguments),
     }
 }
 
