@@ -202,11 +202,12 @@ begins-front ks i is = elim (cases_lt i (length ks)) [
   | inr past ↦ ([], ks, append-nil _ ∙ ap (λ l. l ++ slice_index_or ks i End ∷ []) (take_all i ks past) ∙ ap (λ k. ks ++ k ∷ []) (get_or_past ks i End past), is)
 ]
 
-pub fault_here : (ks p : List Kind) (s : State) (fault : Unexpected) → IsRead p s → take fault.place ks ≡ p → fault.expected ≡ from_list (map bit (coming s.place s.depth))
+pub fault_here : (ks p : List Kind) (s : State) (fault : Unexpected) → IsRead p s → fault.place ≤ length ks → take fault.place ks ≡ p → fault.expected ≡ from_list (map bit (coming s.place s.depth))
     → fault.found ≡ slice_index_or ks fault.place End → contains fault.expected (bit fault.found) ≡ false → IsFault ks fault
-fault_here ks p s fault read before is found not = record {
+fault_here ks p s fault read within before is found not = record {
   no_expression = λ e. refused ((expected fault.found).1 (subst (λ k. Begins (take fault.place ks ++ k ∷ [])) (sym found) (begins-front ks fault.place e)));
   begins = subst Begins (sym before) (reached-begins s.place s.depth p read.reached);
+  within = within;
   found = found;
   not_expected = refused;
   expected = expected;
@@ -225,7 +226,8 @@ pub fault_within : (tokens : List Token) (i : ℕ) (s : State) (d : Token) (kind
     → kinds ≡ from_list (map bit (coming s.place s.depth)) → contains kinds (bit (get_or tokens i d).kind) ≡ false
     → IsFault (kinds_of tokens) (record { place = i; found = (get_or tokens i d).kind; expected = kinds })
 fault_within tokens i s d kinds within read is not =
-    fault_here (kinds_of tokens) (kinds_of (take i tokens)) s (record { place = i; found = (get_or tokens i d).kind; expected = kinds }) read
+    let near : i ≤ length (kinds_of tokens) = omega (arith, length-map tokens (λ (t : Token). t.kind)) in
+    fault_here (kinds_of tokens) (kinds_of (take i tokens)) s (record { place = i; found = (get_or tokens i d).kind; expected = kinds }) read near
     (take-map (λ (t : Token). t.kind) i tokens) is (sym (get_or-map (λ (t : Token). t.kind) tokens i d End within)) not
 
 pub fault_at_end : (tokens : List Token) (s : State) (kinds : BitSet) → IsRead (kinds_of tokens) s
@@ -233,5 +235,6 @@ pub fault_at_end : (tokens : List Token) (s : State) (kinds : BitSet) → IsRead
     → IsFault (kinds_of tokens) (record { place = length tokens; found = End; expected = kinds })
 fault_at_end tokens s kinds read is not =
     let same : length (kinds_of tokens) ≤ length tokens = omega (arith, length-map tokens (λ (t : Token). t.kind)) in
-    fault_here (kinds_of tokens) (kinds_of tokens) s (record { place = length tokens; found = End; expected = kinds }) read
+    let near : length tokens ≤ length (kinds_of tokens) = omega (arith, length-map tokens (λ (t : Token). t.kind)) in
+    fault_here (kinds_of tokens) (kinds_of tokens) s (record { place = length tokens; found = End; expected = kinds }) read near
     (take_all (length tokens) (kinds_of tokens) same) is (sym (get_or_past (kinds_of tokens) (length tokens) End same)) not

@@ -5,7 +5,7 @@
 --     IsExpression      the four ways to write one
 --     Begins      a list with which an expression, followed by the end, begins
 --     IsFault      the first token that may not come, and with it each kind that may
-use Rattle.std.specs.Prelude.{◌≡◌, ◌↔◌, ℕ, Bool, true, false, List, [], ◌∷◌, ◌++◌, map, take, IsTrue}
+use Rattle.std.specs.Prelude.{◌≡◌, ◌↔◌, ℕ, Bool, true, false, List, [], ◌∷◌, ◌++◌, ◌≤◌, map, take, length, IsTrue}
 use Rattle.std.specs.List.{slice_index_or}
 use Rattle.enumset_repr.specs.BitSet.{contains}
 use Rattle.enumset_sets.specs.Elements.{in_place}
@@ -42,6 +42,7 @@ pub record IsFault (ks : List Kind) (fault : Unexpected) : Type 0 where
   pub no_expression : IsExpression ks → ⊥
   -- what is before the fault begins an expression, and with what is found there it begins none
   pub begins : Begins (take fault.place ks)
+  pub within : fault.place ≤ length ks
   pub found : fault.found ≡ slice_index_or ks fault.place End
   pub not_expected : IsTrue (contains fault.expected (bit fault.found)) → ⊥
   -- a kind is expected if and only if what is before it, with that kind next, begins an expression
