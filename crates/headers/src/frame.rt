@@ -2,7 +2,7 @@
 
 ghost use Rattle.std.specs.Prelude.{◌≡◌, ◌≢◌, ◌↔◌, ◌+◌, ◌<◌, ◌≤◌, ℕ, List, length, slice_index, IsOk, IsOkAnd, IfOk, IfErr};
 ghost use Rattle.enumset_repr.specs.BitSet as set;
-ghost use Rattle.headers.specs.Frames.{bit, known, reserved, wire_of};
+ghost use Rattle.headers.specs.Frames.{bit, known, reserved, wire_of, fault_of};
 
 use crate::flag::Flag;
 use crate::flags::relay_flags;
@@ -68,13 +68,13 @@ impl Frame<'_> {
     }
 }
 
-/// The frame that bytes are.
+/// The frame that bytes are, or why they are none.
 pub fn read_frame(bytes: &[u8]) -> Result<Frame<'_>, FrameFault>
     ensures written { IfOk result (λ frame. bytes.now ≡ wire_of frame.flags frame.body.now) }
     ensures back { (flags : set.BitSet) (body : List ℕ) → bytes.now ≡ wire_of flags body →
         IsOkAnd result (λ frame. (frame.flags ≡ flags) × (frame.body.now ≡ body)) }
     ensures short { IfOk result (λ frame. length frame.body.now < 256) }
-    ensures no_header { (result ≡ Err FrameFault.NoHeader) ↔ (length bytes.now < 2) }
+    ensures fault { IfErr result (λ fault. fault ≡ fault_of bytes.now) }
 {
     let [flags, stated, body @ ..] = bytes else {
         return Err(FrameFault::NoHeader);
