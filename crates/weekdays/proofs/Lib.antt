@@ -1,0 +1,2 @@
+pub mod DateLaws
+pub mod WeekLaws
