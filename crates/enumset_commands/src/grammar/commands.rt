@@ -92,5 +92,10 @@ fn three_fields(name: &[u8], x: &[u8], y: &[u8], z: &[u8]) -> Option<Command>
         return Some(command);
     }
     // registers are numbers of 8 bits
-    three_registers(name, first, u8::try_from(width).ok()?, u8::try_from(value).ok()?)
+    three_registers(
+        name,
+        first,
+        u8::try_from(width).ok()?,
+        u8::try_from(value).ok()?,
+    )
 }

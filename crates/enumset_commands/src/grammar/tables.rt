@@ -129,7 +129,7 @@ pub(super) fn register_and_words(name: &[u8], r: u8, words: WordList) -> Option<
     })
 }
 
-/// Whether a name is this word. At the length of an array a comparison takes no call.
+/// Whether a name is this word. The compiler knows the length of an array, so most comparisons end at the length.
 #[inline(always)]
 #[tactic(auto, using(crate::proofs::Names::other_lengths))]
 pub(super) fn is<const N: usize>(name: &[u8], word: &[u8; N]) -> bool
