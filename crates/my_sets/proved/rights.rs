@@ -1,0 +1,6 @@
+#[derive(EnumSetType)]
+pub enum Right {
+    Read,
+    Write,
+    Share,
+}

@@ -1,0 +1,25 @@
+-- From here on enumset_derive writes this, from the enums of rights.
+-- The values of the enum Right and their bits.
+--     elements      the bit of each value, and the list of the bits
+--     bit, valid      the bit of a value;  the set of the valid bits
+--     values      the values, in the order of the declaration
+use Rattle.std.specs.Prelude.{ℕ, List, [], ◌∷◌}
+use Rattle.enumset_repr.specs.BitSet.{BitSet}
+use Rattle.enumset_sets.specs.Elements.{Elements, in_place, valid_bits}
+use Rattle.my_sets.specs.contracts.rights.Right.{the_type}
+use Rattle.my_sets.specs.declared.rights.Right.{Right}
+use Rattle.my_sets.specs.declared.rights.Right.TheVariants as variant
+
+abbrev pub elements : Elements Right
+elements = in_place the_type
+
+abbrev pub bit : Right → ℕ
+bit value = elements.bit value
+
+abbrev pub valid : BitSet
+valid = valid_bits elements
+
+abbrev pub values : List Right
+values = variant.Read ∷ variant.Write ∷ variant.Share ∷ []
+
+-- Up to here enumset_derive writes this, from the enums of rights.
