@@ -138,37 +138,3 @@ impl fmt::Display for Refusal {
         Ok(())
     }
 }
-
-#[cfg(test)]
-mod tests {
-    use super::*;
-    use crate::event::Event;
-
-    #[test]
-    fn a_transition_that_breaks_a_rule_is_found(rt: HostRuntime) {
-        let never_both = Rule::NeverBoth(Flag::Open, Flag::Locked);
-        let none = EnumSet::new();
-        let locked = EnumSet::only(Flag::Locked);
-        let lock = Event::Lock.transition();
-        let careless = Transition::new(EnumSet::only(Flag::Powered), none, none, locked);
-        // Of what is open and locked there is nothing that the rule holds of.
-        let late = Transition::new(locked | Flag::Open, none, none, locked);
-        assert!(rt; lock.keeps(never_both));
-        assert!(rt; !careless.keeps(never_both));
-        assert!(rt; late.keeps(never_both));
-        assert!(rt; careless.keeps(Rule::Implies(Flag::Locked, Flag::Powered)));
-    }
-
-    #[test]
-    fn runs(rt: HostRuntime) {
-        let events = [
-            Event::PowerOn,
-            Event::Open,
-            Event::Lock,
-            Event::Close,
-            Event::Lock,
-        ];
-        let state = run(EnumSet::new(), &events.map(|event| event.transition()));
-        assert_eq!(rt; state, EnumSet::from([Flag::Locked, Flag::Powered]));
-    }
-}

@@ -13,7 +13,7 @@ use Rattle.enumset_derive_plan.specs.declared.plan.Store.TheVariants.{Integer, W
 use Rattle.enumset_derive_module.specs.Templates.{lines_of, filled}
 use Rattle.enumset_derive_module.specs.Layout.{wrapped, joined, each_on_a_line}
 use Rattle.enumset_derive_module.specs.Words.{numbers_of}
-use Rattle.enumset_derive_module.specs.Lists.{list_text, list_start}
+use Rattle.enumset_derive_module.specs.Lists.{list_start, list_text}
 
 -- a number as it is
 abbrev pub number_template : List ℕ
@@ -97,14 +97,14 @@ all_bits_text representation (Integer t n) = decimal n
 all_bits_text representation (Words ws) = array_text representation ws.items
 
 -- after `    ghost ALL_BITS = { ` a line has 77 columns left
-unfoldable pub all_bits_list : Store → List ℕ
-all_bits_list (Integer t n) = decimal n
-all_bits_list (Words ws) = list_text 77 (numbers_of number_word_template ws.items)
+unfoldable pub all_bits_list : List ℕ → Store → List ℕ
+all_bits_list start (Integer t n) = decimal n
+all_bits_list start (Words ws) = list_text start 77 (numbers_of number_word_template ws.items)
 
 unfoldable pub constants_text : Plan → List ℕ
 constants_text plan =
     filled constants_template
-    (all_bits_list plan.store
+    (all_bits_list list_start plan.store
     ∷ representation_text plan.store
     ∷ all_bits_text (representation_text plan.store) plan.store
     ∷ decimal plan.bit_width

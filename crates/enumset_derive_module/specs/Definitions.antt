@@ -9,7 +9,7 @@ use Rattle.enumset_derive_module.specs.declared.form.Form.{Form}
 use Rattle.enumset_derive_module.specs.declared.form.Form.TheVariants.{InPlace, ByDiscriminant, ByArms}
 use Rattle.enumset_derive_module.specs.Templates.{lines_of, filled}
 use Rattle.enumset_derive_module.specs.Words.{words_of}
-use Rattle.enumset_derive_module.specs.Lists.{list_text}
+use Rattle.enumset_derive_module.specs.Lists.{proof_list_start, list_text}
 use Rattle.enumset_derive_module.specs.ElementTypes.{value_word_template, elements_text}
 
 -- what the definitions of an enum are
@@ -69,5 +69,5 @@ definitions_text crate_name module_name declaration plan form =
     (definitions_about declaration.name
     ∷ definitions_uses crate_name module_name declaration.name form
     ∷ declaration.name
-    ∷ elements_text form declaration plan
-    ∷ list_text 91 (words_of value_word_template declaration.name declaration.variants.items plan.bits.items) ∷ [])
+    ∷ elements_text proof_list_start form declaration plan
+    ∷ list_text proof_list_start 91 (words_of value_word_template declaration.name declaration.variants.items plan.bits.items) ∷ [])

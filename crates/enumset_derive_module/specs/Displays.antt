@@ -7,7 +7,7 @@ use Rattle.enumset_derive_plan.specs.declared.plan.Plan.{Plan}
 use Rattle.enumset_derive_module.specs.Templates.{lines_of, filled}
 use Rattle.enumset_derive_module.specs.Layout.{each_on_a_line}
 use Rattle.enumset_derive_module.specs.Words.{words_of}
-use Rattle.enumset_derive_module.specs.Lists.{list_text}
+use Rattle.enumset_derive_module.specs.Lists.{list_start, list_text}
 use Rattle.enumset_derive_module.specs.Names.{name_word_template}
 
 -- the arm of a variant
@@ -64,7 +64,7 @@ all_display_text crate_name module_name declaration plan =
     (crate_name
     ∷ module_name
     ∷ declaration.name
-    ∷ list_text 90 (words_of name_word_template declaration.name declaration.variants.items plan.bits.items)
+    ∷ list_text list_start 90 (words_of name_word_template declaration.name declaration.variants.items plan.bits.items)
     ∷ choice_text declaration plan ∷ [])
 
 unfoldable pub display_text : List ℕ → List ℕ → EnumDeclaration → Plan → List ℕ

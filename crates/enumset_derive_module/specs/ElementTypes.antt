@@ -20,7 +20,7 @@ use Rattle.enumset_derive_module.specs.Layout.{each_on_a_line}
 use Rattle.enumset_derive_module.specs.Words.{words_of}
 use Rattle.enumset_derive_module.specs.Calls.{variant_of_text}
 use Rattle.enumset_derive_module.specs.Constants.{representation_text, constants_text}
-use Rattle.enumset_derive_module.specs.Lists.{list_text}
+use Rattle.enumset_derive_module.specs.Lists.{list_start, list_text}
 
 abbrev pub law_name : Store → List ℕ
 law_name (Integer t n) = codes "lawful_in_integer"
@@ -165,11 +165,11 @@ element_type_template = lines_of
     codes "}" ∷ [])
 
 -- after `    ghost elements = { with_bits the_type (` a line has 59 columns left
-unfoldable pub elements_text : Form → EnumDeclaration → Plan → List ℕ
-elements_text InPlace declaration plan = in_place_template
-elements_text form declaration plan =
+unfoldable pub elements_text : List ℕ → Form → EnumDeclaration → Plan → List ℕ
+elements_text start InPlace declaration plan = in_place_template
+elements_text start form declaration plan =
     filled with_bits_template
-    (list_text 59 (words_of bit_word_template declaration.name declaration.variants.items plan.bits.items) ∷ [])
+    (list_text start 59 (words_of bit_word_template declaration.name declaration.variants.items plan.bits.items) ∷ [])
 
 unfoldable pub laws_text : Form → List ℕ → List ℕ
 laws_text InPlace law = filled in_place_laws_template (law ∷ [])
@@ -194,7 +194,7 @@ unfoldable pub values_text : EnumDeclaration → Plan → List ℕ
 values_text declaration plan =
     if declaration.options.has_display
     then filled values_template
-    (list_text 79 (words_of value_word_template declaration.name declaration.variants.items plan.bits.items) ∷ [])
+    (list_text list_start 79 (words_of value_word_template declaration.name declaration.variants.items plan.bits.items) ∷ [])
     else []
 
 unfoldable pub element_uses_text : List ℕ → List ℕ → EnumDeclaration → Plan → Form → List ℕ
@@ -213,7 +213,7 @@ element_head_text crate_name module_name declaration plan form =
     (declaration.name
     ∷ element_uses_text crate_name module_name declaration plan form
     ∷ representation_text plan.store
-    ∷ elements_text form declaration plan
+    ∷ elements_text list_start form declaration plan
     ∷ values_text declaration plan ∷ [])
 
 unfoldable pub arms_text : EnumDeclaration → Plan → List ℕ

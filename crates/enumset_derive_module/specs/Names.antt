@@ -12,7 +12,7 @@ use Rattle.enumset_derive_plan.specs.declared.plan.Store.{Store}
 use Rattle.enumset_derive_plan.specs.declared.plan.Store.TheVariants.{Integer, Words}
 use Rattle.enumset_derive_module.specs.Templates.{lines_of, filled}
 use Rattle.enumset_derive_module.specs.Words.{words_of}
-use Rattle.enumset_derive_module.specs.Lists.{list_text}
+use Rattle.enumset_derive_module.specs.Lists.{list_start, list_text}
 use Rattle.enumset_derive_module.specs.Calls.{names_of_text}
 use Rattle.enumset_derive_module.specs.ElementTypes.{variant_word_template, enum_word_template}
 
@@ -61,7 +61,7 @@ unfoldable pub all_names_text : EnumDeclaration → Plan → List ℕ
 all_names_text declaration plan =
     filled names_template
     (declaration.name
-    ∷ list_text 80 (words_of name_word_template declaration.name declaration.variants.items plan.bits.items)
+    ∷ list_text list_start 80 (words_of name_word_template declaration.name declaration.variants.items plan.bits.items)
     ∷ names_of_text (filled enum_word_template (declaration.name ∷ [])
     ∷ words_of variant_word_template declaration.name declaration.variants.items plan.bits.items) ∷ [])
 

@@ -12,6 +12,7 @@ use Rattle.enumset_derive_plan.specs.declared.plan.Store.TheVariants.{Integer, W
 use Rattle.enumset_derive_module.specs.declared.form.Form.{Form}
 use Rattle.enumset_derive_module.specs.declared.form.Form.TheVariants.{InPlace, ByDiscriminant, ByArms}
 use Rattle.enumset_derive_module.specs.Templates.{lines_of, filled}
+use Rattle.enumset_derive_module.specs.Lists.{proof_list_start}
 use Rattle.enumset_derive_module.specs.Constants.{all_bits_list}
 use Rattle.enumset_derive_module.specs.ElementTypes.{law_name, law_text}
 
@@ -130,8 +131,8 @@ laws_own_uses crate_name module_name name =
     filled laws_own_uses_template (crate_name ∷ module_name ∷ name ∷ [])
 
 unfoldable pub all_bits : Store → List ℕ
-all_bits (Integer t n) = filled bits_template (all_bits_list (Integer t n) ∷ [])
-all_bits (Words ws) = filled bits_of_template (all_bits_list (Words ws) ∷ [])
+all_bits (Integer t n) = filled bits_template (all_bits_list proof_list_start (Integer t n) ∷ [])
+all_bits (Words ws) = filled bits_of_template (all_bits_list proof_list_start (Words ws) ∷ [])
 
 unfoldable pub lawful_text : Plan → Form → List ℕ
 lawful_text plan form =

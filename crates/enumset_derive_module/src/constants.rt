@@ -58,7 +58,7 @@ const CONSTANTS: &str = "    ghost ALL_BITS = { $0 };
 pub(crate) fn constants_text(alloc: Global, plan: &Plan) -> Result<Vec<u8>, AllocError>
     ensures { IfOk result (λ out. out.items ≡ constants_text plan.now) }
 {
-    let list = all_bits_list(alloc, &plan.store)?;
+    let list = all_bits_list(alloc, LIST_START, &plan.store)?;
     let representation = representation_text(alloc, &plan.store)?;
     let all_bits = all_bits_text(alloc, &representation, &plan.store)?;
     filled_constants(alloc, &list, &representation, &all_bits, plan)
@@ -116,17 +116,21 @@ fn all_bits_text(alloc: Global, representation: &[u8], store: &Store) -> Result<
     }
 }
 
-/// The value of `ALL_BITS` in a specification.
+/// The value of `ALL_BITS` in a specification, where a new line begins by the text `start`.
 #[tactic(auto, unfolding(crate::specs::Constants::all_bits_list))]
-pub(crate) fn all_bits_list(alloc: Global, store: &Store) -> Result<Vec<u8>, AllocError>
-    ensures { IfOk result (λ out. out.items ≡ all_bits_list store.now) }
+pub(crate) fn all_bits_list(
+    alloc: Global,
+    start: &str,
+    store: &Store,
+) -> Result<Vec<u8>, AllocError>
+    ensures { IfOk result (λ out. out.items ≡ all_bits_list start.now store.now) }
 {
     match store {
         Store::Integer(_, number) => Ok(number.to_string(alloc)?.into_bytes()),
         Store::Words(words) => {
             let mut list = Vec::new(alloc);
             append_numbers(alloc, &mut list, NUMBER_WORD, words)?;
-            list_text(alloc, 77, list)
+            list_text(alloc, start, 77, list)
         }
     }
 }

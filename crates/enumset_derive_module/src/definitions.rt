@@ -6,6 +6,7 @@ ghost use Rattle.enumset_derive_module.specs.Definitions.{definitions_text};
 
 use crate::element_type::{VALUE_WORD, elements_text, list_of};
 use crate::form::Form;
+use crate::lists::PROOF_LIST_START;
 use crate::templates::filled;
 use enumset_derive_plan::{EnumDeclaration, Plan};
 use std::alloc::{AllocError, Global};
@@ -60,8 +61,8 @@ pub(crate) fn definitions_text<'a>(
 {
     let about = definitions_about(alloc, declaration.name.as_bytes())?;
     let uses = definitions_uses(alloc, crate_name, module_name, declaration, form)?;
-    let elements = elements_text(alloc, form, declaration, plan)?;
-    let values = list_of(alloc, 91, VALUE_WORD, declaration, plan)?;
+    let elements = elements_text(alloc, PROOF_LIST_START, form, declaration, plan)?;
+    let values = list_of(alloc, PROOF_LIST_START, 91, VALUE_WORD, declaration, plan)?;
     filled(
         alloc,
         DEFINITIONS,

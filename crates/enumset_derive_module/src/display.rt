@@ -5,6 +5,7 @@ ghost use Rattle.enumset_derive_module.specs.Displays.{choice_text, matching_tex
 
 use crate::element_type::list_of;
 use crate::layout::append_lines;
+use crate::lists::LIST_START;
 use crate::names::NAME_WORD;
 use crate::templates::filled;
 use crate::words::append_words;
@@ -70,7 +71,7 @@ fn all_display_text<'a>(
     ensures { IfOk result (λ out. out.items
         ≡ all_display_text crate_name.now module_name.now declaration.now plan.now) }
 {
-    let list = list_of(alloc, 90, NAME_WORD, declaration, plan)?;
+    let list = list_of(alloc, LIST_START, 90, NAME_WORD, declaration, plan)?;
     let choice = choice_text(alloc, declaration, plan)?;
     filled(
         alloc,

@@ -12,7 +12,7 @@ use crate::calls::variant_of_text;
 use crate::constants::{constants_text, representation_text};
 use crate::form::Form;
 use crate::layout::append_lines;
-use crate::lists::list_text;
+use crate::lists::{LIST_START, list_text};
 use crate::templates::filled;
 use crate::words::{append_word, append_words};
 use enumset_derive_plan::{EnumDeclaration, Plan, Store, Variant};
@@ -155,7 +155,7 @@ fn element_head_text<'a>(
 {
     let uses = element_uses_text(alloc, crate_name, module_name, declaration, plan, form)?;
     let representation = representation_text(alloc, &plan.store)?;
-    let elements = elements_text(alloc, form, declaration, plan)?;
+    let elements = elements_text(alloc, LIST_START, form, declaration, plan)?;
     let values = values_text(alloc, declaration, plan)?;
     filled(
         alloc,
@@ -248,34 +248,36 @@ pub(crate) fn law_text(alloc: Global, form: Form, law: &[u8]) -> Result<Vec<u8>,
     }
 }
 
-/// The elements of a form.
+/// The elements of a form, where a new line begins by the text `start`.
 #[tactic(auto, unfolding(crate::specs::ElementTypes::elements_text))]
 pub(crate) fn elements_text(
     alloc: Global,
+    start: &str,
     form: Form,
     declaration: &EnumDeclaration,
     plan: &Plan,
 ) -> Result<Vec<u8>, AllocError>
-    ensures { IfOk result (λ out. out.items ≡ elements_text form declaration.now plan.now) }
+    ensures { IfOk result (λ out. out.items ≡ elements_text start.now form declaration.now plan.now) }
 {
     match form {
         Form::InPlace => Vec::from_slice(alloc, IN_PLACE.as_bytes()),
         Form::ByDiscriminant | Form::ByArms => {
-            let bits = list_of(alloc, 59, BIT_WORD, declaration, plan)?;
+            let bits = list_of(alloc, start, 59, BIT_WORD, declaration, plan)?;
             filled(alloc, WITH_BITS, &[&bits])
         }
     }
 }
 
-/// A list with a word for each variant, where a line has so many columns left.
+/// A list with a word for each variant, where a line has so many columns left, and a new one begins by the text `start`.
 pub(crate) fn list_of(
     alloc: Global,
+    start: &str,
     room: usize,
     template: &str,
     declaration: &EnumDeclaration,
     plan: &Plan,
 ) -> Result<Vec<u8>, AllocError>
-    ensures { IfOk result (λ out. out.items ≡ list_text room
+    ensures { IfOk result (λ out. out.items ≡ list_text start.now room
         (words_of template.now declaration.now.name declaration.now.variants.items plan.now.bits.items)) }
 {
     let mut words = Vec::new(alloc);
@@ -287,7 +289,7 @@ pub(crate) fn list_of(
         &declaration.variants,
         &plan.bits,
     )?;
-    list_text(alloc, room, words)
+    list_text(alloc, start, room, words)
 }
 
 // Where the variants are from, if the values are listed.
@@ -323,7 +325,7 @@ fn values_text(
     if !declaration.options.has_display {
         return Ok(Vec::new(alloc));
     }
-    let values = list_of(alloc, 79, VALUE_WORD, declaration, plan)?;
+    let values = list_of(alloc, LIST_START, 79, VALUE_WORD, declaration, plan)?;
     filled(alloc, VALUES, &[&values])
 }
 

@@ -5,6 +5,7 @@ ghost use Rattle.enumset_derive_module.specs.Names.{is_by_names, all_names_text,
 
 use crate::calls::names_of_text;
 use crate::element_type::{ENUM_WORD, VARIANT_WORD, list_of};
+use crate::lists::LIST_START;
 use crate::templates::filled;
 use crate::words::{append_word, append_words};
 use enumset_derive_plan::{EnumDeclaration, Plan, Serialized, Store};
@@ -72,7 +73,7 @@ fn all_names_text(
 ) -> Result<Vec<u8>, AllocError>
     ensures { IfOk result (λ out. out.items ≡ all_names_text declaration.now plan.now) }
 {
-    let list = list_of(alloc, 80, NAME_WORD, declaration, plan)?;
+    let list = list_of(alloc, LIST_START, 80, NAME_WORD, declaration, plan)?;
     let mut words = Vec::new(alloc);
     append_word(alloc, &mut words, ENUM_WORD, declaration.name.as_bytes())?;
     append_words(

@@ -11,6 +11,7 @@ ghost use Rattle.enumset_derive_module.specs.Templates.{filled};
 use crate::constants::all_bits_list;
 use crate::element_type::{law_name, law_text};
 use crate::form::Form;
+use crate::lists::PROOF_LIST_START;
 use crate::templates::filled;
 use enumset_derive_plan::{EnumDeclaration, Plan, Store};
 use std::alloc::{AllocError, Global};
@@ -186,7 +187,7 @@ fn laws_own_uses<'a>(
 fn all_bits(alloc: Global, store: &Store) -> Result<Vec<u8>, AllocError>
     ensures { IfOk result (λ out. out.items ≡ all_bits store.now) }
 {
-    let list = all_bits_list(alloc, store)?;
+    let list = all_bits_list(alloc, PROOF_LIST_START, store)?;
     match store {
         Store::Integer(_, _) => filled(alloc, BITS, &[&list]),
         Store::Words(_) => filled(alloc, BITS_OF, &[&list]),

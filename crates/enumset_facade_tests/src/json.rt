@@ -3,13 +3,13 @@
 //!
 //! A row has a text and what it is read as: where what is unknown is dropped, and where it is refused.
 
-use crate::named::{Letters, Sparse, Wide};
 use crate::sending_json::{sent_as_list_text, sent_as_number, sent_as_words};
 use enumset::set_json::{
     JsonFault, JsonWidth, Unknown, from_list_text, from_map_text, from_number_text,
     from_words_text, to_list_text, to_map_text, to_number_text, to_words_text,
 };
 use enumset::{EnumSet, EnumSetNames, EnumSetType};
+use enumset_json_types::{Letters, Sparse, Wide};
 use enumset_sizes::{In5Words, In17Words};
 use std::alloc::Global;
 use std::fmt;

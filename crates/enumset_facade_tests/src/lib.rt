@@ -17,8 +17,6 @@ mod macros;
 #[cfg(test)]
 mod mixed_json;
 #[cfg(test)]
-mod named;
-#[cfg(test)]
 mod no_variant;
 #[cfg(test)]
 mod older_readers;
@@ -30,8 +28,6 @@ mod reading_newer;
 mod refused;
 #[cfg(test)]
 mod sending_json;
-#[cfg(test)]
-mod serialized;
 #[cfg(test)]
 mod serialized_sets;
 #[cfg(test)]

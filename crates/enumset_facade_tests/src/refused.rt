@@ -4,7 +4,6 @@
 //! `scripts/refused-memory` refuses each allocation in turn, and knows how each test must end.
 
 use crate::json::{Form, read, write};
-use crate::named::{Letters, Sparse};
 use enumset::EnumSet;
 use enumset::set::MixedEnumSet;
 use enumset::set_json::{
@@ -12,6 +11,7 @@ use enumset::set_json::{
     mixed_from_number_text, mixed_from_words_text, mixed_to_number, mixed_to_number_text,
     mixed_to_words_text, to_number, to_words,
 };
+use enumset_json_types::{Letters, Sparse};
 use enumset_worked::Marks;
 use std::alloc::Global;
 use std::process::Abort;

@@ -1,8 +1,8 @@
 //! Tests of types whose sets have a form in JSON of their own, as `enumset_derive` writes them.
 
-use crate::serialized::{InWords, Listed, Mapped, Numbered};
 use enumset::set_json::JsonFault;
 use enumset::{EnumSet, EnumSetType, enum_set};
+use enumset_json_types::{InWords, Listed, Mapped, Numbered, Of64, Priority};
 use serde_json::Value;
 use std::alloc::Global;
 use std::fmt;
@@ -39,6 +39,10 @@ fn sets_are_written_in_the_form_of_their_type(rt: HostRuntime) -> Result<(), Fai
     let alloc = rt.alloc();
     let numbered = Numbered::to_json(alloc, &enum_set!(Numbered::Read | Numbered::Share));
     expect_written(&rt, alloc, numbered, "5")?;
+    let priorities = Priority::to_json(alloc, &enum_set!(Priority::Urgent | Priority::Low));
+    expect_written(&rt, alloc, priorities, "40960")?;
+    let of_64 = Of64::to_json(alloc, &EnumSet::all());
+    expect_written(&rt, alloc, of_64, "18446744073709551615")?;
     let in_words = InWords::to_json(alloc, &EnumSet::all());
     expect_written(&rt, alloc, in_words, "[2,0,0,256]")?;
     let listed = Listed::to_json(alloc, &EnumSet::all());
@@ -52,6 +56,10 @@ fn sets_are_read_in_the_form_of_their_type(rt: HostRuntime) -> Result<(), Fail> 
     let alloc = rt.alloc();
     let numbered = Numbered::from_json(&Value::from_str(alloc, "13")?);
     expect_read(&rt, alloc, numbered, "Ok(EnumSet(Read | Share))")?;
+    let priorities = Priority::from_json(&Value::from_str(alloc, "16385")?);
+    expect_read(&rt, alloc, priorities, "Ok(EnumSet(Normal))")?;
+    let of_64 = Of64::from_json(&Value::from_str(alloc, "9223372036854775809")?);
+    expect_read(&rt, alloc, of_64, "Ok(EnumSet(V0 | V63))")?;
     let in_words = InWords::from_json(&Value::from_str(alloc, "[2,0,0,1]")?);
     expect_read(&rt, alloc, in_words, "Err(UnknownBits)")?;
     let listed = Listed::from_json(&Value::from_str(alloc, "[\"Write\",\"Wirte\"]")?);

@@ -143,18 +143,3 @@ impl fmt::Display for Unexpected {
 }
 
 impl Error for Unexpected {}
-
-#[cfg(test)]
-mod tests {
-    use super::*;
-
-    // No line has the end among its tokens. Where a list has it, nothing may come after it.
-    #[test]
-    fn nothing_comes_after_the_end(rt: HostRuntime) {
-        let kinds = [Kind::Number, Kind::End];
-        let tokens = kinds.map(|kind| Token::new(kind, 1, 0));
-        let fault = check(&tokens).expect_err(&rt, "two ends");
-        assert_eq!(rt; fault.place, 2);
-        assert_eq!(rt; fault.expected, EnumSet::new());
-    }
-}

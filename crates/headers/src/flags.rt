@@ -46,18 +46,3 @@ pub fn back_at_newer(sent: EnumSet<NewerFlag>) -> MixedEnumSet<NewerFlag>
     let at_this_version = MixedEnumSet::<Flag>::from_repr(sent.as_repr());
     MixedEnumSet::from_repr(relay_flags(at_this_version).as_repr())
 }
-
-#[cfg(test)]
-mod tests {
-    use super::*;
-
-    #[test]
-    fn version_2_gets_its_flags_back(rt: HostRuntime) {
-        let sent = EnumSet::from([
-            NewerFlag::WantsReceipt,
-            NewerFlag::Encrypted,
-            NewerFlag::Traced,
-        ]);
-        assert_eq!(rt; back_at_newer(sent).as_repr(), 0b100_1100);
-    }
-}

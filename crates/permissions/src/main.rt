@@ -10,8 +10,6 @@ mod program;
 mod reader;
 mod rights;
 mod roles;
-#[cfg(test)]
-mod tests;
 
 use std::process::ExitCode;
 

@@ -15,7 +15,7 @@ pub enum Numbered {
 
 impl EnumSetType for Numbered {
     ghost use Rattle.enumset_sets.specs.Laws.Elements.{in_place, lawful_in_integer, lawful_in_place};
-    ghost use Rattle.enumset_facade_tests.specs.contracts.serialized.Numbered.{the_type};
+    ghost use Rattle.enumset_json_types.specs.contracts.forms.Numbered.{the_type};
 
     type Repr = u8;
 
@@ -96,7 +96,7 @@ pub enum InWords {
 impl EnumSetType for InWords {
     ghost use Rattle.std.specs.Prelude.{◌∷◌, []};
     ghost use Rattle.enumset_sets.specs.Laws.Elements.{with_bits, lawful_in_words};
-    ghost use Rattle.enumset_facade_tests.specs.contracts.serialized.InWords.{the_type};
+    ghost use Rattle.enumset_json_types.specs.contracts.forms.InWords.{the_type};
 
     type Repr = ArrayRepr<4>;
 
@@ -167,7 +167,7 @@ pub enum Listed {
 
 impl EnumSetType for Listed {
     ghost use Rattle.enumset_sets.specs.Laws.Elements.{in_place, lawful_in_integer, lawful_in_place};
-    ghost use Rattle.enumset_facade_tests.specs.contracts.serialized.Listed.{the_type};
+    ghost use Rattle.enumset_json_types.specs.contracts.forms.Listed.{the_type};
 
     type Repr = u8;
 
@@ -256,7 +256,7 @@ pub enum Mapped {
 
 impl EnumSetType for Mapped {
     ghost use Rattle.enumset_sets.specs.Laws.Elements.{in_place, lawful_in_integer, lawful_in_place};
-    ghost use Rattle.enumset_facade_tests.specs.contracts.serialized.Mapped.{the_type};
+    ghost use Rattle.enumset_json_types.specs.contracts.forms.Mapped.{the_type};
 
     type Repr = u8;
 

@@ -1,0 +1,25 @@
+-- From here on enumset_derive writes this, from the enums of forms.
+-- The values of the enum Listed and their bits.
+--     elements      the bit of each value, and the list of the bits
+--     bit, valid      the bit of a value;  the set of the valid bits
+--     values      the values, in the order of the declaration
+use Rattle.std.specs.Prelude.{ℕ, List, [], ◌∷◌}
+use Rattle.enumset_repr.specs.BitSet.{BitSet}
+use Rattle.enumset_sets.specs.Elements.{Elements, in_place, valid_bits}
+use Rattle.enumset_json_types.specs.contracts.forms.Listed.{the_type}
+use Rattle.enumset_json_types.specs.declared.forms.Listed.{Listed}
+use Rattle.enumset_json_types.specs.declared.forms.Listed.TheVariants as variant
+
+abbrev pub elements : Elements Listed
+elements = in_place the_type
+
+abbrev pub bit : Listed → ℕ
+bit value = elements.bit value
+
+abbrev pub valid : BitSet
+valid = valid_bits elements
+
+abbrev pub values : List Listed
+values = variant.Read ∷ variant.Write ∷ []
+
+-- Up to here enumset_derive writes this, from the enums of forms.
