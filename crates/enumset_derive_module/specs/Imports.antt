@@ -1,14 +1,14 @@
 -- What a module imports.
 --     place_from      where a name goes among names in order, counted from a number, unless it is there
 --     insert_name, insert_names      names in order with one more name;  with more names
---     is_path, is_glob, has_glob      a name is a path;  it stands for all;  some name does
+--     stands_alone, is_glob, has_glob      a name is a path or is renamed;  it stands for all names;  some name does
 --     is_array_below      a name is the representation in words, and the facade has it not
---     path_text, paths_text      the import of a name that is a path;  of all such names, each on a line
---     plain_names      the names that are no paths
+--     path_text, paths_text      the import of a name that stands alone;  of all such names, each on a line
+--     plain_names      the other names
 --     names_on_a_line, names_on_lines, listed_text      the import of such names
 --     names_text      the same, or of all names at once
 --     uses_text      the imports
-use Rattle.std.specs.Prelude.{ℕ, ◌+◌, Bool, not, ◌&&◌, if◌then◌else◌, ◌==◌, nat_lt, List, [], ◌∷◌, length, codes, insert, Option, Some, None}
+use Rattle.std.specs.Prelude.{ℕ, ◌+◌, Bool, not, ◌&&◌, ◌||◌, if◌then◌else◌, ◌==◌, nat_lt, List, [], ◌∷◌, length, codes, insert, Option, Some, None}
 use Rattle.std.specs.List.{flat_map, list_any}
 use Rattle.std.specs.Ordering.{nat_cmp, match_ordering}
 use Rattle.std.specs.Cmp.Lexicographic.{slice_cmp}
@@ -72,9 +72,9 @@ abbrev pub uses_template : List ℕ
 uses_template = lines_of
     (codes "$0$1" ∷ [])
 
--- 58 is `:`
-abbrev pub is_path : List ℕ → Bool
-is_path name = list_any (λ c. c == 58) name
+-- 58 is `:`, and no byte up to 32 is part of a name
+abbrev pub stands_alone : List ℕ → Bool
+stands_alone name = list_any (λ c. c == 58 || nat_lt c 33) name
 
 -- the crate `enumset_sets` has no representation in words
 abbrev pub is_array_below : List ℕ → List ℕ → Bool
@@ -82,7 +82,7 @@ is_array_below facade name = bytes_eq facade (codes "enumset_sets") && bytes_eq 
 
 abbrev pub path_text : List ℕ → List ℕ → List ℕ
 path_text facade name =
-    if not (is_path name) then [] else
+    if not (stands_alone name) then [] else
     (if is_array_below facade name
     then array_use_template
     else filled path_use_template (facade ∷ name ∷ []))
@@ -91,7 +91,7 @@ abbrev pub paths_text : List ℕ → List (List ℕ) → List ℕ
 paths_text facade names = flat_map (λ n. path_text facade n) names
 
 abbrev pub plain_names : List (List ℕ) → List (List ℕ)
-plain_names names = flat_map (λ n. if is_path n then [] else (n ∷ [])) names
+plain_names names = flat_map (λ n. if stands_alone n then [] else (n ∷ [])) names
 
 -- 42 is `*`
 abbrev pub is_glob : List ℕ → Bool

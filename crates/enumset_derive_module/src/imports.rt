@@ -1,7 +1,7 @@
 //! What a module imports.
 
 ghost use Rattle.std.specs.Prelude.{◌≡◌, ◌≤◌, length, IfOk, OnOk, IfSome};
-ghost use Rattle.enumset_derive_module.specs.Imports.{place_from, insert_name, insert_names, is_path, is_glob, has_glob};
+ghost use Rattle.enumset_derive_module.specs.Imports.{place_from, insert_name, insert_names, stands_alone, is_glob, has_glob};
 ghost use Rattle.enumset_derive_module.specs.Imports.{is_array_below, path_text, paths_text, plain_names, names_on_lines};
 ghost use Rattle.enumset_derive_module.specs.Imports.{names_on_a_line, listed_text, names_text, uses_text};
 
@@ -51,7 +51,7 @@ pub(crate) fn uses_text(alloc: Global, facade: &[u8], names: &[Text]) -> Result<
     filled(alloc, USES, &[&paths, &list])
 }
 
-// The imports of the names that are paths.
+// The imports of the names that stand alone.
 fn paths_text(alloc: Global, facade: &[u8], names: &[Text]) -> Result<Vec<u8>, AllocError>
     ensures { IfOk result (λ out. out.items ≡ paths_text facade.now names.now) }
 {
@@ -62,11 +62,11 @@ fn paths_text(alloc: Global, facade: &[u8], names: &[Text]) -> Result<Vec<u8>, A
     Ok(out)
 }
 
-// The import of a name that is a path.
+// The import of a name that stands alone.
 fn path_text(alloc: Global, facade: &[u8], name: &[u8]) -> Result<Vec<u8>, AllocError>
     ensures { IfOk result (λ out. out.items ≡ path_text facade.now name.now) }
 {
-    if !is_path(name) {
+    if !stands_alone(name) {
         Ok(Vec::new(alloc))
     } else if is_array_below(facade, name) {
         Vec::from_slice(alloc, ARRAY_USE.as_bytes())
@@ -82,24 +82,24 @@ fn is_array_below(facade: &[u8], name: &[u8]) -> bool
     facade == "enumset_sets".as_bytes() && name == "internal::ArrayRepr".as_bytes()
 }
 
-// The names that are no paths.
+// The other names.
 fn plain_names(alloc: Global, names: &[Text]) -> Result<Vec<Text>, AllocError>
     ensures { IfOk result (λ plain. plain.items ≡ plain_names names.now) }
 {
     let mut plain = Vec::new(alloc);
     for name in names {
-        if !is_path(name.as_bytes()) {
+        if !stands_alone(name.as_bytes()) {
             plain.push(Text::from(Vec::from_slice(alloc, name.as_bytes())?))?;
         }
     }
     Ok(plain)
 }
 
-// Whether a name is a path.
-fn is_path(name: &[u8]) -> bool
-    ensures { result ≡ is_path name.now }
+// Whether a name is a path or is renamed, so that it has a line of its own.
+fn stands_alone(name: &[u8]) -> bool
+    ensures { result ≡ stands_alone name.now }
 {
-    name.iter().any(|byte| *byte == b':')
+    name.iter().any(|byte| *byte == b':' || *byte <= b' ')
 }
 
 // Whether some name stands for all.
