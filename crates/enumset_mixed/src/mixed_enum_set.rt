@@ -227,7 +227,8 @@ impl<T: EnumSetTypeWithRepr> MixedEnumSet<T> {
     pub fn contains(&self, value: T) -> bool
         ensures { result ≡ set.contains self.now (T.elements.bit value) }
     {
-        self.has_bit(Self::bit_index(value))
+        self.repr.learn_is_value();
+        self.repr.has_bit(Self::bit_index(value))
     }
 
     /// Whether a bit is a member, valid or unknown. No bit at or past the width of the representation is a member.
@@ -254,7 +255,8 @@ impl<T: EnumSetTypeWithRepr> MixedEnumSet<T> {
         ensures inserted { self.new ≡ set.insert self.old value }
         ensures was_absent { result ≡ not (set.contains self.old value) }
     {
-        let is_absent = !self.has_bit(value);
+        self.repr.learn_is_value();
+        let is_absent = !self.repr.has_bit(value);
         self.repr.add_bit(value);
         self.repr.learn_is_value();
         is_absent
@@ -265,7 +267,12 @@ impl<T: EnumSetTypeWithRepr> MixedEnumSet<T> {
         ensures removed { self.new ≡ set.remove self.old (T.elements.bit value) }
         ensures was_present { result ≡ set.contains self.old (T.elements.bit value) }
     {
-        self.remove_bit(Self::bit_index(value))
+        let bit = Self::bit_index(value);
+        self.repr.learn_is_value();
+        let is_present = self.repr.has_bit(bit);
+        self.repr.remove_bit(bit);
+        self.repr.learn_is_value();
+        is_present
     }
 
     /// Removes a bit, valid or not, and returns whether it was present. A bit at or past the width of the
