@@ -38,20 +38,13 @@ pub(crate) fn truncated_low<T: EnumSetType>(taken: T::Repr) -> EnumSet<T>
     truncated(taken)
 }
 
-// Whether every member of a value is valid.
-fn is_valid<T: EnumSetType>(repr: T::Repr) -> bool
-    ensures { result ≡ set.is_subset (T.Repr.members repr) (valid_bits T.elements) }
-{
-    repr.and_not(valid_repr::<T>()).is_empty()
-}
-
 // The set that a value represents, if all its members are valid, else `None`.
 pub(crate) fn validated<T: EnumSetType>(repr: T::Repr) -> Option<EnumSet<T>>
     ensures valid { IsSome result
         ↔ IsTrue (set.is_subset (T.Repr.members repr) (valid_bits T.elements)) }
     ensures members { IfSome result (λ s. s ≡ T.Repr.members repr) }
 {
-    if is_valid::<T>(repr) {
+    if repr.is_subset_of(&valid_repr::<T>()) {
         Some(EnumSet::of_repr(repr))
     } else {
         None

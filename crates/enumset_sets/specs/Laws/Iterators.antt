@@ -2,7 +2,7 @@
 --     steps_by      such steps from the front, where each bit is shown in another form
 --     of_bits      an iterator yields the items whose bits are left
 --     of_shown      the same, where each bit is shown in another form
-use Rattle.std.proofs.Common.{◌≡◌, ◌∷◌, ℕ, List, Option, ap, subst, length}
+use Rattle.std.proofs.Common.{◌≡◌, ℕ, List, Option, ap, subst, length}
 use Rattle.std.specs.Iterator.{YieldsFirstBy}
 use Rattle.std.proofs.lemmas.Iterator.{YieldsList}
 use Rattle.std.proofs.lemmas.Iterator.Consumers.{YieldsList-from_shown}
