@@ -20,7 +20,7 @@ use Rattle.enumset_derive_plan.specs.Variants.{named_variants}
 pub record IsPlanOf (d : EnumDeclaration) (plan : Plan) : Type 0 where
   pub bits : IsPlanned d plan
   pub lawful : IsLawfulPlan (length d.variants.items) plan
-  pub stored : IsStoredAsAsked d.options.representation d.options.serialized plan
+  pub stored : IsStoredAsAsked d.options.representation plan
 
 unfoldable pub ArePlansOf : List Item → List Plan → Type 0
 ArePlansOf [] [] = Unit {0}

@@ -3,18 +3,17 @@
 --     IsPlanned      the plan has those of the enum's variants
 --     without_fields      an enum of so many variants without fields
 --     IsLawfulPlan      the plan passes the test that proves the laws of an element type
---     IsStoredAsAsked      a set is kept as the options ask, and is in JSON what they ask
+--     IsStoredAsAsked      a set is kept as the options ask
 use Rattle.std.specs.Prelude.{◌≡◌, ℕ, List, [], replicate, Option, Result, Ok, Err}
 use denote.Enum.Enum.{Sum}
 use denote.Enum.Declared.{Declared, rowss}
 use Rattle.enumset_sets.specs.Laws.Elements.{IsLawfulNumber, IsLawfulWords}
 use Rattle.enumset_derive_plan.specs.Variants.{named_variants, bits_of, numbers_of}
-use Rattle.enumset_derive_plan.specs.Stores.{kind_of, serialized_of, IsStore}
+use Rattle.enumset_derive_plan.specs.Stores.{kind_of, IsStore}
 use Rattle.enumset_derive_plan.specs.declared.number.Number.{Number}
 use Rattle.enumset_derive_plan.specs.declared.declaration.EnumDeclaration.{EnumDeclaration}
 use Rattle.enumset_derive_plan.specs.declared.fault.Fault.{Fault}
 use Rattle.enumset_derive_plan.specs.declared.options.Representation.{Representation}
-use Rattle.enumset_derive_plan.specs.declared.options.Serialized.{Serialized}
 use Rattle.enumset_derive_plan.specs.declared.plan.Plan.{Plan}
 use Rattle.enumset_derive_plan.specs.declared.plan.Store.{Store}
 use Rattle.enumset_derive_plan.specs.declared.plan.Store.TheVariants.{Integer, Words}
@@ -49,6 +48,5 @@ IsLawfulStore n bs (Words all) width count = IsLawfulWords (without_fields n) bs
 abbrev pub IsLawfulPlan : ℕ → Plan → Type 0
 IsLawfulPlan n plan = IsLawfulStore n plan.bits.items plan.store plan.bit_width plan.variant_count
 
-pub record IsStoredAsAsked (r : Option Representation) (s : Option Serialized) (plan : Plan) : Type 0 where
-  pub store : IsStore (kind_of r plan.bit_width) plan.bits.items plan.bit_width plan.store
-  pub serialized : plan.serialized ≡ serialized_of s plan.bit_width
+abbrev pub IsStoredAsAsked : Option Representation → Plan → Type 0
+IsStoredAsAsked r plan = IsStore (kind_of r plan.bit_width) plan.bits.items plan.bit_width plan.store

@@ -1,7 +1,7 @@
 -- What keeps a set, and the set of all bits in it.
 --     are_below      whether all bits are below a width
 --     smallest_integer      the smallest integer type with this many bits, if there is one
---     kind_of, serialized_of      what keeps a set, and what it is in JSON: as asked for, else by the width
+--     kind_of      what keeps a set: as asked for, else by the width
 --     has_room      whether what keeps a set has these bits
 --     word_count      how many words have this many bits
 --     IsStore      the set of these bits in a store of this kind
@@ -14,8 +14,6 @@ use Rattle.enumset_derive_plan.specs.declared.integer_type.IntegerType.{IntegerT
 use Rattle.enumset_derive_plan.specs.declared.integer_type.IntegerType.TheVariants.{U8, U16, U32, U64, U128}
 use Rattle.enumset_derive_plan.specs.declared.options.Representation.{Representation}
 use Rattle.enumset_derive_plan.specs.declared.options.Representation.TheVariants as representation
-use Rattle.enumset_derive_plan.specs.declared.options.Serialized.{Serialized}
-use Rattle.enumset_derive_plan.specs.declared.options.Serialized.TheVariants as serialized
 use Rattle.enumset_derive_plan.specs.declared.plan.Store.{Store}
 use Rattle.enumset_derive_plan.specs.declared.plan.Store.TheVariants as store
 
@@ -38,14 +36,6 @@ kind_with None = representation.Words
 abbrev pub kind_of : Option Representation → ℕ → Representation
 kind_of (Some r) n = r
 kind_of None n = kind_with (smallest_integer n)
-
-abbrev pub serialized_with : Option IntegerType → Serialized
-serialized_with (Some t) = serialized.Integer t
-serialized_with None = serialized.Words
-
-abbrev pub serialized_of : Option Serialized → ℕ → Serialized
-serialized_of (Some s) n = s
-serialized_of None n = serialized_with (smallest_integer n)
 
 abbrev pub has_room : Representation → List ℕ → Bool
 has_room (representation.Integer t) bs = are_below (width t) bs

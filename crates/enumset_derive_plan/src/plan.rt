@@ -2,7 +2,6 @@
 
 use crate::integer_type::IntegerType;
 use crate::number::Number;
-use crate::options::Serialized;
 
 /// What the implementation of an element type says of an enum.
 #[derive(Debug, Drop)]
@@ -17,8 +16,6 @@ pub struct Plan {
     pub bit_width: u32,
     /// `VARIANT_COUNT`: how many variants there are.
     pub variant_count: u32,
-    /// What a set is in JSON.
-    pub serialized: Serialized,
 }
 
 /// What keeps a set, with the value of `ALL_BITS`.

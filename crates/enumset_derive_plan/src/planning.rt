@@ -17,7 +17,7 @@ use crate::plan::Plan;
 use named::{Named, name_variants};
 use rules::Rules;
 use std::alloc::{AllocError, Global};
-use store::{kind_of, serialized_of, store_of, width_of};
+use store::{kind_of, store_of, width_of};
 
 /// The plan of an element type, or the first fault of its declaration.
 ///
@@ -25,8 +25,7 @@ use store::{kind_of, serialized_of, store_of, width_of};
 pub fn plan_enum(alloc: Global, declaration: &EnumDeclaration) -> Result<Plan, DeriveError>
     ensures bits { IfOk result (IsPlanned declaration.now) }
     ensures lawful { IfOk result (IsLawfulPlan (length declaration.now.variants.items)) }
-    ensures representation { IfOk result
-        (IsStoredAsAsked declaration.now.options.representation declaration.now.options.serialized) }
+    ensures representation { IfOk result (IsStoredAsAsked declaration.now.options.representation) }
     ensures fault { IfErr result (IsErrorOf (named_variants declaration.now)) }
 {
     let rules = Rules::of(&declaration.options)?;
@@ -42,7 +41,7 @@ fn plan_of(alloc: Global, rules: Rules, named: &[Named]) -> Result<Plan, AllocEr
     ensures bits { IfOk result (λ plan. plan.bits.items ≡ bits_of named.now) }
     ensures discriminants { IfOk result (λ plan. plan.discriminants.items ≡ numbers_of named.now) }
     ensures lawful { IfOk result (IsLawfulPlan (length named.now)) }
-    ensures representation { IfOk result (IsStoredAsAsked rules.representation rules.serialized) }
+    ensures representation { IfOk result (IsStoredAsAsked rules.representation) }
 {
     let bits = bits_of(alloc, named)?;
     let discriminants = numbers_of(alloc, named)?;
@@ -55,7 +54,6 @@ fn plan_of(alloc: Global, rules: Rules, named: &[Named]) -> Result<Plan, AllocEr
         store,
         bit_width,
         variant_count: named.len() as u32,
-        serialized: serialized_of(rules.serialized, bit_width),
     })
 }
 

@@ -4,11 +4,11 @@ ghost use Rattle.std.specs.Prelude.{◌≡◌, ◌*◌, ◌^◌, IsTrue, IfOk, l
 ghost use Rattle.std.specs.List.{list_all};
 ghost use Rattle.enumset_repr.specs.Number.{is_distinct};
 ghost use Rattle.enumset_repr.specs.Words.{lists_words};
-ghost use Rattle.enumset_derive_plan.specs.Stores.{kind_of, smallest_integer, serialized_of, word_count, IsStore, are_below, has_room};
+ghost use Rattle.enumset_derive_plan.specs.Stores.{kind_of, smallest_integer, word_count, IsStore, are_below, has_room};
 ghost use Rattle.enumset_sets.specs.Laws.Elements.{one_past_all};
 
 use crate::integer_type::IntegerType;
-use crate::options::{Representation, Serialized};
+use crate::options::Representation;
 use crate::plan::Store;
 use std::alloc::{AllocError, Global};
 
@@ -33,19 +33,6 @@ pub fn kind_of(representation: Option<Representation>, width: u32) -> Representa
         None => match smallest_integer(width) {
             Some(integer) => Representation::Integer(integer),
             None => Representation::Words,
-        },
-    }
-}
-
-/// What a set is in JSON: as asked for, else a number of the smallest integer with this many bits, else words.
-pub fn serialized_of(serialized: Option<Serialized>, width: u32) -> Serialized
-    ensures { result ≡ serialized_of serialized width }
-{
-    match serialized {
-        Some(serialized) => serialized,
-        None => match smallest_integer(width) {
-            Some(integer) => Serialized::Integer(integer),
-            None => Serialized::Words,
         },
     }
 }
