@@ -3,9 +3,7 @@
 --     Bits      numbers with the same bits, and with all; rulesets of numbers and of listed bits
 --     Folds      folds of a list, by which items there are
 --     BothEnds      steps from both ends of a list
---     Values      each valid bit has a value, and what holds of each listed value holds of all
 pub mod Sets
 pub mod Bits
 pub mod Folds
 pub mod BothEnds
-pub mod Values

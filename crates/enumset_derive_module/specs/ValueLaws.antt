@@ -36,7 +36,7 @@ laws_uses_template = lines_of
     codes "use Rattle.enumset_repr.specs.$1" ∷
     codes "use Rattle.enumset_sets.specs.Elements.{IsElementType}" ∷
     codes "use Rattle.enumset_sets.specs.Laws.Elements.{$2, derived_eq}" ∷
-    codes "use Rattle.enumset.specs.Laws.Values as value" ∷
+    codes "use Rattle.enumset_sets.specs.Laws.Values as value" ∷
     codes "" ∷ [])
 
 -- the names of the laws where each bit is its place

@@ -34,7 +34,7 @@ use Rattle.enumset_repr.specs.BitSet.{BitSet, contains}
 use Rattle.enumset_repr.specs.$1
 use Rattle.enumset_sets.specs.Elements.{IsElementType}
 use Rattle.enumset_sets.specs.Laws.Elements.{$2, derived_eq}
-use Rattle.enumset.specs.Laws.Values as value
+use Rattle.enumset_sets.specs.Laws.Values as value
 ";
 
 /// The names of the laws where each bit is its place.

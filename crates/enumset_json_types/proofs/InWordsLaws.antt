@@ -11,7 +11,7 @@ use Rattle.enumset_repr.specs.BitSet.{BitSet, contains}
 use Rattle.enumset_repr.specs.Words.{bits_of}
 use Rattle.enumset_sets.specs.Elements.{IsElementType}
 use Rattle.enumset_sets.specs.Laws.Elements.{lawful_in_words, derived_eq}
-use Rattle.enumset.specs.Laws.Values as value
+use Rattle.enumset_sets.specs.Laws.Values as value
 use Rattle.enumset_json_types.specs.contracts.forms.InWords.{the_type}
 use Rattle.enumset_json_types.specs.declared.forms.InWords.{InWords}
 use Rattle.enumset_json_types.specs.InWords.{elements, bit, valid, values}

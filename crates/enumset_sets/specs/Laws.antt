@@ -1,11 +1,14 @@
--- Laws of the definitions, each proved. They are in specs/ so that the laws of an element type can cite them.
+-- Laws of the definitions, each proved. They are in specs/, so that the laws of an element type and users' proofs can
+-- cite them.
 --     Conversions      sets cut at a width, and sets taken through words
 --     Elements      the laws of an enum without fields, from one test of its bits and constants
 --     Folds      folds of a list with one item more at its end
 --     Iterators      what iterators that bound their asks yield
 --     Texts      the text of a set as it is written
+--     Values      each valid bit has a value, and what holds of each listed value holds of all
 pub mod Conversions
 pub mod Elements
 pub mod Folds
 pub mod Iterators
 pub mod Texts
+pub mod Values

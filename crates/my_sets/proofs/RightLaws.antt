@@ -11,7 +11,7 @@ use Rattle.enumset_repr.specs.BitSet.{BitSet, contains}
 use Rattle.enumset_repr.specs.Number.{bits}
 use Rattle.enumset_sets.specs.Elements.{IsElementType}
 use Rattle.enumset_sets.specs.Laws.Elements.{lawful_in_integer, lawful_in_place, derived_eq}
-use Rattle.enumset.specs.Laws.Values as value
+use Rattle.enumset_sets.specs.Laws.Values as value
 use Rattle.my_sets.specs.contracts.rights.Right.{the_type}
 use Rattle.my_sets.specs.declared.rights.Right.{Right}
 use Rattle.my_sets.specs.Right.{elements, bit, valid, values}
