@@ -5,6 +5,7 @@
 //! the crate's folder, what proofs about the enums want.
 #![tactic(auto)]
 
+mod arguments;
 mod fault;
 mod outputs;
 mod program;
