@@ -117,7 +117,7 @@ fn read_last<E: Env>(env: &E, folder: &mut [u8; FOLDER_LIMIT]) -> Result<usize, 
 }
 
 /// The bytes of a reader until its end. A read that was interrupted is tried again.
-fn read_input<R: Read + Drop>(alloc: Global, reader: R) -> Result<Vec<u8>, ProgramFault>
+pub(crate) fn read_input<R: Read + Drop>(alloc: Global, reader: R) -> Result<Vec<u8>, ProgramFault>
     ensures bytes { IfOk result (λ input. IfSome (R.remaining reader) (λ bytes.
         input.items ≡ bytes)) }
 {
@@ -136,7 +136,7 @@ fn read_input<R: Read + Drop>(alloc: Global, reader: R) -> Result<Vec<u8>, Progr
 }
 
 /// Writes an answer, of which an empty one needs no writing. A write that was interrupted is tried again.
-fn write_output<W: Write>(writer: &mut W, output: &[u8]) -> Result<(), ProgramFault>
+pub(crate) fn write_output<W: Write>(writer: &mut W, output: &[u8]) -> Result<(), ProgramFault>
     ensures written { OnOk result
         (Appends (W.contents writer.old) (W.contents writer.new) output.now) }
     ensures begun { OnErr result
