@@ -10,6 +10,8 @@ mod fault;
 mod outputs;
 mod program;
 mod proof_files;
+#[cfg(test)]
+mod tests;
 
 use std::process::ExitCode;
 

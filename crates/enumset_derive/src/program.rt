@@ -38,7 +38,7 @@ pub fn answer<R: Env + Files + Input + Print + AllocGlobal>(rt: &R) -> Result<()
 }
 
 /// The bytes of a reader until its end. A read that was interrupted is tried again.
-fn read_input<R: Read + Drop>(alloc: Global, reader: R) -> Result<Vec<u8>, ProgramFault>
+pub(crate) fn read_input<R: Read + Drop>(alloc: Global, reader: R) -> Result<Vec<u8>, ProgramFault>
     ensures bytes { IfOk result (λ input. IfSome (R.remaining reader) (λ bytes.
         input.items ≡ bytes)) }
     ensures fault { IfErr result (λ fault.
@@ -59,7 +59,7 @@ fn read_input<R: Read + Drop>(alloc: Global, reader: R) -> Result<Vec<u8>, Progr
 }
 
 /// Writes an answer, of which an empty one needs no writing. A write that was interrupted is tried again.
-fn write_output<W: Write>(writer: &mut W, output: &[u8]) -> Result<(), ProgramFault>
+pub(crate) fn write_output<W: Write>(writer: &mut W, output: &[u8]) -> Result<(), ProgramFault>
     ensures written { OnOk result
         (Appends (W.contents writer.old) (W.contents writer.new) output.now) }
     ensures begun { OnErr result

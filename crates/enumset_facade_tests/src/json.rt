@@ -9,7 +9,7 @@ use enumset::set_json::{
     from_words_text, to_list_text, to_map_text, to_number_text, to_words_text,
 };
 use enumset::{EnumSet, EnumSetNames, EnumSetType};
-use enumset_json_types::{Letters, Sparse, Wide};
+use enumset_json_types::{LaterLetters, Letters, Sparse, Wide};
 use enumset_sizes::{In5Words, In17Words};
 use std::alloc::Global;
 use std::fmt;
@@ -294,6 +294,22 @@ const MAPS_OF_WIDE: &str = "\
 {\"Rea\":true} -> Ok(EnumSet()) Err(UnknownName(0))
 ";
 
+// A list and a map of thousands of names.
+#[test]
+fn many_names_are_read(rt: HostRuntime) -> Result<(), Fail> {
+    let alloc = rt.alloc();
+    let mut list = String::from_str(alloc, "[")?;
+    let mut map = String::from_str(alloc, "{")?;
+    for number in 0..4000 {
+        write!(list, "\"A\",")?;
+        write!(map, "\"n{number}\":true,")?;
+    }
+    writeln!(list, "\"H\"] -> Ok(EnumSet(A)) Err(UnknownName(4000))")?;
+    writeln!(map, "\"A\":true}} -> Ok(EnumSet(A)) Err(UnknownName(1))")?;
+    expect_form::<Letters>(&rt, alloc, Form::List, &list)?;
+    expect_form::<Letters>(&rt, alloc, Form::Map, &map)
+}
+
 // A text of two lines has its fault on the second.
 #[test]
 fn the_line_of_a_fault(rt: HostRuntime) -> Result<(), Fail> {
@@ -363,6 +379,7 @@ fn sets_are_written(rt: HostRuntime) -> Result<(), Fail> {
     write_sets(&rt, alloc, &mut text, &letters)?;
     write_sets(&rt, alloc, &mut text, &sparse)?;
     write_sets(&rt, alloc, &mut text, &[EnumSet::<Wide>::all()])?;
+    write_sets(&rt, alloc, &mut text, &[EnumSet::<LaterLetters>::all()])?;
     assert_eq!(rt; text.as_str(), WRITTEN);
     Ok(())
 }
@@ -376,6 +393,8 @@ TooWide 1024 1024 1024 [1024,0] [\"A\"] {\"A\":true}
 TooWide TooWide 1074791424 1074791424 [1074791424,0] [\"A\",\"B\",\"C\"] {\"A\":true,\"B\":true,\"C\":true}
 TooWide TooWide TooWide TooWide [1024,9223372036854775808] [\"A\",\"D\"] {\"A\":true,\"D\":true}
 TooWide TooWide TooWide TooWide [8,1,4] [\"Read\",\"Reader\",\"Re\"] {\"Re\":true,\"Read\":true,\"Reader\":true}
+TooWide TooWide TooWide TooWide [255,1] [\"A\",\"B\",\"C\",\"D\",\"E\",\"F\",\"G\",\"H\",\"Aa\"] \
+{\"A\":true,\"Aa\":true,\"B\":true,\"C\":true,\"D\":true,\"E\":true,\"F\":true,\"G\":true,\"H\":true}
 ";
 
 #[test]

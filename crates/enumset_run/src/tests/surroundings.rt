@@ -23,7 +23,7 @@ const AT_ONCE: Pace = Pace {
     interruptions: 0,
 };
 
-/// Bytes that are read at a pace. Reading past them fails, or else finds the end.
+/// Bytes that are read at a pace. Reading past them would have to wait, so it fails, or else it finds the end.
 #[derive(Clone, Copy)]
 pub(super) struct Source<'a> {
     bytes: &'a [u8],
@@ -43,7 +43,7 @@ impl<'a> Source<'a> {
     }
 }
 
-/// How many bytes an output holds. A full one fails, or else takes no byte.
+/// How many bytes an output holds. A write into a full one would have to wait, so it fails, or else it takes no byte.
 #[derive(Clone, Copy)]
 pub(super) struct Room {
     pub(super) bytes: usize,
@@ -64,7 +64,7 @@ impl Read for Source<'_> {
         }
         self.interrupted = 0;
         if self.bytes.is_empty() && self.fails_at_end {
-            return Err(io::Error::from(ErrorKind::Other));
+            return Err(io::Error::from(ErrorKind::WouldBlock));
         }
         let most = buf.len().min(self.pace.most);
         Read::read(&mut self.bytes, &mut buf[..most])
@@ -154,7 +154,7 @@ impl Print for Surroundings<'_> {
         let room = self.room.bytes.saturating_sub(output.len());
         let count = bytes.len().min(room).min(pace.most);
         if count == 0 && !self.room.takes_none {
-            return Err(io::Error::from(ErrorKind::BrokenPipe));
+            return Err(io::Error::from(ErrorKind::WouldBlock));
         }
         output.extend_from_slice(&bytes[..count])?;
         Ok(count)
