@@ -1,5 +1,5 @@
 -- What a field writes, digit by digit.
-use Rattle.std.proofs.Common.{◌≡◌, ℕ, ◌+◌, ◌-◌, ◌*◌, ◌^◌, ◌<◌, ◌≤◌, true, false, cond, ◌&&◌, nat_lt, List, [], ◌∷◌, length, get_or, drop, Some, None, refl, drop-cons, add-one, lit≤, arith}
+use Rattle.std.proofs.Common.{◌≡◌, ℕ, ◌+◌, ◌-◌, ◌*◌, ◌^◌, ◌<◌, ◌≤◌, true, false, cond, ◌&&◌, nat_lt, List, [], ◌∷◌, length, get_or, drop, ap, Some, None, refl, drop-cons, add-one, lit≤, arith}
 use Rattle.std.specs.Str.{all_ascii_digits}
 use Rattle.std.specs.Str.Parse.{digits_value, digits_value_after}
 use Rattle.std.specs.Char.{is_ascii_digit, digit_value}
@@ -49,6 +49,12 @@ nonempty (d ∷ ds) l = refl
 pub field-some : (bits : ℕ) (token : List ℕ) → 0 < length token → all_ascii_digits token ≡ true → digits_value 10 token < 2 ^ bits → field bits token ≡ Some (digits_value 10 token)
 field-some bits token l d h = let e = nonempty token l in grind (arith, nat_tests)
 
+-- a token of one byte
+pub one_digit : (token : List ℕ) (d : ℕ) → length token ≡ 1 → d ≡ get_or token 0 0 → word (d ∷ []) ≡ word token
+one_digit [] d long same = absurd (omega arith)
+one_digit (x ∷ []) d long same = ap (λ b. word (b ∷ [])) same
+one_digit (x ∷ y ∷ more) d long same = absurd (omega arith)
+
 pub ruleset field_steps = (digits_value_after-ge, digits_value_after-drop, all_ascii_digits-drop, digits_value_after-end, all_ascii_digits-end, field-none, field-large, field-some)
 
 -- a field of fewer bits
@@ -57,6 +63,10 @@ field-fewer few many n token le h = grind (arith, nat_tests)
 
 field-fewer_none : (few many : ℕ) (token : List ℕ) → 2 ^ few ≤ 2 ^ many → field many token ≡ None → field few token ≡ None
 field-fewer_none few many token le h = grind (arith, nat_tests)
+
+-- a word is a value
+pub value_of_word : (token : List ℕ) (n : ℕ) → word token ≡ Some n → value token ≡ Some n
+value_of_word token n h = grind (arith, nat_tests)
 
 pub register-some : (token : List ℕ) (n : ℕ) → word token ≡ Some n → register token ≡ cond (nat_lt n (2 ^ 8)) (Some n) None
 register-some token n h = field-fewer 8 64 n token (lit≤ tt) h

@@ -1,5 +1,6 @@
 pub mod Lines
 pub mod LineFeeds
+pub mod Marks
 pub mod Tokens
 pub mod Names
 pub mod Fields

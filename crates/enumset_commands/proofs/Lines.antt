@@ -64,3 +64,5 @@ length-lines_of-cons x xs false h = omega (arith, length-lines_of_parts-onto x (
 pub length-lines_of : (s : List ℕ) → length (lines_of s) ≤ length s
 length-lines_of [] = omega arith
 length-lines_of (x ∷ xs) = omega (arith, length-lines_of-cons x xs (x == 10) (length-lines_of xs))
+
+pub ruleset line_steps = (lines_of-at, lines_of-past, take_rest)

@@ -96,6 +96,7 @@ pub enum OneIterator {
 
 impl<'a> Operation<'a> {
     /// A command by its operands.
+    #[inline(always)]
     pub fn of(command: &'a Command) -> Operation<'a>
         ensures { command_of_operation result ≡ command.now }
     {

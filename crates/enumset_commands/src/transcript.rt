@@ -1,8 +1,10 @@
 //! The text of replies.
-ghost use Rattle.std.specs.Prelude.{◌≡◌, IfOk};
-ghost use Rattle.enumset_commands.specs.Texts.{text};
+ghost use Rattle.std.specs.Prelude.{◌≡◌, ◌++◌, codes, decimal, IfOk, OnOk};
+ghost use Rattle.std.specs.String.{string_bytes};
+ghost use Rattle.enumset_commands.specs.Texts.{text, text_of, words_text};
 
 use crate::reply::Reply;
+use itoa::Buffer;
 use std::alloc::{AllocError, Global};
 
 /// The texts of replies, each followed by one line feed. The only error is out of memory.
@@ -11,7 +13,49 @@ pub fn write_replies(alloc: Global, replies: &[Reply]) -> Result<Vec<u8>, AllocE
 {
     let mut out = String::new(alloc);
     for reply in replies {
-        writeln!(out, "{reply}")?;
+        write_line(&mut out, reply)?;
     }
     Ok(out.into_bytes())
+}
+
+/// Writes the text of a reply and a line feed. The most frequent replies, and the longest, take no formatter.
+#[inline(always)]
+fn write_line(out: &mut String, reply: &Reply) -> Result<(), AllocError>
+    ensures { OnOk result
+        (string_bytes out.new ≡ string_bytes out.old ++ text_of reply.now ++ codes "\n") }
+{
+    match reply {
+        Reply::Done => out.push_str("ok\n"),
+        Reply::Truth(true) => out.push_str("true\n"),
+        Reply::Truth(false) => out.push_str("false\n"),
+        Reply::Absent => out.push_str("none\n"),
+        Reply::Count(count) => write_number_line(out, *count),
+        Reply::Words(words) => {
+            out.push_str("words")?;
+            write_words(out, words.as_slice())?;
+            out.push('\n')
+        }
+        _ => Ok(writeln!(out, "{reply}")?),
+    }
+}
+
+/// Writes a number and a line feed.
+fn write_number_line(out: &mut String, number: u64) -> Result<(), AllocError>
+    ensures { OnOk result
+        (string_bytes out.new ≡ string_bytes out.old ++ decimal number ++ codes "\n") }
+{
+    out.push_str(Buffer::new().format(number))?;
+    out.push('\n')
+}
+
+/// Writes a space before each word.
+fn write_words(out: &mut String, words: &[u64]) -> Result<(), AllocError>
+    ensures { OnOk result (string_bytes out.new ≡ string_bytes out.old ++ words_text words.now) }
+{
+    let mut digits = Buffer::new();
+    for word in words {
+        out.push(' ')?;
+        out.push_str(digits.format(*word))?;
+    }
+    Ok(())
 }

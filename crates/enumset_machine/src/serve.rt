@@ -61,6 +61,7 @@ where
 {
     let commands = commands_of::<M::Command>(alloc, input)?;
     let run = run_by_steps::<M>(alloc, &commands)?;
+    drop(commands);
     Ok(write_replies(alloc, &run.replies)?)
 }
 

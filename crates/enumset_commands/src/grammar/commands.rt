@@ -18,6 +18,7 @@ use std::alloc::{AllocError, Global};
 impl LineCommand for Command {
     ghost command_of = { command_of };
 
+    #[inline(always)]
     fn read(alloc: Global, name: &[u8], mut tokens: Tokens) -> Option<Result<Command, AllocError>> {
         if !takes_words(name) {
             return Some(Ok(with_fields(name, tokens)?));

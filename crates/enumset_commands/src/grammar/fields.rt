@@ -1,6 +1,9 @@
 //! The fields of a command.
-ghost use Rattle.std.specs.Prelude.{◌≡◌};
+ghost use Rattle.std.specs.Prelude.{◌≡◌, ◌∷◌, []};
 ghost use Rattle.enumset_commands.specs.Lines.{register, bit, word, value};
+
+/// A token of this many digits may write a number that is no `u64`.
+const LONG: usize = 20;
 
 /// The number that a token of decimal digits writes, if it is a `u8`.
 #[tactic(auto, using(crate::proofs::Fields::limits))]
@@ -18,9 +21,34 @@ pub(super) fn read_bit(token: &[u8]) -> Option<u32>
     u32::try_from(read_word(token)?).ok()
 }
 
-/// The number that a token of decimal digits writes, if it is a `u64`.
-#[tactic(auto, using(crate::proofs::Fields::field_steps))]
+/// The number that a token of decimal digits writes, if it is a `u64`. Most tokens are one digit.
+#[inline(always)]
+#[tactic(auto, using(crate::proofs::Fields::one_digit))]
 pub(super) fn read_word(token: &[u8]) -> Option<u64>
+    ensures { result ≡ word token.now }
+{
+    match token {
+        [digit] => read_digit(*digit),
+        _ => read_digits(token),
+    }
+}
+
+/// The number of a decimal digit.
+#[inline(always)]
+#[tactic(auto, using(crate::proofs::Fields::field_steps))]
+fn read_digit(digit: u8) -> Option<u64>
+    ensures { result ≡ word (digit ∷ []) }
+{
+    if digit.is_ascii_digit() {
+        Some(u64::from(digit - b'0'))
+    } else {
+        None
+    }
+}
+
+/// The number that a token of decimal digits writes, if it is a `u64`, digit by digit.
+#[tactic(auto, using(crate::proofs::Fields::field_steps))]
+fn read_digits(token: &[u8]) -> Option<u64>
     ensures { result ≡ word token.now }
 {
     if token.is_empty() {
@@ -40,9 +68,22 @@ pub(super) fn read_word(token: &[u8]) -> Option<u64>
 
 /// The number that a token of decimal digits writes, if it is a `u128`. No field is larger.
 ///
-/// Only a value may be so large, and steps of 128 bits take longer.
-#[tactic(auto, using(crate::proofs::Fields::field_steps))]
+/// Only a value may be so large, and steps of 128 bits take longer, so a short token is read as a word.
+#[tactic(auto, using(crate::proofs::Fields::value_of_word))]
 pub(super) fn read_value(token: &[u8]) -> Option<u128>
+    ensures { result ≡ value token.now }
+{
+    if token.len() < LONG {
+        if let Some(word) = read_word(token) {
+            return Some(u128::from(word));
+        }
+    }
+    read_long_value(token)
+}
+
+/// The same, digit by digit in 128 bits.
+#[tactic(auto, using(crate::proofs::Fields::field_steps))]
+fn read_long_value(token: &[u8]) -> Option<u128>
     ensures { result ≡ value token.now }
 {
     if token.is_empty() {

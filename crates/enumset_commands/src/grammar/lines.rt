@@ -1,31 +1,29 @@
 //! The lines of a text.
-ghost use Rattle.std.specs.Prelude.{◌≡◌};
+ghost use Rattle.std.specs.Prelude.{◌≡◌, ◌==◌, ◌≤◌, ℕ, length, take, get_or, cond};
+ghost use Rattle.std.specs.Int.{bit_at};
+ghost use Rattle.std.specs.List.{position};
 ghost use Rattle.std.specs.Str.Lines.{strip_carriage_return};
 
-use memchr::{Memchr, memchr_iter};
+use memchr::memchr_iter;
 use std::marker::Model;
+use std::simd::prelude::*;
+
+/// How many bytes are compared at once.
+const FRONT: usize = 32;
 
 /// The remaining lines of a text, each without the line feed that ends it.
 #[derive(Drop)]
 pub(super) struct Lines<'a> {
-    text: &'a [u8],
-    /// Where the next line starts.
-    start: usize,
-    line_feeds: Memchr<'a>,
+    rest: &'a [u8],
 }
 
 impl<'a> Model for Lines<'a> {
-    ghost use Rattle.std.specs.Prelude.{◌≡◌, ◌≤◌, List, ℕ, length, drop};
+    ghost use Rattle.std.specs.Prelude.{List, ℕ};
     ghost use Rattle.enumset_commands.specs.Lines.{lines_of};
-    ghost use Rattle.memchr.specs.Find.{is_byte, places_between};
 
     ghost Value = { List (List ℕ) };
 
-    ghost view = { λ lines. lines_of (drop lines.start lines.text.now) };
-
-    ghost invariant = { λ lines. (lines.start ≤ length lines.text.now)
-        × (lines.line_feeds ≡ places_between (is_byte 10) lines.text.now lines.start
-        (length lines.text.now)) };
+    ghost view = { λ lines. lines_of lines.rest.now };
 }
 
 impl<'a> Lines<'a> {
@@ -35,11 +33,7 @@ impl<'a> Lines<'a> {
     pub(super) fn new(text: &'a [u8]) -> Lines<'a>
         ensures { result ≡ lines_of text.now }
     {
-        Lines {
-            text,
-            start: 0,
-            line_feeds: memchr_iter(b'\n', text),
-        }
+        Lines { rest: text }
     }
 }
 
@@ -52,25 +46,62 @@ impl<'a> Iterator for Lines<'a> {
 
     ghost remaining = { item_count (λ lines. lines) };
 
-    #[tactic(auto, using(crate::proofs::LineFeeds::next_line, crate::proofs::LineFeeds::last_line, crate::proofs::Lines::take_rest))]
+    #[inline(always)]
+    #[tactic(auto, using(crate::proofs::Lines::line_steps))]
     fn next(&mut self) -> Option<&'a [u8]> {
-        match self.line_feeds.next() {
+        match line_end(self.rest) {
             Some(end) => {
-                let line = &self.text[self.start..end];
-                self.start = end + 1;
+                let line = &self.rest[..end];
+                self.rest = &self.rest[end + 1..];
                 Some(without_carriage_return(line))
             }
-            None if self.start == self.text.len() => None,
+            None if self.rest.is_empty() => None,
             None => {
-                let line = &self.text[self.start..];
-                self.start = self.text.len();
+                let line = self.rest;
+                self.rest = &[];
                 Some(line)
             }
         }
     }
 }
 
+/// The index of the first line feed. That of an empty line takes no search, and most others are among the first bytes.
+#[inline(always)]
+fn line_end(text: &[u8]) -> Option<usize>
+    ensures { result ≡ position (λ b. b == 10) text.now }
+{
+    if text.first() == Some(&b'\n') {
+        return Some(0);
+    }
+    if text.len() >= FRONT {
+        let marks = marks_of_front(text);
+        if marks != 0 {
+            return Some(marks.trailing_zeros() as usize);
+        }
+    }
+    search_line_end(text)
+}
+
+/// A bit for each of the first bytes, the lowest for the first, which says whether it is a line feed.
+#[inline(always)]
+fn marks_of_front(text: &[u8]) -> u64
+    requires { FRONT ≤ length text.now }
+    ensures { (k : ℕ) → bit_at result k ≡ cond (get_or (take FRONT text.now) k 0 == 10) 1 0 }
+{
+    u8x32::from_slice(text)
+        .simd_eq(u8x32::splat(b'\n'))
+        .to_bitmask()
+}
+
+/// The index of the first line feed, in a text of any length.
+fn search_line_end(text: &[u8]) -> Option<usize>
+    ensures { result ≡ position (λ b. b == 10) text.now }
+{
+    memchr_iter(b'\n', text).next()
+}
+
 /// A line without the carriage return at its end, if there is one.
+#[inline(always)]
 fn without_carriage_return(line: &[u8]) -> &[u8]
     ensures { result.now ≡ strip_carriage_return line.now }
 {

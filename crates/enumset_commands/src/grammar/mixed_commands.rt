@@ -4,7 +4,9 @@ ghost use Rattle.enumset_commands.specs.MixedLines.{mixed_command_of, own_comman
 
 use super::fields::{read_bit, read_register};
 use super::line_command::LineCommand;
-use super::mixed_tables::{mixed_one_register, mixed_register_and_bit, mixed_two_registers};
+use super::mixed_tables::{
+    is_own_name, mixed_one_register, mixed_register_and_bit, mixed_two_registers,
+};
 use super::tokens::Tokens;
 use crate::command::Command;
 use crate::mixed_command::MixedCommand;
@@ -13,6 +15,7 @@ use std::alloc::{AllocError, Global};
 impl LineCommand for MixedCommand {
     ghost command_of = { mixed_command_of };
 
+    #[inline(always)]
     fn read(
         alloc: Global,
         name: &[u8],
@@ -28,11 +31,16 @@ impl LineCommand for MixedCommand {
     }
 }
 
-/// The command of mixed sets alone with this name, whose fields are the remaining tokens.
-#[tactic(auto, using(crate::proofs::Fields::limits))]
+/// The command of mixed sets alone with this name, whose fields are the remaining tokens. They are read only if there
+/// is one.
+#[inline(always)]
+#[tactic(auto, using(crate::proofs::Fields::limits, crate::proofs::Names::own_command_of_other))]
 fn own_command(name: &[u8], mut tokens: Tokens) -> Option<MixedCommand>
     ensures { result ≡ own_command name.now tokens.entry }
 {
+    if !is_own_name(name) {
+        return None;
+    }
     let register = read_register(tokens.next()?)?;
     let Some(second) = tokens.next() else {
         return mixed_one_register(name, register);

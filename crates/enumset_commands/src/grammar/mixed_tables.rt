@@ -1,9 +1,24 @@
 //! The names of the commands that mixed sets alone have, by the fields that they take.
 ghost use Rattle.std.specs.Prelude.{◌≡◌};
-ghost use Rattle.enumset_commands.specs.MixedLines.{mixed_one_register, mixed_two_registers, mixed_register_and_bit};
+ghost use Rattle.enumset_commands.specs.MixedLines.{is_own_name, mixed_one_register, mixed_two_registers, mixed_register_and_bit};
 
 use super::tables::is;
 use crate::mixed_command::MixedCommand;
+
+/// Whether mixed sets alone have a command of this name.
+#[inline(always)]
+pub(super) fn is_own_name(name: &[u8]) -> bool
+    ensures { result ≡ is_own_name name.now }
+{
+    is(name, b"valid_len")
+        || is(name, b"unknown")
+        || is(name, b"full_complement")
+        || is(name, b"as_enumset")
+        || is(name, b"truncate")
+        || is(name, b"has_bit")
+        || is(name, b"insert_bit")
+        || is(name, b"remove_bit")
+}
 
 /// The command of this name over one register.
 pub(super) fn mixed_one_register(name: &[u8], r: u8) -> Option<MixedCommand>

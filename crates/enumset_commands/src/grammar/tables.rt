@@ -129,14 +129,15 @@ pub(super) fn register_and_words(name: &[u8], r: u8, words: WordList) -> Option<
     })
 }
 
-/// Whether a name is this word. The compiler knows the length of an array, so most comparisons end at the length.
+/// Whether a name is this word. The compiler knows the length of an array, so most comparisons end at the length, and
+/// most others at the first byte.
 #[inline(always)]
-#[tactic(auto, using(crate::proofs::Names::other_lengths))]
+#[tactic(auto, using(crate::proofs::Names::other_lengths, crate::proofs::Names::other_firsts))]
 pub(super) fn is<const N: usize>(name: &[u8], word: &[u8; N]) -> bool
     ensures { result ≡ bytes_eq name.now word.now }
 {
     match <&[u8; N]>::try_from(name) {
-        Ok(name) => name == word,
+        Ok(name) => name.first() == word.first() && name == word,
         Err(_) => false,
     }
 }
