@@ -34,6 +34,10 @@ impl Tally {
 }
 
 impl fmt::Display for Tally {
+    ghost use Rattle.std.specs.Prelude.{◌++◌, Some, codes, decimal};
+
+    ghost output = { λ tally. Some (decimal tally.agreed ++ codes " of " ++ decimal tally.replies) };
+
     fn fmt<W: fmt::Write>(&self, f: &mut fmt::Formatter<W>) -> fmt::Result {
         write!(f, "{} of {}", self.agreed, self.replies)
     }
