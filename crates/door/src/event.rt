@@ -6,10 +6,9 @@ ghost use Rattle.door.specs.Events.{row, name_of};
 use crate::flag::Flag;
 use crate::machine::Transition;
 use enumset::EnumSet;
-use std::fmt;
 
 /// What happens to a door.
-#[derive(Clone, Copy, Debug, PartialEq, Eq)]
+#[derive(Clone, Copy, Debug)]
 pub enum Event {
     Open,
     Close,
@@ -23,22 +22,6 @@ pub enum Event {
 }
 
 impl Event {
-    /// The word for the event.
-    pub fn name(self) -> &'static str
-        ensures { result.now ≡ name_of self }
-    {
-        match self {
-            Event::Open => "open",
-            Event::Close => "close",
-            Event::Lock => "lock",
-            Event::Unlock => "unlock",
-            Event::Force => "force",
-            Event::Reset => "reset",
-            Event::PowerOn => "power-on",
-            Event::PowerOff => "power-off",
-        }
-    }
-
     /// The event of a word.
     pub fn named(name: &str) -> Option<Event>
         ensures named { IfSome result (λ event. name_of event ≡ name.now) }
@@ -77,11 +60,5 @@ impl Event {
             Event::PowerOn => Transition::new(none, powered, none, powered),
             Event::PowerOff => Transition::new(powered, none, locked | alarmed | powered, none),
         }
-    }
-}
-
-impl fmt::Display for Event {
-    fn fmt<W: fmt::Write>(&self, f: &mut fmt::Formatter<W>) -> fmt::Result {
-        f.write_str(self.name())
     }
 }

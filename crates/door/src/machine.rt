@@ -1,14 +1,14 @@
 //! Machines whose states are sets of flags.
 
 ghost use Rattle.std.specs.Prelude.{◌≡◌, ◌↔◌, true, IsTrue, IsOk, IfOk, IfErr, All};
-ghost use Rattle.door.specs.Machines.{transition, allows, after, after_all, holds, Keeps, keeps_from, first, second, IsRefusal};
+ghost use Rattle.door.specs.Machines.{transition, allows, after, after_all, holds, Keeps, keeps_from, IsRefusal};
 
 use crate::flag::Flag;
 use enumset::EnumSet;
 use std::fmt;
 
 /// What a transition asks of a state, and what it changes.
-#[derive(Clone, Copy, Debug, PartialEq, Eq)]
+#[derive(Clone, Copy, Debug)]
 pub struct Transition {
     /// The flags that must be set.
     pub required: EnumSet<Flag>,
@@ -19,7 +19,7 @@ pub struct Transition {
 }
 
 /// Why a transition may not be taken.
-#[derive(Clone, Copy, Debug, PartialEq, Eq)]
+#[derive(Clone, Copy, Debug)]
 pub struct Refusal {
     /// What must be set, and is not.
     pub missing: EnumSet<Flag>,
@@ -28,7 +28,7 @@ pub struct Refusal {
 }
 
 /// What must hold of every state.
-#[derive(Clone, Copy, Debug, PartialEq, Eq)]
+#[derive(Clone, Copy, Debug)]
 pub enum Rule {
     /// The two flags are not both set.
     NeverBoth(Flag, Flag),
@@ -44,16 +44,6 @@ impl Rule {
         match self {
             Rule::NeverBoth(one, other) => !(state.contains(one) && state.contains(other)),
             Rule::Implies(one, other) => !state.contains(one) || state.contains(other),
-        }
-    }
-
-    // The two flags that the rule is about.
-    fn flags(self) -> (Flag, Flag)
-        ensures first { result.0 ≡ first self }
-        ensures second { result.1 ≡ second self }
-    {
-        match self {
-            Rule::NeverBoth(one, other) | Rule::Implies(one, other) => (one, other),
         }
     }
 }
@@ -97,12 +87,15 @@ impl Transition {
     pub fn keeps(&self, rule: Rule) -> bool
         ensures { IsTrue result ↔ Keeps rule self.now }
     {
-        let (one, other) = rule.flags();
         let least = self.required;
-        self.keeps_from(rule, least)
-            && self.keeps_from(rule, least | one)
-            && self.keeps_from(rule, least | other)
-            && self.keeps_from(rule, least | one | other)
+        match rule {
+            Rule::NeverBoth(one, other) | Rule::Implies(one, other) => {
+                self.keeps_from(rule, least)
+                    && self.keeps_from(rule, least | one)
+                    && self.keeps_from(rule, least | other)
+                    && self.keeps_from(rule, least | one | other)
+            }
+        }
     }
 
     // Whether the rule is kept in a step from one state.

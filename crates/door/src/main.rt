@@ -18,18 +18,15 @@ use std::process::ExitCode;
 fn take_all<R: Input + Print + AllocGlobal>(rt: &R) -> anyhow::Result<bool> {
     let mut door = Door::new();
     let mut all_are_taken = true;
-    for (index, line) in rt.lines(rt.alloc()).enumerate() {
+    for (line, number) in rt.lines(rt.alloc()).zip(1..=u64::MAX) {
         let line = line?;
-        let event = Event::named(line.trim()).context(format_args!(
-            "line {}: no event `{line}`",
-            index + 1
-        ))?;
-        match door.take(event) {
-            Ok(()) => println!(rt; "{event}: [{}]", door.flags)?,
-            Err(refusal) => {
-                println!(rt; "{event}: {refusal}")?;
-                all_are_taken = false;
-            }
+        let word = line.trim();
+        let event = Event::named(word).context(format_args!("line {number}: no event `{line}`"))?;
+        let taken = door.take(event);
+        all_are_taken &= taken.is_ok();
+        match taken {
+            Ok(()) => println!(rt; "{word}: [{}]", door.flags)?,
+            Err(refusal) => println!(rt; "{word}: {refusal}")?,
         }
     }
     Ok(all_are_taken)

@@ -3,27 +3,36 @@
 --     run-expression      over an expression, a state that waits for an operand becomes one that waits for an operator
 --     Has, Waits, IsReached      what has been read where a state waits for an operator, for an operand;  and in each state
 --     reached_more, reached-begins      a kind that may come keeps that;  what has been read begins an expression
---     IsRead, read_more, accepted, fault_here      the same of the tokens before a place of the loop
 --     may_come      a kind may come exactly where what has been read begins an expression with it next
-use Rattle.std.proofs.Common.{◌≡◌, ℕ, zero, suc, ◌+◌, ◌<◌, ◌≤◌, Bool, true, false, cond, List, [], ◌∷◌, ◌++◌, map, length, take, drop, get_or, Option, Some, None, refl, sym, ap, ◌∙◌, subst, true≢false, append_assoc, append-nil, take-append-drop, inl, inr, arith}
+--     IsRead, IsAt      the same of the tokens before a place of the loop;  and what the loop knows there
+--     start, closes_open, step, fault      at the first place;  where a kind may come, and where it may not
+use Rattle.std.proofs.Common.{◌≡◌, ℕ, zero, suc, ◌+◌, ◌<◌, ◌≤◌, Bool, true, false, cond, List, [], ◌∷◌, ◌++◌, map, length, take, drop, Option, Some, None, refl, sym, ap, ◌∙◌, subst, true≢false, append_assoc, append-nil, take-append-drop, inl, inr, arith}
 use Rattle.std.specs.Prelude.{◌==◌, ◌↔◌, IsTrue}
 use Rattle.std.specs.List.{list_any, slice_index_or}
 use Rattle.std.proofs.lemmas.Bool.{cases_lt}
-use Rattle.std.proofs.lemmas.List.{map_more, take_more, take_all, take-map, get_or-map, get_or_past, length-map}
+use Rattle.std.proofs.lemmas.List.{take_more, take_all, get_or-map, get_or_past, length-map}
 use Rattle.std.proofs.Math.Numerals.{add-one, sub-one}
 use Rattle.enumset_repr.specs.BitSet.{BitSet, contains, from_list}
 use Rattle.enumset_repr.specs.Laws.Members.{contains-from_list}
 use Rattle.expressions.specs.declared.kind.Kind.{Kind}
 use Rattle.expressions.specs.declared.kind.Kind.TheVariants.{Number, Open, Minus, Plus, Times, Divide, Close, End}
-use Rattle.expressions.specs.declared.parser.Place.{Place}
-use Rattle.expressions.specs.declared.parser.Place.TheVariants.{Operand, Operator, Done}
-use Rattle.expressions.specs.declared.parser.State.{State}
-use Rattle.expressions.specs.declared.parser.Unexpected.{Unexpected}
 use Rattle.expressions.specs.declared.token.Token.{Token}
+use Rattle.expressions.specs.declared.parser.Unexpected.{Unexpected}
 use Rattle.expressions.specs.Grammar.{bit, kinds_of, is_operator, IsExpression, number, negated, joined, grouped, Begins, IsFault}
-use Rattle.expressions.specs.States.{coming, at, after_at, after}
+use Rattle.expressions.specs.States.{Place, Operand, Operator, Done, coming, place_after, depth_after}
 
 -- ---- the states over a list of kinds
+
+-- what may come next, and how many parentheses are open
+pub record State : Type 0 where
+  pub place : Place
+  pub depth : ℕ
+
+abbrev pub at : Place → ℕ → State
+at place depth = record { place = place; depth = depth }
+
+abbrev pub after_at : Place → ℕ → Kind → State
+after_at place depth k = at (place_after k) (depth_after k depth)
 
 abbrev pub may : Place → ℕ → Kind → Bool
 may place depth k = list_any (λ b. bit k == b) (map bit (coming place depth))
@@ -150,46 +159,38 @@ begun k s p reads (more, e, eq, is) =
 pub may_come : (s : State) (p : List Kind) → run (Some (at Operand 0)) p ≡ Some s → IsReached s.place s.depth p → (k : Kind) → IsTrue (may s.place s.depth k) ↔ Begins (p ++ k ∷ [])
 may_come s p reads reached k = (λ h. reached-begins _ _ _ (reached_more s.place s.depth p k reached h), begun k s p reads)
 
--- ---- the loop over tokens
+-- ---- the loop over places
 
 pub record IsRead (ks : List Kind) (s : State) : Type 0 where
   pub reads : run (Some (at Operand 0)) ks ≡ Some s
   pub reached : IsReached s.place s.depth ks
 
-pub read_start : IsRead [] (at Operand 0)
-read_start = record { reads = refl; reached = λ e is. is }
-
-pub contains-coming : (s : State) (kinds : BitSet) (k : Kind) → kinds ≡ from_list (map bit (coming s.place s.depth)) → contains kinds (bit k) ≡ may s.place s.depth k
+contains-coming : (s : State) (kinds : BitSet) (k : Kind) → kinds ≡ from_list (map bit (coming s.place s.depth)) → contains kinds (bit k) ≡ may s.place s.depth k
 contains-coming s kinds k is = ap (λ u. contains u (bit k)) is ∙ contains-from_list _ _
 
-pub read_more : (tokens : List Token) (i : ℕ) (s t : State) (d : Token) (kinds : BitSet) → i < length tokens → IsRead (kinds_of (take i tokens)) s
-    → kinds ≡ from_list (map bit (coming s.place s.depth)) → contains kinds (bit (get_or tokens i d).kind) ≡ true → t ≡ after s (get_or tokens i d).kind
-    → IsRead (kinds_of (take (i + 1) tokens)) t
-read_more tokens i s t d kinds within read is has next =
-    let k = (get_or tokens i d).kind in
-    let h : may s.place s.depth k ≡ true = sym (contains-coming s kinds k is) ∙ has in
-    subst (λ u. IsRead (kinds_of (take (i + 1) tokens)) u) (sym next)
-    (subst (λ ks. IsRead ks (after s k)) (sym (map_more (λ (t : Token). t.kind) tokens i d within))
-    (record {
-      reads = run_more (Some (at Operand 0)) (kinds_of (take i tokens)) s k read.reads h;
-      reached = reached_more s.place s.depth (kinds_of (take i tokens)) k read.reached h;
-    }))
+read_more : (p : List Kind) (s : State) (k : Kind) → IsRead p s → may s.place s.depth k ≡ true → IsRead (p ++ k ∷ []) (after_at s.place s.depth k)
+read_more p s k read h = record {
+  reads = run_more (Some (at Operand 0)) p s k read.reads h;
+  reached = reached_more s.place s.depth p k read.reached h;
+}
 
-pub depth_more : (place : Place) (depth : ℕ) (k : Kind) (n : ℕ) → depth ≤ n → (after_at place depth k).depth ≤ n + 1
-depth_more place depth Open n h = omega arith
-depth_more place depth Close n h = omega arith
-depth_more place depth _ n h = omega arith
-
-pub may_close : (place : Place) (depth : ℕ) → may place depth Close ≡ true → 0 < depth
+may_close : (place : Place) (depth : ℕ) → may place depth Close ≡ true → 0 < depth
 may_close Operand depth h = absurd (true≢false (sym h))
 may_close Operator zero h = absurd (true≢false (sym h))
 may_close Operator (suc depth) h = omega arith
 may_close Done depth h = absurd (true≢false (sym h))
 
-pub read_whole : (tokens : List Token) (i : ℕ) (s : State) → length tokens ≤ i → IsRead (kinds_of (take i tokens)) s → IsRead (kinds_of tokens) s
-read_whole tokens i s done read = subst (λ ts. IsRead (kinds_of ts) s) (take_all i tokens done) read
+depth_more : (depth : ℕ) (k : Kind) (n : ℕ) → depth ≤ n → depth_after k depth ≤ n + 1
+depth_more depth Open n h = omega arith
+depth_more depth Close n h = omega arith
+depth_more depth _ n h = omega arith
 
-pub accepted : (place : Place) (depth : ℕ) (ks : List Kind) → IsReached place depth ks → may place depth End ≡ true → IsExpression ks
+pub depth_same : (depth : ℕ) (k : Kind) → (k ≡ Open → ⊥) → (k ≡ Close → ⊥) → depth ≡ depth_after k depth
+depth_same depth Open no_open no_close = absurd (no_open refl)
+depth_same depth Close no_open no_close = absurd (no_close refl)
+depth_same depth _ no_open no_close = refl
+
+accepted : (place : Place) (depth : ℕ) (ks : List Kind) → IsReached place depth ks → may place depth End ≡ true → IsExpression ks
 accepted Operand depth ks w h = absurd (true≢false (sym h))
 accepted Operator zero ks w h = w
 accepted Operator (suc depth) ks w h = absurd (true≢false (sym h))
@@ -202,11 +203,11 @@ begins-front ks i is = elim (cases_lt i (length ks)) [
   | inr past ↦ ([], ks, append-nil _ ∙ ap (λ l. l ++ slice_index_or ks i End ∷ []) (take_all i ks past) ∙ ap (λ k. ks ++ k ∷ []) (get_or_past ks i End past), is)
 ]
 
-pub fault_here : (ks p : List Kind) (s : State) (fault : Unexpected) → IsRead p s → fault.place ≤ length ks → take fault.place ks ≡ p → fault.expected ≡ from_list (map bit (coming s.place s.depth))
+fault_here : (ks : List Kind) (s : State) (fault : Unexpected) → IsRead (take fault.place ks) s → fault.place ≤ length ks → fault.expected ≡ from_list (map bit (coming s.place s.depth))
     → fault.found ≡ slice_index_or ks fault.place End → contains fault.expected (bit fault.found) ≡ false → IsFault ks fault
-fault_here ks p s fault read within before is found not = record {
+fault_here ks s fault read within is found not = record {
   no_expression = λ e. refused ((expected fault.found).1 (subst (λ k. Begins (take fault.place ks ++ k ∷ [])) (sym found) (begins-front ks fault.place e)));
-  begins = subst Begins (sym before) (reached-begins s.place s.depth p read.reached);
+  begins = reached-begins s.place s.depth _ read.reached;
   within = within;
   found = found;
   not_expected = refused;
@@ -218,23 +219,52 @@ fault_here ks p s fault read within before is found not = record {
 
     expected : (k : Kind) → IsTrue (contains fault.expected (bit k)) ↔ Begins (take fault.place ks ++ k ∷ [])
     expected k =
-        let come = may_come s p read.reads read.reached k in
+        let come = may_come s _ read.reads read.reached k in
         let tells = contains-coming s fault.expected k is in
-        (λ h. subst (λ q. Begins (q ++ k ∷ [])) (sym before) (come.0 (sym tells ∙ h)), λ b. tells ∙ come.1 (subst (λ q. Begins (q ++ k ∷ [])) before b))
+        (λ h. come.0 (sym tells ∙ h), λ b. tells ∙ come.1 b)
 
-pub fault_within : (tokens : List Token) (i : ℕ) (s : State) (d : Token) (kinds : BitSet) → i < length tokens → IsRead (kinds_of (take i tokens)) s
-    → kinds ≡ from_list (map bit (coming s.place s.depth)) → contains kinds (bit (get_or tokens i d).kind) ≡ false
-    → IsFault (kinds_of tokens) (record { place = i; found = (get_or tokens i d).kind; expected = kinds })
-fault_within tokens i s d kinds within read is not =
-    let near : i ≤ length (kinds_of tokens) = omega (arith, length-map tokens (λ (t : Token). t.kind)) in
-    fault_here (kinds_of tokens) (kinds_of (take i tokens)) s (record { place = i; found = (get_or tokens i d).kind; expected = kinds }) read near
-    (take-map (λ (t : Token). t.kind) i tokens) is (sym (get_or-map (λ (t : Token). t.kind) tokens i d End within)) not
+-- what a look-up of a token finds
+pub found_some : (tokens : List Token) (i : ℕ) (t : Token) → i < length tokens → t ≡ slice_index_or tokens i t → t.kind ≡ slice_index_or (kinds_of tokens) i End
+found_some tokens i t within here = ap (λ (t : Token). t.kind) here ∙ sym (get_or-map (λ (t : Token). t.kind) tokens i t End within)
 
-pub fault_at_end : (tokens : List Token) (s : State) (kinds : BitSet) → IsRead (kinds_of tokens) s
-    → kinds ≡ from_list (map bit (coming s.place s.depth)) → contains kinds (bit End) ≡ false
-    → IsFault (kinds_of tokens) (record { place = length tokens; found = End; expected = kinds })
-fault_at_end tokens s kinds read is not =
-    let same : length (kinds_of tokens) ≤ length tokens = omega (arith, length-map tokens (λ (t : Token). t.kind)) in
-    let near : length tokens ≤ length (kinds_of tokens) = omega (arith, length-map tokens (λ (t : Token). t.kind)) in
-    fault_here (kinds_of tokens) (kinds_of tokens) s (record { place = length tokens; found = End; expected = kinds }) read near
-    (take_all (length tokens) (kinds_of tokens) same) is (sym (get_or_past (kinds_of tokens) (length tokens) End same)) not
+pub found_none : (tokens : List Token) (i : ℕ) → length tokens ≤ i → End ≡ slice_index_or (kinds_of tokens) i End
+found_none tokens i past = sym (get_or_past (kinds_of tokens) i End (omega (arith, past, length-map tokens (λ (t : Token). t.kind))))
+
+-- before a place of the loop, and past the last
+pub record IsAt (ks : List Kind) (place : ℕ) (expected : BitSet) (depth : ℕ) : Type 0 where
+  pub next : Place
+  pub come : expected ≡ from_list (map bit (coming next depth))
+  pub shallow : depth ≤ place
+  pub read : place ≤ length ks → IsRead (take place ks) (at next depth)
+  pub whole : length ks < place → IsExpression ks
+
+pub start : (ks : List Kind) (expected : BitSet) → expected ≡ from_list (map bit (coming Operand 0)) → IsAt ks 0 expected 0
+start ks expected is = record { next = Operand; come = is; shallow = omega arith; read = λ _. record { reads = refl; reached = λ e is. is }; whole = λ none. absurd (omega (arith, none)) }
+
+pub kinds_within : (tokens : List Token) (i : ℕ) → i < length tokens + 1 → i ≤ length (kinds_of tokens)
+kinds_within tokens i h = omega (arith, h, length-map tokens (λ (t : Token). t.kind))
+
+pub kinds_past : (tokens : List Token) (i : ℕ) → length tokens + 1 ≤ i → length (kinds_of tokens) < i
+kinds_past tokens i h = omega (arith, h, length-map tokens (λ (t : Token). t.kind))
+
+module _ (ks : List Kind) (place depth : ℕ) (expected : BitSet) (found : Kind) (before : IsAt ks place expected depth) (within : place ≤ length ks) (is : found ≡ slice_index_or ks place End) where
+  may_found : contains expected (bit found) ≡ true → may before.next depth found ≡ true
+  may_found has = sym (contains-coming (at before.next depth) expected found before.come) ∙ has
+
+  pub closes_open : contains expected (bit found) ≡ true → found ≡ Close → 0 < depth
+  closes_open has e = may_close before.next depth (ap (may before.next depth) (sym e) ∙ may_found has)
+
+  pub step : (more : BitSet) (d : ℕ) → contains expected (bit found) ≡ true → d ≡ depth_after found depth → more ≡ from_list (map bit (coming (place_after found) d)) → IsAt ks (place + 1) more d
+  step more d has deep come = record {
+    next = place_after found;
+    come = come;
+    shallow = rw deep (depth_more depth found place before.shallow);
+    read = λ inside. subst (λ n. IsRead (take (place + 1) ks) (at (place_after found) n)) (sym deep)
+        (subst (λ l. IsRead l (after_at before.next depth found)) (ap (λ k. take place ks ++ k ∷ []) is ∙ sym (take_more ks place End (omega (arith, inside)))) (read_more _ _ found (before.read within) (may_found has)));
+    whole = λ past.
+        let last : length ks ≤ place = omega (arith, past) in
+        subst IsExpression (take_all place ks last) (accepted before.next depth _ (before.read within).reached (ap (may before.next depth) (sym (is ∙ get_or_past ks place End last)) ∙ may_found has));
+  }
+
+  pub fault : contains expected (bit found) ≡ false → IsFault ks (record { place = place; found = found; expected = expected })
+  fault not = fault_here ks (at before.next depth) (record { place = place; found = found; expected = expected }) (before.read within) within before.come is not

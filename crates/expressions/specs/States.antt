@@ -1,13 +1,16 @@
 -- The states of a reader of tokens.
+--     Place      what may come next: an operand, an operator, or nothing
 --     closing      the end, or where parentheses are open `)`
 --     coming      the kinds that may come
---     at, after      a state;  the state after a token that may come
+--     place_after, depth_after      what may come after a kind that may come;  how many parentheses are open then
 use Rattle.std.specs.Prelude.{ℕ, zero, suc, ◌+◌, ◌-◌, List, [], ◌∷◌}
 use Rattle.expressions.specs.declared.kind.Kind.{Kind}
 use Rattle.expressions.specs.declared.kind.Kind.TheVariants.{Number, Open, Minus, Plus, Times, Divide, Close, End}
-use Rattle.expressions.specs.declared.parser.Place.{Place}
-use Rattle.expressions.specs.declared.parser.Place.TheVariants.{Operand, Operator, Done}
-use Rattle.expressions.specs.declared.parser.State.{State}
+
+pub data Place : Type 0 where
+  Operand : Place
+  Operator : Place
+  Done : Place
 
 abbrev pub closing : ℕ → Kind
 closing zero = End
@@ -18,15 +21,13 @@ coming Operand depth = Number ∷ Open ∷ Minus ∷ []
 coming Operator depth = Minus ∷ Plus ∷ Times ∷ Divide ∷ closing depth ∷ []
 coming Done depth = []
 
-abbrev pub at : Place → ℕ → State
-at place depth = record { place = place; depth = depth }
+abbrev pub place_after : Kind → Place
+place_after Number = Operator
+place_after Close = Operator
+place_after End = Done
+place_after _ = Operand
 
-abbrev pub after_at : Place → ℕ → Kind → State
-after_at place depth Number = at Operator depth
-after_at place depth Open = at place (depth + 1)
-after_at place depth Close = at place (depth - 1)
-after_at place depth End = at Done depth
-after_at place depth _ = at Operand depth
-
-abbrev pub after : State → Kind → State
-after s kind = after_at s.place s.depth kind
+abbrev pub depth_after : Kind → ℕ → ℕ
+depth_after Open depth = depth + 1
+depth_after Close depth = depth - 1
+depth_after _ depth = depth

@@ -10,7 +10,8 @@ mod parser;
 mod token;
 mod value;
 
-use anyhow::{Context, Result};
+use anyhow::{Result, bail};
+use itertools::Itertools;
 use std::alloc::Global;
 use std::process::ExitCode;
 
@@ -18,8 +19,11 @@ use std::process::ExitCode;
 fn answer(alloc: Global, line: &str) -> Result<i64> {
     let tokens = token::tokens(alloc, line)?;
     if let Err(fault) = parser::check(&tokens) {
-        let column = token::column_of(&tokens, fault.place, line);
-        return Err(fault).context(format_args!("column {column}"));
+        let end = line.chars().count() + 1;
+        let column = tokens.get(fault.place).map_or(end, |token| token.column);
+        let expected = fault.expected.iter().join(alloc, ", ")?;
+        let found = fault.found;
+        bail!("column {column}: found {found}, expected {expected}");
     }
     value::evaluate(alloc, &tokens)
 }
@@ -28,12 +32,11 @@ fn answer(alloc: Global, line: &str) -> Result<i64> {
 fn answer_all<R: Input + Print + AllocGlobal>(rt: &R) -> Result<bool> {
     let mut all_have_values = true;
     for line in rt.lines(rt.alloc()) {
-        match answer(rt.alloc(), line?.as_str()) {
+        let answer = answer(rt.alloc(), line?.as_str());
+        all_have_values &= answer.is_ok();
+        match answer {
             Ok(value) => println!(rt; "{value}")?,
-            Err(fault) => {
-                println!(rt; "{fault:#}")?;
-                all_have_values = false;
-            }
+            Err(fault) => println!(rt; "{fault:#}")?,
         }
     }
     Ok(all_have_values)

@@ -1,9 +1,7 @@
 //! The tokens of a line.
 
-ghost use Rattle.std.specs.Prelude.{◌≡◌};
-
 use crate::kind::Kind;
-use anyhow::{Context, Result, bail};
+use anyhow::{Context, Result, ensure};
 use std::alloc::Global;
 
 /// A token.
@@ -16,67 +14,47 @@ pub struct Token {
     pub number: i64,
 }
 
-impl Token {
-    pub fn new(kind: Kind, column: usize, number: i64) -> Token
-        ensures { result ≡ record { kind = kind; column = column; number = number } }
-    {
-        Token {
-            kind,
-            column,
-            number,
-        }
-    }
-}
-
 /// The tokens of a line. Spaces and tabs may stand between them.
 pub fn tokens(alloc: Global, line: &str) -> Result<Vec<Token>> {
     let mut tokens: Vec<Token> = Vec::new(alloc);
     let mut was_digit = false;
     for (index, character) in line.chars().enumerate() {
         let column = index + 1;
-        let digit = character.to_digit(10).map(i64::from);
-        match (digit, tokens.last_mut()) {
-            (Some(digit), Some(last)) if was_digit => {
-                let number = last
-                    .number
-                    .checked_mul(10)
-                    .and_then(|tens| tens.checked_add(digit));
-                last.number = number.context(format_args!(
+        let number = character.to_digit(10).map_or(0, i64::from);
+        match (kind_of(character), tokens.last_mut()) {
+            (Some(Kind::Number), Some(last)) if was_digit => {
+                let tens = last.number.checked_mul(10);
+                let more = tens.and_then(|tens| tens.checked_add(number));
+                last.number = more.context(format_args!(
                     "column {}: the number is too large",
                     last.column
                 ))?;
             }
-            (Some(number), _) => tokens.push(Token::new(Kind::Number, column, number))?,
-            (None, _) => {
-                if let Some(kind) = symbol(column, character)? {
-                    tokens.push(Token::new(kind, column, 0))?;
-                }
-            }
+            (Some(kind), _) => tokens.push(Token {
+                kind,
+                column,
+                number,
+            })?,
+            (None, _) => ensure!(
+                matches!(character, ' ' | '\t'),
+                "column {column}: {character} begins no token"
+            ),
         }
-        was_digit = digit.is_some();
+        was_digit = character.is_ascii_digit();
     }
     Ok(tokens)
 }
 
-// The kind of a token of one character, or `None` for a space.
-fn symbol(column: usize, character: char) -> Result<Option<Kind>> {
-    let kind = match character {
-        ' ' | '\t' => return Ok(None),
-        '(' => Kind::Open,
-        ')' => Kind::Close,
-        '+' => Kind::Plus,
-        '-' => Kind::Minus,
-        '*' => Kind::Times,
-        '/' => Kind::Divide,
-        _ => bail!("column {column}: {character} begins no token"),
-    };
-    Ok(Some(kind))
-}
-
-/// The column of the token at a place, or one past the line's end.
-pub fn column_of(tokens: &[Token], place: usize, line: &str) -> usize {
-    match tokens.get(place) {
-        Some(token) => token.column,
-        None => line.chars().count() + 1,
+// The kind of the token that a character begins.
+fn kind_of(character: char) -> Option<Kind> {
+    match character {
+        '0'..='9' => Some(Kind::Number),
+        '(' => Some(Kind::Open),
+        ')' => Some(Kind::Close),
+        '+' => Some(Kind::Plus),
+        '-' => Some(Kind::Minus),
+        '*' => Some(Kind::Times),
+        '/' => Some(Kind::Divide),
+        _ => None,
     }
 }

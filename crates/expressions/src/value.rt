@@ -7,14 +7,12 @@ use std::alloc::Global;
 
 const TOO_LARGE: &str = "the value does not fit 64 bits";
 
-// What was read between two parentheses: a sum, and a term that goes on.
+// What was read between two parentheses: a sum, and a term that the next operand multiplies or divides.
 #[derive(Clone, Copy)]
 struct Level {
     sum: i64,
     term: i64,
-    // Whether the next operand divides the term.
     divides: bool,
-    // Whether the next operand is negated.
     negates: bool,
 }
 
@@ -29,63 +27,56 @@ impl Level {
         }
     }
 
-    // The value if the level ends here.
     fn value(self) -> Result<i64> {
         self.sum.checked_add(self.term).context(TOO_LARGE)
     }
 
-    fn with_operand(self, operand: i64) -> Result<Level> {
-        let factor = if self.negates {
-            operand.checked_neg().context(TOO_LARGE)?
-        } else {
-            operand
-        };
-        ensure!(!self.divides || factor != 0, "division by zero");
+    fn read_operand(&mut self, operand: i64) -> Result<()> {
+        ensure!(!self.divides || operand != 0, "division by zero");
+        let sign = if self.negates { -1 } else { 1 };
+        let factor = operand.checked_mul(sign).context(TOO_LARGE)?;
         let term = if self.divides {
             self.term.checked_div(factor)
         } else {
             self.term.checked_mul(factor)
         };
-        Ok(Level {
-            term: term.context(TOO_LARGE)?,
-            negates: false,
-            ..self
-        })
+        self.term = term.context(TOO_LARGE)?;
+        self.negates = false;
+        Ok(())
     }
+}
+
+// The value of an expression up to a column, which is that of the token that is read.
+fn value_up_to(column: &mut usize, alloc: Global, tokens: &[Token]) -> Result<i64> {
+    let mut outer: Vec<Level> = Vec::new(alloc);
+    let mut level = Level::before_term(0, 1);
+    let mut is_after_operand = false;
+    for token in tokens {
+        *column = token.column;
+        match token.kind {
+            Kind::Number => level.read_operand(token.number)?,
+            Kind::Open => {
+                outer.push(level)?;
+                level = Level::before_term(0, 1);
+            }
+            Kind::Close => {
+                let value = level.value()?;
+                level = outer.pop().unwrap_or(Level::before_term(0, 1));
+                level.read_operand(value)?;
+            }
+            Kind::Plus => level = Level::before_term(level.value()?, 1),
+            Kind::Minus if is_after_operand => level = Level::before_term(level.value()?, -1),
+            Kind::Minus => level.negates = !level.negates,
+            Kind::Times | Kind::Divide => level.divides = token.kind == Kind::Divide,
+            Kind::End => {}
+        }
+        is_after_operand = matches!(token.kind, Kind::Number | Kind::Close);
+    }
+    level.value()
 }
 
 /// The value of tokens that are an expression.
 pub fn evaluate(alloc: Global, tokens: &[Token]) -> Result<i64> {
-    let mut outer: Vec<Level> = Vec::new(alloc);
-    let mut level = Level::before_term(0, 1);
-    let mut is_after_operand = false;
     let mut column = 1;
-    for token in tokens {
-        column = token.column;
-        let next = match token.kind {
-            Kind::Number => level.with_operand(token.number),
-            Kind::Open => {
-                outer.push(level)?;
-                Ok(Level::before_term(0, 1))
-            }
-            Kind::Close => {
-                let around = outer.pop().unwrap_or(Level::before_term(0, 1));
-                level.value().and_then(|value| around.with_operand(value))
-            }
-            Kind::Plus => level.value().map(|sum| Level::before_term(sum, 1)),
-            Kind::Minus if is_after_operand => level.value().map(|sum| Level::before_term(sum, -1)),
-            Kind::Minus => Ok(Level {
-                negates: !level.negates,
-                ..level
-            }),
-            Kind::Times | Kind::Divide => Ok(Level {
-                divides: token.kind == Kind::Divide,
-                ..level
-            }),
-            Kind::End => Ok(level),
-        };
-        level = next.context(format_args!("column {column}"))?;
-        is_after_operand = matches!(token.kind, Kind::Number | Kind::Close);
-    }
-    level.value().context(format_args!("column {column}"))
+    value_up_to(&mut column, alloc, tokens).context(format_args!("column {column}"))
 }

@@ -6,15 +6,39 @@
 
 mod decision;
 mod policy;
-mod program;
 mod reader;
 mod rights;
 mod roles;
 
+use anyhow::{Context, Result, bail};
+use decision::Decision;
+use reader::Policy;
 use std::process::ExitCode;
+use std::rt::{Env, Files};
+use std::{env, fs};
+
+// Reads the policy, and answers each request in turn, up to the first line that is none. Returns whether all are allowed.
+fn answer_all<R: Env + Files + Input + Print + AllocGlobal>(rt: &R) -> Result<bool> {
+    let alloc = rt.alloc();
+    let mut args = env::args(rt)?.skip(1);
+    let (Some(path), None) = (args.next(), args.next()) else {
+        bail!("usage: permissions POLICY < REQUESTS");
+    };
+    let text = fs::read_to_string(rt, path.as_str()).context(format_args!("{path}"))?;
+    let policy = Policy::from_json(alloc, text.as_str()).context(format_args!("{path}"))?;
+    let mut all_allowed = true;
+    for (line, number) in rt.lines(alloc).zip(1..=u64::MAX) {
+        let answer = policy.answer(line?.as_str());
+        if let Some(decision) = answer.context(format_args!("line {number}"))? {
+            println!(rt; "{}", decision.text(alloc)?)?;
+            all_allowed &= decision == Decision::Allowed;
+        }
+    }
+    Ok(all_allowed)
+}
 
 fn main(rt: HostRuntime) -> ExitCode {
-    match program::answer(&rt) {
+    match answer_all(&rt) {
         Ok(true) => ExitCode::SUCCESS,
         Ok(false) => ExitCode::from(1),
         Err(error) => {

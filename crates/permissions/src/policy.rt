@@ -12,32 +12,27 @@ use enumset::EnumSet;
 use std::alloc::AllocError;
 
 /// Rights that are granted to a role.
-#[derive(Clone, Copy, Debug, PartialEq, Eq)]
+#[derive(Clone, Copy, Debug)]
 pub struct Grant {
     pub role: Role,
     pub rights: EnumSet<Right>,
 }
 
 /// What is known of a user.
-#[derive(Clone, Copy, Debug, PartialEq, Eq)]
+#[derive(Clone, Copy, Debug)]
 pub struct User {
     pub roles: EnumSet<Role>,
     pub denied: EnumSet<Right>,
 }
 
 /// Grants rights to a role. No user may do less afterwards. If memory is refused, nothing changes.
-pub fn add_grant(
-    grants: &mut Vec<Grant>,
-    role: Role,
-    rights: EnumSet<Right>,
-) -> Result<(), AllocError>
-    ensures granted { OnOk result
-        (grants.new.items ≡ grants.old.items ++ (record { role = role; rights = rights } ∷ [])) }
+pub fn add_grant(grants: &mut Vec<Grant>, grant: Grant) -> Result<(), AllocError>
+    ensures granted { OnOk result (grants.new.items ≡ grants.old.items ++ (grant ∷ [])) }
     ensures unchanged { OnErr result (grants.new.items ≡ grants.old.items) }
     ensures never_less { (user : User) (asked : set.BitSet) →
         IsAllowed grants.old.items user asked → IsAllowed grants.new.items user asked }
 {
-    grants.push(Grant { role, rights })?;
+    grants.push(grant)?;
     Ok(())
 }
 

@@ -25,10 +25,8 @@ impl Policy {
         let mut grants = Vec::new(alloc);
         for (name, rights) in object_in(&policy, "grants")?.iter() {
             let role = Role::of_name(name.as_str()).context(format_args!("no role `{name}`"))?;
-            let rights = from_list(rights, Unknown::Refuse).context(format_args!(
-                "grants of {name}"
-            ))?;
-            add_grant(&mut grants, role, rights)?;
+            let rights = Right::from_json(rights).context(format_args!("grants of {name}"))?;
+            add_grant(&mut grants, Grant { role, rights })?;
         }
         let mut users = BTreeMap::new(alloc);
         for (name, user) in object_in(&policy, "users")?.iter() {
@@ -47,10 +45,8 @@ impl Policy {
         let Some(name) = words.next() else {
             return Ok(None);
         };
-        let user = self
-            .users
-            .get(name)
-            .context(format_args!("no user `{name}`"))?;
+        let user = self.users.get(name);
+        let user = user.context(format_args!("no user `{name}`"))?;
         let mut asked = EnumSet::new();
         for word in words {
             asked.insert(Right::of_name(word).context(format_args!("no right `{word}`"))?);

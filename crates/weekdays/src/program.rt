@@ -13,31 +13,35 @@ use std::rt::{Env, Files};
 use std::{env, fs};
 
 fn command<'a>(alloc: Global) -> Result<Command<'a>, AllocError> {
-    let from = Arg::new(alloc, "from")
-        .long("from")
-        .value_name("DAY")
-        .default_value("Monday")
-        .help("Print the nearest day, from this one on");
-    let first = Arg::new(alloc, "first")
-        .long("first")
-        .value_name("DATE")
-        .requires_arg("last")?
-        .conflicts_with("from")?
-        .help("Print the dates, from this one on");
-    let last = Arg::new(alloc, "last")
-        .long("last")
-        .value_name("DATE")
-        .requires_arg("first")?
-        .help("Print no date after this one");
-    let schedules = Arg::new(alloc, "SCHEDULES").required(true).help(
-        "A file with a line for each person, as `ann: Monday Friday`",
-    );
     Command::new(alloc, "weekdays")
         .about("Finds the days on which everybody is free")
-        .arg(from)?
-        .arg(first)?
-        .arg(last)?
-        .arg(schedules)
+        .arg(
+            Arg::new(alloc, "from")
+                .long("from")
+                .value_name("DAY")
+                .default_value("Monday")
+                .help("Print the nearest day, from this one on"),
+        )?
+        .arg(
+            Arg::new(alloc, "first")
+                .long("first")
+                .value_name("DATE")
+                .requires_arg("last")?
+                .conflicts_with("from")?
+                .help("Print the dates, from this one on"),
+        )?
+        .arg(
+            Arg::new(alloc, "last")
+                .long("last")
+                .value_name("DATE")
+                .requires_arg("first")?
+                .help("Print no date after this one"),
+        )?
+        .arg(
+            Arg::new(alloc, "SCHEDULES").required(true).help(
+                "A file with a line for each person, as `ann: Monday Friday`",
+            ),
+        )
 }
 
 /// Prints what the arguments ask for, and returns the exit status: 0 if there is such a day, else 1, or that of clap.
