@@ -57,10 +57,8 @@ impl Policy {
 
 // The object of a name.
 fn object_in<'a>(value: &'a Value, name: &str) -> Result<&'a Map<String, Value>> {
-    value
-        .get(name)
-        .and_then(Value::as_object)
-        .context(format_args!("no object `{name}`"))
+    let object = value.get(name).and_then(|member| member.as_object());
+    object.context(format_args!("no object `{name}`"))
 }
 
 // The set of a member of an object, empty where there is none.
