@@ -1,6 +1,5 @@
 -- Laws of what grants and denials allow.
-use Rattle.std.proofs.Common.{◌≡◌, ℕ, true, false, not, List, [], ◌∷◌, ◌&&◌, ◌↔◌, ap, sym, ◌∙◌, arith}
-use Rattle.std.proofs.lemmas.Bool.Decides.{nat_tests}
+use Rattle.std.proofs.Common.{◌≡◌, ℕ, true, not, List, [], ◌∷◌, ◌&&◌, ◌↔◌, ap, arith}
 use Rattle.enumset_repr.specs.BitSet.{BitSet, contains, is_empty, insert, remove, difference}
 use Rattle.enumset_repr.specs.Laws.Members.{members, same_set}
 use Rattle.enumset_repr.specs.Laws.Ascending.{is_empty_iff}
