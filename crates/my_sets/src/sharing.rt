@@ -50,7 +50,9 @@ pub fn shared_by_two<T: EnumSetType>(one: &EnumSet<T>, other: &EnumSet<T>) -> En
 
 /// Grants a right in place of another. What newer peers have put into the set stays.
 pub fn replaced<T: EnumSetTypeWithRepr>(rights: &mut MixedEnumSet<T>, old: T, new: T)
-    ensures { unknown_members (valid_bits T.elements) rights.new
+    ensures replaced { rights.new
+        ≡ set.insert (set.remove rights.old (T.elements.bit old)) (T.elements.bit new) }
+    ensures unknown { unknown_members (valid_bits T.elements) rights.new
         ≡ unknown_members (valid_bits T.elements) rights.old }
 {
     laws::unknown_kept::<T>();
