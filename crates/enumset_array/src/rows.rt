@@ -104,9 +104,8 @@ fn take_least(word: &mut u64) -> Option<u32>
     if bits == 0 {
         return None;
     }
-    let least = bits.trailing_zeros();
-    *word = bits & !(1 << least);
-    Some(least)
+    *word = bits & (bits - 1);
+    Some(bits.trailing_zeros())
 }
 
 /// Takes out the greatest bit of a word and returns it, or returns `None` if the word is 0.

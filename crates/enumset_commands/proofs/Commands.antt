@@ -1,24 +1,27 @@
--- The commands of the lines before, and of those after.
-use Rattle.std.proofs.Common.{◌≡◌, ℕ, List, [], ◌∷◌, ◌++◌, Some, None, Result, Ok, Err, refl, ap, sym, append_assoc}
+-- What sinks take, and the faults of lines.
+use Rattle.std.proofs.Common.{◌≡◌, ℕ, List, [], ◌∷◌, ◌++◌, Some, None, Result, Ok, Err, refl, ap, sym, ◌∙◌, append_assoc, append-nil}
+use Rattle.std.specs.List.{fold}
 use Rattle.std.specs.Result.{result_err}
 use Rattle.enumset_commands.proofs.Lines.{length-lines_of}
 use Rattle.enumset_commands.specs.declared.text_fault.TextFault.{TextFault}
 use Rattle.enumset_commands.specs.declared.text_fault.TextFault.TheVariants.{OutOfMemory}
 use Rattle.enumset_commands.specs.TextFaults.{IsFaultOf}
 use Rattle.enumset_commands.specs.Lines.{before}
+use Rattle.enumset_commands.specs.Sinks.{taken_by}
 
--- the commands of lines, after those of the lines before them
-abbrev pub preceded_by : {C : Type 0} → List C → Result (List C) TextFault → Result (List C) TextFault
-preceded_by cs (Ok ds) = Ok (cs ++ ds)
-preceded_by cs (Err fault) = Err fault
+-- a sink takes one command, and then the others
+pub taken_by-before : {V C : Type 0} (after : V → C → V) (view : V) (c : C) (n : ℕ) (rest : Result (List C) TextFault) → taken_by after view (before (Some c) n rest) ≡ taken_by after (after view c) rest
+taken_by-before after view c n (Ok cs) = refl
+taken_by-before after view c n (Err fault) = refl
 
-pub preceded_by-before : {C : Type 0} (cs : List C) (c : C) (n : ℕ) (rest : Result (List C) TextFault) → preceded_by cs (before (Some c) n rest) ≡ preceded_by (cs ++ c ∷ []) rest
-preceded_by-before cs c n (Ok ds) = ap Ok (sym (append_assoc cs (c ∷ []) ds))
-preceded_by-before cs c n (Err fault) = refl
+-- a list that takes all commands has them, after what it had
+fold-list : {C : Type 0} (had cs : List C) → fold (λ ds c. ds ++ c ∷ []) had cs ≡ had ++ cs
+fold-list had [] = sym (append-nil had)
+fold-list had (c ∷ cs) = fold-list (had ++ c ∷ []) cs ∙ append_assoc had (c ∷ []) cs
 
-pub preceded_by-nil : {C : Type 0} (rest : Result (List C) TextFault) → preceded_by [] rest ≡ rest
-preceded_by-nil (Ok ds) = refl
-preceded_by-nil (Err fault) = refl
+pub taken_by-list : {C : Type 0} (read : Result (List C) TextFault) → taken_by (λ ds c. ds ++ c ∷ []) [] read ≡ read
+taken_by-list (Ok cs) = ap Ok (fold-list [] cs)
+taken_by-list (Err fault) = refl
 
 -- a command brings no fault
 pub result_err-before : {C : Type 0} (c : C) (n : ℕ) (rest : Result (List C) TextFault) → result_err (before (Some c) n rest) ≡ result_err rest
@@ -34,4 +37,4 @@ pub IsFaultOf-memory : {C : Type 0} (read : Result (List C) TextFault) → None 
 IsFaultOf-memory (Ok cs) none = refl
 IsFaultOf-memory (Err fault) none = absurd (cc)
 
-pub ruleset command_steps = (preceded_by-before, preceded_by-nil, result_err-before, IsFaultOf-own, IsFaultOf-memory, length-lines_of)
+pub ruleset command_steps = (taken_by-before, result_err-before, IsFaultOf-own, IsFaultOf-memory, length-lines_of)

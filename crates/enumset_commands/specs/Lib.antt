@@ -3,3 +3,4 @@ pub mod Tables
 pub mod Lines
 pub mod MixedLines
 pub mod Texts
+pub mod Sinks

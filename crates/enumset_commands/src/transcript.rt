@@ -13,14 +13,14 @@ pub fn write_replies(alloc: Global, replies: &[Reply]) -> Result<Vec<u8>, AllocE
 {
     let mut out = String::new(alloc);
     for reply in replies {
-        write_line(&mut out, reply)?;
+        write_reply(&mut out, reply)?;
     }
     Ok(out.into_bytes())
 }
 
 /// Writes the text of a reply and a line feed. The most frequent replies, and the longest, take no formatter.
 #[inline(always)]
-fn write_line(out: &mut String, reply: &Reply) -> Result<(), AllocError>
+pub fn write_reply(out: &mut String, reply: &Reply) -> Result<(), AllocError>
     ensures { OnOk result
         (string_bytes out.new ≡ string_bytes out.old ++ text_of reply.now ++ codes "\n") }
 {

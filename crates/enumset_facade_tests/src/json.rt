@@ -9,7 +9,7 @@ use enumset::set_json::{
     from_words_text, to_list_text, to_map_text, to_number_text, to_words_text,
 };
 use enumset::{EnumSet, EnumSetNames, EnumSetType};
-use enumset_json_types::{LaterLetters, Letters, Sparse, Wide};
+use enumset_json_types::{LaterLetters, Letters, Of64, Sparse, Wide};
 use enumset_sizes::{In5Words, In17Words};
 use std::alloc::Global;
 use std::fmt;
@@ -380,6 +380,7 @@ fn sets_are_written(rt: HostRuntime) -> Result<(), Fail> {
     write_sets(&rt, alloc, &mut text, &sparse)?;
     write_sets(&rt, alloc, &mut text, &[EnumSet::<Wide>::all()])?;
     write_sets(&rt, alloc, &mut text, &[EnumSet::<LaterLetters>::all()])?;
+    write_sets(&rt, alloc, &mut text, &[EnumSet::<Of64>::all()])?;
     assert_eq!(rt; text.as_str(), WRITTEN);
     Ok(())
 }
@@ -395,6 +396,20 @@ TooWide TooWide TooWide TooWide [1024,9223372036854775808] [\"A\",\"D\"] {\"A\":
 TooWide TooWide TooWide TooWide [8,1,4] [\"Read\",\"Reader\",\"Re\"] {\"Re\":true,\"Read\":true,\"Reader\":true}
 TooWide TooWide TooWide TooWide [255,1] [\"A\",\"B\",\"C\",\"D\",\"E\",\"F\",\"G\",\"H\",\"Aa\"] \
 {\"A\":true,\"Aa\":true,\"B\":true,\"C\":true,\"D\":true,\"E\":true,\"F\":true,\"G\":true,\"H\":true}
+TooWide TooWide TooWide 18446744073709551615 [18446744073709551615] \
+[\"V0\",\"V1\",\"V2\",\"V3\",\"V4\",\"V5\",\"V6\",\"V7\",\"V8\",\"V9\",\"V10\",\"V11\",\"V12\",\"V13\",\"V14\",\
+\"V15\",\"V16\",\"V17\",\"V18\",\"V19\",\"V20\",\"V21\",\"V22\",\"V23\",\"V24\",\"V25\",\"V26\",\"V27\",\"V28\",\
+\"V29\",\"V30\",\"V31\",\"V32\",\"V33\",\"V34\",\"V35\",\"V36\",\"V37\",\"V38\",\"V39\",\"V40\",\"V41\",\"V42\",\
+\"V43\",\"V44\",\"V45\",\"V46\",\"V47\",\"V48\",\"V49\",\"V50\",\"V51\",\"V52\",\"V53\",\"V54\",\"V55\",\"V56\",\
+\"V57\",\"V58\",\"V59\",\"V60\",\"V61\",\"V62\",\"V63\"] \
+{\"V0\":true,\"V1\":true,\"V10\":true,\"V11\":true,\"V12\":true,\"V13\":true,\"V14\":true,\"V15\":true,\
+\"V16\":true,\"V17\":true,\"V18\":true,\"V19\":true,\"V2\":true,\"V20\":true,\"V21\":true,\"V22\":true,\
+\"V23\":true,\"V24\":true,\"V25\":true,\"V26\":true,\"V27\":true,\"V28\":true,\"V29\":true,\"V3\":true,\
+\"V30\":true,\"V31\":true,\"V32\":true,\"V33\":true,\"V34\":true,\"V35\":true,\"V36\":true,\"V37\":true,\
+\"V38\":true,\"V39\":true,\"V4\":true,\"V40\":true,\"V41\":true,\"V42\":true,\"V43\":true,\"V44\":true,\
+\"V45\":true,\"V46\":true,\"V47\":true,\"V48\":true,\"V49\":true,\"V5\":true,\"V50\":true,\"V51\":true,\
+\"V52\":true,\"V53\":true,\"V54\":true,\"V55\":true,\"V56\":true,\"V57\":true,\"V58\":true,\"V59\":true,\
+\"V6\":true,\"V60\":true,\"V61\":true,\"V62\":true,\"V63\":true,\"V7\":true,\"V8\":true,\"V9\":true}
 ";
 
 #[test]

@@ -1,12 +1,13 @@
 //! Element types whose sets have a form in JSON, over integers and over words, with what proofs want of some of them.
 //!
 //! `enumset_derive` writes each module from its file in `enums/`, and the files for proofs: change that file, and call
-//! `scripts/written-types`. The names of `Wide` alone are given by hand.
+//! `scripts/written-types`. The names of `Of64` and `Wide` are given by hand.
 #![tactic(auto)]
 
 pub mod forms;
 pub mod named;
 pub mod of_64;
+pub mod of_64_names;
 pub mod priority;
 pub mod wide;
 pub mod wide_names;

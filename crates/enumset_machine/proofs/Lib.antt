@@ -1,4 +1,5 @@
 pub mod Replies
+pub mod Conversations
 pub mod Cuts
 pub mod OneTranscript
 pub mod Alike

@@ -6,10 +6,11 @@ ghost use Rattle.enumset_machine.specs.Answers.{answer_by, answer_to, mixed_answ
 ghost use Rattle.enumset_commands.specs.TextFaults.{IsFaultOf};
 ghost use Rattle.enumset_sets.specs.Elements.{valid_bits};
 
+use crate::conversation::Conversation;
 use crate::machine::Machine;
 use crate::machine::mixed_machine::MixedMachine;
-use crate::steps::{Steps, run_by_steps};
-use enumset_commands::{LineCommand, TextFault, read_commands, write_replies};
+use crate::steps::Steps;
+use enumset_commands::{LineCommand, TextFault, send_commands};
 use enumset_repr::EnumSetTypeRepr;
 use enumset_sets::{EnumSetType, EnumSetTypeWithRepr};
 use std::alloc::Global;
@@ -50,7 +51,8 @@ pub fn serve_mixed_text<T: EnumSetTypeWithRepr>(
     serve_by_steps::<MixedMachine<T>>(alloc, input)
 }
 
-/// The text of the replies that a new machine gives to the commands of an input.
+/// The text of the replies that a new machine gives to the commands of an input. Each command is read, carried out and
+/// answered before the next. The length of the input is tested first.
 fn serve_by_steps<M: Steps>(alloc: Global, input: &[u8]) -> Result<Vec<u8>, TextFault>
 where
     M::Command: LineCommand,
@@ -59,20 +61,13 @@ where
     ensures fault { IfErr result (λ fault. IsFaultOf (answer_by (replies_by M.outcome start)
         (commands_of M.Command.command_of input.now)) fault) }
 {
-    let commands = commands_of::<M::Command>(alloc, input)?;
-    let run = run_by_steps::<M>(alloc, &commands)?;
-    drop(commands);
-    Ok(write_replies(alloc, &run.replies)?)
-}
-
-/// The commands of an input. Its length is tested first.
-fn commands_of<C: LineCommand>(alloc: Global, input: &[u8]) -> Result<Vec<C>, TextFault>
-    ensures commands { IfOk result (λ commands.
-        commands_of C.command_of input.now ≡ Ok commands.items) }
-    ensures fault { IfErr result (λ fault. IsFaultOf (commands_of C.command_of input.now) fault) }
-{
     if input.len() > INPUT_LIMIT {
         return Err(TextFault::TooLong);
     }
-    read_commands(alloc, input)
+    let mut conversation = Conversation {
+        machine: M::new(),
+        text: String::new(alloc),
+    };
+    send_commands(alloc, input, &mut conversation)?;
+    Ok(conversation.text.into_bytes())
 }

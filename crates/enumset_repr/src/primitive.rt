@@ -1,6 +1,6 @@
 //! Integers as sets of their bits: what an iterator over the bits of an integer needs of it.
 
-ghost use Rattle.std.specs.Prelude.{◌≡◌, ◌+◌, ◌<◌, ℕ, Option, MatchOption};
+ghost use Rattle.std.specs.Prelude.{◌≡◌, ◌+◌, ◌<◌, ℕ, Option, MatchOption, IsSome, IfSome};
 ghost use Rattle.enumset_repr.specs.BitSet as set;
 ghost use Rattle.enumset_repr.specs.BitSet.{BitSet};
 ghost use Rattle.enumset_repr.specs.Ends.{least, greatest};
@@ -11,8 +11,8 @@ use std::fmt::Debug;
 /// from the lowest, which is 0.
 ///
 /// It mirrors `Primitive` of Rust's `enumset`. There the iterator also needs `WIDTH`, `count_ones` and `remove_bit` of
-/// a representation. Here [`BITS`](Primitive::BITS), [`ones`](Primitive::ones) and [`without`](Primitive::without) take
-/// their place, so the iterator needs no representation.
+/// a representation. Here [`BITS`](Primitive::BITS), [`ones`](Primitive::ones), [`without`](Primitive::without) and
+/// [`without_least`](Primitive::without_least) take their place, so the iterator needs no representation.
 pub trait Primitive: Copy + Debug {
     // The set that the integer represents.
     ghost set_of: { Self → BitSet };
@@ -38,4 +38,9 @@ pub trait Primitive: Copy + Debug {
     fn without(&self, bit: u32) -> Self
         requires { bit < BITS }
         ensures { set_of result ≡ set.remove (set_of self.now) bit };
+
+    /// The integer with its least bit cleared. One bit must be set.
+    fn without_least(&self) -> Self
+        requires { IsSome (least (set_of self.now)) }
+        ensures { IfSome (least (set_of self.now)) (λ m. set_of result ≡ set.remove (set_of self.now) m) };
 }

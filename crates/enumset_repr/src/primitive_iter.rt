@@ -37,7 +37,7 @@ impl<T: Primitive> Iterator for PrimitiveIter<T> {
         if least == T::BITS {
             return None;
         }
-        self.0 = self.0.without(least);
+        self.0 = self.0.without_least();
         Some(least)
     }
 

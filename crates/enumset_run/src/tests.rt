@@ -1,5 +1,6 @@
 //! Tests of the program and of its parts together.
 
+mod long_lists;
 mod program;
 mod refused;
 mod surroundings;

@@ -149,19 +149,27 @@ macro_rules! variant_of {
     (@none $bit:ident $least:literal, $greatest:expr, $($at:literal)+) => {
         $crate::variants::is_listed_within($bit, $least, $greatest, &[$($at),+])
     };
-    // The last arm is never taken, as the tokens in brackets tell the proof. It names a variant nevertheless, so that the
-    // match can compile to a load from a table: with `unreachable!()` it would be a jump.
-    (
-        @match $bit:ident, $of:ident [$($never:tt)+] $first_at:literal $first:ident $($at:literal $variant:ident)*
-    ) => {
+    // The last arm is never taken, as the tokens in brackets tell the proof.
+    (@match $bit:ident, $of:ident [$($never:tt)+] $($at:literal $variant:ident)+) => {
         match $bit {
-            $first_at => $of::$first,
-            $($at => $of::$variant,)*
+            $($at => $of::$variant,)+
             _ => {
                 $crate::variant_of!($($never)+);
-                $of::$first
+                $crate::variant_of!(@last $of $($variant)+)
             }
         }
+    };
+    // With more than sixteen variants the last arm names one, so that the match can compile to a load from a table. With
+    // fewer it names none, so that the number of the variant that was found can compile to the bit.
+    (
+        @last $of:ident $v0:ident $v1:ident $v2:ident $v3:ident $v4:ident $v5:ident $v6:ident $v7:ident
+        $v8:ident $v9:ident $v10:ident $v11:ident $v12:ident $v13:ident $v14:ident $v15:ident
+        $($variant:ident)+
+    ) => {
+        $of::$v0
+    };
+    (@last $of:ident $($variant:ident)+) => {
+        unreachable!()
     };
     ($bit:expr, $of:ident: $($at:literal $variant:ident)+) => {{
         let bit: u32 = $bit;

@@ -1,6 +1,6 @@
 -- The asks of an iterator.
 --     counted      steps that count their asks bound them, and a clone that is the same has the same asks and span
-use Rattle.std.proofs.Common.{◌≡◌, ℕ, ap, arith}
+use Rattle.std.proofs.Common.{◌≡◌, ap, arith}
 use Rattle.std.specs.Iterator.{YieldsFirst, YieldsLast}
 use Rattle.enumset_repr.specs.Asks.{IterView, IsCounted}
 use Rattle.enumset_array.specs.OneStep.{CountsAsks}

@@ -5,9 +5,11 @@
 --     ascending-least, ascending-greatest      the least comes first in the list, and the greatest last
 --     trailing-least, leading-greatest      what `trailing_zeros` and `leading_zeros` count, at each width:
 --         `TrailingLaw`, `LeadingLaw`
+--     clear-least, least-positive      `n & (n - 1)`, at each width: `ClearLeastLaw`;  a number with a least member is not 0
 --     at_the_ends      the ends of a set, for a tactic's `using`
 use Rattle.std.proofs.Common.{◌≡◌, ◌<◌, ◌≤◌, ℕ, suc, zero, ◌+◌, ◌-◌, ◌^◌, true, false, List, [], ◌∷◌, ◌++◌, Some, None, refl, sym, ap, subst, ◌∙◌, arith, true≢false, inl, inr, length, length-append}
-use Rattle.std.specs.Prelude.{◌==◌, MatchOption}
+use Rattle.std.specs.Prelude.{◌==◌, MatchOption, IfSome, IsSome, is_some}
+use Rattle.std.specs.Int.RustNames.{bit_and}
 use Rattle.std.specs.Int.{trailing_zeros, leading_zeros, Width}
 use Rattle.std.specs.Int.Count.{trailing_of_zero, leading_of_zero}
 use mir.Val.{bits as width_bits}
@@ -19,7 +21,7 @@ use Rattle.enumset_repr.specs.Laws.Steps.{last-push}
 use Rattle.enumset_repr.specs.Laws.Members.{contains-ascending, member_below}
 use Rattle.enumset_repr.specs.Laws.Ascending.{len-ascending, AscendsFrom, ascending-ascends, ascending-empty, is_in-from, is_in-below, ascending-first, ascending-last, empty_of_ascending}
 use Rattle.enumset_repr.specs.Number.{bits}
-use Rattle.enumset_repr.specs.Laws.Numbers.{bits-zero, bits-within, least-bits, greatest-bits}
+use Rattle.enumset_repr.specs.Laws.Numbers.{bits-zero, bits-within, bits-clear_least, least-bits, greatest-bits}
 
 -- ---- the ends of an ascending list
 
@@ -153,5 +155,23 @@ leading-greatest w (suc n) fits =
     let facts = greatest-bits w (suc n) (omega arith) fits in
     let some : greatest (bits (suc n)) ≡ Some (width_bits w - 1 - leading_zeros w (suc n)) = greatest-is _ _ facts.1 facts.2 in
     subst (λ o. MatchOption o (leading_zeros w (suc n) ≡ width_bits w) (λ m. leading_zeros w (suc n) + m + 1 ≡ width_bits w)) (sym some) (omega (arith, facts.0))
+
+abbrev pub ClearLeastLaw : Width → Type 0
+ClearLeastLaw w = (n : ℕ) → n < 2 ^ width_bits w → IfSome (least (bits n)) (λ m. bits (bit_and n (n - 1)) ≡ remove (bits n) m)
+
+-- `n & (n - 1)` is without the least member
+pub clear-least : (w : Width) → ClearLeastLaw w
+clear-least w zero fits =
+    let none : least (bits 0) ≡ None = ap least bits-zero ∙ least-empty in
+    subst (λ o. IfSome o (λ m. bits (bit_and 0 (0 - 1)) ≡ remove (bits 0) m)) (sym none) tt
+clear-least w (suc n) fits =
+    let facts = least-bits w (suc n) (omega arith) fits in
+    let some : least (bits (suc n)) ≡ Some (trailing_zeros w (suc n)) = least-is _ _ facts.0 facts.1 in
+    subst (λ o. IfSome o (λ m. bits (bit_and (suc n) (suc n - 1)) ≡ remove (bits (suc n)) m)) (sym some) (bits-clear_least w (suc n) (omega arith) fits)
+
+-- a number with a least member is not 0
+pub least-positive : (n : ℕ) → IsSome (least (bits n)) → 0 < n
+least-positive zero some = absurd (true≢false (sym some ∙ ap is_some (ap least bits-zero ∙ least-empty)))
+least-positive (suc n) some = omega arith
 
 pub ruleset at_the_ends = (ascending-least, ascending-no_least, ascending-greatest, ascending-no_greatest, fewer-greatest, len-ascending)

@@ -17,7 +17,7 @@ use Rattle.enumset_repr.specs.BitSet.{contains, insert, remove, intersection, un
 use Rattle.enumset_repr.specs.Number.{number, bits}
 use Rattle.enumset_repr.specs.Words.{word, with_word}
 use Rattle.enumset_repr.specs.Laws.Numbers.{number-bits, bits-within, bits-and, bits-or, bits-xor, bits-not, bits-and_not, bits-set, bits-clear, bits-test, on_numbers}
-use Rattle.enumset_repr.specs.Laws.Ends.{TrailingLaw, LeadingLaw, trailing-least, leading-greatest}
+use Rattle.enumset_repr.specs.Laws.Ends.{TrailingLaw, LeadingLaw, ClearLeastLaw, trailing-least, leading-greatest, clear-least, least-positive}
 use Rattle.enumset_repr.specs.Laws.Words.{word-bits, bits-put_low, bits-put_word}
 
 module _ (w : Width) where
@@ -108,13 +108,16 @@ test_8 = bits-test w8
 pub and_not_8 : AndNotLaw w8
 and_not_8 = bits-and_not w8
 
+pub clear_least_8 : ClearLeastLaw w8
+clear_least_8 = clear-least w8
+
 pub trailing_8 : TrailingLaw w8
 trailing_8 = trailing-least w8
 
 pub leading_8 : LeadingLaw w8
 leading_8 = leading-greatest w8
 
-pub ruleset on_8 = (on_numbers, set_8, clear_8, test_8, and_not_8, trailing_8, leading_8, words_narrow)
+pub ruleset on_8 = (on_numbers, least-positive, set_8, clear_8, clear_least_8, test_8, and_not_8, trailing_8, leading_8, words_narrow)
 
 pub set_16 : SetLaw w16
 set_16 = bits-set w16
@@ -128,13 +131,16 @@ test_16 = bits-test w16
 pub and_not_16 : AndNotLaw w16
 and_not_16 = bits-and_not w16
 
+pub clear_least_16 : ClearLeastLaw w16
+clear_least_16 = clear-least w16
+
 pub trailing_16 : TrailingLaw w16
 trailing_16 = trailing-least w16
 
 pub leading_16 : LeadingLaw w16
 leading_16 = leading-greatest w16
 
-pub ruleset on_16 = (on_numbers, set_16, clear_16, test_16, and_not_16, trailing_16, leading_16, words_narrow)
+pub ruleset on_16 = (on_numbers, least-positive, set_16, clear_16, clear_least_16, test_16, and_not_16, trailing_16, leading_16, words_narrow)
 
 pub set_32 : SetLaw w32
 set_32 = bits-set w32
@@ -148,13 +154,16 @@ test_32 = bits-test w32
 pub and_not_32 : AndNotLaw w32
 and_not_32 = bits-and_not w32
 
+pub clear_least_32 : ClearLeastLaw w32
+clear_least_32 = clear-least w32
+
 pub trailing_32 : TrailingLaw w32
 trailing_32 = trailing-least w32
 
 pub leading_32 : LeadingLaw w32
 leading_32 = leading-greatest w32
 
-pub ruleset on_32 = (on_numbers, set_32, clear_32, test_32, and_not_32, trailing_32, leading_32, words_narrow)
+pub ruleset on_32 = (on_numbers, least-positive, set_32, clear_32, clear_least_32, test_32, and_not_32, trailing_32, leading_32, words_narrow)
 
 pub set_64 : SetLaw w64
 set_64 = bits-set w64
@@ -168,13 +177,16 @@ test_64 = bits-test w64
 pub and_not_64 : AndNotLaw w64
 and_not_64 = bits-and_not w64
 
+pub clear_least_64 : ClearLeastLaw w64
+clear_least_64 = clear-least w64
+
 pub trailing_64 : TrailingLaw w64
 trailing_64 = trailing-least w64
 
 pub leading_64 : LeadingLaw w64
 leading_64 = leading-greatest w64
 
-pub ruleset on_64 = (on_numbers, set_64, clear_64, test_64, and_not_64, trailing_64, leading_64, words_narrow)
+pub ruleset on_64 = (on_numbers, least-positive, set_64, clear_64, clear_least_64, test_64, and_not_64, trailing_64, leading_64, words_narrow)
 
 pub set_128 : SetLaw w128
 set_128 = bits-set w128
@@ -188,10 +200,13 @@ test_128 = bits-test w128
 pub and_not_128 : AndNotLaw w128
 and_not_128 = bits-and_not w128
 
+pub clear_least_128 : ClearLeastLaw w128
+clear_least_128 = clear-least w128
+
 pub trailing_128 : TrailingLaw w128
 trailing_128 = trailing-least w128
 
 pub leading_128 : LeadingLaw w128
 leading_128 = leading-greatest w128
 
-pub ruleset on_128 = (on_numbers, set_128, clear_128, test_128, and_not_128, trailing_128, leading_128, words_wide)
+pub ruleset on_128 = (on_numbers, least-positive, set_128, clear_128, clear_least_128, test_128, and_not_128, trailing_128, leading_128, words_wide)

@@ -246,6 +246,56 @@ bits-clear w n k fits within =
     ∙ same_set _ _
     (λ q. contains-difference (bits n) (bits (2 ^ k)) q ∙ ap (λ t. contains (bits n) q && not t) (contains-pow k q) ∙ and_comm (contains (bits n) q) (not (q == k)) ∙ sym (contains-remove (bits n) k q))
 
+digit_kept : (m d : ℕ) (kept : Bool) → (kept ≡ true → m ≡ d) → (kept ≡ false → m ≡ 0) → (m == 1) ≡ (kept && (d == 1))
+digit_kept m d true same none = ap (λ x. x == 1) (same refl)
+digit_kept m d false same none = ap (λ x. x == 1) (none refl)
+
+-- a number less one, where t is its lowest bit: it has not that bit, and those above it stay
+module _ (n t : ℕ) (one : bit_at n t ≡ 1) (none : (i : ℕ) → i < t → bit_at n i ≡ 0) where
+  lowest-part : n % 2 ^ suc t ≡ 2 ^ t
+  lowest-part = same_from_bits _ _ (λ q. by q (cases_lt q (suc t)) (cases_lt q t))
+    where
+      by : (q : ℕ) → (q < suc t) ⊎ (suc t ≤ q) → (q < t) ⊎ (t ≤ q) → bit_at (n % 2 ^ suc t) q ≡ bit_at (2 ^ t) q
+      by q (inl under) below =
+          sym (ap (λ m. bit_at m q) (sym (shr_split n (suc t))) ∙ bit_at_cat_low (n / 2 ^ suc t) (suc t) (n % 2 ^ suc t) q under)
+          ∙ elim below [
+            | inl before ↦ none q before ∙ sym (bit_at-pow_other t q (λ same. omega (arith, same, before)))
+            | inr from ↦ let same : q ≡ t = omega arith in ap (bit_at n) same ∙ one ∙ sym (bit_at-pow_same t) ∙ ap (bit_at (2 ^ t)) (sym same)
+          ]
+      by q (inr over) below = bit_at_above (n % 2 ^ suc t) (suc t) q (mod_below n (2 ^ suc t) (pow_pos (suc t))) over ∙ sym (bit_at-pow_other t q (λ same. omega (arith, same, over)))
+
+  less_one-parts : n - 1 ≡ n / 2 ^ suc t * 2 ^ suc t + (2 ^ t - 1)
+  less_one-parts = omega (arith, shr_split n (suc t), lowest-part, pow_pos t)
+
+  less_one-lowest : bit_at (n - 1) t ≡ 0
+  less_one-lowest =
+      ap (λ m. bit_at m t) less_one-parts ∙ bit_at_cat_low (n / 2 ^ suc t) (suc t) (2 ^ t - 1) t (omega arith)
+      ∙ bit_at_above (2 ^ t - 1) t t (omega (arith, pow_pos t)) (omega arith)
+
+  less_one-above : (q : ℕ) → t < q → bit_at (n - 1) q ≡ bit_at n q
+  less_one-above q past =
+      ap (λ m. bit_at m q) less_one-parts ∙ bit_at_cat_high (n / 2 ^ suc t) (suc t) (2 ^ t - 1) q (omega (arith, pow_pos t, pow-suc 2 t)) (omega (arith, past))
+      ∙ sym (ap (λ m. bit_at m q) (sym (shr_split n (suc t))) ∙ bit_at_cat_high (n / 2 ^ suc t) (suc t) (n % 2 ^ suc t) q (mod_below n (2 ^ suc t) (pow_pos (suc t))) (omega (arith, past)))
+
+  without_lowest : bits (bit_and n (n - 1)) ≡ remove (bits n) t
+  without_lowest =
+      bits_is _ _
+      (λ q. ap (λ d. d == 1) (bit_at_and n (n - 1) q) ∙ digit_kept _ (bit_at n q) (not (q == t)) (kept q (cases_lt q t)) (gone q)
+      ∙ ap (λ b. not (q == t) && b) (sym (contains-bits n q)) ∙ sym (contains-remove (bits n) t q))
+    where
+      kept : (q : ℕ) → (q < t) ⊎ (t ≤ q) → not (q == t) ≡ true → min (bit_at n q) (bit_at (n - 1) q) ≡ bit_at n q
+      kept q (inl before) apart = omega (arith, none q before)
+      kept q (inr from) apart = let past : t < q = grind (arith, nat_tests, from, apart) in omega (arith, less_one-above q past)
+
+      gone : (q : ℕ) → not (q == t) ≡ false → min (bit_at n q) (bit_at (n - 1) q) ≡ 0
+      gone q here = let same : q ≡ t = grind (arith, nat_tests, here) in omega (arith, ap (bit_at (n - 1)) same ∙ less_one-lowest)
+
+-- `n & (n - 1)`
+pub bits-clear_least : (w : Width) (n : ℕ) → 0 < n → n < 2 ^ width_bits w → bits (bit_and n (n - 1)) ≡ remove (bits n) (trailing_zeros w n)
+bits-clear_least w n some fits =
+    let lowest = bit_at-trailing_zeros w n some fits in
+    without_lowest n (trailing_zeros w n) lowest.1 lowest.2
+
 digit_test : (d p : ℕ) → d < 2 → 0 < p → (d == 1) ≡ not (d * p == 0)
 digit_test zero p small some = ap (λ m. not (m == 0)) (sym (zero-mul p))
 digit_test (suc zero) p small some = grind (arith, nat_tests, one-mul p)

@@ -36,6 +36,10 @@ impl Primitive for u128 {
     fn without(&self, bit: u32) -> u128 {
         *self & !(1 << bit)
     }
+
+    fn without_least(&self) -> u128 {
+        *self & (*self - 1)
+    }
 }
 
 #[tactic(auto, using(crate::specs::Laws::Integers::on_128))]

@@ -36,6 +36,10 @@ impl Primitive for u16 {
     fn without(&self, bit: u32) -> u16 {
         *self & !(1 << bit)
     }
+
+    fn without_least(&self) -> u16 {
+        *self & (*self - 1)
+    }
 }
 
 #[tactic(auto, using(crate::specs::Laws::Integers::on_16))]

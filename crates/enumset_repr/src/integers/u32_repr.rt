@@ -36,6 +36,10 @@ impl Primitive for u32 {
     fn without(&self, bit: u32) -> u32 {
         *self & !(1 << bit)
     }
+
+    fn without_least(&self) -> u32 {
+        *self & (*self - 1)
+    }
 }
 
 #[tactic(auto, using(crate::specs::Laws::Integers::on_32))]

@@ -36,6 +36,10 @@ impl Primitive for u64 {
     fn without(&self, bit: u32) -> u64 {
         *self & !(1 << bit)
     }
+
+    fn without_least(&self) -> u64 {
+        *self & (*self - 1)
+    }
 }
 
 #[tactic(auto, using(crate::specs::Laws::Integers::on_64))]

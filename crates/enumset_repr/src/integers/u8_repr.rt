@@ -36,6 +36,10 @@ impl Primitive for u8 {
     fn without(&self, bit: u32) -> u8 {
         *self & !(1 << bit)
     }
+
+    fn without_least(&self) -> u8 {
+        *self & (*self - 1)
+    }
 }
 
 #[tactic(auto, using(crate::specs::Laws::Integers::on_8))]

@@ -1,8 +1,7 @@
 use Rattle.std.proofs.Common.{rules, ◌∷◌, ◌<◌, ◌^◌, sym, ap, ◌∙◌, w64}
 use Rattle.std.specs.Int.{trailing_zeros}
 use Rattle.enumset_repr.specs.BitSet.{ascending}
-use Rattle.enumset_repr.specs.Laws.Members.{member_below}
-use Rattle.enumset_repr.specs.Laws.Numbers.{least-bits, bits-clear, bits-within}
+use Rattle.enumset_repr.specs.Laws.Numbers.{least-bits, bits-clear_least}
 use Rattle.enumset_repr.specs.Laws.Ascending.{ascending-first}
 use Rattle.enumset_array.proofs.rows.take_least.Goals as goal
 
@@ -11,6 +10,5 @@ returns c =
     let fits : c.args.word.now < 2 ^ 64 = search rules in
     let some : 0 < c.args.word.now = search rules in
     let found = least-bits w64 c.args.word.now some fits in
-    let small : trailing_zeros w64 c.args.word.now < 64 = member_below _ 64 _ (bits-within _ 64 fits) found.0 in
     ascending-first _ _ found.0 found.1
-    ∙ ap (λ s. trailing_zeros w64 c.args.word.now ∷ ascending s) (sym (bits-clear w64 c.args.word.now (trailing_zeros w64 c.args.word.now) fits small))
+    ∙ ap (λ s. trailing_zeros w64 c.args.word.now ∷ ascending s) (sym (bits-clear_least w64 c.args.word.now some fits))

@@ -1,34 +1,7 @@
-use Rattle.std.proofs.Common.{rules, ◌≡◌, ◌+◌, ◌∷◌, [], ◌++◌, true, Some, ap, sym, ◌∙◌}
-use Rattle.std.specs.Result.{result_err, is_ok}
-use Rattle.enumset_commands.specs.Lines.{before, commands_from}
-use Rattle.enumset_commands.proofs.Commands.{preceded_by-before, result_err-before}
+use Rattle.std.proofs.Common.{sym, ◌∙◌}
+use Rattle.enumset_commands.proofs.Commands.{taken_by-list}
 use Rattle.enumset_commands.proofs.grammar.read_commands.Goals as goal
 
-pub loop-line-preserved-then-has_room : goal.loop-line-preserved-then-has_room
-loop-line-preserved-then-has_room g c =
-    let command_of = g.C.LineCommand.command_of in
-    let n = c.loop-line.number + 1 in
-    let command = c.in-Ok.command in
-    let rest = commands_from command_of (n + 1) c.next.new.self in
-    let own : command_of (c.in-Some-next.name.now ∷ c.next-in-loop-line.new.self) ≡ Some command = search rules in
-    let line : commands_from command_of n c.loop-line.line-iterator ≡ before (Some command) n rest = search rules in
-    record {
-      commands = λ pushed.
-          let kept : is_ok c.push.result ≡ true = search rules in
-          let items : c.push.new.self.items ≡ c.loop-line.commands.items ++ command ∷ [] = rw kept at c.push.ensures.items in
-          rw (items, ← preceded_by-before c.loop-line.commands.items command n rest, ← line) (c.loop-line.invariant.commands (search rules));
-      fault = sym (result_err-before command n rest) ∙ ap result_err (sym line) ∙ c.loop-line.invariant.fault;
-      counted = search rules;
-    }
-
--- a line without tokens
-pub loop-line-preserved : goal.loop-line-preserved
-loop-line-preserved g c =
-    let command_of = g.C.LineCommand.command_of in
-    let n = c.loop-line.number + 1 in
-    let passed : commands_from command_of n c.loop-line.line-iterator ≡ commands_from command_of (n + 1) c.next.new.self = search rules in
-    record {
-      commands = rw passed at c.loop-line.invariant.commands;
-      fault = rw passed at c.loop-line.invariant.fault;
-      counted = search rules;
-    }
+pub returns-clause-commands : goal.returns-clause-commands
+returns-clause-commands g c =
+    sym (taken_by-list _) ∙ (rw c.new-commands.ensures.items at c.in_ok-send_commands.ensures.commands)
