@@ -1,5 +1,6 @@
 -- What a field writes, digit by digit.
-use Rattle.std.proofs.Common.{◌≡◌, ℕ, ◌+◌, ◌-◌, ◌*◌, ◌^◌, ◌<◌, ◌≤◌, true, false, cond, ◌&&◌, nat_lt, List, [], ◌∷◌, length, get_or, drop, ap, Some, None, refl, drop-cons, add-one, lit≤, arith}
+use Rattle.std.proofs.Common.{◌≡◌, ℕ, ◌+◌, ◌-◌, ◌*◌, ◌^◌, ◌<◌, ◌≤◌, true, false, cond, ◌&&◌, nat_lt, List, [], ◌∷◌, length, get_or, drop, ap, Some, None, refl, drop-cons, add-one, pow-suc, lit≤, arith}
+use native.Mathlib.Nat.{pow-le-pow_right}
 use Rattle.std.specs.Str.{all_ascii_digits}
 use Rattle.std.specs.Str.Parse.{digits_value, digits_value_after}
 use Rattle.std.specs.Char.{is_ascii_digit, digit_value}
@@ -56,6 +57,15 @@ one_digit (x ∷ []) d long same = ap (λ b. word (b ∷ [])) same
 one_digit (x ∷ y ∷ more) d long same = absurd (omega arith)
 
 pub ruleset field_steps = (digits_value_after-ge, digits_value_after-drop, all_ascii_digits-drop, digits_value_after-end, all_ascii_digits-end, field-none, field-large, field-some)
+
+-- the number of some digits, with one more, and of fewer than 20
+pub short-next : (n d i : ℕ) → n < 10 ^ i → d < 10 → n * 10 + d < 10 ^ (i + 1)
+short-next n d i fits small = rw add-one (omega (arith, fits, small, pow-suc 10 i))
+
+pub short-fits : (n i : ℕ) → n < 10 ^ i → i < 20 → n < 2 ^ 64
+short-fits n i fits small =
+    let within : 10 ^ i ≤ 10 ^ 19 = pow-le-pow_right {n = 10} (omega arith) {j = 19} (omega (arith, small)) in
+    omega (arith, fits, within)
 
 -- a field of fewer bits
 field-fewer : (few many n : ℕ) (token : List ℕ) → 2 ^ few ≤ 2 ^ many → field many token ≡ Some n → field few token ≡ cond (nat_lt n (2 ^ few)) (Some n) None

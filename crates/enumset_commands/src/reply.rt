@@ -63,6 +63,22 @@ impl fmt::Display for Reply {
     }
 }
 
+impl Refusal {
+    ghost use Rattle.std.specs.Prelude.{◌≡◌};
+    ghost use Rattle.enumset_commands.specs.Texts.{refusal_text};
+
+    /// The text of a refusal.
+    pub fn as_str(&self) -> &'static str
+        ensures { result.now ≡ refusal_text self.now }
+    {
+        match self {
+            Refusal::NoRegister => "K1 no register",
+            Refusal::NotABit => "K2 not a bit",
+            Refusal::NotAWidth => "K3 not a width",
+        }
+    }
+}
+
 impl fmt::Display for Refusal {
     ghost use Rattle.std.specs.Prelude.{Some};
     ghost use Rattle.enumset_commands.specs.Texts.{refusal_text};
@@ -70,10 +86,6 @@ impl fmt::Display for Refusal {
     ghost output = { λ refusal. Some (refusal_text refusal) };
 
     fn fmt<W: fmt::Write>(&self, f: &mut fmt::Formatter<W>) -> fmt::Result {
-        match self {
-            Refusal::NoRegister => write!(f, "K1 no register"),
-            Refusal::NotABit => write!(f, "K2 not a bit"),
-            Refusal::NotAWidth => write!(f, "K3 not a width"),
-        }
+        f.write_str(self.as_str())
     }
 }

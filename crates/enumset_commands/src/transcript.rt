@@ -6,6 +6,7 @@ ghost use Rattle.enumset_commands.specs.Texts.{text, text_of, words_text};
 use crate::reply::Reply;
 use itoa::Buffer;
 use std::alloc::{AllocError, Global};
+use std::cmp::Ordering;
 
 /// The texts of replies, each followed by one line feed. The only error is out of memory.
 pub fn write_replies(alloc: Global, replies: &[Reply]) -> Result<Vec<u8>, AllocError>
@@ -18,7 +19,7 @@ pub fn write_replies(alloc: Global, replies: &[Reply]) -> Result<Vec<u8>, AllocE
     Ok(out.into_bytes())
 }
 
-/// Writes the text of a reply and a line feed. The most frequent replies, and the longest, take no formatter.
+/// Writes the text of a reply and a line feed. Only a number that is no `u64` takes a formatter.
 #[inline(always)]
 pub fn write_reply(out: &mut String, reply: &Reply) -> Result<(), AllocError>
     ensures { OnOk result
@@ -28,14 +29,32 @@ pub fn write_reply(out: &mut String, reply: &Reply) -> Result<(), AllocError>
         Reply::Done => out.push_str("ok\n"),
         Reply::Truth(true) => out.push_str("true\n"),
         Reply::Truth(false) => out.push_str("false\n"),
-        Reply::Absent => out.push_str("none\n"),
         Reply::Count(count) => write_number_line(out, *count),
+        Reply::Number(number) => match u64::try_from(*number) {
+            Ok(number) => write_number_line(out, number),
+            Err(_) => Ok(writeln!(out, "{number}")?),
+        },
         Reply::Words(words) => {
             out.push_str("words")?;
             write_words(out, words.as_slice())?;
             out.push('\n')
         }
-        _ => Ok(writeln!(out, "{reply}")?),
+        Reply::Order(Ordering::Less) => out.push_str("less\n"),
+        Reply::Order(Ordering::Equal) => out.push_str("equal\n"),
+        Reply::Order(Ordering::Greater) => out.push_str("greater\n"),
+        Reply::Bit(bit) => {
+            out.push_str("bit ")?;
+            write_number_line(out, u64::from(*bit))
+        }
+        Reply::Unknown(bit) => {
+            out.push_str("unknown ")?;
+            write_number_line(out, u64::from(*bit))
+        }
+        Reply::Absent => out.push_str("none\n"),
+        Reply::Refused(refusal) => {
+            out.push_str(refusal.as_str())?;
+            out.push('\n')
+        }
     }
 }
 

@@ -1,5 +1,5 @@
 //! The fields of a command.
-ghost use Rattle.std.specs.Prelude.{◌≡◌, ◌∷◌, []};
+ghost use Rattle.std.specs.Prelude.{◌≡◌, ◌<◌, ◌∷◌, [], length};
 ghost use Rattle.enumset_commands.specs.Lines.{register, bit, word, value};
 
 /// A token of this many digits may write a number that is no `u64`.
@@ -29,7 +29,8 @@ pub(super) fn read_word(token: &[u8]) -> Option<u64>
 {
     match token {
         [digit] => read_digit(*digit),
-        _ => read_digits(token),
+        _ if token.len() < LONG => read_short_word(token),
+        _ => read_long_word(token),
     }
 }
 
@@ -46,9 +47,28 @@ fn read_digit(digit: u8) -> Option<u64>
     }
 }
 
+/// The number that a token of fewer than 20 decimal digits writes, which is a `u64`.
+#[tactic(auto, using(crate::proofs::Fields::field_steps))]
+fn read_short_word(token: &[u8]) -> Option<u64>
+    requires { length token.now < LONG }
+    ensures { result ≡ word token.now }
+{
+    if token.is_empty() {
+        return None;
+    }
+    let mut number = 0u64;
+    for digit in token {
+        if !digit.is_ascii_digit() {
+            return None;
+        }
+        number = number * 10 + u64::from(*digit - b'0');
+    }
+    Some(number)
+}
+
 /// The number that a token of decimal digits writes, if it is a `u64`, digit by digit.
 #[tactic(auto, using(crate::proofs::Fields::field_steps))]
-fn read_digits(token: &[u8]) -> Option<u64>
+fn read_long_word(token: &[u8]) -> Option<u64>
     ensures { result ≡ word token.now }
 {
     if token.is_empty() {

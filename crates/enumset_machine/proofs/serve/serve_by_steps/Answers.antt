@@ -1,8 +1,5 @@
-use Rattle.std.proofs.Common.{rules, ◌≡◌, Ok}
+use Rattle.std.proofs.Common.{rules}
 use Rattle.enumset_commands.specs.Lines.{commands_of_text}
-use Rattle.enumset_machine.specs.Plans.{replies_by}
-use Rattle.enumset_machine.specs.States.{start}
-use Rattle.enumset_machine.specs.Answers.{answer_by}
 use Rattle.enumset_machine.proofs.Conversations.{answer-taken}
 use Rattle.enumset_machine.proofs.serve.serve_by_steps.Goals as goal
 

@@ -1,7 +1,7 @@
 use Rattle.std.proofs.Common.{◌≡◌, true, get_or, arith, rules, sym, ◌∙◌}
 use Rattle.std.specs.Char.{is_ascii_digit}
 use Rattle.enumset_commands.proofs.Fields.{field-past}
-use Rattle.enumset_commands.proofs.grammar.fields.read_digits.Goals as goal
+use Rattle.enumset_commands.proofs.grammar.fields.read_long_word.Goals as goal
 
 pub returns-in_err-checked_mul : goal.returns-in_err-checked_mul
 returns-in_err-checked_mul c =

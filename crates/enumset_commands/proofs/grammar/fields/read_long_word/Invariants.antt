@@ -1,7 +1,7 @@
 use Rattle.std.proofs.Common.{◌≡◌, ◌<◌, ◌^◌, length, drop}
 use Rattle.std.specs.Str.{all_ascii_digits}
 use Rattle.std.specs.Str.Parse.{digits_value, digits_value_after}
-use Rattle.enumset_commands.proofs.grammar.fields.read_digits.Given as goal
+use Rattle.enumset_commands.proofs.grammar.fields.read_long_word.Given as goal
 
 -- the bytes so far are digits, and what is left goes on from their number
 abbrev pub invariant-loop-digit : goal.invariant-loop-digit
