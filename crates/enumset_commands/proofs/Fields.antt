@@ -58,7 +58,7 @@ one_digit (x ∷ y ∷ more) d long same = absurd (omega arith)
 
 pub ruleset field_steps = (digits_value_after-ge, digits_value_after-drop, all_ascii_digits-drop, digits_value_after-end, all_ascii_digits-end, field-none, field-large, field-some)
 
--- the number of some digits, with one more, and of fewer than 20
+-- the number of i digits: with one digit more, and its bound if there are fewer than 20
 pub short-next : (n d i : ℕ) → n < 10 ^ i → d < 10 → n * 10 + d < 10 ^ (i + 1)
 short-next n d i fits small = rw add-one (omega (arith, fits, small, pow-suc 10 i))
 

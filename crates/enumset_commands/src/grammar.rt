@@ -36,9 +36,9 @@ pub fn read_commands<C: LineCommand>(alloc: Global, input: &[u8]) -> Result<Vec<
     Ok(commands)
 }
 
-/// Gives the commands that the lines of an input write to a sink, in order, up to the first line that is not a command.
+/// Gives a sink the commands that the lines of an input write, in order, up to the first line that is not a command.
 ///
-/// The errors are those of [`read_commands`]. After one the sink has some of the commands.
+/// The errors are those of [`read_commands`]. After an error nothing is said of the sink.
 #[tactic(auto, using(crate::proofs::Commands::command_steps))]
 pub fn send_commands<S: CommandSink>(
     alloc: Global,

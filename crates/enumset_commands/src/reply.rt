@@ -1,7 +1,6 @@
 //! The replies of a run.
 use crate::word_list::WordList;
 use std::cmp::Ordering;
-use std::fmt;
 
 /// The answer to one command.
 #[derive(Debug, Drop)]
@@ -39,30 +38,6 @@ pub enum Refusal {
     NotAWidth,
 }
 
-impl fmt::Display for Reply {
-    ghost use Rattle.std.specs.Prelude.{Some};
-    ghost use Rattle.enumset_commands.specs.Texts.{text_of};
-
-    ghost output = { λ reply. Some (text_of reply) };
-
-    fn fmt<W: fmt::Write>(&self, f: &mut fmt::Formatter<W>) -> fmt::Result {
-        match self {
-            Reply::Done => write!(f, "ok"),
-            Reply::Truth(truth) => write!(f, "{truth}"),
-            Reply::Count(count) => write!(f, "{count}"),
-            Reply::Number(number) => write!(f, "{number}"),
-            Reply::Words(words) => write!(f, "words{words}"),
-            Reply::Order(Ordering::Less) => write!(f, "less"),
-            Reply::Order(Ordering::Equal) => write!(f, "equal"),
-            Reply::Order(Ordering::Greater) => write!(f, "greater"),
-            Reply::Bit(bit) => write!(f, "bit {bit}"),
-            Reply::Unknown(bit) => write!(f, "unknown {bit}"),
-            Reply::Absent => write!(f, "none"),
-            Reply::Refused(refusal) => write!(f, "{refusal}"),
-        }
-    }
-}
-
 impl Refusal {
     ghost use Rattle.std.specs.Prelude.{◌≡◌};
     ghost use Rattle.enumset_commands.specs.Texts.{refusal_text};
@@ -76,16 +51,5 @@ impl Refusal {
             Refusal::NotABit => "K2 not a bit",
             Refusal::NotAWidth => "K3 not a width",
         }
-    }
-}
-
-impl fmt::Display for Refusal {
-    ghost use Rattle.std.specs.Prelude.{Some};
-    ghost use Rattle.enumset_commands.specs.Texts.{refusal_text};
-
-    ghost output = { λ refusal. Some (refusal_text refusal) };
-
-    fn fmt<W: fmt::Write>(&self, f: &mut fmt::Formatter<W>) -> fmt::Result {
-        f.write_str(self.as_str())
     }
 }

@@ -1,6 +1,5 @@
 //! Words in commands and replies.
 
-use std::fmt;
 use std::marker::Model;
 
 /// Words of 64 bits, the lowest first. Contracts see the list of their numbers.
@@ -35,20 +34,5 @@ impl WordList {
         ensures { result.now ≡ self.now }
     {
         self.words.as_slice()
-    }
-}
-
-/// A space before each word, in decimal.
-impl fmt::Display for WordList {
-    ghost use Rattle.std.specs.Prelude.{Some};
-    ghost use Rattle.enumset_commands.specs.Texts.{words_text};
-
-    ghost output = { λ words. Some (words_text words) };
-
-    fn fmt<W: fmt::Write>(&self, f: &mut fmt::Formatter<W>) -> fmt::Result {
-        for word in self.as_slice() {
-            write!(f, " {word}")?;
-        }
-        Ok(())
     }
 }

@@ -10,7 +10,7 @@ use std::test::Fail;
 /// As many lines `len 0` as an input has room for.
 const LINES: usize = 174_762;
 
-// So many times the same line.
+// The line, `LINES` times.
 fn repeated(alloc: Global, line: &str) -> Result<Vec<u8>, AllocError> {
     let mut text = Vec::new(alloc);
     for _ in 0..LINES {
@@ -26,7 +26,6 @@ fn commands_are_read_run_and_answered(rt: HostRuntime) -> Result<(), Fail> {
     let commands = read_commands::<Command>(alloc, &input).expect(&rt, "commands alone");
     let finished = run::<Letters>(alloc, &commands)?;
     let text = write_replies(alloc, &finished.replies)?;
-    assert_eq!(rt; text.len(), 2 * LINES);
     assert!(rt; text == repeated(alloc, "0\n")?);
     Ok(())
 }
@@ -38,7 +37,6 @@ fn mixed_commands_are_read_run_and_answered(rt: HostRuntime) -> Result<(), Fail>
     let commands = read_commands::<MixedCommand>(alloc, &input).expect(&rt, "commands alone");
     let finished = run_mixed::<Marks>(alloc, &commands)?;
     let text = write_replies(alloc, &finished.replies)?;
-    assert_eq!(rt; text.len(), 2 * LINES);
     assert!(rt; text == repeated(alloc, "0\n")?);
     Ok(())
 }

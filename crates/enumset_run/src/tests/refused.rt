@@ -5,12 +5,12 @@
 //! has to end.
 
 use super::surroundings::text_of;
-use enumset_commands::{Command, MixedCommand, Reply, TextFault};
+use enumset_commands::{Command, MixedCommand, Reply, TextFault, read_commands, write_replies};
 use enumset_kinds::kinds::serve_worked;
 use enumset_kinds::worked::Worked;
 use enumset_machine::{Machine, MixedMachine, run, run_mixed, serve_mixed_text, serve_text};
 use enumset_worked::{Letters, Marks};
-use std::alloc::AllocError;
+use std::alloc::{AllocError, Global};
 use std::process::Abort;
 use std::test::Fail;
 
@@ -113,6 +113,20 @@ const OUTPUT: &str = "ok\nwords 5 0\n";
 #[test]
 fn texts(rt: HostRuntime) -> Result<(), Fail> {
     let (text, ended) = text_and_refusal(&rt, || serve_text::<Letters>(rt.alloc(), INPUT));
+    assert_eq!(rt; text_of(&text), OUTPUT);
+    Ok(ended?)
+}
+
+// The same by lists of commands and of replies.
+fn text_by_lists(alloc: Global, input: &[u8]) -> Result<Vec<u8>, TextFault> {
+    let commands = read_commands::<Command>(alloc, input)?;
+    let finished = run::<Letters>(alloc, &commands)?;
+    Ok(write_replies(alloc, &finished.replies)?)
+}
+
+#[test]
+fn texts_by_lists(rt: HostRuntime) -> Result<(), Fail> {
+    let (text, ended) = text_and_refusal(&rt, || text_by_lists(rt.alloc(), INPUT));
     assert_eq!(rt; text_of(&text), OUTPUT);
     Ok(ended?)
 }

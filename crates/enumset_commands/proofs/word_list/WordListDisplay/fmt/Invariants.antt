@@ -1,9 +1,0 @@
-use Rattle.std.proofs.Common.{take}
-use Rattle.std.specs.Fmt.{HasWritten, IsPlainFormatter}
-use Rattle.enumset_commands.specs.Texts.{words_text}
-use Rattle.enumset_commands.proofs.word_list.WordListDisplay.fmt.Given as goal
-
--- the words so far are written
-abbrev pub invariant-loop-word : goal.invariant-loop-word
-invariant-loop-word g l =
-    IsPlainFormatter l.initial.f → HasWritten g.W.Write.write_str_gives l.initial.f (words_text (take l.word-index l.word-items)) l.f
