@@ -1,11 +1,17 @@
 -- The bits of a mixed set: valid ones, each of a variant, and unknown ones.
+--     IsKept      what is true of the value of the representation: it is a value of its type, and it is the one that
+--         represents its set
 --     valid_members, unknown_members      the members that are valid bits;  the members that are not
 --     bit_with_validity      the bit of an item of the iterator, paired with whether it is valid
 --     with_validity      the bits of a list, each paired with whether it is valid
-use Rattle.std.specs.Prelude.{ℕ, Bool, true, false, List, map}
+use Rattle.std.specs.Prelude.{◌≡◌, ℕ, Bool, true, false, List, map}
 use Rattle.enumset_repr.specs.BitSet.{BitSet, contains, intersection, difference}
 use Rattle.enumset_mixed.specs.declared.mixed_value.MixedValue.{MixedValue}
 use Rattle.enumset_mixed.specs.declared.mixed_value.MixedValue.TheVariants.{Valid, Invalid}
+
+pub record IsKept {R : Type 0} (members : R → BitSet) (of_members : BitSet → R) (IsValue : R → Type 0) (repr : R) : Type 0 where
+  pub is_value : IsValue repr
+  pub inverse : of_members (members repr) ≡ repr
 
 -- in these two the first set is that of the valid bits
 abbrev pub valid_members : BitSet → BitSet → BitSet

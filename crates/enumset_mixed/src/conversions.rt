@@ -6,7 +6,7 @@ ghost use Rattle.enumset_mixed.specs.Mixed.{valid_members};
 ghost use Rattle.enumset_sets.specs.Elements.{valid_bits};
 
 use crate::mixed_enum_set::MixedEnumSet;
-use enumset_sets::representation::are_same;
+use enumset_repr::are_same;
 use enumset_sets::{EnumSet, EnumSetTypeWithRepr};
 
 impl<T: EnumSetTypeWithRepr> MixedEnumSet<T> {

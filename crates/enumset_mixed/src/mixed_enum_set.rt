@@ -7,11 +7,8 @@ ghost use Rattle.enumset_sets.specs.Elements.{valid_bits};
 
 use crate::conversions::convert_mixed;
 use crate::mixed_enum_set_iter::MixedEnumSetIter;
-use enumset_repr::EnumSetTypeRepr;
-use enumset_sets::representation::{
-    are_same, complement_of, has_no_member, intersection_of, symmetric_difference_of, union_of,
-    valid_repr,
-};
+use enumset_repr::{EnumSetTypeRepr, are_same};
+use enumset_sets::representation::valid_repr;
 use enumset_sets::{EnumSet, EnumSetType, EnumSetTypeWithRepr};
 use std::alloc::AllocError;
 use std::fmt;
@@ -30,8 +27,8 @@ pub struct MixedEnumSet<T: EnumSetTypeWithRepr, R: EnumSetTypeRepr = <T as EnumS
 }
 
 impl<T: EnumSetTypeWithRepr, R: EnumSetTypeRepr> Model for MixedEnumSet<T, R> {
-    ghost use Rattle.std.specs.Prelude.{◌≡◌};
     ghost use Rattle.enumset_repr.specs.BitSet.{BitSet, coded_set};
+    ghost use Rattle.enumset_mixed.specs.Mixed.{IsKept};
 
     ghost Value = { BitSet };
 
@@ -39,12 +36,11 @@ impl<T: EnumSetTypeWithRepr, R: EnumSetTypeRepr> Model for MixedEnumSet<T, R> {
 
     ghost view = { λ s. R.members s.repr };
 
-    // The value is the one that represents its set.
-    ghost invariant = { λ s. R.of_members (R.members s.repr) ≡ s.repr };
+    ghost invariant = { λ s. IsKept R.members R.of_members R.is_value s.repr };
 
     ghost inverse = { λ s. record { repr = R.of_members s; of = record {} } };
 
-    ghost inverse_ok = { λ a h i. record { repr = h i; of = a.of } };
+    ghost inverse_ok = { λ a h i. record { repr = h.inverse i; of = a.of } };
 }
 
 impl<T: EnumSetTypeWithRepr, R: EnumSetTypeRepr> Clone for MixedEnumSet<T, R> {
@@ -188,7 +184,6 @@ impl<T: EnumSetTypeWithRepr> MixedEnumSet<T> {
         ensures members { result ≡ set.len self.now }
         ensures within { IsTrue (set.is_subset self.now (set.below T.Repr.WIDTH)) }
     {
-        self.repr.learn_is_value();
         self.repr.count_ones() as usize
     }
 
@@ -203,7 +198,7 @@ impl<T: EnumSetTypeWithRepr> MixedEnumSet<T> {
     pub fn is_empty(&self) -> bool
         ensures { result ≡ set.is_empty self.now }
     {
-        has_no_member(&self.repr)
+        self.repr.is_empty()
     }
 
     /// Whether some member is an unknown bit.
@@ -219,15 +214,13 @@ impl<T: EnumSetTypeWithRepr> MixedEnumSet<T> {
     pub fn clear(&mut self)
         ensures { self.new ≡ set.empty }
     {
-        self.repr = T::Repr::EMPTY;
-        self.repr.learn_is_value();
+        *self = Self::new();
     }
 
     /// Whether an element is a member.
     pub fn contains(&self, value: T) -> bool
         ensures { result ≡ set.contains self.now (T.elements.bit value) }
     {
-        self.repr.learn_is_value();
         self.repr.has_bit(Self::bit_index(value))
     }
 
@@ -236,7 +229,6 @@ impl<T: EnumSetTypeWithRepr> MixedEnumSet<T> {
         ensures has { result ≡ set.contains self.now value }
         ensures past { T.Repr.WIDTH ≤ value → result ≡ false }
     {
-        self.repr.learn_is_value();
         value < T::Repr::WIDTH && self.repr.has_bit(value)
     }
 
@@ -255,10 +247,8 @@ impl<T: EnumSetTypeWithRepr> MixedEnumSet<T> {
         ensures inserted { self.new ≡ set.insert self.old value }
         ensures was_absent { result ≡ not (set.contains self.old value) }
     {
-        self.repr.learn_is_value();
         let is_absent = !self.repr.has_bit(value);
         self.repr.add_bit(value);
-        self.repr.learn_is_value();
         is_absent
     }
 
@@ -268,10 +258,8 @@ impl<T: EnumSetTypeWithRepr> MixedEnumSet<T> {
         ensures was_present { result ≡ set.contains self.old (T.elements.bit value) }
     {
         let bit = Self::bit_index(value);
-        self.repr.learn_is_value();
         let is_present = self.repr.has_bit(bit);
         self.repr.remove_bit(bit);
-        self.repr.learn_is_value();
         is_present
     }
 
@@ -286,7 +274,6 @@ impl<T: EnumSetTypeWithRepr> MixedEnumSet<T> {
         let is_present = self.has_bit(value);
         if value < T::Repr::WIDTH {
             self.repr.remove_bit(value);
-            self.repr.learn_is_value();
         }
         is_present
     }
@@ -316,14 +303,14 @@ impl<T: EnumSetTypeWithRepr> MixedEnumSet<T> {
     pub fn union(&self, other: MixedEnumSet<T>) -> MixedEnumSet<T>
         ensures { result ≡ set.union self.now other }
     {
-        Self::of_repr(union_of(self.repr, other.repr))
+        Self::of_repr(self.repr | other.repr)
     }
 
     /// The members of both sets.
     pub fn intersection(&self, other: MixedEnumSet<T>) -> MixedEnumSet<T>
         ensures { result ≡ set.intersection self.now other }
     {
-        Self::of_repr(intersection_of(self.repr, other.repr))
+        Self::of_repr(self.repr & other.repr)
     }
 
     /// The members of this set that are not in `other`.
@@ -337,7 +324,7 @@ impl<T: EnumSetTypeWithRepr> MixedEnumSet<T> {
     pub fn symmetric_difference(&self, other: MixedEnumSet<T>) -> MixedEnumSet<T>
         ensures { result ≡ set.symmetric_difference self.now other }
     {
-        Self::of_repr(symmetric_difference_of(self.repr, other.repr))
+        Self::of_repr(self.repr ^ other.repr)
     }
 
     /// The members of exactly one of the two sets, under an older name.
@@ -364,8 +351,7 @@ impl<T: EnumSetTypeWithRepr> MixedEnumSet<T> {
         ensures complement { result ≡ set.difference (set.below T.Repr.WIDTH) self.now }
         ensures within { IsTrue (set.is_subset self.now (set.below T.Repr.WIDTH)) }
     {
-        self.repr.learn_is_value();
-        Self::of_repr(complement_of(self.repr))
+        Self::of_repr(!self.repr)
     }
 
     /// Adds every member of `other`.
@@ -373,7 +359,6 @@ impl<T: EnumSetTypeWithRepr> MixedEnumSet<T> {
         ensures { self.new ≡ set.union self.old other }
     {
         self.repr.or_with(&other.repr);
-        self.repr.learn_is_value();
     }
 
     /// Removes every member of `other`.
@@ -381,7 +366,6 @@ impl<T: EnumSetTypeWithRepr> MixedEnumSet<T> {
         ensures { self.new ≡ set.difference self.old other }
     {
         self.repr.and_not_with(&other.repr);
-        self.repr.learn_is_value();
     }
 
     /// An iterator over the members, each once, ascending by bit, from both ends: the element for a valid bit, the
@@ -393,7 +377,6 @@ impl<T: EnumSetTypeWithRepr> MixedEnumSet<T> {
         ensures span { result.span ≤ T.Repr.PREFERRED_ARRAY_LEN }
         ensures within { IsTrue (set.is_subset self.now (set.below T.Repr.WIDTH)) }
     {
-        self.repr.learn_is_value();
         MixedEnumSetIter::over(self.repr)
     }
 }

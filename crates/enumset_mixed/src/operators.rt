@@ -72,7 +72,6 @@ impl<T: EnumSetTypeWithRepr> BitAndAssign for MixedEnumSet<T> {
 
     fn bitand_assign(&mut self, rhs: MixedEnumSet<T>) {
         self.repr.and_with(&rhs.repr);
-        self.repr.learn_is_value();
     }
 }
 
@@ -91,7 +90,6 @@ impl<T: EnumSetTypeWithRepr> BitXorAssign for MixedEnumSet<T> {
 
     fn bitxor_assign(&mut self, rhs: MixedEnumSet<T>) {
         self.repr.xor_with(&rhs.repr);
-        self.repr.learn_is_value();
     }
 }
 

@@ -5,8 +5,8 @@ ghost use Rattle.enumset_repr.specs.Order.{compare};
 ghost use Rattle.enumset_repr.specs.Laws.Order.{compare-partial, compare-total, same-compare};
 
 use crate::mixed_enum_set::MixedEnumSet;
+use enumset_repr::order_of;
 use enumset_sets::EnumSetTypeWithRepr;
-use enumset_sets::representation::order_of;
 use std::cmp::Ordering;
 
 impl<T: EnumSetTypeWithRepr> PartialOrd for MixedEnumSet<T> {
