@@ -1,16 +1,17 @@
 -- Loops over lists of words, four words at a time.
-use Rattle.std.proofs.Common.{◌≡◌, ◌≢◌, ◌<◌, ◌≤◌, ℕ, zero, suc, ◌+◌, Bool, true, false, ◌&&◌, List, [], ◌∷◌, length, take, drop, set, bit_and, bit_or, refl, sym, ap, ◌∙◌, arith, w64, map, add-one}
+use Rattle.std.proofs.Common.{◌≡◌, ◌≢◌, ◌<◌, ◌≤◌, ℕ, zero, suc, ◌+◌, ◌*◌, Bool, true, false, ◌&&◌, List, [], ◌∷◌, length, take, drop, get_or, set, bit_and, bit_or, refl, sym, ap, ◌∙◌, arith, w64, map, add-one}
 use Rattle.std.specs.Prelude.{◌==◌, nat_eq, slice_index, bit_xor}
 use Rattle.std.specs.Int.{bit_not}
 use Rattle.std.specs.Int.Bits.{or_zero_l}
 use Rattle.std.specs.List.{list_all}
 use Rattle.std.specs.Cmp.Lexicographic.{pointwise}
+use Rattle.std.specs.Simd.{first_chunks}
 use Rattle.std.specs.Simd.Lanes.{zip2, chunk, put_chunk, fold_l}
 use Rattle.std.proofs.Math.Bool.{and-true, and-false, and_assoc}
 use Rattle.std.proofs.Math.Seq.{take-add, take-suc}
 use Rattle.std.proofs.lemmas.Bool.{eqb-true}
 use Rattle.std.proofs.lemmas.Bool.Decides.{nat_tests, same_from_decides}
-use Rattle.std.proofs.lemmas.List.{take-append-drop, take_all}
+use Rattle.std.proofs.lemmas.List.{take-append-drop, take_all, drop-drop}
 use Rattle.std.proofs.lemmas.List.Folds.{list_all-append}
 use Rattle.std.proofs.lemmas.Nat.{le_or_l, xor_comm}
 use Rattle.std.proofs.lemmas.Simd.{length-chunk}
@@ -105,6 +106,15 @@ chunk-zip2 op zero n a b = take-zip2 op n a b
 chunk-zip2 op (suc i) n [] b = take-zip2 op n [] (drop (suc i) b)
 chunk-zip2 op (suc i) n (x ∷ a) [] = ap (take n) (sym (none_zipped op (drop i a))) ∙ take-zip2 op n (drop i a) []
 chunk-zip2 op (suc i) n (x ∷ a) (y ∷ b) = chunk-zip2 op i n a b
+
+-- ---- a list as chunks
+
+pub chunk_at : {X : Type 0} (n k i : ℕ) (xs : List X) → i < k → get_or (first_chunks n k xs) i [] ≡ chunk (n * i) n xs
+chunk_at n zero i xs low = absurd (omega (arith, low))
+chunk_at n (suc k) zero xs low = let first : 0 ≡ n * 0 = omega arith in ap (λ m. chunk m n xs) first
+chunk_at n (suc k) (suc i) xs low =
+    let next : n + n * i ≡ n * suc i = omega arith in
+    chunk_at n k i (drop n xs) (omega (arith, low)) ∙ ap (take n) (drop-drop (n * i) n xs ∙ ap (λ m. drop m xs) next)
 
 -- ---- words that are all 0
 
