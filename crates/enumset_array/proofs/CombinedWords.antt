@@ -1,33 +1,31 @@
 -- The words of an `ArrayRepr` made from those of others, word by word.
-use Rattle.std.proofs.Common.{◌≡◌, ◌<◌, ◌≤◌, ◌↔◌, ◌⊎◌, inl, inr, ℕ, ◌*◌, ◌+◌, ◌^◌, Bool, not, ◌&&◌, ◌||◌, List, length, bit_and, bit_or, refl, sym, ap, ◌∙◌, subst, arith, w64, lit<}
-use Rattle.std.specs.Prelude.{◌==◌, slice_index, bit_xor, IsTrue}
+use Rattle.std.proofs.Common.{◌≡◌, ◌<◌, ◌≤◌, ◌↔◌, ◌⊎◌, inl, inr, ℕ, ◌*◌, ◌+◌, ◌^◌, not, ◌&&◌, List, length, sym, ap, ◌∙◌, subst, arith, w64, lit<}
+use Rattle.std.specs.Prelude.{◌==◌, slice_index, IsTrue}
 use Rattle.std.specs.List.{list_all}
 use Rattle.std.specs.Int.{bit_not}
-use Rattle.std.specs.Int.Bits.{and_lt}
-use Rattle.std.proofs.lemmas.Nat.{or_lt, xor_lt}
 use Rattle.std.proofs.Math.Pow.{ones_sub-lt}
 use Rattle.std.proofs.lemmas.Bool.{cases_lt, lt-ltb, le-ltb}
-use Rattle.std.proofs.lemmas.Bool.Decides.{same_from_decides}
 use Rattle.std.proofs.lemmas.List.{get_or_past}
 use Rattle.std.proofs.lemmas.Simd.{length-zip2, get_or-zip2}
 use Rattle.std.specs.Simd.Lanes.{zip2}
-use Rattle.enumset_repr.specs.BitSet.{BitSet, contains, empty, below, intersection, union, difference, symmetric_difference, is_subset, is_disjoint}
+use Rattle.enumset_repr.specs.BitSet.{BitSet, contains, empty, below, difference}
 use Rattle.enumset_repr.specs.Number.{bits}
-use Rattle.enumset_repr.specs.Laws.Members.{contains-intersection, contains-union, contains-difference, contains-symmetric_difference, contains-below, is_subset_iff, is_disjoint_iff}
-use Rattle.enumset_repr.specs.Laws.Numbers.{bits-and, bits-or, bits-xor, bits-not, bits-and_not}
+use Rattle.enumset_repr.specs.Laws.Members.{contains-difference, contains-below}
+use Rattle.enumset_repr.specs.Laws.Numbers.{bits-not}
+use Rattle.enumset_array.specs.Operations.{IsOnBits}
 use Rattle.enumset_array.specs.ArrayWords.{in_use, set_of, is_empty_past, IsArrayRepr}
 use Rattle.enumset_array.specs.Laws.ArrayWords.{contains-set_of, set_is, past_is, empty_past, none_iff}
 use Rattle.enumset_repr.specs.Laws.WordLists.{contains-zero}
 use Rattle.enumset_array.proofs.ReplacedWord.{in_use-le}
 
-module _ (op : ℕ → ℕ → ℕ) (none : op 0 0 ≡ 0) (fits : (x y : ℕ) → x < 2 ^ 64 → y < 2 ^ 64 → op x y < 2 ^ 64) (n : ℕ) (a b : List ℕ) (first : IsArrayRepr n a) (second : IsArrayRepr n b) where
+module _ (op : ℕ → ℕ → ℕ) (of_sets : BitSet → BitSet → BitSet) (on : IsOnBits op of_sets) (n : ℕ) (a b : List ℕ) (first : IsArrayRepr n a) (second : IsArrayRepr n b) where
   none_past : (k : ℕ) → in_use n ≤ k → op (slice_index a k) (slice_index b k) ≡ 0
-  none_past k past = (λ i. op (past_is n a k first.past past i) (past_is n b k second.past past i)) ∙ none
+  none_past k past = (λ i. op (past_is n a k first.past past i) (past_is n b k second.past past i)) ∙ on.none
 
   length-made : length (zip2 op a b) ≡ n
   length-made = length-zip2 op a b (first.long ∙ sym second.long) ∙ first.long
 
-  pub each : (k : ℕ) → slice_index (zip2 op a b) k ≡ op (slice_index a k) (slice_index b k)
+  each : (k : ℕ) → slice_index (zip2 op a b) k ≡ op (slice_index a k) (slice_index b k)
   each k = at (cases_lt k n)
     where
       at : (k < n) ⊎ (n ≤ k) → slice_index (zip2 op a b) k ≡ op (slice_index a k) (slice_index b k)
@@ -38,69 +36,19 @@ module _ (op : ℕ → ℕ → ℕ) (none : op 0 0 ≡ 0) (fits : (x y : ℕ) �
   pub made_repr : IsArrayRepr n (zip2 op a b)
   made_repr = record {
     long = length-made;
-    fit = λ k. subst (λ x. x < 2 ^ 64) (sym (each k)) (fits _ _ (first.fit k) (second.fit k));
+    fit = λ k. subst (λ x. x < 2 ^ 64) (sym (each k)) (on.fits _ _ (first.fit k) (second.fit k));
     past = empty_past n (zip2 op a b) (λ k past. each k ∙ none_past k past);
   }
 
-  -- the set, by what the operation on words and the one on sets do to each bit
-  pub made_set : (test : Bool → Bool → Bool) (s : BitSet)
-      → ((x y q : ℕ) → x < 2 ^ 64 → y < 2 ^ 64 → contains (bits (op x y)) q ≡ test (contains (bits x) q) (contains (bits y) q))
-      → ((q : ℕ) → contains s q ≡ test (contains (set_of n a) q) (contains (set_of n b) q))
-      → set_of n (zip2 op a b) ≡ s
-  made_set test s at_bit at_member = set_is n (zip2 op a b) s made_repr (λ w q small.
-      ap (λ x. contains (bits x) q) (each w) ∙ at_bit _ _ q (first.fit w) (second.fit w)
-      ∙ (λ i. test (sym (contains-set_of n a w q first small) i) (sym (contains-set_of n b w q second small) i))
-      ∙ sym (at_member (64 * w + q)))
+  pub made_set : set_of n (zip2 op a b) ≡ of_sets (set_of n a) (set_of n b)
+  made_set = set_is n (zip2 op a b) _ made_repr (λ w q small.
+      ap (λ x. contains (bits x) q) (each w) ∙ ap (λ s. contains s q) (on.same _ _ (first.fit w) (second.fit w)) ∙ on.member _ _ q
+      ∙ (λ i. on.test (sym (contains-set_of n a w q first small) i) (sym (contains-set_of n b w q second small) i))
+      ∙ sym (on.member (set_of n a) (set_of n b) (64 * w + q)))
 
-and_not_lt : (x y : ℕ) → x < 2 ^ 64 → y < 2 ^ 64 → bit_and x (bit_not w64 y) < 2 ^ 64
-and_not_lt x y p q = and_lt 64 x (bit_not w64 y) p (ones_sub-lt 64 y)
-
-pub and_repr : (n : ℕ) (a b : List ℕ) → IsArrayRepr n a → IsArrayRepr n b → IsTrue (is_empty_past n (zip2 bit_and a b))
-and_repr n a b first second = (made_repr bit_and refl (and_lt 64) n a b first second).past
-
-pub and_set : (n : ℕ) (a b : List ℕ) → IsArrayRepr n a → IsArrayRepr n b → set_of n (zip2 bit_and a b) ≡ intersection (set_of n a) (set_of n b)
-and_set n a b first second = made_set bit_and refl (and_lt 64) n a b first second (λ p q. p && q) _
-    (λ x y q _ _. ap (λ s. contains s q) (bits-and x y) ∙ contains-intersection (bits x) (bits y) q)
-    (λ q. contains-intersection (set_of n a) (set_of n b) q)
-
-pub or_repr : (n : ℕ) (a b : List ℕ) → IsArrayRepr n a → IsArrayRepr n b → IsTrue (is_empty_past n (zip2 bit_or a b))
-or_repr n a b first second = (made_repr bit_or refl (or_lt 64) n a b first second).past
-
-pub or_set : (n : ℕ) (a b : List ℕ) → IsArrayRepr n a → IsArrayRepr n b → set_of n (zip2 bit_or a b) ≡ union (set_of n a) (set_of n b)
-or_set n a b first second = made_set bit_or refl (or_lt 64) n a b first second (λ p q. p || q) _
-    (λ x y q _ _. ap (λ s. contains s q) (bits-or x y) ∙ contains-union (bits x) (bits y) q)
-    (λ q. contains-union (set_of n a) (set_of n b) q)
-
-pub xor_repr : (n : ℕ) (a b : List ℕ) → IsArrayRepr n a → IsArrayRepr n b → IsTrue (is_empty_past n (zip2 bit_xor a b))
-xor_repr n a b first second = (made_repr bit_xor refl (xor_lt 64) n a b first second).past
-
-pub xor_set : (n : ℕ) (a b : List ℕ) → IsArrayRepr n a → IsArrayRepr n b → set_of n (zip2 bit_xor a b) ≡ symmetric_difference (set_of n a) (set_of n b)
-xor_set n a b first second = made_set bit_xor refl (xor_lt 64) n a b first second (λ p q. (p && not q) || (q && not p)) _
-    (λ x y q _ _. ap (λ s. contains s q) (bits-xor x y) ∙ contains-symmetric_difference (bits x) (bits y) q)
-    (λ q. contains-symmetric_difference (set_of n a) (set_of n b) q)
-
-abbrev pub and_not : ℕ → ℕ → ℕ
-and_not x y = bit_and x (bit_not w64 y)
-
-pub and_not_repr : (n : ℕ) (a b : List ℕ) → IsArrayRepr n a → IsArrayRepr n b → IsTrue (is_empty_past n (zip2 and_not a b))
-and_not_repr n a b first second = (made_repr and_not refl and_not_lt n a b first second).past
-
-pub and_not_set : (n : ℕ) (a b : List ℕ) → IsArrayRepr n a → IsArrayRepr n b → set_of n (zip2 and_not a b) ≡ difference (set_of n a) (set_of n b)
-and_not_set n a b first second = made_set and_not refl and_not_lt n a b first second (λ p q. p && not q) _
-    (λ x y q p s. ap (λ t. contains t q) (bits-and_not w64 x y p s) ∙ contains-difference (bits x) (bits y) q)
-    (λ q. contains-difference (set_of n a) (set_of n b) q)
-
--- ---- tests of two sets: an operation yields 0 for each pair of words
-
-pub within_is : (n : ℕ) (a b : List ℕ) → IsArrayRepr n a → IsArrayRepr n b → list_all (λ w. w == 0) (zip2 and_not a b) ≡ is_subset (set_of n a) (set_of n b)
-within_is n a b first second = same_from_decides _ _
-    (subst (λ s. IsTrue (list_all (λ w. w == 0) (zip2 and_not a b)) ↔ (s ≡ empty)) (and_not_set n a b first second) (none_iff n _ (made_repr and_not refl and_not_lt n a b first second)))
-    (is_subset_iff _ _)
-
-pub apart_is : (n : ℕ) (a b : List ℕ) → IsArrayRepr n a → IsArrayRepr n b → list_all (λ w. w == 0) (zip2 bit_and a b) ≡ is_disjoint (set_of n a) (set_of n b)
-apart_is n a b first second = same_from_decides _ _
-    (subst (λ s. IsTrue (list_all (λ w. w == 0) (zip2 bit_and a b)) ↔ (s ≡ empty)) (and_set n a b first second) (none_iff n _ (made_repr bit_and refl (and_lt 64) n a b first second)))
-    (is_disjoint_iff _ _)
+  -- the result is empty exactly if each of its words is 0
+  pub made_none : IsTrue (list_all (λ w. w == 0) (zip2 op a b)) ↔ (of_sets (set_of n a) (set_of n b) ≡ empty)
+  made_none = subst (λ s. IsTrue (list_all (λ w. w == 0) (zip2 op a b)) ↔ (s ≡ empty)) made_set (none_iff n _ made_repr)
 
 -- ---- `!`: the words in use are inverted, and the others are 0
 

@@ -2,8 +2,10 @@
 --     Asks      the asks of an iterator
 --     Zeros      lists of zeros
 --     ArrayWords      the laws of the words of an `ArrayRepr`
+--     Operations      the operations on words that are operations on sets
 --     Order      the order of words is that of the sets
 pub mod Asks
 pub mod Zeros
 pub mod ArrayWords
+pub mod Operations
 pub mod Order

@@ -19,6 +19,7 @@ mod operators;
 mod order;
 pub mod row;
 mod rows;
+mod set_operation;
 pub mod shown_row;
 pub mod traversal;
 

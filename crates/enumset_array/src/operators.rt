@@ -6,6 +6,7 @@ ghost use Rattle.enumset_array.specs.ArrayWords.{in_use, set_of};
 
 use crate::array_repr::{ArrayRepr, WORD_LIMIT};
 use crate::lanes::{And, Inverse, Or, Xor, combine};
+use crate::set_operation::change_by;
 use std::ops::{BitAnd, BitOr, BitXor, Not};
 
 impl<const N: usize> BitAnd for ArrayRepr<N> {
@@ -15,9 +16,9 @@ impl<const N: usize> BitAnd for ArrayRepr<N> {
 
     /// The members of both.
     fn bitand(self, other: ArrayRepr<N>) -> ArrayRepr<N> {
-        let mut words = self.0;
-        combine::<And>(&mut words, &other.0);
-        ArrayRepr(words)
+        let mut result = self;
+        change_by::<And, N>(&mut result, &other);
+        result
     }
 }
 
@@ -28,9 +29,9 @@ impl<const N: usize> BitOr for ArrayRepr<N> {
 
     /// The members of either.
     fn bitor(self, other: ArrayRepr<N>) -> ArrayRepr<N> {
-        let mut words = self.0;
-        combine::<Or>(&mut words, &other.0);
-        ArrayRepr(words)
+        let mut result = self;
+        change_by::<Or, N>(&mut result, &other);
+        result
     }
 }
 
@@ -41,9 +42,9 @@ impl<const N: usize> BitXor for ArrayRepr<N> {
 
     /// The members of exactly one of the two.
     fn bitxor(self, other: ArrayRepr<N>) -> ArrayRepr<N> {
-        let mut words = self.0;
-        combine::<Xor>(&mut words, &other.0);
-        ArrayRepr(words)
+        let mut result = self;
+        change_by::<Xor, N>(&mut result, &other);
+        result
     }
 }
 

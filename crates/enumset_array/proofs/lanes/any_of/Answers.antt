@@ -1,4 +1,4 @@
-use Rattle.std.proofs.Common.{◌≡◌, ◌<◌, ◌≤◌, ◌+◌, ◌*◌, ◌/◌, List, [], ◌∷◌, ◌++◌, ℕ, length, get_or, take, bit_or, sym, ap, ◌∙◌, refl, arith}
+use Rattle.std.proofs.Common.{◌≡◌, ◌<◌, ◌≤◌, ◌+◌, ◌*◌, ◌/◌, List, [], ◌∷◌, ◌++◌, ℕ, length, get_or, take, bit_or, sym, ap, ◌∙◌, arith}
 use Rattle.std.proofs.lemmas.List.{take_all, get_or-drop, length_push}
 use Rattle.std.proofs.lemmas.Simd.{length-zip2, length-chunk, get_or-zip2}
 use Rattle.std.proofs.lemmas.Slice.Zip.{zip_turn, zip_end}

@@ -1,10 +1,10 @@
-use Rattle.std.proofs.Common.{◌≡◌, ◌≤◌, ◌<◌, ◌+◌, ◌*◌, ◌/◌, [], ◌∙◌, length, get_or, sym, ap, arith, rules}
+use Rattle.std.proofs.Common.{◌≡◌, ◌<◌, ◌+◌, ◌*◌, ◌/◌, [], ◌∙◌, length, get_or, sym, ap, arith, rules}
 use Rattle.std.specs.Int.RustNames.{count_ones}
 use Rattle.std.specs.Prelude.{slice_index}
 use Rattle.std.specs.Simd.Lanes.{chunk}
 use Rattle.std.proofs.lemmas.List.{take_all, get_or-drop}
 use Rattle.std.proofs.lemmas.Simd.{length-chunk}
-use Rattle.enumset_array.proofs.RowWords.{bits_in, few_ones, one_more, four_ones, four_more}
+use Rattle.enumset_array.proofs.RowWords.{bits_in, one_more, four_ones, four_more}
 use Rattle.enumset_array.proofs.WordLanes.{chunk_at}
 use Rattle.enumset_array.proofs.lanes.ones_of.Goals as goal
 
