@@ -14,6 +14,7 @@
 --     Listed      the set of a number, or of words, whose bits are listed
 --     Steps      a step from an end of a list
 --     Integers      an integer as a representation
+--     Representations      the laws of a representation whose parts say themselves what they are
 --     Asks      bounds on counted reads of words
 pub mod Members
 pub mod Algebra
@@ -30,3 +31,4 @@ pub mod Low
 pub mod WordLists
 pub mod Filled
 pub mod Asks
+pub mod Representations

@@ -4,4 +4,5 @@ pub mod Words
 pub mod Ends
 pub mod Asks
 pub mod Order
+pub mod Representations
 pub mod Laws

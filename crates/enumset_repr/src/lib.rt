@@ -6,6 +6,7 @@
 //! - [`primitive`] and [`primitive_iter`]: an integer as the set of its bits, and the iterator over them, from both
 //!   ends.
 //! - [`integers`]: `u8`, `u16`, `u32`, `u64` and `u128` as representations.
+//! - [`comparisons`]: whether two values represent one set, and how they compare.
 //! - [`laws`]: laws that a proof learns from a call.
 //! - [`asks`]: a count of asks, which are counted reads of a word, that takes no bytes.
 //!
@@ -16,6 +17,7 @@
 
 pub mod arrays;
 pub mod asks;
+pub mod comparisons;
 mod halves;
 pub mod integers;
 pub mod laws;
@@ -25,6 +27,7 @@ pub mod repr;
 
 pub use arrays::{from_u64_array, to_u64_array, try_from_u64_array, try_to_u64_array};
 pub use asks::Asks;
+pub use comparisons::{are_same, order_of};
 pub use primitive::Primitive;
 pub use primitive_iter::PrimitiveIter;
 pub use repr::EnumSetTypeRepr;

@@ -39,8 +39,11 @@ pub trait Primitive: Copy + Debug {
         requires { bit < BITS }
         ensures { set_of result ≡ set.remove (set_of self.now) bit };
 
-    /// The integer with its least bit cleared. One bit must be set.
+    /// The integer with its least bit cleared. At least one bit must be set.
     fn without_least(&self) -> Self
         requires { IsSome (least (set_of self.now)) }
-        ensures { IfSome (least (set_of self.now)) (λ m. set_of result ≡ set.remove (set_of self.now) m) };
+        ensures { IfSome (least (set_of self.now)) (λ m. set_of result ≡ set.remove (set_of self.now) m) }
+    {
+        self.without(self.trailing_zeros())
+    }
 }

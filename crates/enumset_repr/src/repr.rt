@@ -1,12 +1,12 @@
 //! The trait of representations: the types that keep the bits of a set.
 
-ghost use Rattle.std.specs.Prelude.{◌≡◌, ℕ, ◌+◌, ◌*◌, ◌/◌, ◌<◌, ◌≤◌, ◌↔◌, List, length, IsTrue, Option, IsSome, IfSome};
-ghost use Rattle.std.specs.Iterator.{YieldsFirst, YieldsLast, item_count};
+ghost use Rattle.std.specs.Prelude.{◌≡◌, ℕ, ◌+◌, ◌*◌, ◌/◌, ◌<◌, ◌≤◌, ◌↔◌, List, length, IsTrue, IsSome, IfSome};
 ghost use Rattle.enumset_repr.specs.Asks.{IsCounted};
 ghost use Rattle.enumset_repr.specs.BitSet as set;
 ghost use Rattle.enumset_repr.specs.BitSet.{BitSet};
 ghost use Rattle.enumset_repr.specs.Number.{bits, number};
 ghost use Rattle.enumset_repr.specs.Order.{compare};
+ghost use Rattle.enumset_repr.specs.Representations.{AreSetOperators, IsListed};
 ghost use Rattle.enumset_repr.specs.Words.{word as word_of, with_word, words as words_of, bits_of};
 
 use crate::halves::{halves_of, join_halves};
@@ -69,13 +69,20 @@ pub trait EnumSetTypeRepr: Copy
     // How many asks an iterator may still need beyond one for each item.
     ghost span: { Self.Iter → ℕ } = { λ _. 0 };
 
-    /// Does nothing at run time. Calling it tells the proof that the value is one of its type.
-    fn learn_is_value(self)
-        ensures { is_value self };
-
-    /// Whether the set is empty.
+    /// Whether the set is empty. A proof also learns that the value is one of its type.
     fn is_empty(&self) -> bool
-        ensures { IsTrue result ↔ (members self.now ≡ set.empty) };
+        ensures empty { result ≡ set.is_empty (members self.now) }
+        ensures value { is_value self.now };
+
+    /// Tells the proof that the value is one of its type, and changes nothing.
+    ///
+    /// The default body asks whether the set is empty. A representation of many words should have its own, which reads
+    /// no word.
+    fn learn_is_value(self)
+        ensures { is_value self }
+    {
+        let _ = self.is_empty();
+    }
 
     /// The number of members.
     fn count_ones(&self) -> u32
@@ -84,12 +91,14 @@ pub trait EnumSetTypeRepr: Copy
     /// Adds a bit. The bit must be below the width.
     fn add_bit(&mut self, bit: u32)
         requires { bit < WIDTH }
-        ensures { members self.new ≡ set.insert (members self.old) bit };
+        ensures members { members self.new ≡ set.insert (members self.old) bit }
+        ensures value { is_value self.new };
 
     /// Removes a bit. The bit must be below the width.
     fn remove_bit(&mut self, bit: u32)
         requires { bit < WIDTH }
-        ensures { members self.new ≡ set.remove (members self.old) bit };
+        ensures members { members self.new ≡ set.remove (members self.old) bit }
+        ensures value { is_value self.new };
 
     /// Whether a bit is a member. The bit must be below the width.
     fn has_bit(&self, bit: u32) -> bool
@@ -104,43 +113,45 @@ pub trait EnumSetTypeRepr: Copy
     ///
     /// The default body copies both values. A representation of many words should have its own.
     fn or_with(&mut self, other: &Self)
-        ensures { members self.new ≡ set.union (members self.old) (members other.now) }
+        ensures members { members self.new ≡ set.union (members self.old) (members other.now) }
+        ensures value { is_value self.new }
     {
-        self.learn_is_value();
-        other.learn_is_value();
         *self = *self | *other;
+        self.learn_is_value();
     }
 
     /// Removes every member that is not in `other`, in place.
     ///
     /// The default body copies both values. A representation of many words should have its own.
     fn and_with(&mut self, other: &Self)
-        ensures { members self.new ≡ set.intersection (members self.old) (members other.now) }
+        ensures members { members self.new ≡ set.intersection (members self.old) (members other.now) }
+        ensures value { is_value self.new }
     {
-        self.learn_is_value();
-        other.learn_is_value();
         *self = *self & *other;
+        self.learn_is_value();
     }
 
     /// Toggles every member of `other`, in place: adds it if it is absent, else removes it.
     ///
     /// The default body copies both values. A representation of many words should have its own.
     fn xor_with(&mut self, other: &Self)
-        ensures { members self.new
+        ensures members { members self.new
             ≡ set.symmetric_difference (members self.old) (members other.now) }
+        ensures value { is_value self.new }
     {
-        self.learn_is_value();
-        other.learn_is_value();
         *self = *self ^ *other;
+        self.learn_is_value();
     }
 
     /// Removes every member of `other`, in place.
     ///
     /// The default body copies both values. A representation of many words should have its own.
     fn and_not_with(&mut self, other: &Self)
-        ensures { members self.new ≡ set.difference (members self.old) (members other.now) }
+        ensures members { members self.new ≡ set.difference (members self.old) (members other.now) }
+        ensures value { is_value self.new }
     {
         *self = self.and_not(*other);
+        self.learn_is_value();
     }
 
     /// Whether every member is also in `other`.
@@ -158,8 +169,6 @@ pub trait EnumSetTypeRepr: Copy
     fn is_disjoint_from(&self, other: &Self) -> bool
         ensures { result ≡ set.is_disjoint (members self.now) (members other.now) }
     {
-        self.learn_is_value();
-        other.learn_is_value();
         (*self & *other).is_empty()
     }
 
@@ -471,45 +480,16 @@ pub trait EnumSetTypeRepr: Copy
     ghost cmp_is: { (a b : Self) → is_value a → is_value b
         → Self.Ord.cmp a b ≡ compare (members a) (members b) };
 
-    // The operators may be applied to any values.
-    ghost can_bitand: { (a b : Self) → Self.BitAnd.can_bitand a b };
-
-    ghost can_bitor: { (a b : Self) → Self.BitOr.can_bitor a b };
-
-    ghost can_bitxor: { (a b : Self) → Self.BitXor.can_bitxor a b };
-
-    ghost can_not: { (a : Self) → Self.Not.can_not a };
-
-    // `&`, `|` and `^` are intersection, union and symmetric difference, and `!` is the complement below the width.
-    ghost bitand_is: { (a b r : Self) → is_value a → is_value b
-        → Self.BitAnd.bitand_gives a b r → members r ≡ set.intersection (members a) (members b) };
-
-    ghost bitor_is: { (a b r : Self) → is_value a → is_value b
-        → Self.BitOr.bitor_gives a b r → members r ≡ set.union (members a) (members b) };
-
-    ghost bitxor_is: { (a b r : Self) → is_value a → is_value b
-        → Self.BitXor.bitxor_gives a b r
-        → members r ≡ set.symmetric_difference (members a) (members b) };
-
-    ghost not_is: { (a r : Self) → is_value a → Self.Not.not_gives a r
-        → members r ≡ set.difference (set.below WIDTH) (members a) };
+    // `&`, `|`, `^` and `!` may be applied to any values, and are the operations on sets.
+    ghost operators: { AreSetOperators members is_value WIDTH Self.BitAnd.can_bitand
+        Self.BitOr.can_bitor Self.BitXor.can_bitxor Self.Not.can_not Self.BitAnd.bitand_gives
+        Self.BitOr.bitor_gives Self.BitXor.bitxor_gives Self.Not.not_gives };
 
     // An iterator may step from either end at any time. A step yields the first or the last of the items left.
-    ghost can_step: { (i : Self.Iter) → Self.Iter.Iterator.can_next i };
-
-    ghost can_step_back: { (i : Self.Iter) → Self.Iter.DoubleEndedIterator.can_next_back i };
-
-    ghost steps: { (i : Self.Iter) (r : Option ℕ) (j : Self.Iter)
-        → Self.Iter.Iterator.next_gives i r j → YieldsFirst rest i r j };
-
-    ghost steps_back: { (i : Self.Iter) (r : Option ℕ) (j : Self.Iter)
-        → Self.Iter.DoubleEndedIterator.next_back_gives i r j → YieldsLast rest i r j };
-
-    // A clone has the same items left.
-    ghost clones: { (i j : Self.Iter) → Self.Iter.Clone.is_clone i j → rest j ≡ rest i };
-
-    // An iterator yields no more items than are left.
-    ghost left: { (i : Self.Iter) → Self.Iter.Iterator.remaining i ≡ item_count rest i };
+    ghost listed: { IsListed rest Self.Iter.Iterator.can_next
+        Self.Iter.DoubleEndedIterator.can_next_back Self.Iter.Iterator.next_gives
+        Self.Iter.DoubleEndedIterator.next_back_gives Self.Iter.Clone.is_clone
+        Self.Iter.Iterator.remaining };
 
     // A step raises the sum of asks and span by at most one if it yields an item, and not at all otherwise. A clone has
     // the same asks and span.

@@ -1,31 +1,36 @@
 -- An integer as a representation: the laws that `EnumSetTypeRepr` requires, in the form in which it requires them, for
--- every width.
+-- every number of bits.
 --     within_width      the members are below the width
 --     number_of_bits      the number of a number's set is that number
 --     equal_bits      numbers are equal exactly if their sets are
---     and_is, or_is, xor_is, not_is      the operators
+--     and_fits, or_fits, xor_fits, set_fits, turned_bits      operators on the lowest bits of a wider integer type
+--     integer_operators      `&`, `|`, `^` and `!` of an integer type
 --     word-.., with_word-..      a word, and a number with a word replaced, at a width of up to 64 bits and at 128
 --     on_8, .., on_128      what the calls of an integer of that width need, for a tactic's `using`
-use Rattle.std.proofs.Common.{◌≡◌, ◌<◌, ◌≤◌, ℕ, ◌*◌, ◌/◌, ◌%◌, ◌^◌, ◌-◌, sym, ap, ◌∙◌, arith, ◌↔◌, not}
+use Rattle.std.proofs.Common.{◌≡◌, ◌<◌, ◌≤◌, ℕ, ◌*◌, ◌/◌, ◌%◌, ◌^◌, ◌-◌, sym, ap, ◌∙◌, arith, ◌↔◌, not, lit<, subst}
 use Rattle.std.specs.Prelude.{◌==◌, IsTrue}
 use Rattle.std.specs.Int.{bit_not, Width, w8, w16, w32, w64, w128}
 use Rattle.std.specs.Int.RustNames.{bit_and, bit_or, bit_xor}
 use mir.Val.{bits as width_bits}
 use Rattle.std.proofs.lemmas.Bool.{eqb-true, eq-eqb}
-use Rattle.std.proofs.lemmas.Nat.{and_mask}
-use Rattle.enumset_repr.specs.BitSet.{contains, insert, remove, intersection, union, symmetric_difference, difference, is_subset, below}
+use Rattle.std.proofs.lemmas.Nat.{and_mask, and_le_l, or_lt, xor_lt, one_shl, pow_below, mod_below}
+use Rattle.enumset_repr.specs.BitSet.{contains, insert, remove, difference, symmetric_difference, is_subset, below}
+use Rattle.enumset_repr.specs.Representations.{AreSetOperators}
 use Rattle.enumset_repr.specs.Number.{number, bits}
 use Rattle.enumset_repr.specs.Words.{word, with_word}
-use Rattle.enumset_repr.specs.Laws.Numbers.{number-bits, bits-within, bits-and, bits-or, bits-xor, bits-not, bits-and_not, bits-set, bits-clear, bits-test, on_numbers}
+use Rattle.enumset_repr.specs.Laws.Members.{members, same_set, is_subset-contains}
+use Rattle.enumset_repr.specs.Laws.Numbers.{number-bits, bits_full, bits-within, bits-and, bits-or, bits-xor, bits-not, bits-and_not, bits-set, bits-clear, bits-test, on_numbers}
 use Rattle.enumset_repr.specs.Laws.Ends.{TrailingLaw, LeadingLaw, ClearLeastLaw, trailing-least, leading-greatest, clear-least, least-positive}
 use Rattle.enumset_repr.specs.Laws.Words.{word-bits, bits-put_low, bits-put_word}
 
-module _ (w : Width) where
-  abbrev Fits : ℕ → Type 0
-  Fits n = n < 2 ^ width_bits w
+-- ---- at any number of bits
 
-  pub within_width : (a : ℕ) → Fits a → IsTrue (is_subset (bits a) (below (width_bits w)))
-  within_width a fits = bits-within a (width_bits w) fits
+module _ (width : ℕ) where
+  abbrev Fits : ℕ → Type 0
+  Fits n = n < 2 ^ width
+
+  pub within_width : (a : ℕ) → Fits a → IsTrue (is_subset (bits a) (below width))
+  within_width a fits = bits-within a width fits
 
   pub number_of_bits : (a : ℕ) → Fits a → number (bits a) ≡ a
   number_of_bits a fits = number-bits a
@@ -33,17 +38,42 @@ module _ (w : Width) where
   pub equal_bits : (a b : ℕ) → Fits a → Fits b → IsTrue (a == b) ↔ (bits a ≡ bits b)
   equal_bits a b p q = (λ same. ap bits (eqb-true a b same), λ same. eq-eqb a b (sym (number-bits a) ∙ ap number same ∙ number-bits b))
 
-  pub and_is : (a b r : ℕ) → Fits a → Fits b → r ≡ bit_and a b → bits r ≡ intersection (bits a) (bits b)
-  and_is a b r p q e = ap bits e ∙ bits-and a b
+-- what the operators leave below 2 ^ width
+pub and_fits : (width a b : ℕ) → a < 2 ^ width → bit_and a b < 2 ^ width
+and_fits width a b fits = omega (arith, fits, and_le_l a b)
 
-  pub or_is : (a b r : ℕ) → Fits a → Fits b → r ≡ bit_or a b → bits r ≡ union (bits a) (bits b)
-  or_is a b r p q e = ap bits e ∙ bits-or a b
+pub or_fits : (width a b : ℕ) → a < 2 ^ width → b < 2 ^ width → bit_or a b < 2 ^ width
+or_fits = or_lt
 
-  pub xor_is : (a b r : ℕ) → Fits a → Fits b → r ≡ bit_xor a b → bits r ≡ symmetric_difference (bits a) (bits b)
-  xor_is a b r p q e = ap bits e ∙ bits-xor a b
+pub xor_fits : (width a b : ℕ) → a < 2 ^ width → b < 2 ^ width → bit_xor a b < 2 ^ width
+xor_fits = xor_lt
 
-  pub not_is : (a r : ℕ) → Fits a → r ≡ bit_not w a → bits r ≡ difference (below (width_bits w)) (bits a)
-  not_is a r p e = ap bits e ∙ bits-not w a p
+-- `n | 1 << k`, where an integer type of more bits holds n
+pub set_fits : (width wide n k : ℕ) → width ≤ wide → n < 2 ^ width → k < width → bit_or n (1 * 2 ^ k % 2 ^ wide) < 2 ^ width
+set_fits width wide n k less fits within =
+    let one : 1 * 2 ^ k % 2 ^ wide < 2 ^ width = subst (λ m. m < 2 ^ width) (sym (one_shl k wide (omega (arith, less, within)))) (pow_below k width within) in
+    or_lt width n _ fits one
+
+-- `n ^ (2 ^ width - 1)`
+pub turned_bits : (width n : ℕ) → n < 2 ^ width → bits (bit_xor n (2 ^ width - 1)) ≡ difference (below width) (bits n)
+turned_bits width n fits =
+    bits-xor n (2 ^ width - 1) ∙ ap (symmetric_difference (bits n)) (bits_full width)
+    ∙ same_set _ _ (λ q. let each = is_subset-contains (bits n) (below width) (bits-within n width fits) q in grind (arith, members))
+
+-- the operators of the integer type of a width
+pub integer_operators : (w : Width) → AreSetOperators bits (λ n. n < 2 ^ width_bits w) (width_bits w)
+    (λ _ _. Unit {0}) (λ _ _. Unit {0}) (λ _ _. Unit {0}) (λ _. Unit {0})
+    (λ a b r. r ≡ bit_and a b) (λ a b r. r ≡ bit_or a b) (λ a b r. r ≡ bit_xor a b) (λ a r. r ≡ bit_not w a)
+integer_operators w = record {
+  can_bitand = λ _ _. tt;
+  can_bitor = λ _ _. tt;
+  can_bitxor = λ _ _. tt;
+  can_turn = λ _. tt;
+  bitand = λ a b r e. ap bits e ∙ bits-and a b;
+  bitor = λ a b r e. ap bits e ∙ bits-or a b;
+  bitxor = λ a b r e. ap bits e ∙ bits-xor a b;
+  turned = λ a r fits e. ap bits e ∙ bits-not w a fits;
+}
 
 -- ---- words
 
@@ -96,6 +126,12 @@ TestLaw w = (n k : ℕ) → k < width_bits w → contains (bits n) k ≡ not (bi
 abbrev AndNotLaw : Width → Type 0
 AndNotLaw w = (a b : ℕ) → a < 2 ^ width_bits w → b < 2 ^ width_bits w → bits (bit_and a (bit_not w b)) ≡ difference (bits a) (bits b)
 
+abbrev SetFitsLaw : Width → Type 0
+SetFitsLaw w = (n k : ℕ) → n < 2 ^ width_bits w → bit_or n (1 * 2 ^ k % 2 ^ width_bits w) < 2 ^ width_bits w
+
+abbrev NotLaw : Width → Type 0
+NotLaw w = (n : ℕ) → n < 2 ^ width_bits w → bits (bit_not w n) ≡ difference (below (width_bits w)) (bits n)
+
 pub set_8 : SetLaw w8
 set_8 = bits-set w8
 
@@ -108,6 +144,9 @@ test_8 = bits-test w8
 pub and_not_8 : AndNotLaw w8
 and_not_8 = bits-and_not w8
 
+pub not_8 : NotLaw w8
+not_8 = bits-not w8
+
 pub clear_least_8 : ClearLeastLaw w8
 clear_least_8 = clear-least w8
 
@@ -117,7 +156,7 @@ trailing_8 = trailing-least w8
 pub leading_8 : LeadingLaw w8
 leading_8 = leading-greatest w8
 
-pub ruleset on_8 = (on_numbers, least-positive, set_8, clear_8, clear_least_8, test_8, and_not_8, trailing_8, leading_8, words_narrow)
+pub ruleset on_8 = (on_numbers, least-positive, set_8, clear_8, clear_least_8, test_8, not_8, and_not_8, trailing_8, leading_8, words_narrow)
 
 pub set_16 : SetLaw w16
 set_16 = bits-set w16
@@ -131,6 +170,9 @@ test_16 = bits-test w16
 pub and_not_16 : AndNotLaw w16
 and_not_16 = bits-and_not w16
 
+pub not_16 : NotLaw w16
+not_16 = bits-not w16
+
 pub clear_least_16 : ClearLeastLaw w16
 clear_least_16 = clear-least w16
 
@@ -140,7 +182,7 @@ trailing_16 = trailing-least w16
 pub leading_16 : LeadingLaw w16
 leading_16 = leading-greatest w16
 
-pub ruleset on_16 = (on_numbers, least-positive, set_16, clear_16, clear_least_16, test_16, and_not_16, trailing_16, leading_16, words_narrow)
+pub ruleset on_16 = (on_numbers, least-positive, set_16, clear_16, clear_least_16, test_16, not_16, and_not_16, trailing_16, leading_16, words_narrow)
 
 pub set_32 : SetLaw w32
 set_32 = bits-set w32
@@ -154,6 +196,9 @@ test_32 = bits-test w32
 pub and_not_32 : AndNotLaw w32
 and_not_32 = bits-and_not w32
 
+pub not_32 : NotLaw w32
+not_32 = bits-not w32
+
 pub clear_least_32 : ClearLeastLaw w32
 clear_least_32 = clear-least w32
 
@@ -163,10 +208,13 @@ trailing_32 = trailing-least w32
 pub leading_32 : LeadingLaw w32
 leading_32 = leading-greatest w32
 
-pub ruleset on_32 = (on_numbers, least-positive, set_32, clear_32, clear_least_32, test_32, and_not_32, trailing_32, leading_32, words_narrow)
+pub ruleset on_32 = (on_numbers, least-positive, set_32, clear_32, clear_least_32, test_32, not_32, and_not_32, trailing_32, leading_32, words_narrow)
 
 pub set_64 : SetLaw w64
 set_64 = bits-set w64
+
+pub set_fits_64 : SetFitsLaw w64
+set_fits_64 n k fits = or_lt 64 n _ fits (mod_below (1 * 2 ^ k) (2 ^ 64) (lit< tt))
 
 pub clear_64 : ClearLaw w64
 clear_64 = bits-clear w64
@@ -177,6 +225,9 @@ test_64 = bits-test w64
 pub and_not_64 : AndNotLaw w64
 and_not_64 = bits-and_not w64
 
+pub not_64 : NotLaw w64
+not_64 = bits-not w64
+
 pub clear_least_64 : ClearLeastLaw w64
 clear_least_64 = clear-least w64
 
@@ -186,10 +237,13 @@ trailing_64 = trailing-least w64
 pub leading_64 : LeadingLaw w64
 leading_64 = leading-greatest w64
 
-pub ruleset on_64 = (on_numbers, least-positive, set_64, clear_64, clear_least_64, test_64, and_not_64, trailing_64, leading_64, words_narrow)
+pub ruleset on_64 = (on_numbers, least-positive, set_64, set_fits_64, clear_64, clear_least_64, test_64, not_64, and_not_64, trailing_64, leading_64, words_narrow)
 
 pub set_128 : SetLaw w128
 set_128 = bits-set w128
+
+pub set_fits_128 : SetFitsLaw w128
+set_fits_128 n k fits = or_lt 128 n _ fits (mod_below (1 * 2 ^ k) (2 ^ 128) (lit< tt))
 
 pub clear_128 : ClearLaw w128
 clear_128 = bits-clear w128
@@ -200,6 +254,9 @@ test_128 = bits-test w128
 pub and_not_128 : AndNotLaw w128
 and_not_128 = bits-and_not w128
 
+pub not_128 : NotLaw w128
+not_128 = bits-not w128
+
 pub clear_least_128 : ClearLeastLaw w128
 clear_least_128 = clear-least w128
 
@@ -209,4 +266,4 @@ trailing_128 = trailing-least w128
 pub leading_128 : LeadingLaw w128
 leading_128 = leading-greatest w128
 
-pub ruleset on_128 = (on_numbers, least-positive, set_128, clear_128, clear_least_128, test_128, and_not_128, trailing_128, leading_128, words_wide)
+pub ruleset on_128 = (on_numbers, least-positive, set_128, set_fits_128, clear_128, clear_least_128, test_128, not_128, and_not_128, trailing_128, leading_128, words_wide)

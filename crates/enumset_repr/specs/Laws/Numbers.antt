@@ -2,6 +2,7 @@
 --     contains-bits, bits-.., len-bits      the set of a number, and of the result of an operator
 --     bits-number, number-bits      from a set to its number and back;  from a number to its set and back
 --     least-bits, greatest-bits      `trailing_zeros` and `leading_zeros`
+--     bits_full      a number of n ones
 --     on_numbers      the laws that name no width, for a tactic's `using`
 use Rattle.std.proofs.Common.{◌≡◌, ◌<◌, ◌≤◌, ℕ, suc, zero, ◌+◌, ◌-◌, ◌*◌, ◌/◌, ◌%◌, ◌^◌, min, max, Bool, true, false, not, ◌&&◌, ◌||◌, List, [], ◌∷◌, refl, sym, ap, ◌∙◌, length, arith, inl, inr, ◌⊎◌, true≢false, pow-suc, pow_mono, mul_assoc, mul_comm, suc-mul, pow-add, one-mul, zero-mul}
 use Rattle.std.proofs.Math.Bool.{and-true, or-false, or_comm, and_comm}
@@ -10,15 +11,15 @@ use Rattle.std.specs.Int.{bit_at, bit_not, trailing_zeros, leading_zeros, Width}
 use Rattle.std.specs.Int.RustNames.{bit_and, bit_or, bit_xor, count_ones}
 use Rattle.std.specs.Int.Count.{ones_cat, leading_top}
 use mir.Val.{bits as width_bits}
-use Rattle.std.proofs.lemmas.Bool.{cases_lt, lt-ltb, ltb-true, eqb-true, eq-eqb, or_left, or_right}
-use Rattle.std.proofs.lemmas.Bool.Decides.{nat_tests}
+use Rattle.std.proofs.lemmas.Bool.{cases_lt, lt-ltb, le-ltb, ltb-true, eqb-true, eq-eqb, or_left, or_right}
+use Rattle.std.proofs.lemmas.Bool.Decides.{nat_tests, same_from_decides}
 use Rattle.std.proofs.lemmas.List.Sums.{sum_by-cons}
 use Rattle.std.proofs.lemmas.Nat.{pow_pos, le-div, div_below, pow_below, one_shl, shr-shr, shr_split, mod_below}
-use Rattle.std.proofs.lemmas.Nat.Bits.{and_pow, bit_at_and, bit_at_or, bit_at_xor, bit_at_not, bit_at-pow_same, bit_at-pow_other, bit_at-zero, bit_at_above, bit_at-lt, bit_at_cat_low, bit_at_cat_high, bit_at-trailing_zeros, same_from_bits}
-use Rattle.enumset_repr.specs.BitSet.{is_in, BitSet, contains, ascending, len, empty, insert, only, remove, union, intersection, difference, symmetric_difference, is_subset, below, low}
+use Rattle.std.proofs.lemmas.Nat.Bits.{and_pow, bit_at_and, bit_at_or, bit_at_xor, bit_at_not, bit_at-pow_same, bit_at-pow_other, bit_at-zero, bit_at_above, bit_at-lt, bit_at_cat_low, bit_at_cat_high, bit_at-trailing_zeros, bit_at_ones, bit_at_ones_above, same_from_bits}
+use Rattle.enumset_repr.specs.BitSet.{is_in, BitSet, contains, ascending, len, is_empty, empty, insert, only, remove, union, intersection, difference, symmetric_difference, is_subset, below, low}
 use Rattle.enumset_repr.specs.Number.{number, bits}
 use Rattle.enumset_repr.specs.Laws.Members.{same_set, contains-empty, contains-ascending, contains-retain, contains-remove, contains-insert, contains-union, contains-intersection, contains-difference, contains-symmetric_difference, contains-below, contains-low, is_subset-contains, contains-is_subset}
-use Rattle.enumset_repr.specs.Laws.Ascending.{AscendsFrom, ascending-ascends, ascending-empty, is_in-below, len-ascending}
+use Rattle.enumset_repr.specs.Laws.Ascending.{AscendsFrom, ascending-ascends, ascending-empty, is_in-below, len-ascending, is_empty_iff}
 
 -- ---- the members of a number's set
 
@@ -208,6 +209,10 @@ number-empty = ap (sum_by (λ b. 2 ^ b)) ascending-empty
 pub bits_empty : (n : ℕ) → bits n ≡ empty → n ≡ 0
 bits_empty n none = sym (number-bits n) ∙ ap number none ∙ number-empty
 
+-- `n == 0`
+pub bits-is_empty : (n : ℕ) → (n == 0) ≡ is_empty (bits n)
+bits-is_empty n = same_from_decides _ _ (λ zero. ap bits (eqb-true n 0 zero) ∙ bits-zero, λ none. eq-eqb n 0 (bits_empty n none)) (is_empty_iff (bits n))
+
 -- `n.count_ones()`
 pub len-bits : (n : ℕ) → len (bits n) ≡ count_ones n
 unfolding number worth
@@ -344,5 +349,14 @@ bits-low n k = bits_is _ _ (λ q. by q (cases_lt q k) ∙ ap (λ t. t && nat_lt 
 pub contains-bits-shifted : (n k b : ℕ) → contains (bits (n / 2 ^ k)) b ≡ contains (bits n) (k + b)
 contains-bits-shifted n k b = contains-bits (n / 2 ^ k) b ∙ ap (λ m. m % 2 == 1) (shr-shr n k b) ∙ sym (contains-bits n (k + b))
 
+-- ---- a number of n ones
+
+pub bits_full : (n : ℕ) → bits (2 ^ n - 1) ≡ below n
+bits_full n = same_set _ _ (λ q. contains-bits (2 ^ n - 1) q ∙ each q (cases_lt q n) ∙ sym (contains-below n q))
+  where
+    each : (q : ℕ) → (q < n) ⊎ (n ≤ q) → (bit_at (2 ^ n - 1) q == 1) ≡ nat_lt q n
+    each q (inl under) = ap (λ d. d == 1) (bit_at_ones n q under) ∙ sym (lt-ltb q n under)
+    each q (inr past) = ap (λ d. d == 1) (bit_at_ones_above n q past) ∙ sym (le-ltb q n past)
+
 -- What a proof about the set of a number needs, at any width.
-pub ruleset on_numbers = (bits-and, bits-or, bits-xor, len-bits, bits-low, contains-bits-shifted, bits-zero, bits_empty)
+pub ruleset on_numbers = (bits-and, bits-or, bits-xor, len-bits, bits-low, contains-bits-shifted, bits-zero, bits_empty, bits-is_empty)

@@ -7,7 +7,8 @@ ghost use Rattle.enumset_repr.specs.Number.{bits, number};
 ghost use Rattle.enumset_repr.specs.Laws.Asks.{no_asks};
 ghost use Rattle.enumset_repr.specs.Laws.Numbers.{bits-zero};
 ghost use Rattle.enumset_repr.specs.Laws.Order.{compare-bits};
-ghost use Rattle.enumset_repr.specs.Laws.Integers.{within_width, number_of_bits, equal_bits, and_is, or_is, xor_is, not_is};
+ghost use Rattle.enumset_repr.specs.Laws.Integers.{within_width, number_of_bits, equal_bits, integer_operators};
+ghost use Rattle.enumset_repr.specs.Laws.Representations.{by_list};
 
 use crate::primitive::Primitive;
 use crate::primitive_iter::PrimitiveIter;
@@ -66,8 +67,6 @@ impl EnumSetTypeRepr for u8 {
 
     ghost rest = { λ i. set.ascending (bits i.0) };
 
-    fn learn_is_value(self) {}
-
     fn is_empty(&self) -> bool {
         *self == 0
     }
@@ -116,43 +115,19 @@ impl EnumSetTypeRepr for u8 {
 
     ghost empty_is = { bits-zero };
 
-    ghost within = { within_width w8 };
+    ghost within = { within_width 8 };
 
-    ghost inverse = { number_of_bits w8 };
+    ghost inverse = { number_of_bits 8 };
 
     ghost words = { refl };
 
-    ghost eq_is = { equal_bits w8 };
+    ghost eq_is = { equal_bits 8 };
 
     ghost cmp_is = { λ a b _ _. compare-bits a b };
 
-    ghost can_bitand = { λ _ _. tt };
+    ghost operators = { integer_operators w8 };
 
-    ghost can_bitor = { λ _ _. tt };
-
-    ghost can_bitxor = { λ _ _. tt };
-
-    ghost can_not = { λ _. tt };
-
-    ghost bitand_is = { and_is w8 };
-
-    ghost bitor_is = { or_is w8 };
-
-    ghost bitxor_is = { xor_is w8 };
-
-    ghost not_is = { not_is w8 };
-
-    ghost can_step = { λ _. tt };
-
-    ghost can_step_back = { λ _. tt };
-
-    ghost steps = { λ _ _ _ step. step };
-
-    ghost steps_back = { λ _ _ _ step. step };
-
-    ghost clones = { λ i j copy k. set.ascending (bits (copy k).0) };
-
-    ghost left = { λ _. refl };
+    ghost listed = { by_list };
 
     ghost counts = { no_asks };
 }

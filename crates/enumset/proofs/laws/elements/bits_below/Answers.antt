@@ -1,4 +1,5 @@
-use Rattle.enumset.specs.Laws.Bits.{bits_full, bits_in_order}
+use Rattle.enumset_repr.specs.Laws.Numbers.{bits_full}
+use Rattle.enumset.specs.Laws.Bits.{bits_in_order}
 use Rattle.enumset.proofs.laws.elements.bits_below.Goals as goal
 
 pub returns : goal.returns

@@ -1,6 +1,6 @@
 use Rattle.std.proofs.lemmas.Bool.Decides.{same_from_decides}
 use Rattle.enumset_repr.specs.Laws.Members.{is_same_iff}
-use Rattle.enumset_sets.proofs.representation.are_same.Goals as goal
+use Rattle.enumset_repr.proofs.comparisons.are_same.Goals as goal
 
 pub returns : goal.returns
 returns g c =

@@ -1,0 +1,36 @@
+-- The laws of a representation whose parts say themselves what they are.
+--     by_sets      operators whose results are those of the sets
+--     by_list      an iterator whose steps are those of the list of the items left
+use Rattle.std.proofs.Common.{◌≡◌, refl, ap, List, ℕ}
+use Rattle.std.specs.Prelude.{Option}
+use Rattle.std.specs.Iterator.{YieldsFirst, YieldsLast, item_count}
+use Rattle.enumset_repr.specs.BitSet.{BitSet, union, intersection, symmetric_difference, difference, below}
+use Rattle.enumset_repr.specs.Representations.{AreSetOperators, IsListed}
+
+pub by_sets : {S : Type 0} {members : S → BitSet} {IsValue : S → Type 0} {width : ℕ}
+    → AreSetOperators members IsValue width (λ _ _. Unit {0}) (λ _ _. Unit {0}) (λ _ _. Unit {0}) (λ _. Unit {0})
+    (λ a b r. members r ≡ intersection (members a) (members b))
+    (λ a b r. members r ≡ union (members a) (members b))
+    (λ a b r. members r ≡ symmetric_difference (members a) (members b))
+    (λ a r. members r ≡ difference (below width) (members a))
+by_sets = record {
+  can_bitand = λ _ _. tt;
+  can_bitor = λ _ _. tt;
+  can_bitxor = λ _ _. tt;
+  can_turn = λ _. tt;
+  bitand = λ _ _ _ is. is;
+  bitor = λ _ _ _ is. is;
+  bitxor = λ _ _ _ is. is;
+  turned = λ _ _ _ is. is;
+}
+
+pub by_list : {I : Type 0} {rest : I → List ℕ}
+    → IsListed rest (λ _. Unit {0}) (λ _. Unit {0}) (YieldsFirst rest) (YieldsLast rest) (λ i j. j ≡ i) (item_count rest)
+by_list {I} {rest} = record {
+  can_step = λ _. tt;
+  can_step_back = λ _. tt;
+  step = λ _ _ _ step. step;
+  step_back = λ _ _ _ step. step;
+  clone = λ i j copy. ap rest copy;
+  left = λ _. refl;
+}

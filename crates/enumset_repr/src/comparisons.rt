@@ -1,0 +1,26 @@
+//! Comparisons of two values of a representation, as tests of the sets that they represent.
+
+ghost use Rattle.std.specs.Prelude.{◌≡◌};
+ghost use Rattle.enumset_repr.specs.BitSet as set;
+ghost use Rattle.enumset_repr.specs.Order.{compare};
+
+use crate::repr::EnumSetTypeRepr;
+use std::cmp::Ordering;
+
+/// Whether both sets have the same members.
+pub fn are_same<R: EnumSetTypeRepr>(a: &R, b: &R) -> bool
+    ensures { result ≡ set.is_same (R.members a.now) (R.members b.now) }
+{
+    a.learn_is_value();
+    b.learn_is_value();
+    *a == *b
+}
+
+/// How the two sets compare: the greater is the one that has the greatest number that is in exactly one of them.
+pub fn order_of<R: EnumSetTypeRepr>(a: &R, b: &R) -> Ordering
+    ensures { result ≡ compare (R.members a.now) (R.members b.now) }
+{
+    a.learn_is_value();
+    b.learn_is_value();
+    a.cmp(b)
+}
