@@ -74,6 +74,10 @@ insert_at n ws i k is_repr low small = set_at n ws i _ is_repr low (or_lt 64 _ _
     ∙ (λ j. sym (same_bit i b k) j || sym (contains-set_of n ws i b is_repr under) j) ∙ sym (contains-insert _ (64 * i + k) (64 * i + b)))
     (λ w b apart under. sym (contains-insert _ (64 * i + k) (64 * w + b) ∙ ap (λ t. t || contains (set_of n ws) (64 * w + b)) (other_word i w b k apart under small)))
 
+pub insert_bit_repr : (n : ℕ) (ws : List ℕ) (bit : ℕ) → IsArrayRepr n ws → bit < 64 * in_use n
+    → IsArrayRepr n (set ws (bit / 64) (bit_or (slice_index ws (bit / 64)) (1 * 2 ^ (bit % 64) % 2 ^ 64)))
+insert_bit_repr n ws bit is_repr below = set_repr n ws (bit / 64) _ is_repr (omega (arith, below)) (or_lt 64 _ _ (is_repr.fit (bit / 64)) (small_bit (bit % 64)))
+
 pub insert_bit : (n : ℕ) (ws : List ℕ) (bit : ℕ) → IsArrayRepr n ws → bit < 64 * in_use n
     → set_of n (set ws (bit / 64) (bit_or (slice_index ws (bit / 64)) (1 * 2 ^ (bit % 64) % 2 ^ 64))) ≡ insert (set_of n ws) bit
 insert_bit n ws bit is_repr below = insert_at n ws (bit / 64) (bit % 64) is_repr (omega (arith, below)) (omega arith) ∙ ap (insert (set_of n ws)) (at_word bit)
@@ -84,6 +88,10 @@ remove_at n ws i k is_repr low small = set_at n ws i _ is_repr low (and_lt 64 _ 
     ap (λ s. contains s b) (bits-clear w64 (slice_index ws i) k (is_repr.fit i) small) ∙ contains-remove _ k b
     ∙ (λ j. not (sym (same_bit i b k) j) && sym (contains-set_of n ws i b is_repr under) j) ∙ sym (contains-remove _ (64 * i + k) (64 * i + b)))
     (λ w b apart under. sym (contains-remove _ (64 * i + k) (64 * w + b) ∙ ap (λ t. not t && contains (set_of n ws) (64 * w + b)) (other_word i w b k apart under small)))
+
+pub remove_bit_repr : (n : ℕ) (ws : List ℕ) (bit : ℕ) → IsArrayRepr n ws → bit < 64 * in_use n
+    → IsArrayRepr n (set ws (bit / 64) (bit_and (slice_index ws (bit / 64)) (bit_not w64 (1 * 2 ^ (bit % 64) % 2 ^ 64))))
+remove_bit_repr n ws bit is_repr below = set_repr n ws (bit / 64) _ is_repr (omega (arith, below)) (and_lt 64 _ _ (is_repr.fit (bit / 64)) (ones_sub-lt 64 (bit_of (bit % 64))))
 
 pub remove_bit : (n : ℕ) (ws : List ℕ) (bit : ℕ) → IsArrayRepr n ws → bit < 64 * in_use n
     → set_of n (set ws (bit / 64) (bit_and (slice_index ws (bit / 64)) (bit_not w64 (1 * 2 ^ (bit % 64) % 2 ^ 64)))) ≡ remove (set_of n ws) bit

@@ -1,5 +1,5 @@
 -- The laws of lists of words, each proved. Nothing here has to be believed: contracts cite the definitions alone.
---     Asks      the asks of an iterator
+--     Asks      the steps of an iterator that counts its asks
 --     Zeros      lists of zeros
 --     ArrayWords      the laws of the words of an `ArrayRepr`
 --     Operations      the operations on words that are operations on sets

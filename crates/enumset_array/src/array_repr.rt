@@ -6,7 +6,8 @@ ghost use Rattle.enumset_repr.specs.BitSet.{ascending, len};
 ghost use Rattle.enumset_repr.specs.Number.{bits};
 ghost use Rattle.enumset_array.specs.ArrayWords.{in_use, set_of, IsArrayRepr};
 ghost use Rattle.enumset_repr.specs.Words.{words as words_of_set};
-ghost use Rattle.enumset_array.specs.Laws.Asks.{counted};
+ghost use Rattle.enumset_repr.specs.Laws.Representations.{by_sets};
+ghost use Rattle.enumset_array.specs.Laws.Asks.{counted, listed};
 ghost use Rattle.enumset_array.specs.Laws.Order.{compare_is};
 ghost use Rattle.enumset_array.specs.Laws.ArrayWords.{set_of_none, within, inverse, width_words, equal};
 
@@ -198,33 +199,9 @@ impl<const N: usize> EnumSetTypeRepr for ArrayRepr<N> {
 
     ghost cmp_is = { compare_is N };
 
-    ghost can_bitand = { λ _ _. tt };
+    ghost operators = { by_sets };
 
-    ghost can_bitor = { λ _ _. tt };
-
-    ghost can_bitxor = { λ _ _. tt };
-
-    ghost can_not = { λ _. tt };
-
-    ghost bitand_is = { λ _ _ _ _ _ is. is };
-
-    ghost bitor_is = { λ _ _ _ _ _ is. is };
-
-    ghost bitxor_is = { λ _ _ _ _ _ is. is };
-
-    ghost not_is = { λ _ _ _ is. is };
-
-    ghost can_step = { λ _. tt };
-
-    ghost can_step_back = { λ _. tt };
-
-    ghost steps = { λ _ _ _ step. step.0 };
-
-    ghost steps_back = { λ _ _ _ step. step.0 };
-
-    ghost clones = { λ i j copy k. (copy k).items };
-
-    ghost left = { λ _. refl };
+    ghost listed = { listed };
 
     ghost counts = { counted };
 }

@@ -1,6 +1,6 @@
 //! Operations on words that are operations on sets, over whole values.
 
-ghost use Rattle.std.specs.Prelude.{◌≡◌, ◌↔◌, IsTrue};
+ghost use Rattle.std.specs.Prelude.{◌≡◌};
 ghost use Rattle.enumset_repr.specs.BitSet as set;
 ghost use Rattle.enumset_repr.specs.BitSet.{BitSet};
 ghost use Rattle.enumset_array.specs.ArrayWords.{set_of, IsArrayRepr};
@@ -65,7 +65,8 @@ pub(crate) fn yields_none<O: SetOperation, const N: usize>(
     repr: &ArrayRepr<N>,
     other: &ArrayRepr<N>,
 ) -> bool
-    ensures { IsTrue result ↔ (O.of_sets (set_of N repr.now) (set_of N other.now) ≡ set.empty) }
+    ensures value { IsArrayRepr N repr.now }
+    ensures empty { result ≡ set.is_empty (O.of_sets (set_of N repr.now) (set_of N other.now)) }
 {
     are_none::<O>(repr.words(), other.words())
 }
