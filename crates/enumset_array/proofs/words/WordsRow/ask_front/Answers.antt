@@ -1,8 +1,8 @@
 use Rattle.std.proofs.Common.{◌≡◌, ◌<◌, ◌∙◌, length}
 use Rattle.enumset_array.specs.ArrayWords.{words_in_use, IsArrayRepr}
 use Rattle.enumset_array.proofs.RowWords.{row_others, row_repr, front_fits}
-use Rattle.enumset_array.proofs.rows.WordsRow.ask_front.Given.{Over}
-use Rattle.enumset_array.proofs.rows.WordsRow.ask_front.Goals as goal
+use Rattle.enumset_array.proofs.words.WordsRow.ask_front.Given.{Over}
+use Rattle.enumset_array.proofs.words.WordsRow.ask_front.Goals as goal
 
 same_words : (g : Over) (c : goal.After-take_least g) → words_in_use g.row.N c.self-inside.inside.0.0.0 ≡ c.args.self.now.words
 same_words g c = (λ j. words_in_use g.row.N (c.self-inside.view_is j).repr) ∙ (λ j. (c.self.view_is j).words)

@@ -3,7 +3,7 @@ use Rattle.std.specs.Int.{leading_zeros}
 use Rattle.enumset_repr.specs.BitSet.{ascending}
 use Rattle.enumset_repr.specs.Laws.Numbers.{greatest-bits, bits-clear}
 use Rattle.enumset_repr.specs.Laws.Ascending.{ascending-last}
-use Rattle.enumset_array.proofs.rows.take_greatest.Goals as goal
+use Rattle.enumset_array.proofs.words.take_greatest.Goals as goal
 
 pub returns : goal.returns
 returns c =

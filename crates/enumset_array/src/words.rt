@@ -1,4 +1,4 @@
-//! The row of words that an `ArrayIter` takes its bits from.
+//! The words that an `ArrayIter` takes its bits from.
 
 ghost use Rattle.std.specs.Prelude.{◌≡◌, ◌∷◌, [], ◌++◌, length, MatchOption};
 ghost use Rattle.enumset_repr.specs.BitSet.{ascending};
@@ -35,6 +35,7 @@ impl<const N: usize> Words<N> {
     pub(crate) fn new(repr: ArrayRepr<N>) -> Self
         ensures { result ≡ record { words = words_in_use N repr.entry; asks = 0 } }
     {
+        // Only a read tells the proof that the words of a value that is moved have 64 bits.
         repr.learn_is_value();
         Words {
             repr,

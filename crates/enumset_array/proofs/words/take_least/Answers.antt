@@ -3,7 +3,7 @@ use Rattle.std.specs.Int.{trailing_zeros}
 use Rattle.enumset_repr.specs.BitSet.{ascending}
 use Rattle.enumset_repr.specs.Laws.Numbers.{least-bits, bits-clear_least}
 use Rattle.enumset_repr.specs.Laws.Ascending.{ascending-first}
-use Rattle.enumset_array.proofs.rows.take_least.Goals as goal
+use Rattle.enumset_array.proofs.words.take_least.Goals as goal
 
 pub returns : goal.returns
 returns c =
