@@ -74,13 +74,9 @@ insert_at n ws i k is_repr low small = set_at n ws i _ is_repr low (or_lt 64 _ _
     ∙ (λ j. sym (same_bit i b k) j || sym (contains-set_of n ws i b is_repr under) j) ∙ sym (contains-insert _ (64 * i + k) (64 * i + b)))
     (λ w b apart under. sym (contains-insert _ (64 * i + k) (64 * w + b) ∙ ap (λ t. t || contains (set_of n ws) (64 * w + b)) (other_word i w b k apart under small)))
 
-pub insert_bit_repr : (n : ℕ) (ws : List ℕ) (bit : ℕ) → IsArrayRepr n ws → bit < 64 * in_use n
-    → IsArrayRepr n (set ws (bit / 64) (bit_or (slice_index ws (bit / 64)) (1 * 2 ^ (bit % 64) % 2 ^ 64)))
-insert_bit_repr n ws bit is_repr below = set_repr n ws (bit / 64) _ is_repr (omega (arith, below)) (or_lt 64 _ _ (is_repr.fit (bit / 64)) (small_bit (bit % 64)))
-
 pub insert_bit : (n : ℕ) (ws : List ℕ) (bit : ℕ) → IsArrayRepr n ws → bit < 64 * in_use n
-    → set_of n (set ws (bit / 64) (bit_or (slice_index ws (bit / 64)) (1 * 2 ^ (bit % 64) % 2 ^ 64))) ≡ insert (set_of n ws) bit
-insert_bit n ws bit is_repr below = insert_at n ws (bit / 64) (bit % 64) is_repr (omega (arith, below)) (omega arith) ∙ ap (insert (set_of n ws)) (at_word bit)
+    → let made = set ws (bit / 64) (bit_or (slice_index ws (bit / 64)) (1 * 2 ^ (bit % 64) % 2 ^ 64)) in (IsArrayRepr n made) × (set_of n made ≡ insert (set_of n ws) bit)
+insert_bit n ws bit is_repr below = (set_repr n ws (bit / 64) _ is_repr (omega (arith, below)) (or_lt 64 _ _ (is_repr.fit (bit / 64)) (small_bit (bit % 64))), insert_at n ws (bit / 64) (bit % 64) is_repr (omega (arith, below)) (omega arith) ∙ ap (insert (set_of n ws)) (at_word bit))
 
 remove_at : (n : ℕ) (ws : List ℕ) (i k : ℕ) → IsArrayRepr n ws → i < in_use n → k < 64 → set_of n (set ws i (bit_and (slice_index ws i) (bit_not w64 (bit_of k)))) ≡ remove (set_of n ws) (64 * i + k)
 remove_at n ws i k is_repr low small = set_at n ws i _ is_repr low (and_lt 64 _ _ (is_repr.fit i) (ones_sub-lt 64 (bit_of k))) (remove (set_of n ws) (64 * i + k))
@@ -89,13 +85,9 @@ remove_at n ws i k is_repr low small = set_at n ws i _ is_repr low (and_lt 64 _ 
     ∙ (λ j. not (sym (same_bit i b k) j) && sym (contains-set_of n ws i b is_repr under) j) ∙ sym (contains-remove _ (64 * i + k) (64 * i + b)))
     (λ w b apart under. sym (contains-remove _ (64 * i + k) (64 * w + b) ∙ ap (λ t. not t && contains (set_of n ws) (64 * w + b)) (other_word i w b k apart under small)))
 
-pub remove_bit_repr : (n : ℕ) (ws : List ℕ) (bit : ℕ) → IsArrayRepr n ws → bit < 64 * in_use n
-    → IsArrayRepr n (set ws (bit / 64) (bit_and (slice_index ws (bit / 64)) (bit_not w64 (1 * 2 ^ (bit % 64) % 2 ^ 64))))
-remove_bit_repr n ws bit is_repr below = set_repr n ws (bit / 64) _ is_repr (omega (arith, below)) (and_lt 64 _ _ (is_repr.fit (bit / 64)) (ones_sub-lt 64 (bit_of (bit % 64))))
-
 pub remove_bit : (n : ℕ) (ws : List ℕ) (bit : ℕ) → IsArrayRepr n ws → bit < 64 * in_use n
-    → set_of n (set ws (bit / 64) (bit_and (slice_index ws (bit / 64)) (bit_not w64 (1 * 2 ^ (bit % 64) % 2 ^ 64)))) ≡ remove (set_of n ws) bit
-remove_bit n ws bit is_repr below = remove_at n ws (bit / 64) (bit % 64) is_repr (omega (arith, below)) (omega arith) ∙ ap (remove (set_of n ws)) (at_word bit)
+    → let made = set ws (bit / 64) (bit_and (slice_index ws (bit / 64)) (bit_not w64 (1 * 2 ^ (bit % 64) % 2 ^ 64))) in (IsArrayRepr n made) × (set_of n made ≡ remove (set_of n ws) bit)
+remove_bit n ws bit is_repr below = (set_repr n ws (bit / 64) _ is_repr (omega (arith, below)) (and_lt 64 _ _ (is_repr.fit (bit / 64)) (ones_sub-lt 64 (bit_of (bit % 64)))), remove_at n ws (bit / 64) (bit % 64) is_repr (omega (arith, below)) (omega arith) ∙ ap (remove (set_of n ws)) (at_word bit))
 
 pub test_bit : (n : ℕ) (ws : List ℕ) (bit : ℕ) → IsArrayRepr n ws
     → not (bit_and (slice_index ws (bit / 64)) (1 * 2 ^ (bit % 64) % 2 ^ 64) == 0) ≡ contains (set_of n ws) bit
@@ -105,37 +97,20 @@ test_bit n ws bit is_repr =
 
 -- ---- one word
 
-in_this : (i b width : ℕ) (s : Bool) → b < 64 → 64 * i + b < width → (x : Bool) → x ≡ ((s && not (is_in_word i (64 * i + b))) || ((nat_le (64 * i) (64 * i + b) && x) && nat_lt (64 * i + b) width))
-in_this i b width s small below x =
-    let yes : is_in_word i (64 * i + b) ≡ true = grind (arith, nat_tests, small) in
-    let from : nat_le (64 * i) (64 * i + b) ≡ true = grind (arith, nat_tests) in
-    sym ((λ j. (s && not (yes j)) || ((from j && x) && lt-ltb _ _ below j)) ∙ plain s x)
-  where
-    plain : (s x : Bool) → ((s && false) || (x && true)) ≡ x
-    plain true true = refl
-    plain true false = refl
-    plain false true = refl
-    plain false false = refl
+in_this : (i b width : ℕ) (s x : Bool) → b < 64 → 64 * i + b < width → x ≡ ((s && not (is_in_word i (64 * i + b))) || ((nat_le (64 * i) (64 * i + b) && x) && nat_lt (64 * i + b) width))
+in_this i b width s x small below = grind (arith, nat_tests)
 
 in_other : (i w b width m : ℕ) (s : Bool) → w ≢ i → b < 64 → m < 2 ^ 64
     → s ≡ ((s && not (is_in_word i (64 * w + b))) || ((nat_le (64 * i) (64 * w + b) && contains (bits m) (64 * w + b - 64 * i)) && nat_lt (64 * w + b) width))
 in_other i w b width m s apart small fits =
-    let no : is_in_word i (64 * w + b) ≡ false = grind (arith, nat_tests, small, apart) in
-    sym ((λ j. (s && not (no j)) || (none (cases_lt w i) j && nat_lt (64 * w + b) width)) ∙ plain s)
-  where
-    none : (w < i) ⊎ (i ≤ w) → (nat_le (64 * i) (64 * w + b) && contains (bits m) (64 * w + b - 64 * i)) ≡ false
-    none (inl before) = let under : nat_le (64 * i) (64 * w + b) ≡ false = grind (arith, nat_tests, small, before) in ap (λ t. t && contains (bits m) (64 * w + b - 64 * i)) under
-    none (inr from) = ap (λ t. nat_le (64 * i) (64 * w + b) && t) (contains-bits_above m 64 _ fits (omega (arith, apart, from))) ∙ and-false _
-
-    plain : (s : Bool) → ((s && true) || false) ≡ s
-    plain true = refl
-    plain false = refl
+    let above : 64 * i ≤ 64 * w + b → contains (bits m) (64 * w + b - 64 * i) ≡ false = λ from. contains-bits_above m 64 _ fits (omega (arith, apart, from)) in
+    grind (arith, nat_tests, above)
 
 pub put_word : (n : ℕ) (ws : List ℕ) (i x : ℕ) → IsArrayRepr n ws → i < in_use n → x < 2 ^ 64 → set_of n (set ws i x) ≡ with_word (set_of n ws) (64 * in_use n) i x
 put_word n ws i x is_repr low fits = set_at n ws i x is_repr low fits (with_word (set_of n ws) (64 * in_use n) i x)
     (λ b under.
     let at : 64 * i + b - 64 * i ≡ b = omega arith in
-    in_this i b (64 * in_use n) (contains (set_of n ws) (64 * i + b)) under (omega (arith, low, under)) (contains (bits x) b)
+    in_this i b (64 * in_use n) (contains (set_of n ws) (64 * i + b)) (contains (bits x) b) under (omega (arith, low, under))
     ∙ (λ j. (contains (set_of n ws) (64 * i + b) && not (is_in_word i (64 * i + b))) || ((nat_le (64 * i) (64 * i + b) && contains (bits x) (sym at j)) && nat_lt (64 * i + b) (64 * in_use n)))
     ∙ sym (contains-with_word _ _ i x (64 * i + b)))
     (λ w b apart under. in_other i w b (64 * in_use n) x _ apart under fits ∙ sym (contains-with_word _ _ i x (64 * w + b)))

@@ -2,28 +2,27 @@ use Rattle.std.proofs.Common.{rules, ◌≡◌, ◌+◌, ◌-◌, ◌*◌, ◌<�
 use Rattle.enumset_repr.specs.BitSet.{ascending, remove}
 use Rattle.enumset_repr.specs.Words.{bits_of}
 use Rattle.enumset_array.proofs.Covers.{covers_down}
-use Rattle.enumset_array.proofs.BitTakenOut.{step_last, step_last_set, none_left}
+use Rattle.enumset_array.proofs.EndTakenOut.{taken_last, last_is_greatest}
+use Rattle.enumset_array.proofs.BitTakenOut.{low_bit, taken_set, greatest_taken, none_left}
 use Rattle.enumset_array.proofs.cursors.step_back.Goals as goal
 
 pub overflow_add-result : goal.overflow_add-result
 overflow_add-result g c =
     let within : c.loop-back.back - 1 < length (g.R.Row.words c.loop-back.row) = omega (arith, c.loop-back.invariant.covers.within) in
-    let small : c.in-Some.bit < 64 = (step_last_set _ _ _ _ c.in-Some.ensures.are_words.fit within c.in-Some.ensures.others c.in-Some.ensures.taken).0 in
+    let small : c.in-Some.bit < 64 = low_bit _ _ _ _ c.in-Some.ensures.are_words.fit within c.in-Some.ensures.others (taken_last _ _ _ c.in-Some.ensures.taken) in
     omega (arith, c.in-Some.ensures.are_words.limit)
 
 pub returns-in-Some-clause-item : goal.returns-in-Some-clause-item
 returns-in-Some-clause-item g c =
     let within : c.loop-back.back - 1 < length (g.R.Row.words c.loop-back.row) = omega (arith, c.loop-back.invariant.covers.within) in
     ap (λ ws. ascending (bits_of ws)) (sym c.loop-back.invariant.same)
-    ∙ step_last _ _ _ _ c.in-Some.ensures.are_words.fit within c.in-Some.ensures.others (λ j past. c.loop-back.invariant.covers.past j (omega arith)) c.in-Some.ensures.taken
+    ∙ greatest_taken _ _ _ _ c.in-Some.ensures.are_words.fit within c.in-Some.ensures.others (taken_last _ _ _ c.in-Some.ensures.taken) (last_is_greatest _ _ _ c.in-Some.ensures.taken) (λ j past. c.loop-back.invariant.covers.past j (omega arith))
 
 pub returns-in-Some-clause-words : goal.returns-in-Some-clause-words
 returns-in-Some-clause-words g c =
     let within : c.loop-back.back - 1 < length (g.R.Row.words c.loop-back.row) = omega (arith, c.loop-back.invariant.covers.within) in
     record {
-      set =
-          (step_last_set _ _ _ _ c.in-Some.ensures.are_words.fit within c.in-Some.ensures.others c.in-Some.ensures.taken).1
-          ∙ ap (λ ws. remove (bits_of ws) (64 * (c.loop-back.back - 1) + c.in-Some.bit)) c.loop-back.invariant.same;
+      set = taken_set _ _ _ _ c.in-Some.ensures.are_words.fit within c.in-Some.ensures.others (taken_last _ _ _ c.in-Some.ensures.taken) ∙ ap (λ ws. remove (bits_of ws) (64 * (c.loop-back.back - 1) + c.in-Some.bit)) c.loop-back.invariant.same;
       len = ap length c.in-Some.ensures.others ∙ length-set _ _ _ ∙ ap length c.loop-back.invariant.same;
     }
 

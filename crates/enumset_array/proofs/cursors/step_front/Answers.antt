@@ -2,28 +2,27 @@ use Rattle.std.proofs.Common.{rules, ◌≡◌, ◌+◌, ◌*◌, ◌<◌, [], l
 use Rattle.enumset_repr.specs.BitSet.{ascending, remove}
 use Rattle.enumset_repr.specs.Words.{bits_of}
 use Rattle.enumset_array.proofs.Covers.{covers_next}
-use Rattle.enumset_array.proofs.BitTakenOut.{step_first, step_first_set, none_left}
+use Rattle.enumset_array.proofs.EndTakenOut.{taken_first, first_is_least}
+use Rattle.enumset_array.proofs.BitTakenOut.{low_bit, taken_set, least_taken, none_left}
 use Rattle.enumset_array.proofs.cursors.step_front.Goals as goal
 
 pub overflow_add-result : goal.overflow_add-result
 overflow_add-result g c =
     let within : c.loop-front.front < length (g.R.Row.words c.loop-front.row) = omega (arith, c.loop-front.invariant.covers.within) in
-    let small : c.in-Some.bit < 64 = (step_first_set _ _ _ _ c.in-Some.ensures.are_words.fit within c.in-Some.ensures.others c.in-Some.ensures.taken).0 in
+    let small : c.in-Some.bit < 64 = low_bit _ _ _ _ c.in-Some.ensures.are_words.fit within c.in-Some.ensures.others (taken_first _ _ _ c.in-Some.ensures.taken) in
     omega (arith, c.in-Some.ensures.are_words.limit)
 
 pub returns-in-Some-clause-item : goal.returns-in-Some-clause-item
 returns-in-Some-clause-item g c =
     let within : c.loop-front.front < length (g.R.Row.words c.loop-front.row) = omega (arith, c.loop-front.invariant.covers.within) in
     ap (λ ws. ascending (bits_of ws)) (sym c.loop-front.invariant.same)
-    ∙ step_first _ _ _ _ c.in-Some.ensures.are_words.fit within c.in-Some.ensures.others c.loop-front.invariant.covers.before c.in-Some.ensures.taken
+    ∙ least_taken _ _ _ _ c.in-Some.ensures.are_words.fit within c.in-Some.ensures.others (taken_first _ _ _ c.in-Some.ensures.taken) (first_is_least _ _ _ c.in-Some.ensures.taken) c.loop-front.invariant.covers.before
 
 pub returns-in-Some-clause-words : goal.returns-in-Some-clause-words
 returns-in-Some-clause-words g c =
     let within : c.loop-front.front < length (g.R.Row.words c.loop-front.row) = omega (arith, c.loop-front.invariant.covers.within) in
     record {
-      set =
-          (step_first_set _ _ _ _ c.in-Some.ensures.are_words.fit within c.in-Some.ensures.others c.in-Some.ensures.taken).1
-          ∙ ap (λ ws. remove (bits_of ws) (64 * c.loop-front.front + c.in-Some.bit)) c.loop-front.invariant.same;
+      set = taken_set _ _ _ _ c.in-Some.ensures.are_words.fit within c.in-Some.ensures.others (taken_first _ _ _ c.in-Some.ensures.taken) ∙ ap (λ ws. remove (bits_of ws) (64 * c.loop-front.front + c.in-Some.bit)) c.loop-front.invariant.same;
       len = ap length c.in-Some.ensures.others ∙ length-set _ _ _ ∙ ap length c.loop-front.invariant.same;
     }
 
