@@ -9,6 +9,7 @@ use Rattle.enumset_repr.specs.Laws.Ascending.{ascending-first, ascending-last, a
 use Rattle.enumset_array.specs.Cursors.{Reach, Covers}
 use Rattle.enumset_repr.specs.Words.{bits_of}
 use Rattle.enumset_repr.specs.Laws.WordLists.{contains-bits_of, by_word, contains-zero, same_place, bits_of-zeros}
+use Rattle.enumset_array.proofs.ReplacedWord.{at_or_apart}
 use Rattle.enumset_array.proofs.EndTakenOut.{IsTaken, rest_of_taken, was_there, taken_small, taken_below}
 
 -- ---- a bit taken out of the word at i
@@ -19,10 +20,7 @@ module _ (ws vs : List ℕ) (i b : ℕ) (fit : (j : ℕ) → slice_index ws j < 
   same_word j apart = ap (λ xs. slice_index xs j) others ∙ get_or-set_other ws i j (slice_index vs i) 0 apart
 
   pub taken_fit : (j : ℕ) → slice_index vs j < 2 ^ 64
-  taken_fit j = elim (j == i) as (λ t. (j == i) ≡ t → slice_index vs j < 2 ^ 64) [
-    | true ↦ λ e. let here : i ≡ j = grind (arith, nat_tests, e) in subst (λ k. slice_index vs k < 2 ^ 64) here (taken_small (slice_index ws i) (slice_index vs i) 64 b (fit i) taken)
-    | false ↦ λ e. let apart : j ≢ i = grind (arith, nat_tests, e) in subst (λ n. n < 2 ^ 64) (sym (same_word j apart)) (fit j)
-  ] refl
+  taken_fit = at_or_apart (λ j. slice_index vs j < 2 ^ 64) i (taken_small (slice_index ws i) (slice_index vs i) 64 b (fit i) taken) (λ j apart. subst (λ n. n < 2 ^ 64) (sym (same_word j apart)) (fit j))
 
   pub low_bit : b < 64
   low_bit = taken_below (slice_index ws i) (slice_index vs i) 64 b (fit i) taken

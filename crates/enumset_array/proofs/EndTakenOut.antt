@@ -16,10 +16,7 @@ pub record IsTaken (s : BitSet) (b : ℕ) (t : BitSet) : Type 0 where
   pub gone : contains t b ≡ false
 
 taken_test : (q b : ℕ) (x : Bool) → ((q == b) ≡ true → x ≡ false) → x ≡ (not (q == b) && ((q == b) || x))
-taken_test q b x h = elim (q == b) as (λ t. (t ≡ true → x ≡ false) → x ≡ (not t && (t || x))) [
-  | true ↦ λ k. k refl
-  | false ↦ λ k. refl
-] h
+taken_test q b x h = grind (arith, nat_tests, h)
 
 pub rest_of_taken : (s t : BitSet) (b : ℕ) → IsTaken s b t → t ≡ remove s b
 rest_of_taken s t b taken = same_set t (remove s b) (λ q.

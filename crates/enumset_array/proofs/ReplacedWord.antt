@@ -26,6 +26,13 @@ set_past n ws i x low past = ap (list_all (λ w. w == 0)) (drop-set-lt (in_use n
 pub in_use-le : (n : ℕ) → in_use n ≤ n
 in_use-le n = omega arith
 
+-- what holds of one place, and of each other, holds of all
+pub at_or_apart : (P : ℕ → Type 0) (i : ℕ) → P i → ((j : ℕ) → j ≢ i → P j) → (j : ℕ) → P j
+at_or_apart P i here apart j = elim (j == i) as (λ t. (j == i) ≡ t → P j) [
+  | true ↦ λ e. let same : i ≡ j = grind (arith, nat_tests, e) in subst P same here
+  | false ↦ λ e. apart j (grind (arith, nat_tests, e))
+] refl
+
 module _ (n : ℕ) (ws : List ℕ) (i x : ℕ) (is_repr : IsArrayRepr n ws) (low : i < in_use n) (fits : x < 2 ^ 64) where
   placed : slice_index (set ws i x) i ≡ x
   placed = get_or-set_same ws i x 0 (omega (arith, low, in_use-le n, is_repr.long))
@@ -36,22 +43,16 @@ module _ (n : ℕ) (ws : List ℕ) (i x : ℕ) (is_repr : IsArrayRepr n ws) (low
   pub set_repr : IsArrayRepr n (set ws i x)
   set_repr = record {
     long = length-set ws i x ∙ is_repr.long;
-    fit = λ k. elim (k == i) as (λ t. (k == i) ≡ t → slice_index (set ws i x) k < 2 ^ 64) [
-      | true ↦ λ e. let here : i ≡ k = grind (arith, nat_tests, e) in subst (λ j. slice_index (set ws i x) j < 2 ^ 64) here (subst (λ y. y < 2 ^ 64) (sym placed) fits)
-      | false ↦ λ e. let apart : k ≢ i = grind (arith, nat_tests, e) in subst (λ y. y < 2 ^ 64) (sym (kept k apart)) (is_repr.fit k)
-    ] refl;
+    fit = at_or_apart (λ k. slice_index (set ws i x) k < 2 ^ 64) i (subst (λ y. y < 2 ^ 64) (sym placed) fits) (λ k apart. subst (λ y. y < 2 ^ 64) (sym (kept k apart)) (is_repr.fit k));
     past = set_past n ws i x low is_repr.past;
   }
 
   -- the set, by its bits in that word and elsewhere
   pub set_at : (s : BitSet) → ((b : ℕ) → b < 64 → contains (bits x) b ≡ contains s (64 * i + b))
       → ((w b : ℕ) → w ≢ i → b < 64 → contains (set_of n ws) (64 * w + b) ≡ contains s (64 * w + b)) → set_of n (set ws i x) ≡ s
-  set_at s here elsewhere = set_is n (set ws i x) s set_repr (λ w b small. elim (w == i) as (λ t. (w == i) ≡ t → contains (bits (slice_index (set ws i x) w)) b ≡ contains s (64 * w + b)) [
-    | true ↦ λ e. let place : i ≡ w = grind (arith, nat_tests, e) in
-        subst (λ j. contains (bits (slice_index (set ws i x) j)) b ≡ contains s (64 * j + b)) place (ap (λ y. contains (bits y) b) placed ∙ here b small)
-    | false ↦ λ e. let apart : w ≢ i = grind (arith, nat_tests, e) in
-        ap (λ y. contains (bits y) b) (kept w apart) ∙ sym (contains-set_of n ws w b is_repr small) ∙ elsewhere w b apart small
-  ] refl)
+  set_at s here elsewhere = set_is n (set ws i x) s set_repr (at_or_apart (λ w. (b : ℕ) → b < 64 → contains (bits (slice_index (set ws i x) w)) b ≡ contains s (64 * w + b)) i
+      (λ b small. ap (λ y. contains (bits y) b) placed ∙ here b small)
+      (λ w apart b small. ap (λ y. contains (bits y) b) (kept w apart) ∙ sym (contains-set_of n ws w b is_repr small) ∙ elsewhere w b apart small))
 
 same_bit : (i b k : ℕ) → (64 * i + b == 64 * i + k) ≡ (b == k)
 same_bit i b k = grind (arith, nat_tests)

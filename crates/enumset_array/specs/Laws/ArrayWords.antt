@@ -10,7 +10,7 @@
 --     equal      lists of words are equal exactly if their sets are
 --     same_words-IsEquivalence, same_words-IsPartialEquivalence      having the same words is an equivalence
 --     width_words      there are as many words as the width needs
-use Rattle.std.proofs.Common.{◌≡◌, ◌<◌, ◌≤◌, ◌⊎◌, inl, inr, ℕ, ◌+◌, ◌-◌, ◌*◌, ◌/◌, ◌^◌, true, List, take, drop, sym, ap, ◌∙◌, subst, arith, ◌↔◌, true≢false, lit<}
+use Rattle.std.proofs.Common.{◌≡◌, ◌<◌, ◌≤◌, ◌⊎◌, inl, inr, ℕ, ◌+◌, ◌-◌, ◌*◌, ◌/◌, ◌^◌, true, List, length, take, drop, sym, ap, ◌∙◌, subst, arith, ◌↔◌, true≢false, lit<}
 use Rattle.std.specs.Prelude.{◌==◌, IsTrue, nat_eq, nat_lt, slice_index, replicate}
 use Rattle.std.specs.List.{list_all}
 use Rattle.std.specs.Cmp.Lexicographic.{pointwise, same_text}
@@ -23,7 +23,7 @@ use Rattle.enumset_repr.specs.Number.{bits}
 use Rattle.enumset_repr.specs.Words.{word, words}
 use Rattle.enumset_repr.specs.Laws.Members.{same_set, contains-below, contains-empty, contains-is_subset}
 use Rattle.enumset_array.specs.ArrayWords.{in_use, words_in_use, set_of, is_empty_past, IsArrayRepr}
-use Rattle.enumset_repr.specs.Laws.WordLists.{contains-bits_of, by_word, contains-zero, word-bits_of, words-bits_of, word-empty}
+use Rattle.enumset_repr.specs.Laws.WordLists.{bits_of-within, contains-bits_of, by_word, contains-zero, word-bits_of, words-bits_of, word-empty}
 use Rattle.enumset_array.specs.Laws.Zeros.{each_zero, all_zero, none_at, all_none}
 
 pub past_is : (n : ℕ) (ws : List ℕ) (w : ℕ) → IsTrue (is_empty_past n ws) → in_use n ≤ w → slice_index ws w ≡ 0
@@ -61,11 +61,9 @@ pub inverse : (n : ℕ) (ws : List ℕ) → IsArrayRepr n ws → words (set_of n
 inverse n ws is_repr = ap (words (set_of n ws)) (sym is_repr.long) ∙ words-bits_of (words_in_use n ws) ws (used_fit n ws is_repr) (λ w. used_is n ws w is_repr.past)
 
 pub within : (n : ℕ) (ws : List ℕ) → IsArrayRepr n ws → IsTrue (is_subset (set_of n ws) (below (64 * in_use n)))
-within n ws is_repr = contains-is_subset _ _ (by_word (λ q. contains (set_of n ws) q ≡ true → contains (below (64 * in_use n)) q ≡ true) (λ w b small one. contains-below _ _ ∙ at w b small one (cases_lt w (in_use n))))
-  where
-    at : (w b : ℕ) → b < 64 → contains (set_of n ws) (64 * w + b) ≡ true → (w < in_use n) ⊎ (in_use n ≤ w) → nat_lt (64 * w + b) (64 * in_use n) ≡ true
-    at w b small one (inl low) = lt-ltb _ _ (omega (arith, low, small))
-    at w b small one (inr past) = absurd (true≢false (sym one ∙ contains-set_of n ws w b is_repr small ∙ contains-zero _ b (past_is n ws w is_repr.past past)))
+within n ws is_repr =
+    let long : length (words_in_use n ws) ≡ in_use n = omega (arith, length-take (in_use n) ws, is_repr.long) in
+    subst (λ m. IsTrue (is_subset (set_of n ws) (below (64 * m)))) long (bits_of-within (words_in_use n ws) (used_fit n ws is_repr))
 
 -- ---- no bits
 

@@ -5,15 +5,8 @@ use Rattle.std.proofs.lemmas.Slice.Zip.{zip_turn, zip_end}
 use Rattle.std.specs.Prelude.{◌==◌, slice_index}
 use Rattle.std.specs.Simd.{first_chunks}
 use Rattle.std.specs.Simd.Lanes.{zip2, chunk}
-use Rattle.enumset_array.proofs.WordLanes.{none_in, chunk_at, chunk-zip2, lanes_none, joined_none, one_none}
+use Rattle.enumset_array.proofs.WordLanes.{none_in, chunk_here, chunk-zip2, lanes_none, joined_none, one_none}
 use Rattle.enumset_array.proofs.lanes.any_of.Goals as goal
-
--- the chunk that an iteration has
-chunk_here : (ws : List ℕ) (chunks : List (List ℕ)) (chunk_now : List ℕ) (k : ℕ) → chunks ≡ first_chunks 4 (length ws / 4) ws → length chunks ≡ length ws / 4 → k < length chunks → chunk_now ≡ get_or chunks k []
-    → (chunk_now ≡ chunk (4 * k) 4 ws) × (length chunk_now ≡ 4)
-chunk_here ws chunks chunk_now k front long low is =
-    let here : chunk_now ≡ chunk (4 * k) 4 ws = is ∙ ap (λ cs. get_or cs k []) front ∙ chunk_at 4 _ k ws (omega (arith, low, long)) in
-    (here, ap length here ∙ length-chunk (4 * k) 4 ws (omega (arith, low, long)))
 
 pub on_lanes-lanes-requires : goal.on_lanes-lanes-requires
 on_lanes-lanes-requires g c =

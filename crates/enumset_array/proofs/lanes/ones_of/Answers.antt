@@ -1,21 +1,19 @@
-use Rattle.std.proofs.Common.{◌≡◌, ◌<◌, ◌+◌, ◌*◌, ◌/◌, [], ◌∙◌, length, get_or, sym, ap, arith, rules}
+use Rattle.std.proofs.Common.{◌≡◌, ◌<◌, ◌+◌, ◌*◌, ◌/◌, [], ◌∙◌, length, get_or, refl, sym, ap, arith, rules}
 use Rattle.std.specs.Int.RustNames.{count_ones}
 use Rattle.std.specs.Prelude.{slice_index}
 use Rattle.std.specs.Simd.Lanes.{chunk}
 use Rattle.std.proofs.lemmas.List.{take_all, get_or-drop}
 use Rattle.std.proofs.lemmas.Simd.{length-chunk}
 use Rattle.enumset_array.proofs.RowWords.{bits_in, one_more, four_ones, four_more}
-use Rattle.enumset_array.proofs.WordLanes.{chunk_at}
+use Rattle.enumset_array.proofs.WordLanes.{chunk_here}
 use Rattle.enumset_array.proofs.lanes.ones_of.Goals as goal
 
 pub loop-a-preserved : goal.loop-a-preserved
 loop-a-preserved c =
     let i = 4 * c.loop-a.a-index in
-    let low : c.loop-a.a-index < length c.args.words.now / 4 = omega (arith, c.as_chunks.ensures.front_len) in
-    let here : get_or c.as_chunks.result.0.now c.loop-a.a-index [] ≡ chunk i 4 c.args.words.now = ap (λ cs. get_or cs c.loop-a.a-index []) c.as_chunks.ensures.front ∙ chunk_at 4 _ c.loop-a.a-index c.args.words.now low in
-    let four : length (get_or c.as_chunks.result.0.now c.loop-a.a-index []) ≡ 4 = ap length here ∙ length-chunk i 4 c.args.words.now (omega arith) in
+    let chunk = chunk_here c.args.words.now c.as_chunks.result.0.now _ c.loop-a.a-index c.as_chunks.ensures.front c.as_chunks.ensures.front_len c.loop-a-test.true refl in
     record {
-      counted = (λ j. c.loop-a.invariant.counted j + (sym (four_ones (get_or c.as_chunks.result.0.now c.loop-a.a-index []) four) ∙ ap bits_in here) j)
+      counted = (λ j. c.loop-a.invariant.counted j + (sym (four_ones (get_or c.as_chunks.result.0.now c.loop-a.a-index []) chunk.1) ∙ ap bits_in chunk.0) j)
           ∙ sym (four_more c.args.words.now i (4 * (c.loop-a.a-index + 1)) (omega arith));
       small = search rules;
     }
