@@ -1,7 +1,8 @@
 -- The set of a list of words after a bit was taken out of one word.
-use Rattle.std.proofs.Common.{◌≡◌, ◌<◌, ◌≤◌, ◌≢◌, ℕ, ◌+◌, ◌*◌, ◌^◌, true, false, ◌&&◌, ◌||◌, List, [], ◌∷◌, ◌++◌, length, set, refl, sym, ap, ◌∙◌, subst, arith, lit<}
+use Rattle.std.proofs.Common.{◌≡◌, ◌<◌, ◌≤◌, ◌≢◌, ℕ, ◌+◌, ◌*◌, ◌^◌, inl, inr, true, false, ◌&&◌, ◌||◌, List, [], ◌∷◌, ◌++◌, length, set, refl, sym, ap, ◌∙◌, subst, arith, lit<}
 use Rattle.std.proofs.lemmas.List.{get_or-set_other}
 use Rattle.std.specs.Prelude.{◌==◌, nat_lt, slice_index}
+use Rattle.std.proofs.lemmas.Bool.{cases_lt, eq-eqb}
 use Rattle.std.proofs.lemmas.Bool.Decides.{nat_tests}
 use Rattle.enumset_repr.specs.BitSet.{contains, ascending, remove}
 use Rattle.enumset_repr.specs.Number.{bits}
@@ -28,11 +29,9 @@ module _ (ws vs : List ℕ) (i b : ℕ) (fit : (j : ℕ) → slice_index ws j < 
   taken_at : (w r : ℕ) → r < 64 → contains (bits_of ws) (64 * w + r) ≡ (((64 * w + r) == (64 * i + b)) || contains (bits_of vs) (64 * w + r))
   taken_at w r small =
       contains-bits_of ws w r fit small
-      ∙ elim (w == i) as (λ t. (w == i) ≡ t → contains (bits (slice_index ws w)) r ≡ ((t && (r == b)) || contains (bits (slice_index vs w)) r)) [
-        | true ↦ λ e. let here : i ≡ w = grind (arith, nat_tests, e) in
-            subst (λ k. contains (bits (slice_index ws k)) r ≡ ((r == b) || contains (bits (slice_index vs k)) r)) here (taken.was r)
-        | false ↦ λ e. let apart : w ≢ i = grind (arith, nat_tests, e) in ap (λ n. contains (bits n) r) (sym (same_word w apart))
-      ] refl
+      ∙ at_or_apart (λ k. contains (bits (slice_index ws k)) r ≡ (((k == i) && (r == b)) || contains (bits (slice_index vs k)) r)) i
+        (taken.was r ∙ ap (λ t. (t && (r == b)) || contains (bits (slice_index vs i)) r) (sym (eq-eqb i i refl)))
+        (λ k apart. let other : (k == i) ≡ false = grind (arith, nat_tests, apart) in ap (λ n. contains (bits n) r) (sym (same_word k apart)) ∙ ap (λ t. (t && (r == b)) || contains (bits (slice_index vs k)) r) (sym other)) w
       ∙ (λ k. sym (same_place i b w r low_bit small) k || sym (contains-bits_of vs w r taken_fit small) k)
 
   pub taken_of_words : IsTaken (bits_of ws) (64 * i + b) (bits_of vs)
@@ -47,11 +46,8 @@ module _ (ws vs : List ℕ) (i b : ℕ) (fit : (j : ℕ) → slice_index ws j < 
   -- no bit of this word is among the numbers of a kind, and no other word has one
   none_of : (Kind : ℕ → Type 0) → ((r : ℕ) → Kind (64 * i + r) → contains (bits (slice_index ws i)) r ≡ false) → ((w r : ℕ) → r < 64 → w ≢ i → Kind (64 * w + r) → slice_index ws w ≡ 0)
       → (q : ℕ) → Kind q → contains (bits_of ws) q ≡ false
-  none_of Kind here elsewhere = by_word (λ q. Kind q → contains (bits_of ws) q ≡ false) (λ w r small kind.
-      contains-bits_of ws w r fit small ∙ elim (w == i) as (λ t. (w == i) ≡ t → contains (bits (slice_index ws w)) r ≡ false) [
-        | true ↦ λ e. let place : w ≡ i = grind (arith, nat_tests, e) in ap (λ k. contains (bits (slice_index ws k)) r) place ∙ here r (subst (λ k. Kind (64 * k + r)) place kind)
-        | false ↦ λ e. contains-zero _ r (elsewhere w r small (grind (arith, nat_tests, e)) kind)
-      ] refl)
+  none_of Kind here elsewhere = by_word (λ q. Kind q → contains (bits_of ws) q ≡ false) (λ w r small kind. contains-bits_of ws w r fit small
+      ∙ at_or_apart (λ k. Kind (64 * k + r) → contains (bits (slice_index ws k)) r ≡ false) i (here r) (λ k apart other. contains-zero _ r (elsewhere k r small apart other)) w kind)
 
   -- the least bit of the first word that is not 0 is the least of all
   pub least_taken : ((r : ℕ) → r < b → contains (bits (slice_index ws i)) r ≡ false) → ((j : ℕ) → j < i → slice_index ws j ≡ 0) → ascending (bits_of ws) ≡ (64 * i + b) ∷ ascending (bits_of vs)
@@ -68,8 +64,8 @@ module _ (ws vs : List ℕ) (i b : ℕ) (fit : (j : ℕ) → slice_index ws j < 
 -- cursors that have met leave no item
 pub none_left : (ws : List ℕ) (c : Reach) → Covers ws c → c.back ≤ c.front → ascending (bits_of ws) ≡ []
 none_left ws c covers met =
-    let none : (i : ℕ) → slice_index ws i ≡ 0 = λ i. elim (nat_lt i c.front) as (λ t. nat_lt i c.front ≡ t → slice_index ws i ≡ 0) [
-      | true ↦ λ e. covers.before i (grind (arith, nat_tests, e))
-      | false ↦ λ e. let from : c.front ≤ i = grind (arith, nat_tests, e) in covers.past i (omega arith)
-    ] refl in
+    let none : (i : ℕ) → slice_index ws i ≡ 0 = λ i. elim (cases_lt i c.front) [
+      | inl before ↦ covers.before i before
+      | inr from ↦ covers.past i (omega arith)
+    ] in
     ap ascending (bits_of-zeros ws (λ i. subst (λ n. n < 2 ^ 64) (sym (none i)) (lit< tt)) none) ∙ ascending-empty

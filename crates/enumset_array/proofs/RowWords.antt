@@ -44,12 +44,6 @@ back_fits x y (Some b) fits last = taken_small x y 64 b fits (taken_last _ _ b l
 
 -- ---- the bits counted word by word
 
-few : (x : ℕ) → x < 2 ^ 64 → len (bits x) ≤ 64
-few x small = len-below (bits x) 64 (bits-within x 64 small)
-
-pub few_ones : (x : ℕ) → x < 2 ^ 64 → count_ones x ≤ 64
-few_ones x small = omega (arith, few x small, len-bits x)
-
 abbrev pub bits_in : List ℕ → ℕ
 bits_in ws = sum_by (λ w. len (bits w)) ws
 

@@ -19,10 +19,8 @@ pub(crate) trait WordOperation {
     fn on_words(a: u64, b: u64) -> u64
         ensures { result ≡ of_two a b };
 
-    /// The results for four pairs of words: each word of `a` with the word of `b` in the same place. The two must have
-    /// the same number of words, as any two `u64x4` do.
+    /// The results for four pairs of words: each word of `a` with the word of `b` in the same place.
     fn on_lanes(a: u64x4, b: u64x4) -> u64x4
-        requires { length a ≡ length b }
         ensures { result ≡ zip2 of_two a b };
 }
 

@@ -8,12 +8,6 @@ use Rattle.std.specs.Simd.Lanes.{zip2, chunk}
 use Rattle.enumset_array.proofs.WordLanes.{none_in, chunk_here, chunk-zip2, lanes_none, joined_none, one_none}
 use Rattle.enumset_array.proofs.lanes.any_of.Goals as goal
 
-pub on_lanes-lanes-requires : goal.on_lanes-lanes-requires
-on_lanes-lanes-requires g c =
-    let turn = zip_turn c.as_chunks.result.0.now c.as_chunks-2.result.0.now c.loop-chunk.yielded c.into_iter-chunk-iterator.result c.loop-chunk.chunk-iterator c.next.new.self c.next.result (cc) (cc) c.loop-chunk.yielded_by _ c.in-Some.is c.next.ensures.steps in
-    (chunk_here _ _ _ _ c.as_chunks.ensures.front c.as_chunks.ensures.front_len turn.0 (turn.2 [])).1
-    ∙ sym (chunk_here _ _ _ _ c.as_chunks-2.ensures.front c.as_chunks-2.ensures.front_len turn.1 (turn.3 [])).1
-
 pub loop-chunk-preserved : goal.loop-chunk-preserved
 loop-chunk-preserved g c =
     let op : ℕ → ℕ → ℕ = g.O.WordOperation.of_two in
@@ -27,18 +21,15 @@ loop-chunk-preserved g c =
     let four : c.on_lanes-lanes.result ≡ chunk (4 * k) 4 answers =
     c.on_lanes-lanes.ensures ∙ (λ i. zip2 op (first.0 i) (second.0 i)) ∙ sym (chunk-zip2 op (4 * k) 4 c.args.words.now c.args.others.now) in
     let within : 4 * (k + 1) ≤ length answers = omega (arith, long, turn.0, c.as_chunks.ensures.front_len) in
-    record {
-      four = length-zip2 bit_or c.loop-chunk.lanes _ (c.loop-chunk.invariant.four ∙ sym (ap length four ∙ length-chunk (4 * k) 4 answers (omega arith))) ∙ c.loop-chunk.invariant.four;
-      none = ap (λ ws. none_in (zip2 bit_or c.loop-chunk.lanes ws)) four
-          ∙ joined_none answers c.loop-chunk.lanes (4 * k) (4 * (k + 1)) (omega arith) within c.loop-chunk.invariant.four c.loop-chunk.invariant.none
-          ∙ sym (ap (λ n. none_in (take (4 * n) answers)) more);
-    }
+    ap (λ ws. none_in (zip2 bit_or c.loop-chunk.lanes ws)) four
+    ∙ joined_none answers c.loop-chunk.lanes (4 * k) (4 * (k + 1)) (omega arith) within c.loop-chunk.auto.lanes.0 c.loop-chunk.invariant
+    ∙ sym (ap (λ n. none_in (take (4 * n) answers)) more)
 
 pub loop-word-init : goal.loop-word-init
 loop-word-init g c =
     let ended = zip_end c.as_chunks.result.0.now c.as_chunks-2.result.0.now c.loop-chunk.yielded c.into_iter-chunk-iterator.result c.loop-chunk.chunk-iterator c.next.new.self c.next.result (cc) (cc) c.loop-chunk.yielded_by c.in-None.is c.next.ensures.steps in
     let done : 4 * length c.loop-chunk.yielded ≡ length c.args.words.now / 4 * 4 + 0 = omega (arith, ended, c.as_chunks.ensures.front_len, c.as_chunks-2.ensures.front_len, c.requires) in
-    lanes_none c.loop-chunk.lanes ∙ c.loop-chunk.invariant.none ∙ ap (λ k. none_in (take k (zip2 g.O.WordOperation.of_two c.args.words.now c.args.others.now))) done
+    lanes_none c.loop-chunk.lanes ∙ c.loop-chunk.invariant ∙ ap (λ k. none_in (take k (zip2 g.O.WordOperation.of_two c.args.words.now c.args.others.now))) done
 
 pub loop-word-preserved : goal.loop-word-preserved
 loop-word-preserved g c =
