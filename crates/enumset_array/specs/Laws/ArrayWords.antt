@@ -6,7 +6,7 @@
 --     word_is, inverse      the words of the set are the words
 --     within      each member is below 64 times the number of words in use
 --     repr_of_none, set_of_none      the words of the empty set are all 0
---     empty_iff, none_iff      the set is empty exactly if each word is 0;  exactly if the test of all words says so
+--     none_iff      the set is empty exactly if the test of all words says that each is 0
 --     equal      lists of words are equal exactly if their sets are
 --     same_words-IsEquivalence, same_words-IsPartialEquivalence      having the same words is an equivalence
 --     width_words      there are as many words as the width needs
@@ -74,20 +74,14 @@ repr_of_none n = record {
   past = ap (list_all (λ w. w == 0)) (drop-replicate (in_use n) n 0) ∙ all_none (n - in_use n);
 }
 
-pub empty_iff : (n : ℕ) (ws : List ℕ) → IsArrayRepr n ws → ((w : ℕ) → slice_index ws w ≡ 0) ↔ (set_of n ws ≡ empty)
-empty_iff n ws is_repr = (
-  λ none. set_is n ws empty is_repr (λ w b small. contains-zero _ b (none w) ∙ sym (contains-empty _)),
-  λ none w. sym (word_is n ws w is_repr) ∙ ap (λ s. word s w) none ∙ word-empty w,
-)
-
 pub none_iff : (n : ℕ) (ws : List ℕ) → IsArrayRepr n ws → IsTrue (list_all (λ w. w == 0) ws) ↔ (set_of n ws ≡ empty)
 none_iff n ws is_repr = (
-  λ none. (empty_iff n ws is_repr).0 (λ w. each_zero ws w none),
-  λ none. all_zero ws ((empty_iff n ws is_repr).1 none),
+  λ none. set_is n ws empty is_repr (λ w b small. contains-zero _ b (each_zero ws w none) ∙ sym (contains-empty _)),
+  λ none. all_zero ws (λ w. sym (word_is n ws w is_repr) ∙ ap (λ s. word s w) none ∙ word-empty w),
 )
 
 pub set_of_none : (n : ℕ) → set_of n (replicate n 0) ≡ empty
-set_of_none n = (empty_iff n _ (repr_of_none n)).0 (none_at n)
+set_of_none n = (none_iff n _ (repr_of_none n)).0 (all_none n)
 
 -- ---- equal words
 

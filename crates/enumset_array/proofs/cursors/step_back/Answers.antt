@@ -39,12 +39,6 @@ returns-in-Some-clause-asks g c = rw (← c.cursors.view_is) (record {
   stays = λ none. absurd (omega (arith, none, c.loop-back-test.true, c.loop-back.invariant.kept, c.loop-back.invariant.down_to));
 })
 
-pub returns-in-Some-clause-moves : goal.returns-in-Some-clause-moves
-returns-in-Some-clause-moves g c = rw (← c.cursors.view_is) (record { front = c.loop-back.invariant.kept; back = c.loop-back.invariant.down_to; within = omega (arith, c.loop-back.invariant.ordered, c.loop-back.invariant.kept) })
-
-pub returns-clause-words : goal.returns-clause-words
-returns-clause-words g c = record { set = ap bits_of c.loop-back.invariant.same; len = ap length c.loop-back.invariant.same }
-
 pub returns-clause-asks : goal.returns-clause-asks
 returns-clause-asks g c = rw (← c.cursors.view_is) (record {
   sum = omega (arith, c.loop-back.invariant.asks, c.loop-back.invariant.kept);
@@ -52,9 +46,6 @@ returns-clause-asks g c = rw (← c.cursors.view_is) (record {
   met = omega (arith, c.loop-back-test.false, c.loop-back.invariant.kept);
   stays = λ met. (refl, omega (arith, met, c.loop-back.invariant.asks, c.loop-back-test.false, c.loop-back.invariant.kept));
 })
-
-pub returns-clause-moves : goal.returns-clause-moves
-returns-clause-moves g c = rw (← c.cursors.view_is) (record { front = c.loop-back.invariant.kept; back = c.loop-back.invariant.down_to; within = omega (arith, c.loop-back.invariant.ordered, c.loop-back.invariant.kept) })
 
 pub loop-back-preserved : goal.loop-back-preserved
 loop-back-preserved g c = record {
@@ -65,15 +56,3 @@ loop-back-preserved g c = record {
   covers = covers_down _ _ _ _ c.loop-back.invariant.covers c.in-None.ensures.empty.0 c.in-None.ensures.empty.1;
   asks = omega (arith, c.in-None.ensures.counted, c.loop-back.invariant.asks, c.loop-back-test.true);
 }
-
-pub returns-in-Some-clause-covers : goal.returns-in-Some-clause-covers
-returns-in-Some-clause-covers g c = rw (c.loop-back.invariant.kept) (search rules)
-
-pub returns-clause-covers : goal.returns-clause-covers
-returns-clause-covers g c = rw (c.loop-back.invariant.kept) c.loop-back.invariant.covers
-
-pub invariant_of-cursors : goal.invariant_of-cursors
-invariant_of-cursors g c = omega (arith, c.loop-back.invariant.ordered, c.loop-back.invariant.kept)
-
-pub invariant_of-cursors-2 : goal.invariant_of-cursors-2
-invariant_of-cursors-2 g c = omega (arith, c.loop-back.invariant.ordered, c.loop-back.invariant.kept)

@@ -39,12 +39,6 @@ returns-in-Some-clause-asks g c = rw (← c.cursors.view_is) (record {
   stays = λ none. absurd (omega (arith, none, c.loop-front-test.true, c.loop-front.invariant.kept, c.loop-front.invariant.from));
 })
 
-pub returns-in-Some-clause-moves : goal.returns-in-Some-clause-moves
-returns-in-Some-clause-moves g c = rw (← c.cursors.view_is) (record { back = c.loop-front.invariant.kept; front = c.loop-front.invariant.from; within = omega (arith, c.loop-front.invariant.ordered, c.loop-front.invariant.kept) })
-
-pub returns-clause-words : goal.returns-clause-words
-returns-clause-words g c = record { set = ap bits_of c.loop-front.invariant.same; len = ap length c.loop-front.invariant.same }
-
 pub returns-clause-asks : goal.returns-clause-asks
 returns-clause-asks g c = rw (← c.cursors.view_is) (record {
   sum = omega (arith, c.loop-front.invariant.asks, c.loop-front.invariant.kept);
@@ -52,9 +46,6 @@ returns-clause-asks g c = rw (← c.cursors.view_is) (record {
   met = omega (arith, c.loop-front-test.false, c.loop-front.invariant.kept);
   stays = λ met. (refl, omega (arith, met, c.loop-front.invariant.asks, c.loop-front-test.false, c.loop-front.invariant.kept));
 })
-
-pub returns-clause-moves : goal.returns-clause-moves
-returns-clause-moves g c = rw (← c.cursors.view_is) (record { back = c.loop-front.invariant.kept; front = c.loop-front.invariant.from; within = omega (arith, c.loop-front.invariant.ordered, c.loop-front.invariant.kept) })
 
 pub loop-front-preserved : goal.loop-front-preserved
 loop-front-preserved g c = record {
@@ -65,15 +56,3 @@ loop-front-preserved g c = record {
   covers = covers_next _ _ _ _ c.loop-front.invariant.covers c.in-None.ensures.empty.0 c.in-None.ensures.empty.1;
   asks = omega (arith, c.in-None.ensures.counted, c.loop-front.invariant.asks, c.loop-front-test.true);
 }
-
-pub returns-in-Some-clause-covers : goal.returns-in-Some-clause-covers
-returns-in-Some-clause-covers g c = rw (c.loop-front.invariant.kept) (search rules)
-
-pub returns-clause-covers : goal.returns-clause-covers
-returns-clause-covers g c = rw (c.loop-front.invariant.kept) c.loop-front.invariant.covers
-
-pub invariant_of-cursors : goal.invariant_of-cursors
-invariant_of-cursors g c = omega (arith, c.loop-front.invariant.ordered, c.loop-front.invariant.kept)
-
-pub invariant_of-cursors-2 : goal.invariant_of-cursors-2
-invariant_of-cursors-2 g c = omega (arith, c.loop-front.invariant.ordered, c.loop-front.invariant.kept)
