@@ -6,10 +6,8 @@ ghost use Rattle.enumset_sets.specs.Elements.{one_past_greatest, valid_bits};
 
 use crate::element::EnumSetType;
 use crate::enum_set_iter::EnumSetIter;
-use crate::representation::{
-    are_same, has_no_member, intersection_of, symmetric_difference_of, union_of, valid_repr,
-};
-use enumset_repr::EnumSetTypeRepr;
+use crate::representation::valid_repr;
+use enumset_repr::{EnumSetTypeRepr, are_same};
 use std::alloc::AllocError;
 use std::fmt;
 use std::marker::{Model, PhantomData};
@@ -213,15 +211,14 @@ impl<T: EnumSetType> EnumSet<T> {
     pub fn is_empty(&self) -> bool
         ensures { result ≡ set.is_empty self.now }
     {
-        has_no_member(&self.repr)
+        self.repr.is_empty()
     }
 
     /// Removes all members.
     pub fn clear(&mut self)
         ensures { self.new ≡ set.empty }
     {
-        self.repr = T::Repr::EMPTY;
-        self.repr.learn_is_value();
+        *self = Self::new();
     }
 
     /// Whether an element is a member.
@@ -239,7 +236,6 @@ impl<T: EnumSetType> EnumSet<T> {
         let bit = bit_of_value(value);
         let is_absent = !self.repr.has_bit(bit);
         self.repr.add_bit(bit);
-        self.repr.learn_is_value();
         is_absent
     }
 
@@ -251,7 +247,6 @@ impl<T: EnumSetType> EnumSet<T> {
         let bit = bit_of_value(value);
         let is_present = self.repr.has_bit(bit);
         self.repr.remove_bit(bit);
-        self.repr.learn_is_value();
         is_present
     }
 
@@ -280,14 +275,14 @@ impl<T: EnumSetType> EnumSet<T> {
     pub fn union(&self, other: EnumSet<T>) -> EnumSet<T>
         ensures { result ≡ set.union self.now other }
     {
-        Self::of_repr(union_of(self.repr, other.repr))
+        Self::of_repr(self.repr | other.repr)
     }
 
     /// The members of both sets.
     pub fn intersection(&self, other: EnumSet<T>) -> EnumSet<T>
         ensures { result ≡ set.intersection self.now other }
     {
-        Self::of_repr(intersection_of(self.repr, other.repr))
+        Self::of_repr(self.repr & other.repr)
     }
 
     /// The members of this set that are not in `other`.
@@ -301,7 +296,7 @@ impl<T: EnumSetType> EnumSet<T> {
     pub fn symmetric_difference(&self, other: EnumSet<T>) -> EnumSet<T>
         ensures { result ≡ set.symmetric_difference self.now other }
     {
-        Self::of_repr(symmetric_difference_of(self.repr, other.repr))
+        Self::of_repr(self.repr ^ other.repr)
     }
 
     /// The members of exactly one of the two sets, under an older name.
@@ -326,7 +321,6 @@ impl<T: EnumSetType> EnumSet<T> {
         ensures { self.new ≡ set.union self.old other }
     {
         self.repr.or_with(&other.repr);
-        self.repr.learn_is_value();
     }
 
     /// Removes every member of `other`.
@@ -334,7 +328,6 @@ impl<T: EnumSetType> EnumSet<T> {
         ensures { self.new ≡ set.difference self.old other }
     {
         self.repr.and_not_with(&other.repr);
-        self.repr.learn_is_value();
     }
 
     /// An iterator over the elements, each once, ascending by bit, from both ends. Later changes to the set do not

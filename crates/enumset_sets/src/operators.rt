@@ -73,7 +73,6 @@ impl<T: EnumSetType> BitAndAssign for EnumSet<T> {
 
     fn bitand_assign(&mut self, rhs: EnumSet<T>) {
         self.repr.and_with(&rhs.repr);
-        self.repr.learn_is_value();
     }
 }
 
@@ -93,7 +92,6 @@ impl<T: EnumSetType> BitXorAssign for EnumSet<T> {
 
     fn bitxor_assign(&mut self, rhs: EnumSet<T>) {
         self.repr.xor_with(&rhs.repr);
-        self.repr.learn_is_value();
     }
 }
 

@@ -6,7 +6,7 @@ ghost use Rattle.enumset_repr.specs.Laws.Order.{compare-partial, compare-total, 
 
 use crate::element::EnumSetType;
 use crate::enum_set::EnumSet;
-use crate::representation::order_of;
+use enumset_repr::order_of;
 use std::cmp::Ordering;
 
 impl<T: EnumSetType> PartialOrd for EnumSet<T> {

@@ -8,7 +8,7 @@ ghost use Rattle.enumset_sets.specs.Elements.{valid_bits};
 
 use crate::element::EnumSetType;
 use crate::enum_set::EnumSet;
-use crate::representation::{intersection_of, valid_repr};
+use crate::representation::valid_repr;
 use enumset_repr::EnumSetTypeRepr;
 
 // Undoes a cut at the width: for each set s of valid bits whose members below the width are those of `taken`, the
@@ -26,7 +26,7 @@ pub(crate) fn exact_low<T: EnumSetType>(taken: T::Repr) -> EnumSet<T>
 pub(crate) fn truncated<T: EnumSetType>(repr: T::Repr) -> EnumSet<T>
     ensures { result ≡ set.intersection (T.Repr.members repr) (valid_bits T.elements) }
 {
-    EnumSet::of_repr(intersection_of(repr, valid_repr::<T>()))
+    EnumSet::of_repr(repr & valid_repr::<T>())
 }
 
 // For each set s whose members below the width are those of `taken`, the result has the valid members of s.
