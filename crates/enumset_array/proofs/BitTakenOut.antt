@@ -1,7 +1,7 @@
 -- The set of a list of words after a bit was taken out of one word.
-use Rattle.std.proofs.Common.{◌≡◌, ◌<◌, ◌≤◌, ◌≢◌, ℕ, ◌+◌, ◌*◌, ◌^◌, inl, inr, true, false, ◌&&◌, ◌||◌, List, [], ◌∷◌, ◌++◌, length, set, refl, sym, ap, ◌∙◌, subst, arith, lit<}
+use Rattle.std.proofs.Common.{◌≡◌, ◌<◌, ◌≤◌, ◌≢◌, ℕ, ◌+◌, ◌*◌, ◌^◌, inl, inr, false, ◌&&◌, ◌||◌, List, [], ◌∷◌, ◌++◌, length, set, refl, sym, ap, ◌∙◌, subst, arith, lit<}
 use Rattle.std.proofs.lemmas.List.{get_or-set_other}
-use Rattle.std.specs.Prelude.{◌==◌, nat_lt, slice_index}
+use Rattle.std.specs.Prelude.{◌==◌, slice_index}
 use Rattle.std.proofs.lemmas.Bool.{cases_lt, eq-eqb}
 use Rattle.std.proofs.lemmas.Bool.Decides.{nat_tests}
 use Rattle.enumset_repr.specs.BitSet.{contains, ascending, remove}
@@ -30,8 +30,8 @@ module _ (ws vs : List ℕ) (i b : ℕ) (fit : (j : ℕ) → slice_index ws j < 
   taken_at w r small =
       contains-bits_of ws w r fit small
       ∙ at_or_apart (λ k. contains (bits (slice_index ws k)) r ≡ (((k == i) && (r == b)) || contains (bits (slice_index vs k)) r)) i
-        (taken.was r ∙ ap (λ t. (t && (r == b)) || contains (bits (slice_index vs i)) r) (sym (eq-eqb i i refl)))
-        (λ k apart. let other : (k == i) ≡ false = grind (arith, nat_tests, apart) in ap (λ n. contains (bits n) r) (sym (same_word k apart)) ∙ ap (λ t. (t && (r == b)) || contains (bits (slice_index vs k)) r) (sym other)) w
+      (taken.was r ∙ ap (λ t. (t && (r == b)) || contains (bits (slice_index vs i)) r) (sym (eq-eqb i i refl)))
+      (λ k apart. let other : (k == i) ≡ false = grind (arith, nat_tests, apart) in ap (λ n. contains (bits n) r) (sym (same_word k apart)) ∙ ap (λ t. (t && (r == b)) || contains (bits (slice_index vs k)) r) (sym other)) w
       ∙ (λ k. sym (same_place i b w r low_bit small) k || sym (contains-bits_of vs w r taken_fit small) k)
 
   pub taken_of_words : IsTaken (bits_of ws) (64 * i + b) (bits_of vs)

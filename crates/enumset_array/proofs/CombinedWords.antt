@@ -1,19 +1,17 @@
 -- The words of an `ArrayRepr` made from those of others, word by word.
-use Rattle.std.proofs.Common.{◌≡◌, ◌<◌, ◌≤◌, ◌↔◌, ◌⊎◌, inl, inr, ℕ, ◌*◌, ◌+◌, ◌-◌, ◌^◌, not, ◌&&◌, List, length, sym, ap, ◌∙◌, subst, arith, w64, lit<}
+use Rattle.std.proofs.Common.{◌≡◌, ◌<◌, ◌≤◌, ◌↔◌, ◌⊎◌, inl, inr, ℕ, ◌*◌, ◌+◌, ◌-◌, ◌^◌, List, length, sym, ap, ◌∙◌, subst, arith}
 use Rattle.std.specs.Prelude.{◌==◌, slice_index, IsTrue, nat_lt}
 use Rattle.std.specs.List.{list_all}
-use Rattle.std.specs.Int.{bit_not}
-use Rattle.std.proofs.Math.Pow.{ones_sub-lt}
 use Rattle.std.proofs.lemmas.Bool.{cases_lt, lt-ltb, le-ltb}
 use Rattle.std.proofs.lemmas.List.{get_or_past}
 use Rattle.std.proofs.lemmas.Simd.{length-zip2, get_or-zip2}
 use Rattle.std.specs.Simd.Lanes.{zip2}
-use Rattle.enumset_repr.specs.BitSet.{BitSet, contains, empty, below, difference}
+use Rattle.enumset_repr.specs.BitSet.{BitSet, contains, empty, below}
 use Rattle.enumset_repr.specs.Number.{bits}
-use Rattle.enumset_repr.specs.Laws.Members.{contains-difference, contains-below}
-use Rattle.enumset_repr.specs.Laws.Numbers.{bits_full, bits-not}
+use Rattle.enumset_repr.specs.Laws.Members.{contains-below}
+use Rattle.enumset_repr.specs.Laws.Numbers.{bits_full}
 use Rattle.enumset_array.specs.Operations.{IsOnBits}
-use Rattle.enumset_array.specs.ArrayWords.{in_use, set_of, is_empty_past, IsArrayRepr}
+use Rattle.enumset_array.specs.ArrayWords.{in_use, set_of, IsArrayRepr}
 use Rattle.enumset_array.specs.Laws.ArrayWords.{contains-set_of, set_is, past_is, empty_past, none_iff}
 use Rattle.enumset_repr.specs.Laws.WordLists.{contains-zero}
 use Rattle.enumset_array.proofs.ReplacedWord.{in_use-le}

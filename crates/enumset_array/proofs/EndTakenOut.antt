@@ -1,14 +1,13 @@
 -- A set without its least or its greatest member, by the lists of the members.
-use Rattle.std.proofs.Common.{◌≡◌, ◌<◌, ◌≤◌, ℕ, suc, ◌^◌, Bool, true, false, not, ◌&&◌, ◌||◌, List, [], ◌∷◌, ◌++◌, refl, sym, ap, ◌∙◌, subst, arith, true≢false, inl, inr}
-use Rattle.std.specs.Prelude.{◌==◌, nat_lt}
-use Rattle.std.proofs.lemmas.Bool.{cases_lt, lt-ltb, eqb-true, eq-eqb, or_left, or_right}
+use Rattle.std.proofs.Common.{◌≡◌, ◌<◌, ◌≤◌, ℕ, suc, ◌^◌, Bool, true, false, not, ◌&&◌, ◌||◌, List, [], ◌∷◌, ◌++◌, refl, sym, ap, ◌∙◌, subst, arith}
+use Rattle.std.specs.Prelude.{◌==◌}
+use Rattle.std.proofs.lemmas.Bool.{eqb-true, eq-eqb, or_left}
 use Rattle.std.proofs.lemmas.Bool.Decides.{nat_tests}
 use Rattle.enumset_repr.specs.BitSet.{BitSet, is_in, contains, ascending, remove, below, is_subset}
 use Rattle.enumset_repr.specs.Number.{bits}
 use Rattle.enumset_repr.specs.Laws.Members.{same_set, contains-remove, contains-ascending, remove-is_subset, member_below}
 use Rattle.enumset_repr.specs.Laws.Ascending.{AscendsFrom, ascending-ascends, is_in-below, is_in-push}
 use Rattle.enumset_repr.specs.Laws.Numbers.{bits-within, number-bits, number-within}
-use Rattle.enumset_repr.specs.Laws.WordLists.{contains-bits_above}
 
 -- the members of s are b and those of t, and b is not in t
 pub record IsTaken (s : BitSet) (b : ℕ) (t : BitSet) : Type 0 where

@@ -1,5 +1,5 @@
 -- The words of a row after one of them was replaced, and the bits of words counted word by word.
-use Rattle.std.proofs.Common.{◌≡◌, ◌<◌, ◌≤◌, ℕ, ◌+◌, ◌^◌, List, [], ◌∷◌, ◌++◌, length, take, set, sym, ap, subst, ◌∙◌, arith, add-one, zero-add}
+use Rattle.std.proofs.Common.{◌≡◌, ◌<◌, ℕ, ◌+◌, ◌^◌, List, [], ◌∷◌, ◌++◌, length, take, set, sym, ap, subst, ◌∙◌, arith, add-one, zero-add}
 use Rattle.std.specs.Int.RustNames.{count_ones}
 use Rattle.std.specs.Prelude.{slice_index, sum_by, Option, Some, None, MatchOption}
 use Rattle.std.proofs.Math.Seq.{take-add, take-set-lt, take-suc}
@@ -8,8 +8,7 @@ use Rattle.std.proofs.lemmas.List.Sums.{sum_by-append}
 use Rattle.std.proofs.lemmas.List.{length-take, get_or-set_same}
 use Rattle.enumset_repr.specs.BitSet.{len, ascending}
 use Rattle.enumset_repr.specs.Number.{bits}
-use Rattle.enumset_repr.specs.Laws.Ascending.{len-below}
-use Rattle.enumset_repr.specs.Laws.Numbers.{bits-within, len-bits}
+use Rattle.enumset_repr.specs.Laws.Numbers.{len-bits}
 use Rattle.enumset_array.specs.ArrayWords.{in_use, words_in_use, IsArrayRepr}
 use Rattle.enumset_array.proofs.ReplacedWord.{set_repr}
 use Rattle.enumset_array.proofs.EndTakenOut.{taken_small, taken_first, taken_last}

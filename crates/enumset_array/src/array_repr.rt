@@ -107,6 +107,7 @@ impl<const N: usize> EnumSetTypeRepr for ArrayRepr<N> {
     ghost span = { λ i. i.span };
 
     fn learn_is_value(self) {
+        // This read tells the proof what the type says of its words.
         let _words = &self.0;
     }
 

@@ -35,7 +35,7 @@ impl<const N: usize> Words<N> {
     pub(crate) fn new(repr: ArrayRepr<N>) -> Self
         ensures { result ≡ record { words = words_in_use N repr.entry; asks = 0 } }
     {
-        // Only a read tells the proof that the words of a value that is moved have 64 bits.
+        // A proof does not know of a value that is only moved that its words have 64 bits.
         repr.learn_is_value();
         Words {
             repr,
@@ -67,6 +67,7 @@ impl<const N: usize> Row for Words<N> {
     ghost asks = { λ r. r.asks };
 
     fn word_count(&self) -> usize {
+        // This read tells the proof what the type says of its words.
         let _words = &self.repr;
         N % WORD_LIMIT
     }

@@ -10,18 +10,18 @@
 --     equal      lists of words are equal exactly if their sets are
 --     same_words-IsEquivalence, same_words-IsPartialEquivalence      having the same words is an equivalence
 --     width_words      there are as many words as the width needs
-use Rattle.std.proofs.Common.{◌≡◌, ◌<◌, ◌≤◌, ◌⊎◌, inl, inr, ℕ, ◌+◌, ◌-◌, ◌*◌, ◌/◌, ◌^◌, true, List, length, take, drop, sym, ap, ◌∙◌, subst, arith, ◌↔◌, true≢false, lit<}
-use Rattle.std.specs.Prelude.{◌==◌, IsTrue, nat_eq, nat_lt, slice_index, replicate}
+use Rattle.std.proofs.Common.{◌≡◌, ◌<◌, ◌≤◌, ◌⊎◌, inl, inr, ℕ, ◌+◌, ◌-◌, ◌*◌, ◌/◌, ◌^◌, true, List, length, take, drop, sym, ap, ◌∙◌, subst, arith, ◌↔◌, lit<}
+use Rattle.std.specs.Prelude.{◌==◌, IsTrue, nat_eq, slice_index, replicate}
 use Rattle.std.specs.List.{list_all}
 use Rattle.std.specs.Cmp.Lexicographic.{pointwise, same_text}
-use Rattle.std.proofs.lemmas.Bool.{cases_lt, lt-ltb}
+use Rattle.std.proofs.lemmas.Bool.{cases_lt}
 use Rattle.std.proofs.lemmas.Cmp.{nat_list_eq_equiv}
 use Rattle.std.specs.Cmp.{IsEquivalence, IsPartialEquivalence}
 use Rattle.std.proofs.lemmas.List.{get_or-take, get_or-drop, get_or_past, length-take, length-replicate, drop-replicate}
 use Rattle.enumset_repr.specs.BitSet.{BitSet, contains, empty, below, is_subset}
 use Rattle.enumset_repr.specs.Number.{bits}
 use Rattle.enumset_repr.specs.Words.{word, words}
-use Rattle.enumset_repr.specs.Laws.Members.{same_set, contains-below, contains-empty, contains-is_subset}
+use Rattle.enumset_repr.specs.Laws.Members.{same_set, contains-empty}
 use Rattle.enumset_array.specs.ArrayWords.{in_use, words_in_use, set_of, is_empty_past, IsArrayRepr}
 use Rattle.enumset_repr.specs.Laws.WordLists.{bits_of-within, contains-bits_of, by_word, contains-zero, word-bits_of, words-bits_of, word-empty}
 use Rattle.enumset_array.specs.Laws.Zeros.{each_zero, all_zero, none_at, all_none}

@@ -3,25 +3,17 @@
 --         compare as equal
 --     highest_first-cons      of two lists the first words decide only if the words after them are equal
 --     compare_is      the order of the words of an `ArrayRepr` is that of their sets
-use Rattle.std.proofs.Common.{◌≡◌, ◌<◌, ◌≤◌, ◌⊎◌, inl, inr, ℕ, suc, ◌+◌, ◌-◌, ◌*◌, ◌^◌, true, ◌||◌, List, [], ◌∷◌, ◌++◌, length, Some, refl, sym, ap, ◌∙◌, arith}
-use Rattle.std.specs.Prelude.{◌==◌, nat_eq, slice_index, reverse}
+use Rattle.std.proofs.Common.{◌≡◌, ◌<◌, ℕ, suc, ◌+◌, ◌*◌, ◌^◌, true, List, [], ◌∷◌, ◌++◌, length, Some, refl, sym, ap, ◌∙◌, arith}
+use Rattle.std.specs.Prelude.{nat_eq, reverse}
 use Rattle.std.specs.declared.cmp.Ordering.{Ordering}
 use Rattle.std.specs.declared.cmp.Ordering.TheVariants.{Less, Equal, Greater}
-use Rattle.std.specs.Ordering.{MatchOrdering, ordering_then, nat_cmp, eq_by_cmp}
-use Rattle.std.specs.Cmp.{IsTotalOrder, IsPartialOrder, one_rank, ranks, below_irrefl, below_chain, nat_cmp_total, unsigned_ties, on_total, po, both_ways}
+use Rattle.std.specs.Ordering.{ordering_then, nat_cmp, eq_by_cmp}
+use Rattle.std.specs.Cmp.{IsTotalOrder, IsPartialOrder, nat_cmp_total, unsigned_ties, on_total, po, both_ways}
 use Rattle.std.specs.Cmp.Lexicographic.{slice_cmp, pointwise, lists_total, lists_ties, same_text}
-use Rattle.std.proofs.Math.Bool.{or-false}
 use Rattle.std.proofs.lemmas.Bool.Decides.{nat_tests}
 use Rattle.std.proofs.lemmas.Cmp.{nat_list_eq_equiv}
 use Rattle.std.proofs.lemmas.List.{length-reverse, reverse-append, reverse-reverse}
-use Rattle.std.proofs.lemmas.Nat.Bits.{bit_at_cat_low, bit_at_cat_high}
-use Rattle.enumset_repr.specs.BitSet.{contains}
-use Rattle.enumset_repr.specs.Number.{bits, number}
-use Rattle.enumset_repr.specs.Words.{bits_of, upward_shift}
 use Rattle.enumset_repr.specs.Order.{compare}
-use Rattle.enumset_repr.specs.Laws.Members.{same_set, contains-union}
-use Rattle.enumset_repr.specs.Laws.Numbers.{bits-zero, contains-bits, number-bits}
-use Rattle.enumset_repr.specs.Laws.WordLists.{contains-bits_of, contains-bits_above, contains-raised_from, contains-raised_lower}
 use Rattle.enumset_repr.specs.Laws.Order.{compare-number}
 use Rattle.enumset_array.specs.ArrayWords.{set_of, IsArrayRepr}
 use Rattle.enumset_array.specs.Order.{highest_first}

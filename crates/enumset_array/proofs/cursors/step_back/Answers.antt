@@ -1,4 +1,4 @@
-use Rattle.std.proofs.Common.{rules, ◌≡◌, ◌+◌, ◌-◌, ◌*◌, ◌<◌, [], length, length-set, refl, sym, ap, ◌∙◌, arith}
+use Rattle.std.proofs.Common.{◌≡◌, ◌+◌, ◌-◌, ◌*◌, ◌<◌, [], length, length-set, refl, sym, ap, ◌∙◌, arith}
 use Rattle.enumset_repr.specs.BitSet.{ascending, remove}
 use Rattle.enumset_repr.specs.Words.{bits_of}
 use Rattle.enumset_array.proofs.Covers.{covers_down}
