@@ -1,7 +1,8 @@
 -- The set of a list of words after a bit was taken out of one word.
-use Rattle.std.proofs.Common.{◌≡◌, ◌<◌, ◌≤◌, ◌≢◌, ℕ, ◌+◌, ◌*◌, ◌^◌, true, false, ◌&&◌, ◌||◌, List, [], ◌∷◌, ◌++◌, length, set, refl, sym, ap, ◌∙◌, subst, arith, lit<}
+use Rattle.std.proofs.Common.{◌≡◌, ◌<◌, ◌≤◌, ◌≢◌, ℕ, ◌+◌, ◌*◌, ◌^◌, inl, inr, false, ◌&&◌, ◌||◌, List, [], ◌∷◌, ◌++◌, length, set, refl, sym, ap, ◌∙◌, subst, arith, lit<}
 use Rattle.std.proofs.lemmas.List.{get_or-set_other}
-use Rattle.std.specs.Prelude.{◌==◌, nat_lt, slice_index}
+use Rattle.std.specs.Prelude.{◌==◌, slice_index}
+use Rattle.std.proofs.lemmas.Bool.{cases_lt, eq-eqb}
 use Rattle.std.proofs.lemmas.Bool.Decides.{nat_tests}
 use Rattle.enumset_repr.specs.BitSet.{contains, ascending, remove}
 use Rattle.enumset_repr.specs.Number.{bits}
@@ -9,7 +10,8 @@ use Rattle.enumset_repr.specs.Laws.Ascending.{ascending-first, ascending-last, a
 use Rattle.enumset_array.specs.Cursors.{Reach, Covers}
 use Rattle.enumset_repr.specs.Words.{bits_of}
 use Rattle.enumset_repr.specs.Laws.WordLists.{contains-bits_of, by_word, contains-zero, same_place, bits_of-zeros}
-use Rattle.enumset_array.proofs.EndTakenOut.{IsTaken, rest_of_taken, was_there, taken_first, first_is_least, taken_last, last_is_greatest, taken_small, taken_below}
+use Rattle.enumset_array.proofs.ReplacedWord.{at_or_apart}
+use Rattle.enumset_array.proofs.EndTakenOut.{IsTaken, rest_of_taken, was_there, taken_small, taken_below}
 
 -- ---- a bit taken out of the word at i
 
@@ -19,10 +21,7 @@ module _ (ws vs : List ℕ) (i b : ℕ) (fit : (j : ℕ) → slice_index ws j < 
   same_word j apart = ap (λ xs. slice_index xs j) others ∙ get_or-set_other ws i j (slice_index vs i) 0 apart
 
   pub taken_fit : (j : ℕ) → slice_index vs j < 2 ^ 64
-  taken_fit j = elim (j == i) as (λ t. (j == i) ≡ t → slice_index vs j < 2 ^ 64) [
-    | true ↦ λ e. let here : i ≡ j = grind (arith, nat_tests, e) in subst (λ k. slice_index vs k < 2 ^ 64) here (taken_small (slice_index ws i) (slice_index vs i) 64 b (fit i) taken)
-    | false ↦ λ e. let apart : j ≢ i = grind (arith, nat_tests, e) in subst (λ n. n < 2 ^ 64) (sym (same_word j apart)) (fit j)
-  ] refl
+  taken_fit = at_or_apart (λ j. slice_index vs j < 2 ^ 64) i (taken_small (slice_index ws i) (slice_index vs i) 64 b (fit i) taken) (λ j apart. subst (λ n. n < 2 ^ 64) (sym (same_word j apart)) (fit j))
 
   pub low_bit : b < 64
   low_bit = taken_below (slice_index ws i) (slice_index vs i) 64 b (fit i) taken
@@ -30,11 +29,9 @@ module _ (ws vs : List ℕ) (i b : ℕ) (fit : (j : ℕ) → slice_index ws j < 
   taken_at : (w r : ℕ) → r < 64 → contains (bits_of ws) (64 * w + r) ≡ (((64 * w + r) == (64 * i + b)) || contains (bits_of vs) (64 * w + r))
   taken_at w r small =
       contains-bits_of ws w r fit small
-      ∙ elim (w == i) as (λ t. (w == i) ≡ t → contains (bits (slice_index ws w)) r ≡ ((t && (r == b)) || contains (bits (slice_index vs w)) r)) [
-        | true ↦ λ e. let here : i ≡ w = grind (arith, nat_tests, e) in
-            subst (λ k. contains (bits (slice_index ws k)) r ≡ ((r == b) || contains (bits (slice_index vs k)) r)) here (taken.was r)
-        | false ↦ λ e. let apart : w ≢ i = grind (arith, nat_tests, e) in ap (λ n. contains (bits n) r) (sym (same_word w apart))
-      ] refl
+      ∙ at_or_apart (λ k. contains (bits (slice_index ws k)) r ≡ (((k == i) && (r == b)) || contains (bits (slice_index vs k)) r)) i
+      (taken.was r ∙ ap (λ t. (t && (r == b)) || contains (bits (slice_index vs i)) r) (sym (eq-eqb i i refl)))
+      (λ k apart. let other : (k == i) ≡ false = grind (arith, nat_tests, apart) in ap (λ n. contains (bits n) r) (sym (same_word k apart)) ∙ ap (λ t. (t && (r == b)) || contains (bits (slice_index vs k)) r) (sym other)) w
       ∙ (λ k. sym (same_place i b w r low_bit small) k || sym (contains-bits_of vs w r taken_fit small) k)
 
   pub taken_of_words : IsTaken (bits_of ws) (64 * i + b) (bits_of vs)
@@ -43,58 +40,32 @@ module _ (ws vs : List ℕ) (i b : ℕ) (fit : (j : ℕ) → slice_index ws j < 
     gone = contains-bits_of vs i b taken_fit low_bit ∙ taken.gone;
   }
 
--- the least bit of the first word that is not 0 is the least of all
-pub step_first : (ws vs : List ℕ) (i b : ℕ) → ((j : ℕ) → slice_index ws j < 2 ^ 64) → i < length ws → vs ≡ set ws i (slice_index vs i)
-    → ((j : ℕ) → j < i → slice_index ws j ≡ 0)
-    → ascending (bits (slice_index ws i)) ≡ b ∷ ascending (bits (slice_index vs i))
-    → ascending (bits_of ws) ≡ (64 * i + b) ∷ ascending (bits_of vs)
-step_first ws vs i b fit within others lower first =
-    let taken : IsTaken (bits (slice_index ws i)) b (bits (slice_index vs i)) = taken_first _ _ b first in
-    let all : IsTaken (bits_of ws) (64 * i + b) (bits_of vs) = taken_of_words ws vs i b fit within others taken in
-    let least : (q : ℕ) → q < 64 * i + b → contains (bits_of ws) q ≡ false = by_word (λ q. q < 64 * i + b → contains (bits_of ws) q ≡ false) (λ w r small below.
-    contains-bits_of ws w r fit small ∙ elim (w == i) as (λ t. (w == i) ≡ t → contains (bits (slice_index ws w)) r ≡ false) [
-      | true ↦ λ e. let here : i ≡ w = grind (arith, nat_tests, e) in let under : r < b = omega arith in
-          subst (λ k. contains (bits (slice_index ws k)) r ≡ false) here (first_is_least _ _ b first r under)
-      | false ↦ λ e. let apart : w ≢ i = grind (arith, nat_tests, e) in let low : b < 64 = low_bit ws vs i b fit within others taken in let under : w < i = omega arith in contains-zero _ r (lower w under)
-    ] refl) in
-    ascending-first (bits_of ws) (64 * i + b) (was_there _ _ _ all) least ∙ ap (λ s. (64 * i + b) ∷ ascending s) (sym (rest_of_taken _ _ _ all))
+  pub taken_set : bits_of vs ≡ remove (bits_of ws) (64 * i + b)
+  taken_set = rest_of_taken _ _ _ taken_of_words
 
--- the greatest bit of the last word that is not 0 is the greatest of all
-pub step_last : (ws vs : List ℕ) (i b : ℕ) → ((j : ℕ) → slice_index ws j < 2 ^ 64) → i < length ws → vs ≡ set ws i (slice_index vs i)
-    → ((j : ℕ) → i < j → slice_index ws j ≡ 0)
-    → ascending (bits (slice_index ws i)) ≡ ascending (bits (slice_index vs i)) ++ b ∷ []
-    → ascending (bits_of ws) ≡ ascending (bits_of vs) ++ (64 * i + b) ∷ []
-step_last ws vs i b fit within others higher last =
-    let taken : IsTaken (bits (slice_index ws i)) b (bits (slice_index vs i)) = taken_last _ _ b last in
-    let all : IsTaken (bits_of ws) (64 * i + b) (bits_of vs) = taken_of_words ws vs i b fit within others taken in
-    let greatest : (q : ℕ) → 64 * i + b < q → contains (bits_of ws) q ≡ false = by_word (λ q. 64 * i + b < q → contains (bits_of ws) q ≡ false) (λ w r small above.
-    contains-bits_of ws w r fit small ∙ elim (w == i) as (λ t. (w == i) ≡ t → contains (bits (slice_index ws w)) r ≡ false) [
-      | true ↦ λ e. let here : i ≡ w = grind (arith, nat_tests, e) in let over : b < r = omega arith in
-          subst (λ k. contains (bits (slice_index ws k)) r ≡ false) here (last_is_greatest _ _ b last r over)
-      | false ↦ λ e. let apart : w ≢ i = grind (arith, nat_tests, e) in let over : i < w = omega arith in contains-zero _ r (higher w over)
-    ] refl) in
-    ascending-last (bits_of ws) (64 * i + b) (was_there _ _ _ all) greatest ∙ ap (λ s. ascending s ++ (64 * i + b) ∷ []) (sym (rest_of_taken _ _ _ all))
+  -- no bit of this word is among the numbers of a kind, and no other word has one
+  none_of : (Kind : ℕ → Type 0) → ((r : ℕ) → Kind (64 * i + r) → contains (bits (slice_index ws i)) r ≡ false) → ((w r : ℕ) → r < 64 → w ≢ i → Kind (64 * w + r) → slice_index ws w ≡ 0)
+      → (q : ℕ) → Kind q → contains (bits_of ws) q ≡ false
+  none_of Kind here elsewhere = by_word (λ q. Kind q → contains (bits_of ws) q ≡ false) (λ w r small kind. contains-bits_of ws w r fit small
+      ∙ at_or_apart (λ k. Kind (64 * k + r) → contains (bits (slice_index ws k)) r ≡ false) i (here r) (λ k apart other. contains-zero _ r (elsewhere k r small apart other)) w kind)
 
--- an ask that takes a bit out of the word at i takes it out of the set
-pub step_first_set : (ws vs : List ℕ) (i b : ℕ) → ((j : ℕ) → slice_index ws j < 2 ^ 64) → i < length ws → vs ≡ set ws i (slice_index vs i)
-    → ascending (bits (slice_index ws i)) ≡ b ∷ ascending (bits (slice_index vs i))
-    → (b < 64) × (bits_of vs ≡ remove (bits_of ws) (64 * i + b))
-step_first_set ws vs i b fit within others first =
-    let taken : IsTaken (bits (slice_index ws i)) b (bits (slice_index vs i)) = taken_first _ _ b first in
-    (low_bit ws vs i b fit within others taken, rest_of_taken _ _ _ (taken_of_words ws vs i b fit within others taken))
+  -- the least bit of the first word that is not 0 is the least of all
+  pub least_taken : ((r : ℕ) → r < b → contains (bits (slice_index ws i)) r ≡ false) → ((j : ℕ) → j < i → slice_index ws j ≡ 0) → ascending (bits_of ws) ≡ (64 * i + b) ∷ ascending (bits_of vs)
+  least_taken least lower =
+      let none = none_of (λ q. q < 64 * i + b) (λ r under. least r (omega (arith, under))) (λ w r small apart under. lower w (omega (arith, low_bit))) in
+      ascending-first (bits_of ws) (64 * i + b) (was_there _ _ _ taken_of_words) none ∙ ap (λ s. (64 * i + b) ∷ ascending s) (sym taken_set)
 
-pub step_last_set : (ws vs : List ℕ) (i b : ℕ) → ((j : ℕ) → slice_index ws j < 2 ^ 64) → i < length ws → vs ≡ set ws i (slice_index vs i)
-    → ascending (bits (slice_index ws i)) ≡ ascending (bits (slice_index vs i)) ++ b ∷ []
-    → (b < 64) × (bits_of vs ≡ remove (bits_of ws) (64 * i + b))
-step_last_set ws vs i b fit within others last =
-    let taken : IsTaken (bits (slice_index ws i)) b (bits (slice_index vs i)) = taken_last _ _ b last in
-    (low_bit ws vs i b fit within others taken, rest_of_taken _ _ _ (taken_of_words ws vs i b fit within others taken))
+  -- the greatest bit of the last word that is not 0 is the greatest of all
+  pub greatest_taken : ((r : ℕ) → b < r → contains (bits (slice_index ws i)) r ≡ false) → ((j : ℕ) → i < j → slice_index ws j ≡ 0) → ascending (bits_of ws) ≡ ascending (bits_of vs) ++ (64 * i + b) ∷ []
+  greatest_taken greatest higher =
+      let none = none_of (λ q. 64 * i + b < q) (λ r over. greatest r (omega (arith, over))) (λ w r small apart over. higher w (omega (arith, small, apart, over))) in
+      ascending-last (bits_of ws) (64 * i + b) (was_there _ _ _ taken_of_words) none ∙ ap (λ s. ascending s ++ (64 * i + b) ∷ []) (sym taken_set)
 
 -- cursors that have met leave no item
 pub none_left : (ws : List ℕ) (c : Reach) → Covers ws c → c.back ≤ c.front → ascending (bits_of ws) ≡ []
 none_left ws c covers met =
-    let none : (i : ℕ) → slice_index ws i ≡ 0 = λ i. elim (nat_lt i c.front) as (λ t. nat_lt i c.front ≡ t → slice_index ws i ≡ 0) [
-      | true ↦ λ e. covers.before i (grind (arith, nat_tests, e))
-      | false ↦ λ e. let from : c.front ≤ i = grind (arith, nat_tests, e) in covers.past i (omega arith)
-    ] refl in
+    let none : (i : ℕ) → slice_index ws i ≡ 0 = λ i. elim (cases_lt i c.front) [
+      | inl before ↦ covers.before i before
+      | inr from ↦ covers.past i (omega arith)
+    ] in
     ap ascending (bits_of-zeros ws (λ i. subst (λ n. n < 2 ^ 64) (sym (none i)) (lit< tt)) none) ∙ ascending-empty

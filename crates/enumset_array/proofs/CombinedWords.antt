@@ -1,33 +1,29 @@
 -- The words of an `ArrayRepr` made from those of others, word by word.
-use Rattle.std.proofs.Common.{◌≡◌, ◌<◌, ◌≤◌, ◌↔◌, ◌⊎◌, inl, inr, ℕ, ◌*◌, ◌+◌, ◌^◌, Bool, not, ◌&&◌, ◌||◌, List, length, bit_and, bit_or, refl, sym, ap, ◌∙◌, subst, arith, w64, lit<}
-use Rattle.std.specs.Prelude.{◌==◌, slice_index, bit_xor, IsTrue}
+use Rattle.std.proofs.Common.{◌≡◌, ◌<◌, ◌≤◌, ◌↔◌, ◌⊎◌, inl, inr, ℕ, ◌*◌, ◌+◌, ◌-◌, ◌^◌, List, length, sym, ap, ◌∙◌, subst, arith}
+use Rattle.std.specs.Prelude.{◌==◌, slice_index, IsTrue, nat_lt}
 use Rattle.std.specs.List.{list_all}
-use Rattle.std.specs.Int.{bit_not}
-use Rattle.std.specs.Int.Bits.{and_lt}
-use Rattle.std.proofs.lemmas.Nat.{or_lt, xor_lt}
-use Rattle.std.proofs.Math.Pow.{ones_sub-lt}
 use Rattle.std.proofs.lemmas.Bool.{cases_lt, lt-ltb, le-ltb}
-use Rattle.std.proofs.lemmas.Bool.Decides.{same_from_decides}
 use Rattle.std.proofs.lemmas.List.{get_or_past}
 use Rattle.std.proofs.lemmas.Simd.{length-zip2, get_or-zip2}
 use Rattle.std.specs.Simd.Lanes.{zip2}
-use Rattle.enumset_repr.specs.BitSet.{BitSet, contains, empty, below, intersection, union, difference, symmetric_difference, is_subset, is_disjoint}
+use Rattle.enumset_repr.specs.BitSet.{BitSet, contains, empty, below}
 use Rattle.enumset_repr.specs.Number.{bits}
-use Rattle.enumset_repr.specs.Laws.Members.{contains-intersection, contains-union, contains-difference, contains-symmetric_difference, contains-below, is_subset_iff, is_disjoint_iff}
-use Rattle.enumset_repr.specs.Laws.Numbers.{bits-and, bits-or, bits-xor, bits-not, bits-and_not}
-use Rattle.enumset_array.specs.ArrayWords.{in_use, set_of, is_empty_past, IsArrayRepr}
+use Rattle.enumset_repr.specs.Laws.Members.{contains-below}
+use Rattle.enumset_repr.specs.Laws.Numbers.{bits_full}
+use Rattle.enumset_array.specs.Operations.{IsOnBits}
+use Rattle.enumset_array.specs.ArrayWords.{in_use, set_of, IsArrayRepr}
 use Rattle.enumset_array.specs.Laws.ArrayWords.{contains-set_of, set_is, past_is, empty_past, none_iff}
 use Rattle.enumset_repr.specs.Laws.WordLists.{contains-zero}
 use Rattle.enumset_array.proofs.ReplacedWord.{in_use-le}
 
-module _ (op : ℕ → ℕ → ℕ) (none : op 0 0 ≡ 0) (fits : (x y : ℕ) → x < 2 ^ 64 → y < 2 ^ 64 → op x y < 2 ^ 64) (n : ℕ) (a b : List ℕ) (first : IsArrayRepr n a) (second : IsArrayRepr n b) where
+module _ (op : ℕ → ℕ → ℕ) (of_sets : BitSet → BitSet → BitSet) (on : IsOnBits op of_sets) (n : ℕ) (a b : List ℕ) (first : IsArrayRepr n a) (second : IsArrayRepr n b) where
   none_past : (k : ℕ) → in_use n ≤ k → op (slice_index a k) (slice_index b k) ≡ 0
-  none_past k past = (λ i. op (past_is n a k first.past past i) (past_is n b k second.past past i)) ∙ none
+  none_past k past = (λ i. op (past_is n a k first.past past i) (past_is n b k second.past past i)) ∙ on.none
 
   length-made : length (zip2 op a b) ≡ n
   length-made = length-zip2 op a b (first.long ∙ sym second.long) ∙ first.long
 
-  pub each : (k : ℕ) → slice_index (zip2 op a b) k ≡ op (slice_index a k) (slice_index b k)
+  each : (k : ℕ) → slice_index (zip2 op a b) k ≡ op (slice_index a k) (slice_index b k)
   each k = at (cases_lt k n)
     where
       at : (k < n) ⊎ (n ≤ k) → slice_index (zip2 op a b) k ≡ op (slice_index a k) (slice_index b k)
@@ -38,115 +34,33 @@ module _ (op : ℕ → ℕ → ℕ) (none : op 0 0 ≡ 0) (fits : (x y : ℕ) �
   pub made_repr : IsArrayRepr n (zip2 op a b)
   made_repr = record {
     long = length-made;
-    fit = λ k. subst (λ x. x < 2 ^ 64) (sym (each k)) (fits _ _ (first.fit k) (second.fit k));
+    fit = λ k. subst (λ x. x < 2 ^ 64) (sym (each k)) (on.fits _ _ (first.fit k) (second.fit k));
     past = empty_past n (zip2 op a b) (λ k past. each k ∙ none_past k past);
   }
 
-  -- the set, by what the operation on words and the one on sets do to each bit
-  pub made_set : (test : Bool → Bool → Bool) (s : BitSet)
-      → ((x y q : ℕ) → x < 2 ^ 64 → y < 2 ^ 64 → contains (bits (op x y)) q ≡ test (contains (bits x) q) (contains (bits y) q))
-      → ((q : ℕ) → contains s q ≡ test (contains (set_of n a) q) (contains (set_of n b) q))
-      → set_of n (zip2 op a b) ≡ s
-  made_set test s at_bit at_member = set_is n (zip2 op a b) s made_repr (λ w q small.
-      ap (λ x. contains (bits x) q) (each w) ∙ at_bit _ _ q (first.fit w) (second.fit w)
-      ∙ (λ i. test (sym (contains-set_of n a w q first small) i) (sym (contains-set_of n b w q second small) i))
-      ∙ sym (at_member (64 * w + q)))
+  pub made_set : set_of n (zip2 op a b) ≡ of_sets (set_of n a) (set_of n b)
+  made_set = set_is n (zip2 op a b) _ made_repr (λ w q small.
+      ap (λ x. contains (bits x) q) (each w) ∙ ap (λ s. contains s q) (on.same _ _ (first.fit w) (second.fit w)) ∙ on.member _ _ q
+      ∙ (λ i. on.test (sym (contains-set_of n a w q first small) i) (sym (contains-set_of n b w q second small) i))
+      ∙ sym (on.member (set_of n a) (set_of n b) (64 * w + q)))
 
-and_not_lt : (x y : ℕ) → x < 2 ^ 64 → y < 2 ^ 64 → bit_and x (bit_not w64 y) < 2 ^ 64
-and_not_lt x y p q = and_lt 64 x (bit_not w64 y) p (ones_sub-lt 64 y)
+  -- the result is empty exactly if each of its words is 0
+  pub made_none : IsTrue (list_all (λ w. w == 0) (zip2 op a b)) ↔ (of_sets (set_of n a) (set_of n b) ≡ empty)
+  made_none = subst (λ s. IsTrue (list_all (λ w. w == 0) (zip2 op a b)) ↔ (s ≡ empty)) made_set (none_iff n _ made_repr)
 
-pub and_repr : (n : ℕ) (a b : List ℕ) → IsArrayRepr n a → IsArrayRepr n b → IsTrue (is_empty_past n (zip2 bit_and a b))
-and_repr n a b first second = (made_repr bit_and refl (and_lt 64) n a b first second).past
+-- ---- all numbers below the width: the words in use are all ones, and the others are 0
 
-pub and_set : (n : ℕ) (a b : List ℕ) → IsArrayRepr n a → IsArrayRepr n b → set_of n (zip2 bit_and a b) ≡ intersection (set_of n a) (set_of n b)
-and_set n a b first second = made_set bit_and refl (and_lt 64) n a b first second (λ p q. p && q) _
-    (λ x y q _ _. ap (λ s. contains s q) (bits-and x y) ∙ contains-intersection (bits x) (bits y) q)
-    (λ q. contains-intersection (set_of n a) (set_of n b) q)
+module _ (n : ℕ) (ws : List ℕ) (long : length ws ≡ n) (ones : (k : ℕ) → k < in_use n → slice_index ws k ≡ 2 ^ 64 - 1) (none : (k : ℕ) → in_use n ≤ k → slice_index ws k ≡ 0) where
+  pub full_repr : IsArrayRepr n ws
+  full_repr = record { long = long; fit = λ k. at k (cases_lt k (in_use n)); past = empty_past n ws none }
+    where
+      at : (k : ℕ) → (k < in_use n) ⊎ (in_use n ≤ k) → slice_index ws k < 2 ^ 64
+      at k (inl low) = omega (arith, ones k low)
+      at k (inr past) = omega (arith, none k past)
 
-pub or_repr : (n : ℕ) (a b : List ℕ) → IsArrayRepr n a → IsArrayRepr n b → IsTrue (is_empty_past n (zip2 bit_or a b))
-or_repr n a b first second = (made_repr bit_or refl (or_lt 64) n a b first second).past
-
-pub or_set : (n : ℕ) (a b : List ℕ) → IsArrayRepr n a → IsArrayRepr n b → set_of n (zip2 bit_or a b) ≡ union (set_of n a) (set_of n b)
-or_set n a b first second = made_set bit_or refl (or_lt 64) n a b first second (λ p q. p || q) _
-    (λ x y q _ _. ap (λ s. contains s q) (bits-or x y) ∙ contains-union (bits x) (bits y) q)
-    (λ q. contains-union (set_of n a) (set_of n b) q)
-
-pub xor_repr : (n : ℕ) (a b : List ℕ) → IsArrayRepr n a → IsArrayRepr n b → IsTrue (is_empty_past n (zip2 bit_xor a b))
-xor_repr n a b first second = (made_repr bit_xor refl (xor_lt 64) n a b first second).past
-
-pub xor_set : (n : ℕ) (a b : List ℕ) → IsArrayRepr n a → IsArrayRepr n b → set_of n (zip2 bit_xor a b) ≡ symmetric_difference (set_of n a) (set_of n b)
-xor_set n a b first second = made_set bit_xor refl (xor_lt 64) n a b first second (λ p q. (p && not q) || (q && not p)) _
-    (λ x y q _ _. ap (λ s. contains s q) (bits-xor x y) ∙ contains-symmetric_difference (bits x) (bits y) q)
-    (λ q. contains-symmetric_difference (set_of n a) (set_of n b) q)
-
-abbrev pub and_not : ℕ → ℕ → ℕ
-and_not x y = bit_and x (bit_not w64 y)
-
-pub and_not_repr : (n : ℕ) (a b : List ℕ) → IsArrayRepr n a → IsArrayRepr n b → IsTrue (is_empty_past n (zip2 and_not a b))
-and_not_repr n a b first second = (made_repr and_not refl and_not_lt n a b first second).past
-
-pub and_not_set : (n : ℕ) (a b : List ℕ) → IsArrayRepr n a → IsArrayRepr n b → set_of n (zip2 and_not a b) ≡ difference (set_of n a) (set_of n b)
-and_not_set n a b first second = made_set and_not refl and_not_lt n a b first second (λ p q. p && not q) _
-    (λ x y q p s. ap (λ t. contains t q) (bits-and_not w64 x y p s) ∙ contains-difference (bits x) (bits y) q)
-    (λ q. contains-difference (set_of n a) (set_of n b) q)
-
--- ---- tests of two sets: an operation yields 0 for each pair of words
-
-pub within_is : (n : ℕ) (a b : List ℕ) → IsArrayRepr n a → IsArrayRepr n b → list_all (λ w. w == 0) (zip2 and_not a b) ≡ is_subset (set_of n a) (set_of n b)
-within_is n a b first second = same_from_decides _ _
-    (subst (λ s. IsTrue (list_all (λ w. w == 0) (zip2 and_not a b)) ↔ (s ≡ empty)) (and_not_set n a b first second) (none_iff n _ (made_repr and_not refl and_not_lt n a b first second)))
-    (is_subset_iff _ _)
-
-pub apart_is : (n : ℕ) (a b : List ℕ) → IsArrayRepr n a → IsArrayRepr n b → list_all (λ w. w == 0) (zip2 bit_and a b) ≡ is_disjoint (set_of n a) (set_of n b)
-apart_is n a b first second = same_from_decides _ _
-    (subst (λ s. IsTrue (list_all (λ w. w == 0) (zip2 bit_and a b)) ↔ (s ≡ empty)) (and_set n a b first second) (none_iff n _ (made_repr bit_and refl (and_lt 64) n a b first second)))
-    (is_disjoint_iff _ _)
-
--- ---- `!`: the words in use are inverted, and the others are 0
-
-pub record IsTurned (n : ℕ) (a r : List ℕ) : Type 0 where
-  pub first : IsArrayRepr n a
-  pub long : length r ≡ n
-  pub done : (k : ℕ) → k < in_use n → slice_index r k ≡ bit_not w64 (slice_index a k)
-  pub rest : (k : ℕ) → in_use n ≤ k → slice_index r k ≡ 0
-
-pub turned_repr : (n : ℕ) (a r : List ℕ) → IsTurned n a r → IsArrayRepr n r
-turned_repr n a r turned = record {
-  long = turned.long;
-  fit = λ k. at k (cases_lt k (in_use n));
-  past = empty_past n r turned.rest;
-}
-  where
-    at : (k : ℕ) → (k < in_use n) ⊎ (in_use n ≤ k) → slice_index r k < 2 ^ 64
-    at k (inl low) = subst (λ x. x < 2 ^ 64) (sym (turned.done k low)) (ones_sub-lt 64 (slice_index a k))
-    at k (inr past) = subst (λ x. x < 2 ^ 64) (sym (turned.rest k past)) (lit< tt)
-
-pub turned_past : (n : ℕ) (a r : List ℕ) → IsTurned n a r → IsTrue (is_empty_past n r)
-turned_past n a r turned = (turned_repr n a r turned).past
-
-pub turned_set : (n : ℕ) (a r : List ℕ) → IsTurned n a r → set_of n r ≡ difference (below (64 * in_use n)) (set_of n a)
-turned_set n a r turned = set_is n r _ (turned_repr n a r turned) (λ w q small. at w q small (cases_lt w (in_use n)))
-  where
-    at : (w q : ℕ) → q < 64 → (w < in_use n) ⊎ (in_use n ≤ w) → contains (bits (slice_index r w)) q ≡ contains (difference (below (64 * in_use n)) (set_of n a)) (64 * w + q)
-    at w q small (inl low) =
-        ap (λ x. contains (bits x) q) (turned.done w low) ∙ ap (λ s. contains s q) (bits-not w64 (slice_index a w) (turned.first.fit w))
-        ∙ contains-difference _ _ q ∙ (λ i. (contains-below 64 q ∙ lt-ltb q 64 small) i && not (sym (contains-set_of n a w q turned.first small) i))
-        ∙ sym (contains-difference _ _ (64 * w + q) ∙ ap (λ t. t && not (contains (set_of n a) (64 * w + q))) (contains-below (64 * in_use n) (64 * w + q) ∙ lt-ltb _ _ (omega (arith, low, small))))
-    at w q small (inr past) =
-        contains-zero _ q (turned.rest w past)
-        ∙ sym (contains-difference _ _ (64 * w + q) ∙ ap (λ t. t && not (contains (set_of n a) (64 * w + q))) (contains-below (64 * in_use n) (64 * w + q) ∙ le-ltb _ _ (omega (arith, past))))
-
-abbrev turned : List ℕ → List ℕ
-turned a = zip2 (λ x _. bit_not w64 x) a a
-
--- `!` inverts every word and then clears those past the words in use, up to the end
-pub cleared_turned : (n i : ℕ) (a r : List ℕ) → IsArrayRepr n a → length r ≡ n → n ≤ i → ((k : ℕ) → k < in_use n → slice_index r k ≡ slice_index (turned a) k) → ((k : ℕ) → in_use n ≤ k → k < i → slice_index r k ≡ 0) → IsTurned n a r
-cleared_turned n i a r is_repr long end kept cleared = record {
-  first = is_repr;
-  long = long;
-  done = λ k low. kept k low ∙ get_or-zip2 (λ x _. bit_not w64 x) a a k 0 0 0 (omega (arith, low, is_repr.long, in_use-le n)) (omega (arith, low, is_repr.long, in_use-le n));
-  rest = λ k past. elim (cases_lt k i) [
-    | inl low ↦ cleared k past low
-    | inr over ↦ get_or_past r k 0 (omega (arith, over, end, long))
-  ];
-}
+  pub full_set : set_of n ws ≡ below (64 * in_use n)
+  full_set = set_is n ws _ full_repr (λ w q small. at w q small (cases_lt w (in_use n)) ∙ sym (contains-below (64 * in_use n) (64 * w + q)))
+    where
+      at : (w q : ℕ) → q < 64 → (w < in_use n) ⊎ (in_use n ≤ w) → contains (bits (slice_index ws w)) q ≡ nat_lt (64 * w + q) (64 * in_use n)
+      at w q small (inl low) = ap (λ x. contains (bits x) q) (ones w low) ∙ ap (λ s. contains s q) (bits_full 64) ∙ contains-below 64 q ∙ lt-ltb q 64 small ∙ sym (lt-ltb _ _ (omega (arith, low, small)))
+      at w q small (inr past) = contains-zero _ q (none w past) ∙ sym (le-ltb _ _ (omega (arith, past)))

@@ -1,14 +1,13 @@
 -- A set without its least or its greatest member, by the lists of the members.
-use Rattle.std.proofs.Common.{◌≡◌, ◌<◌, ◌≤◌, ℕ, suc, ◌^◌, Bool, true, false, not, ◌&&◌, ◌||◌, List, [], ◌∷◌, ◌++◌, refl, sym, ap, ◌∙◌, subst, arith, true≢false, inl, inr}
-use Rattle.std.specs.Prelude.{◌==◌, nat_lt}
-use Rattle.std.proofs.lemmas.Bool.{cases_lt, lt-ltb, eqb-true, eq-eqb, or_left, or_right}
+use Rattle.std.proofs.Common.{◌≡◌, ◌<◌, ◌≤◌, ℕ, suc, ◌^◌, Bool, true, false, not, ◌&&◌, ◌||◌, List, [], ◌∷◌, ◌++◌, refl, sym, ap, ◌∙◌, subst, arith}
+use Rattle.std.specs.Prelude.{◌==◌}
+use Rattle.std.proofs.lemmas.Bool.{eqb-true, eq-eqb, or_left}
 use Rattle.std.proofs.lemmas.Bool.Decides.{nat_tests}
-use Rattle.enumset_repr.specs.BitSet.{BitSet, is_in, contains, ascending, remove, below}
+use Rattle.enumset_repr.specs.BitSet.{BitSet, is_in, contains, ascending, remove, below, is_subset}
 use Rattle.enumset_repr.specs.Number.{bits}
-use Rattle.enumset_repr.specs.Laws.Members.{same_set, contains-remove, contains-ascending, contains-below, contains-is_subset}
+use Rattle.enumset_repr.specs.Laws.Members.{same_set, contains-remove, contains-ascending, remove-is_subset, member_below}
 use Rattle.enumset_repr.specs.Laws.Ascending.{AscendsFrom, ascending-ascends, is_in-below, is_in-push}
-use Rattle.enumset_repr.specs.Laws.Numbers.{number-bits, number-within}
-use Rattle.enumset_repr.specs.Laws.WordLists.{contains-bits_above}
+use Rattle.enumset_repr.specs.Laws.Numbers.{bits-within, number-bits, number-within}
 
 -- the members of s are b and those of t, and b is not in t
 pub record IsTaken (s : BitSet) (b : ℕ) (t : BitSet) : Type 0 where
@@ -16,10 +15,7 @@ pub record IsTaken (s : BitSet) (b : ℕ) (t : BitSet) : Type 0 where
   pub gone : contains t b ≡ false
 
 taken_test : (q b : ℕ) (x : Bool) → ((q == b) ≡ true → x ≡ false) → x ≡ (not (q == b) && ((q == b) || x))
-taken_test q b x h = elim (q == b) as (λ t. (t ≡ true → x ≡ false) → x ≡ (not t && (t || x))) [
-  | true ↦ λ k. k refl
-  | false ↦ λ k. refl
-] h
+taken_test q b x h = grind (arith, nat_tests, h)
 
 pub rest_of_taken : (s t : BitSet) (b : ℕ) → IsTaken s b t → t ≡ remove s b
 rest_of_taken s t b taken = same_set t (remove s b) (λ q.
@@ -74,24 +70,13 @@ module _ (s t : BitSet) (b : ℕ) (last : ascending s ≡ ascending t ++ b ∷ [
   last_is_greatest q h = let apart : (q == b) ≡ false = grind (arith, nat_tests, h) in
       last_was q ∙ (λ i. apart i || last_none_higher q (omega (arith, h)) i)
 
--- ---- a number that has no bit at or past k is below 2 ^ k
+-- ---- a word of k bits with one bit taken out is a word of k bits
 
-pub few_bits : (n k : ℕ) → ((b : ℕ) → k ≤ b → contains (bits n) b ≡ false) → n < 2 ^ k
-few_bits n k none = subst (λ m. m < 2 ^ k) (number-bits n) (number-within (bits n) k (contains-is_subset (bits n) (below k) (λ q one.
-    contains-below k q ∙ elim (cases_lt q k) [
-      | inl under ↦ lt-ltb q k under
-      | inr past ↦ absurd (true≢false (sym one ∙ none q past))
-    ])))
+module _ (n m k b : ℕ) (small : n < 2 ^ k) (taken : IsTaken (bits n) b (bits m)) where
+  pub taken_small : m < 2 ^ k
+  taken_small =
+      let fewer : is_subset (bits m) (below k) ≡ true = subst (λ s. is_subset s (below k) ≡ true) (sym (rest_of_taken _ _ b taken)) (remove-is_subset _ _ b (bits-within n k small)) in
+      subst (λ x. x < 2 ^ k) (number-bits m) (number-within (bits m) k fewer)
 
--- a word of k bits with one bit taken out is a word of k bits
-pub taken_small : (n m k b : ℕ) → n < 2 ^ k → IsTaken (bits n) b (bits m) → m < 2 ^ k
-taken_small n m k b small taken = few_bits m k (λ q past. elim (contains (bits m) q) as (λ t. contains (bits m) q ≡ t → contains (bits m) q ≡ false) [
-  | true ↦ λ e. absurd (true≢false (sym (taken.was q ∙ or_right (q == b) _ e) ∙ contains-bits_above n k q small past))
-  | false ↦ λ e. e
-] refl)
-
-pub taken_below : (n m k b : ℕ) → n < 2 ^ k → IsTaken (bits n) b (bits m) → b < k
-taken_below n m k b small taken = elim (nat_lt b k) as (λ t. nat_lt b k ≡ t → b < k) [
-  | true ↦ λ e. grind (arith, nat_tests, e)
-  | false ↦ λ e. absurd (true≢false (sym (was_there _ _ b taken) ∙ contains-bits_above n k b small (grind (arith, nat_tests, e))))
-] refl
+  pub taken_below : b < k
+  taken_below = member_below (bits n) k b (bits-within n k small) (was_there _ _ b taken)

@@ -1,4 +1,3 @@
-pub mod ItemCounts
 pub mod WordLanes
 pub mod HighestApart
 pub mod Covers

@@ -1,14 +1,14 @@
 -- The words of a row after one of them was replaced, and the bits of words counted word by word.
-use Rattle.std.proofs.Common.{◌≡◌, ◌<◌, ◌≤◌, ℕ, ◌+◌, ◌^◌, List, [], ◌∷◌, ◌++◌, length, take, set, refl, sym, ap, subst, ◌∙◌, arith, add-one, zero-add}
+use Rattle.std.proofs.Common.{◌≡◌, ◌<◌, ℕ, ◌+◌, ◌^◌, List, [], ◌∷◌, ◌++◌, length, take, set, sym, ap, subst, ◌∙◌, arith, add-one, zero-add}
 use Rattle.std.specs.Int.RustNames.{count_ones}
 use Rattle.std.specs.Prelude.{slice_index, sum_by, Option, Some, None, MatchOption}
-use Rattle.std.proofs.Math.Seq.{take-set-lt, take-suc}
+use Rattle.std.proofs.Math.Seq.{take-add, take-set-lt, take-suc}
+use Rattle.std.specs.Simd.Lanes.{chunk}
 use Rattle.std.proofs.lemmas.List.Sums.{sum_by-append}
 use Rattle.std.proofs.lemmas.List.{length-take, get_or-set_same}
 use Rattle.enumset_repr.specs.BitSet.{len, ascending}
 use Rattle.enumset_repr.specs.Number.{bits}
-use Rattle.enumset_repr.specs.Laws.Ascending.{len-below}
-use Rattle.enumset_repr.specs.Laws.Numbers.{bits-within, len-bits}
+use Rattle.enumset_repr.specs.Laws.Numbers.{len-bits}
 use Rattle.enumset_array.specs.ArrayWords.{in_use, words_in_use, IsArrayRepr}
 use Rattle.enumset_array.proofs.ReplacedWord.{set_repr}
 use Rattle.enumset_array.proofs.EndTakenOut.{taken_small, taken_first, taken_last}
@@ -43,12 +43,6 @@ back_fits x y (Some b) fits last = taken_small x y 64 b fits (taken_last _ _ b l
 
 -- ---- the bits counted word by word
 
-few : (x : ℕ) → x < 2 ^ 64 → len (bits x) ≤ 64
-few x small = len-below (bits x) 64 (bits-within x 64 small)
-
-pub few_ones : (x : ℕ) → x < 2 ^ 64 → count_ones x ≤ 64
-few_ones x small = omega (arith, few x small, len-bits x)
-
 abbrev pub bits_in : List ℕ → ℕ
 bits_in ws = sum_by (λ w. len (bits w)) ws
 
@@ -58,11 +52,15 @@ one_more ws i j next low =
     ∙ sum_by-append (λ w. len (bits w)) (take i ws) (slice_index ws i ∷ [])
     ∙ ap (λ m. bits_in (take i ws) + m) (zero-add (len (bits (slice_index ws i))) ∙ len-bits (slice_index ws i))
 
-pub four_more : (ws : List ℕ) (i j : ℕ) → j ≡ i + 4 → j ≤ length ws
-    → bits_in (take j ws) ≡ bits_in (take i ws) + (count_ones (slice_index ws i) + count_ones (slice_index ws (i + 1)) + count_ones (slice_index ws (i + 2)) + count_ones (slice_index ws (i + 3)))
-four_more ws i j next long =
-    let first = one_more ws i (i + 1) refl (omega (arith, next, long)) in
-    let second = one_more ws (i + 1) (i + 2) (omega arith) (omega (arith, next, long)) in
-    let third = one_more ws (i + 2) (i + 3) (omega arith) (omega (arith, next, long)) in
-    let fourth = one_more ws (i + 3) j (omega (arith, next)) (omega (arith, next, long)) in
-    omega (arith, first, second, third, fourth)
+-- four words, as a chunk
+pub four_ones : (ws : List ℕ) → length ws ≡ 4
+    → bits_in ws ≡ count_ones (slice_index ws 0) + count_ones (slice_index ws 1) + count_ones (slice_index ws 2) + count_ones (slice_index ws 3)
+four_ones [] e = absurd (omega (arith, e))
+four_ones (a ∷ []) e = absurd (omega (arith, e))
+four_ones (a ∷ b ∷ []) e = absurd (omega (arith, e))
+four_ones (a ∷ b ∷ c ∷ []) e = absurd (omega (arith, e))
+four_ones (a ∷ b ∷ c ∷ d ∷ []) e = omega (arith, len-bits a, len-bits b, len-bits c, len-bits d)
+four_ones (a ∷ b ∷ c ∷ d ∷ f ∷ ws) e = absurd (omega (arith, e))
+
+pub four_more : (ws : List ℕ) (i j : ℕ) → j ≡ i + 4 → bits_in (take j ws) ≡ bits_in (take i ws) + bits_in (chunk i 4 ws)
+four_more ws i j next = ap (λ k. bits_in (take k ws)) next ∙ ap bits_in (take-add i 4 ws) ∙ sum_by-append (λ w. len (bits w)) (take i ws) (chunk i 4 ws)

@@ -1,16 +1,17 @@
 -- Loops over lists of words, four words at a time.
-use Rattle.std.proofs.Common.{◌≡◌, ◌≢◌, ◌<◌, ◌≤◌, ℕ, zero, suc, ◌+◌, Bool, true, false, ◌&&◌, List, [], ◌∷◌, length, take, drop, set, bit_and, bit_or, refl, sym, ap, ◌∙◌, arith, w64, map, add-one}
+use Rattle.std.proofs.Common.{◌≡◌, ◌≢◌, ◌<◌, ◌≤◌, ℕ, zero, suc, ◌+◌, ◌*◌, ◌/◌, Bool, true, false, ◌&&◌, List, [], ◌∷◌, length, take, drop, get_or, set, bit_and, bit_or, refl, sym, ap, ◌∙◌, arith, w64, map, add-one}
 use Rattle.std.specs.Prelude.{◌==◌, nat_eq, slice_index, bit_xor}
 use Rattle.std.specs.Int.{bit_not}
 use Rattle.std.specs.Int.Bits.{or_zero_l}
 use Rattle.std.specs.List.{list_all}
 use Rattle.std.specs.Cmp.Lexicographic.{pointwise}
+use Rattle.std.specs.Simd.{first_chunks}
 use Rattle.std.specs.Simd.Lanes.{zip2, chunk, put_chunk, fold_l}
 use Rattle.std.proofs.Math.Bool.{and-true, and-false, and_assoc}
 use Rattle.std.proofs.Math.Seq.{take-add, take-suc}
 use Rattle.std.proofs.lemmas.Bool.{eqb-true}
 use Rattle.std.proofs.lemmas.Bool.Decides.{nat_tests, same_from_decides}
-use Rattle.std.proofs.lemmas.List.{take-append-drop, take_all}
+use Rattle.std.proofs.lemmas.List.{take-append-drop, take_all, drop-drop}
 use Rattle.std.proofs.lemmas.List.Folds.{list_all-append}
 use Rattle.std.proofs.lemmas.Nat.{le_or_l, xor_comm}
 use Rattle.std.proofs.lemmas.Simd.{length-chunk}
@@ -77,12 +78,7 @@ turned_lanes [] b = refl
 turned_lanes (x ∷ a) [] = refl
 turned_lanes (x ∷ a) (y ∷ b) = ap (λ l. bit_and x (bit_not w64 y) ∷ l) (turned_lanes a b)
 
--- an operation that uses the first lanes alone
-pub first_lanes : (op : ℕ → ℕ) (a b : List ℕ) → length a ≡ length b → map op a ≡ zip2 (λ x _. op x) a b
-first_lanes op [] b e = refl
-first_lanes op (x ∷ a) [] e = absurd (omega (arith, e))
-first_lanes op (x ∷ a) (y ∷ b) e = ap (λ l. op x ∷ l) (first_lanes op a b (omega (arith, e)))
-
+-- the first lanes alone
 pub first_alone : (a b : List ℕ) → length a ≡ length b → a ≡ zip2 (λ x _. x) a b
 first_alone [] b e = refl
 first_alone (x ∷ a) [] e = absurd (omega (arith, e))
@@ -106,6 +102,22 @@ chunk-zip2 op (suc i) n [] b = take-zip2 op n [] (drop (suc i) b)
 chunk-zip2 op (suc i) n (x ∷ a) [] = ap (take n) (sym (none_zipped op (drop i a))) ∙ take-zip2 op n (drop i a) []
 chunk-zip2 op (suc i) n (x ∷ a) (y ∷ b) = chunk-zip2 op i n a b
 
+-- ---- a list as chunks
+
+chunk_at : {X : Type 0} (n k i : ℕ) (xs : List X) → i < k → get_or (first_chunks n k xs) i [] ≡ chunk (n * i) n xs
+chunk_at n zero i xs low = absurd (omega (arith, low))
+chunk_at n (suc k) zero xs low = let first : 0 ≡ n * 0 = omega arith in ap (λ m. chunk m n xs) first
+chunk_at n (suc k) (suc i) xs low =
+    let next : n + n * i ≡ n * suc i = omega arith in
+    chunk_at n k i (drop n xs) (omega (arith, low)) ∙ ap (take n) (drop-drop (n * i) n xs ∙ ap (λ m. drop m xs) next)
+
+-- a chunk in its place, and its length
+pub chunk_here : (ws : List ℕ) (chunks : List (List ℕ)) (here : List ℕ) (k : ℕ) → chunks ≡ first_chunks 4 (length ws / 4) ws → length chunks ≡ length ws / 4 → k < length chunks → here ≡ get_or chunks k []
+    → (here ≡ chunk (4 * k) 4 ws) × (length here ≡ 4)
+chunk_here ws chunks here k front long low is =
+    let same : here ≡ chunk (4 * k) 4 ws = is ∙ ap (λ cs. get_or cs k []) front ∙ chunk_at 4 _ k ws (omega (arith, low, long)) in
+    (same, ap length same ∙ length-chunk (4 * k) 4 ws (omega (arith, low, long)))
+
 -- ---- words that are all 0
 
 abbrev pub none_in : List ℕ → Bool
@@ -123,10 +135,7 @@ pub lanes_none : (ws : List ℕ) → (fold_l bit_or 0 ws == 0) ≡ none_in ws
 lanes_none ws = fold_none 0 ws
 
 shuffled : (p q r s : Bool) → ((p && q) && (r && s)) ≡ ((p && r) && (q && s))
-shuffled true true r s = refl
-shuffled true false true s = refl
-shuffled true false false s = refl
-shuffled false q r s = refl
+shuffled p q r s = grind (arith, nat_tests)
 
 zip_none : (a b : List ℕ) → length a ≡ length b → none_in (zip2 bit_or a b) ≡ (none_in a && none_in b)
 zip_none [] [] e = refl

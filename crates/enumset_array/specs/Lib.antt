@@ -2,6 +2,7 @@ pub mod Cursors
 pub mod Laws
 pub mod OneStep
 pub mod ArrayWords
+pub mod Operations
 pub mod Order
 pub mod Views
 pub mod Walks

@@ -10,7 +10,7 @@ ghost use Rattle.enumset_array.specs.ArrayWords.{in_use, set_of};
 use crate::array_repr::ArrayRepr;
 use crate::cursors::{Cursors, step_back, step_front};
 use crate::row::Row;
-use crate::rows::Words;
+use crate::words::Words;
 use std::alloc::AllocError;
 use std::marker::Model;
 

@@ -6,12 +6,14 @@ ghost use Rattle.enumset_repr.specs.BitSet.{ascending, len};
 ghost use Rattle.enumset_repr.specs.Number.{bits};
 ghost use Rattle.enumset_array.specs.ArrayWords.{in_use, set_of, IsArrayRepr};
 ghost use Rattle.enumset_repr.specs.Words.{words as words_of_set};
-ghost use Rattle.enumset_array.specs.Laws.Asks.{counted};
+ghost use Rattle.enumset_repr.specs.Laws.Representations.{by_sets};
+ghost use Rattle.enumset_array.specs.Laws.Asks.{counted, listed};
 ghost use Rattle.enumset_array.specs.Laws.Order.{compare_is};
 ghost use Rattle.enumset_array.specs.Laws.ArrayWords.{set_of_none, within, inverse, width_words, equal};
 
 use crate::array_iter::ArrayIter;
-use crate::lanes::{And, AndNot, First, Or, Xor, are_none, combine, ones_of};
+use crate::lanes::{And, AndNot, First, Or, Xor, are_none, ones_of};
+use crate::set_operation::{change_by, yields_none};
 use enumset_repr::EnumSetTypeRepr;
 use std::marker::Model;
 
@@ -65,6 +67,16 @@ impl<const N: usize> ArrayRepr<N> {
     /// The number of words in use: the remainder of `N` by 67108864, which is `N` itself up to 67108863. So the width,
     /// 64 bits a word, is below 2^32 for every `N`.
     pub const LEN: usize = N % WORD_LIMIT;
+
+    /// The words. A proof learns from the call that the value is one of its type.
+    pub(crate) fn words(&self) -> &[u64; N]
+        ensures value { IsArrayRepr N self.now }
+        ensures words { result.now ≡ self.now }
+    {
+        // Behind a `&`, a proof does not know that the words have 64 bits.
+        self.learn_is_value();
+        &self.0
+    }
 }
 
 impl<const N: usize> EnumSetTypeRepr for ArrayRepr<N> {
@@ -95,17 +107,16 @@ impl<const N: usize> EnumSetTypeRepr for ArrayRepr<N> {
     ghost span = { λ i. i.span };
 
     fn learn_is_value(self) {
+        // This read tells the proof what the type says of its words.
         let _words = &self.0;
     }
 
     fn is_empty(&self) -> bool {
-        self.learn_is_value();
-        are_none::<First>(&self.0, &self.0)
+        yields_none::<First, N>(self, self)
     }
 
     fn count_ones(&self) -> u32 {
-        self.learn_is_value();
-        ones_of(&self.0[..N % WORD_LIMIT])
+        ones_of(&self.words()[..N % WORD_LIMIT])
     }
 
     fn add_bit(&mut self, bit: u32) {
@@ -117,47 +128,37 @@ impl<const N: usize> EnumSetTypeRepr for ArrayRepr<N> {
     }
 
     fn has_bit(&self, bit: u32) -> bool {
-        self.learn_is_value();
-        self.0[(bit / 64) as usize] & (1 << (bit % 64)) != 0
+        self.words()[(bit / 64) as usize] & (1 << (bit % 64)) != 0
     }
 
     fn and_not(&self, other: ArrayRepr<N>) -> ArrayRepr<N> {
-        self.learn_is_value();
-        let mut words = self.0;
-        combine::<AndNot>(&mut words, &other.0);
-        ArrayRepr(words)
+        let mut result = *self;
+        change_by::<AndNot, N>(&mut result, &other);
+        result
     }
 
     fn or_with(&mut self, other: &ArrayRepr<N>) {
-        other.learn_is_value();
-        combine::<Or>(&mut self.0, &other.0);
+        change_by::<Or, N>(self, other);
     }
 
     fn and_with(&mut self, other: &ArrayRepr<N>) {
-        other.learn_is_value();
-        combine::<And>(&mut self.0, &other.0);
+        change_by::<And, N>(self, other);
     }
 
     fn xor_with(&mut self, other: &ArrayRepr<N>) {
-        other.learn_is_value();
-        combine::<Xor>(&mut self.0, &other.0);
+        change_by::<Xor, N>(self, other);
     }
 
     fn and_not_with(&mut self, other: &ArrayRepr<N>) {
-        other.learn_is_value();
-        combine::<AndNot>(&mut self.0, &other.0);
+        change_by::<AndNot, N>(self, other);
     }
 
     fn is_subset_of(&self, other: &ArrayRepr<N>) -> bool {
-        self.learn_is_value();
-        other.learn_is_value();
-        are_none::<AndNot>(&self.0, &other.0)
+        yields_none::<AndNot, N>(self, other)
     }
 
     fn is_disjoint_from(&self, other: &ArrayRepr<N>) -> bool {
-        self.learn_is_value();
-        other.learn_is_value();
-        are_none::<And>(&self.0, &other.0)
+        yields_none::<And, N>(self, other)
     }
 
     fn iter(self) -> ArrayIter<N>
@@ -180,8 +181,7 @@ impl<const N: usize> EnumSetTypeRepr for ArrayRepr<N> {
     }
 
     fn word(&self, i: usize) -> u64 {
-        self.learn_is_value();
-        self.0[i]
+        self.words()[i]
     }
 
     fn put_word(&mut self, i: usize, w: u64) {
@@ -200,33 +200,9 @@ impl<const N: usize> EnumSetTypeRepr for ArrayRepr<N> {
 
     ghost cmp_is = { compare_is N };
 
-    ghost can_bitand = { λ _ _. tt };
+    ghost operators = { by_sets };
 
-    ghost can_bitor = { λ _ _. tt };
-
-    ghost can_bitxor = { λ _ _. tt };
-
-    ghost can_not = { λ _. tt };
-
-    ghost bitand_is = { λ _ _ _ _ _ is. is };
-
-    ghost bitor_is = { λ _ _ _ _ _ is. is };
-
-    ghost bitxor_is = { λ _ _ _ _ _ is. is };
-
-    ghost not_is = { λ _ _ _ is. is };
-
-    ghost can_step = { λ _. tt };
-
-    ghost can_step_back = { λ _. tt };
-
-    ghost steps = { λ _ _ _ step. step.0 };
-
-    ghost steps_back = { λ _ _ _ step. step.0 };
-
-    ghost clones = { λ i j copy k. (copy k).items };
-
-    ghost left = { λ _. refl };
+    ghost listed = { listed };
 
     ghost counts = { counted };
 }

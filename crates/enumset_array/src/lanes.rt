@@ -19,10 +19,8 @@ pub(crate) trait WordOperation {
     fn on_words(a: u64, b: u64) -> u64
         ensures { result ≡ of_two a b };
 
-    /// The results for four pairs of words: each word of `a` with the word of `b` in the same place. The two must have
-    /// the same number of words, as any two `u64x4` do.
+    /// The results for four pairs of words: each word of `a` with the word of `b` in the same place.
     fn on_lanes(a: u64x4, b: u64x4) -> u64x4
-        requires { length a ≡ length b }
         ensures { result ≡ zip2 of_two a b };
 }
 
@@ -37,9 +35,6 @@ pub(crate) struct Xor;
 
 /// `a & !b`.
 pub(crate) struct AndNot;
-
-/// `!a`, whatever b is.
-pub(crate) struct Inverse;
 
 /// `a`, whatever b is.
 pub(crate) struct First;
@@ -89,18 +84,6 @@ impl WordOperation for AndNot {
 
     fn on_lanes(a: u64x4, b: u64x4) -> u64x4 {
         a & !b
-    }
-}
-
-impl WordOperation for Inverse {
-    ghost of_two = { λ a _. bit_not w64 a };
-
-    fn on_words(a: u64, _b: u64) -> u64 {
-        !a
-    }
-
-    fn on_lanes(a: u64x4, _b: u64x4) -> u64x4 {
-        !a
     }
 }
 
@@ -183,16 +166,15 @@ fn any_of<O: WordOperation>(words: &[u64], others: &[u64]) -> u64
     requires { length words.now ≡ length others.now }
     ensures { (result == 0) ≡ list_all (λ w. w == 0) (zip2 O.of_two words.now others.now) }
 {
+    let (chunks, rest) = words.as_chunks::<4>();
+    let (other_chunks, other_rest) = others.as_chunks::<4>();
     let mut lanes = u64x4::splat(0);
-    for k in 0..words.len() / 4 {
-        lanes |= O::on_lanes(
-            u64x4::from_slice(&words[4 * k..]),
-            u64x4::from_slice(&others[4 * k..]),
-        );
+    for (chunk, other) in chunks.iter().zip(other_chunks) {
+        lanes |= O::on_lanes(u64x4::from_array(*chunk), u64x4::from_array(*other));
     }
     let mut any = lanes.reduce_or();
-    for i in words.len() / 4 * 4..words.len() {
-        any |= O::on_words(words[i], others[i]);
+    for (word, other_word) in rest.iter().zip(other_rest) {
+        any |= O::on_words(*word, *other_word);
     }
     any
 }
@@ -202,16 +184,13 @@ pub(crate) fn ones_of(words: &[u64]) -> u32
     requires { length words.now < WORD_LIMIT }
     ensures { result ≡ sum_by (λ w. len (bits w)) words.now }
 {
+    let (chunks, rest) = words.as_chunks::<4>();
     let mut ones = 0;
-    for k in 0..words.len() / 4 {
-        let i = 4 * k;
-        ones += words[i].count_ones()
-            + words[i + 1].count_ones()
-            + words[i + 2].count_ones()
-            + words[i + 3].count_ones();
+    for [a, b, c, d] in chunks {
+        ones += a.count_ones() + b.count_ones() + c.count_ones() + d.count_ones();
     }
-    for i in words.len() / 4 * 4..words.len() {
-        ones += words[i].count_ones();
+    for word in rest {
+        ones += word.count_ones();
     }
     ones
 }

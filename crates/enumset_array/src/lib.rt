@@ -18,9 +18,10 @@ mod lanes;
 mod operators;
 mod order;
 pub mod row;
-mod rows;
+mod set_operation;
 pub mod shown_row;
 pub mod traversal;
+mod words;
 
 pub use array_iter::ArrayIter;
 pub use array_repr::ArrayRepr;

@@ -5,7 +5,8 @@ ghost use Rattle.enumset_repr.specs.BitSet as set;
 ghost use Rattle.enumset_array.specs.ArrayWords.{in_use, set_of};
 
 use crate::array_repr::{ArrayRepr, WORD_LIMIT};
-use crate::lanes::{And, Inverse, Or, Xor, combine};
+use crate::lanes::{And, AndNot, Or, Xor};
+use crate::set_operation::change_by;
 use std::ops::{BitAnd, BitOr, BitXor, Not};
 
 impl<const N: usize> BitAnd for ArrayRepr<N> {
@@ -15,9 +16,9 @@ impl<const N: usize> BitAnd for ArrayRepr<N> {
 
     /// The members of both.
     fn bitand(self, other: ArrayRepr<N>) -> ArrayRepr<N> {
-        let mut words = self.0;
-        combine::<And>(&mut words, &other.0);
-        ArrayRepr(words)
+        let mut result = self;
+        change_by::<And, N>(&mut result, &other);
+        result
     }
 }
 
@@ -28,9 +29,9 @@ impl<const N: usize> BitOr for ArrayRepr<N> {
 
     /// The members of either.
     fn bitor(self, other: ArrayRepr<N>) -> ArrayRepr<N> {
-        let mut words = self.0;
-        combine::<Or>(&mut words, &other.0);
-        ArrayRepr(words)
+        let mut result = self;
+        change_by::<Or, N>(&mut result, &other);
+        result
     }
 }
 
@@ -41,9 +42,9 @@ impl<const N: usize> BitXor for ArrayRepr<N> {
 
     /// The members of exactly one of the two.
     fn bitxor(self, other: ArrayRepr<N>) -> ArrayRepr<N> {
-        let mut words = self.0;
-        combine::<Xor>(&mut words, &other.0);
-        ArrayRepr(words)
+        let mut result = self;
+        change_by::<Xor, N>(&mut result, &other);
+        result
     }
 }
 
@@ -54,11 +55,19 @@ impl<const N: usize> Not for ArrayRepr<N> {
 
     /// The numbers below the width that are not members.
     fn not(self) -> ArrayRepr<N> {
-        let mut words = self.0;
-        combine::<Inverse>(&mut words, &self.0);
-        for i in N % WORD_LIMIT..N {
-            words[i] = 0;
-        }
-        ArrayRepr(words)
+        let mut result = full();
+        change_by::<AndNot, N>(&mut result, &self);
+        result
     }
+}
+
+/// The numbers below the width.
+fn full<const N: usize>() -> ArrayRepr<N>
+    ensures { set_of N result ≡ set.below (64 * in_use N) }
+{
+    let mut words = [u64::MAX; N];
+    for i in N % WORD_LIMIT..N {
+        words[i] = 0;
+    }
+    ArrayRepr(words)
 }

@@ -8,7 +8,6 @@ ghost use Rattle.enumset_array.specs.Laws.Order.{highest_first-total, highest_fi
 
 use crate::array_repr::ArrayRepr;
 use crate::lanes::equal_from;
-use enumset_repr::EnumSetTypeRepr;
 use std::cmp::Ordering;
 
 impl<const N: usize> PartialOrd for ArrayRepr<N> {
@@ -36,9 +35,7 @@ impl<const N: usize> Ord for ArrayRepr<N> {
         ensures words { result ≡ highest_first self.now other.now }
         ensures sets { result ≡ compare (set_of N self.now) (set_of N other.now) }
     {
-        self.learn_is_value();
-        other.learn_is_value();
-        compare_words(&self.0, &other.0)
+        compare_words(self.words(), other.words())
     }
 }
 

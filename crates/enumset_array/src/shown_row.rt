@@ -5,7 +5,7 @@ ghost use Rattle.enumset_array.specs.ArrayWords.{words_in_use};
 
 use crate::array_repr::ArrayRepr;
 use crate::row::Row;
-use crate::rows::Words;
+use crate::words::Words;
 use std::marker::Model;
 
 /// The words in use of an `ArrayRepr`, with a count of asks that can be read at run time.

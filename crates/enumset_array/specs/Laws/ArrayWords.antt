@@ -6,24 +6,24 @@
 --     word_is, inverse      the words of the set are the words
 --     within      each member is below 64 times the number of words in use
 --     repr_of_none, set_of_none      the words of the empty set are all 0
---     empty_iff, none_iff      the set is empty exactly if each word is 0;  exactly if the test of all words says so
+--     none_iff      the set is empty exactly if the test of all words says that each is 0
 --     equal      lists of words are equal exactly if their sets are
 --     same_words-IsEquivalence, same_words-IsPartialEquivalence      having the same words is an equivalence
 --     width_words      there are as many words as the width needs
-use Rattle.std.proofs.Common.{◌≡◌, ◌<◌, ◌≤◌, ◌⊎◌, inl, inr, ℕ, ◌+◌, ◌-◌, ◌*◌, ◌/◌, ◌^◌, true, List, take, drop, sym, ap, ◌∙◌, subst, arith, ◌↔◌, true≢false, lit<}
-use Rattle.std.specs.Prelude.{◌==◌, IsTrue, nat_eq, nat_lt, slice_index, replicate}
+use Rattle.std.proofs.Common.{◌≡◌, ◌<◌, ◌≤◌, ◌⊎◌, inl, inr, ℕ, ◌+◌, ◌-◌, ◌*◌, ◌/◌, ◌^◌, true, List, length, take, drop, sym, ap, ◌∙◌, subst, arith, ◌↔◌, lit<}
+use Rattle.std.specs.Prelude.{◌==◌, IsTrue, nat_eq, slice_index, replicate}
 use Rattle.std.specs.List.{list_all}
 use Rattle.std.specs.Cmp.Lexicographic.{pointwise, same_text}
-use Rattle.std.proofs.lemmas.Bool.{cases_lt, lt-ltb}
+use Rattle.std.proofs.lemmas.Bool.{cases_lt}
 use Rattle.std.proofs.lemmas.Cmp.{nat_list_eq_equiv}
 use Rattle.std.specs.Cmp.{IsEquivalence, IsPartialEquivalence}
 use Rattle.std.proofs.lemmas.List.{get_or-take, get_or-drop, get_or_past, length-take, length-replicate, drop-replicate}
 use Rattle.enumset_repr.specs.BitSet.{BitSet, contains, empty, below, is_subset}
 use Rattle.enumset_repr.specs.Number.{bits}
 use Rattle.enumset_repr.specs.Words.{word, words}
-use Rattle.enumset_repr.specs.Laws.Members.{same_set, contains-below, contains-empty, contains-is_subset}
+use Rattle.enumset_repr.specs.Laws.Members.{same_set, contains-empty}
 use Rattle.enumset_array.specs.ArrayWords.{in_use, words_in_use, set_of, is_empty_past, IsArrayRepr}
-use Rattle.enumset_repr.specs.Laws.WordLists.{contains-bits_of, by_word, contains-zero, word-bits_of, words-bits_of, word-empty}
+use Rattle.enumset_repr.specs.Laws.WordLists.{bits_of-within, contains-bits_of, by_word, contains-zero, word-bits_of, words-bits_of, word-empty}
 use Rattle.enumset_array.specs.Laws.Zeros.{each_zero, all_zero, none_at, all_none}
 
 pub past_is : (n : ℕ) (ws : List ℕ) (w : ℕ) → IsTrue (is_empty_past n ws) → in_use n ≤ w → slice_index ws w ≡ 0
@@ -61,11 +61,9 @@ pub inverse : (n : ℕ) (ws : List ℕ) → IsArrayRepr n ws → words (set_of n
 inverse n ws is_repr = ap (words (set_of n ws)) (sym is_repr.long) ∙ words-bits_of (words_in_use n ws) ws (used_fit n ws is_repr) (λ w. used_is n ws w is_repr.past)
 
 pub within : (n : ℕ) (ws : List ℕ) → IsArrayRepr n ws → IsTrue (is_subset (set_of n ws) (below (64 * in_use n)))
-within n ws is_repr = contains-is_subset _ _ (by_word (λ q. contains (set_of n ws) q ≡ true → contains (below (64 * in_use n)) q ≡ true) (λ w b small one. contains-below _ _ ∙ at w b small one (cases_lt w (in_use n))))
-  where
-    at : (w b : ℕ) → b < 64 → contains (set_of n ws) (64 * w + b) ≡ true → (w < in_use n) ⊎ (in_use n ≤ w) → nat_lt (64 * w + b) (64 * in_use n) ≡ true
-    at w b small one (inl low) = lt-ltb _ _ (omega (arith, low, small))
-    at w b small one (inr past) = absurd (true≢false (sym one ∙ contains-set_of n ws w b is_repr small ∙ contains-zero _ b (past_is n ws w is_repr.past past)))
+within n ws is_repr =
+    let long : length (words_in_use n ws) ≡ in_use n = omega (arith, length-take (in_use n) ws, is_repr.long) in
+    subst (λ m. IsTrue (is_subset (set_of n ws) (below (64 * m)))) long (bits_of-within (words_in_use n ws) (used_fit n ws is_repr))
 
 -- ---- no bits
 
@@ -76,20 +74,14 @@ repr_of_none n = record {
   past = ap (list_all (λ w. w == 0)) (drop-replicate (in_use n) n 0) ∙ all_none (n - in_use n);
 }
 
-pub empty_iff : (n : ℕ) (ws : List ℕ) → IsArrayRepr n ws → ((w : ℕ) → slice_index ws w ≡ 0) ↔ (set_of n ws ≡ empty)
-empty_iff n ws is_repr = (
-  λ none. set_is n ws empty is_repr (λ w b small. contains-zero _ b (none w) ∙ sym (contains-empty _)),
-  λ none w. sym (word_is n ws w is_repr) ∙ ap (λ s. word s w) none ∙ word-empty w,
-)
-
 pub none_iff : (n : ℕ) (ws : List ℕ) → IsArrayRepr n ws → IsTrue (list_all (λ w. w == 0) ws) ↔ (set_of n ws ≡ empty)
 none_iff n ws is_repr = (
-  λ none. (empty_iff n ws is_repr).0 (λ w. each_zero ws w none),
-  λ none. all_zero ws ((empty_iff n ws is_repr).1 none),
+  λ none. set_is n ws empty is_repr (λ w b small. contains-zero _ b (each_zero ws w none) ∙ sym (contains-empty _)),
+  λ none. all_zero ws (λ w. sym (word_is n ws w is_repr) ∙ ap (λ s. word s w) none ∙ word-empty w),
 )
 
 pub set_of_none : (n : ℕ) → set_of n (replicate n 0) ≡ empty
-set_of_none n = (empty_iff n _ (repr_of_none n)).0 (none_at n)
+set_of_none n = (none_iff n _ (repr_of_none n)).0 (all_none n)
 
 -- ---- equal words
 

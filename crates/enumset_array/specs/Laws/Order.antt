@@ -3,56 +3,21 @@
 --         compare as equal
 --     highest_first-cons      of two lists the first words decide only if the words after them are equal
 --     compare_is      the order of the words of an `ArrayRepr` is that of their sets
-use Rattle.std.proofs.Common.{◌≡◌, ◌<◌, ◌≤◌, ◌⊎◌, inl, inr, ℕ, suc, ◌+◌, ◌-◌, ◌*◌, ◌^◌, true, ◌||◌, List, [], ◌∷◌, ◌++◌, length, Some, refl, sym, ap, ◌∙◌, arith}
-use Rattle.std.specs.Prelude.{◌==◌, nat_eq, slice_index, reverse}
+use Rattle.std.proofs.Common.{◌≡◌, ◌<◌, ℕ, suc, ◌+◌, ◌*◌, ◌^◌, true, List, [], ◌∷◌, ◌++◌, length, Some, refl, sym, ap, ◌∙◌, arith}
+use Rattle.std.specs.Prelude.{nat_eq, reverse}
 use Rattle.std.specs.declared.cmp.Ordering.{Ordering}
 use Rattle.std.specs.declared.cmp.Ordering.TheVariants.{Less, Equal, Greater}
-use Rattle.std.specs.Ordering.{MatchOrdering, ordering_then, nat_cmp, eq_by_cmp}
-use Rattle.std.specs.Cmp.{IsTotalOrder, IsPartialOrder, one_rank, ranks, below_irrefl, below_chain, nat_cmp_total, unsigned_ties, on_total, po, both_ways}
+use Rattle.std.specs.Ordering.{ordering_then, nat_cmp, eq_by_cmp}
+use Rattle.std.specs.Cmp.{IsTotalOrder, IsPartialOrder, nat_cmp_total, unsigned_ties, on_total, po, both_ways}
 use Rattle.std.specs.Cmp.Lexicographic.{slice_cmp, pointwise, lists_total, lists_ties, same_text}
-use Rattle.std.proofs.Math.Bool.{or-false}
-use Rattle.std.proofs.lemmas.Bool.{cases_lt}
+use Rattle.std.proofs.lemmas.Bool.Decides.{nat_tests}
 use Rattle.std.proofs.lemmas.Cmp.{nat_list_eq_equiv}
 use Rattle.std.proofs.lemmas.List.{length-reverse, reverse-append, reverse-reverse}
-use Rattle.std.proofs.lemmas.Nat.Bits.{bit_at_cat_low, bit_at_cat_high}
-use Rattle.enumset_repr.specs.BitSet.{contains}
-use Rattle.enumset_repr.specs.Number.{bits, number}
-use Rattle.enumset_repr.specs.Words.{bits_of, upward_shift}
 use Rattle.enumset_repr.specs.Order.{compare}
-use Rattle.enumset_repr.specs.Laws.Members.{same_set, contains-union}
-use Rattle.enumset_repr.specs.Laws.Numbers.{bits-zero, contains-bits, number-bits}
-use Rattle.enumset_repr.specs.Laws.WordLists.{contains-bits_of, contains-bits_above, contains-raised_from, contains-raised_lower}
 use Rattle.enumset_repr.specs.Laws.Order.{compare-number}
 use Rattle.enumset_array.specs.ArrayWords.{set_of, IsArrayRepr}
 use Rattle.enumset_array.specs.Order.{highest_first}
-use Rattle.enumset_array.specs.Laws.ArrayWords.{set_is}
-
--- ---- the number of a list of words
-
-value : List ℕ → ℕ
-value [] = 0
-value (n ∷ ns) = value ns * 2 ^ 64 + n
-
-AllFit : List ℕ → Type 0
-AllFit ws = (i : ℕ) → slice_index ws i < 2 ^ 64
-
-bits_of-value : (ws : List ℕ) → AllFit ws → bits_of ws ≡ bits (value ws)
-unfolding value AllFit bits_of
-bits_of-value [] fit = sym bits-zero
-bits_of-value (n ∷ ns) fit = same_set _ _ (λ q. contains-union (bits n) (upward_shift (bits_of ns) 64) q ∙ by (bits_of-value ns (λ i. fit (suc i))) q (cases_lt q 64))
-  where
-    by : bits_of ns ≡ bits (value ns) → (q : ℕ) → (q < 64) ⊎ (64 ≤ q) → (contains (bits n) q || contains (upward_shift (bits_of ns) 64) q) ≡ contains (bits (value ns * 2 ^ 64 + n)) q
-    by higher q (inl under) =
-        ap (λ b. contains (bits n) q || b) (contains-raised_lower (bits_of ns) 64 q under) ∙ or-false _
-        ∙ contains-bits n q ∙ ap (λ d. d == 1) (sym (bit_at_cat_low (value ns) 64 n q under)) ∙ sym (contains-bits _ q)
-    by higher q (inr from) =
-        (λ i. contains-bits_above n 64 q (fit 0) from i || contains-raised_from (bits_of ns) 64 q from i)
-        ∙ ap (λ s. contains s (q - 64)) higher ∙ contains-bits (value ns) (q - 64)
-        ∙ ap (λ d. d == 1) (sym (bit_at_cat_high (value ns) 64 n q (fit 0) from)) ∙ sym (contains-bits _ q)
-
-number_is : (n : ℕ) (ws : List ℕ) → IsArrayRepr n ws → number (set_of n ws) ≡ value ws
-unfolding AllFit
-number_is n ws is_repr = ap number (set_is n ws (bits_of ws) is_repr (λ w b small. sym (contains-bits_of ws w b is_repr.fit small)) ∙ bits_of-value ws is_repr.fit) ∙ number-bits (value ws)
+use Rattle.enumset_array.specs.Laws.Values.{value, AllFit, number_is}
 
 -- ---- lists of words compare as their numbers do
 
@@ -62,9 +27,7 @@ then_equal Equal = refl
 then_equal Greater = refl
 
 then_then : (o p r : Ordering) → ordering_then o (ordering_then p r) ≡ ordering_then (ordering_then o p) r
-then_then Less p r = refl
-then_then Equal p r = refl
-then_then Greater p r = refl
+then_then o p r = grind (arith, nat_tests)
 
 -- the last items decide only if the items before them are equal
 slice_cmp-push : (xs ys : List ℕ) (x y : ℕ) → length xs ≡ length ys → slice_cmp nat_cmp (xs ++ x ∷ []) (ys ++ y ∷ []) ≡ ordering_then (slice_cmp nat_cmp xs ys) (nat_cmp x y)
@@ -79,19 +42,10 @@ highest_first-cons x y xs ys long =
     (λ i. slice_cmp nat_cmp (reverse-append (x ∷ []) xs i) (reverse-append (y ∷ []) ys i))
     ∙ slice_cmp-push (reverse xs) (reverse ys) x y (length-reverse xs ∙ long ∙ sym (length-reverse ys))
 
-module _ (a b x y : ℕ) (fit_x : x < 2 ^ 64) (fit_y : y < 2 ^ 64) where
-  then_ranks : (o p : Ordering) → MatchOrdering o (a < b) (a ≡ b) (b < a) → MatchOrdering p (x < y) (x ≡ y) (y < x) → MatchOrdering (ordering_then o p) (a * 2 ^ 64 + x < b * 2 ^ 64 + y) (a * 2 ^ 64 + x ≡ b * 2 ^ 64 + y) (b * 2 ^ 64 + y < a * 2 ^ 64 + x)
-  then_ranks Less p h k = omega (arith, h, fit_x)
-  then_ranks Equal Less h k = omega (arith, h, k)
-  then_ranks Equal Equal h k = omega (arith, h, k)
-  then_ranks Equal Greater h k = omega (arith, h, k)
-  then_ranks Greater p h k = omega (arith, h, fit_y)
-
-  then_numbers : ordering_then (nat_cmp a b) (nat_cmp x y) ≡ nat_cmp (a * 2 ^ 64 + x) (b * 2 ^ 64 + y)
-  then_numbers = one_rank (λ (n k : ℕ). n < k) below_irrefl below_chain _ _ _ _ (then_ranks _ _ (ranks a b) (ranks x y)) (ranks (a * 2 ^ 64 + x) (b * 2 ^ 64 + y))
+then_numbers : (a b x y : ℕ) → x < 2 ^ 64 → y < 2 ^ 64 → ordering_then (nat_cmp a b) (nat_cmp x y) ≡ nat_cmp (a * 2 ^ 64 + x) (b * 2 ^ 64 + y)
+then_numbers a b x y fit_x fit_y = grind (arith, nat_tests)
 
 by_value : (a b : List ℕ) → AllFit a → AllFit b → length a ≡ length b → highest_first a b ≡ nat_cmp (value a) (value b)
-unfolding value AllFit
 by_value [] [] p q long = refl
 by_value [] (y ∷ ys) p q long = absurd (omega (arith, long))
 by_value (x ∷ xs) [] p q long = absurd (omega (arith, long))
@@ -102,7 +56,6 @@ by_value (x ∷ xs) (y ∷ ys) p q long =
     ∙ then_numbers (value xs) (value ys) x y (p 0) (q 0)
 
 pub compare_is : (n : ℕ) (a b : List ℕ) → IsArrayRepr n a → IsArrayRepr n b → highest_first a b ≡ compare (set_of n a) (set_of n b)
-unfolding AllFit
 compare_is n a b p q =
     by_value a b p.fit q.fit (p.long ∙ sym q.long)
     ∙ (λ i. nat_cmp (sym (number_is n a p) i) (sym (number_is n b q) i)) ∙ sym (compare-number (set_of n a) (set_of n b))

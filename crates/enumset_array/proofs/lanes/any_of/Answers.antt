@@ -1,42 +1,55 @@
-use Rattle.std.proofs.Common.{◌≡◌, ◌≤◌, ◌+◌, ◌*◌, ◌/◌, List, ℕ, length, take, bit_or, sym, ap, ◌∙◌, refl, arith}
-use Rattle.std.proofs.lemmas.List.{take_all}
-use Rattle.std.proofs.lemmas.Simd.{length-zip2, length-chunk, get_or-zip2}
+use Rattle.std.proofs.Common.{◌≡◌, ◌<◌, ◌≤◌, ◌+◌, ◌*◌, ◌/◌, List, [], ◌∷◌, ◌++◌, ℕ, length, take, bit_or, sym, ap, ◌∙◌, arith}
+use Rattle.std.proofs.lemmas.List.{take_all, get_or-drop, length_push}
+use Rattle.std.proofs.lemmas.Simd.{length-zip2, get_or-zip2}
+use Rattle.std.proofs.lemmas.Slice.Zip.{zip_turn, zip_end}
 use Rattle.std.specs.Prelude.{◌==◌, slice_index}
 use Rattle.std.specs.Simd.Lanes.{zip2, chunk}
-use Rattle.enumset_array.proofs.WordLanes.{none_in, chunk-zip2, lanes_none, joined_none, one_none}
+use Rattle.enumset_array.proofs.WordLanes.{none_in, chunk_here, chunk-zip2, lanes_none, joined_none, one_none}
 use Rattle.enumset_array.proofs.lanes.any_of.Goals as goal
 
-pub loop-k-preserved : goal.loop-k-preserved
-loop-k-preserved g c =
+pub loop-chunk-preserved : goal.loop-chunk-preserved
+loop-chunk-preserved g c =
     let op : ℕ → ℕ → ℕ = g.O.WordOperation.of_two in
+    let turn = zip_turn c.as_chunks.result.0.now c.as_chunks-2.result.0.now c.loop-chunk.yielded c.into_iter-chunk-iterator.result c.loop-chunk.chunk-iterator c.next.new.self c.next.result (cc) (cc) c.loop-chunk.yielded_by _ c.in-Some.is c.next.ensures.steps in
+    let first = chunk_here _ _ _ _ c.as_chunks.ensures.front c.as_chunks.ensures.front_len turn.0 (turn.2 []) in
+    let second = chunk_here _ _ _ _ c.as_chunks-2.ensures.front c.as_chunks-2.ensures.front_len turn.1 (turn.3 []) in
     let answers : List ℕ = zip2 op c.args.words.now c.args.others.now in
+    let k : ℕ = length c.loop-chunk.yielded in
+    let more : length (c.loop-chunk.yielded ++ (c.in-Some.chunk, c.in-Some.other) ∷ []) ≡ k + 1 = length_push c.loop-chunk.yielded _ in
     let long : length answers ≡ length c.args.words.now = length-zip2 op c.args.words.now c.args.others.now c.requires in
-    let next : 4 * (c.loop-k.k + 1) ≡ 4 * c.loop-k.k + 4 = omega arith in
-    let within : 4 * (c.loop-k.k + 1) ≤ length answers = omega (arith, long) in
-    let room : 4 * c.loop-k.k + 4 ≤ length answers = omega (arith, long) in
-    let four : c.on_lanes-lanes.result ≡ chunk (4 * c.loop-k.k) 4 answers = c.on_lanes-lanes.ensures ∙ sym (chunk-zip2 op (4 * c.loop-k.k) 4 c.args.words.now c.args.others.now) in
-    record {
-      four = length-zip2 bit_or c.loop-k.lanes _ (c.loop-k.invariant.four ∙ sym (ap length four ∙ length-chunk (4 * c.loop-k.k) 4 answers room)) ∙ c.loop-k.invariant.four;
-      none = ap (λ ws. none_in (zip2 bit_or c.loop-k.lanes ws)) four ∙ joined_none answers c.loop-k.lanes (4 * c.loop-k.k) (4 * (c.loop-k.k + 1)) next within c.loop-k.invariant.four c.loop-k.invariant.none;
-    }
+    let four : c.on_lanes-lanes.result ≡ chunk (4 * k) 4 answers =
+    c.on_lanes-lanes.ensures ∙ (λ i. zip2 op (first.0 i) (second.0 i)) ∙ sym (chunk-zip2 op (4 * k) 4 c.args.words.now c.args.others.now) in
+    let within : 4 * (k + 1) ≤ length answers = omega (arith, long, turn.0, c.as_chunks.ensures.front_len) in
+    ap (λ ws. none_in (zip2 bit_or c.loop-chunk.lanes ws)) four
+    ∙ joined_none answers c.loop-chunk.lanes (4 * k) (4 * (k + 1)) (omega arith) within c.loop-chunk.auto.lanes.0 c.loop-chunk.invariant
+    ∙ sym (ap (λ n. none_in (take (4 * n) answers)) more)
 
-pub loop-i-init : goal.loop-i-init
-loop-i-init g c =
-    let done : 4 * c.loop-k.k ≡ length c.args.words.now / 4 * 4 = omega arith in
-    lanes_none c.loop-k.lanes ∙ c.loop-k.invariant.none ∙ ap (λ k. none_in (take k (zip2 g.O.WordOperation.of_two c.args.words.now c.args.others.now))) done
+pub loop-word-init : goal.loop-word-init
+loop-word-init g c =
+    let ended = zip_end c.as_chunks.result.0.now c.as_chunks-2.result.0.now c.loop-chunk.yielded c.into_iter-chunk-iterator.result c.loop-chunk.chunk-iterator c.next.new.self c.next.result (cc) (cc) c.loop-chunk.yielded_by c.in-None.is c.next.ensures.steps in
+    let done : 4 * length c.loop-chunk.yielded ≡ length c.args.words.now / 4 * 4 + 0 = omega (arith, ended, c.as_chunks.ensures.front_len, c.as_chunks-2.ensures.front_len, c.requires) in
+    lanes_none c.loop-chunk.lanes ∙ c.loop-chunk.invariant ∙ ap (λ k. none_in (take k (zip2 g.O.WordOperation.of_two c.args.words.now c.args.others.now))) done
 
-pub loop-i-preserved : goal.loop-i-preserved
-loop-i-preserved g c =
+pub loop-word-preserved : goal.loop-word-preserved
+loop-word-preserved g c =
     let op : ℕ → ℕ → ℕ = g.O.WordOperation.of_two in
+    let turn = zip_turn c.as_chunks.result.1.now c.as_chunks-2.result.1.now c.loop-word.yielded c.into_iter-word-iterator.result c.loop-word.word-iterator c.next-in-loop-word.new.self c.next-in-loop-word.result (cc) (cc) c.loop-word.yielded_by _ c.in-Some-2.is c.next-in-loop-word.ensures.steps in
     let answers : List ℕ = zip2 op c.args.words.now c.args.others.now in
+    let k : ℕ = length c.loop-word.yielded in
+    let i : ℕ = length c.args.words.now / 4 * 4 + k in
+    let more : length (c.loop-word.yielded ++ (c.in-Some-2.word, c.in-Some-2.other_word) ∷ []) ≡ k + 1 = length_push c.loop-word.yielded _ in
     let long : length answers ≡ length c.args.words.now = length-zip2 op c.args.words.now c.args.others.now c.requires in
-    let one : slice_index answers c.loop-i.i ≡ op (slice_index c.args.words.now c.loop-i.i) (slice_index c.args.others.now c.loop-i.i) =
-    get_or-zip2 op c.args.words.now c.args.others.now c.loop-i.i 0 0 0 c.loop-i-test.true (omega (arith, c.loop-i-test.true, c.requires)) in
-    ap (λ w. bit_or c.loop-i.any w == 0) (c.on_words-any.ensures ∙ sym one)
-    ∙ one_none answers c.loop-i.any c.loop-i.i (c.loop-i.i + 1) refl (omega (arith, long, c.loop-i-test.true)) c.loop-i.invariant
+    let low : i < length c.args.words.now = omega (arith, turn.0, c.as_chunks.ensures.back_len) in
+    let first : c.in-Some-2.word.now ≡ slice_index c.args.words.now i = turn.2 0 ∙ ap (λ ws. slice_index ws k) c.as_chunks.ensures.back ∙ get_or-drop (length c.args.words.now / 4 * 4) c.args.words.now k 0 in
+    let second : c.in-Some-2.other_word.now ≡ slice_index c.args.others.now i =
+    turn.3 0 ∙ ap (λ ws. slice_index ws k) c.as_chunks-2.ensures.back ∙ get_or-drop (length c.args.others.now / 4 * 4) c.args.others.now k 0
+    ∙ ap (λ n. slice_index c.args.others.now (n / 4 * 4 + k)) (sym c.requires) in
+    ap (λ w. bit_or c.loop-word.any w == 0) (c.on_words-any.ensures ∙ (λ j. op (first j) (second j)) ∙ sym (get_or-zip2 op c.args.words.now c.args.others.now i 0 0 0 low (omega (arith, low, c.requires))))
+    ∙ one_none answers c.loop-word.any i (length c.args.words.now / 4 * 4 + (k + 1)) (omega arith) (omega (arith, long, low)) c.loop-word.invariant
+    ∙ sym (ap (λ n. none_in (take (length c.args.words.now / 4 * 4 + n) answers)) more)
 
 pub returns : goal.returns
 returns g c =
-    let long : length (zip2 g.O.WordOperation.of_two c.args.words.now c.args.others.now) ≡ length c.args.words.now = length-zip2 g.O.WordOperation.of_two c.args.words.now c.args.others.now c.requires in
-    let all : length (zip2 g.O.WordOperation.of_two c.args.words.now c.args.others.now) ≤ c.loop-i.i = omega (arith, long, c.loop-i-test.false) in
-    c.loop-i.invariant ∙ ap none_in (take_all _ _ all)
+    let ended = zip_end c.as_chunks.result.1.now c.as_chunks-2.result.1.now c.loop-word.yielded c.into_iter-word-iterator.result c.loop-word.word-iterator c.next-in-loop-word.new.self c.next-in-loop-word.result (cc) (cc) c.loop-word.yielded_by c.in-None-2.is c.next-in-loop-word.ensures.steps in
+    let long = length-zip2 g.O.WordOperation.of_two c.args.words.now c.args.others.now c.requires in
+    c.loop-word.invariant ∙ ap none_in (take_all (length c.args.words.now / 4 * 4 + length c.loop-word.yielded) (zip2 g.O.WordOperation.of_two c.args.words.now c.args.others.now) (omega (arith, long, ended, c.requires, c.as_chunks.ensures.back_len, c.as_chunks-2.ensures.back_len)))

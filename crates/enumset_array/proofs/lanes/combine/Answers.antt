@@ -1,15 +1,8 @@
-use Rattle.std.proofs.Common.{◌≡◌, ◌≤◌, ◌+◌, ◌*◌, length, set, refl, sym, ap, ◌∙◌, arith}
+use Rattle.std.proofs.Common.{◌≡◌, ◌+◌, ◌*◌, length, set, refl, sym, ap, ◌∙◌, arith}
 use Rattle.std.specs.Prelude.{slice_index}
 use Rattle.std.specs.Simd.Lanes.{zip2, chunk, put_chunk}
-use Rattle.std.proofs.lemmas.Simd.{length-chunk}
 use Rattle.enumset_array.proofs.WordLanes.{part_made, made_none, made_all, one_made, lanes_made}
 use Rattle.enumset_array.proofs.lanes.combine.Goals as goal
-
-pub on_lanes-lanes-requires : goal.on_lanes-lanes-requires
-on_lanes-lanes-requires g c =
-    let first : 4 * c.loop-k.k + 4 ≤ length c.loop-k.words = omega arith in
-    let second : 4 * c.loop-k.k + 4 ≤ length c.args.others.now = omega (arith, c.requires) in
-    length-chunk (4 * c.loop-k.k) 4 c.loop-k.words first ∙ sym (length-chunk (4 * c.loop-k.k) 4 c.args.others.now second)
 
 pub loop-k-init : goal.loop-k-init
 loop-k-init g c = sym (made_none _ _ _)

@@ -1,22 +1,30 @@
-use Rattle.std.proofs.Common.{◌≡◌, ◌≤◌, ◌+◌, ◌*◌, ◌∙◌, length, sym, ap, arith}
+use Rattle.std.proofs.Common.{◌≡◌, ◌+◌, ◌*◌, ◌/◌, [], ◌∙◌, length, get_or, refl, sym, ap, arith, rules}
 use Rattle.std.specs.Int.RustNames.{count_ones}
 use Rattle.std.specs.Prelude.{slice_index}
-use Rattle.enumset_array.proofs.RowWords.{few_ones, one_more, four_more}
+use Rattle.std.proofs.lemmas.List.{take_all, get_or-drop}
+use Rattle.enumset_array.proofs.RowWords.{bits_in, one_more, four_ones, four_more}
+use Rattle.enumset_array.proofs.WordLanes.{chunk_here}
 use Rattle.enumset_array.proofs.lanes.ones_of.Goals as goal
 
-pub loop-k-preserved : goal.loop-k-preserved
-loop-k-preserved c =
-    let i = 4 * c.loop-k.k in
-    let next : 4 * (c.loop-k.k + 1) ≡ 4 * c.loop-k.k + 4 = omega arith in
-    let within : 4 * (c.loop-k.k + 1) ≤ length c.args.words.now = omega arith in
+pub loop-a-preserved : goal.loop-a-preserved
+loop-a-preserved c =
+    let i = 4 * c.loop-a.a-index in
+    let chunk = chunk_here c.args.words.now c.as_chunks.result.0.now _ c.loop-a.a-index c.as_chunks.ensures.front c.as_chunks.ensures.front_len c.loop-a-test.true refl in
     record {
-      counted = (λ j. c.loop-k.invariant.counted j + (count_ones (slice_index c.args.words.now i) + count_ones (slice_index c.args.words.now (i + 1)) + count_ones (slice_index c.args.words.now (i + 2)) + count_ones (slice_index c.args.words.now (i + 3))))
-          ∙ sym (four_more c.args.words.now (4 * c.loop-k.k) (4 * (c.loop-k.k + 1)) next within);
-      small = omega (arith, c.loop-k.invariant.small, few_ones _ (c.type_inv.words i).fits, few_ones _ (c.type_inv.words (i + 1)).fits, few_ones _ (c.type_inv.words (i + 2)).fits, few_ones _ (c.type_inv.words (i + 3)).fits);
+      counted = (λ j. c.loop-a.invariant.counted j + (sym (four_ones (get_or c.as_chunks.result.0.now c.loop-a.a-index []) chunk.1) ∙ ap bits_in chunk.0) j)
+          ∙ sym (four_more c.args.words.now i (4 * (c.loop-a.a-index + 1)) (omega arith));
+      small = search rules;
     }
 
-pub loop-i-preserved : goal.loop-i-preserved
-loop-i-preserved c = record {
-  counted = ap (λ n. n + count_ones (slice_index c.args.words.now c.loop-i.i)) c.loop-i.invariant.counted ∙ sym (one_more c.args.words.now c.loop-i.i (c.loop-i.i + 1) (omega arith) c.loop-i-test.true);
-  small = omega (arith, c.loop-i.invariant.small, few_ones _ (c.type_inv.words c.loop-i.i).fits);
-}
+pub loop-word-preserved : goal.loop-word-preserved
+loop-word-preserved c =
+    let i = length c.args.words.now / 4 * 4 + c.loop-word.word-index in
+    let here : slice_index c.as_chunks.result.1.now c.loop-word.word-index ≡ slice_index c.args.words.now i =
+    ap (λ ws. slice_index ws c.loop-word.word-index) c.as_chunks.ensures.back ∙ get_or-drop (length c.args.words.now / 4 * 4) c.args.words.now c.loop-word.word-index 0 in
+    record {
+      counted = (λ j. c.loop-word.invariant.counted j + ap count_ones here j) ∙ sym (one_more c.args.words.now i (length c.args.words.now / 4 * 4 + (c.loop-word.word-index + 1)) (omega arith) (omega (arith, c.as_chunks.ensures.back_len)));
+      small = search rules;
+    }
+
+pub returns : goal.returns
+returns c = c.loop-word.invariant.counted ∙ ap bits_in (take_all _ c.args.words.now (omega (arith, c.as_chunks.ensures.back_len)))

@@ -1,18 +1,16 @@
-use Rattle.std.proofs.Common.{◌≡◌, ◌≤◌, ◌*◌, take}
-use Rattle.std.specs.Prelude.{sum_by}
-use Rattle.enumset_repr.specs.BitSet.{len}
-use Rattle.enumset_repr.specs.Number.{bits}
+use Rattle.std.proofs.Common.{◌≡◌, ◌≤◌, ◌+◌, ◌*◌, ◌/◌, length, take}
+use Rattle.enumset_array.proofs.RowWords.{bits_in}
 use Rattle.enumset_array.proofs.lanes.ones_of.Given as goal
 
 -- the bits of the words so far are counted
-abbrev pub invariant-loop-k : goal.invariant-loop-k
-invariant-loop-k l = record {
-  counted : l.ones ≡ sum_by (λ w. len (bits w)) (take (4 * l.k) l.words);
-  small : l.ones ≤ 64 * (4 * l.k);
+abbrev pub invariant-loop-a : goal.invariant-loop-a
+invariant-loop-a l = record {
+  counted : l.ones ≡ bits_in (take (4 * l.a-index) l.words);
+  small : l.ones ≤ 64 * (4 * l.a-index);
 }
 
-abbrev pub invariant-loop-i : goal.invariant-loop-i
-invariant-loop-i l = record {
-  counted : l.ones ≡ sum_by (λ w. len (bits w)) (take l.i l.words);
-  small : l.ones ≤ 64 * l.i;
+abbrev pub invariant-loop-word : goal.invariant-loop-word
+invariant-loop-word l = record {
+  counted : l.ones ≡ bits_in (take (length l.words / 4 * 4 + l.word-index) l.words);
+  small : l.ones ≤ 64 * (length l.words / 4 * 4 + l.word-index);
 }

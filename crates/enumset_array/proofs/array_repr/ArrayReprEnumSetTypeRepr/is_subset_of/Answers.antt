@@ -1,6 +1,8 @@
 use Rattle.std.proofs.Common.{◌∙◌}
-use Rattle.enumset_array.proofs.CombinedWords.{within_is}
+use Rattle.std.proofs.lemmas.Bool.Decides.{same_from_decides}
+use Rattle.enumset_repr.specs.Laws.Ascending.{is_empty_iff}
+use Rattle.enumset_repr.specs.Laws.Members.{is_subset_iff}
 use Rattle.enumset_array.proofs.array_repr.ArrayReprEnumSetTypeRepr.is_subset_of.Goals as goal
 
 pub returns : goal.returns
-returns g c = rw (← c.self.view_is, ← c.other.view_is) (c.are_none.ensures ∙ within_is _ _ _ c.learn_is_value.ensures c.learn_is_value-2.ensures)
+returns g c = c.yields_none.ensures.empty ∙ same_from_decides _ _ (is_empty_iff _) (is_subset_iff _ _)

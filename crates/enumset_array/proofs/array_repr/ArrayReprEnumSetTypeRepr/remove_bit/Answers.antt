@@ -6,4 +6,5 @@ use Rattle.enumset_array.proofs.array_repr.ArrayReprEnumSetTypeRepr.remove_bit.G
 pub returns : goal.returns
 returns g c =
     let is_repr : IsArrayRepr g.row.N c.self.inside.0 = record { long = search rules; fit = search rules; past = c.self.invariant } in
-    rw (← c.self.view_is) (remove_bit _ _ _ is_repr c.requires)
+    let made = remove_bit _ _ _ is_repr c.requires in
+    record { members = rw (← c.self.view_is) made.1; value = made.0 }

@@ -1,6 +1,0 @@
-use Rattle.std.proofs.Common.{◌∙◌}
-use Rattle.enumset_repr.specs.Laws.Ascending.{len-ascending}
-use Rattle.enumset_array.proofs.rows.Words.bits_left.Goals as goal
-
-pub returns : goal.returns
-returns g c = rw (← c.self.view_is) (c.count_ones.ensures ∙ len-ascending _)
