@@ -5,4 +5,3 @@ pub mod OneTranscript
 pub mod Alike
 pub mod StatesOfRuns
 pub mod Operands
-pub mod Asks

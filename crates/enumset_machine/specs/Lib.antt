@@ -1,5 +1,4 @@
 pub mod States
-pub mod Asks
 pub mod Plans
 pub mod Runs
 pub mod MixedRuns

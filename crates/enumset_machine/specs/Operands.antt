@@ -1,14 +1,12 @@
 -- Commands by their operands.
 --     plan_of      the plan of the command that does this with these operands
 --     names_of      the registers, the widths, the values and the bits among the operands
---     CountsAsksOf      what the command does to the asks and the span of a machine's iterators
-use Rattle.std.specs.Prelude.{ℕ, [], ◌∷◌}
+use Rattle.std.specs.Prelude.{[], ◌∷◌}
 use Rattle.enumset_commands.specs.Tables.{command_of_operation}
 use Rattle.enumset_commands.specs.declared.operation.Operation.{Operation}
 use Rattle.enumset_commands.specs.declared.operation.Operation.TheVariants.{OneSet, TwoSets, ThreeSets, SetAndBit, SetAndWidth, SetAndValue, SetAndWords, OneIterator, IteratorAndSet}
 use Rattle.enumset_machine.specs.Plans.{Names, Plan, set_names}
 use Rattle.enumset_machine.specs.Runs.{plan}
-use Rattle.enumset_machine.specs.Asks.{RunView, CountsAsks, is_step, makes_iterator}
 
 abbrev pub plan_of : Operation → Plan
 plan_of operation = plan (command_of_operation operation)
@@ -23,7 +21,3 @@ names_of (SetAndValue r width value operation) = record (set_names (r ∷ [])) {
 names_of (SetAndWords r operation) = set_names (r ∷ [])
 names_of (OneIterator i operation) = record (set_names []) { iterators = i ∷ [] }
 names_of (IteratorAndSet i r) = record (set_names (r ∷ [])) { iterators = i ∷ [] }
-
-abbrev pub CountsAsksOf : ℕ → Operation → RunView → RunView → Type 0
-CountsAsksOf words operation old new =
-    CountsAsks words (is_step (command_of_operation operation)) (makes_iterator (command_of_operation operation)) old new

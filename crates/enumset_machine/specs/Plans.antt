@@ -15,7 +15,7 @@
 --     refusal      why a command that names this is refused, if it is
 --     Outcome      a reply, and the state after it
 --     outcome_unless, outcome_of      what comes of a plan, unless it is refused;  what comes of a plan
---     replies_by, state_by      the replies to a list of commands, from the outcome of each;  the state after them
+--     replies_by      the replies to a list of commands, from the outcome of each
 use Rattle.std.specs.Prelude.{ℕ, ◌^◌, Bool, true, false, not, ◌&&◌, nat_lt, List, [], ◌∷◌, Option, Some, None, if◌then◌else◌}
 use Rattle.std.specs.List.{list_all}
 use Rattle.enumset_repr.specs.BitSet.{BitSet, is_in, contains, is_subset, below}
@@ -142,7 +142,3 @@ outcome_of rules s plan = outcome_unless (refusal rules plan.names) rules s plan
 abbrev pub replies_by : {C : Type 0} → (State → C → Outcome) → State → List C → List Reply
 replies_by outcome s [] = []
 replies_by outcome s (c ∷ cs) = (outcome s c).reply ∷ replies_by outcome (outcome s c).state cs
-
-abbrev pub state_by : {C : Type 0} → (State → C → Outcome) → State → List C → State
-state_by outcome s [] = s
-state_by outcome s (c ∷ cs) = state_by outcome (outcome s c).state cs

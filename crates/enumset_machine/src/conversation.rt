@@ -23,7 +23,7 @@ where
     ghost View = { ConversationView };
 
     ghost view = { λ conversation. record {
-      state = (M.view conversation.machine).state;
+      state = M.view conversation.machine;
       text = string_bytes conversation.text;
     } };
 

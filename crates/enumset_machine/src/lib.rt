@@ -14,4 +14,3 @@ pub use machine::mixed_machine::MixedMachine;
 pub use mixed_runs::run_mixed;
 pub use runs::run;
 pub use serve::{INPUT_LIMIT, serve_mixed_text, serve_text};
-pub use steps::FinishedRun;

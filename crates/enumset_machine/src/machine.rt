@@ -32,32 +32,30 @@ use std::marker::Model;
 
 /// Four set registers and two iterator registers.
 ///
-/// Contracts see the sets as sets of bit numbers, and the iterators as lists of what is left in them. They also see how
-/// many asks, which are counted reads of a word, all iterators of the machine have made, those that were replaced among
-/// them, and the span: how many more the iterators that it has may need beyond one for each item.
+/// Contracts see the sets as sets of bit numbers, and the iterators as lists of what is left in them.
 #[derive(Drop)]
 pub struct Machine<T: EnumSetType> {
     runner: Runner<EnumSet<T>>,
 }
 
 impl<T: EnumSetType> Model for Machine<T> {
-    ghost use Rattle.enumset_machine.specs.Asks.{RunView, coded_run};
+    ghost use Rattle.enumset_machine.specs.States.{State, coded_state};
 
-    ghost Value = { RunView };
+    ghost Value = { State };
 
-    ghost coded = { coded_run };
+    ghost coded = { coded_state };
 
     ghost view = { λ m. m.runner };
 }
 
 impl<T: EnumSetType> Machine<T> {
-    ghost use Rattle.enumset_machine.specs.Asks.{fresh, is_step, makes_iterator, CountsAsks};
+    ghost use Rattle.enumset_machine.specs.States.{start};
     ghost use Rattle.enumset_machine.specs.Plans.{takes_memory};
     ghost use Rattle.enumset_machine.specs.Runs.{outcome};
 
     /// A machine whose registers are empty.
     pub fn new() -> Machine<T>
-        ensures { result ≡ fresh }
+        ensures { result ≡ start }
     {
         Machine {
             runner: Runner::new(),
@@ -68,19 +66,14 @@ impl<T: EnumSetType> Machine<T> {
     ///
     /// Only a reply of words takes memory; with any other reply the call succeeds. If memory runs out, the machine is
     /// unchanged.
-    ///
-    /// Only `next` and `next_back` ask. They raise the sum of asks and span by at most one, `iter` by at most the number
-    /// of words of the representation, and other commands not at all.
     #[tactic(auto, unfolding(crate::specs::Runs::outcome))]
     pub fn step(&mut self, alloc: Global, command: &Command) -> Result<Reply, AllocError>
         ensures succeeds { takes_memory
-            (outcome (valid_bits T.elements) self.old.state command.now).reply ≡ false
+            (outcome (valid_bits T.elements) self.old command.now).reply ≡ false
             → IsOk result }
         ensures step { IfOk result (λ reply.
-            outcome (valid_bits T.elements) self.old.state command.now
-            ≡ record { reply = reply; state = self.new.state }) }
-        ensures asks { CountsAsks T.Repr.PREFERRED_ARRAY_LEN (is_step command.now)
-            (makes_iterator command.now) self.old self.new }
+            outcome (valid_bits T.elements) self.old command.now
+            ≡ record { reply = reply; state = self.new }) }
         ensures err { OnErr result (self.new ≡ self.old) }
     {
         self.runner.step(alloc, command)
@@ -89,19 +82,12 @@ impl<T: EnumSetType> Machine<T> {
 
 impl<T: EnumSetType> Steps for Machine<T> {
     ghost use Rattle.enumset_machine.specs.Runs.{outcome};
-    ghost use Rattle.enumset_machine.specs.Asks.{is_step, makes_iterator};
 
     type Command = Command;
 
     ghost view = { λ m. m };
 
     ghost outcome = { outcome (valid_bits T.elements) };
-
-    ghost is_step = { is_step };
-
-    ghost makes_iterator = { makes_iterator };
-
-    ghost word_count = { T.Repr.PREFERRED_ARRAY_LEN };
 
     fn new() -> Machine<T> {
         Machine::<T>::new()

@@ -1,10 +1,9 @@
 //! Runs of commands on a machine over sets of any kind.
 
-ghost use Rattle.std.specs.Prelude.{◌≡◌, ◌≤◌, ℕ, Bool, [], length, false, IfOk, IsOk, vec_capacity};
+ghost use Rattle.std.specs.Prelude.{◌≡◌, ◌≤◌, [], length, false, IfOk, IsOk, vec_capacity};
 ghost use Rattle.std.specs.List.{list_any};
 ghost use Rattle.enumset_machine.specs.States.{State, start};
-ghost use Rattle.enumset_machine.specs.Plans.{Outcome, takes_memory, replies_by, state_by};
-ghost use Rattle.enumset_machine.specs.Asks.{RunView, fresh, CountsAsks, most_asks};
+ghost use Rattle.enumset_machine.specs.Plans.{Outcome, takes_memory, replies_by};
 
 use enumset_commands::Reply;
 use std::alloc::{AllocError, Global};
@@ -14,52 +13,30 @@ pub(crate) trait Steps: Drop {
     /// A command of a run.
     type Command;
 
-    // The sets and the lists of the registers, and the asks and the span of the iterators.
-    ghost view: { Self → RunView };
+    // The sets and the lists of the registers.
+    ghost view: { Self → State };
 
     // The outcome of a command.
     ghost outcome: { State → Self.Command → Outcome };
 
-    // Whether a command steps an iterator, and whether it makes one.
-    ghost is_step: { Self.Command → Bool };
-
-    ghost makes_iterator: { Self.Command → Bool };
-
-    // How many words a set has.
-    ghost word_count: { ℕ };
-
     /// A machine whose registers are empty.
     fn new() -> Self
-        ensures { view result ≡ fresh };
+        ensures { view result ≡ start };
 
     /// Carries out one command. Only a reply of words takes memory.
     fn step(&mut self, alloc: Global, command: &Self::Command) -> Result<Reply, AllocError>
-        ensures succeeds { takes_memory (outcome (view self.old).state command.now).reply ≡ false
+        ensures succeeds { takes_memory (outcome (view self.old) command.now).reply ≡ false
             → IsOk result }
-        ensures step { IfOk result (λ reply. outcome (view self.old).state command.now
-            ≡ record { reply = reply; state = (view self.new).state }) }
-        ensures asks { CountsAsks word_count (is_step command.now) (makes_iterator command.now)
-            (view self.old) (view self.new) };
-}
-
-/// What a run leaves: a reply to each command, and the machine after the last.
-#[derive(Drop)]
-pub struct FinishedRun<M> {
-    pub replies: Vec<Reply>,
-    pub machine: M,
+        ensures step { IfOk result (λ reply. outcome (view self.old) command.now
+            ≡ record { reply = reply; state = view self.new }) };
 }
 
 /// Carries out commands in order on a new machine. The only error is out of memory.
 pub(crate) fn run_by_steps<M: Steps>(
     alloc: Global,
     commands: &[M::Command],
-) -> Result<FinishedRun<M>, AllocError>
-    ensures replies { IfOk result (λ run.
-        run.replies.items ≡ replies_by M.outcome start commands.now) }
-    ensures state { IfOk result (λ run.
-        (M.view run.machine).state ≡ state_by M.outcome start commands.now) }
-    ensures asks { IfOk result (λ run. (M.view run.machine).asks
-        ≤ most_asks M.word_count M.is_step M.makes_iterator commands.now) }
+) -> Result<Vec<Reply>, AllocError>
+    ensures { IfOk result (λ out. out.items ≡ replies_by M.outcome start commands.now) }
 {
     run_over_room::<M>(alloc, commands, Vec::with_capacity(alloc, commands.len())?)
 }
@@ -69,22 +46,17 @@ fn run_over_room<M: Steps>(
     alloc: Global,
     commands: &[M::Command],
     room: Vec<Reply>,
-) -> Result<FinishedRun<M>, AllocError>
+) -> Result<Vec<Reply>, AllocError>
     requires empty { room.items ≡ [] }
     requires room { length commands.now ≤ vec_capacity room }
     ensures succeeds { list_any takes_memory (replies_by M.outcome start commands.now)
         ≡ false → IsOk result }
-    ensures replies { IfOk result (λ run.
-        run.replies.items ≡ replies_by M.outcome start commands.now) }
-    ensures state { IfOk result (λ run.
-        (M.view run.machine).state ≡ state_by M.outcome start commands.now) }
-    ensures asks { IfOk result (λ run. (M.view run.machine).asks
-        ≤ most_asks M.word_count M.is_step M.makes_iterator commands.now) }
+    ensures replies { IfOk result (λ out. out.items ≡ replies_by M.outcome start commands.now) }
 {
     let mut machine = M::new();
     let mut replies = room;
     for command in commands {
         replies.push_reserved(machine.step(alloc, command)?);
     }
-    Ok(FinishedRun { replies, machine })
+    Ok(replies)
 }

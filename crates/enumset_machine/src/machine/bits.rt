@@ -18,10 +18,9 @@ impl<S: RunSet> Runner<S> {
         requires register { is_set_register r ≡ true }
         requires valid { contains S.rules.valid bit ≡ true }
         ensures reply { result
-            ≡ (plan_of (on.SetAndBit r bit operation)).reply S.rules self.old.state }
-        ensures state { self.new ≡ record self.old {
-          state = (plan_of (on.SetAndBit r bit operation)).after S.rules self.old.state;
-        } }
+            ≡ (plan_of (on.SetAndBit r bit operation)).reply S.rules self.old }
+        ensures state { self.new
+            ≡ (plan_of (on.SetAndBit r bit operation)).after S.rules self.old }
     {
         let mut set = self.sets.get(r);
         match operation {

@@ -30,12 +30,6 @@ impl<T: EnumSetType> RunSet for EnumSet<T> {
 
     ghost rest = { λ items. items.items };
 
-    ghost asks = { λ items. items.asks };
-
-    ghost span = { λ items. items.span };
-
-    ghost word_count = { T.Repr.PREFERRED_ARRAY_LEN };
-
     fn is_bit_valid(bit: u32) -> bool {
         EnumSet::<T>::is_bit_valid(bit)
     }

@@ -4,7 +4,7 @@ ghost use Rattle.std.specs.Prelude.{◌≡◌, true};
 ghost use Rattle.enumset_commands.specs.declared.operation.Operation.TheVariants as on;
 ghost use Rattle.enumset_machine.specs.States.{is_set_register, is_iterator_register};
 ghost use Rattle.enumset_machine.specs.Plans.{step_reply};
-ghost use Rattle.enumset_machine.specs.Operands.{plan_of, CountsAsksOf};
+ghost use Rattle.enumset_machine.specs.Operands.{plan_of};
 
 use super::run_set::RunSet;
 use super::runner::Runner;
@@ -17,10 +17,9 @@ impl<S: RunSet> Runner<S> {
     pub(super) fn with_iterator(&mut self, i: u8, operation: OneIterator) -> Reply
         requires { is_iterator_register i ≡ true }
         ensures reply { result
-            ≡ (plan_of (on.OneIterator i operation)).reply S.rules self.old.state }
-        ensures state { self.new.state
-            ≡ (plan_of (on.OneIterator i operation)).after S.rules self.old.state }
-        ensures asks { CountsAsksOf S.word_count (on.OneIterator i operation) self.old self.new }
+            ≡ (plan_of (on.OneIterator i operation)).reply S.rules self.old }
+        ensures state { self.new
+            ≡ (plan_of (on.OneIterator i operation)).after S.rules self.old }
     {
         match operation {
             OneIterator::Next => step_reply::<S>(self.iterators.next(i)),
@@ -34,10 +33,9 @@ impl<S: RunSet> Runner<S> {
     pub(super) fn iterate(&mut self, i: u8, r: u8) -> Reply
         requires iterator { is_iterator_register i ≡ true }
         requires register { is_set_register r ≡ true }
-        ensures reply { result ≡ (plan_of (on.IteratorAndSet i r)).reply S.rules self.old.state }
-        ensures state { self.new.state
-            ≡ (plan_of (on.IteratorAndSet i r)).after S.rules self.old.state }
-        ensures asks { CountsAsksOf S.word_count (on.IteratorAndSet i r) self.old self.new }
+        ensures reply { result ≡ (plan_of (on.IteratorAndSet i r)).reply S.rules self.old }
+        ensures state { self.new
+            ≡ (plan_of (on.IteratorAndSet i r)).after S.rules self.old }
     {
         self.iterators.put(i, self.sets.get(r).items());
         Reply::Done

@@ -4,7 +4,6 @@ ghost use Rattle.std.specs.Prelude.{◌≡◌, ◌∷◌, [], true, false, IsOk,
 ghost use Rattle.enumset_commands.specs.declared.mixed_command.MixedCommand.TheVariants.{HasBit, InsertBit, RemoveBit, FullComplement, ValidLen, Unknown, AsEnumset, Truncate};
 ghost use Rattle.enumset_machine.specs.Plans.{names_registers, outcome_of, set_names, takes_memory};
 ghost use Rattle.enumset_machine.specs.MixedRuns.{mixed_plan};
-ghost use Rattle.enumset_machine.specs.Asks.{CountsAsks, is_common, is_step, makes_iterator};
 
 use super::mixed_run_set::MixedRunSet;
 use super::registers::is_set_register;
@@ -21,13 +20,11 @@ impl<S: MixedRunSet> Runner<S> {
         command: &MixedCommand,
     ) -> Result<Reply, AllocError>
         ensures succeeds { takes_memory
-            (outcome_of S.rules self.old.state (mixed_plan command.now)).reply ≡ false
+            (outcome_of S.rules self.old (mixed_plan command.now)).reply ≡ false
             → IsOk result }
         ensures step { IfOk result (λ reply.
-            outcome_of S.rules self.old.state (mixed_plan command.now)
-            ≡ record { reply = reply; state = self.new.state }) }
-        ensures asks { CountsAsks S.word_count (is_common is_step command.now)
-            (is_common makes_iterator command.now) self.old self.new }
+            outcome_of S.rules self.old (mixed_plan command.now)
+            ≡ record { reply = reply; state = self.new }) }
         ensures err { OnErr result (self.new ≡ self.old) }
     {
         match *command {
@@ -48,9 +45,8 @@ impl<S: MixedRunSet> Runner<S> {
 #[tactic(auto, unfolding(crate::specs::MixedRuns::mixed_plan))]
 impl<S: MixedRunSet> Runner<S> {
     fn has_bit(&mut self, r: u8, bit: u32) -> Reply
-        ensures reply { outcome_of S.rules self.old.state (mixed_plan (HasBit r bit))
-            ≡ record { reply = result; state = self.new.state } }
-        ensures asks { (self.new.asks ≡ self.old.asks) × (self.new.span ≡ self.old.span) }
+        ensures { outcome_of S.rules self.old (mixed_plan (HasBit r bit))
+            ≡ record { reply = result; state = self.new } }
     {
         if !is_set_register(r) {
             return Reply::Refused(Refusal::NoRegister);
@@ -59,9 +55,8 @@ impl<S: MixedRunSet> Runner<S> {
     }
 
     fn insert_bit(&mut self, r: u8, bit: u32) -> Reply
-        ensures reply { outcome_of S.rules self.old.state (mixed_plan (InsertBit r bit))
-            ≡ record { reply = result; state = self.new.state } }
-        ensures asks { (self.new.asks ≡ self.old.asks) × (self.new.span ≡ self.old.span) }
+        ensures { outcome_of S.rules self.old (mixed_plan (InsertBit r bit))
+            ≡ record { reply = result; state = self.new } }
     {
         if !is_set_register(r) {
             return Reply::Refused(Refusal::NoRegister);
@@ -76,9 +71,8 @@ impl<S: MixedRunSet> Runner<S> {
     }
 
     fn remove_bit(&mut self, r: u8, bit: u32) -> Reply
-        ensures reply { outcome_of S.rules self.old.state (mixed_plan (RemoveBit r bit))
-            ≡ record { reply = result; state = self.new.state } }
-        ensures asks { (self.new.asks ≡ self.old.asks) × (self.new.span ≡ self.old.span) }
+        ensures { outcome_of S.rules self.old (mixed_plan (RemoveBit r bit))
+            ≡ record { reply = result; state = self.new } }
     {
         if !is_set_register(r) {
             return Reply::Refused(Refusal::NoRegister);
@@ -90,9 +84,8 @@ impl<S: MixedRunSet> Runner<S> {
     }
 
     fn full_complement(&mut self, to: u8, a: u8) -> Reply
-        ensures reply { outcome_of S.rules self.old.state (mixed_plan (FullComplement to a))
-            ≡ record { reply = result; state = self.new.state } }
-        ensures asks { (self.new.asks ≡ self.old.asks) × (self.new.span ≡ self.old.span) }
+        ensures { outcome_of S.rules self.old (mixed_plan (FullComplement to a))
+            ≡ record { reply = result; state = self.new } }
     {
         if !are_set_registers(to, a) {
             return Reply::Refused(Refusal::NoRegister);
@@ -102,9 +95,8 @@ impl<S: MixedRunSet> Runner<S> {
     }
 
     fn valid_len(&mut self, r: u8) -> Reply
-        ensures reply { outcome_of S.rules self.old.state (mixed_plan (ValidLen r))
-            ≡ record { reply = result; state = self.new.state } }
-        ensures asks { (self.new.asks ≡ self.old.asks) × (self.new.span ≡ self.old.span) }
+        ensures { outcome_of S.rules self.old (mixed_plan (ValidLen r))
+            ≡ record { reply = result; state = self.new } }
     {
         if !is_set_register(r) {
             return Reply::Refused(Refusal::NoRegister);
@@ -113,9 +105,8 @@ impl<S: MixedRunSet> Runner<S> {
     }
 
     fn has_unknown_bits(&mut self, r: u8) -> Reply
-        ensures reply { outcome_of S.rules self.old.state (mixed_plan (Unknown r))
-            ≡ record { reply = result; state = self.new.state } }
-        ensures asks { (self.new.asks ≡ self.old.asks) × (self.new.span ≡ self.old.span) }
+        ensures { outcome_of S.rules self.old (mixed_plan (Unknown r))
+            ≡ record { reply = result; state = self.new } }
     {
         if !is_set_register(r) {
             return Reply::Refused(Refusal::NoRegister);
@@ -124,9 +115,8 @@ impl<S: MixedRunSet> Runner<S> {
     }
 
     fn as_enumset(&mut self, to: u8, a: u8) -> Reply
-        ensures reply { outcome_of S.rules self.old.state (mixed_plan (AsEnumset to a))
-            ≡ record { reply = result; state = self.new.state } }
-        ensures asks { (self.new.asks ≡ self.old.asks) × (self.new.span ≡ self.old.span) }
+        ensures { outcome_of S.rules self.old (mixed_plan (AsEnumset to a))
+            ≡ record { reply = result; state = self.new } }
     {
         if !are_set_registers(to, a) {
             return Reply::Refused(Refusal::NoRegister);
@@ -138,9 +128,8 @@ impl<S: MixedRunSet> Runner<S> {
     }
 
     fn truncate(&mut self, to: u8, a: u8) -> Reply
-        ensures reply { outcome_of S.rules self.old.state (mixed_plan (Truncate to a))
-            ≡ record { reply = result; state = self.new.state } }
-        ensures asks { (self.new.asks ≡ self.old.asks) × (self.new.span ≡ self.old.span) }
+        ensures { outcome_of S.rules self.old (mixed_plan (Truncate to a))
+            ≡ record { reply = result; state = self.new } }
     {
         if !are_set_registers(to, a) {
             return Reply::Refused(Refusal::NoRegister);

@@ -25,12 +25,6 @@ impl<T: EnumSetTypeWithRepr> RunSet for MixedEnumSet<T> {
 
     ghost rest = { λ items. items.items };
 
-    ghost asks = { λ items. items.asks };
-
-    ghost span = { λ items. items.span };
-
-    ghost word_count = { T.Repr.PREFERRED_ARRAY_LEN };
-
     fn is_bit_valid(bit: u32) -> bool {
         MixedEnumSet::<T>::is_bit_valid(bit)
     }

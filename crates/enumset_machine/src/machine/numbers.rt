@@ -18,10 +18,9 @@ impl<S: RunSet> Runner<S> {
         requires register { is_set_register r ≡ true }
         requires width { is_width width ≡ true }
         ensures reply { result
-            ≡ (plan_of (on.SetAndWidth r width operation)).reply S.rules self.old.state }
-        ensures state { self.new ≡ record self.old {
-          state = (plan_of (on.SetAndWidth r width operation)).after S.rules self.old.state;
-        } }
+            ≡ (plan_of (on.SetAndWidth r width operation)).reply S.rules self.old }
+        ensures state { self.new
+            ≡ (plan_of (on.SetAndWidth r width operation)).after S.rules self.old }
     {
         let set = self.sets.get(r);
         match operation {
@@ -46,10 +45,9 @@ impl<S: RunSet> Runner<S> {
         requires width { is_width width ≡ true }
         requires fits { value < 2 ^ width }
         ensures reply { result
-            ≡ (plan_of (on.SetAndValue r width value operation)).reply S.rules self.old.state }
-        ensures state { self.new ≡ record self.old {
-          state = (plan_of (on.SetAndValue r width value operation)).after S.rules self.old.state;
-        } }
+            ≡ (plan_of (on.SetAndValue r width value operation)).reply S.rules self.old }
+        ensures state { self.new
+            ≡ (plan_of (on.SetAndValue r width value operation)).after S.rules self.old }
     {
         match operation {
             SetAndValue::FromNumber => match S::from_number(width, value) {

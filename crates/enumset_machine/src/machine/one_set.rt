@@ -15,10 +15,9 @@ impl<S: RunSet> Runner<S> {
     #[tactic(auto, unfolding(crate::specs::Runs::plan))]
     pub(super) fn with_one_set(&mut self, r: u8, operation: OneSet) -> Reply
         requires { is_set_register r ≡ true }
-        ensures reply { result ≡ (plan_of (on.OneSet r operation)).reply S.rules self.old.state }
-        ensures state { self.new ≡ record self.old {
-          state = (plan_of (on.OneSet r operation)).after S.rules self.old.state;
-        } }
+        ensures reply { result ≡ (plan_of (on.OneSet r operation)).reply S.rules self.old }
+        ensures state { self.new
+            ≡ (plan_of (on.OneSet r operation)).after S.rules self.old }
     {
         let mut set = self.sets.get(r);
         match operation {

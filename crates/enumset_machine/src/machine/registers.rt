@@ -1,7 +1,6 @@
 //! The registers of a run.
 
-ghost use Rattle.std.specs.Prelude.{◌≡◌, ◌+◌, ◌≤◌, true, slice_set, slice_index_or, [], length};
-ghost use Rattle.enumset_repr.specs.Asks.{BoundsAsks};
+ghost use Rattle.std.specs.Prelude.{◌≡◌, true, slice_set, slice_index_or, [], length};
 ghost use Rattle.enumset_repr.specs.BitSet.{empty};
 ghost use Rattle.enumset_repr.specs.Ends.{first, last, without_first, without_last};
 ghost use Rattle.enumset_machine.specs.States as model;
@@ -93,10 +92,7 @@ impl<S: RunSet> Registers<S> {
     }
 }
 
-/// Registers 0 and 1 for iterators, at first without one.
-///
-/// Contracts see the items left in each, and together the asks of all iterators that they have had, and the span of
-/// those that they have.
+/// Registers 0 and 1 for iterators, at first without one. Contracts see the items left in each.
 #[derive(Drop)]
 pub(super) struct IteratorRegisters<S: RunSet> {
     zero: IteratorRegister<S>,
@@ -104,24 +100,20 @@ pub(super) struct IteratorRegisters<S: RunSet> {
 }
 
 impl<S: RunSet> Model for IteratorRegisters<S> {
-    ghost use Rattle.std.specs.Prelude.{◌+◌, [], ◌∷◌};
-    ghost use Rattle.enumset_machine.specs.Asks.{IteratorsView, coded_iterators};
+    ghost use Rattle.std.specs.Prelude.{ℕ, List, [], ◌∷◌};
+    ghost use Rattle.std.specs.Coded.{coded_list, coded_ℕ};
 
-    ghost Value = { IteratorsView };
+    ghost Value = { List (List ℕ) };
 
-    ghost coded = { coded_iterators };
+    ghost coded = { coded_list (coded_list coded_ℕ) };
 
-    ghost view = { λ s. record {
-      lists = s.zero.items ∷ s.one.items ∷ [];
-      asks = s.zero.asks + s.one.asks;
-      span = s.zero.span + s.one.span;
-    } };
+    ghost view = { λ s. s.zero ∷ s.one ∷ [] };
 }
 
 impl<S: RunSet> IteratorRegisters<S> {
     /// Two registers without an iterator.
     pub(super) fn new() -> IteratorRegisters<S>
-        ensures { result ≡ record { lists = model.no_lists; asks = 0; span = 0 } }
+        ensures { result ≡ model.no_lists }
     {
         IteratorRegisters {
             zero: IteratorRegister::new(),
@@ -132,9 +124,7 @@ impl<S: RunSet> IteratorRegisters<S> {
     /// Puts an iterator into a register.
     pub(super) fn put(&mut self, i: u8, items: S::Items)
         requires { model.is_iterator_register i ≡ true }
-        ensures lists { self.new.lists ≡ slice_set self.old.lists i (S.rest items) }
-        ensures asks { self.new.asks ≡ self.old.asks + S.asks items }
-        ensures span { self.new.span ≤ self.old.span + S.span items }
+        ensures { self.new ≡ slice_set self.old i (S.rest items) }
     {
         match i {
             0 => self.zero.put(items),
@@ -145,10 +135,9 @@ impl<S: RunSet> IteratorRegisters<S> {
     /// One step from the front of the iterator in a register.
     pub(super) fn next(&mut self, i: u8) -> Option<u32>
         requires { model.is_iterator_register i ≡ true }
-        ensures given { result ≡ first (slice_index_or self.old.lists i []) }
-        ensures rest { self.new.lists
-            ≡ slice_set self.old.lists i (without_first (slice_index_or self.old.lists i [])) }
-        ensures asks { BoundsAsks self.old.asks self.old.span result self.new.asks self.new.span }
+        ensures given { result ≡ first (slice_index_or self.old i []) }
+        ensures rest { self.new
+            ≡ slice_set self.old i (without_first (slice_index_or self.old i [])) }
     {
         match i {
             0 => self.zero.next(),
@@ -159,10 +148,9 @@ impl<S: RunSet> IteratorRegisters<S> {
     /// One step from the back of the iterator in a register.
     pub(super) fn next_back(&mut self, i: u8) -> Option<u32>
         requires { model.is_iterator_register i ≡ true }
-        ensures given { result ≡ last (slice_index_or self.old.lists i []) }
-        ensures rest { self.new.lists
-            ≡ slice_set self.old.lists i (without_last (slice_index_or self.old.lists i [])) }
-        ensures asks { BoundsAsks self.old.asks self.old.span result self.new.asks self.new.span }
+        ensures given { result ≡ last (slice_index_or self.old i []) }
+        ensures rest { self.new
+            ≡ slice_set self.old i (without_last (slice_index_or self.old i [])) }
     {
         match i {
             0 => self.zero.next_back(),
@@ -173,7 +161,7 @@ impl<S: RunSet> IteratorRegisters<S> {
     /// How many members are left in the iterator in a register.
     pub(super) fn items_left(&self, i: u8) -> usize
         requires { model.is_iterator_register i ≡ true }
-        ensures { result ≡ length (slice_index_or self.now.lists i []) }
+        ensures { result ≡ length (slice_index_or self.now i []) }
     {
         match i {
             0 => self.zero.items_left(),

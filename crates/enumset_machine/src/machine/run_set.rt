@@ -1,7 +1,6 @@
 //! The sets of a run.
 
-ghost use Rattle.std.specs.Prelude.{◌≡◌, ◌↔◌, ◌<◌, ◌≤◌, ◌*◌, ◌^◌, ℕ, List, not, length, true, IsTrue, IsSome, IfSome};
-ghost use Rattle.enumset_repr.specs.Asks.{BoundsAsks};
+ghost use Rattle.std.specs.Prelude.{◌≡◌, ◌↔◌, ◌<◌, ◌*◌, ◌^◌, ℕ, List, not, length, true, IsTrue, IsSome, IfSome};
 ghost use Rattle.enumset_repr.specs.BitSet as set;
 ghost use Rattle.enumset_repr.specs.BitSet.{BitSet};
 ghost use Rattle.enumset_repr.specs.Number.{number as number_of, bits};
@@ -26,14 +25,6 @@ pub(crate) trait RunSet: Copy {
 
     // What is left in an iterator.
     ghost rest: { Self.Items → List ℕ };
-
-    // How many asks an iterator has made, and how many it may need beyond one for each member.
-    ghost asks: { Self.Items → ℕ };
-
-    ghost span: { Self.Items → ℕ };
-
-    // How many words a set has.
-    ghost word_count: { ℕ };
 
     /// Whether a bit is valid.
     fn is_bit_valid(bit: u32) -> bool
@@ -179,23 +170,17 @@ pub(crate) trait RunSet: Copy {
 
     /// The members as they are now, ascending, from both ends.
     fn items(&self) -> Self::Items
-        ensures rest { rest result ≡ set.ascending (members self.now) }
-        ensures asks { asks result ≡ 0 }
-        ensures span { span result ≤ word_count };
+        ensures { rest result ≡ set.ascending (members self.now) };
 
     /// One step of an iterator from the front.
     fn next(items: &mut Self::Items) -> Option<u32>
         ensures given { result ≡ first (rest items.old) }
-        ensures rest { rest items.new ≡ without_first (rest items.old) }
-        ensures asks { BoundsAsks (asks items.old) (span items.old) result
-            (asks items.new) (span items.new) };
+        ensures rest { rest items.new ≡ without_first (rest items.old) };
 
     /// One step of an iterator from the back.
     fn next_back(items: &mut Self::Items) -> Option<u32>
         ensures given { result ≡ last (rest items.old) }
-        ensures rest { rest items.new ≡ without_last (rest items.old) }
-        ensures asks { BoundsAsks (asks items.old) (span items.old) result
-            (asks items.new) (span items.new) };
+        ensures rest { rest items.new ≡ without_last (rest items.old) };
 
     /// How many members are left in an iterator.
     fn items_left(items: &Self::Items) -> usize

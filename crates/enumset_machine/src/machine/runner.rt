@@ -2,10 +2,9 @@
 
 ghost use Rattle.std.specs.Prelude.{◌≡◌, true, false, IsOk, IfOk, OnOk, OnErr};
 ghost use Rattle.enumset_commands.specs.declared.reply.Reply.TheVariants.{Done};
-ghost use Rattle.enumset_machine.specs.States.{is_set_register, put_set};
-ghost use Rattle.enumset_machine.specs.Asks.{fresh, is_step, makes_iterator, CountsAsks};
+ghost use Rattle.enumset_machine.specs.States.{start, is_set_register, put_set};
 ghost use Rattle.enumset_machine.specs.Plans.{outcome_of, takes_memory, names_registers, names_widths, names_bits};
-ghost use Rattle.enumset_machine.specs.Operands.{plan_of, names_of, CountsAsksOf};
+ghost use Rattle.enumset_machine.specs.Operands.{plan_of, names_of};
 ghost use Rattle.enumset_machine.specs.Runs.{plan};
 
 use super::operands::{names_bits, names_registers, names_widths};
@@ -23,23 +22,19 @@ pub(super) struct Runner<S: RunSet> {
 }
 
 impl<S: RunSet> Model for Runner<S> {
-    ghost use Rattle.enumset_machine.specs.Asks.{RunView, coded_run};
+    ghost use Rattle.enumset_machine.specs.States.{State, coded_state};
 
-    ghost Value = { RunView };
+    ghost Value = { State };
 
-    ghost coded = { coded_run };
+    ghost coded = { coded_state };
 
-    ghost view = { λ m. record {
-      state = record { sets = m.sets; lists = m.iterators.lists };
-      asks = m.iterators.asks;
-      span = m.iterators.span;
-    } };
+    ghost view = { λ m. record { sets = m.sets; lists = m.iterators } };
 }
 
 impl<S: RunSet> Runner<S> {
     /// A run whose registers are empty.
     pub(super) fn new() -> Runner<S>
-        ensures { result ≡ fresh }
+        ensures { result ≡ start }
     {
         Runner {
             sets: Registers::new(),
@@ -50,12 +45,10 @@ impl<S: RunSet> Runner<S> {
     /// Carries out one command. A refused command changes nothing. Only a reply of words takes memory.
     #[tactic(auto, using(crate::proofs::Operands::names_in_plan))]
     pub(super) fn step(&mut self, alloc: Global, command: &Command) -> Result<Reply, AllocError>
-        ensures succeeds { takes_memory (outcome_of S.rules self.old.state (plan command.now)).reply
+        ensures succeeds { takes_memory (outcome_of S.rules self.old (plan command.now)).reply
             ≡ false → IsOk result }
-        ensures step { IfOk result (λ reply. outcome_of S.rules self.old.state (plan command.now)
-            ≡ record { reply = reply; state = self.new.state }) }
-        ensures asks { CountsAsks S.word_count (is_step command.now) (makes_iterator command.now)
-            self.old self.new }
+        ensures step { IfOk result (λ reply. outcome_of S.rules self.old (plan command.now)
+            ≡ record { reply = reply; state = self.new }) }
         ensures err { OnErr result (self.new ≡ self.old) }
     {
         let operation = Operation::of(command);
@@ -76,13 +69,12 @@ impl<S: RunSet> Runner<S> {
         requires registers { names_registers (names_of operation) ≡ true }
         requires widths { names_widths (names_of operation) ≡ true }
         requires bits { names_bits S.rules (names_of operation) ≡ true }
-        ensures succeeds { takes_memory ((plan_of operation.entry).reply S.rules self.old.state)
+        ensures succeeds { takes_memory ((plan_of operation.entry).reply S.rules self.old)
             ≡ false → IsOk result }
         ensures reply { IfOk result (λ reply.
-            reply ≡ (plan_of operation.entry).reply S.rules self.old.state) }
-        ensures state { OnOk result (self.new.state
-            ≡ (plan_of operation.entry).after S.rules self.old.state) }
-        ensures asks { CountsAsksOf S.word_count operation.entry self.old self.new }
+            reply ≡ (plan_of operation.entry).reply S.rules self.old) }
+        ensures state { OnOk result (self.new
+            ≡ (plan_of operation.entry).after S.rules self.old) }
         ensures err { OnErr result (self.new ≡ self.old) }
     {
         Ok(match operation {
@@ -104,9 +96,7 @@ impl<S: RunSet> Runner<S> {
     pub(super) fn put(&mut self, r: u8, set: S) -> Reply
         requires { is_set_register r ≡ true }
         ensures reply { result ≡ Done }
-        ensures state { self.new ≡ record self.old {
-          state = put_set self.old.state r (S.members set);
-        } }
+        ensures state { self.new ≡ put_set self.old r (S.members set) }
     {
         self.sets.put(r, set);
         Reply::Done

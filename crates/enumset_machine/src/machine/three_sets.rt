@@ -18,10 +18,9 @@ impl<S: RunSet> Runner<S> {
         requires first { is_set_register a ≡ true }
         requires second { is_set_register b ≡ true }
         ensures reply { result
-            ≡ (plan_of (on.ThreeSets to a b operation)).reply S.rules self.old.state }
-        ensures state { self.new ≡ record self.old {
-          state = (plan_of (on.ThreeSets to a b operation)).after S.rules self.old.state;
-        } }
+            ≡ (plan_of (on.ThreeSets to a b operation)).reply S.rules self.old }
+        ensures state { self.new
+            ≡ (plan_of (on.ThreeSets to a b operation)).after S.rules self.old }
     {
         let one = self.sets.get(a);
         let other = self.sets.get(b);

@@ -16,10 +16,9 @@ impl<S: RunSet> Runner<S> {
     pub(super) fn with_two_sets(&mut self, a: u8, b: u8, operation: TwoSets) -> Reply
         requires first { is_set_register a ≡ true }
         requires second { is_set_register b ≡ true }
-        ensures reply { result ≡ (plan_of (on.TwoSets a b operation)).reply S.rules self.old.state }
-        ensures state { self.new ≡ record self.old {
-          state = (plan_of (on.TwoSets a b operation)).after S.rules self.old.state;
-        } }
+        ensures reply { result ≡ (plan_of (on.TwoSets a b operation)).reply S.rules self.old }
+        ensures state { self.new
+            ≡ (plan_of (on.TwoSets a b operation)).after S.rules self.old }
     {
         let mut set = self.sets.get(a);
         let other = self.sets.get(b);

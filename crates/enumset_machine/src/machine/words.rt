@@ -28,13 +28,12 @@ impl<S: RunSet> Runner<S> {
     ) -> Result<Reply, AllocError>
         requires { is_set_register r ≡ true }
         ensures succeeds { takes_memory
-            ((plan_of (on.SetAndWords r operation.entry)).reply S.rules self.old.state) ≡ false
+            ((plan_of (on.SetAndWords r operation.entry)).reply S.rules self.old) ≡ false
             → IsOk result }
         ensures reply { IfOk result (λ reply. reply
-            ≡ (plan_of (on.SetAndWords r operation.entry)).reply S.rules self.old.state) }
-        ensures state { OnOk result (self.new ≡ record self.old {
-          state = (plan_of (on.SetAndWords r operation.entry)).after S.rules self.old.state;
-        }) }
+            ≡ (plan_of (on.SetAndWords r operation.entry)).reply S.rules self.old) }
+        ensures state { OnOk result (self.new
+            ≡ (plan_of (on.SetAndWords r operation.entry)).after S.rules self.old) }
         ensures err { OnErr result (self.new ≡ self.old) }
     {
         Ok(match operation {

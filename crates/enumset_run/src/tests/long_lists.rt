@@ -24,8 +24,8 @@ fn commands_are_read_run_and_answered(rt: HostRuntime) -> Result<(), Fail> {
     let alloc = rt.alloc();
     let input = repeated(alloc, "len 0\n")?;
     let commands = read_commands::<Command>(alloc, &input).expect(&rt, "commands alone");
-    let finished = run::<Letters>(alloc, &commands)?;
-    let text = write_replies(alloc, &finished.replies)?;
+    let replies = run::<Letters>(alloc, &commands)?;
+    let text = write_replies(alloc, &replies)?;
     assert!(rt; text == repeated(alloc, "0\n")?);
     Ok(())
 }
@@ -35,8 +35,8 @@ fn mixed_commands_are_read_run_and_answered(rt: HostRuntime) -> Result<(), Fail>
     let alloc = rt.alloc();
     let input = repeated(alloc, "len 0\n")?;
     let commands = read_commands::<MixedCommand>(alloc, &input).expect(&rt, "commands alone");
-    let finished = run_mixed::<Marks>(alloc, &commands)?;
-    let text = write_replies(alloc, &finished.replies)?;
+    let replies = run_mixed::<Marks>(alloc, &commands)?;
+    let text = write_replies(alloc, &replies)?;
     assert!(rt; text == repeated(alloc, "0\n")?);
     Ok(())
 }

@@ -60,14 +60,13 @@ fn runs(rt: HostRuntime) -> Result<(), Fail> {
         Command::Insert { r: 0, bit: 2 },
         Command::WordsCut { r: 0, count: 1 },
     ];
-    let (finished, ended) = match run::<Letters>(rt.alloc(), &commands) {
-        Ok(finished) => (finished, Ok(())),
+    let (replies, ended) = match run::<Letters>(rt.alloc(), &commands) {
+        Ok(replies) => (replies, Ok(())),
         Err(refused) => {
             let again = run::<Letters>(rt.alloc(), &commands);
             (again.expect(&rt, "refused once more"), Err(refused))
         }
     };
-    let replies = &finished.replies;
     assert!(rt; replies.len() == 2 && is_words(&replies[1], [4].as_slice()));
     Ok(ended?)
 }
@@ -78,14 +77,13 @@ fn mixed_runs(rt: HostRuntime) -> Result<(), Fail> {
         MixedCommand::InsertBit { r: 0, bit: 7 },
         MixedCommand::Common(Command::WordsCut { r: 0, count: 1 }),
     ];
-    let (finished, ended) = match run_mixed::<Marks>(rt.alloc(), &commands) {
-        Ok(finished) => (finished, Ok(())),
+    let (replies, ended) = match run_mixed::<Marks>(rt.alloc(), &commands) {
+        Ok(replies) => (replies, Ok(())),
         Err(refused) => {
             let again = run_mixed::<Marks>(rt.alloc(), &commands);
             (again.expect(&rt, "refused once more"), Err(refused))
         }
     };
-    let replies = &finished.replies;
     assert!(rt; replies.len() == 2 && is_words(&replies[1], [128].as_slice()));
     Ok(ended?)
 }
@@ -120,8 +118,8 @@ fn texts(rt: HostRuntime) -> Result<(), Fail> {
 // The same by lists of commands and of replies.
 fn text_by_lists(alloc: Global, input: &[u8]) -> Result<Vec<u8>, TextFault> {
     let commands = read_commands::<Command>(alloc, input)?;
-    let finished = run::<Letters>(alloc, &commands)?;
-    Ok(write_replies(alloc, &finished.replies)?)
+    let replies = run::<Letters>(alloc, &commands)?;
+    Ok(write_replies(alloc, &replies)?)
 }
 
 #[test]

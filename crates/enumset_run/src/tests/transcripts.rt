@@ -27,7 +27,7 @@ fn replies_over_both<T: EnumSetTypeWithRepr, U: EnumSetTypeWithRepr>(
     mixed_transcript();
     let one = run_mixed::<T>(alloc, commands)?;
     let other = run_mixed::<U>(alloc, commands)?;
-    Ok((one.replies, other.replies))
+    Ok((one, other))
 }
 
 // The same at two types with the same valid bits, kept in two words and in an integer, both of 128 bits.
