@@ -8,5 +8,4 @@ mod JsonNamed
 pub mod JsonNumbers
 pub mod JsonWords
 pub mod JsonLaws
-mod TextLaws
-pub mod JsonTextLaws
+pub mod WrittenValues

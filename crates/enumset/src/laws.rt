@@ -1,12 +1,13 @@
 //! Laws of sets. Each is a function that does nothing at run time, but for those of asks: code that needs a law calls it,
 //! and the proof of that code then knows what the function ensures.
 //!
-//! Here stand the laws of round trips through JSON, of a value and of its text: what was written of a set is read as
-//! that set. Those of numbers and words without JSON come from `enumset_sets`, and all others from the modules below:
+//! Here stand the laws of round trips through JSON: the value that was written of a set is read as that set. The clause
+//! `reads` of each writer of texts says that its text is read as this value, so what the laws say of values holds of
+//! texts too. Those of numbers and words without JSON come from `enumset_sets`, and all others from the modules below:
 //! what a reader of another element type reads, elements, operations, subsets, complements, mixed sets, folds, iterators
 //! from both ends, and asks.
 
-ghost use Rattle.std.specs.Prelude.{◌≡◌, ◌≤◌, Ok, Some, IsTrue, decimal};
+ghost use Rattle.std.specs.Prelude.{◌≡◌, ◌≤◌, Ok, Some, IsTrue};
 ghost use Rattle.enumset_repr.specs.BitSet.{below, is_subset};
 ghost use Rattle.enumset_repr.specs.Number.{number};
 ghost use Rattle.enumset_repr.specs.Words.{words};
@@ -15,9 +16,7 @@ ghost use Rattle.enumset.specs.Json.{set_of_number, set_of_words, mixed_set_of_n
 ghost use Rattle.enumset.specs.Json.{mixed_set_of_words};
 ghost use Rattle.enumset.specs.Names.{names_of, name_of, bit_named};
 ghost use Rattle.enumset.specs.JsonNames.{set_of_list, list_value, set_of_map, map_value};
-ghost use Rattle.enumset.specs.JsonReads.{value_read};
 ghost use Rattle.enumset_sets.specs.Elements.{valid_bits};
-ghost use Rattle.serde_json.specs.Written.{compact_text};
 
 mod asks;
 mod complementary;
@@ -50,56 +49,40 @@ pub use operations::{absorption, differences, distribution, one_bit, order_and_g
 pub use readers::{carried_along, carried_along_in_number, older_reader, older_reader_of_names};
 pub use subsets::{disjointness, subset_bounds, subset_equations, subset_order};
 
-/// The number that `to_number` writes of a set, and the text that `to_number_text` writes, are read as that set at the
-/// same width, under `Drop` as under `Refuse`: by `from_number`, and by `from_number_text` where there is memory.
+/// The number that `to_number` writes of a set is read as that set by `from_number` at the same width, under `Drop` as
+/// under `Refuse`.
 pub fn json_number_and_back<T: EnumSetType>(set: &EnumSet<T>, width: JsonWidth, unknown: Unknown)
-    ensures value { IsTrue (is_subset set.now (below (width_of width)))
+    ensures { IsTrue (is_subset set.now (below (width_of width)))
         → set_of_number (valid_bits T.elements) (width_of width) unknown
         (number_value (number set.now))
         ≡ Ok set.now }
-    ensures text { IsTrue (is_subset set.now (below (width_of width)))
-        → value_read (set_of_number (valid_bits T.elements) (width_of width) unknown)
-        (decimal (number set.now))
-        ≡ Some (Ok set.now) }
 {
     number_and_back(set);
 }
 
-/// The words that `to_words` writes of a set, and the text that `to_words_text` writes, are read as that set, under
-/// `Drop` as under `Refuse`: by `from_words`, and by `from_words_text` where there is memory.
+/// The words that `to_words` writes of a set are read as that set by `from_words`, under `Drop` as under `Refuse`.
 pub fn json_words_and_back<T: EnumSetType>(set: &EnumSet<T>, unknown: Unknown)
-    ensures value { set_of_words (valid_bits T.elements) unknown
+    ensures { set_of_words (valid_bits T.elements) unknown
         (words_value (words set.now T.Repr.PREFERRED_ARRAY_LEN))
         ≡ Ok set.now }
-    ensures text { value_read (set_of_words (valid_bits T.elements) unknown)
-        (compact_text (words_value (words set.now T.Repr.PREFERRED_ARRAY_LEN)))
-        ≡ Some (Ok set.now) }
 {
     all_words_and_back(set);
 }
 
-/// The number that `mixed_to_number` writes of a mixed set, and the text that `mixed_to_number_text` writes, are read as
-/// that set, unknown bits included: by `mixed_from_number`, and by `mixed_from_number_text` where there is memory. The
-/// text stands for representations of at most 64 bits, as these calls do.
+/// The number that `mixed_to_number` writes of a mixed set is read as that set, unknown bits included, by
+/// `mixed_from_number`.
 pub fn json_mixed_number_and_back<T: EnumSetTypeWithRepr>(set: &MixedEnumSet<T>)
-    ensures value { mixed_set_of_number T.Repr.WIDTH (number_value (number set.now)) ≡ Ok set.now }
-    ensures text { T.Repr.WIDTH ≤ 64
-        → value_read (mixed_set_of_number T.Repr.WIDTH) (decimal (number set.now))
-        ≡ Some (Ok set.now) }
+    ensures { mixed_set_of_number T.Repr.WIDTH (number_value (number set.now)) ≡ Ok set.now }
 {
     set.as_repr().learn_is_value();
 }
 
-/// The words that `mixed_to_words` writes of a mixed set, and the text that `mixed_to_words_text` writes, are read as
-/// that set, unknown bits included, under `Drop` as under `Refuse`: by `mixed_from_words`, and by
-/// `mixed_from_words_text` where there is memory.
+/// The words that `mixed_to_words` writes of a mixed set are read as that set, unknown bits included, by
+/// `mixed_from_words`, under `Drop` as under `Refuse`.
 pub fn json_mixed_words_and_back<T: EnumSetTypeWithRepr>(set: &MixedEnumSet<T>, past: Unknown)
-    ensures value { mixed_set_of_words T.Repr.WIDTH past
+    ensures { mixed_set_of_words T.Repr.WIDTH past
         (words_value (words set.now T.Repr.PREFERRED_ARRAY_LEN))
         ≡ Ok set.now }
-    ensures text { value_read (mixed_set_of_words T.Repr.WIDTH past)
-        (compact_text (words_value (words set.now T.Repr.PREFERRED_ARRAY_LEN)))
-        ≡ Some (Ok set.now) }
 {
     set.as_repr().learn_is_value();
 }
@@ -113,28 +96,20 @@ pub fn name_and_back<T: EnumSetNames>(element: T, text: &str)
         → text.now ≡ name_of (names_of T.elements T.names) (T.elements.bit element) }
 {}
 
-/// The list that `to_list` writes of a set, and the text that `to_list_text` writes, are read as that set, under `Drop`
-/// as under `Refuse`: by `from_list`, and by `from_list_text` where there is memory.
+/// The list that `to_list` writes of a set is read as that set by `from_list`, under `Drop` as under `Refuse`.
 pub fn json_list_and_back<T: EnumSetNames>(set: &EnumSet<T>, unknown: Unknown)
-    ensures value { set_of_list (names_of T.elements T.names) unknown
+    ensures { set_of_list (names_of T.elements T.names) unknown
         (list_value (names_of T.elements T.names) set.now)
         ≡ Ok set.now }
-    ensures text { value_read (set_of_list (names_of T.elements T.names) unknown)
-        (compact_text (list_value (names_of T.elements T.names) set.now))
-        ≡ Some (Ok set.now) }
 {
     number_and_back(set);
 }
 
-/// The map that `to_map` writes of a set, and the text that `to_map_text` writes, are read as that set, under `Drop` as
-/// under `Refuse`: by `from_map`, and by `from_map_text` where there is memory.
+/// The map that `to_map` writes of a set is read as that set by `from_map`, under `Drop` as under `Refuse`.
 pub fn json_map_and_back<T: EnumSetNames>(set: &EnumSet<T>, unknown: Unknown)
-    ensures value { set_of_map (names_of T.elements T.names) unknown
+    ensures { set_of_map (names_of T.elements T.names) unknown
         (map_value (names_of T.elements T.names) set.now)
         ≡ Ok set.now }
-    ensures text { value_read (set_of_map (names_of T.elements T.names) unknown)
-        (compact_text (map_value (names_of T.elements T.names) set.now))
-        ≡ Some (Ok set.now) }
 {
     number_and_back(set);
 }

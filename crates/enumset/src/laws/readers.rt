@@ -1,6 +1,6 @@
 //! Laws of readers of another element type, as of an older program that reads what a newer one wrote.
 
-ghost use Rattle.std.specs.Prelude.{◌≡◌, ◌≤◌, Ok, Some, IsTrue, decimal};
+ghost use Rattle.std.specs.Prelude.{◌≡◌, ◌≤◌, Ok, IsTrue};
 ghost use Rattle.enumset_repr.specs.BitSet.{ascending, below, is_subset};
 ghost use Rattle.enumset_repr.specs.Number.{number};
 ghost use Rattle.enumset_repr.specs.Words.{words};
@@ -10,9 +10,7 @@ ghost use Rattle.enumset.specs.Json.{mixed_set_of_number, mixed_set_of_words};
 ghost use Rattle.enumset.specs.Names.{names_of, names_agree};
 ghost use Rattle.enumset.specs.JsonNames.{set_of_list, list_value, set_of_map, map_value};
 ghost use Rattle.enumset.specs.JsonNames.{in_map, accepted_by_name};
-ghost use Rattle.enumset.specs.JsonReads.{value_read};
 ghost use Rattle.enumset_sets.specs.Elements.{valid_bits};
-ghost use Rattle.serde_json.specs.Written.{compact_text};
 
 use crate::names::EnumSetNames;
 use crate::set_json::{JsonWidth, Unknown};
@@ -22,7 +20,7 @@ use enumset_sets::{EnumSet, EnumSetType, EnumSetTypeWithRepr};
 
 /// What a writer of one element type wrote of a set, a reader of another reads as exactly the members that it knows
 /// under `Drop`, and under `Refuse` exactly where there is no other: as numbers at a width that the members are below,
-/// as words, and as the texts of both.
+/// and as words.
 pub fn older_reader<Old: EnumSetType, New: EnumSetType>(
     set: &EnumSet<New>,
     width: JsonWidth,
@@ -32,23 +30,15 @@ pub fn older_reader<Old: EnumSetType, New: EnumSetType>(
         → set_of_number (valid_bits Old.elements) (width_of width) unknown
         (number_value (number set.now))
         ≡ accepted (valid_bits Old.elements) unknown set.now }
-    ensures number_text { IsTrue (is_subset set.now (below (width_of width)))
-        → value_read (set_of_number (valid_bits Old.elements) (width_of width) unknown)
-        (decimal (number set.now))
-        ≡ Some (accepted (valid_bits Old.elements) unknown set.now) }
     ensures words { set_of_words (valid_bits Old.elements) unknown
         (words_value (words set.now New.Repr.PREFERRED_ARRAY_LEN))
         ≡ accepted (valid_bits Old.elements) unknown set.now }
-    ensures words_text { value_read (set_of_words (valid_bits Old.elements) unknown)
-        (compact_text (words_value (words set.now New.Repr.PREFERRED_ARRAY_LEN)))
-        ≡ Some (accepted (valid_bits Old.elements) unknown set.now) }
 {
     all_words_and_back(set);
 }
 
-/// The same of names, where the names of the two types agree: as lists, as maps, and as the texts of both. Under
-/// `Refuse` the fault names the place of the first other member, in a list by the order of the bits, and in a map by the
-/// order of the names.
+/// The same of names, where the names of the two types agree: as lists and as maps. Under `Refuse` the fault names the
+/// place of the first other member, in a list by the order of the bits, and in a map by the order of the names.
 pub fn older_reader_of_names<Old: EnumSetNames, New: EnumSetNames>(
     set: &EnumSet<New>,
     unknown: Unknown,
@@ -58,23 +48,16 @@ pub fn older_reader_of_names<Old: EnumSetNames, New: EnumSetNames>(
     ensures list { set_of_list (names_of Old.elements Old.names) unknown
         (list_value (names_of New.elements New.names) set.now)
         ≡ accepted_by_name (valid_bits Old.elements) unknown set.now (ascending set.now) }
-    ensures list_text { value_read (set_of_list (names_of Old.elements Old.names) unknown)
-        (compact_text (list_value (names_of New.elements New.names) set.now))
-        ≡ Some (accepted_by_name (valid_bits Old.elements) unknown set.now (ascending set.now)) }
     ensures map { set_of_map (names_of Old.elements Old.names) unknown
         (map_value (names_of New.elements New.names) set.now)
         ≡ accepted_by_name (valid_bits Old.elements) unknown set.now
         (in_map (names_of New.elements New.names) set.now) }
-    ensures map_text { value_read (set_of_map (names_of Old.elements Old.names) unknown)
-        (compact_text (map_value (names_of New.elements New.names) set.now))
-        ≡ Some (accepted_by_name (valid_bits Old.elements) unknown set.now
-        (in_map (names_of New.elements New.names) set.now)) }
 {
     number_and_back(set);
 }
 
 /// A mixed set of one element type carries what a writer of another wrote, where its representation has room for it,
-/// and what it writes again the other reads as it was: as words and as their texts, whatever the two representations.
+/// and what it writes again the other reads as it was: as words, whatever the two representations.
 pub fn carried_along<Old: EnumSetTypeWithRepr, New: EnumSetType>(
     set: &EnumSet<New>,
     past: Unknown,
@@ -84,24 +67,16 @@ pub fn carried_along<Old: EnumSetTypeWithRepr, New: EnumSetType>(
         → mixed_set_of_words Old.Repr.WIDTH past
         (words_value (words set.now New.Repr.PREFERRED_ARRAY_LEN))
         ≡ Ok set.now }
-    ensures carried_text { IsTrue (is_subset set.now (below Old.Repr.WIDTH))
-        → value_read (mixed_set_of_words Old.Repr.WIDTH past)
-        (compact_text (words_value (words set.now New.Repr.PREFERRED_ARRAY_LEN)))
-        ≡ Some (Ok set.now) }
     ensures as_it_was { IsTrue (is_subset set.now (below Old.Repr.WIDTH))
         → set_of_words (valid_bits New.elements) unknown
         (words_value (words set.now Old.Repr.PREFERRED_ARRAY_LEN))
         ≡ Ok set.now }
-    ensures as_it_was_text { IsTrue (is_subset set.now (below Old.Repr.WIDTH))
-        → value_read (set_of_words (valid_bits New.elements) unknown)
-        (compact_text (words_value (words set.now Old.Repr.PREFERRED_ARRAY_LEN)))
-        ≡ Some (Ok set.now) }
 {
     all_words_and_back(set);
 }
 
-/// The same as a number and as its text, where the representation of the mixed set has at most 64 bits, and the other
-/// type reads and writes at a width that the members are below.
+/// The same as a number, where the representation of the mixed set has at most 64 bits, and the other type reads and
+/// writes at a width that the members are below.
 pub fn carried_along_in_number<Old: EnumSetTypeWithRepr, New: EnumSetType>(
     set: &EnumSet<New>,
     width: JsonWidth,
@@ -110,17 +85,10 @@ pub fn carried_along_in_number<Old: EnumSetTypeWithRepr, New: EnumSetType>(
     requires narrow { Old.Repr.WIDTH ≤ 64 }
     ensures carried { IsTrue (is_subset set.now (below Old.Repr.WIDTH))
         → mixed_set_of_number Old.Repr.WIDTH (number_value (number set.now)) ≡ Ok set.now }
-    ensures carried_text { IsTrue (is_subset set.now (below Old.Repr.WIDTH))
-        → value_read (mixed_set_of_number Old.Repr.WIDTH) (decimal (number set.now))
-        ≡ Some (Ok set.now) }
     ensures as_it_was { IsTrue (is_subset set.now (below (width_of width)))
         → set_of_number (valid_bits New.elements) (width_of width) unknown
         (number_value (number set.now))
         ≡ Ok set.now }
-    ensures as_it_was_text { IsTrue (is_subset set.now (below (width_of width)))
-        → value_read (set_of_number (valid_bits New.elements) (width_of width) unknown)
-        (decimal (number set.now))
-        ≡ Some (Ok set.now) }
 {
     number_and_back(set);
 }

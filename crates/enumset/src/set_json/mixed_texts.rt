@@ -1,10 +1,12 @@
 //! Mixed sets to and from JSON texts, as numbers and as words.
 
-ghost use Rattle.std.specs.Prelude.{◌≡◌, ◌≤◌, IfOk, IfErr, string_bytes, decimal};
+ghost use Rattle.std.specs.Prelude.{◌≡◌, ◌≤◌, Some, IfOk, IfErr, string_bytes, decimal};
 ghost use Rattle.enumset_repr.specs.Number.{number};
 ghost use Rattle.enumset_repr.specs.Words.{words};
+ghost use Rattle.serde_json.specs.Read.{read};
 ghost use Rattle.serde_json.specs.Written.{compact_text};
-ghost use Rattle.enumset.specs.Json.{words_value, mixed_set_of_number, mixed_set_of_words};
+ghost use Rattle.enumset.specs.Json.{number_value, words_value};
+ghost use Rattle.enumset.specs.Json.{mixed_set_of_number, mixed_set_of_words};
 ghost use Rattle.enumset.specs.JsonReads.{IsReadOf};
 ghost use Rattle.enumset.specs.declared.set_json.fault.JsonFault.TheVariants.{OutOfMemory};
 
@@ -25,19 +27,23 @@ pub fn mixed_to_number_text<T: EnumSetTypeWithRepr>(
 ) -> Result<String, JsonFault>
     requires narrow { T.Repr.WIDTH ≤ 64 }
     ensures text { IfOk result (λ text. string_bytes text ≡ decimal (number set.now)) }
+    ensures reads { IfOk result (λ text.
+        read (string_bytes text) ≡ Some (number_value (number set.now))) }
     ensures fault { IfErr result (λ fault. fault ≡ OutOfMemory) }
 {
     Ok(mixed_to_number(alloc, set)?.to_string(alloc)?)
 }
 
 /// The text of the value that [`mixed_to_words`] writes. The only fault is [`JsonFault::OutOfMemory`].
-#[tactic(auto, using(crate::proofs::JsonTextLaws::words_no_float))]
+#[tactic(auto, using(crate::proofs::WrittenValues::words_no_float, crate::proofs::WrittenValues::words_shallow))]
 pub fn mixed_to_words_text<T: EnumSetTypeWithRepr>(
     alloc: Global,
     set: &MixedEnumSet<T>,
 ) -> Result<String, JsonFault>
     ensures text { IfOk result (λ text. string_bytes text
         ≡ compact_text (words_value (words set.now T.Repr.PREFERRED_ARRAY_LEN))) }
+    ensures reads { IfOk result (λ text. read (string_bytes text)
+        ≡ Some (words_value (words set.now T.Repr.PREFERRED_ARRAY_LEN))) }
     ensures fault { IfErr result (λ fault. fault ≡ OutOfMemory) }
 {
     Ok(mixed_to_words(alloc, set)?.to_string(alloc)?)

@@ -1,11 +1,14 @@
 //! Sets to and from JSON texts, in each form.
 
-ghost use Rattle.std.specs.Prelude.{◌≡◌, ◌↔◌, ◌⊎◌, false, Err, IfOk, IfErr, string_bytes, decimal};
+ghost use Rattle.std.specs.Prelude.{◌≡◌, ◌↔◌, ◌⊎◌, false, Some, Err, IfOk, IfErr, string_bytes};
+ghost use Rattle.std.specs.Prelude.{decimal};
 ghost use Rattle.enumset_repr.specs.BitSet.{below, is_subset};
 ghost use Rattle.enumset_repr.specs.Number.{number};
 ghost use Rattle.enumset_repr.specs.Words.{words};
+ghost use Rattle.serde_json.specs.Read.{read};
 ghost use Rattle.serde_json.specs.Written.{compact_text};
-ghost use Rattle.enumset.specs.Json.{width_of, words_value, set_of_number, set_of_words};
+ghost use Rattle.enumset.specs.Json.{width_of, number_value, words_value};
+ghost use Rattle.enumset.specs.Json.{set_of_number, set_of_words};
 ghost use Rattle.enumset.specs.JsonNames.{list_value, map_value, set_of_list, set_of_map};
 ghost use Rattle.enumset.specs.JsonReads.{IsReadOf};
 ghost use Rattle.enumset.specs.Names.{names_of};
@@ -32,6 +35,8 @@ pub fn to_number_text<T: EnumSetType>(
     width: JsonWidth,
 ) -> Result<String, JsonFault>
     ensures text { IfOk result (λ text. string_bytes text ≡ decimal (number set.now)) }
+    ensures reads { IfOk result (λ text.
+        read (string_bytes text) ≡ Some (number_value (number set.now))) }
     ensures too_wide { (result ≡ Err TooWide) ↔ (is_subset set.now (below (width_of width)) ≡ false) }
     ensures fault { IfErr result (λ fault. (fault ≡ TooWide) ⊎ (fault ≡ OutOfMemory)) }
 {
@@ -39,30 +44,36 @@ pub fn to_number_text<T: EnumSetType>(
 }
 
 /// The text of the value that [`to_words`] writes. The only fault is [`JsonFault::OutOfMemory`].
-#[tactic(auto, using(crate::proofs::JsonTextLaws::words_no_float))]
+#[tactic(auto, using(crate::proofs::WrittenValues::words_no_float, crate::proofs::WrittenValues::words_shallow))]
 pub fn to_words_text<T: EnumSetType>(alloc: Global, set: &EnumSet<T>) -> Result<String, JsonFault>
     ensures text { IfOk result (λ text. string_bytes text
         ≡ compact_text (words_value (words set.now T.Repr.PREFERRED_ARRAY_LEN))) }
+    ensures reads { IfOk result (λ text. read (string_bytes text)
+        ≡ Some (words_value (words set.now T.Repr.PREFERRED_ARRAY_LEN))) }
     ensures fault { IfErr result (λ fault. fault ≡ OutOfMemory) }
 {
     Ok(to_words(alloc, set)?.to_string(alloc)?)
 }
 
 /// The text of the value that [`to_list`] writes. The only fault is [`JsonFault::OutOfMemory`].
-#[tactic(auto, using(crate::proofs::JsonTextLaws::list_no_float))]
+#[tactic(auto, using(crate::proofs::WrittenValues::list_no_float, crate::proofs::WrittenValues::list_shallow))]
 pub fn to_list_text<T: EnumSetNames>(alloc: Global, set: &EnumSet<T>) -> Result<String, JsonFault>
     ensures text { IfOk result (λ text. string_bytes text
         ≡ compact_text (list_value (names_of T.elements T.names) set.now)) }
+    ensures reads { IfOk result (λ text. read (string_bytes text)
+        ≡ Some (list_value (names_of T.elements T.names) set.now)) }
     ensures fault { IfErr result (λ fault. fault ≡ OutOfMemory) }
 {
     Ok(to_list(alloc, set)?.to_string(alloc)?)
 }
 
 /// The text of the value that [`to_map`] writes. The only fault is [`JsonFault::OutOfMemory`].
-#[tactic(auto, using(crate::proofs::JsonTextLaws::map_no_float))]
+#[tactic(auto, using(crate::proofs::WrittenValues::map_no_float, crate::proofs::WrittenValues::map_shallow))]
 pub fn to_map_text<T: EnumSetNames>(alloc: Global, set: &EnumSet<T>) -> Result<String, JsonFault>
     ensures text { IfOk result (λ text. string_bytes text
         ≡ compact_text (map_value (names_of T.elements T.names) set.now)) }
+    ensures reads { IfOk result (λ text. read (string_bytes text)
+        ≡ Some (map_value (names_of T.elements T.names) set.now)) }
     ensures fault { IfErr result (λ fault. fault ≡ OutOfMemory) }
 {
     Ok(to_map(alloc, set)?.to_string(alloc)?)

@@ -1,7 +1,6 @@
 use Rattle.std.proofs.Common.{◌≡◌, true, subst}
 use Rattle.enumset_repr.specs.BitSet.{is_subset, below}
 use Rattle.enumset.proofs.JsonLaws.{words_kept, all_in_words}
-use Rattle.enumset.proofs.JsonTextLaws.{read_as, words_text}
 use Rattle.enumset.proofs.laws.json_mixed_words_and_back.Goals as goal
 
 pub returns : goal.returns
@@ -10,7 +9,4 @@ returns g c =
     let count = g.T.Repr.EnumSetTypeRepr.PREFERRED_ARRAY_LEN in
     let within : is_subset c.args.set.now (below width) ≡ true =
     subst (λ s. is_subset s (below width) ≡ true) c.as_repr.ensures (g.met.T.Repr.EnumSetTypeRepr.within _ c.learn_is_value.ensures) in
-    let kept = words_kept c.args.set.now width count c.args.past within (all_in_words c.args.set.now count _ g.met.T.Repr.EnumSetTypeRepr.words within) in record {
-      value = kept;
-      text = read_as _ _ _ _ (words_text c.args.set.now count) kept;
-    }
+    words_kept c.args.set.now width count c.args.past within (all_in_words c.args.set.now count _ g.met.T.Repr.EnumSetTypeRepr.words within)

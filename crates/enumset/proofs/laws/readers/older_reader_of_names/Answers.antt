@@ -1,5 +1,3 @@
-use Rattle.enumset.specs.Names.{names_of}
-use Rattle.enumset.proofs.JsonTextLaws.{read_as, list_text, map_text}
 use Rattle.enumset.proofs.NameLaws.{IsNaming-passes}
 use Rattle.enumset.proofs.OtherNames.{list_other, map_other}
 use Rattle.enumset.proofs.laws.readers.older_reader_of_names.Goals as goal
@@ -7,13 +5,8 @@ use Rattle.enumset.proofs.laws.readers.older_reader_of_names.Goals as goal
 pub returns : goal.returns
 returns g c =
     let s = c.args.set.now in
-    let writers = names_of g.New.EnumSetType.elements g.New.EnumSetNames.names in
     let as_many = IsNaming-passes g.Old.EnumSetType.elements.bit_list g.Old.EnumSetNames.names g.met.Old.EnumSetNames.named in
-    let are = IsNaming-passes g.New.EnumSetType.elements.bit_list g.New.EnumSetNames.names g.met.New.EnumSetNames.named in
-    let list = list_other _ _ _ _ as_many.as_many are c.requires s c.args.unknown c.number_and_back.ensures.valid in
-    let map = map_other _ _ _ _ as_many.as_many are c.requires s c.args.unknown c.number_and_back.ensures.valid in record {
-      list = list;
-      list_text = read_as _ _ _ _ (list_text writers s) list;
-      map = map;
-      map_text = read_as _ _ _ _ (map_text writers s) map;
+    let are = IsNaming-passes g.New.EnumSetType.elements.bit_list g.New.EnumSetNames.names g.met.New.EnumSetNames.named in record {
+      list = list_other _ _ _ _ as_many.as_many are c.requires s c.args.unknown c.number_and_back.ensures.valid;
+      map = map_other _ _ _ _ as_many.as_many are c.requires s c.args.unknown c.number_and_back.ensures.valid;
     }
