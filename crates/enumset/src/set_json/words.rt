@@ -52,7 +52,7 @@ pub fn from_words<T: EnumSetType>(value: &Value, unknown: Unknown) -> Result<Enu
     let repr: T::Repr = set_of_low_words(items);
     let all = representation::valid_repr::<T>();
     match unknown {
-        Unknown::Drop => Ok(raw::new(representation::intersection_of(repr, all))),
+        Unknown::Drop => Ok(raw::new(repr & all)),
         Unknown::Refuse => {
             if are_valid::<T>(&repr, items) {
                 Ok(raw::new(repr))
