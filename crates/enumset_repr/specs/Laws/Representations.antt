@@ -2,7 +2,6 @@
 --     by_sets      operators whose results are those of the sets
 --     by_list      an iterator whose steps are those of the list of the items left
 use Rattle.std.proofs.Common.{◌≡◌, refl, ap, List, ℕ}
-use Rattle.std.specs.Prelude.{Option}
 use Rattle.std.specs.Iterator.{YieldsFirst, YieldsLast, item_count}
 use Rattle.enumset_repr.specs.BitSet.{BitSet, union, intersection, symmetric_difference, difference, below}
 use Rattle.enumset_repr.specs.Representations.{AreSetOperators, IsListed}

@@ -1,4 +1,4 @@
-use Rattle.std.proofs.Common.{sym, ap, ◌∙◌}
+use Rattle.std.proofs.Common.{ap, ◌∙◌}
 use Rattle.std.proofs.lemmas.Bool.Decides.{same_from_decides}
 use Rattle.enumset_repr.specs.BitSet.{is_empty}
 use Rattle.enumset_repr.specs.Laws.Ascending.{is_empty_iff}
