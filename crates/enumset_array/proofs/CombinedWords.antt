@@ -1,15 +1,17 @@
 -- The words of an `ArrayRepr` made from those of others, word by word.
-use Rattle.std.proofs.Common.{◌≡◌, ◌<◌, ◌≤◌, ◌↔◌, ◌⊎◌, inl, inr, ℕ, ◌*◌, ◌+◌, ◌-◌, ◌^◌, List, length, sym, ap, ◌∙◌, subst, arith}
+use Rattle.std.proofs.Common.{◌≡◌, ◌<◌, ◌≤◌, ◌↔◌, ◌⊎◌, inl, inr, ℕ, ◌*◌, ◌+◌, ◌^◌, not, ◌&&◌, List, length, sym, ap, ◌∙◌, subst, arith, w64}
 use Rattle.std.specs.Prelude.{◌==◌, slice_index, IsTrue, nat_lt}
 use Rattle.std.specs.List.{list_all}
+use Rattle.std.specs.Int.{bit_not}
+use Rattle.std.proofs.Math.Pow.{ones_sub-lt}
 use Rattle.std.proofs.lemmas.Bool.{cases_lt, lt-ltb, le-ltb}
 use Rattle.std.proofs.lemmas.List.{get_or_past}
 use Rattle.std.proofs.lemmas.Simd.{length-zip2, get_or-zip2}
 use Rattle.std.specs.Simd.Lanes.{zip2}
-use Rattle.enumset_repr.specs.BitSet.{BitSet, contains, empty, below}
+use Rattle.enumset_repr.specs.BitSet.{BitSet, contains, empty, below, difference}
 use Rattle.enumset_repr.specs.Number.{bits}
-use Rattle.enumset_repr.specs.Laws.Members.{contains-below}
-use Rattle.enumset_repr.specs.Laws.Numbers.{bits_full}
+use Rattle.enumset_repr.specs.Laws.Members.{contains-below, contains-difference}
+use Rattle.enumset_repr.specs.Laws.Numbers.{bits-not}
 use Rattle.enumset_array.specs.Operations.{IsOnBits}
 use Rattle.enumset_array.specs.ArrayWords.{in_use, set_of, IsArrayRepr}
 use Rattle.enumset_array.specs.Laws.ArrayWords.{contains-set_of, set_is, past_is, empty_past, none_iff}
@@ -48,19 +50,26 @@ module _ (op : ℕ → ℕ → ℕ) (of_sets : BitSet → BitSet → BitSet) (on
   pub made_none : IsTrue (list_all (λ w. w == 0) (zip2 op a b)) ↔ (of_sets (set_of n a) (set_of n b) ≡ empty)
   made_none = subst (λ s. IsTrue (list_all (λ w. w == 0) (zip2 op a b)) ↔ (s ≡ empty)) made_set (none_iff n _ made_repr)
 
--- ---- all numbers below the width: the words in use are all ones, and the others are 0
+-- ---- `!`: the words in use are inverted, and the others stay
 
-module _ (n : ℕ) (ws : List ℕ) (long : length ws ≡ n) (ones : (k : ℕ) → k < in_use n → slice_index ws k ≡ 2 ^ 64 - 1) (none : (k : ℕ) → in_use n ≤ k → slice_index ws k ≡ 0) where
-  pub full_repr : IsArrayRepr n ws
-  full_repr = record { long = long; fit = λ k. at k (cases_lt k (in_use n)); past = empty_past n ws none }
+module _ (n : ℕ) (a r : List ℕ) (first : IsArrayRepr n a) (long : length r ≡ n) (turned : (k : ℕ) → k < in_use n → slice_index r k ≡ bit_not w64 (slice_index a k)) (kept : (k : ℕ) → in_use n ≤ k → slice_index r k ≡ slice_index a k) where
+  none : (k : ℕ) → in_use n ≤ k → slice_index r k ≡ 0
+  none k past = kept k past ∙ past_is n a k first.past past
+
+  pub turned_repr : IsArrayRepr n r
+  turned_repr = record { long = long; fit = λ k. at k (cases_lt k (in_use n)); past = empty_past n r none }
     where
-      at : (k : ℕ) → (k < in_use n) ⊎ (in_use n ≤ k) → slice_index ws k < 2 ^ 64
-      at k (inl low) = omega (arith, ones k low)
+      at : (k : ℕ) → (k < in_use n) ⊎ (in_use n ≤ k) → slice_index r k < 2 ^ 64
+      at k (inl low) = subst (λ x. x < 2 ^ 64) (sym (turned k low)) (ones_sub-lt 64 (slice_index a k))
       at k (inr past) = omega (arith, none k past)
 
-  pub full_set : set_of n ws ≡ below (64 * in_use n)
-  full_set = set_is n ws _ full_repr (λ w q small. at w q small (cases_lt w (in_use n)) ∙ sym (contains-below (64 * in_use n) (64 * w + q)))
+  pub turned_set : set_of n r ≡ difference (below (64 * in_use n)) (set_of n a)
+  turned_set = set_is n r _ turned_repr (λ w q small.
+      at w q small (cases_lt w (in_use n)) ∙ ap (λ t. t && not (contains (set_of n a) (64 * w + q))) (sym (contains-below (64 * in_use n) (64 * w + q))) ∙ sym (contains-difference _ _ (64 * w + q)))
     where
-      at : (w q : ℕ) → q < 64 → (w < in_use n) ⊎ (in_use n ≤ w) → contains (bits (slice_index ws w)) q ≡ nat_lt (64 * w + q) (64 * in_use n)
-      at w q small (inl low) = ap (λ x. contains (bits x) q) (ones w low) ∙ ap (λ s. contains s q) (bits_full 64) ∙ contains-below 64 q ∙ lt-ltb q 64 small ∙ sym (lt-ltb _ _ (omega (arith, low, small)))
-      at w q small (inr past) = contains-zero _ q (none w past) ∙ sym (le-ltb _ _ (omega (arith, past)))
+      at : (w q : ℕ) → q < 64 → (w < in_use n) ⊎ (in_use n ≤ w) → contains (bits (slice_index r w)) q ≡ (nat_lt (64 * w + q) (64 * in_use n) && not (contains (set_of n a) (64 * w + q)))
+      at w q small (inl low) =
+          ap (λ x. contains (bits x) q) (turned w low) ∙ ap (λ s. contains s q) (bits-not w64 (slice_index a w) (first.fit w)) ∙ contains-difference _ _ q
+          ∙ (λ i. (contains-below 64 q ∙ lt-ltb q 64 small ∙ sym (lt-ltb (64 * w + q) (64 * in_use n) (omega (arith, low, small)))) i && not (sym (contains-set_of n a w q first small) i))
+      at w q small (inr past) =
+          contains-zero _ q (none w past) ∙ ap (λ t. t && not (contains (set_of n a) (64 * w + q))) (sym (le-ltb (64 * w + q) (64 * in_use n) (omega (arith, past))))

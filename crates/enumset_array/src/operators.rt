@@ -5,7 +5,7 @@ ghost use Rattle.enumset_repr.specs.BitSet as set;
 ghost use Rattle.enumset_array.specs.ArrayWords.{in_use, set_of};
 
 use crate::array_repr::{ArrayRepr, WORD_LIMIT};
-use crate::lanes::{And, AndNot, Or, Xor};
+use crate::lanes::{And, Or, Xor};
 use crate::set_operation::change_by;
 use std::ops::{BitAnd, BitOr, BitXor, Not};
 
@@ -55,19 +55,10 @@ impl<const N: usize> Not for ArrayRepr<N> {
 
     /// The numbers below the width that are not members.
     fn not(self) -> ArrayRepr<N> {
-        let mut result = full();
-        change_by::<AndNot, N>(&mut result, &self);
-        result
+        let mut words = self.0;
+        for i in 0..N % WORD_LIMIT {
+            words[i] = !words[i];
+        }
+        ArrayRepr(words)
     }
-}
-
-/// The numbers below the width.
-fn full<const N: usize>() -> ArrayRepr<N>
-    ensures { set_of N result ≡ set.below (64 * in_use N) }
-{
-    let mut words = [u64::MAX; N];
-    for i in N % WORD_LIMIT..N {
-        words[i] = 0;
-    }
-    ArrayRepr(words)
 }
