@@ -1,11 +1,11 @@
 -- The words of an `ArrayRepr` made from those of others, word by word.
-use Rattle.std.proofs.Common.{◌≡◌, ◌<◌, ◌≤◌, ◌↔◌, ◌⊎◌, inl, inr, ℕ, ◌*◌, ◌+◌, ◌^◌, not, ◌&&◌, List, length, sym, ap, ◌∙◌, subst, arith, w64}
+use Rattle.std.proofs.Common.{◌≡◌, ◌<◌, ◌≤◌, ◌↔◌, ◌⊎◌, inl, inr, ℕ, ◌*◌, ◌+◌, ◌^◌, not, ◌&&◌, ◌-◌, List, ◌++◌, length, drop, refl, sym, ap, ◌∙◌, subst, arith, w64}
 use Rattle.std.specs.Prelude.{◌==◌, slice_index, IsTrue, nat_lt}
 use Rattle.std.specs.List.{list_all}
 use Rattle.std.specs.Int.{bit_not}
 use Rattle.std.proofs.Math.Pow.{ones_sub-lt}
 use Rattle.std.proofs.lemmas.Bool.{cases_lt, lt-ltb, le-ltb}
-use Rattle.std.proofs.lemmas.List.{get_or_past}
+use Rattle.std.proofs.lemmas.List.{get_or_past, get_or_append_left, get_or-append_right, get_or-take, get_or-drop, length-append, length-take, length-drop}
 use Rattle.std.proofs.lemmas.Simd.{length-zip2, get_or-zip2}
 use Rattle.std.specs.Simd.Lanes.{zip2}
 use Rattle.enumset_repr.specs.BitSet.{BitSet, contains, empty, below, difference}
@@ -13,7 +13,7 @@ use Rattle.enumset_repr.specs.Number.{bits}
 use Rattle.enumset_repr.specs.Laws.Members.{contains-below, contains-difference}
 use Rattle.enumset_repr.specs.Laws.Numbers.{bits-not}
 use Rattle.enumset_array.specs.Operations.{IsOnBits}
-use Rattle.enumset_array.specs.ArrayWords.{in_use, set_of, IsArrayRepr}
+use Rattle.enumset_array.specs.ArrayWords.{in_use, words_in_use, set_of, IsArrayRepr}
 use Rattle.enumset_array.specs.Laws.ArrayWords.{contains-set_of, set_is, past_is, empty_past, none_iff}
 use Rattle.enumset_repr.specs.Laws.WordLists.{contains-zero}
 use Rattle.enumset_array.proofs.ReplacedWord.{in_use-le}
@@ -52,22 +52,47 @@ module _ (op : ℕ → ℕ → ℕ) (of_sets : BitSet → BitSet → BitSet) (on
 
 -- ---- `!`: the words in use are inverted, and the others stay
 
-module _ (n : ℕ) (a r : List ℕ) (first : IsArrayRepr n a) (long : length r ≡ n) (turned : (k : ℕ) → k < in_use n → slice_index r k ≡ bit_not w64 (slice_index a k)) (kept : (k : ℕ) → in_use n ≤ k → slice_index r k ≡ slice_index a k) where
-  none : (k : ℕ) → in_use n ≤ k → slice_index r k ≡ 0
-  none k past = kept k past ∙ past_is n a k first.past past
+abbrev pub inverted : ℕ → List ℕ → List ℕ
+inverted n a = zip2 (λ x _. bit_not w64 x) (words_in_use n a) (words_in_use n a) ++ drop (in_use n) a
 
-  pub turned_repr : IsArrayRepr n r
-  turned_repr = record { long = long; fit = λ k. at k (cases_lt k (in_use n)); past = empty_past n r none }
+module _ (n : ℕ) (a : List ℕ) (first : IsArrayRepr n a) where
+  abbrev front : List ℕ
+  front = zip2 (λ x _. bit_not w64 x) (words_in_use n a) (words_in_use n a)
+
+  length-used : length (words_in_use n a) ≡ in_use n
+  length-used = omega (arith, length-take (in_use n) a, first.long, in_use-le n)
+
+  length-front : length front ≡ in_use n
+  length-front = length-zip2 (λ x _. bit_not w64 x) (words_in_use n a) (words_in_use n a) refl ∙ length-used
+
+  turned : (k : ℕ) → k < in_use n → slice_index (inverted n a) k ≡ bit_not w64 (slice_index a k)
+  turned k low =
+      get_or_append_left front (drop (in_use n) a) 0 k (omega (arith, low, length-front))
+      ∙ get_or-zip2 (λ x _. bit_not w64 x) (words_in_use n a) (words_in_use n a) k 0 0 0 (omega (arith, low, length-used)) (omega (arith, low, length-used))
+      ∙ ap (bit_not w64) (get_or-take (in_use n) a k 0 low)
+
+  none : (k : ℕ) → in_use n ≤ k → slice_index (inverted n a) k ≡ 0
+  none k past =
+      let place : in_use n + (k - in_use n) ≡ k = omega (arith, past) in
+      get_or-append_right front (drop (in_use n) a) (in_use n) k 0 length-front past
+      ∙ get_or-drop (in_use n) a (k - in_use n) 0 ∙ ap (slice_index a) place ∙ past_is n a k first.past past
+
+  pub inverted_repr : IsArrayRepr n (inverted n a)
+  inverted_repr = record {
+    long = omega (arith, length-append front (drop (in_use n) a), length-front, length-drop (in_use n) a, first.long, in_use-le n);
+    fit = λ k. at k (cases_lt k (in_use n));
+    past = empty_past n (inverted n a) none;
+  }
     where
-      at : (k : ℕ) → (k < in_use n) ⊎ (in_use n ≤ k) → slice_index r k < 2 ^ 64
+      at : (k : ℕ) → (k < in_use n) ⊎ (in_use n ≤ k) → slice_index (inverted n a) k < 2 ^ 64
       at k (inl low) = subst (λ x. x < 2 ^ 64) (sym (turned k low)) (ones_sub-lt 64 (slice_index a k))
       at k (inr past) = omega (arith, none k past)
 
-  pub turned_set : set_of n r ≡ difference (below (64 * in_use n)) (set_of n a)
-  turned_set = set_is n r _ turned_repr (λ w q small.
+  pub inverted_set : set_of n (inverted n a) ≡ difference (below (64 * in_use n)) (set_of n a)
+  inverted_set = set_is n (inverted n a) _ inverted_repr (λ w q small.
       at w q small (cases_lt w (in_use n)) ∙ ap (λ t. t && not (contains (set_of n a) (64 * w + q))) (sym (contains-below (64 * in_use n) (64 * w + q))) ∙ sym (contains-difference _ _ (64 * w + q)))
     where
-      at : (w q : ℕ) → q < 64 → (w < in_use n) ⊎ (in_use n ≤ w) → contains (bits (slice_index r w)) q ≡ (nat_lt (64 * w + q) (64 * in_use n) && not (contains (set_of n a) (64 * w + q)))
+      at : (w q : ℕ) → q < 64 → (w < in_use n) ⊎ (in_use n ≤ w) → contains (bits (slice_index (inverted n a) w)) q ≡ (nat_lt (64 * w + q) (64 * in_use n) && not (contains (set_of n a) (64 * w + q)))
       at w q small (inl low) =
           ap (λ x. contains (bits x) q) (turned w low) ∙ ap (λ s. contains s q) (bits-not w64 (slice_index a w) (first.fit w)) ∙ contains-difference _ _ q
           ∙ (λ i. (contains-below 64 q ∙ lt-ltb q 64 small ∙ sym (lt-ltb (64 * w + q) (64 * in_use n) (omega (arith, low, small)))) i && not (sym (contains-set_of n a w q first small) i))

@@ -79,6 +79,12 @@ turned_lanes (x ∷ a) [] = refl
 turned_lanes (x ∷ a) (y ∷ b) = ap (λ l. bit_and x (bit_not w64 y) ∷ l) (turned_lanes a b)
 
 -- the first lanes alone
+-- an operation that uses the first lanes alone
+pub first_lanes : (op : ℕ → ℕ) (a b : List ℕ) → length a ≡ length b → map op a ≡ zip2 (λ x _. op x) a b
+first_lanes op [] b e = refl
+first_lanes op (x ∷ a) [] e = absurd (omega (arith, e))
+first_lanes op (x ∷ a) (y ∷ b) e = ap (λ l. op x ∷ l) (first_lanes op a b (omega (arith, e)))
+
 pub first_alone : (a b : List ℕ) → length a ≡ length b → a ≡ zip2 (λ x _. x) a b
 first_alone [] b e = refl
 first_alone (x ∷ a) [] e = absurd (omega (arith, e))

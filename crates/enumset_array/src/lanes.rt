@@ -36,6 +36,9 @@ pub(crate) struct Xor;
 /// `a & !b`.
 pub(crate) struct AndNot;
 
+/// `!a`, whatever b is.
+pub(crate) struct Inverse;
+
 /// `a`, whatever b is.
 pub(crate) struct First;
 
@@ -84,6 +87,18 @@ impl WordOperation for AndNot {
 
     fn on_lanes(a: u64x4, b: u64x4) -> u64x4 {
         a & !b
+    }
+}
+
+impl WordOperation for Inverse {
+    ghost of_two = { λ a _. bit_not w64 a };
+
+    fn on_words(a: u64, _b: u64) -> u64 {
+        !a
+    }
+
+    fn on_lanes(a: u64x4, _b: u64x4) -> u64x4 {
+        !a
     }
 }
 

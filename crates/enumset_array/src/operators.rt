@@ -5,7 +5,7 @@ ghost use Rattle.enumset_repr.specs.BitSet as set;
 ghost use Rattle.enumset_array.specs.ArrayWords.{in_use, set_of};
 
 use crate::array_repr::{ArrayRepr, WORD_LIMIT};
-use crate::lanes::{And, Or, Xor};
+use crate::lanes::{And, Inverse, Or, Xor, combine};
 use crate::set_operation::change_by;
 use std::ops::{BitAnd, BitOr, BitXor, Not};
 
@@ -56,9 +56,8 @@ impl<const N: usize> Not for ArrayRepr<N> {
     /// The numbers below the width that are not members.
     fn not(self) -> ArrayRepr<N> {
         let mut words = self.0;
-        for i in 0..N % WORD_LIMIT {
-            words[i] = !words[i];
-        }
+        let used = &self.0[..N % WORD_LIMIT];
+        combine::<Inverse>(&mut words[..N % WORD_LIMIT], used);
         ArrayRepr(words)
     }
 }
