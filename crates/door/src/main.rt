@@ -9,35 +9,38 @@ mod event;
 mod flag;
 mod machine;
 
-use anyhow::Context;
 use door::Door;
 use event::Event;
+use std::io;
 use std::process::ExitCode;
 
-// Lets the events happen in turn, and returns whether none is refused.
-fn take_all<R: Input + Print + AllocGlobal>(rt: &R) -> anyhow::Result<bool> {
+// Lets the events happen in turn, up to the first line that is none.
+fn take_all<R: Input + Print + Eprint + AllocGlobal>(rt: &R) -> io::Result<ExitCode> {
     let mut door = Door::new();
-    let mut all_are_taken = true;
+    let mut status = ExitCode::SUCCESS;
     for (line, number) in rt.lines(rt.alloc()).zip(1..=u64::MAX) {
         let line = line?;
         let word = line.trim();
-        let event = Event::named(word).context(format_args!("line {number}: no event `{line}`"))?;
-        let taken = door.take(event);
-        all_are_taken &= taken.is_ok();
-        match taken {
+        let Some(event) = Event::named(word) else {
+            eprintln!(rt; "door: line {number}: no event `{line}`")?;
+            return Ok(ExitCode::from(2));
+        };
+        match door.take(event) {
             Ok(()) => println!(rt; "{word}: [{}]", door.flags)?,
-            Err(refusal) => println!(rt; "{word}: {refusal}")?,
+            Err(refusal) => {
+                println!(rt; "{word}: {refusal}")?;
+                status = ExitCode::from(1);
+            }
         }
     }
-    Ok(all_are_taken)
+    Ok(status)
 }
 
 fn main(rt: HostRuntime) -> ExitCode {
     match take_all(&rt) {
-        Ok(true) => ExitCode::SUCCESS,
-        Ok(false) => ExitCode::from(1),
-        Err(fault) => {
-            let _ = eprintln!(rt; "door: {fault}");
+        Ok(status) => status,
+        Err(error) => {
+            let _ = eprintln!(rt; "door: {error}");
             ExitCode::from(2)
         }
     }

@@ -9,7 +9,8 @@ use my_sets::expressions::{after_and_before, exchange, exchanged};
 use my_sets::finding::first_that;
 use my_sets::granting::grant;
 use my_sets::proving::{grant_then_revoke, is_apart_from_the_rest, rebuilt};
-use my_sets::rights::{Right, may};
+use my_sets::requests::may;
+use my_sets::rights::Right;
 use my_sets::sending::{as_byte, granted_by, sent_and_read};
 use my_sets::sharing::{all_may, all_rights, replaced, shared_by_all, shared_by_two, with_shared};
 

@@ -67,10 +67,7 @@ operator depth Minus is = refl
 operator depth Plus is = refl
 operator depth Times is = refl
 operator depth Divide is = refl
-operator depth Number is = absurd (true≢false (sym is))
-operator depth Open is = absurd (true≢false (sym is))
-operator depth Close is = absurd (true≢false (sym is))
-operator depth End is = absurd (true≢false (sym is))
+operator depth _ is = absurd (true≢false (sym is))
 
 closes : (depth : ℕ) → next (at Operator (depth + 1)) Close ≡ Some (at Operator depth)
 closes depth = rw (add-one depth, sub-one (suc depth)) refl
@@ -175,10 +172,8 @@ read_more p s k read h = record {
 }
 
 may_close : (place : Place) (depth : ℕ) → may place depth Close ≡ true → 0 < depth
-may_close Operand depth h = absurd (true≢false (sym h))
-may_close Operator zero h = absurd (true≢false (sym h))
 may_close Operator (suc depth) h = omega arith
-may_close Done depth h = absurd (true≢false (sym h))
+may_close _ _ h = absurd (true≢false (sym h))
 
 depth_more : (depth : ℕ) (k : Kind) (n : ℕ) → depth ≤ n → depth_after k depth ≤ n + 1
 depth_more depth Open n h = omega arith

@@ -5,38 +5,38 @@
 //! writing fails.
 #![tactic(auto)]
 
+mod fault;
 mod kind;
 mod parser;
 mod token;
 mod value;
 
-use anyhow::{Result, bail};
-use itertools::Itertools;
+use fault::{Fault, Reason};
 use std::alloc::Global;
+use std::io;
 use std::process::ExitCode;
 
 // The value of an expression.
-fn answer(alloc: Global, line: &str) -> Result<i64> {
+fn answer(alloc: Global, line: &str) -> Result<i64, Fault> {
     let tokens = token::tokens(alloc, line)?;
-    if let Err(fault) = parser::check(&tokens) {
+    if let Err(unexpected) = parser::check(&tokens) {
         let end = line.chars().count() + 1;
-        let column = tokens.get(fault.place).map_or(end, |token| token.column);
-        let expected = fault.expected.iter().join(alloc, ", ")?;
-        let found = fault.found;
-        bail!("column {column}: found {found}, expected {expected}");
+        let token = tokens.get(unexpected.place);
+        let column = token.map_or(end, |token| token.column);
+        return Err(Reason::Unexpected(unexpected).at(column));
     }
     value::evaluate(alloc, &tokens)
 }
 
 // Answers each line, and returns whether each has a value.
-fn answer_all<R: Input + Print + AllocGlobal>(rt: &R) -> Result<bool> {
+fn answer_all<R: Input + Print + AllocGlobal>(rt: &R) -> io::Result<bool> {
     let mut all_have_values = true;
     for line in rt.lines(rt.alloc()) {
         let answer = answer(rt.alloc(), line?.as_str());
         all_have_values &= answer.is_ok();
         match answer {
             Ok(value) => println!(rt; "{value}")?,
-            Err(fault) => println!(rt; "{fault:#}")?,
+            Err(fault) => println!(rt; "{fault}")?,
         }
     }
     Ok(all_have_values)
@@ -46,8 +46,8 @@ fn main(rt: HostRuntime) -> ExitCode {
     match answer_all(&rt) {
         Ok(true) => ExitCode::SUCCESS,
         Ok(false) => ExitCode::from(1),
-        Err(fault) => {
-            let _ = eprintln!(rt; "expressions: {fault}");
+        Err(error) => {
+            let _ = eprintln!(rt; "expressions: {error}");
             ExitCode::from(2)
         }
     }

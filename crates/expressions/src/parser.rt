@@ -77,3 +77,18 @@ impl fmt::Display for Kind {
         })
     }
 }
+
+impl fmt::Display for Unexpected {
+    fn fmt<W: fmt::Write>(&self, f: &mut fmt::Formatter<W>) -> fmt::Result {
+        write!(f, "found {}, expected ", self.found)?;
+        let mut is_first = true;
+        for kind in self.expected {
+            if !is_first {
+                f.write_str(", ")?;
+            }
+            write!(f, "{kind}")?;
+            is_first = false;
+        }
+        Ok(())
+    }
+}

@@ -1,7 +1,7 @@
 //! The tokens of a line.
 
+use crate::fault::{Fault, Reason};
 use crate::kind::Kind;
-use anyhow::{Context, Result, ensure};
 use std::alloc::Global;
 
 /// A token.
@@ -15,7 +15,7 @@ pub struct Token {
 }
 
 /// The tokens of a line. Spaces and tabs may stand between them.
-pub fn tokens(alloc: Global, line: &str) -> Result<Vec<Token>> {
+pub fn tokens(alloc: Global, line: &str) -> Result<Vec<Token>, Fault> {
     let mut tokens: Vec<Token> = Vec::new(alloc);
     let mut was_digit = false;
     for (index, character) in line.chars().enumerate() {
@@ -25,20 +25,19 @@ pub fn tokens(alloc: Global, line: &str) -> Result<Vec<Token>> {
             (Some(Kind::Number), Some(last)) if was_digit => {
                 let tens = last.number.checked_mul(10);
                 let more = tens.and_then(|tens| tens.checked_add(number));
-                last.number = more.context(format_args!(
-                    "column {}: the number is too large",
-                    last.column
-                ))?;
+                last.number = more.ok_or(Reason::LargeNumber.at(last.column))?;
             }
-            (Some(kind), _) => tokens.push(Token {
-                kind,
-                column,
-                number,
-            })?,
-            (None, _) => ensure!(
-                matches!(character, ' ' | '\t'),
-                "column {column}: {character} begins no token"
-            ),
+            (Some(kind), _) => {
+                let token = Token {
+                    kind,
+                    column,
+                    number,
+                };
+                let pushed = tokens.push(token);
+                pushed.map_err(|_| Reason::OutOfMemory.at(column))?;
+            }
+            (None, _) if matches!(character, ' ' | '\t') => {}
+            (None, _) => return Err(Reason::NoToken(character).at(column)),
         }
         was_digit = character.is_ascii_digit();
     }

@@ -1,11 +1,9 @@
 //! The value of an expression.
 
+use crate::fault::{Fault, Reason};
 use crate::kind::Kind;
 use crate::token::Token;
-use anyhow::{Context, Result, ensure};
 use std::alloc::Global;
-
-const TOO_LARGE: &str = "the value does not fit 64 bits";
 
 // What was read between two parentheses: a sum, and a term that the next operand multiplies or divides.
 #[derive(Clone, Copy)]
@@ -27,27 +25,29 @@ impl Level {
         }
     }
 
-    fn value(self) -> Result<i64> {
-        self.sum.checked_add(self.term).context(TOO_LARGE)
+    fn value(self) -> Result<i64, Reason> {
+        self.sum.checked_add(self.term).ok_or(Reason::LargeValue)
     }
 
-    fn read_operand(&mut self, operand: i64) -> Result<()> {
-        ensure!(!self.divides || operand != 0, "division by zero");
+    fn read_operand(&mut self, operand: i64) -> Result<(), Reason> {
+        if self.divides && operand == 0 {
+            return Err(Reason::ZeroDivisor);
+        }
         let sign = if self.negates { -1 } else { 1 };
-        let factor = operand.checked_mul(sign).context(TOO_LARGE)?;
+        let factor = operand.checked_mul(sign).ok_or(Reason::LargeValue)?;
         let term = if self.divides {
             self.term.checked_div(factor)
         } else {
             self.term.checked_mul(factor)
         };
-        self.term = term.context(TOO_LARGE)?;
+        self.term = term.ok_or(Reason::LargeValue)?;
         self.negates = false;
         Ok(())
     }
 }
 
 // The value of an expression up to a column, which is that of the token that is read.
-fn value_up_to(column: &mut usize, alloc: Global, tokens: &[Token]) -> Result<i64> {
+fn value_up_to(column: &mut usize, alloc: Global, tokens: &[Token]) -> Result<i64, Reason> {
     let mut outer: Vec<Level> = Vec::new(alloc);
     let mut level = Level::before_term(0, 1);
     let mut is_after_operand = false;
@@ -56,7 +56,7 @@ fn value_up_to(column: &mut usize, alloc: Global, tokens: &[Token]) -> Result<i6
         match token.kind {
             Kind::Number => level.read_operand(token.number)?,
             Kind::Open => {
-                outer.push(level)?;
+                outer.push(level).map_err(|_| Reason::OutOfMemory)?;
                 level = Level::before_term(0, 1);
             }
             Kind::Close => {
@@ -76,7 +76,8 @@ fn value_up_to(column: &mut usize, alloc: Global, tokens: &[Token]) -> Result<i6
 }
 
 /// The value of tokens that are an expression.
-pub fn evaluate(alloc: Global, tokens: &[Token]) -> Result<i64> {
+pub fn evaluate(alloc: Global, tokens: &[Token]) -> Result<i64, Fault> {
     let mut column = 1;
-    value_up_to(&mut column, alloc, tokens).context(format_args!("column {column}"))
+    let value = value_up_to(&mut column, alloc, tokens);
+    value.map_err(|reason| reason.at(column))
 }

@@ -3,7 +3,7 @@
 --     known, reserved      the flags of this version that are set in a byte of flags;  the bits of later versions
 --     wire_of      a frame's bytes: its flags, the length of its body, and the body
 --     fault_of      what is wrong with bytes that are no frame
-use Rattle.std.specs.Prelude.{ℕ, List, [], ◌∷◌, length}
+use Rattle.std.specs.Prelude.{ℕ, List, ◌∷◌, length}
 use Rattle.enumset_repr.specs.BitSet.{BitSet}
 use Rattle.enumset_repr.specs.Number.{number}
 use Rattle.enumset_sets.specs.Elements.{in_place, valid_bits}

@@ -8,7 +8,6 @@ use crate::flag::Flag;
 use crate::flags::relay_flags;
 use enumset::set::MixedEnumSet;
 use std::alloc::{AllocError, Global};
-use std::error::Error;
 use std::fmt;
 
 /// A frame.
@@ -38,8 +37,6 @@ impl fmt::Display for FrameFault {
         }
     }
 }
-
-impl Error for FrameFault {}
 
 /// The flags and how long the body is, as `Urgent | [5], 2 bytes`. A flag of later versions is the number of its bit.
 impl fmt::Display for Frame<'_> {

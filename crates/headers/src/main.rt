@@ -4,6 +4,7 @@
 //! what was understood.
 #![tactic(auto)]
 
+mod digits;
 mod flag;
 mod flags;
 mod frame;
@@ -14,9 +15,9 @@ use std::process::ExitCode;
 
 fn main(rt: HostRuntime) -> ExitCode {
     match program::relay(&rt) {
-        Ok(()) => ExitCode::SUCCESS,
+        Ok(status) => status,
         Err(error) => {
-            let _ = eprintln!(rt; "headers: {error:#}");
+            let _ = eprintln!(rt; "headers: {error}");
             ExitCode::from(2)
         }
     }

@@ -1,9 +1,6 @@
 //! What a reader of a page may do.
 
-ghost use Rattle.std.specs.Prelude.{◌≡◌};
-ghost use Rattle.enumset_repr.specs.BitSet as set;
-
-use enumset::{EnumSet, EnumSetType, variant_of};
+use enumset::{EnumSetType, variant_of};
 
 /// A right, on bit 0, 1 or 2.
 #[derive(Clone, Copy, Debug, PartialEq, Eq, PartialOrd, Ord, Hash)]
@@ -42,11 +39,4 @@ impl EnumSetType for Right {
     }
 
     ghost lawful = { lawful_in_place the_type (lawful_in_integer the_type _ tt) };
-}
-
-/// Whether all requested rights are granted.
-pub fn may(granted: EnumSet<Right>, requested: EnumSet<Right>) -> bool
-    ensures { result ≡ set.is_subset requested granted }
-{
-    granted.is_superset(requested)
 }

@@ -3,7 +3,7 @@ use enumset::EnumSetType;
 
 /// A right.
 #[derive(EnumSetType, Debug)]
-#[enumset(no_ops, serialize_repr = "list", serialize_deny_unknown, display)]
+#[enumset(no_ops, serialize_repr = "list", serialize_deny_unknown)]
 pub enum Right {
     Read,
     Write,

@@ -8,9 +8,8 @@ ghost use Rattle.permissions.specs.Decision.{missing_of};
 use crate::policy::{Grant, User};
 use crate::rights::Right;
 use crate::roles::Role;
-use enumset::EnumSet;
-use itertools::Itertools;
-use std::alloc::{AllocError, Global};
+use enumset::{EnumSet, EnumSetNames};
+use std::fmt;
 
 /// What a request gets.
 #[derive(Clone, Copy, Debug, PartialEq, Eq)]
@@ -21,16 +20,22 @@ pub enum Decision {
     Denied(EnumSet<Right>),
 }
 
-impl Decision {
-    /// `allowed`, or the missing rights, as `denied: Write, Share`.
-    pub fn text(self, alloc: Global) -> Result<String, AllocError> {
-        match self {
-            Decision::Allowed => String::from_str(alloc, "allowed"),
-            Decision::Denied(missing) => {
-                let names = missing.iter().join(alloc, ", ")?;
-                format!(in alloc; "denied: {names}")
+/// `allowed`, or the missing rights, as `denied: Write, Share`.
+impl fmt::Display for Decision {
+    fn fmt<W: fmt::Write>(&self, f: &mut fmt::Formatter<W>) -> fmt::Result {
+        let Decision::Denied(missing) = self else {
+            return f.write_str("allowed");
+        };
+        f.write_str("denied: ")?;
+        let mut is_first = true;
+        for right in *missing {
+            if !is_first {
+                f.write_str(", ")?;
             }
+            f.write_str(right.name())?;
+            is_first = false;
         }
+        Ok(())
     }
 }
 

@@ -5,44 +5,63 @@
 #![tactic(auto)]
 
 mod decision;
+mod fault;
 mod policy;
 mod reader;
 mod rights;
 mod roles;
 
-use anyhow::{Context, Result, bail};
 use decision::Decision;
+use fault::Fault;
 use reader::Policy;
 use std::process::ExitCode;
 use std::rt::{Env, Files};
-use std::{env, fs};
+use std::{env, fmt, fs, io};
 
-// Reads the policy, and answers each request in turn, up to the first line that is none. Returns whether all are allowed.
-fn answer_all<R: Env + Files + Input + Print + AllocGlobal>(rt: &R) -> Result<bool> {
-    let alloc = rt.alloc();
+// Reads the policy, and answers each request in turn, up to the first line that is none.
+fn answer_all<R>(rt: &R) -> io::Result<ExitCode>
+where
+    R: Env + Files + Input + Print + Eprint + AllocGlobal,
+{
     let mut args = env::args(rt)?.skip(1);
     let (Some(path), None) = (args.next(), args.next()) else {
-        bail!("usage: permissions POLICY < REQUESTS");
+        return stop(rt, "usage: permissions POLICY < REQUESTS");
     };
-    let text = fs::read_to_string(rt, path.as_str()).context(format_args!("{path}"))?;
-    let policy = Policy::from_json(alloc, text.as_str()).context(format_args!("{path}"))?;
-    let mut all_allowed = true;
-    for (line, number) in rt.lines(alloc).zip(1..=u64::MAX) {
-        let answer = policy.answer(line?.as_str());
-        if let Some(decision) = answer.context(format_args!("line {number}"))? {
-            println!(rt; "{}", decision.text(alloc)?)?;
-            all_allowed &= decision == Decision::Allowed;
+    let policy = match read_policy(rt, path.as_str()) {
+        Ok(policy) => policy,
+        Err(fault) => return stop(rt, format_args!("{path}: {fault}")),
+    };
+    let mut status = ExitCode::SUCCESS;
+    for (line, number) in rt.lines(rt.alloc()).zip(1..=u64::MAX) {
+        let decision = match policy.answer(rt.alloc(), line?.as_str()) {
+            Ok(Some(decision)) => decision,
+            Ok(None) => continue,
+            Err(fault) => return stop(rt, format_args!("line {number}: {fault}")),
+        };
+        println!(rt; "{decision}")?;
+        if decision != Decision::Allowed {
+            status = ExitCode::from(1);
         }
     }
-    Ok(all_allowed)
+    Ok(status)
+}
+
+fn read_policy<R: Files + AllocGlobal>(rt: &R, path: &str) -> Result<Policy, Fault> {
+    let text = fs::read_to_string(rt, path).map_err(Fault::Io)?;
+    Policy::from_json(rt.alloc(), text.as_str())
+}
+
+// Says why the program stops.
+fn stop(rt: &impl Eprint, why: impl fmt::Display + Drop) -> io::Result<ExitCode> {
+    eprintln!(rt; "permissions: {why}")?;
+    Ok(ExitCode::from(2))
 }
 
 fn main(rt: HostRuntime) -> ExitCode {
     match answer_all(&rt) {
-        Ok(true) => ExitCode::SUCCESS,
-        Ok(false) => ExitCode::from(1),
+        Ok(status) => status,
         Err(error) => {
-            let _ = eprintln!(rt; "permissions: {error:#}");
+            let _ = stop(&rt, error);
             ExitCode::from(2)
         }
     }

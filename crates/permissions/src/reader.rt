@@ -1,14 +1,14 @@
 //! Policies and requests as texts.
 
 use crate::decision::{Decision, decide};
+use crate::fault::Fault;
 use crate::policy::{Grant, User, add_grant};
 use crate::rights::Right;
 use crate::roles::Role;
-use anyhow::{Context, Result};
-use enumset::set_json::{JsonFault, Unknown, from_list};
+use enumset::set_json::{Unknown, from_list};
 use enumset::{EnumSet, EnumSetNames};
 use serde_json::{Map, Value};
-use std::alloc::Global;
+use std::alloc::{AllocError, Global};
 use std::collections::BTreeMap;
 
 /// What roles are granted, and the users by name.
@@ -20,51 +20,64 @@ pub struct Policy {
 
 impl Policy {
     /// The policy of a JSON text.
-    pub fn from_json(alloc: Global, text: &str) -> Result<Policy> {
-        let policy = Value::from_str(alloc, text)?;
+    pub fn from_json(alloc: Global, text: &str) -> Result<Policy, Fault> {
+        let policy = Value::from_str(alloc, text).map_err(Fault::Json)?;
         let mut grants = Vec::new(alloc);
         for (name, rights) in object_in(&policy, "grants")?.iter() {
-            let role = Role::of_name(name.as_str()).context(format_args!("no role `{name}`"))?;
-            let rights = Right::from_json(rights).context(format_args!("grants of {name}"))?;
+            let Some(role) = Role::of_name(name.as_str()) else {
+                return Err(Fault::NoRole(name.clone()?));
+            };
+            let rights = read_list("grants", name, Some(rights))?;
             add_grant(&mut grants, Grant { role, rights })?;
         }
         let mut users = BTreeMap::new(alloc);
         for (name, user) in object_in(&policy, "users")?.iter() {
             let user = User {
-                roles: read_member(user, "roles").context(format_args!("roles of {name}"))?,
-                denied: read_member(user, "denied").context(format_args!("denials of {name}"))?,
+                roles: read_list("roles", name, user.get("roles"))?,
+                denied: read_list("denials", name, user.get("denied"))?,
             };
-            users.insert(name.clone()?, user)?;
+            users.insert(name.clone()?, user).map_err(AllocError::from)?;
         }
         Ok(Policy { grants, users })
     }
 
     /// What a request gets, as `ann Read Write`. A line without words is no request.
-    pub fn answer(&self, line: &str) -> Result<Option<Decision>> {
+    pub fn answer(&self, alloc: Global, line: &str) -> Result<Option<Decision>, Fault> {
         let mut words = line.split_ascii_whitespace();
         let Some(name) = words.next() else {
             return Ok(None);
         };
-        let user = self.users.get(name);
-        let user = user.context(format_args!("no user `{name}`"))?;
+        let Some(user) = self.users.get(name) else {
+            return Err(Fault::NoUser(String::from_str(alloc, name)?));
+        };
         let mut asked = EnumSet::new();
         for word in words {
-            asked.insert(Right::of_name(word).context(format_args!("no right `{word}`"))?);
+            let Some(right) = Right::of_name(word) else {
+                return Err(Fault::NoRight(String::from_str(alloc, word)?));
+            };
+            asked.insert(right);
         }
         Ok(Some(decide(&self.grants, user, asked)))
     }
 }
 
 // The object of a name.
-fn object_in<'a>(value: &'a Value, name: &str) -> Result<&'a Map<String, Value>> {
+fn object_in<'a>(value: &'a Value, name: &'static str) -> Result<&'a Map<String, Value>, Fault> {
     let object = value.get(name).and_then(|member| member.as_object());
-    object.context(format_args!("no object `{name}`"))
+    object.ok_or(Fault::NoObject(name))
 }
 
-// The set of a member of an object, empty where there is none.
-fn read_member<T: EnumSetNames>(object: &Value, name: &str) -> Result<EnumSet<T>, JsonFault> {
-    match object.get(name) {
-        Some(names) => from_list(names, Unknown::Refuse),
-        None => Ok(EnumSet::new()),
+// The set of a list of names, empty where there is no list.
+fn read_list<T: EnumSetNames>(
+    list: &'static str,
+    name: &String,
+    names: Option<&Value>,
+) -> Result<EnumSet<T>, Fault> {
+    let Some(names) = names else {
+        return Ok(EnumSet::new());
+    };
+    match from_list(names, Unknown::Refuse) {
+        Ok(set) => Ok(set),
+        Err(fault) => Err(Fault::List(list, name.clone()?, fault)),
     }
 }

@@ -13,16 +13,12 @@ pub enum Right {
 }
 
 impl EnumSetType for Right {
-    ghost use Rattle.std.specs.Prelude.{◌∷◌, []};
     ghost use Rattle.enumset_sets.specs.Laws.Elements.{in_place, lawful_in_integer, lawful_in_place};
     ghost use Rattle.permissions.specs.contracts.rights.Right.{the_type};
-    ghost use Rattle.permissions.specs.declared.rights.Right.TheVariants as variant;
 
     type Repr = u8;
 
     ghost elements = { in_place the_type };
-
-    ghost values = { variant.Read ∷ variant.Write ∷ variant.Share ∷ variant.Delete ∷ [] };
 
     ghost ALL_BITS = { 15 };
 
@@ -63,27 +59,6 @@ impl EnumSetNames for Right {
     }
 
     ghost named = { tt };
-}
-
-/// The name of the variant.
-impl std::fmt::Display for Right {
-    ghost use Rattle.std.specs.Prelude.{Some, ◌∷◌, [], codes};
-    ghost use Rattle.std.specs.List.{slice_index_or};
-    ghost use denote.Enum.Declared.{tag_of};
-    ghost use Rattle.permissions.specs.contracts.rights.Right.{the_type};
-
-    ghost output = { λ v. Some (slice_index_or
-        (codes "Read" ∷ codes "Write" ∷ codes "Share" ∷ codes "Delete" ∷ [])
-        (tag_of the_type v) []) };
-
-    fn fmt<W: std::fmt::Write>(&self, f: &mut std::fmt::Formatter<W>) -> std::fmt::Result {
-        match self {
-            Self::Read => f.write_str("Read"),
-            Self::Write => f.write_str("Write"),
-            Self::Share => f.write_str("Share"),
-            Self::Delete => f.write_str("Delete"),
-        }
-    }
 }
 
 impl Right {

@@ -1,2 +1,1 @@
-pub mod DateLaws
 pub mod WeekLaws

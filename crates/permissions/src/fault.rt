@@ -1,0 +1,38 @@
+//! Why a text is no policy or no request.
+
+use enumset::set_json::JsonFault;
+use std::alloc::AllocError;
+use std::{fmt, io};
+
+/// Why a text is no policy or no request.
+#[derive(Debug, Drop)]
+pub enum Fault {
+    Io(io::Error),
+    Json(serde_json::Error),
+    NoObject(&'static str),
+    NoRole(String),
+    NoUser(String),
+    NoRight(String),
+    /// Why a list is no set of roles or rights, and whose it is.
+    List(&'static str, String, JsonFault),
+}
+
+impl From<AllocError> for Fault {
+    fn from(error: AllocError) -> Fault {
+        Fault::Io(error.into())
+    }
+}
+
+impl fmt::Display for Fault {
+    fn fmt<W: fmt::Write>(&self, f: &mut fmt::Formatter<W>) -> fmt::Result {
+        match self {
+            Fault::Io(error) => write!(f, "{error}"),
+            Fault::Json(error) => write!(f, "{error}"),
+            Fault::NoObject(name) => write!(f, "no object `{name}`"),
+            Fault::NoRole(name) => write!(f, "no role `{name}`"),
+            Fault::NoUser(name) => write!(f, "no user `{name}`"),
+            Fault::NoRight(name) => write!(f, "no right `{name}`"),
+            Fault::List(list, name, fault) => write!(f, "{list} of {name}: {fault}"),
+        }
+    }
+}
