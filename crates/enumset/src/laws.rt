@@ -4,10 +4,10 @@
 //! Here stand the laws of round trips through JSON: the value that was written of a set is read as that set. The clause
 //! `reads` of each writer of texts says that its text is read as this value, so what the laws say of values holds of
 //! texts too. Those of numbers and words without JSON come from `enumset_sets`, and all others from the modules below:
-//! what a reader of another element type reads, elements, operations, subsets, complements, mixed sets, folds, iterators
-//! from both ends, and asks.
+//! what a reader of another element type reads, elements, absorption, complements, mixed sets, folds, iterators from both
+//! ends, and asks. The laws of sets alone are in rulesets.
 
-ghost use Rattle.std.specs.Prelude.{◌≡◌, ◌≤◌, Ok, Some, IsTrue};
+ghost use Rattle.std.specs.Prelude.{◌≡◌, Ok, Some, IsTrue};
 ghost use Rattle.enumset_repr.specs.BitSet.{below, is_subset};
 ghost use Rattle.enumset_repr.specs.Number.{number};
 ghost use Rattle.enumset_repr.specs.Words.{words};
@@ -26,15 +26,12 @@ mod folds;
 mod mixed_sets;
 mod operations;
 mod readers;
-mod subsets;
 
 use crate::names::EnumSetNames;
 use crate::set_json::{JsonWidth, Unknown};
 pub use asks::{asks_of_mixed_steps, asks_of_steps, take_mixed_steps, take_steps};
-pub use complementary::{complements, de_morgan};
-pub use elements::{
-    bit_and_back, bits_below, members_are_valid, number_of_bits, valid_bits_listed,
-};
+pub use complementary::complements;
+pub use elements::{bit_and_back, bits_below, members_are_valid, valid_bits_listed};
 pub use ends::both_ends;
 pub use enumset_array::End;
 use enumset_mixed::MixedEnumSet;
@@ -45,9 +42,8 @@ pub use enumset_sets::laws::{
 use enumset_sets::{EnumSet, EnumSetType, EnumSetTypeWithRepr};
 pub use folds::{fold_of_elements, fold_of_sets};
 pub use mixed_sets::{unknown_kept, valid_before_invalid};
-pub use operations::{absorption, differences, distribution, one_bit, order_and_grouping};
+pub use operations::absorption;
 pub use readers::{carried_along, carried_along_in_number, older_reader, older_reader_of_names};
-pub use subsets::{disjointness, subset_bounds, subset_equations, subset_order};
 
 /// The number that `to_number` writes of a set is read as that set by `from_number` at the same width, under `Drop` as
 /// under `Refuse`.

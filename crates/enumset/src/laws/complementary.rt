@@ -17,12 +17,3 @@ pub fn complements()
     ensures of_greater { (v w s : BitSet)
         → IsTrue (is_subset v w) → intersection (difference w s) v ≡ difference v s }
 {}
-
-/// De Morgan's laws: the complement of a union is the intersection of the complements, and that of an intersection is
-/// their union.
-pub fn de_morgan()
-    ensures union { (v s t : BitSet)
-        → difference v (union s t) ≡ intersection (difference v s) (difference v t) }
-    ensures intersection { (v s t : BitSet)
-        → difference v (intersection s t) ≡ union (difference v s) (difference v t) }
-{}

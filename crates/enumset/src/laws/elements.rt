@@ -1,4 +1,4 @@
-//! Laws of elements, their bits, and numbers.
+//! Laws of elements and their bits.
 
 ghost use Rattle.std.specs.Prelude.{◌≡◌, ◌<◌, ◌-◌, ◌^◌, ◌↔◌, ℕ, IsTrue};
 ghost use Rattle.std.specs.List.{range_with_len};
@@ -48,11 +48,6 @@ pub fn bit_and_back<T: EnumSetType>()
 {
     let _all = valid_repr::<T>();
 }
-
-/// Two numbers with the same bits are one.
-pub fn number_of_bits()
-    ensures { (one other : ℕ) → bits one ≡ bits other → one ≡ other }
-{}
 
 /// All bits below a width, as a number and as a list: at 3, `bits 7`, and `from_list` of 0, 1 and 2.
 pub fn bits_below(width: u32)
