@@ -4,7 +4,8 @@ mod NameLists
 mod NameLaws
 mod MapLaws
 mod OtherNames
-mod JsonNamed
+mod OneByOne
+mod NamesRead
 pub mod JsonNumbers
 pub mod JsonWords
 pub mod JsonLaws

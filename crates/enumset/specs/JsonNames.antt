@@ -4,7 +4,8 @@
 --     is_no_text, is_no_boolean      the tests that find a fault
 --     is_unknown      whether a text is the name of no variant
 --     known_set      the set of the names that are known
---     named_set      the same, where unknown names are left out, or the first is the fault
+--     decided      the set that was read, or the fault of the first unknown name
+--     named_set      the set of the names that are known, where unknown names are left out, or the first is the fault
 --     names_in, true_names      the names of members;  of those whose value is `true`
 --     set_of_list, set_of_map      the set that a value is read as, or the fault
 --     list_value, map_value      the values that a set is written as
@@ -54,10 +55,14 @@ abbrev pub unless_unknown : Option ℕ → BitSet → Result BitSet JsonFault
 unless_unknown None s = Ok s
 unless_unknown (Some place) s = Err (UnknownName place)
 
+-- the set that was read, or the fault of the first unknown name
+abbrev pub decided : Unknown → Option ℕ → BitSet → Result BitSet JsonFault
+decided Drop first s = Ok s
+decided Refuse first s = unless_unknown first s
+
 -- the set of the names that are chosen among all that are there
 abbrev pub named_set : Names → Unknown → List (List ℕ) → List (List ℕ) → Result BitSet JsonFault
-named_set names Drop all chosen = Ok (known_set names chosen)
-named_set names Refuse all chosen = unless_unknown (position (is_unknown names) all) (known_set names chosen)
+named_set names unknown all chosen = decided unknown (position (is_unknown names) all) (known_set names chosen)
 
 abbrev pub set_of_texts : Names → Unknown → Option ℕ → List (List ℕ) → Result BitSet JsonFault
 set_of_texts names unknown None texts = named_set names unknown texts texts

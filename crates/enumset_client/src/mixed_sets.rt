@@ -47,18 +47,18 @@ pub fn members<T: EnumSetTypeWithRepr>(set: &mut MixedEnumSet<T>, value: T, bit:
 
 /// Comparisons of two mixed sets, and operations on them.
 pub fn operations<T: EnumSetTypeWithRepr>(set: &mut MixedEnumSet<T>, other: MixedEnumSet<T>) {
-    let _: bool = MixedEnumSet::<T>::is_disjoint(set, other);
-    let _: bool = MixedEnumSet::<T>::is_superset(set, other);
-    let _: bool = MixedEnumSet::<T>::is_subset(set, other);
-    let _: MixedEnumSet<T> = MixedEnumSet::<T>::union(set, other);
-    let _: MixedEnumSet<T> = MixedEnumSet::<T>::intersection(set, other);
-    let _: MixedEnumSet<T> = MixedEnumSet::<T>::difference(set, other);
-    let _: MixedEnumSet<T> = MixedEnumSet::<T>::symmetric_difference(set, other);
-    let _: MixedEnumSet<T> = MixedEnumSet::<T>::symmetrical_difference(set, other);
+    let _: bool = MixedEnumSet::<T>::is_disjoint(set, other.copied());
+    let _: bool = MixedEnumSet::<T>::is_superset(set, other.copied());
+    let _: bool = MixedEnumSet::<T>::is_subset(set, other.copied());
+    let _: MixedEnumSet<T> = MixedEnumSet::<T>::union(set, other.copied());
+    let _: MixedEnumSet<T> = MixedEnumSet::<T>::intersection(set, other.copied());
+    let _: MixedEnumSet<T> = MixedEnumSet::<T>::difference(set, other.copied());
+    let _: MixedEnumSet<T> = MixedEnumSet::<T>::symmetric_difference(set, other.copied());
+    let _: MixedEnumSet<T> = MixedEnumSet::<T>::symmetrical_difference(set, other.copied());
     let _: MixedEnumSet<T> = MixedEnumSet::<T>::complement(set);
     let _: MixedEnumSet<T> = MixedEnumSet::<T>::full_complement(set);
-    MixedEnumSet::<T>::insert_all(set, other);
-    MixedEnumSet::<T>::remove_all(set, other);
+    MixedEnumSet::<T>::insert_all(set, other.copied());
+    MixedEnumSet::<T>::remove_all(set, other.copied());
     let _: Ordering = <MixedEnumSet<T> as Ord>::cmp(set, &other);
 }
 
@@ -72,8 +72,8 @@ pub fn conversions<T: EnumSetTypeWithRepr>(set: &MixedEnumSet<T>, elements: Enum
     let _: EnumSet<T> = MixedEnumSet::<T>::as_enumset(set);
     let _: Option<EnumSet<T>> = MixedEnumSet::<T>::try_as_enumset(set);
     let _: EnumSet<T> = MixedEnumSet::<T>::as_enumset_truncate(set);
-    let _: bool = MixedEnumSet::<T>::eq_enumset(set, elements);
-    let _: MixedEnumSet<T> = <MixedEnumSet<T> as From<EnumSet<T>>>::from(elements);
+    let _: bool = MixedEnumSet::<T>::eq_enumset(set, elements.copied());
+    let _: MixedEnumSet<T> = <MixedEnumSet<T> as From<EnumSet<T>>>::from(elements.copied());
     let _: MixedEnumSet<T> = convert_mixed::<T>(elements);
 }
 

@@ -11,12 +11,12 @@ use enumset_worked::Letters;
 
 /// Sets by their paths.
 pub fn sets<T: EnumSetTypeWithRepr>(one: EnumSet<T>) {
-    let _: <T as EnumSetType>::Repr = get(one);
+    let _: <T as EnumSetType>::Repr = get(one.copied());
     let _: u32 = <T::Repr as EnumSetTypeRepr>::WIDTH;
-    let same: set::EnumSet<T> = one;
+    let same: set::EnumSet<T> = one.copied();
     let _: EnumSetIter<T> = same.iter();
     let _: set::EnumSetIter<T> = one.iter();
-    let mixed: set::MixedEnumSet<T> = convert_mixed(one);
+    let mixed: set::MixedEnumSet<T> = convert_mixed(one.copied());
     let mut items: set::MixedEnumSetIter<T> = mixed.iter();
     let _: Option<set::MixedValue<T>> = items.next();
     let _: ArrayRepr<1> = ArrayRepr([7]);

@@ -48,9 +48,9 @@ pub fn members<T: EnumSetType>(set: &mut EnumSet<T>, other: EnumSet<T>, value: T
     let _: bool = EnumSet::<T>::contains(set, value);
     let _: bool = EnumSet::<T>::insert(set, value);
     let _: bool = EnumSet::<T>::remove(set, value);
-    let _: bool = EnumSet::<T>::is_disjoint(set, other);
-    let _: bool = EnumSet::<T>::is_superset(set, other);
-    let _: bool = EnumSet::<T>::is_subset(set, other);
+    let _: bool = EnumSet::<T>::is_disjoint(set, other.copied());
+    let _: bool = EnumSet::<T>::is_superset(set, other.copied());
+    let _: bool = EnumSet::<T>::is_subset(set, other.copied());
     let _: bool = EnumSet::<T>::eq_element(set, value);
     let _: EnumSetIter<T> = EnumSet::<T>::iter(set);
     EnumSet::<T>::clear(set);
@@ -58,14 +58,14 @@ pub fn members<T: EnumSetType>(set: &mut EnumSet<T>, other: EnumSet<T>, value: T
 
 /// Operations on two sets.
 pub fn operations<T: EnumSetType>(set: &mut EnumSet<T>, other: EnumSet<T>) {
-    let _: EnumSet<T> = EnumSet::<T>::union(set, other);
-    let _: EnumSet<T> = EnumSet::<T>::intersection(set, other);
-    let _: EnumSet<T> = EnumSet::<T>::difference(set, other);
-    let _: EnumSet<T> = EnumSet::<T>::symmetric_difference(set, other);
-    let _: EnumSet<T> = EnumSet::<T>::symmetrical_difference(set, other);
+    let _: EnumSet<T> = EnumSet::<T>::union(set, other.copied());
+    let _: EnumSet<T> = EnumSet::<T>::intersection(set, other.copied());
+    let _: EnumSet<T> = EnumSet::<T>::difference(set, other.copied());
+    let _: EnumSet<T> = EnumSet::<T>::symmetric_difference(set, other.copied());
+    let _: EnumSet<T> = EnumSet::<T>::symmetrical_difference(set, other.copied());
     let _: EnumSet<T> = EnumSet::<T>::complement(set);
-    EnumSet::<T>::insert_all(set, other);
-    EnumSet::<T>::remove_all(set, other);
+    EnumSet::<T>::insert_all(set, other.copied());
+    EnumSet::<T>::remove_all(set, other.copied());
     let _: Ordering = <EnumSet<T> as Ord>::cmp(set, &other);
     let _: Option<Ordering> = <EnumSet<T> as PartialOrd>::partial_cmp(set, &other);
 }

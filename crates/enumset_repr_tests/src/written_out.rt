@@ -34,6 +34,12 @@ fn words_and_numbers_of_integers(rt: HostRuntime) {
     expect(&rt, "u128", "put_word", wide, 92233720368547758083);
     wide.put_word(0, 7);
     expect(&rt, "u128", "put_word", wide, 92233720368547758087);
+    // {64, 127}, and then {65}
+    let mut high: u128 = 170141183460469231750134047789593657344;
+    let words = [high.word(0), high.word(1)];
+    expect(&rt, "u128", "word", words, [0, 9223372036854775809]);
+    high.put_word(1, 2);
+    expect(&rt, "u128", "put_word", high, 36893488147419103232);
     // bit 8 is dropped
     let mut narrow: u8 = 1;
     narrow.put_word(0, 384);

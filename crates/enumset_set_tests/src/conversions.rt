@@ -2,8 +2,8 @@
 
 use crate::compare::same_lines;
 use crate::sets::two_of;
-use enumset_sets::EnumSet;
-use enumset_worked::{High, Letters, Masks, Sparse, Wide};
+use enumset_sets::{EnumSet, EnumSetType};
+use enumset_worked::{High, Letters, Masks, Single, Sparse, Wide};
 use std::process::Abort;
 use std::test::Fail;
 
@@ -81,21 +81,45 @@ fn numbers_that_do_not_fit(rt: HostRuntime) {
     assert_eq!(rt; EnumSet::<Sparse>::all().as_u64_truncated(), 1074791424);
 }
 
+// A set's number by `as_u8`, whose requirement its test shows.
+fn byte_of<T: EnumSetType>(set: EnumSet<T>) -> Option<u8> {
+    match set.try_as_u8() {
+        Some(_) => Some(set.as_u8()),
+        None => None,
+    }
+}
+
 #[test]
-fn numbers_of_rows(rt: HostRuntime) {
-    let letters = two_of(Letters::A, Letters::C).union(EnumSet::only(Letters::G));
-    let rest = two_of(Letters::E, Letters::G).complement();
-    assert_eq!(rt; [letters.len(), rest.len()], [3, 5]);
-    let bytes = [letters.as_u8_truncated(), rest.as_u8_truncated()];
-    assert_eq!(rt; bytes, [69, 47]);
-    let refused = [
-        EnumSet::<Letters>::try_from_u8(128),
-        EnumSet::<Letters>::try_from_u16(256),
-    ];
-    assert_eq!(rt; refused, [None, None]);
+fn bytes_of_sets(rt: HostRuntime) {
+    let three = EnumSet::from([Letters::A, Letters::C, Letters::G]);
+    let five = EnumSet::from([Letters::A, Letters::B, Letters::C, Letters::D, Letters::F]);
+    assert_eq!(rt; (three.len(), byte_of(three)), (3, Some(69)));
+    assert_eq!(rt; !two_of(Letters::E, Letters::G), five);
+    assert_eq!(rt; (five.len(), byte_of(five)), (5, Some(47)));
+    assert_eq!(rt; EnumSet::<Letters>::try_from_u8(128), None);
+    assert_eq!(rt; EnumSet::<Letters>::try_from_u16(256), None);
+    let masks = two_of(Masks::Q, Masks::R);
+    assert_eq!(rt;
+        (EnumSet::<Masks>::bit_width(), byte_of(masks)),
+        (7, Some(80))
+    );
     assert_eq!(rt; EnumSet::<Masks>::try_from_u8(2), None);
-    assert_eq!(rt; two_of(Masks::Q, Masks::R).as_u8_truncated(), 80);
-    assert_eq!(rt; two_of(High::A, High::C).as_u8_truncated(), 160);
+    let one = EnumSet::<Single>::all();
+    let (width, count) = (
+        EnumSet::<Single>::bit_width(),
+        EnumSet::<Single>::variant_count(),
+    );
+    assert_eq!(rt; (width, count, byte_of(one)), (1, 1, Some(1)));
+}
+
+#[test]
+fn high_bits(rt: HostRuntime) {
+    let (set, all) = (two_of(High::A, High::C), EnumSet::<High>::all());
+    assert_eq!(rt; (byte_of(set), byte_of(all)), (Some(160), Some(224)));
+    let mut items = set.iter();
+    assert_eq!(rt; items.next(), Some(High::C));
+    assert_eq!(rt; items.next(), Some(High::A));
+    assert_eq!(rt; items.next(), None);
 }
 
 #[test]
@@ -117,8 +141,9 @@ fn arrays(rt: HostRuntime) {
         assert_eq!(rt; EnumSet::<Wide>::from_array(words), all);
         assert_eq!(rt; EnumSet::<Wide>::from_array_unchecked(words), all);
     }
-    let read = [words, [8, 1, 4, 1], [9, 1, 4, 0]].map(EnumSet::<Wide>::try_from_array);
-    assert_eq!(rt; read, [Some(all), None, None]);
+    assert_eq!(rt; EnumSet::<Wide>::try_from_array(words), Some(all));
+    assert_eq!(rt; EnumSet::<Wide>::try_from_array([8, 1, 4, 1]), None);
+    assert_eq!(rt; EnumSet::<Wide>::try_from_array([9, 1, 4]), None);
     assert_eq!(rt; EnumSet::<Wide>::from_array_truncated([9, 1, 4, 1]), all);
 }
 

@@ -71,12 +71,14 @@ fn elements_have_operators(rt: HostRuntime) {
 #[test]
 fn operators_stand_in_expressions(rt: HostRuntime) {
     let (ab, bc) = (Letters::A | Letters::B, Letters::B | Letters::C);
-    let sets = [
-        !(Letters::E | Letters::G),
-        ab & Letters::C,
-        ab ^ bc,
-        (ab | Letters::C) - Letters::B,
-        Letters::A | (Letters::C | Letters::G),
-    ];
-    assert_eq!(rt; sets.map(as_byte), [47, 0, 5, 5, 69]);
+    assert_eq!(rt; ab & EnumSet::only(Letters::C), EnumSet::new());
+    assert_eq!(rt; ab ^ bc, Letters::A | Letters::C);
+    assert_eq!(rt;
+        (ab | bc) - EnumSet::only(Letters::B),
+        Letters::A | Letters::C
+    );
+    assert_eq!(rt; as_byte(!(Letters::E | Letters::G)), 47);
+    assert_eq!(rt; as_byte(ab & Letters::C), 0);
+    assert_eq!(rt; as_byte((ab | Letters::C) - Letters::B), 5);
+    assert_eq!(rt; as_byte(Letters::A | (Letters::C | Letters::G)), 69);
 }

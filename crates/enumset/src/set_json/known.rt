@@ -1,26 +1,26 @@
-//! Texts that may be names.
+//! Sets of names that are read one by one.
 
-ghost use Rattle.std.specs.Prelude.{◌≡◌, ◌∷◌, []};
-ghost use Rattle.enumset_repr.specs.BitSet.{union};
-ghost use Rattle.enumset.specs.Names.{names_of};
-ghost use Rattle.enumset.specs.JsonNames.{is_unknown, known_set};
+ghost use Rattle.std.specs.Prelude.{◌≡◌};
+ghost use Rattle.enumset.specs.JsonNames.{decided};
 
+use super::fault::JsonFault;
+use super::unknown::Unknown;
 use crate::names::EnumSetNames;
 use enumset_sets::EnumSet;
 
-// Whether a text is the name of no variant.
-pub(super) fn is_unknown<T: EnumSetNames>(text: &str) -> bool
-    ensures { result ≡ is_unknown (names_of T.elements T.names) text.now }
+// The set of the names that were read, unless one is unknown and such names are refused.
+pub(super) fn decided<T: EnumSetNames>(
+    set: EnumSet<T>,
+    first_unknown: Option<usize>,
+    unknown: Unknown,
+) -> Result<EnumSet<T>, JsonFault>
+    ensures { result ≡ decided unknown first_unknown set }
 {
-    T::of_name(text).is_none()
-}
-
-// Inserts the value that a text names, if it names one.
-pub(super) fn insert_known<T: EnumSetNames>(set: &mut EnumSet<T>, text: &str)
-    ensures { set.new
-        ≡ union set.old (known_set (names_of T.elements T.names) (text.now ∷ [])) }
-{
-    if let Some(element) = T::of_name(text) {
-        set.insert(element);
+    match unknown {
+        Unknown::Drop => Ok(set),
+        Unknown::Refuse => match first_unknown {
+            Some(place) => Err(JsonFault::UnknownName(place)),
+            None => Ok(set),
+        },
     }
 }

@@ -1,14 +1,13 @@
 //! Sets as JSON arrays of names.
 
-ghost use Rattle.std.specs.Prelude.{◌≡◌, map, position, IfOk, IfErr};
+ghost use Rattle.std.specs.Prelude.{◌≡◌, IfOk, IfErr};
 ghost use Rattle.serde_json.specs.View.{view, items_view};
 ghost use Rattle.enumset.specs.Names.{names_of};
-ghost use Rattle.enumset.specs.JsonNames.{text_of, is_no_text, is_unknown, known_set};
 ghost use Rattle.enumset.specs.JsonNames.{values_of, set_of_values, set_of_list, list_value};
 ghost use Rattle.enumset.specs.declared.set_json.fault.JsonFault.TheVariants.{OutOfMemory};
 
 use super::fault::JsonFault;
-use super::known::{insert_known, is_unknown};
+use super::known::decided;
 use super::unknown::Unknown;
 use crate::names::EnumSetNames;
 use enumset_sets::EnumSet;
@@ -47,48 +46,16 @@ fn set_of_values<T: EnumSetNames>(
     ensures { result ≡ set_of_values (names_of T.elements T.names) unknown
         (values_of (items_view items.now)) }
 {
-    if let Some(place) = first_no_text(items) {
-        return Err(JsonFault::NotAText(place));
-    }
-    match unknown {
-        Unknown::Drop => Ok(known_set(items)),
-        Unknown::Refuse => match first_unknown::<T>(items) {
-            Some(place) => Err(JsonFault::UnknownName(place)),
-            None => Ok(known_set(items)),
-        },
-    }
-}
-
-// The text that a value is, empty where it is none.
-fn text_of(value: &Value) -> &str
-    ensures { result.now ≡ text_of (view value.now) }
-{
-    value.as_str().unwrap_or("")
-}
-
-// The first place whose element is no text.
-fn first_no_text(items: &[Value]) -> Option<usize>
-    ensures { result ≡ position (λ v. is_no_text (view v)) items.now }
-{
-    items.iter().position(|item| item.as_str().is_none())
-}
-
-// The first place whose text is no name.
-fn first_unknown<T: EnumSetNames>(items: &[Value]) -> Option<usize>
-    ensures { result
-        ≡ position (λ v. is_unknown (names_of T.elements T.names) (text_of (view v))) items.now }
-{
-    items.iter().position(|item| is_unknown::<T>(text_of(item)))
-}
-
-// The set of the texts that are names.
-fn known_set<T: EnumSetNames>(items: &[Value]) -> EnumSet<T>
-    ensures { result
-        ≡ known_set (names_of T.elements T.names) (map (λ v. text_of (view v)) items.now) }
-{
     let mut set = EnumSet::new();
-    for item in items {
-        insert_known(&mut set, text_of(item));
+    let mut first_unknown = None;
+    for (place, item) in items.iter().enumerate() {
+        let text = item.as_str().ok_or(JsonFault::NotAText(place))?;
+        match T::of_name(text) {
+            Some(element) => {
+                set.insert(element);
+            }
+            None => first_unknown = first_unknown.or(Some(place)),
+        }
     }
-    set
+    decided(set, first_unknown, unknown)
 }

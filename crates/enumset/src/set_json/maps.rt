@@ -1,14 +1,13 @@
 //! Sets as JSON objects, whose members are names with booleans.
 
-ghost use Rattle.std.specs.Prelude.{◌≡◌, position, IfOk, IfErr, string_bytes};
+ghost use Rattle.std.specs.Prelude.{◌≡◌, IfOk, IfErr};
 ghost use Rattle.serde_json.specs.View.{view, members_view};
 ghost use Rattle.enumset.specs.Names.{names_of};
-ghost use Rattle.enumset.specs.JsonNames.{is_no_boolean, is_unknown, known_set, true_names};
 ghost use Rattle.enumset.specs.JsonNames.{members_in, set_of_members, set_of_map, map_value};
 ghost use Rattle.enumset.specs.declared.set_json.fault.JsonFault.TheVariants.{OutOfMemory};
 
 use super::fault::JsonFault;
-use super::known::{insert_known, is_unknown};
+use super::known::decided;
 use super::unknown::Unknown;
 use crate::names::EnumSetNames;
 use enumset_sets::EnumSet;
@@ -48,49 +47,18 @@ fn set_of_members<T: EnumSetNames>(
     ensures { result ≡ set_of_members (names_of T.elements T.names) unknown
         (members_in (members_view members.now.entries)) }
 {
-    if let Some(place) = first_no_boolean(members) {
-        return Err(JsonFault::NotABoolean(place));
-    }
-    match unknown {
-        Unknown::Drop => Ok(true_set(members)),
-        Unknown::Refuse => match first_unknown::<T>(members) {
-            Some(place) => Err(JsonFault::UnknownName(place)),
-            None => Ok(true_set(members)),
-        },
-    }
-}
-
-// The first place whose value is no boolean.
-fn first_no_boolean(members: &Map<String, Value>) -> Option<usize>
-    ensures { result
-        ≡ position (λ m. is_no_boolean (string_bytes m.0, view m.1)) members.now.entries }
-{
-    members
-        .iter()
-        .position(|(_name, value)| value.as_bool().is_none())
-}
-
-// The first place whose name is unknown.
-fn first_unknown<T: EnumSetNames>(members: &Map<String, Value>) -> Option<usize>
-    ensures { result
-        ≡ position (λ m. is_unknown (names_of T.elements T.names) (string_bytes m.0))
-        members.now.entries }
-{
-    members
-        .iter()
-        .position(|(name, _value)| is_unknown::<T>(name.as_str()))
-}
-
-// The set of the names with `true` that are known.
-fn true_set<T: EnumSetNames>(members: &Map<String, Value>) -> EnumSet<T>
-    ensures { result ≡ known_set (names_of T.elements T.names)
-        (true_names (members_in (members_view members.now.entries))) }
-{
     let mut set = EnumSet::new();
-    for (name, value) in members.iter() {
-        if value.as_bool().unwrap_or(false) {
-            insert_known(&mut set, name.as_str());
+    let mut first_unknown = None;
+    for (place, (name, value)) in members.iter().enumerate() {
+        let is_member = value.as_bool().ok_or(JsonFault::NotABoolean(place))?;
+        match T::of_name(name.as_str()) {
+            Some(element) => {
+                if is_member {
+                    set.insert(element);
+                }
+            }
+            None => first_unknown = first_unknown.or(Some(place)),
         }
     }
-    set
+    decided(set, first_unknown, unknown)
 }
