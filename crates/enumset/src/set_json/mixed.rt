@@ -49,11 +49,12 @@ pub fn mixed_from_number<T: EnumSetTypeWithRepr>(
 }
 
 /// The set's words of 64 bits, the lowest first, as many as its representation has, unknown bits included. The only
-/// fault is [`JsonFault::OutOfMemory`].
+/// fault is [`JsonFault::OutOfMemory`], and there is none where the representation has no word.
 pub fn mixed_to_words<T: EnumSetTypeWithRepr>(
     alloc: Global,
     set: &MixedEnumSet<T>,
 ) -> Result<Value, JsonFault>
+    ensures succeeds { T.Repr.PREFERRED_ARRAY_LEN ≡ 0 → IsOk result }
     ensures value { IfOk result (λ value.
         view value ≡ words_value (words set.now T.Repr.PREFERRED_ARRAY_LEN)) }
     ensures fault { IfErr result (λ fault. fault ≡ OutOfMemory) }

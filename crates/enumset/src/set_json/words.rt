@@ -1,6 +1,6 @@
 //! Sets as JSON arrays of words.
 
-ghost use Rattle.std.specs.Prelude.{◌≡◌, ◌<◌, ◌^◌, ℕ, IfOk, IfErr};
+ghost use Rattle.std.specs.Prelude.{◌≡◌, ◌<◌, ◌^◌, ℕ, IfOk, IfErr, IsOk};
 ghost use Rattle.std.specs.List.{slice_index};
 ghost use Rattle.enumset_repr.specs.BitSet.{low, is_subset, below};
 ghost use Rattle.enumset_repr.specs.Words.{words, bits_of};
@@ -19,8 +19,9 @@ use serde_json::Value;
 use std::alloc::Global;
 
 /// The set's words of 64 bits, the lowest first, as many as its representation has. The only fault is
-/// [`JsonFault::OutOfMemory`].
+/// [`JsonFault::OutOfMemory`], and there is none where the representation has no word.
 pub fn to_words<T: EnumSetType>(alloc: Global, set: &EnumSet<T>) -> Result<Value, JsonFault>
+    ensures succeeds { T.Repr.PREFERRED_ARRAY_LEN ≡ 0 → IsOk result }
     ensures value { IfOk result (λ value.
         view value ≡ words_value (words set.now T.Repr.PREFERRED_ARRAY_LEN)) }
     ensures fault { IfErr result (λ fault. fault ≡ OutOfMemory) }
@@ -30,6 +31,7 @@ pub fn to_words<T: EnumSetType>(alloc: Global, set: &EnumSet<T>) -> Result<Value
 
 // The words of a value that represents a set.
 pub(super) fn words_of<R: EnumSetTypeRepr>(alloc: Global, repr: &R) -> Result<Value, JsonFault>
+    ensures succeeds { R.PREFERRED_ARRAY_LEN ≡ 0 → IsOk result }
     ensures value { IfOk result (λ value.
         view value ≡ words_value (words (R.members repr.now) R.PREFERRED_ARRAY_LEN)) }
     ensures fault { IfErr result (λ fault. fault ≡ OutOfMemory) }

@@ -10,14 +10,14 @@ use Rattle.enumset.proofs.set_json.words.from_words.Goals as goal
 
 pub new-requires : goal.new-requires
 new-requires g c = record {
-  valid = ap (λ s. is_subset s (valid_bits g.T.EnumSetType.elements)) (c.intersection_of.ensures ∙ (λ i. intersection (g.T.Repr.EnumSetTypeRepr.members c.set_of_low_words-repr.result) (c.valid_repr-all.ensures.members i)))
+  valid = ap (λ s. is_subset s (valid_bits g.T.EnumSetType.elements)) ((g.met.T.Repr.EnumSetTypeRepr.operators.bitand _ _ _ c.bitand.ensures) ∙ (λ i. intersection (g.T.Repr.EnumSetTypeRepr.members c.set_of_low_words-repr.result) (c.valid_repr-all.ensures.members i)))
       ∙ intersection_right _ _;
 }
 
 pub returns-in-Drop : goal.returns-in-Drop
 returns-in-Drop g c =
     rw (c.in-Drop.is, c.in_ok-items.ensures.words)
-    (ap Ok (c.new.ensures ∙ c.intersection_of.ensures
+    (ap Ok (c.new.ensures ∙ (g.met.T.Repr.EnumSetTypeRepr.operators.bitand _ _ _ c.bitand.ensures)
     ∙ (λ i. intersection (c.set_of_low_words-repr.ensures i) (c.valid_repr-all.ensures.members i))
     ∙ low_intersection _ _ g.T.Repr.EnumSetTypeRepr.WIDTH c.valid_repr-all.ensures.within))
 
