@@ -1,5 +1,5 @@
 -- The text of the replies so far and of those to the commands that are left.
-use Rattle.std.proofs.Common.{◌≡◌, ℕ, List, [], ◌∷◌, ◌++◌, codes, Some, None, Result, Ok, Err, refl, ap, sym, append_assoc, append-nil}
+use Rattle.std.proofs.Common.{◌≡◌, ℕ, List, [], ◌++◌, codes, Some, None, Result, Ok, Err, refl, ap, append_assoc, append-nil}
 use Rattle.std.specs.Result.{result_err}
 use Rattle.enumset_commands.specs.declared.reply.Reply.{Reply}
 use Rattle.enumset_commands.specs.declared.text_fault.TextFault.{TextFault}
