@@ -1,5 +1,5 @@
 -- What is read of an input, up to one byte more than it may have, and the answer to it.
-use Rattle.std.proofs.Common.{◌≡◌, ◌≢◌, ℕ, ◌+◌, Bool, true, false, List, [], ◌++◌, length, take, nat_lt, Option, None, Some, IfSome, Result, Ok, Err, IfErr, OnOk, OnErr, IsOk, IsOkAnd, sym, ap, ◌∙◌, subst, append-nil, arith, if◌then◌else◌, refl}
+use Rattle.std.proofs.Common.{◌≡◌, ◌≢◌, ℕ, ◌+◌, Bool, true, false, List, [], ◌++◌, length, take, nat_lt, Option, None, Some, IfSome, Result, Ok, Err, IfErr, OnOk, OnErr, IsOk, IsOkAnd, sym, ap, ◌∙◌, subst, arith, if◌then◌else◌, refl}
 use Rattle.std.specs.Option.{option_map}
 use Rattle.std.specs.Io.KnownBytes.{Appends}
 use Rattle.std.proofs.lemmas.List.{length-take, take_all}

@@ -96,7 +96,6 @@ pub(crate) fn answer_input<R: Read + Drop, W: Write>(
 
 /// The bytes of a reader until its end, or until there is one too many, in an empty vector that has room for
 /// them. A read that was interrupted is tried again.
-#[tactic(auto, using(crate::proofs::Inputs::all_read))]
 fn read_input<R: Read + Drop>(room: Vec<u8>, reader: R) -> Result<Vec<u8>, ProgramFault>
     requires empty { room.items ≡ [] }
     requires room { READ_LIMIT ≤ vec_capacity room }
