@@ -19,9 +19,9 @@ loop-line-preserved-then-has_room g c =
     let line : commands_from command_of n c.loop-line.line-iterator ≡ before (Some command) n rest = search rules in
     record {
       commands = λ accepted.
-        let state : g.M.Steps.view c.answer_command.new.machine ≡ (outcome s command).state = search rules in
-        let text : string_bytes c.answer_command.new.text ≡ written ++ text_of (outcome s command).reply ++ codes "\n" = search rules in
-        rw (state, text) (sym (answer_after-before outcome s written command n rest) ∙ ap (answer_after outcome s written) (sym line) ∙ c.loop-line.invariant.commands (search rules));
+          let state : g.M.Steps.view c.answer_command.new.machine ≡ (outcome s command).state = search rules in
+          let text : string_bytes c.answer_command.new.text ≡ written ++ text_of (outcome s command).reply ++ codes "\n" = search rules in
+          rw (state, text) (sym (answer_after-before outcome s written command n rest) ∙ ap (answer_after outcome s written) (sym line) ∙ c.loop-line.invariant.commands (search rules));
       fault = sym (result_err-before command n rest) ∙ ap result_err (sym line) ∙ c.loop-line.invariant.fault;
       counted = search rules;
     }
