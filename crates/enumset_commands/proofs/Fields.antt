@@ -1,12 +1,11 @@
 -- What a field writes, digit by digit.
-use Rattle.std.proofs.Common.{◌≡◌, ℕ, ◌+◌, ◌-◌, ◌*◌, ◌^◌, ◌<◌, ◌≤◌, true, false, cond, ◌&&◌, nat_lt, List, [], ◌∷◌, length, get_or, drop, ap, Some, None, refl, drop-cons, add-one, pow-suc, lit≤, arith}
-use native.Mathlib.Nat.{pow-le-pow_right}
+use Rattle.std.proofs.Common.{◌≡◌, ℕ, ◌+◌, ◌-◌, ◌*◌, ◌^◌, ◌<◌, ◌≤◌, true, false, cond, ◌&&◌, nat_lt, List, [], ◌∷◌, length, get_or, drop, Some, None, refl, drop-cons, add-one, lit≤, arith}
 use Rattle.std.specs.Str.{all_ascii_digits}
 use Rattle.std.specs.Str.Parse.{digits_value, digits_value_after}
 use Rattle.std.specs.Char.{is_ascii_digit, digit_value}
 use Rattle.std.proofs.lemmas.List.{drop_all}
 use Rattle.std.proofs.lemmas.Bool.Decides.{nat_tests}
-use Rattle.enumset_commands.specs.Lines.{is_empty, field, register, bit, word, value}
+use Rattle.enumset_commands.specs.Fields.{is_empty, field, register, bit, word, value}
 
 pub digits_value_after-ge : (ds : List ℕ) (n : ℕ) → n ≤ digits_value_after 10 n ds
 digits_value_after-ge [] n = omega arith
@@ -50,22 +49,7 @@ nonempty (d ∷ ds) l = refl
 pub field-some : (bits : ℕ) (token : List ℕ) → 0 < length token → all_ascii_digits token ≡ true → digits_value 10 token < 2 ^ bits → field bits token ≡ Some (digits_value 10 token)
 field-some bits token l d h = let e = nonempty token l in grind (arith, nat_tests)
 
--- a token of one byte
-pub one_digit : (token : List ℕ) (d : ℕ) → length token ≡ 1 → d ≡ get_or token 0 0 → word (d ∷ []) ≡ word token
-one_digit [] d long same = absurd (omega arith)
-one_digit (x ∷ []) d long same = ap (λ b. word (b ∷ [])) same
-one_digit (x ∷ y ∷ more) d long same = absurd (omega arith)
-
 pub ruleset field_steps = (digits_value_after-ge, digits_value_after-drop, all_ascii_digits-drop, digits_value_after-end, all_ascii_digits-end, field-none, field-large, field-some)
-
--- the number of i digits: with one digit more, and its bound if there are fewer than 20
-pub short-next : (n d i : ℕ) → n < 10 ^ i → d < 10 → n * 10 + d < 10 ^ (i + 1)
-short-next n d i fits small = rw add-one (omega (arith, fits, small, pow-suc 10 i))
-
-pub short-fits : (n i : ℕ) → n < 10 ^ i → i < 20 → n < 2 ^ 64
-short-fits n i fits small =
-    let within : 10 ^ i ≤ 10 ^ 19 = pow-le-pow_right {n = 10} (omega arith) {j = 19} (omega (arith, small)) in
-    omega (arith, fits, within)
 
 -- a field of fewer bits
 field-fewer : (few many n : ℕ) (token : List ℕ) → 2 ^ few ≤ 2 ^ many → field many token ≡ Some n → field few token ≡ cond (nat_lt n (2 ^ few)) (Some n) None
@@ -74,33 +58,23 @@ field-fewer few many n token le h = grind (arith, nat_tests)
 field-fewer_none : (few many : ℕ) (token : List ℕ) → 2 ^ few ≤ 2 ^ many → field many token ≡ None → field few token ≡ None
 field-fewer_none few many token le h = grind (arith, nat_tests)
 
--- a word is a value
-pub value_of_word : (token : List ℕ) (n : ℕ) → word token ≡ Some n → value token ≡ Some n
-value_of_word token n h = grind (arith, nat_tests)
+-- a token that is a value may be a register, a bit or a word
+pub register-some : (token : List ℕ) (n : ℕ) → value token ≡ Some n → register token ≡ cond (nat_lt n (2 ^ 8)) (Some n) None
+register-some token n h = field-fewer 8 128 n token (lit≤ tt) h
 
-pub register-some : (token : List ℕ) (n : ℕ) → word token ≡ Some n → register token ≡ cond (nat_lt n (2 ^ 8)) (Some n) None
-register-some token n h = field-fewer 8 64 n token (lit≤ tt) h
+pub register-none : (token : List ℕ) → value token ≡ None → register token ≡ None
+register-none token h = field-fewer_none 8 128 token (lit≤ tt) h
 
-pub register-no_word : (token : List ℕ) → word token ≡ None → register token ≡ None
-register-no_word token h = field-fewer_none 8 64 token (lit≤ tt) h
+pub bit-some : (token : List ℕ) (n : ℕ) → value token ≡ Some n → bit token ≡ cond (nat_lt n (2 ^ 32)) (Some n) None
+bit-some token n h = field-fewer 32 128 n token (lit≤ tt) h
 
-pub bit-some : (token : List ℕ) (n : ℕ) → word token ≡ Some n → bit token ≡ cond (nat_lt n (2 ^ 32)) (Some n) None
-bit-some token n h = field-fewer 32 64 n token (lit≤ tt) h
+pub bit-none : (token : List ℕ) → value token ≡ None → bit token ≡ None
+bit-none token h = field-fewer_none 32 128 token (lit≤ tt) h
 
-pub bit-no_word : (token : List ℕ) → word token ≡ None → bit token ≡ None
-bit-no_word token h = field-fewer_none 32 64 token (lit≤ tt) h
+pub word-some : (token : List ℕ) (n : ℕ) → value token ≡ Some n → word token ≡ cond (nat_lt n (2 ^ 64)) (Some n) None
+word-some token n h = field-fewer 64 128 n token (lit≤ tt) h
 
--- a token that is a bit, or a value, may be a register
-pub register-of_bit : (token : List ℕ) (n : ℕ) → bit token ≡ Some n → register token ≡ cond (nat_lt n (2 ^ 8)) (Some n) None
-register-of_bit token n h = field-fewer 8 32 n token (lit≤ tt) h
+pub word-none : (token : List ℕ) → value token ≡ None → word token ≡ None
+word-none token h = field-fewer_none 64 128 token (lit≤ tt) h
 
-pub register-no_bit : (token : List ℕ) → bit token ≡ None → register token ≡ None
-register-no_bit token h = field-fewer_none 8 32 token (lit≤ tt) h
-
-pub register-of_value : (token : List ℕ) (n : ℕ) → value token ≡ Some n → register token ≡ cond (nat_lt n (2 ^ 8)) (Some n) None
-register-of_value token n h = field-fewer 8 128 n token (lit≤ tt) h
-
-pub register-no_value : (token : List ℕ) → value token ≡ None → register token ≡ None
-register-no_value token h = field-fewer_none 8 128 token (lit≤ tt) h
-
-pub ruleset limits = (register-some, register-no_word, bit-some, bit-no_word, register-of_bit, register-no_bit, register-of_value, register-no_value)
+pub ruleset limits = (register-some, register-none, bit-some, bit-none, word-some, word-none)

@@ -61,8 +61,8 @@ length-lines_of-cons x xs true h =
     rw (lines_of_parts-cons [] parts (omega (arith, length-slice_split (λ b. b == 10) xs))) (omega arith)
 length-lines_of-cons x xs false h = omega (arith, length-lines_of_parts-onto x (slice_split (λ b. b == 10) xs))
 
-pub length-lines_of : (s : List ℕ) → length (lines_of s) ≤ length s
-length-lines_of [] = omega arith
-length-lines_of (x ∷ xs) = omega (arith, length-lines_of-cons x xs (x == 10) (length-lines_of xs))
+pub lines_are_few : (s : List ℕ) → length (lines_of s) ≤ length s
+lines_are_few [] = omega arith
+lines_are_few (x ∷ xs) = omega (arith, length-lines_of-cons x xs (x == 10) (lines_are_few xs))
 
 pub ruleset line_steps = (lines_of-at, lines_of-past, take_rest)

@@ -4,7 +4,8 @@ use Rattle.std.proofs.lemmas.List.{drop_all, length-drop, length-take-le}
 use Rattle.std.specs.List.{slice_split, position, position_or_len}
 use Rattle.std.proofs.lemmas.List.Splits.{slice_split_first, slice_split-cons_yes}
 use Rattle.std.proofs.lemmas.List.Quantifiers.{position-Some}
-use Rattle.enumset_commands.specs.Lines.{tokens_of, is_empty}
+use Rattle.enumset_commands.specs.Fields.{is_empty}
+use Rattle.enumset_commands.specs.Lines.{tokens_of}
 use Rattle.enumset_commands.proofs.Lines.{take_rest, position-at, position-past, slice_split-past}
 
 -- spaces before a token are passed over

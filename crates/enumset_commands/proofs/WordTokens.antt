@@ -1,8 +1,7 @@
 -- The words that tokens write, one token more.
 use Rattle.std.proofs.Common.{◌≡◌, List, ℕ, [], ◌∷◌, ◌++◌, Option, Some, None, refl, ap, append_assoc, append-nil, sym}
 use Rattle.std.specs.Option.{option_map, is_some}
-use Rattle.enumset_commands.specs.declared.command.Command.{Command}
-use Rattle.enumset_commands.specs.Lines.{register, word, words_of, command_by}
+use Rattle.enumset_commands.specs.Fields.{word, words_of}
 
 -- what tokens write where other words stand before theirs
 abbrev pub after_words : List ℕ → Option (List ℕ) → Option (List ℕ)
@@ -33,8 +32,3 @@ pub words_of-none : (token : List ℕ) (tokens : List (List ℕ)) → word token
 words_of-none token tokens h = rw h refl
 
 pub ruleset word_steps = (after_words-nil, after_words-next, after_words-end, is_some-next, words_of-none)
-
--- the command of a name that takes words
-pub command_by-words : (command : Option (ℕ → List ℕ → Command)) (name x : List ℕ) (tokens : List (List ℕ)) (r : ℕ) (ws : List ℕ) (c : Command) → register x ≡ Some r → words_of tokens ≡ Some ws → option_map (λ k. k r ws) command ≡ Some c → command_by command name (x ∷ tokens) ≡ Some c
-command_by-words None name x tokens r ws c hr hw h = absurd (cc)
-command_by-words (Some k) name x tokens r ws c hr hw h = rw (hr, hw) h

@@ -1,6 +1,6 @@
 pub mod TextFaults
-pub mod Tables
+pub mod Fields
+pub mod Verbs
 pub mod Lines
 pub mod MixedLines
 pub mod Texts
-pub mod Sinks

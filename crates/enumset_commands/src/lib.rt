@@ -6,19 +6,15 @@
 pub mod command;
 pub mod grammar;
 pub mod mixed_command;
-pub mod operation;
 pub mod reply;
 pub mod text_fault;
 pub mod transcript;
 pub mod word_list;
 
 pub use command::Command;
-pub use grammar::command_sink::CommandSink;
 pub use grammar::line_command::LineCommand;
-pub use grammar::{read_commands, send_commands};
 pub use mixed_command::MixedCommand;
-pub use operation::Operation;
 pub use reply::{Refusal, Reply};
 pub use text_fault::TextFault;
-pub use transcript::{write_replies, write_reply};
+pub use transcript::write_reply;
 pub use word_list::WordList;

@@ -3,12 +3,11 @@
 --     Over      the bits of a type, and of its mixed sets the width of their representation
 --     sets, mixed_sets      the sets of a type with these bits;  its mixed sets, in a representation of this width
 --     over      what commands are run over
---     is_over_mixed_sets, is_over_nothing      whether that is mixed sets;  whether that is an enum without variants
+--     nothing      the type without variants, or its mixed sets
 --     answer_by_width      the answer to an input over sets of valid bits, or over mixed sets of a width
 --     answer_over      the answer to an input over a worked type
 use Rattle.std.specs.Prelude.{ℕ, Bool, true, false, List, [], ◌∷◌, codes, Option, None, Some, Result}
 use Rattle.std.specs.Map.{lookup}
-use Rattle.std.specs.Option.{is_some}
 use Rattle.std.specs.Str.{bytes_eq}
 use Rattle.enumset_repr.specs.BitSet.{BitSet, from_list}
 use Rattle.enumset_kinds.specs.declared.worked.Worked.{Worked}
@@ -78,13 +77,9 @@ over MixedMasks = mixed_sets masks_bits 8
 over MixedSingle = mixed_sets single_bits 8
 over MixedNothing = mixed_sets [] 8
 
-abbrev pub is_over_mixed_sets : Worked → Bool
-is_over_mixed_sets kind = is_some (over kind).width
-
-abbrev pub is_over_nothing : Worked → Bool
-is_over_nothing Nothing = true
-is_over_nothing MixedNothing = true
-is_over_nothing kind = false
+abbrev pub nothing : Bool → Worked
+nothing true = MixedNothing
+nothing false = Nothing
 
 abbrev pub answer_by_width : Option ℕ → BitSet → List ℕ → Result (List ℕ) TextFault
 answer_by_width None valid input = answer_to valid input

@@ -1,8 +1,8 @@
 //! The worked types by their names, and the answer to an input over each.
 
-ghost use Rattle.std.specs.Prelude.{◌≡◌, false, true, IfOk, IfErr, Ok};
+ghost use Rattle.std.specs.Prelude.{◌≡◌, IfOk, IfErr, Ok};
 ghost use Rattle.std.specs.Str.{bytes_eq};
-ghost use Rattle.enumset_kinds.specs.Kinds.{worked_of, is_over_mixed_sets, answer_over};
+ghost use Rattle.enumset_kinds.specs.Kinds.{worked_of, answer_over};
 ghost use Rattle.enumset_commands.specs.TextFaults.{IsFaultOf};
 
 use crate::nothing::serve_nothing;
@@ -65,38 +65,6 @@ pub fn serve_worked(alloc: Global, kind: Worked, input: &[u8]) -> Result<Vec<u8>
     ensures answer { IfOk result (λ out. answer_over kind input.now ≡ Ok out.items) }
     ensures fault { IfErr result (λ fault. IsFaultOf (answer_over kind input.now) fault) }
 {
-    if is_mixed(kind) {
-        serve_mixed_sets(alloc, kind, input)
-    } else {
-        serve_sets(alloc, kind, input)
-    }
-}
-
-/// Whether commands are run over the mixed sets of a type, in place of its sets.
-fn is_mixed(kind: Worked) -> bool
-    ensures { result ≡ is_over_mixed_sets kind }
-{
-    matches!(
-        kind,
-        Worked::MixedLetters
-            | Worked::MixedFour
-            | Worked::MixedSparse
-            | Worked::MixedMarks
-            | Worked::MixedPairWords
-            | Worked::MixedPairNumber
-            | Worked::MixedHigh
-            | Worked::MixedMasks
-            | Worked::MixedSingle
-            | Worked::MixedNothing
-    )
-}
-
-/// The answer of [`serve_worked`] over the sets of a type.
-fn serve_sets(alloc: Global, kind: Worked, input: &[u8]) -> Result<Vec<u8>, TextFault>
-    requires { is_over_mixed_sets kind ≡ false }
-    ensures answer { IfOk result (λ out. answer_over kind input.now ≡ Ok out.items) }
-    ensures fault { IfErr result (λ fault. IsFaultOf (answer_over kind input.now) fault) }
-{
     match kind {
         Worked::Letters => serve_text::<Letters>(alloc, input),
         Worked::Four => serve_text::<Four>(alloc, input),
@@ -108,18 +76,7 @@ fn serve_sets(alloc: Global, kind: Worked, input: &[u8]) -> Result<Vec<u8>, Text
         Worked::High => serve_text::<High>(alloc, input),
         Worked::Masks => serve_text::<Masks>(alloc, input),
         Worked::Single => serve_text::<Single>(alloc, input),
-        Worked::Nothing => serve_nothing(alloc, kind, input),
-        _ => unreachable!(),
-    }
-}
-
-/// The answer of [`serve_worked`] over the mixed sets of a type.
-fn serve_mixed_sets(alloc: Global, kind: Worked, input: &[u8]) -> Result<Vec<u8>, TextFault>
-    requires { is_over_mixed_sets kind ≡ true }
-    ensures answer { IfOk result (λ out. answer_over kind input.now ≡ Ok out.items) }
-    ensures fault { IfErr result (λ fault. IsFaultOf (answer_over kind input.now) fault) }
-{
-    match kind {
+        Worked::Nothing => serve_nothing(alloc, false, input),
         Worked::MixedLetters => serve_mixed_text::<Letters>(alloc, input),
         Worked::MixedFour => serve_mixed_text::<Four>(alloc, input),
         Worked::MixedSparse => serve_mixed_text::<Sparse>(alloc, input),
@@ -129,7 +86,6 @@ fn serve_mixed_sets(alloc: Global, kind: Worked, input: &[u8]) -> Result<Vec<u8>
         Worked::MixedHigh => serve_mixed_text::<High>(alloc, input),
         Worked::MixedMasks => serve_mixed_text::<Masks>(alloc, input),
         Worked::MixedSingle => serve_mixed_text::<Single>(alloc, input),
-        Worked::MixedNothing => serve_nothing(alloc, kind, input),
-        _ => unreachable!(),
+        Worked::MixedNothing => serve_nothing(alloc, true, input),
     }
 }

@@ -1,22 +1,21 @@
 //! The worked type `nothing`.
 
-ghost use Rattle.std.specs.Prelude.{◌≡◌, true, IfOk, IfErr, Ok};
-ghost use Rattle.enumset_kinds.specs.Kinds.{is_over_nothing, answer_over};
+ghost use Rattle.std.specs.Prelude.{◌≡◌, IfOk, IfErr, Ok};
+ghost use Rattle.enumset_kinds.specs.Kinds.{nothing, answer_over};
 ghost use Rattle.enumset_commands.specs.TextFaults.{IsFaultOf};
 
-use crate::worked::Worked;
 use enumset_commands::TextFault;
 use enumset_machine::{serve_mixed_text, serve_text};
 use enumset_sets::{EnumSetType, EnumSetTypeWithRepr, variant_of};
 use std::alloc::Global;
 
-/// The answer of `serve_worked` over the sets of an enum without variants in a `u8`, or its mixed sets.
+/// The answer of `serve_worked` over the sets of an enum without variants in a `u8`, or over its mixed sets.
 ///
 /// Nothing can call a function that takes a value of that enum, so only what stands in here can name it.
-pub fn serve_nothing(alloc: Global, kind: Worked, input: &[u8]) -> Result<Vec<u8>, TextFault>
-    requires { is_over_nothing kind ≡ true }
-    ensures answer { IfOk result (λ out. answer_over kind input.now ≡ Ok out.items) }
-    ensures fault { IfErr result (λ fault. IsFaultOf (answer_over kind input.now) fault) }
+pub fn serve_nothing(alloc: Global, is_mixed: bool, input: &[u8]) -> Result<Vec<u8>, TextFault>
+    ensures answer { IfOk result (λ out. answer_over (nothing is_mixed) input.now ≡ Ok out.items) }
+    ensures fault { IfErr result (λ fault.
+        IsFaultOf (answer_over (nothing is_mixed) input.now) fault) }
 {
     #[derive(Clone, Copy, Debug, PartialEq, Eq, PartialOrd, Ord, Hash)]
     enum Nothing {}
@@ -61,9 +60,9 @@ pub fn serve_nothing(alloc: Global, kind: Worked, input: &[u8]) -> Result<Vec<u8
         ghost narrow = { Prim.search rules };
     }
 
-    match kind {
-        Worked::Nothing => serve_text::<Nothing>(alloc, input),
-        Worked::MixedNothing => serve_mixed_text::<Nothing>(alloc, input),
-        _ => unreachable!(),
+    if is_mixed {
+        serve_mixed_text::<Nothing>(alloc, input)
+    } else {
+        serve_text::<Nothing>(alloc, input)
     }
 }

@@ -1,7 +1,6 @@
 pub mod Replies
-pub mod Conversations
+pub mod Answered
 pub mod Cuts
 pub mod OneTranscript
 pub mod Alike
 pub mod StatesOfRuns
-pub mod Operands

@@ -1,21 +1,17 @@
 -- The answer to an input: the text of the replies to the commands of its lines, or why there is none.
 --     commands_of      the commands of an input, or its fault
 --     answer_by      the answer, by the commands of an input and their replies
---     ConversationView      what contracts see of a machine that answers at once: its state, and the text of its replies
---     answered_by      the same after one more command
 --     answer_to, mixed_answer_to      the answer to an input of commands;  to one of commands of mixed sets
-use Rattle.std.specs.Prelude.{ℕ, nat_lt, List, ◌++◌, length, codes, Option, Result, Ok, Err, if◌then◌else◌}
+use Rattle.std.specs.Prelude.{ℕ, nat_lt, List, length, Option, Result, Ok, Err, if◌then◌else◌}
 use Rattle.enumset_repr.specs.BitSet.{BitSet}
 use Rattle.enumset_commands.specs.declared.reply.Reply.{Reply}
 use Rattle.enumset_commands.specs.declared.text_fault.TextFault.{TextFault}
 use Rattle.enumset_commands.specs.declared.text_fault.TextFault.TheVariants.{TooLong}
-use Rattle.enumset_machine.specs.States.{State}
-use Rattle.enumset_machine.specs.Plans.{Outcome}
 use Rattle.enumset_machine.specs.Runs.{replies}
 use Rattle.enumset_machine.specs.MixedRuns.{mixed_replies}
 use Rattle.enumset_commands.specs.Lines.{command_of, commands_of_text}
 use Rattle.enumset_commands.specs.MixedLines.{mixed_command_of}
-use Rattle.enumset_commands.specs.Texts.{text, text_of}
+use Rattle.enumset_commands.specs.Texts.{text}
 
 -- the length is tested first: an input has at most a mebibyte
 abbrev pub commands_of : {C : Type 0} → (List (List ℕ) → Option C) → List ℕ → Result (List C) TextFault
@@ -25,14 +21,6 @@ commands_of command input = if nat_lt 1048576 (length input) then Err TooLong el
 abbrev pub answer_by : {C : Type 0} → (List C → List Reply) → Result (List C) TextFault → Result (List ℕ) TextFault
 answer_by replies (Ok commands) = Ok (text (replies commands))
 answer_by replies (Err fault) = Err fault
-
-pub record ConversationView : Type 0 where
-  pub state : State
-  pub text : List ℕ
-
-abbrev pub answered_by : {C : Type 0} → (State → C → Outcome) → ConversationView → C → ConversationView
-answered_by outcome view command =
-    record { state = (outcome view.state command).state; text = view.text ++ text_of (outcome view.state command).reply ++ codes "\n" }
 
 -- over sets of valid bits
 abbrev pub answer_to : BitSet → List ℕ → Result (List ℕ) TextFault

@@ -4,5 +4,4 @@ pub mod Runs
 pub mod MixedRuns
 pub mod Transcripts
 pub mod Alike
-pub mod Operands
 pub mod Answers

@@ -1,7 +1,6 @@
 //! Runs of commands over `EnumSet` and `MixedEnumSet`, for every element type.
 #![tactic(auto)]
 
-mod conversation;
 pub mod laws;
 pub mod machine;
 pub mod mixed_runs;

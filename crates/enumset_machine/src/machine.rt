@@ -12,13 +12,11 @@ pub mod mixed_machine;
 mod mixed_run_set;
 mod mixed_set;
 mod numbers;
-mod one_set;
 mod operands;
 mod registers;
 mod run_set;
 mod runner;
-mod three_sets;
-mod two_sets;
+mod sets;
 mod u128_from;
 mod words;
 

@@ -1,19 +1,23 @@
 //! Answers a text of commands by the text of their replies.
-ghost use Rattle.std.specs.Prelude.{◌≡◌, IfOk, IfErr, Ok};
+ghost use Rattle.std.specs.Prelude.{◌≡◌, ◌++◌, codes, IfOk, IfErr, Ok, OnOk};
+ghost use Rattle.std.specs.String.{string_bytes};
 ghost use Rattle.enumset_machine.specs.States.{start};
 ghost use Rattle.enumset_machine.specs.Plans.{replies_by};
 ghost use Rattle.enumset_machine.specs.Answers.{answer_by, answer_to, mixed_answer_to, commands_of};
+ghost use Rattle.enumset_commands.specs.Lines.{commands_of_text};
 ghost use Rattle.enumset_commands.specs.TextFaults.{IsFaultOf};
+ghost use Rattle.enumset_commands.specs.Texts.{text_of};
 ghost use Rattle.enumset_sets.specs.Elements.{valid_bits};
 
-use crate::conversation::Conversation;
 use crate::machine::Machine;
 use crate::machine::mixed_machine::MixedMachine;
 use crate::steps::Steps;
-use enumset_commands::{LineCommand, TextFault, send_commands};
+use enumset_commands::grammar::lines::Lines;
+use enumset_commands::grammar::tokens::Tokens;
+use enumset_commands::{LineCommand, TextFault, write_reply};
 use enumset_repr::EnumSetTypeRepr;
 use enumset_sets::{EnumSetType, EnumSetTypeWithRepr};
-use std::alloc::Global;
+use std::alloc::{AllocError, Global};
 
 /// The most bytes that an input may have.
 pub const INPUT_LIMIT: usize = 1_048_576;
@@ -51,8 +55,7 @@ pub fn serve_mixed_text<T: EnumSetTypeWithRepr>(
     serve_by_steps::<MixedMachine<T>>(alloc, input)
 }
 
-/// The text of the replies that a new machine gives to the commands of an input. Each command is read, carried out and
-/// answered before the next. The length of the input is tested first.
+/// The text of the replies that a new machine gives to the commands of an input, whose length is tested first.
 fn serve_by_steps<M: Steps>(alloc: Global, input: &[u8]) -> Result<Vec<u8>, TextFault>
 where
     M::Command: LineCommand,
@@ -64,10 +67,57 @@ where
     if input.len() > INPUT_LIMIT {
         return Err(TextFault::TooLong);
     }
-    let mut conversation = Conversation {
-        machine: M::new(),
-        text: String::new(alloc),
-    };
-    send_commands(alloc, input, &mut conversation)?;
-    Ok(conversation.text.into_bytes())
+    answer_lines::<M>(alloc, input)
+}
+
+/// The same for an input of any length. Each command is read, carried out and answered before the next. If memory runs
+/// out, the remaining lines are still read, so an input with a line that is not a command is reported as such.
+#[tactic(auto, using(crate::proofs::Answered::line_steps))]
+fn answer_lines<M: Steps>(alloc: Global, input: &[u8]) -> Result<Vec<u8>, TextFault>
+where
+    M::Command: LineCommand,
+    ensures answer { IfOk result (λ out. answer_by (replies_by M.outcome start)
+        (commands_of_text M.Command.command_of input.now) ≡ Ok out.items) }
+    ensures fault { IfErr result (λ fault. IsFaultOf (answer_by (replies_by M.outcome start)
+        (commands_of_text M.Command.command_of input.now)) fault) }
+{
+    let mut machine = M::new();
+    let mut text = String::new(alloc);
+    let mut has_room = true;
+    let mut number = 0u64;
+    for line in Lines::new(input) {
+        number += 1;
+        let mut tokens = Tokens::new(line);
+        if let Some(name) = tokens.next() {
+            let command = M::Command::read(alloc, name, tokens).ok_or(TextFault::BadLine(number))?;
+            has_room = match command {
+                Ok(command) => has_room
+                    && answer_command(alloc, &mut machine, command, &mut text).is_ok(),
+                Err(_) => false,
+            };
+        }
+    }
+    if has_room {
+        Ok(text.into_bytes())
+    } else {
+        Err(TextFault::OutOfMemory)
+    }
+}
+
+/// Carries out one command, and writes its reply in a line.
+fn answer_command<M: Steps>(
+    alloc: Global,
+    machine: &mut M,
+    command: M::Command,
+    text: &mut String,
+) -> Result<(), AllocError>
+where
+    M::Command: LineCommand,
+    ensures state { OnOk result
+        (M.view machine.new ≡ (M.outcome (M.view machine.old) command).state) }
+    ensures text { OnOk result (string_bytes text.new ≡ string_bytes text.old
+        ++ text_of (M.outcome (M.view machine.old) command).reply ++ codes "\n") }
+{
+    let reply = machine.step(alloc, &command)?;
+    write_reply(text, &reply)
 }

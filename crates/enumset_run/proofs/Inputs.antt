@@ -1,8 +1,7 @@
 -- What is read of an input, up to one byte more than it may have, and the answer to it.
-use Rattle.std.proofs.Common.{◌≡◌, ◌≢◌, ℕ, ◌+◌, Bool, true, false, List, [], ◌++◌, length, take, nat_lt, Option, None, Some, IfSome, Result, Ok, Err, IfErr, OnOk, OnErr, IsOk, IsOkAnd, sym, ap, ◌∙◌, subst, append-nil, arith, if◌then◌else◌, refl}
+use Rattle.std.proofs.Common.{◌≡◌, ◌≢◌, ℕ, ◌+◌, Bool, true, false, List, [], ◌++◌, length, take, nat_lt, Option, None, Some, IfSome, Result, Ok, Err, IfErr, OnOk, OnErr, IsOk, IsOkAnd, sym, ap, ◌∙◌, subst, arith, if◌then◌else◌, refl}
 use Rattle.std.specs.Option.{option_map}
-use Rattle.std.specs.Io.KnownBytes.{Appends, Consumes, IsAtEnd}
-use Rattle.std.proofs.KnownBytes.{Consumes-trans, Consumes-whole}
+use Rattle.std.specs.Io.KnownBytes.{Appends}
 use Rattle.std.proofs.lemmas.List.{length-take, take_all}
 use Rattle.std.proofs.lemmas.Bool.Decides.{nat_tests}
 use Rattle.enumset_repr.specs.BitSet.{BitSet, from_list}
@@ -23,11 +22,10 @@ use Rattle.enumset_commands.specs.declared.text_fault.TextFault.TheVariants.{Too
 use Rattle.enumset_run.specs.declared.fault.ProgramFault.{ProgramFault}
 use Rattle.enumset_run.specs.declared.fault.ProgramFault.TheVariants.{Text, Writing}
 
--- a reader that is at its end gave all that it was to give
-pub all_read : (limit : ℕ) (known b c : Option (List ℕ)) (bs : List ℕ) → Consumes (option_map (take limit) known) b bs → Consumes b c [] → IsAtEnd c → IfSome known (λ bytes. bs ≡ take limit bytes)
-all_read limit None b c bs before now end = tt
-all_read limit (Some bytes) b c bs before now end =
-    Consumes-whole (Some (take limit bytes)) c (bs ++ []) (λ given. bs ≡ given) (Consumes-trans (Some (take limit bytes)) b c bs [] before now) end (sym (append-nil bs))
+-- what was read of a reader up to a limit, after what there was, which is nothing
+pub all_read : (limit : ℕ) (known : Option (List ℕ)) (had bs : List ℕ) → had ≡ [] → IfSome (option_map (take limit) known) (λ xs. bs ≡ had ++ xs) → IfSome known (λ bytes. bs ≡ take limit bytes)
+all_read limit None had bs none read = tt
+all_read limit (Some bytes) had bs none read = read ∙ ap (λ l. l ++ take limit bytes) none
 
 -- a test of the length decides the same over what is read
 longer-take : (limit : ℕ) (bytes : List ℕ) → nat_lt limit (length bytes) ≡ true → nat_lt limit (length (take (limit + 1) bytes)) ≡ true

@@ -22,15 +22,15 @@ const NAME_LIMIT: usize = 64;
 /// The most bytes of an input that are read: one more than it may have, which shows that it is too long.
 const READ_LIMIT: usize = INPUT_LIMIT + 1;
 
-/// How many bytes are read at once, at most. A pipe holds no more.
-const BLOCK: usize = 65_536;
+/// The room for an input. What is left of it lets the end be seen without more room.
+const ROOM: usize = READ_LIMIT + 1;
 
 /// Tests the argument, reads the input, and writes the answer once.
 ///
 /// Room for the input is taken before it is read, so that running out of memory hides no fault of the input.
 pub fn answer<R: Env + Input + Print + AllocGlobal>(rt: &R) -> Result<(), ProgramFault> {
     let kind = read_arguments(rt)?;
-    let room = Vec::with_capacity(rt.alloc(), READ_LIMIT).map_err(TextFault::from)?;
+    let room = Vec::with_capacity(rt.alloc(), ROOM).map_err(TextFault::from)?;
     answer_input(rt.alloc(), kind, room, rt.reader(), &mut io::writer(rt))
 }
 
@@ -105,16 +105,10 @@ fn read_input<R: Read + Drop>(room: Vec<u8>, reader: R) -> Result<Vec<u8>, Progr
 {
     let mut input = room;
     let mut reader = reader.take(READ_LIMIT as u64);
-    let mut block = [0u8; BLOCK];
-    for _ in 0..u64::MAX {
-        match reader.read(&mut block) {
-            Ok(0) => return Ok(input),
-            Ok(count) => input.extend_from_slice(&block[..count]).unwrap(),
-            Err(error) if error.kind() == ErrorKind::Interrupted => {}
-            Err(_) => return Err(ProgramFault::Reading),
-        }
+    match reader.read_to_end(&mut input) {
+        Ok(_) => Ok(input),
+        Err(_) => Err(ProgramFault::Reading),
     }
-    Err(ProgramFault::Reading)
 }
 
 /// Writes an answer, of which an empty one needs no writing. A write that was interrupted is tried again.

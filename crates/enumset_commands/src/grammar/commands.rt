@@ -1,102 +1,133 @@
-//! The command that a name and its fields write.
-ghost use Rattle.std.specs.Prelude.{◌≡◌};
-ghost use Rattle.std.specs.Option.{option_or};
-ghost use Rattle.enumset_commands.specs.Lines.{command_of, with_fields, one_field, two_fields, three_fields};
-ghost use Rattle.enumset_commands.specs.Tables.{two_registers, register_and_count};
+//! The command of a name over its operands.
+ghost use Rattle.std.specs.Prelude.{◌≡◌, option_and_then};
+ghost use Rattle.std.specs.Map.{lookup};
+ghost use Rattle.std.specs.Str.{bytes_eq};
+ghost use Rattle.enumset_commands.specs.Lines.{command_of};
+ghost use Rattle.enumset_commands.specs.Verbs.{verbs};
 
-use super::fields::{read_bit, read_register, read_value};
 use super::line_command::LineCommand;
-use super::tables::{
-    one_register, register_and_bit, register_and_count, register_and_width, register_and_words,
-    register_width_and_value, takes_words, three_registers, two_registers,
+use super::operands::{
+    one_register, register_and_bit, register_and_words, register_width_and_value, three_registers,
+    two_registers,
 };
 use super::tokens::Tokens;
-use super::words::read_words;
 use crate::command::Command;
 use std::alloc::{AllocError, Global};
 
 impl LineCommand for Command {
     ghost command_of = { command_of };
 
-    #[inline(always)]
-    fn read(alloc: Global, name: &[u8], mut tokens: Tokens) -> Option<Result<Command, AllocError>> {
-        if !takes_words(name) {
-            return Some(Ok(with_fields(name, tokens)?));
+    fn read(alloc: Global, name: &[u8], fields: Tokens) -> Option<Result<Command, AllocError>> {
+        let cuts = is(name, "from_words_cut");
+        if !cuts && !is(name, "from_words") {
+            return Some(Ok(without_words(name, fields)?));
         }
-        let r = read_register(tokens.next()?)?;
-        match read_words(alloc, tokens)? {
-            Ok(words) => Some(Ok(register_and_words(name, r, words)?)),
+        match register_and_words(alloc, fields)? {
+            Ok((r, words)) if cuts => Some(Ok(Command::FromWordsCut { r, words })),
+            Ok((r, words)) => Some(Ok(Command::FromWords { r, words })),
             Err(error) => Some(Err(error)),
         }
     }
 }
 
-/// The command with this name whose fields are the remaining tokens. It takes no words.
-fn with_fields(name: &[u8], mut tokens: Tokens) -> Option<Command>
-    ensures { result ≡ with_fields name.now tokens.entry }
+/// The command of a name that takes no words.
+fn without_words(name: &[u8], fields: Tokens) -> Option<Command>
+    ensures { result
+        ≡ option_and_then (λ verb. verb fields.entry) (lookup (bytes_eq name.now) verbs) }
 {
-    let first = tokens.next()?;
-    let Some(second) = tokens.next() else {
-        return one_field(name, first);
-    };
-    let Some(third) = tokens.next() else {
-        return two_fields(name, first, second);
-    };
-    match tokens.next() {
-        None => three_fields(name, first, second, third),
-        Some(_) => None,
+    match name {
+        _ if is(name, "new") => one_register(fields).map(|r| Command::New { r }),
+        _ if is(name, "all") => one_register(fields).map(|r| Command::All { r }),
+        _ if is(name, "only") => register_and_bit(fields).map(|(r, bit)| Command::Only { r, bit }),
+        _ if is(name, "insert") => register_and_bit(fields).map(|(r, bit)| Command::Insert {
+            r,
+            bit,
+        }),
+        _ if is(name, "remove") => register_and_bit(fields).map(|(r, bit)| Command::Remove {
+            r,
+            bit,
+        }),
+        _ if is(name, "contains") => register_and_bit(fields).map(|(r, bit)| Command::Contains {
+            r,
+            bit,
+        }),
+        _ if is(name, "clear") => one_register(fields).map(|r| Command::Clear { r }),
+        _ if is(name, "len") => one_register(fields).map(|r| Command::Len { r }),
+        _ if is(name, "empty") => one_register(fields).map(|r| Command::IsEmpty { r }),
+        _ if is(name, "union") => three_registers(fields).map(|(to, a, b)| Command::Union {
+            to,
+            a,
+            b,
+        }),
+        _ if is(name, "intersection") => three_registers(fields).map(|(
+            to,
+            a,
+            b,
+        )| Command::Intersection { to, a, b }),
+        _ if is(name, "difference") => three_registers(fields).map(|(
+            to,
+            a,
+            b,
+        )| Command::Difference { to, a, b }),
+        _ if is(name, "symmetric") => three_registers(fields).map(|(
+            to,
+            a,
+            b,
+        )| Command::SymmetricDifference { to, a, b }),
+        _ if is(name, "complement") => two_registers(fields).map(|(to, a)| Command::Complement {
+            to,
+            a,
+        }),
+        _ if is(name, "insert_all") => two_registers(fields).map(|(r, a)| Command::InsertAll {
+            r,
+            a,
+        }),
+        _ if is(name, "remove_all") => two_registers(fields).map(|(r, a)| Command::RemoveAll {
+            r,
+            a,
+        }),
+        _ if is(name, "disjoint") => two_registers(fields).map(|(a, b)| Command::Disjoint { a, b }),
+        _ if is(name, "superset") => two_registers(fields).map(|(a, b)| Command::Superset { a, b }),
+        _ if is(name, "subset") => two_registers(fields).map(|(a, b)| Command::Subset { a, b }),
+        _ if is(name, "equal") => two_registers(fields).map(|(a, b)| Command::Equal { a, b }),
+        _ if is(name, "compare") => two_registers(fields).map(|(a, b)| Command::Compare { a, b }),
+        _ if is(name, "number") => register_and_bit(fields).map(|(r, width)| Command::Number {
+            r,
+            width,
+        }),
+        _ if is(name, "number_cut") => register_and_bit(fields).map(|(
+            r,
+            width,
+        )| Command::NumberCut { r, width }),
+        _ if is(name, "from_number") => register_width_and_value(fields).map(|(
+            r,
+            width,
+            value,
+        )| Command::FromNumber { r, width, value }),
+        _ if is(name, "from_number_cut") => register_width_and_value(fields).map(|(
+            r,
+            width,
+            value,
+        )| Command::FromNumberCut { r, width, value }),
+        _ if is(name, "words") => two_registers(fields).map(|(r, count)| Command::Words {
+            r,
+            count,
+        }),
+        _ if is(name, "words_cut") => two_registers(fields).map(|(r, count)| Command::WordsCut {
+            r,
+            count,
+        }),
+        _ if is(name, "iter") => two_registers(fields).map(|(i, r)| Command::Iter { i, r }),
+        _ if is(name, "next") => one_register(fields).map(|i| Command::Next { i }),
+        _ if is(name, "next_back") => one_register(fields).map(|i| Command::NextBack { i }),
+        _ if is(name, "left") => one_register(fields).map(|i| Command::Left { i }),
+        _ => None,
     }
 }
 
-fn one_field(name: &[u8], x: &[u8]) -> Option<Command>
-    ensures { result ≡ one_field name.now x.now }
+/// Whether a name is this word.
+pub(super) fn is(name: &[u8], word: &str) -> bool
+    ensures { result ≡ bytes_eq name.now word.now }
 {
-    one_register(name, read_register(x)?)
-}
-
-#[tactic(auto, using(crate::proofs::Fields::limits))]
-fn two_fields(name: &[u8], x: &[u8], y: &[u8]) -> Option<Command>
-    ensures { result ≡ two_fields name.now x.now y.now }
-{
-    let first = read_register(x)?;
-    // a bit and a width are numbers of 32 bits
-    let number = read_bit(y)?;
-    if let Some(command) = register_and_bit(name, first, number) {
-        return Some(command);
-    }
-    if let Some(command) = register_and_width(name, first, number) {
-        return Some(command);
-    }
-    // a register and a count are numbers of 8 bits
-    register_and_byte(name, first, u8::try_from(number).ok()?)
-}
-
-/// The command of this name over a register and another register or a count.
-#[inline(always)]
-fn register_and_byte(name: &[u8], x: u8, y: u8) -> Option<Command>
-    ensures { result ≡ option_or (two_registers name.now x y) (register_and_count name.now x y) }
-{
-    if let Some(command) = two_registers(name, x, y) {
-        return Some(command);
-    }
-    register_and_count(name, x, y)
-}
-
-#[tactic(auto, using(crate::proofs::Fields::limits))]
-fn three_fields(name: &[u8], x: &[u8], y: &[u8], z: &[u8]) -> Option<Command>
-    ensures { result ≡ three_fields name.now x.now y.now z.now }
-{
-    let first = read_register(x)?;
-    let width = read_bit(y)?;
-    let value = read_value(z)?;
-    if let Some(command) = register_width_and_value(name, first, width, value) {
-        return Some(command);
-    }
-    // registers are numbers of 8 bits
-    three_registers(
-        name,
-        first,
-        u8::try_from(width).ok()?,
-        u8::try_from(value).ok()?,
-    )
+    name == word.as_bytes()
 }

@@ -13,6 +13,6 @@ pub trait LineCommand: Sized + Drop {
 
     /// The command with this name whose fields are the remaining tokens, or `None` if they write no command. The only
     /// error is out of memory, for the words of a command.
-    fn read(alloc: Global, name: &[u8], tokens: Tokens) -> Option<Result<Self, AllocError>>
-        ensures { IsReadAs (command_of (name.now ∷ tokens.entry)) result };
+    fn read(alloc: Global, name: &[u8], fields: Tokens) -> Option<Result<Self, AllocError>>
+        ensures { IsReadAs (command_of (name.now ∷ fields.entry)) result };
 }

@@ -1,19 +1,13 @@
 //! The lines of a text.
-ghost use Rattle.std.specs.Prelude.{◌≡◌, ◌==◌, ◌≤◌, ℕ, length, take, get_or, cond};
-ghost use Rattle.std.specs.Int.{bit_at};
+ghost use Rattle.std.specs.Prelude.{◌≡◌, ◌==◌};
 ghost use Rattle.std.specs.List.{position};
 ghost use Rattle.std.specs.Str.Lines.{strip_carriage_return};
 
-use memchr::memchr_iter;
 use std::marker::Model;
-use std::simd::prelude::*;
-
-/// How many bytes are compared at once.
-const FRONT: usize = 32;
 
 /// The remaining lines of a text, each without the line feed that ends it.
 #[derive(Drop)]
-pub(super) struct Lines<'a> {
+pub struct Lines<'a> {
     rest: &'a [u8],
 }
 
@@ -27,11 +21,14 @@ impl<'a> Model for Lines<'a> {
 }
 
 impl<'a> Lines<'a> {
+    ghost use Rattle.std.specs.Prelude.{◌≤◌, length};
     ghost use Rattle.enumset_commands.specs.Lines.{lines_of};
 
-    /// The lines of a text.
-    pub(super) fn new(text: &'a [u8]) -> Lines<'a>
-        ensures { result ≡ lines_of text.now }
+    /// The lines of a text, which are no more than its bytes.
+    #[tactic(auto, using(crate::proofs::Lines::lines_are_few))]
+    pub fn new(text: &'a [u8]) -> Lines<'a>
+        ensures lines { result ≡ lines_of text.now }
+        ensures few { length result ≤ length text.now }
     {
         Lines { rest: text }
     }
@@ -46,7 +43,6 @@ impl<'a> Iterator for Lines<'a> {
 
     ghost remaining = { item_count (λ lines. lines) };
 
-    #[inline(always)]
     #[tactic(auto, using(crate::proofs::Lines::line_steps))]
     fn next(&mut self) -> Option<&'a [u8]> {
         match line_end(self.rest) {
@@ -65,43 +61,14 @@ impl<'a> Iterator for Lines<'a> {
     }
 }
 
-/// The index of the first line feed. That of an empty line takes no search, and most others are among the first bytes.
-#[inline(always)]
+/// The index of the first line feed.
 fn line_end(text: &[u8]) -> Option<usize>
     ensures { result ≡ position (λ b. b == 10) text.now }
 {
-    if text.first() == Some(&b'\n') {
-        return Some(0);
-    }
-    if text.len() >= FRONT {
-        let marks = marks_of_front(text);
-        if marks != 0 {
-            return Some(marks.trailing_zeros() as usize);
-        }
-    }
-    search_line_end(text)
-}
-
-/// A bit for each of the first bytes, the lowest for the first, which says whether it is a line feed.
-#[inline(always)]
-fn marks_of_front(text: &[u8]) -> u64
-    requires { FRONT ≤ length text.now }
-    ensures { (k : ℕ) → bit_at result k ≡ cond (get_or (take FRONT text.now) k 0 == 10) 1 0 }
-{
-    u8x32::from_slice(text)
-        .simd_eq(u8x32::splat(b'\n'))
-        .to_bitmask()
-}
-
-/// The index of the first line feed, in a text of any length.
-fn search_line_end(text: &[u8]) -> Option<usize>
-    ensures { result ≡ position (λ b. b == 10) text.now }
-{
-    memchr_iter(b'\n', text).next()
+    text.iter().position(|byte| *byte == b'\n')
 }
 
 /// A line without the carriage return at its end, if there is one.
-#[inline(always)]
 fn without_carriage_return(line: &[u8]) -> &[u8]
     ensures { result.now ≡ strip_carriage_return line.now }
 {

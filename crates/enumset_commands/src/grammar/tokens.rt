@@ -23,7 +23,7 @@ impl<'a> Tokens<'a> {
     ghost use Rattle.enumset_commands.specs.Lines.{tokens_of};
 
     /// The tokens of a line, which spaces separate.
-    pub(super) fn new(line: &'a [u8]) -> Tokens<'a>
+    pub fn new(line: &'a [u8]) -> Tokens<'a>
         ensures { result ≡ tokens_of line.now }
     {
         Tokens { rest: line }

@@ -1,5 +1,5 @@
 //! The words of a command.
-ghost use Rattle.enumset_commands.specs.Lines.{words_of};
+ghost use Rattle.enumset_commands.specs.Fields.{words_of};
 ghost use Rattle.enumset_commands.specs.TextFaults.{IsReadAs};
 
 use super::fields::read_word;

@@ -1,60 +1,41 @@
-//! The commands that turn sets into numbers, and numbers into sets.
+//! The commands that turn sets into numbers, and numbers into sets, if they can.
 
 ghost use Rattle.std.specs.Prelude.{◌≡◌, ◌<◌, ◌^◌, true};
-ghost use Rattle.enumset_commands.specs.declared.operation.Operation.TheVariants as on;
+ghost use Rattle.enumset_repr.specs.Number.{number};
+ghost use Rattle.enumset_commands.specs.declared.command.Command.TheVariants as on;
+ghost use Rattle.enumset_commands.specs.declared.reply.Reply.TheVariants.{Number};
 ghost use Rattle.enumset_machine.specs.States.{is_set_register};
-ghost use Rattle.enumset_machine.specs.Plans.{is_width};
-ghost use Rattle.enumset_machine.specs.Operands.{plan_of};
+ghost use Rattle.enumset_machine.specs.Plans.{is_width, reply_if_below};
+ghost use Rattle.enumset_machine.specs.Runs.{plan};
 
 use super::run_set::RunSet;
 use super::runner::Runner;
 use enumset_commands::Reply;
-use enumset_commands::operation::{SetAndValue, SetAndWidth};
 
+#[tactic(auto, unfolding(crate::specs::Runs::plan))]
 impl<S: RunSet> Runner<S> {
-    /// Carries out a command on the set in a register and a width.
-    #[tactic(auto, unfolding(crate::specs::Runs::plan))]
-    pub(super) fn with_width(&mut self, r: u8, width: u32, operation: SetAndWidth) -> Reply
-        requires register { is_set_register r ≡ true }
-        requires width { is_width width ≡ true }
-        ensures reply { result
-            ≡ (plan_of (on.SetAndWidth r width operation)).reply S.rules self.old }
-        ensures state { self.new
-            ≡ (plan_of (on.SetAndWidth r width operation)).after S.rules self.old }
-    {
-        let set = self.sets.get(r);
-        match operation {
-            SetAndWidth::Number => match set.number(width) {
-                Some(number) => Reply::Number(number),
-                None => Reply::Absent,
-            },
-            SetAndWidth::NumberCut => Reply::Number(set.number_cut(width)),
-        }
-    }
-
-    /// Carries out a command on the set in a register, and a value of a width.
-    #[tactic(auto, unfolding(crate::specs::Runs::plan))]
-    pub(super) fn with_value(
-        &mut self,
-        r: u8,
-        width: u32,
-        value: u128,
-        operation: SetAndValue,
-    ) -> Reply
+    /// Puts the bits of a number into a register, if a set may have each of them.
+    pub(super) fn put_number(&mut self, r: u8, width: u32, value: u128) -> Reply
         requires register { is_set_register r ≡ true }
         requires width { is_width width ≡ true }
         requires fits { value < 2 ^ width }
-        ensures reply { result
-            ≡ (plan_of (on.SetAndValue r width value operation)).reply S.rules self.old }
-        ensures state { self.new
-            ≡ (plan_of (on.SetAndValue r width value operation)).after S.rules self.old }
+        ensures reply { result ≡ (plan (on.FromNumber r width value)).reply S.rules self.old }
+        ensures state { self.new ≡ (plan (on.FromNumber r width value)).after S.rules self.old }
     {
-        match operation {
-            SetAndValue::FromNumber => match S::from_number(width, value) {
-                Some(set) => self.put(r, set),
-                None => Reply::Absent,
-            },
-            SetAndValue::FromNumberCut => self.put(r, S::from_number_cut(width, value)),
+        match S::from_number(width, value) {
+            Some(set) => self.put(r, set),
+            None => Reply::Absent,
         }
+    }
+}
+
+/// The number of a set, if each member is below a width.
+pub(super) fn number_of<S: RunSet>(set: S, width: u32) -> Reply
+    requires { is_width width ≡ true }
+    ensures { result ≡ reply_if_below (S.members set) width (Number (number (S.members set))) }
+{
+    match set.number(width) {
+        Some(number) => Reply::Number(number),
+        None => Reply::Absent,
     }
 }

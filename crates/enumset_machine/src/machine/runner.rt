@@ -4,13 +4,15 @@ ghost use Rattle.std.specs.Prelude.{◌≡◌, true, false, IsOk, IfOk, OnOk, On
 ghost use Rattle.enumset_commands.specs.declared.reply.Reply.TheVariants.{Done};
 ghost use Rattle.enumset_machine.specs.States.{start, is_set_register, put_set};
 ghost use Rattle.enumset_machine.specs.Plans.{outcome_of, takes_memory, names_registers, names_widths, names_bits};
-ghost use Rattle.enumset_machine.specs.Operands.{plan_of, names_of};
 ghost use Rattle.enumset_machine.specs.Runs.{plan};
 
-use super::operands::{names_bits, names_registers, names_widths};
+use super::iterators::step_reply;
+use super::numbers::number_of;
+use super::operands::named_by;
 use super::registers::{IteratorRegisters, Registers};
 use super::run_set::RunSet;
-use enumset_commands::{Command, Operation, Refusal, Reply};
+use super::words::{words_cut_of, words_of};
+use enumset_commands::{Command, Refusal, Reply};
 use std::alloc::{AllocError, Global};
 use std::marker::Model;
 
@@ -43,7 +45,6 @@ impl<S: RunSet> Runner<S> {
     }
 
     /// Carries out one command. A refused command changes nothing. Only a reply of words takes memory.
-    #[tactic(auto, using(crate::proofs::Operands::names_in_plan))]
     pub(super) fn step(&mut self, alloc: Global, command: &Command) -> Result<Reply, AllocError>
         ensures succeeds { takes_memory (outcome_of S.rules self.old (plan command.now)).reply
             ≡ false → IsOk result }
@@ -51,44 +52,91 @@ impl<S: RunSet> Runner<S> {
             ≡ record { reply = reply; state = self.new }) }
         ensures err { OnErr result (self.new ≡ self.old) }
     {
-        let operation = Operation::of(command);
-        if !names_registers(&operation) {
+        let named = named_by::<S>(command);
+        if !named.registers {
             return Ok(Reply::Refused(Refusal::NoRegister));
         }
-        if !names_widths(&operation) {
+        if !named.widths {
             return Ok(Reply::Refused(Refusal::NotAWidth));
         }
-        if !names_bits::<S>(&operation) {
+        if !named.bits {
             return Ok(Reply::Refused(Refusal::NotABit));
         }
-        self.carry_out(alloc, operation)
+        self.carry_out(alloc, command)
     }
 
     /// Carries out a command that is not refused.
-    fn carry_out(&mut self, alloc: Global, operation: Operation) -> Result<Reply, AllocError>
-        requires registers { names_registers (names_of operation) ≡ true }
-        requires widths { names_widths (names_of operation) ≡ true }
-        requires bits { names_bits S.rules (names_of operation) ≡ true }
-        ensures succeeds { takes_memory ((plan_of operation.entry).reply S.rules self.old)
+    #[tactic(auto, unfolding(crate::specs::Runs::plan))]
+    fn carry_out(&mut self, alloc: Global, command: &Command) -> Result<Reply, AllocError>
+        requires registers { names_registers (plan command.now).names ≡ true }
+        requires widths { names_widths (plan command.now).names ≡ true }
+        requires bits { names_bits S.rules (plan command.now).names ≡ true }
+        ensures succeeds { takes_memory ((plan command.now).reply S.rules self.old)
             ≡ false → IsOk result }
         ensures reply { IfOk result (λ reply.
-            reply ≡ (plan_of operation.entry).reply S.rules self.old) }
-        ensures state { OnOk result (self.new
-            ≡ (plan_of operation.entry).after S.rules self.old) }
+            reply ≡ (plan command.now).reply S.rules self.old) }
+        ensures state { OnOk result (self.new ≡ (plan command.now).after S.rules self.old) }
         ensures err { OnErr result (self.new ≡ self.old) }
     {
-        Ok(match operation {
-            Operation::OneSet(r, operation) => self.with_one_set(r, operation),
-            Operation::TwoSets(a, b, operation) => self.with_two_sets(a, b, operation),
-            Operation::ThreeSets(to, a, b, operation) => self.with_three_sets(to, a, b, operation),
-            Operation::SetAndBit(r, bit, operation) => self.with_bit(r, bit, operation),
-            Operation::SetAndWidth(r, width, operation) => self.with_width(r, width, operation),
-            Operation::SetAndValue(r, width, value, operation) => self.with_value(
-                r, width, value, operation,
+        Ok(match *command {
+            Command::New { r } => self.put(r, S::new()),
+            Command::All { r } => self.put(r, S::all()),
+            Command::Only { r, bit } => self.put(r, S::only(bit)),
+            Command::Insert { r, bit } => self.insert(r, bit),
+            Command::Remove { r, bit } => self.remove(r, bit),
+            Command::Contains { r, bit } => Reply::Truth(self.sets.get(r).contains(bit)),
+            Command::Clear { r } => self.clear(r),
+            Command::Len { r } => Reply::Count(self.sets.get(r).len() as u64),
+            Command::IsEmpty { r } => Reply::Truth(self.sets.get(r).is_empty()),
+            Command::Union { to, a, b } => {
+                let set = self.sets.get(a).union(self.sets.get(b));
+                self.put(to, set)
+            }
+            Command::Intersection { to, a, b } => {
+                let set = self.sets.get(a).intersection(self.sets.get(b));
+                self.put(to, set)
+            }
+            Command::Difference { to, a, b } => {
+                let set = self.sets.get(a).difference(self.sets.get(b));
+                self.put(to, set)
+            }
+            Command::SymmetricDifference { to, a, b } => {
+                let set = self.sets.get(a).symmetric_difference(self.sets.get(b));
+                self.put(to, set)
+            }
+            Command::Complement { to, a } => {
+                let set = self.sets.get(a).complement();
+                self.put(to, set)
+            }
+            Command::InsertAll { r, a } => self.insert_all(r, a),
+            Command::RemoveAll { r, a } => self.remove_all(r, a),
+            Command::Disjoint { a, b } => Reply::Truth(
+                self.sets.get(a).is_disjoint(self.sets.get(b)),
             ),
-            Operation::SetAndWords(r, operation) => self.with_words(alloc, r, operation)?,
-            Operation::OneIterator(i, operation) => self.with_iterator(i, operation),
-            Operation::IteratorAndSet(i, r) => self.iterate(i, r),
+            Command::Superset { a, b } => Reply::Truth(
+                self.sets.get(a).is_superset(self.sets.get(b)),
+            ),
+            Command::Subset { a, b } => Reply::Truth(self.sets.get(a).is_subset(self.sets.get(b))),
+            Command::Equal { a, b } => Reply::Truth(self.sets.get(a).is_same(self.sets.get(b))),
+            Command::Compare { a, b } => Reply::Order(self.sets.get(a).compare(self.sets.get(b))),
+            Command::Number { r, width } => number_of(self.sets.get(r), width),
+            Command::NumberCut { r, width } => Reply::Number(self.sets.get(r).number_cut(width)),
+            Command::FromNumber { r, width, value } => self.put_number(r, width, value),
+            Command::FromNumberCut { r, width, value } => self.put(
+                r,
+                S::from_number_cut(width, value),
+            ),
+            Command::Words { r, count } => words_of(alloc, self.sets.get(r), count)?,
+            Command::WordsCut { r, count } => words_cut_of(alloc, self.sets.get(r), count)?,
+            Command::FromWords { r, ref words } => self.put_words(r, words),
+            Command::FromWordsCut { r, ref words } => self.put(
+                r,
+                S::from_words_cut(words.as_slice()),
+            ),
+            Command::Iter { i, r } => self.iterate(i, r),
+            Command::Next { i } => step_reply::<S>(self.iterators.next(i)),
+            Command::NextBack { i } => step_reply::<S>(self.iterators.next_back(i)),
+            Command::Left { i } => Reply::Count(self.iterators.items_left(i) as u64),
         })
     }
 

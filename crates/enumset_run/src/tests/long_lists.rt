@@ -1,42 +1,39 @@
 //! Long lists. A call that takes memory may answer that there is none, so no clause refuses a body that gives up past
 //! some length.
 
-use enumset_commands::{Command, MixedCommand, read_commands, write_replies};
+use enumset_commands::{Command, MixedCommand, Reply};
 use enumset_machine::{run, run_mixed};
 use enumset_worked::{Letters, Marks};
-use std::alloc::{AllocError, Global};
+use std::process::Abort;
 use std::test::Fail;
 
-/// As many lines `len 0` as an input has room for.
+/// How many lines `len 0` an input has room for.
 const LINES: usize = 174_762;
 
-// The line, `LINES` times.
-fn repeated(alloc: Global, line: &str) -> Result<Vec<u8>, AllocError> {
-    let mut text = Vec::new(alloc);
-    for _ in 0..LINES {
-        text.extend_from_slice(line.as_bytes())?;
+// Whether there is a reply to each of the lines, and each says that a set is empty.
+fn all_are_empty(rt: &impl Abort, replies: &[Reply]) {
+    assert_eq!(rt; replies.len(), LINES);
+    for reply in replies {
+        assert!(rt; matches!(reply, Reply::Count(0)));
     }
-    Ok(text)
 }
 
 #[test]
-fn commands_are_read_run_and_answered(rt: HostRuntime) -> Result<(), Fail> {
-    let alloc = rt.alloc();
-    let input = repeated(alloc, "len 0\n")?;
-    let commands = read_commands::<Command>(alloc, &input).expect(&rt, "commands alone");
-    let replies = run::<Letters>(alloc, &commands)?;
-    let text = write_replies(alloc, &replies)?;
-    assert!(rt; text == repeated(alloc, "0\n")?);
+fn many_commands_are_run(rt: HostRuntime) -> Result<(), Fail> {
+    let mut commands = Vec::new(rt.alloc());
+    for _ in 0..LINES {
+        commands.push(Command::Len { r: 0 })?;
+    }
+    all_are_empty(&rt, &run::<Letters>(rt.alloc(), &commands)?);
     Ok(())
 }
 
 #[test]
-fn mixed_commands_are_read_run_and_answered(rt: HostRuntime) -> Result<(), Fail> {
-    let alloc = rt.alloc();
-    let input = repeated(alloc, "len 0\n")?;
-    let commands = read_commands::<MixedCommand>(alloc, &input).expect(&rt, "commands alone");
-    let replies = run_mixed::<Marks>(alloc, &commands)?;
-    let text = write_replies(alloc, &replies)?;
-    assert!(rt; text == repeated(alloc, "0\n")?);
+fn many_mixed_commands_are_run(rt: HostRuntime) -> Result<(), Fail> {
+    let mut commands = Vec::new(rt.alloc());
+    for _ in 0..LINES {
+        commands.push(MixedCommand::Common(Command::Len { r: 0 }))?;
+    }
+    all_are_empty(&rt, &run_mixed::<Marks>(rt.alloc(), &commands)?);
     Ok(())
 }

@@ -5,7 +5,7 @@
 //! has to end.
 
 use super::surroundings::text_of;
-use enumset_commands::{Command, MixedCommand, Reply, TextFault, read_commands, write_replies};
+use enumset_commands::{Command, MixedCommand, Reply, TextFault};
 use enumset_kinds::kinds::serve_worked;
 use enumset_kinds::worked::Worked;
 use enumset_machine::{Machine, MixedMachine, run, run_mixed, serve_mixed_text, serve_text};
@@ -111,20 +111,6 @@ const OUTPUT: &str = "ok\nwords 5 0\n";
 #[test]
 fn texts(rt: HostRuntime) -> Result<(), Fail> {
     let (text, ended) = text_and_refusal(&rt, || serve_text::<Letters>(rt.alloc(), INPUT));
-    assert_eq!(rt; text_of(&text), OUTPUT);
-    Ok(ended?)
-}
-
-// The same by lists of commands and of replies.
-fn text_by_lists(alloc: Global, input: &[u8]) -> Result<Vec<u8>, TextFault> {
-    let commands = read_commands::<Command>(alloc, input)?;
-    let replies = run::<Letters>(alloc, &commands)?;
-    Ok(write_replies(alloc, &replies)?)
-}
-
-#[test]
-fn texts_by_lists(rt: HostRuntime) -> Result<(), Fail> {
-    let (text, ended) = text_and_refusal(&rt, || text_by_lists(rt.alloc(), INPUT));
     assert_eq!(rt; text_of(&text), OUTPUT);
     Ok(ended?)
 }

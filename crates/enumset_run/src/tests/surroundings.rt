@@ -1,6 +1,7 @@
 //! The program over runtimes whose arguments, input and output are made up.
 
 use crate::program::answer;
+use enumset_commands::{Reply, write_reply};
 use std::alloc::{AllocError, Allocator, Global};
 use std::cell::{Cell, RefCell};
 use std::env::{Env, FillError};
@@ -183,6 +184,15 @@ pub(super) fn outcome(
         outcome.extend_from_slice(said.as_bytes())?;
     }
     Ok(outcome)
+}
+
+/// The texts of replies, each in a line.
+pub(super) fn text_of_replies(alloc: Global, replies: &[Reply]) -> Result<String, AllocError> {
+    let mut text = String::new(alloc);
+    for reply in replies {
+        write_reply(&mut text, reply)?;
+    }
+    Ok(text)
 }
 
 /// What these bytes say.

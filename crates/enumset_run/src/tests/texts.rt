@@ -1,8 +1,8 @@
 //! The texts of replies and of faults.
 
-use super::surroundings::text_of;
+use super::surroundings::text_of_replies;
 use crate::fault::ProgramFault;
-use enumset_commands::{Refusal, Reply, TextFault, WordList, write_replies};
+use enumset_commands::{Refusal, Reply, TextFault, WordList};
 use std::cmp::Ordering;
 use std::test::Fail;
 
@@ -39,13 +39,11 @@ fn replies_and_faults_have_their_texts(rt: HostRuntime) -> Result<(), Fail> {
         ProgramFault::Reading,
         ProgramFault::Writing,
     ];
-    let mut said = String::new(alloc);
+    let mut text = text_of_replies(alloc, &replies)?;
     for fault in &faults {
-        writeln!(said, "{} {fault}", fault.status())?;
+        writeln!(text, "{} {fault}", fault.status())?;
     }
-    let mut text = write_replies(alloc, &replies)?;
-    text.extend_from_slice(said.as_bytes())?;
-    assert_eq!(rt; text_of(&text), TEXTS);
+    assert_eq!(rt; text.as_str(), TEXTS);
     Ok(())
 }
 

@@ -5,8 +5,8 @@ ghost use Rattle.std.specs.List.{list_all};
 ghost use Rattle.enumset_machine.specs.Transcripts.{is_within};
 ghost use Rattle.enumset_sets.specs.Elements.{valid_bits};
 
-use super::surroundings::text_of;
-use enumset_commands::{Command, MixedCommand, Reply, write_replies};
+use super::surroundings::text_of_replies;
+use enumset_commands::{Command, MixedCommand, Reply};
 use enumset_machine::laws::mixed_transcript;
 use enumset_machine::run_mixed;
 use enumset_repr::EnumSetTypeRepr;
@@ -60,11 +60,10 @@ fn commands() -> [MixedCommand; 7]
 fn the_representation_shows_in_no_reply(rt: HostRuntime) -> Result<(), Fail> {
     let alloc = rt.alloc();
     let (words, number) = replies_over_pairs(alloc, &commands())?;
-    let text = write_replies(alloc, &words)?;
-    let same = write_replies(alloc, &number)?;
-    for came in [&text, &same] {
+    for replies in [&words, &number] {
+        let text = text_of_replies(alloc, replies)?;
         assert_eq!(rt;
-            text_of(came),
+            text.as_str(),
             "ok\ntrue\ntrue\nless\ngreater\nequal\ntrue\n"
         );
     }
