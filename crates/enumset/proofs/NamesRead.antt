@@ -5,7 +5,7 @@ use Rattle.std.specs.List.{fold, cons_option, prefix_len}
 use Rattle.std.specs.Option.{option_or}
 use Rattle.std.specs.declared.alloc.Global.{Global}
 use Rattle.enumset_repr.specs.BitSet.{BitSet, empty, insert, union, from_list}
-use Rattle.enumset_repr.specs.Laws.Algebra.{union_empty, empty_union, union_insert, insert_union}
+use Rattle.enumset_repr.specs.Laws.Algebra.{empty_union, union_insert, insert_union}
 use Rattle.enumset_sets.specs.Laws.Folds.{union_none}
 use Rattle.serde_json.specs.Data.{Data}
 use Rattle.serde_json.specs.Find.{as_str, as_bool}

@@ -45,7 +45,13 @@ pub fn from_both_ends<R: EnumSetTypeRepr>(rt: &impl Abort, repr: &str) {
     }
     if R::WIDTH % 2 == 1 {
         let middle = (iter.next(), iter.next_back());
-        expect(rt, repr, "next, then next_back", middle, (Some(R::WIDTH / 2), None));
+        expect(
+            rt,
+            repr,
+            "next, then next_back",
+            middle,
+            (Some(R::WIDTH / 2), None),
+        );
     }
     let ends = (iter.next(), iter.next_back());
     expect(rt, repr, "next, then next_back", ends, (None, None));

@@ -1,4 +1,4 @@
-use Rattle.std.proofs.Common.{◌≡◌, ◌+◌, ◌<◌, ◌^◌, ℕ, Bool, true, false, cond, Option, None, Some, Err, is_none, string_bytes, length, map, sym, ap, ◌∙◌, arith, rules}
+use Rattle.std.proofs.Common.{◌≡◌, ◌+◌, ℕ, cond, Option, None, Some, Err, is_none, string_bytes, length, map, sym, ap, ◌∙◌, arith, rules}
 use Rattle.std.specs.Option.{option_or}
 use Rattle.enumset_repr.specs.BitSet.{empty, insert}
 use Rattle.serde_json.specs.View.{view, members_view}
