@@ -9,5 +9,6 @@ pub mod mixed_sets;
 pub mod numbers;
 pub mod paths;
 pub mod representations;
+pub mod runs;
 pub mod sets;
 pub mod words;
