@@ -8,6 +8,8 @@ pub mod json;
 pub mod mixed_sets;
 pub mod numbers;
 pub mod paths;
+pub mod primitives;
 pub mod representations;
+pub mod runs;
 pub mod sets;
 pub mod words;
