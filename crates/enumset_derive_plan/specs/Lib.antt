@@ -1,6 +1,5 @@
 pub mod Steps
 pub mod Integers
-pub mod Faults
 pub mod Bits
 pub mod Variants
 pub mod Stores

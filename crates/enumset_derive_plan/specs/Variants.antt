@@ -17,6 +17,7 @@
 use Rattle.std.specs.Prelude.{◌≡◌, ℕ, ◌==◌, Bool, nat_le, nat_eq, ◌&&◌, List, [], ◌∷◌, ◌++◌, length, map, Option, Some, None, Result, Ok, Err, if◌then◌else◌}
 use Rattle.std.specs.List.{find, list_all}
 use Rattle.std.specs.Result.{is_ok}
+use Rattle.std.specs.String.{string_bytes}
 use Rattle.std.specs.Cmp.Lexicographic.{pointwise}
 use Rattle.enumset_derive_plan.specs.Integers.{width}
 use Rattle.enumset_derive_plan.specs.Steps.{and_then}
@@ -99,12 +100,12 @@ unless_found None fault = Ok tt
 -- where the first variant of this name is
 abbrev pub place_of_name : List Variant → List ℕ → Option Place
 place_of_name [] name = None
-place_of_name (v ∷ vs) name = if same_text v.name name then Some v.place else place_of_name vs name
+place_of_name (v ∷ vs) name = if same_text (string_bytes v.name) name then Some v.place else place_of_name vs name
 
 abbrev pub name_test : List Variant → Variant → Result (Unit {0}) Fault
 name_test earlier v =
     if nat_le 256 (length earlier) then Err (fault_at v.place TooManyVariants)
-    else unless_found (place_of_name earlier v.name) (λ first. fault_at v.place (NameTwice first))
+    else unless_found (place_of_name earlier (string_bytes v.name)) (λ first. fault_at v.place (NameTwice first))
 
 abbrev pub taken_test : List Named → ℕ → Number → Result (Unit {0}) Reason
 taken_test named b n =

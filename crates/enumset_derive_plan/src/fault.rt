@@ -104,22 +104,12 @@ pub enum Wanted {
 }
 
 impl fmt::Display for Fault {
-    ghost use Rattle.std.specs.Prelude.{Some};
-    ghost use Rattle.enumset_derive_plan.specs.Faults.{fault_text};
-
-    ghost output = { λ fault. Some (fault_text fault) };
-
     fn fmt<W: fmt::Write>(&self, f: &mut fmt::Formatter<W>) -> fmt::Result {
         write!(f, "{}: {}", self.place, self.reason)
     }
 }
 
 impl fmt::Display for Reason {
-    ghost use Rattle.std.specs.Prelude.{Some};
-    ghost use Rattle.enumset_derive_plan.specs.Faults.{reason_text};
-
-    ghost output = { λ reason. Some (reason_text reason) };
-
     fn fmt<W: fmt::Write>(&self, f: &mut fmt::Formatter<W>) -> fmt::Result {
         match self {
             Reason::UnclosedComment => write!(f, "this comment has no end"),
@@ -135,7 +125,8 @@ impl fmt::Display for Reason {
             Reason::UnknownRepresentation => {
                 write!(
                     f,
-                    "`repr` is \"u8\", \"u16\", \"u32\", \"u64\", \"u128\" or \"array\""
+                    "`repr` is \"u8\", \"u16\", \"u32\", \"u64\", \"u128\" or \"array\"; \
+                     docs/ELEMENT-TYPES.md has the types over other representations"
                 )
             }
             Reason::UnknownSerialized => {
@@ -166,22 +157,12 @@ impl fmt::Display for Reason {
 }
 
 impl fmt::Display for OutOfRange {
-    ghost use Rattle.std.specs.Prelude.{Some};
-    ghost use Rattle.enumset_derive_plan.specs.Faults.{range_text};
-
-    ghost output = { λ out. Some (range_text out) };
-
     fn fmt<W: fmt::Write>(&self, f: &mut fmt::Formatter<W>) -> fmt::Result {
         write!(f, "bit {}, width {}", self.bit, self.width)
     }
 }
 
 impl fmt::Display for Wanted {
-    ghost use Rattle.std.specs.Prelude.{Some};
-    ghost use Rattle.enumset_derive_plan.specs.Faults.{wanted_text};
-
-    ghost output = { λ wanted. Some (wanted_text wanted) };
-
     fn fmt<W: fmt::Write>(&self, f: &mut fmt::Formatter<W>) -> fmt::Result {
         match self {
             Wanted::EnumName => write!(f, "a name of an enum"),
@@ -212,11 +193,6 @@ pub enum DeriveError {
 }
 
 impl fmt::Display for DeriveError {
-    ghost use Rattle.std.specs.Prelude.{Some};
-    ghost use Rattle.enumset_derive_plan.specs.Faults.{error_text};
-
-    ghost output = { λ error. Some (error_text error) };
-
     fn fmt<W: fmt::Write>(&self, f: &mut fmt::Formatter<W>) -> fmt::Result {
         match self {
             DeriveError::Fault(fault) => write!(f, "{fault}"),

@@ -32,11 +32,6 @@ impl IntegerType {
 
 /// The name of the type, as `u8`.
 impl fmt::Display for IntegerType {
-    ghost use Rattle.std.specs.Prelude.{Some};
-    ghost use Rattle.enumset_derive_plan.specs.Integers.{type_name};
-
-    ghost output = { λ integer. Some (type_name integer) };
-
     fn fmt<W: fmt::Write>(&self, f: &mut fmt::Formatter<W>) -> fmt::Result {
         match self {
             IntegerType::U8 => write!(f, "u8"),

@@ -2,7 +2,6 @@
 
 use crate::integer_type::IntegerType;
 use crate::place::Place;
-use crate::text::Text;
 
 /// The options of an element type.
 #[derive(Debug, Drop)]
@@ -24,7 +23,7 @@ pub struct Options {
     /// Whether `Display` by the variants' names is written: `display`.
     pub has_display: bool,
     /// The name of the crate `enumset` in the code that is written: `crate_name`, if it is given.
-    pub crate_name: Option<Text>,
+    pub crate_name: Option<String>,
 }
 
 /// Which bit a discriminant names.

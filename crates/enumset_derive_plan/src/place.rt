@@ -12,11 +12,6 @@ pub struct Place {
 }
 
 impl fmt::Display for Place {
-    ghost use Rattle.std.specs.Prelude.{Some};
-    ghost use Rattle.enumset_derive_plan.specs.Faults.{place_text};
-
-    ghost output = { λ place. Some (place_text place) };
-
     fn fmt<W: fmt::Write>(&self, f: &mut fmt::Formatter<W>) -> fmt::Result {
         write!(f, "line {}, column {}", self.line, self.column)
     }

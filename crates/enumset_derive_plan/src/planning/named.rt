@@ -93,7 +93,7 @@ fn test_name(earlier: &[Variant], variant: &Variant) -> Result<(), Fault>
             reason: Reason::TooManyVariants,
         });
     }
-    match place_of_name(earlier, variant.name.as_bytes()) {
+    match place_of_name(earlier, variant.name.as_str()) {
         Some(first) => Err(Fault {
             place,
             reason: Reason::NameTwice(first),
@@ -103,11 +103,11 @@ fn test_name(earlier: &[Variant], variant: &Variant) -> Result<(), Fault>
 }
 
 /// Where the first variant of this name is.
-fn place_of_name(variants: &[Variant], name: &[u8]) -> Option<Place>
+fn place_of_name(variants: &[Variant], name: &str) -> Option<Place>
     ensures { result ≡ place_of_name variants.now name.now }
 {
     for variant in variants {
-        if variant.name.as_bytes() == name {
+        if variant.name.as_str() == name {
             return Some(variant.place);
         }
     }
