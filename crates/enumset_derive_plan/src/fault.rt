@@ -126,7 +126,7 @@ impl fmt::Display for Reason {
                 write!(
                     f,
                     "`repr` is \"u8\", \"u16\", \"u32\", \"u64\", \"u128\" or \"array\"; \
-                     docs/ELEMENT-TYPES.md has the types over other representations"
+                     over another representation write the element type by hand, as in docs/ELEMENT-TYPES.md"
                 )
             }
             Reason::UnknownSerialized => {
