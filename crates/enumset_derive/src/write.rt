@@ -43,24 +43,37 @@ pub fn module_text(
 ) -> Result<String, AllocError> {
     let items = source.items.as_slice();
     let imports = imports_of(alloc, items)?;
+    let mut imports = imports.as_str();
     let mut out = source.head.clone()?;
-    let mut has_imports = false;
     if !items.iter().any(is_imports) && items.iter().any(is_enum) {
-        write!(out, "{imports}\n\n")?;
+        out.push_str(imports)?;
+        out.push_str("\n\n")?;
     }
-    for item in items {
+    let mut last = None;
+    for (place, item) in items.iter().enumerate() {
         match item {
-            Item::Other(text) => out.push_str(text.as_str())?,
+            Item::Other(text) => {
+                out.push_str(text_between(last, text.as_str(), items.get(place + 1)))?;
+            }
             Item::Imports(_) => {
-                if !has_imports {
-                    out.push_str(imports.as_str())?;
-                }
-                has_imports = true;
+                out.push_str(imports)?;
+                imports = "";
             }
             Item::Enum(planned) => append_planned(alloc, &mut out, module, planned)?,
         }
+        last = Some(item);
     }
     Ok(out)
+}
+
+/// A text between two items: an enum has an empty line after imports and after another enum.
+fn text_between<'a>(last: Option<&Item>, text: &'a str, next: Option<&Item>) -> &'a str {
+    let has_empty_line = text.chars().filter(|c| *c == '\n').count() >= 2;
+    match (last, next) {
+        (Some(Item::Imports(_) | Item::Enum(_)), Some(Item::Enum(_)))
+            if !has_empty_line && text.trim().is_empty() => "\n\n",
+        _ => text,
+    }
 }
 
 fn is_imports(item: &Item) -> bool {

@@ -1,7 +1,4 @@
-pub mod Steps
-pub mod Integers
-pub mod Bits
+pub mod Numbers
 pub mod Variants
-pub mod Stores
 pub mod Plans
 pub mod Laws

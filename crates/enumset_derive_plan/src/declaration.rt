@@ -5,7 +5,7 @@ use crate::options::Options;
 use crate::place::Place;
 
 /// An enum that is to be an element type.
-#[derive(Debug, Drop)]
+#[derive(Drop)]
 pub struct EnumDeclaration {
     /// Where the name is.
     pub place: Place,
@@ -28,7 +28,7 @@ pub struct EnumDeclaration {
 }
 
 /// A variant without fields.
-#[derive(Debug, Drop)]
+#[derive(Drop)]
 pub struct Variant {
     /// Where the name is.
     pub place: Place,
@@ -43,7 +43,7 @@ pub struct Variant {
 }
 
 /// A discriminant that is given.
-#[derive(Debug, Drop)]
+#[derive(Drop)]
 pub struct Discriminant {
     /// Where the literal, or the minus sign before it, is.
     pub place: Place,

@@ -6,14 +6,14 @@ use std::error::Error;
 use std::fmt;
 
 /// A fault of a source text, and where it is.
-#[derive(Clone, Copy, Debug, PartialEq, Eq)]
+#[derive(Clone, Copy, Debug)]
 pub struct Fault {
     pub place: Place,
     pub reason: Reason,
 }
 
 /// What is wrong.
-#[derive(Clone, Copy, Debug, PartialEq, Eq)]
+#[derive(Clone, Copy, Debug)]
 pub enum Reason {
     // of reading
     /// The bytes here are no text in UTF-8.
@@ -72,14 +72,14 @@ pub enum Reason {
 }
 
 /// A bit, and the width that it is not below.
-#[derive(Clone, Copy, Debug, PartialEq, Eq)]
+#[derive(Clone, Copy, Debug)]
 pub struct OutOfRange {
     pub bit: u32,
     pub width: u32,
 }
 
 /// What is wanted at a place.
-#[derive(Clone, Copy, Debug, PartialEq, Eq)]
+#[derive(Clone, Copy, Debug)]
 pub enum Wanted {
     /// A name of an enum.
     EnumName,
@@ -192,7 +192,7 @@ impl fmt::Display for Wanted {
 impl Error for Fault {}
 
 /// Why there is no module.
-#[derive(Clone, Copy, Debug, PartialEq, Eq)]
+#[derive(Clone, Copy, Debug)]
 pub enum DeriveError {
     /// The text has a fault.
     Fault(Fault),

@@ -1,12 +1,12 @@
 //! The unsigned integer types.
 
 ghost use Rattle.std.specs.Prelude.{◌≡◌};
-ghost use Rattle.enumset_derive_plan.specs.Integers.{width};
+ghost use Rattle.enumset_derive_plan.specs.Numbers.{width};
 
 use std::fmt;
 
 /// An unsigned integer type.
-#[derive(Clone, Copy, Debug, PartialEq, Eq)]
+#[derive(Clone, Copy)]
 pub enum IntegerType {
     U8,
     U16,

@@ -4,7 +4,7 @@ use crate::integer_type::IntegerType;
 use crate::place::Place;
 
 /// The options of an element type.
-#[derive(Debug, Drop)]
+#[derive(Drop)]
 pub struct Options {
     /// Which bit a discriminant names: `map`, by default `Lsb`.
     pub map: Map,
@@ -27,7 +27,7 @@ pub struct Options {
 }
 
 /// Which bit a discriminant names.
-#[derive(Clone, Copy, Debug, PartialEq, Eq)]
+#[derive(Clone, Copy)]
 pub enum Map {
     /// Its own number, counted from the least significant bit.
     Lsb,
@@ -40,7 +40,7 @@ pub enum Map {
 }
 
 /// What keeps a set.
-#[derive(Clone, Copy, Debug, PartialEq, Eq)]
+#[derive(Clone, Copy)]
 pub enum Representation {
     /// One integer.
     Integer(IntegerType),
@@ -49,7 +49,7 @@ pub enum Representation {
 }
 
 /// What a set is in JSON.
-#[derive(Clone, Copy, Debug, PartialEq, Eq)]
+#[derive(Clone, Copy)]
 pub enum Serialized {
     /// A number of this type.
     Integer(IntegerType),

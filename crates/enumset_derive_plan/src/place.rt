@@ -5,7 +5,7 @@ use std::fmt;
 /// A place in a text: its line, and the character in that line, both counted from 1.
 ///
 /// A line feed ends a line. A character is a Unicode scalar value, so a tab is one.
-#[derive(Clone, Copy, Debug, PartialEq, Eq)]
+#[derive(Clone, Copy, Debug)]
 pub struct Place {
     pub line: u64,
     pub column: u64,
