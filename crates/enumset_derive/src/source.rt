@@ -1,5 +1,6 @@
 //! What a source file has.
 
+use crate::left_out::LeftOut;
 use enumset_derive_plan::{EnumDeclaration, Plan};
 
 /// What a source file has.
@@ -9,6 +10,8 @@ pub struct Source {
     pub head: String,
     /// In their order.
     pub items: Vec<Item>,
+    /// What has no meaning here, in its order.
+    pub left_out: Vec<LeftOut>,
 }
 
 /// An item of a source file, or a text between items.

@@ -16,6 +16,8 @@ pub struct Fault {
 #[derive(Clone, Copy, Debug)]
 pub enum Reason {
     // of reading
+    /// The bytes here are no text in UTF-8.
+    NotUtf8,
     /// A block comment has no end.
     UnclosedComment,
     /// A text or a character in quotes has no end.
@@ -32,6 +34,8 @@ pub enum Reason {
     HasFields,
     /// `#[enumset(..)]` has no such option.
     UnknownOption,
+    /// The option is `serialize_as_list`, the older name of a form in JSON.
+    OldListOption,
     /// The option was given before, there.
     OptionTwice(Place),
     /// `map` has no such value.
@@ -112,6 +116,7 @@ impl fmt::Display for Fault {
 impl fmt::Display for Reason {
     fn fmt<W: fmt::Write>(&self, f: &mut fmt::Formatter<W>) -> fmt::Result {
         match self {
+            Reason::NotUtf8 => write!(f, "these bytes are no text in UTF-8"),
             Reason::UnclosedComment => write!(f, "this comment has no end"),
             Reason::UnclosedQuote => write!(f, "this quote has no end"),
             Reason::UnclosedBracket => write!(f, "this bracket has no end"),
@@ -120,6 +125,9 @@ impl fmt::Display for Reason {
             Reason::HasParameters => write!(f, "the enum must have no parameters"),
             Reason::HasFields => write!(f, "a variant must have no fields"),
             Reason::UnknownOption => write!(f, "there is no such option"),
+            Reason::OldListOption => {
+                write!(f, "`serialize_as_list` is written `serialize_repr = \"list\"`")
+            }
             Reason::OptionTwice(first) => write!(f, "this option was given at {first}"),
             Reason::UnknownMap => write!(f, "`map` is \"lsb\", \"msb\", \"mask\" or \"compact\""),
             Reason::UnknownRepresentation => {
