@@ -17,17 +17,20 @@ mod operators;
 mod words;
 
 use crate::source::{Item, PlannedEnum, Source};
-use display::append_display;
-use element_type::append_element_type;
-use enums::append_enum;
+use display::display;
+use element_type::element_type;
+use enums::enum_text;
 use imports::imports_of;
-use json::append_json;
-use names::{append_names, append_with_repr};
-use operators::append_operators;
+use json::json;
+use names::{names, with_repr};
+use operators::operators;
 use std::alloc::{AllocError, Global};
 
+/// A text, unless memory ran out.
+type Text = Result<String, AllocError>;
+
 /// The names of a crate and of a module in it.
-#[derive(Clone, Copy, Debug)]
+#[derive(Clone, Copy)]
 pub struct ModuleName<'a> {
     pub crate_name: &'a str,
     pub module_name: &'a str,
@@ -59,7 +62,9 @@ pub fn module_text(
                 out.push_str(imports)?;
                 imports = "";
             }
-            Item::Enum(planned) => append_planned(alloc, &mut out, module, planned)?,
+            Item::Enum(planned) => {
+                out.push_str(planned_text(alloc, module, planned)?.as_str())?;
+            }
         }
         last = Some(item);
     }
@@ -84,21 +89,17 @@ fn is_enum(item: &Item) -> bool {
     matches!(item, Item::Enum(_))
 }
 
-/// Appends all that is written for an enum.
-fn append_planned(
-    alloc: Global,
-    out: &mut String,
-    module: ModuleName,
-    planned: &PlannedEnum,
-) -> Result<(), AllocError> {
-    let declaration = &planned.declaration;
-    let plan = &planned.plan;
-    append_enum(alloc, out, declaration)?;
-    out.push_str("\n\n")?;
-    append_element_type(alloc, out, module, declaration, plan)?;
-    append_with_repr(out, declaration, plan)?;
-    append_names(alloc, out, declaration, plan)?;
-    append_display(alloc, out, module, declaration, plan)?;
-    append_operators(out, declaration)?;
-    append_json(out, declaration, plan)
+/// All that is written for an enum.
+fn planned_text(alloc: Global, module: ModuleName, planned: &PlannedEnum) -> Text {
+    let the_enum = enum_text(alloc, &planned.declaration)?;
+    let element_type = element_type(alloc, module, planned)?;
+    let with_repr = with_repr(alloc, planned)?;
+    let names = names(alloc, planned)?;
+    let display = display(alloc, module, planned)?;
+    let operators = operators(alloc, planned)?;
+    let json = json(alloc, planned)?;
+    format!(
+        in alloc;
+        "{the_enum}\n\n{element_type}{with_repr}{names}{display}{operators}{json}"
+    )
 }

@@ -1,5 +1,5 @@
 -- Numbers and words of different bits.
-use Rattle.std.proofs.Common.{◌≡◌, ◌==◌, ◌<◌, ◌≤◌, ℕ, suc, zero, ◌+◌, ◌-◌, ◌*◌, ◌/◌, ◌%◌, ◌^◌, Bool, true, false, not, cond, List, [], ◌∷◌, length, get_or, set, replicate, sum_by, refl, ap, sym, subst, ◌∙◌, arith, eqb-true, eq-eqb, true≢false, inl, inr}
+use Rattle.std.proofs.Common.{◌≡◌, ◌==◌, ◌<◌, ◌≤◌, ℕ, suc, zero, ◌+◌, ◌-◌, ◌*◌, ◌/◌, ◌%◌, ◌^◌, Bool, true, false, not, cond, List, [], ◌∷◌, length, get_or, set, drop, slice_index_or, replicate, sum_by, refl, ap, sym, subst, ◌∙◌, arith, eqb-true, eq-eqb, true≢false, inl, inr}
 use Rattle.std.specs.Prelude.{nat_lt}
 use Rattle.std.proofs.Math.Pow.{pow-lt}
 use Rattle.std.proofs.lemmas.Bool.{and_parts, and_from, or_parts, or_cases, not-true}
@@ -28,6 +28,11 @@ sum_below w bs apart low =
     let is = bits_listed bs n (and_from _ _ apart (eq-eqb n n refl)) in
     let within = contains-is_subset (from_list bs) (below w) (λ q one. contains-below w q ∙ in_below q w bs low (sym (contains-from_list bs q) ∙ one)) in
     subst (λ m. m < 2 ^ w) (ap number (sym is) ∙ number-bits n) (number-within (from_list bs) w within)
+
+-- the first number of a list, and the rest
+pub head_rest : (bs : List ℕ) → 1 ≤ length bs → bs ≡ slice_index_or bs 0 0 ∷ drop 1 bs
+head_rest [] some = absurd (omega (arith, some))
+head_rest (b ∷ bs) some = refl
 
 -- a shift of 1 within a type
 pub shift_128 : (b : ℕ) → b < 128 → (1 * 2 ^ b) % 340282366920938463463374607431768211456 ≡ 2 ^ b
@@ -74,9 +79,10 @@ word_fits (n ∷ ns) bs zero lists =
 word_fits (n ∷ ns) bs (suc k) lists =
     word_fits ns (in_later_words bs) k (and_parts (lists_bits (in_first_word bs) n) (lists_words (in_later_words bs) ns) lists).1
 
-pub lists_words-none : (n : ℕ) → lists_words [] (replicate n 0) ≡ true
-lists_words-none zero = refl
-lists_words-none (suc n) = lists_words-none n
+pub lists_words-none : (n : ℕ) (bs : List ℕ) → length bs < 1 → lists_words bs (replicate n 0) ≡ true
+lists_words-none zero [] none = refl
+lists_words-none (suc n) [] none = lists_words-none n [] none
+lists_words-none n (b ∷ bs) none = absurd (omega (arith, none))
 
 lists_bits-cons : (bs : List ℕ) (b n : ℕ) → is_in b bs ≡ false → lists_bits bs n ≡ true → lists_bits (b ∷ bs) (n + 2 ^ b) ≡ true
 lists_bits-cons bs b n new lists =

@@ -1,11 +1,12 @@
 //! The constants of an element type.
 
-use super::layout::{LIST_START, append_joined, append_lines, append_wrapped};
+use super::Text;
+use super::layout::{LIST_START, joined, lines, wrapped};
 use enumset_derive_plan::{Plan, Store};
 use std::alloc::{AllocError, Global};
 
 /// The type that keeps a set.
-pub(super) fn representation(alloc: Global, store: &Store) -> Result<String, AllocError> {
+pub(super) fn representation(alloc: Global, store: &Store) -> Text {
     match store {
         Store::Integer(integer, _) => integer.to_string(alloc),
         Store::Words(words) => {
@@ -15,21 +16,21 @@ pub(super) fn representation(alloc: Global, store: &Store) -> Result<String, All
     }
 }
 
-/// Appends the constants of an element type.
-pub(super) fn append_constants(
-    alloc: Global,
-    out: &mut String,
-    plan: &Plan,
-) -> Result<(), AllocError> {
+/// The constants of an element type.
+pub(super) fn constants(alloc: Global, plan: &Plan) -> Text {
     let representation = representation(alloc, &plan.store)?;
-    let all_bits = all_bits(alloc, &plan.store)?;
+    let (bits_in_clause, all_bits) = match &plan.store {
+        Store::Integer(_, number) => (number.to_string(alloc)?, number.to_string(alloc)?),
+        Store::Words(words) => {
+            let room = 77usize.saturating_sub(representation.len());
+            (list(alloc, words)?, array(alloc, room, words)?)
+        }
+    };
     let bit_width = plan.bit_width;
     let variant_count = plan.variant_count;
-    out.push_str("    ghost ALL_BITS = { ")?;
-    append_bits_in_clause(alloc, out, &plan.store)?;
-    write!(
-        out,
-        " }};
+    format!(
+        in alloc;
+        "    ghost ALL_BITS = {{ {bits_in_clause} }};
 
     const ALL_BITS: {representation} = {all_bits};
 
@@ -43,71 +44,36 @@ pub(super) fn append_constants(
     )
 }
 
-/// Appends the value of `ALL_BITS` as a clause has it.
-fn append_bits_in_clause(alloc: Global, out: &mut String, store: &Store) -> Result<(), AllocError> {
-    match store {
-        Store::Integer(_, number) => write!(out, "{number}"),
-        Store::Words(numbers) => {
-            let mut words = Vec::new(alloc);
-            for number in numbers {
-                words.push(format!(in alloc; "{number} ∷")?)?;
-            }
-            words.push(String::from_str(alloc, "[]")?)?;
-            append_wrapped(out, LIST_START, 77, words.as_slice())
-        }
+/// Words as a list in a clause.
+fn list(alloc: Global, numbers: &[u64]) -> Text {
+    let mut words = numbers_with(alloc, numbers, " ∷")?;
+    words.push(String::from_str(alloc, "[]")?)?;
+    wrapped(alloc, LIST_START, 77, &words)
+}
+
+/// Words as the value of a representation, on one line of less than this length, or on filled lines, or with a line for
+/// each word if one has more than ten digits.
+fn array(alloc: Global, room: usize, numbers: &[u64]) -> Text {
+    let items = joined(alloc, &numbers_with(alloc, numbers, "")?)?;
+    let line = format!(in alloc; "ArrayRepr([{items}])")?;
+    if line.len() < room {
+        return Ok(line);
+    }
+    let words = numbers_with(alloc, numbers, ",")?;
+    if numbers.iter().any(|number| *number >= 10_000_000_000) {
+        let lines = lines(alloc, "        ", &words)?;
+        format!(in alloc; "ArrayRepr([\n{lines}    ])")
+    } else {
+        let words = wrapped(alloc, LIST_START, 92, &words)?;
+        format!(in alloc; "ArrayRepr([\n        {words}\n    ])")
     }
 }
 
-/// The value of `ALL_BITS` in code.
-fn all_bits(alloc: Global, store: &Store) -> Result<String, AllocError> {
-    match store {
-        Store::Integer(_, number) => number.to_string(alloc),
-        Store::Words(numbers) => {
-            let numbers = numbers.as_slice();
-            let line = array_on_a_line(alloc, numbers)?;
-            if line.len() < 77usize.saturating_sub(representation(alloc, store)?.len()) {
-                Ok(line)
-            } else if numbers.iter().any(|number| *number >= 10_000_000_000) {
-                array_on_lines(alloc, numbers)
-            } else {
-                array_on_filled_lines(alloc, numbers)
-            }
-        }
-    }
-}
-
-/// Words as the value of a representation, on one line.
-fn array_on_a_line(alloc: Global, numbers: &[u64]) -> Result<String, AllocError> {
+/// Each number with a mark after it.
+fn numbers_with(alloc: Global, numbers: &[u64], mark: &str) -> Result<Vec<String>, AllocError> {
     let mut words = Vec::new(alloc);
     for number in numbers {
-        words.push(number.to_string(alloc)?)?;
-    }
-    let mut out = String::from_str(alloc, "ArrayRepr([")?;
-    append_joined(&mut out, words.as_slice())?;
-    out.push_str("])")?;
-    Ok(out)
-}
-
-/// The same with a line for each word.
-fn array_on_lines(alloc: Global, numbers: &[u64]) -> Result<String, AllocError> {
-    let mut out = String::from_str(alloc, "ArrayRepr([\n")?;
-    append_lines(&mut out, "        ", numbers_with_commas(alloc, numbers)?.as_slice())?;
-    out.push_str("    ])")?;
-    Ok(out)
-}
-
-/// The same on filled lines.
-fn array_on_filled_lines(alloc: Global, numbers: &[u64]) -> Result<String, AllocError> {
-    let mut out = String::from_str(alloc, "ArrayRepr([\n        ")?;
-    append_wrapped(&mut out, LIST_START, 92, numbers_with_commas(alloc, numbers)?.as_slice())?;
-    out.push_str("\n    ])")?;
-    Ok(out)
-}
-
-fn numbers_with_commas(alloc: Global, numbers: &[u64]) -> Result<Vec<String>, AllocError> {
-    let mut words = Vec::new(alloc);
-    for number in numbers {
-        words.push(format!(in alloc; "{number},")?)?;
+        words.push(format!(in alloc; "{number}{mark}")?)?;
     }
     Ok(words)
 }

@@ -1,99 +1,81 @@
 //! The implementation of an element type.
 
-use super::ModuleName;
-use super::constants::{append_constants, representation};
+use super::constants::{constants, representation};
 use super::form::Form;
-use super::layout::{LIST_START, append_lines, append_wrapped};
-use super::macros::append_variant_of;
-use super::words::{Word, listed, words_of};
-use enumset_derive_plan::{EnumDeclaration, Plan, Store};
-use std::alloc::{AllocError, Global};
+use super::macros::variant_of;
+use super::words::Word;
+use super::{ModuleName, Text};
+use crate::source::PlannedEnum;
+use enumset_derive_plan::Store;
+use std::alloc::Global;
 
-/// Appends the implementation of an element type.
-pub(super) fn append_element_type(
-    alloc: Global,
-    out: &mut String,
-    module: ModuleName,
-    declaration: &EnumDeclaration,
-    plan: &Plan,
-) -> Result<(), AllocError> {
-    let form = Form::of(declaration, plan);
-    append_head(alloc, out, module, declaration, plan, form)?;
-    append_constants(alloc, out, plan)?;
-    append_bit_of_value(alloc, out, declaration, plan, form)?;
-    out.push_str("\n\n    fn enum_from_u32(val: u32) -> Self {\n")?;
-    append_variant_of(alloc, out, declaration, plan, form)?;
-    let law = law_name(&plan.store);
-    out.push_str("\n    }\n\n    ghost lawful = { ")?;
-    match form {
-        Form::InPlace => write!(out, "lawful_in_place the_type ({law} the_type _ tt)")?,
-        Form::ByDiscriminant | Form::ByArms => write!(out, "{law} the_type _ tt")?,
-    }
-    out.push_str(" };\n}")
+/// The implementation of an element type.
+pub(super) fn element_type(alloc: Global, module: ModuleName, planned: &PlannedEnum) -> Text {
+    let form = Form::of(planned);
+    let name = &planned.declaration.name;
+    let uses = uses(alloc, module, planned, form)?;
+    let representation = representation(alloc, &planned.plan.store)?;
+    let elements = elements(alloc, planned, form)?;
+    let values = values(alloc, planned)?;
+    let constants = constants(alloc, &planned.plan)?;
+    let bit = bit_of_value(alloc, planned, form)?;
+    let value = variant_of(alloc, planned, form)?;
+    let law = law_name(&planned.plan.store);
+    let lawful = match form {
+        Form::InPlace => format!(in alloc; "lawful_in_place the_type ({law} the_type _ tt)")?,
+        Form::ByDiscriminant | Form::ByArms => format!(in alloc; "{law} the_type _ tt")?,
+    };
+    format!(
+        in alloc;
+        "impl EnumSetType for {name} {{
+{uses}
+    type Repr = {representation};
+
+    ghost elements = {{ {elements} }};
+
+{values}{constants}
+
+    fn enum_into_u32(self) -> u32 {{
+{bit}    }}
+
+    fn enum_from_u32(val: u32) -> Self {{
+{value}
+    }}
+
+    ghost lawful = {{ {lawful} }};
+}}"
+    )
 }
 
-/// Appends its beginning, up to the constants.
-fn append_head(
-    alloc: Global,
-    out: &mut String,
-    module: ModuleName,
-    declaration: &EnumDeclaration,
-    plan: &Plan,
-    form: Form,
-) -> Result<(), AllocError> {
-    let name = &declaration.name;
-    let representation = representation(alloc, &plan.store)?;
-    write!(out, "impl EnumSetType for {name} {{\n")?;
-    append_uses(out, module, declaration, plan, form)?;
-    write!(out, "\n    type Repr = {representation};\n\n    ghost elements = {{ ")?;
-    append_elements(alloc, out, declaration, plan, form)?;
-    out.push_str(" };\n\n")?;
-    append_values(alloc, out, declaration, plan)
-}
-
-/// Appends what it imports.
-fn append_uses(
-    out: &mut String,
-    module: ModuleName,
-    declaration: &EnumDeclaration,
-    plan: &Plan,
-    form: Form,
-) -> Result<(), AllocError> {
+/// What it imports.
+fn uses(alloc: Global, module: ModuleName, planned: &PlannedEnum, form: Form) -> Text {
     let crate_name = module.crate_name;
     let module_name = module.module_name;
-    let name = &declaration.name;
-    let has_values = declaration.options.has_display;
-    let law = law_name(&plan.store);
-    if has_lists(form, &plan.store) || has_values {
-        out.push_str("    ghost use Rattle.std.specs.Prelude.{◌∷◌, []};\n")?;
-    }
-    out.push_str("    ghost use Rattle.enumset_sets.specs.Laws.Elements.{")?;
-    match form {
-        Form::InPlace => write!(out, "in_place, {law}, lawful_in_place")?,
-        Form::ByDiscriminant | Form::ByArms => write!(out, "with_bits, {law}")?,
-    }
-    write!(
-        out,
-        "}};
+    let name = &planned.declaration.name;
+    let has_values = planned.declaration.options.has_display;
+    let law = law_name(&planned.plan.store);
+    let lists = match (form, &planned.plan.store) {
+        (Form::InPlace, Store::Integer(_, _)) if !has_values => "",
+        _ => "    ghost use Rattle.std.specs.Prelude.{◌∷◌, []};\n",
+    };
+    let (elements, place) = match form {
+        Form::InPlace => ("in_place", ", lawful_in_place"),
+        Form::ByDiscriminant | Form::ByArms => ("with_bits", ""),
+    };
+    let mut out = format!(
+        in alloc;
+        "{lists}    ghost use Rattle.enumset_sets.specs.Laws.Elements.{{{elements}, {law}{place}}};
     ghost use Rattle.{crate_name}.specs.contracts.{module_name}.{name}.{{the_type}};
 "
     )?;
     if has_values {
-        write!(
+        let path = "TheVariants as variant";
+        writeln!(
             out,
-            "    ghost use Rattle.{crate_name}.specs.declared.{module_name}.{name}.TheVariants as variant;
-"
+            "    ghost use Rattle.{crate_name}.specs.declared.{module_name}.{name}.{path};"
         )?;
     }
-    Ok(())
-}
-
-/// Whether the bits of the elements are listed, or the words of all bits.
-fn has_lists(form: Form, store: &Store) -> bool {
-    match (form, store) {
-        (Form::InPlace, Store::Integer(_, _)) => false,
-        _ => true,
-    }
+    Ok(out)
 }
 
 /// The test that the laws come from.
@@ -104,59 +86,33 @@ fn law_name(store: &Store) -> &'static str {
     }
 }
 
-/// Appends the elements.
-fn append_elements(
-    alloc: Global,
-    out: &mut String,
-    declaration: &EnumDeclaration,
-    plan: &Plan,
-    form: Form,
-) -> Result<(), AllocError> {
+/// The elements.
+fn elements(alloc: Global, planned: &PlannedEnum, form: Form) -> Text {
     match form {
-        Form::InPlace => out.push_str("in_place the_type"),
+        Form::InPlace => String::from_str(alloc, "in_place the_type"),
         Form::ByDiscriminant | Form::ByArms => {
-            let bits = listed(alloc, Word::Bit, declaration, plan)?;
-            out.push_str("with_bits the_type (")?;
-            append_wrapped(out, LIST_START, 59, bits.as_slice())?;
-            out.push(')')
+            let bits = Word::Bit.list(alloc, 59, planned)?;
+            format!(in alloc; "with_bits the_type ({bits})")
         }
     }
 }
 
-/// Appends the values, where the texts of sets are to be known.
-fn append_values(
-    alloc: Global,
-    out: &mut String,
-    declaration: &EnumDeclaration,
-    plan: &Plan,
-) -> Result<(), AllocError> {
-    if !declaration.options.has_display {
-        return Ok(());
+/// The values, where the texts of sets are to be known.
+fn values(alloc: Global, planned: &PlannedEnum) -> Text {
+    if !planned.declaration.options.has_display {
+        return Ok(String::new(alloc));
     }
-    let values = listed(alloc, Word::Value, declaration, plan)?;
-    out.push_str("    ghost values = { ")?;
-    append_wrapped(out, LIST_START, 79, values.as_slice())?;
-    out.push_str(" };\n\n")
+    let values = Word::Value.list(alloc, 79, planned)?;
+    format!(in alloc; "    ghost values = {{ {values} }};\n\n")
 }
 
-/// Appends the function that gives the bit of a value.
-fn append_bit_of_value(
-    alloc: Global,
-    out: &mut String,
-    declaration: &EnumDeclaration,
-    plan: &Plan,
-    form: Form,
-) -> Result<(), AllocError> {
-    out.push_str("\n\n    fn enum_into_u32(self) -> u32 {\n")?;
+/// What gives the bit of a value.
+fn bit_of_value(alloc: Global, planned: &PlannedEnum, form: Form) -> Text {
     match form {
-        Form::ByArms => {
-            let arms = words_of(alloc, Word::BitArm, declaration, plan)?;
-            out.push_str("        match self {\n")?;
-            append_lines(out, "            ", arms.as_slice())?;
-            out.push_str("        }\n")?;
+        Form::ByArms => Word::BitArm.arms(alloc, planned),
+        _ if planned.declaration.variants.is_empty() => {
+            String::from_str(alloc, "        match self {}\n")
         }
-        _ if declaration.variants.is_empty() => out.push_str("        match self {}\n")?,
-        _ => out.push_str("        self as u32\n")?,
+        _ => String::from_str(alloc, "        self as u32\n"),
     }
-    out.push_str("    }")
 }

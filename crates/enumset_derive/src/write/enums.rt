@@ -1,7 +1,8 @@
 //! The enum itself.
 
+use super::Text;
 use super::form::are_kept;
-use super::layout::{append_joined, append_lines, joined_length};
+use super::layout::{joined, lines};
 use enumset_derive_plan::{EnumDeclaration, Variant};
 use std::alloc::{AllocError, Global};
 
@@ -10,19 +11,15 @@ const DROPPED: &str = "\
 // Its discriminants are left out: one of them is past those that Rattle takes, -2^63 to 2^63 - 1.
 ";
 
-/// Appends the enum.
-pub(super) fn append_enum(
-    alloc: Global,
-    out: &mut String,
-    declaration: &EnumDeclaration,
-) -> Result<(), AllocError> {
-    let has_discriminants = are_kept(declaration.variants.as_slice());
-    append_lines(out, "", declaration.attributes.as_slice())?;
+/// The enum.
+pub(super) fn enum_text(alloc: Global, declaration: &EnumDeclaration) -> Text {
+    let has_discriminants = are_kept(&declaration.variants);
+    let mut out = lines(alloc, "", &declaration.attributes)?;
     if !has_discriminants {
         out.push_str(DROPPED)?;
     }
-    append_derives(out, derives_of(alloc, declaration)?.as_slice())?;
-    append_lines(out, "", declaration.later_attributes.as_slice())?;
+    out.push_str(derive(alloc, &derives(alloc, declaration)?)?.as_str())?;
+    out.push_str(lines(alloc, "", &declaration.later_attributes)?.as_str())?;
     if !declaration.visibility.is_empty() {
         let visibility = &declaration.visibility;
         write!(out, "{visibility} ")?;
@@ -33,15 +30,15 @@ pub(super) fn append_enum(
         out.push('\n')?;
     }
     for variant in &declaration.variants {
-        append_variant(out, variant, has_discriminants)?;
+        append_variant(alloc, &mut out, variant, has_discriminants)?;
     }
-    append_lines(out, "    ", declaration.last_comments.as_slice())?;
+    out.push_str(lines(alloc, "    ", &declaration.last_comments)?.as_str())?;
     out.push('}')?;
-    Ok(())
+    Ok(out)
 }
 
 /// The derives: those that an element type needs, unless the author writes them, and those of the source.
-fn derives_of(alloc: Global, declaration: &EnumDeclaration) -> Result<Vec<String>, AllocError> {
+fn derives(alloc: Global, declaration: &EnumDeclaration) -> Result<Vec<String>, AllocError> {
     let mut derives = Vec::new(alloc);
     if !declaration.options.leaves_out_supertraits {
         for name in ["Clone", "Copy", "PartialEq", "Eq"] {
@@ -54,31 +51,32 @@ fn derives_of(alloc: Global, declaration: &EnumDeclaration) -> Result<Vec<String
     Ok(derives)
 }
 
-/// Appends the derives, if there is one, on a line or on a line each.
-fn append_derives(out: &mut String, derives: &[String]) -> Result<(), AllocError> {
-    if derives.is_empty() {
-        return Ok(());
-    }
-    if joined_length(derives) < 90 {
-        out.push_str("#[derive(")?;
-        append_joined(out, derives)?;
+/// The attribute with the derives, on a line or on a line each.
+fn derive(alloc: Global, derives: &[String]) -> Text {
+    let line = joined(alloc, derives)?;
+    if line.is_empty() {
+        Ok(line)
+    } else if line.len() < 90 {
+        format!(in alloc; "#[derive({line})]\n")
     } else {
-        out.push_str("#[derive(\n")?;
+        let mut out = String::from_str(alloc, "#[derive(\n")?;
         for derive in derives {
             write!(out, "    {derive},\n")?;
         }
+        out.push_str(")]\n")?;
+        Ok(out)
     }
-    out.push_str(")]\n")
 }
 
 /// Appends a variant, with its discriminant where the enum has discriminants.
 fn append_variant(
+    alloc: Global,
     out: &mut String,
     variant: &Variant,
     has_discriminants: bool,
 ) -> Result<(), AllocError> {
     let name = &variant.name;
-    append_lines(out, "    ", variant.attributes.as_slice())?;
+    out.push_str(lines(alloc, "    ", &variant.attributes)?.as_str())?;
     write!(out, "    {name}")?;
     if let Some(discriminant) = &variant.discriminant {
         if has_discriminants {

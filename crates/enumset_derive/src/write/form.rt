@@ -1,9 +1,10 @@
 //! How a module writes the bits of an enum's variants.
 
-use enumset_derive_plan::{EnumDeclaration, Number, Plan, Variant};
+use crate::source::PlannedEnum;
+use enumset_derive_plan::{Number, Variant};
 
 /// How the bits of the variants are written.
-#[derive(Clone, Copy, Debug, PartialEq, Eq)]
+#[derive(Clone, Copy)]
 pub(super) enum Form {
     /// Each bit is its variant's place, and the discriminant.
     InPlace,
@@ -14,11 +15,12 @@ pub(super) enum Form {
 }
 
 impl Form {
-    /// The form for an enum with this plan.
-    pub(super) fn of(declaration: &EnumDeclaration, plan: &Plan) -> Form {
-        let is_in_place = counts_from_zero(plan.bits.as_slice());
-        let is_cast = if are_kept(declaration.variants.as_slice()) {
-            are_bits(plan.discriminants.as_slice(), plan.bits.as_slice())
+    /// The form for an enum.
+    pub(super) fn of(planned: &PlannedEnum) -> Form {
+        let bits = planned.plan.bits.as_slice();
+        let is_in_place = counts_from_zero(bits);
+        let is_cast = if are_kept(&planned.declaration.variants) {
+            are_bits(&planned.plan.discriminants, bits)
         } else {
             is_in_place
         };

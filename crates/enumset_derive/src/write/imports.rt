@@ -1,6 +1,7 @@
 //! What a module imports.
 
-use super::layout::{append_joined, append_wrapped, joined_length};
+use super::Text;
+use super::layout::{joined, wrapped};
 use super::names::{are_named, is_narrow};
 use crate::source::{Item, PlannedEnum};
 use enumset_derive_plan::Store;
@@ -8,8 +9,9 @@ use std::alloc::{AllocError, Global};
 use std::collections::BTreeSet;
 
 /// The imports of a module with these items: what they import and need, in order, each once.
-pub(super) fn imports_of(alloc: Global, items: &[Item]) -> Result<String, AllocError> {
+pub(super) fn imports_of(alloc: Global, items: &[Item]) -> Text {
     let mut names = BTreeSet::new(alloc);
+    let mut facade = "enumset";
     for item in items {
         match item {
             Item::Other(_) => {}
@@ -18,25 +20,15 @@ pub(super) fn imports_of(alloc: Global, items: &[Item]) -> Result<String, AllocE
                     names.insert(name.clone()?)?;
                 }
             }
-            Item::Enum(planned) => insert_needed(alloc, &mut names, planned)?,
-        }
-    }
-    let mut out = String::new(alloc);
-    append_imports(alloc, &mut out, facade_of(items), names)?;
-    Ok(out)
-}
-
-/// What the facade is called: the last name that an enum asks for.
-fn facade_of(items: &[Item]) -> &str {
-    let mut facade = "enumset";
-    for item in items {
-        if let Item::Enum(planned) = item {
-            if let Some(name) = &planned.declaration.options.crate_name {
-                facade = name.as_str();
+            Item::Enum(planned) => {
+                insert_needed(alloc, &mut names, planned)?;
+                if let Some(name) = &planned.declaration.options.crate_name {
+                    facade = name.as_str();
+                }
             }
         }
     }
-    facade
+    imports(alloc, facade, names)
 }
 
 /// Inserts the names that the text of an enum needs.
@@ -47,12 +39,13 @@ fn insert_needed(
 ) -> Result<(), AllocError> {
     let options = &planned.declaration.options;
     let is_in_json = options.serialized.is_some();
-    let is_by_names = are_named(options);
+    let is_in_words = matches!(planned.plan.store, Store::Words(_));
+    let is_by_names = are_named(planned);
     for (name, is_needed) in [
         ("EnumSetType", true),
         ("variant_of", true),
-        ("internal::ArrayRepr", matches!(planned.plan.store, Store::Words(_))),
-        ("EnumSetTypeWithRepr", is_narrow(&planned.plan.store)),
+        ("internal::ArrayRepr", is_in_words),
+        ("EnumSetTypeWithRepr", is_narrow(planned)),
         ("EnumSet", is_in_json || !options.leaves_out_operators),
         ("EnumSetNames", is_by_names),
         ("names_of", is_by_names),
@@ -65,60 +58,41 @@ fn insert_needed(
     Ok(())
 }
 
-/// Appends the imports of names of the crate that is called `facade`.
-fn append_imports(
-    alloc: Global,
-    out: &mut String,
-    facade: &str,
-    names: BTreeSet<String>,
-) -> Result<(), AllocError> {
+/// The imports of names of the crate that is called `facade`: a path, or a name that is renamed, has a line of its own.
+fn imports(alloc: Global, facade: &str, names: BTreeSet<String>) -> Text {
+    let mut out = String::new(alloc);
     let mut plain = Vec::new(alloc);
     for name in names {
-        if stands_alone(name.as_str()) {
-            append_path(out, facade, name.as_str())?;
-        } else {
+        let stands_alone = name
+            .as_str()
+            .chars()
+            .any(|c| c == ':' || c.is_ascii_whitespace());
+        if !stands_alone {
             plain.push(name)?;
+        } else if facade == "enumset_sets" && name.as_str() == "internal::ArrayRepr" {
+            out.push_str("use enumset_array::ArrayRepr;\n")?;
+        } else {
+            writeln!(out, "use {facade}::{name};")?;
         }
     }
-    if plain.iter().any(|name| name.as_str().contains('*')) {
-        write!(out, "use {facade}::*;")
-    } else {
-        append_list(alloc, out, facade, plain.as_slice())
-    }
+    out.push_str(list(alloc, facade, &plain)?.as_str())?;
+    Ok(out)
 }
 
-/// Whether a name is a path or is renamed, so that it has a line of its own.
-fn stands_alone(name: &str) -> bool {
-    name.chars().any(|c| c == ':' || c.is_ascii_whitespace())
-}
-
-/// Appends the import of a name that stands alone. The representation in words is not in the crate `enumset_sets`.
-fn append_path(out: &mut String, facade: &str, name: &str) -> Result<(), AllocError> {
-    if facade == "enumset_sets" && name == "internal::ArrayRepr" {
-        out.push_str("use enumset_array::ArrayRepr;\n")
-    } else {
-        write!(out, "use {facade}::{name};\n")
+/// The import of names on one line, or on several, or of all names.
+fn list(alloc: Global, facade: &str, names: &[String]) -> Text {
+    if names.iter().any(|name| name.as_str() == "*") {
+        return format!(in alloc; "use {facade}::*;");
     }
-}
-
-/// Appends the import of names that are listed, on one line or on several.
-fn append_list(
-    alloc: Global,
-    out: &mut String,
-    facade: &str,
-    names: &[String],
-) -> Result<(), AllocError> {
-    write!(out, "use {facade}::{{")?;
-    if facade.len().saturating_add(joined_length(names)) <= 100 - "use ::{};".len() {
-        append_joined(out, names)?;
-    } else {
-        let mut words = Vec::new(alloc);
-        for name in names {
-            words.push(format!(in alloc; "{name},")?)?;
-        }
-        out.push_str("\n    ")?;
-        append_wrapped(out, "\n    ", 96, words.as_slice())?;
-        out.push('\n')?;
+    let list = joined(alloc, names)?;
+    let line = format!(in alloc; "use {facade}::{{{list}}};")?;
+    if line.len() <= 100 {
+        return Ok(line);
     }
-    out.push_str("};")
+    let mut words = Vec::new(alloc);
+    for name in names {
+        words.push(format!(in alloc; "{name},")?)?;
+    }
+    let words = wrapped(alloc, "\n    ", 96, &words)?;
+    format!(in alloc; "use {facade}::{{\n    {words}\n}};")
 }

@@ -1,10 +1,11 @@
 //! The calls that write the sets of an element type in JSON and read them.
 
+use super::Text;
 use super::json_form::JsonForm;
-use super::json_reads::append_from_json;
-use super::json_writes::append_to_json;
-use enumset_derive_plan::{EnumDeclaration, Plan};
-use std::alloc::AllocError;
+use super::json_reads::from_json;
+use super::json_writes::to_json;
+use crate::source::PlannedEnum;
+use std::alloc::Global;
 
 /// What the calls of a number import.
 const NUMBER_USES: &str = "    ghost use Rattle.std.specs.Prelude.{◌≡◌, ◌↔◌, IsOk, IfOk, IfErr, IsTrue};
@@ -25,48 +26,49 @@ const WORDS_USES: &str = "    ghost use Rattle.std.specs.Prelude.{◌≡◌, IfO
     ghost use Rattle.enumset.specs.declared.set_json.fault.JsonFault.TheVariants.{OutOfMemory};
 ";
 
-/// Appends the calls, if a form is asked for.
-pub(super) fn append_json(
-    out: &mut String,
-    declaration: &EnumDeclaration,
-    plan: &Plan,
-) -> Result<(), AllocError> {
-    let Some(serialized) = declaration.options.serialized else {
-        return Ok(());
+/// The calls, if a form is asked for.
+pub(super) fn json(alloc: Global, planned: &PlannedEnum) -> Text {
+    let Some(form) = JsonForm::of(planned) else {
+        return Ok(String::new(alloc));
     };
-    let form = JsonForm::of(serialized, plan);
-    let name = declaration.name.as_str();
-    write!(out, "\n\nimpl {name} {{\n")?;
-    append_uses(out, form)?;
-    out.push('\n')?;
-    append_to_json(out, name, form)?;
-    out.push_str("\n\n")?;
-    append_from_json(out, name, form, declaration.options.denies_unknown)?;
-    out.push_str("\n}")
-}
+    let name = planned.declaration.name.as_str();
+    let uses = uses(alloc, form)?;
+    let to_json = to_json(alloc, name, form)?;
+    let from_json = from_json(
+        alloc,
+        name,
+        form,
+        planned.declaration.options.denies_unknown,
+    )?;
+    let unknown = "Rattle.enumset.specs.declared.set_json.unknown.Unknown.TheVariants";
+    format!(
+        in alloc;
+        "
 
-/// Appends what the calls import.
-fn append_uses(out: &mut String, form: JsonForm) -> Result<(), AllocError> {
-    match form {
-        JsonForm::Number(_) => out.push_str(NUMBER_USES)?,
-        JsonForm::Words(_) => out.push_str(WORDS_USES)?,
-        JsonForm::List | JsonForm::Map => append_names_uses(out, form.call_name())?,
-    }
-    out.push_str(
-        "    ghost use Rattle.enumset.specs.declared.set_json.unknown.Unknown.TheVariants as unknown;
-",
+impl {name} {{
+{uses}    ghost use {unknown} as unknown;
+
+{to_json}
+
+{from_json}
+}}"
     )
 }
 
-/// Appends what the calls of names import.
-fn append_names_uses(out: &mut String, call: &str) -> Result<(), AllocError> {
-    write!(
-        out,
-        "    ghost use Rattle.std.specs.Prelude.{{◌≡◌, IfOk, IfErr}};
+/// What the calls of a form import.
+fn uses(alloc: Global, form: JsonForm) -> Text {
+    let call = form.call_name();
+    match form {
+        JsonForm::Number(_) => String::from_str(alloc, NUMBER_USES),
+        JsonForm::Words(_) => String::from_str(alloc, WORDS_USES),
+        JsonForm::List | JsonForm::Map => format!(
+            in alloc;
+            "    ghost use Rattle.std.specs.Prelude.{{◌≡◌, IfOk, IfErr}};
     ghost use Rattle.serde_json.specs.View.{{view}};
     ghost use Rattle.enumset.specs.Names.{{names_of}};
     ghost use Rattle.enumset.specs.JsonNames.{{{call}_value, set_of_{call}}};
     ghost use Rattle.enumset.specs.declared.set_json.fault.JsonFault.TheVariants.{{OutOfMemory}};
 "
-    )
+        ),
+    }
 }

@@ -1,9 +1,10 @@
 //! What a set is in JSON.
 
+use crate::source::PlannedEnum;
 use enumset_derive_plan::{IntegerType, Plan, Serialized, Store};
 
 /// What a set is in JSON.
-#[derive(Clone, Copy, Debug, PartialEq, Eq)]
+#[derive(Clone, Copy)]
 pub(super) enum JsonForm {
     /// A number of this type.
     Number(IntegerType),
@@ -16,19 +17,28 @@ pub(super) enum JsonForm {
 }
 
 impl JsonForm {
-    /// The form that an option asks for. A value in JSON holds no number of 128 bits: such a set is a number if its bits
+    /// The form that an enum asks for. A value in JSON holds no number of 128 bits: such a set is a number if its bits
     /// are below 64, else words.
-    pub(super) fn of(serialized: Serialized, plan: &Plan) -> JsonForm {
-        match serialized {
+    pub(super) fn of(planned: &PlannedEnum) -> Option<JsonForm> {
+        let plan = &planned.plan;
+        match planned.declaration.options.serialized? {
             Serialized::Integer(IntegerType::U128) if plan.bit_width <= 64 => {
-                JsonForm::Number(IntegerType::U64)
+                Some(JsonForm::Number(IntegerType::U64))
             }
-            Serialized::Integer(IntegerType::U128) | Serialized::Words => {
-                JsonForm::Words(word_count(&plan.store))
-            }
-            Serialized::Integer(integer) => JsonForm::Number(integer),
-            Serialized::List => JsonForm::List,
-            Serialized::Map => JsonForm::Map,
+            Serialized::Integer(IntegerType::U128) => Some(JsonForm::in_words(plan)),
+            Serialized::Integer(integer) => Some(JsonForm::Number(integer)),
+            Serialized::Words => Some(JsonForm::in_words(plan)),
+            Serialized::List => Some(JsonForm::List),
+            Serialized::Map => Some(JsonForm::Map),
+        }
+    }
+
+    /// The words that the representation has.
+    fn in_words(plan: &Plan) -> JsonForm {
+        match &plan.store {
+            Store::Integer(IntegerType::U128, _) => JsonForm::Words(2),
+            Store::Integer(_, _) => JsonForm::Words(1),
+            Store::Words(words) => JsonForm::Words(words.len()),
         }
     }
 
@@ -42,28 +52,15 @@ impl JsonForm {
         }
     }
 
-    /// Whether the elements are written by their names.
-    pub(super) fn is_of_names(self) -> bool {
-        matches!(self, JsonForm::List | JsonForm::Map)
-    }
-}
-
-/// How many words the representation has.
-fn word_count(store: &Store) -> usize {
-    match store {
-        Store::Integer(IntegerType::U128, _) => 2,
-        Store::Integer(_, _) => 1,
-        Store::Words(words) => words.len(),
-    }
-}
-
-/// The variant of `set_json::JsonWidth` for a type.
-pub(super) fn width_name(integer: IntegerType) -> &'static str {
-    match integer {
-        IntegerType::U8 => "U8",
-        IntegerType::U16 => "U16",
-        IntegerType::U32 => "U32",
-        IntegerType::U64 => "U64",
-        IntegerType::U128 => "U128",
+    /// The width among the arguments of a call, as `set_json::JsonWidth` names it.
+    pub(super) fn width_name(self) -> Option<&'static str> {
+        match self {
+            JsonForm::Number(IntegerType::U8) => Some("U8"),
+            JsonForm::Number(IntegerType::U16) => Some("U16"),
+            JsonForm::Number(IntegerType::U32) => Some("U32"),
+            JsonForm::Number(IntegerType::U64) => Some("U64"),
+            JsonForm::Number(IntegerType::U128) => Some("U128"),
+            JsonForm::Words(_) | JsonForm::List | JsonForm::Map => None,
+        }
     }
 }

@@ -1,68 +1,57 @@
 //! The call that reads the sets of an element type from JSON.
 
-use super::json_form::{JsonForm, width_name};
-use std::alloc::AllocError;
+use super::Text;
+use super::json_form::JsonForm;
+use std::alloc::Global;
 
-/// Appends the call that reads a set of the enum of this name. It names `Result` by its path, since the module may have
-/// another.
-pub(super) fn append_from_json(
-    out: &mut String,
-    name: &str,
-    form: JsonForm,
-    denies_unknown: bool,
-) -> Result<(), AllocError> {
+/// The call that reads a set of the enum of this name. It names `Result` by its path, since the module may have another.
+pub(super) fn from_json(alloc: Global, name: &str, form: JsonForm, denies_unknown: bool) -> Text {
     let call = form.call_name();
-    let unknown_doc = unknown_doc(denies_unknown, form.is_of_names());
-    write!(
-        out,
-        "    /// The set that `to_json` writes so. {unknown_doc}
+    let what = match form {
+        JsonForm::Number(_) | JsonForm::Words(_) => "bit",
+        JsonForm::List | JsonForm::Map => "name",
+    };
+    let becomes = if denies_unknown {
+        format!(in alloc; "A {what} that no variant has is a fault.")?
+    } else if what == "bit" {
+        String::from_str(alloc, "Bits that no variant has are left out.")?
+    } else {
+        String::from_str(alloc, "Names that no variant has are left out.")?
+    };
+    let read_by = read_by(alloc, name, form)?;
+    let unknown = if denies_unknown { "Refuse" } else { "Drop" };
+    let mut out = format!(
+        in alloc;
+        "    /// The set that `to_json` writes so. {becomes}
     ///
     /// The faults are those of [`set_json::from_{call}`], in their order. It takes no memory.
     pub fn from_json(
         value: &serde_json::Value,
     ) -> std::result::Result<EnumSet<Self>, set_json::JsonFault>
         ensures {{ result ≡ set_of_{call}
-"
-    )?;
-    append_read_by(out, name, form)?;
-    let unknown = if denies_unknown { "Refuse" } else { "Drop" };
-    write!(
-        out,
-        "
+            {read_by}
             unknown.{unknown} (view value.now) }}
     {{
         set_json::from_{call}(value, "
     )?;
-    if let JsonForm::Number(integer) = form {
-        let width = width_name(integer);
+    if let Some(width) = form.width_name() {
         write!(out, "set_json::JsonWidth::{width}, ")?;
     }
-    write!(out, "set_json::Unknown::{unknown})\n    }}")
+    write!(out, "set_json::Unknown::{unknown})\n    }}")?;
+    Ok(out)
 }
 
-/// What becomes of unknown bits or names.
-fn unknown_doc(denies_unknown: bool, is_of_names: bool) -> &'static str {
-    match (denies_unknown, is_of_names) {
-        (false, false) => "Bits that no variant has are left out.",
-        (false, true) => "Names that no variant has are left out.",
-        (true, false) => "A bit that no variant has is a fault.",
-        (true, true) => "A name that no variant has is a fault.",
-    }
-}
-
-/// Appends what the value is read by.
-fn append_read_by(out: &mut String, name: &str, form: JsonForm) -> Result<(), AllocError> {
+/// What the value is read by.
+fn read_by(alloc: Global, name: &str, form: JsonForm) -> Text {
+    let elements = format!(in alloc; "⟦<{name} as EnumSetType>⟧.elements")?;
     match form {
         JsonForm::Number(integer) => {
             let width = integer.width();
-            write!(out, "            (valid_bits ⟦<{name} as EnumSetType>⟧.elements) {width}")
+            format!(in alloc; "(valid_bits {elements}) {width}")
         }
-        JsonForm::Words(_) => {
-            write!(out, "            (valid_bits ⟦<{name} as EnumSetType>⟧.elements)")
+        JsonForm::Words(_) => format!(in alloc; "(valid_bits {elements})"),
+        JsonForm::List | JsonForm::Map => {
+            format!(in alloc; "(names_of {elements} ⟦<{name} as EnumSetNames>⟧.names)")
         }
-        JsonForm::List | JsonForm::Map => write!(
-            out,
-            "            (names_of ⟦<{name} as EnumSetType>⟧.elements ⟦<{name} as EnumSetNames>⟧.names)"
-        ),
     }
 }

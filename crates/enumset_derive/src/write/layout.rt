@@ -1,23 +1,19 @@
 //! Layout in lines of at most 100 columns.
 
-use std::alloc::AllocError;
+use super::Text;
+use std::alloc::Global;
 
 /// How a new line of a list in an `impl` begins.
 pub(super) const LIST_START: &str = "\n        ";
 
-/// Appends words with spaces between them. `room` is how many columns are left on the line. Where the next word would
-/// pass the last column, a new line begins, by the text `start`.
-pub(super) fn append_wrapped(
-    out: &mut String,
-    start: &str,
-    room: usize,
-    words: &[String],
-) -> Result<(), AllocError> {
+/// Words with spaces between them. `room` is how many columns are left on the line. Where the next word would pass the
+/// last column, a new line begins, by the text `start`.
+pub(super) fn wrapped(alloc: Global, start: &str, room: usize, words: &[String]) -> Text {
+    let mut out = String::new(alloc);
     let mut room = room;
-    let mut is_first = true;
     for word in words {
         let length = word.len();
-        if is_first {
+        if out.is_empty() {
             room = room.saturating_sub(length);
         } else if length < room {
             out.push(' ')?;
@@ -27,56 +23,36 @@ pub(super) fn append_wrapped(
             room = 101usize.saturating_sub(start.len()).saturating_sub(length);
         }
         out.push_str(word.as_str())?;
-        is_first = false;
     }
-    Ok(())
+    Ok(out)
 }
 
 /// Whether words fit the columns that are left on a line, each with a space or a mark after it.
 pub(super) fn fits(room: usize, words: &[String]) -> bool {
-    let mut room = room;
+    let mut length = 0usize;
     for word in words {
-        let length = word.len();
-        if length >= room {
-            return false;
-        }
-        room = room - 1 - length;
+        length = length.saturating_add(word.len()).saturating_add(1);
     }
-    true
+    length <= room
 }
 
-/// Appends texts, each on a line of its own after the indent.
-pub(super) fn append_lines(
-    out: &mut String,
-    indent: &str,
-    texts: &[String],
-) -> Result<(), AllocError> {
+/// Texts on a line each, after the indent.
+pub(super) fn lines(alloc: Global, indent: &str, texts: &[String]) -> Text {
+    let mut out = String::new(alloc);
     for text in texts {
-        out.push_str(indent)?;
-        out.push_str(text.as_str())?;
-        out.push('\n')?;
+        writeln!(out, "{indent}{text}")?;
     }
-    Ok(())
+    Ok(out)
 }
 
-/// Appends texts with a comma and a space between them.
-pub(super) fn append_joined(out: &mut String, texts: &[String]) -> Result<(), AllocError> {
-    let mut is_first = true;
+/// Texts with a comma and a space between them.
+pub(super) fn joined(alloc: Global, texts: &[String]) -> Text {
+    let mut out = String::new(alloc);
     for text in texts {
-        if !is_first {
+        if !out.is_empty() {
             out.push_str(", ")?;
         }
         out.push_str(text.as_str())?;
-        is_first = false;
     }
-    Ok(())
-}
-
-/// How long texts are with a comma and a space between them.
-pub(super) fn joined_length(texts: &[String]) -> usize {
-    let mut length = 0usize;
-    for text in texts {
-        length = length.saturating_add(text.len()).saturating_add(2);
-    }
-    length.saturating_sub(2)
+    Ok(out)
 }

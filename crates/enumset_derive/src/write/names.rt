@@ -1,74 +1,62 @@
 //! The names of an element type's values, and its sets as values of their representation.
 
-use super::layout::{LIST_START, append_wrapped};
-use super::macros::append_names_of;
-use super::words::{Word, listed};
-use enumset_derive_plan::{EnumDeclaration, Options, Plan, Serialized, Store};
-use std::alloc::{AllocError, Global};
+use super::Text;
+use super::macros::names_of;
+use super::words::Word;
+use crate::source::PlannedEnum;
+use enumset_derive_plan::{Serialized, Store};
+use std::alloc::Global;
 
 /// Whether sets are written in JSON by the names of their elements.
-pub(super) fn are_named(options: &Options) -> bool {
-    matches!(options.serialized, Some(Serialized::List | Serialized::Map))
+pub(super) fn are_named(planned: &PlannedEnum) -> bool {
+    matches!(
+        planned.declaration.options.serialized,
+        Some(Serialized::List | Serialized::Map)
+    )
 }
 
 /// Whether the representation has at most 128 bits.
-pub(super) fn is_narrow(store: &Store) -> bool {
-    match store {
+pub(super) fn is_narrow(planned: &PlannedEnum) -> bool {
+    match &planned.plan.store {
         Store::Integer(_, _) => true,
         Store::Words(words) => words.len() <= 2,
     }
 }
 
-/// Appends the names of the values, if sets are written in JSON by them.
-pub(super) fn append_names(
-    alloc: Global,
-    out: &mut String,
-    declaration: &EnumDeclaration,
-    plan: &Plan,
-) -> Result<(), AllocError> {
-    if !are_named(&declaration.options) {
-        return Ok(());
+/// The names of the values, if sets are written in JSON by them.
+pub(super) fn names(alloc: Global, planned: &PlannedEnum) -> Text {
+    if !are_named(planned) {
+        return Ok(String::new(alloc));
     }
-    let name = &declaration.name;
-    let names = listed(alloc, Word::Name, declaration, plan)?;
-    write!(
-        out,
+    let name = &planned.declaration.name;
+    let names = Word::Name.list(alloc, 80, planned)?;
+    let call = names_of(alloc, planned)?;
+    format!(
+        in alloc;
         "
 
 impl EnumSetNames for {name} {{
     ghost use Rattle.std.specs.Prelude.{{codes, ◌∷◌, []}};
 
-    ghost names = {{ "
-    )?;
-    append_wrapped(out, LIST_START, 80, names.as_slice())?;
-    out.push_str(
-        " };
+    ghost names = {{ {names} }};
 
-    fn names() -> &'static [(Self, &'static str)] {
-",
-    )?;
-    append_names_of(alloc, out, declaration, plan)?;
-    out.push_str(
-        "
-    }
+    fn names() -> &'static [(Self, &'static str)] {{
+{call}
+    }}
 
-    ghost named = { tt };
-}",
+    ghost named = {{ tt }};
+}}"
     )
 }
 
-/// Appends that sets are values of their representation, if that has at most 128 bits.
-pub(super) fn append_with_repr(
-    out: &mut String,
-    declaration: &EnumDeclaration,
-    plan: &Plan,
-) -> Result<(), AllocError> {
-    if !is_narrow(&plan.store) {
-        return Ok(());
+/// That sets are values of their representation, if that has at most 128 bits.
+pub(super) fn with_repr(alloc: Global, planned: &PlannedEnum) -> Text {
+    if !is_narrow(planned) {
+        return Ok(String::new(alloc));
     }
-    let name = &declaration.name;
-    write!(
-        out,
+    let name = &planned.declaration.name;
+    format!(
+        in alloc;
         "
 
 impl EnumSetTypeWithRepr for {name} {{

@@ -1,92 +1,72 @@
 //! The operators on elements.
 
-use enumset_derive_plan::EnumDeclaration;
-use std::alloc::AllocError;
+use super::Text;
+use crate::source::PlannedEnum;
+use std::alloc::Global;
 
 /// An operator on elements with two operands.
-#[derive(Clone, Copy, Debug, PartialEq, Eq)]
-enum Operator {
-    And,
-    Or,
-    Xor,
-    Sub,
+#[derive(Clone, Copy)]
+struct Operator {
+    trait_name: &'static str,
+    function: &'static str,
+    /// The operation on sets, as the model names it.
+    operation: &'static str,
+    in_words: &'static str,
+    sign: &'static str,
 }
 
-impl Operator {
-    /// Its trait.
-    fn trait_name(self) -> &'static str {
-        match self {
-            Operator::And => "BitAnd",
-            Operator::Or => "BitOr",
-            Operator::Xor => "BitXor",
-            Operator::Sub => "Sub",
-        }
-    }
+const AND: Operator = Operator {
+    trait_name: "BitAnd",
+    function: "bitand",
+    operation: "intersection",
+    in_words: "intersection",
+    sign: "&",
+};
 
-    /// The function of the trait.
-    fn function_name(self) -> &'static str {
-        match self {
-            Operator::And => "bitand",
-            Operator::Or => "bitor",
-            Operator::Xor => "bitxor",
-            Operator::Sub => "sub",
-        }
-    }
+const OR: Operator = Operator {
+    trait_name: "BitOr",
+    function: "bitor",
+    operation: "union",
+    in_words: "union",
+    sign: "|",
+};
 
-    /// The operation on sets.
-    fn operation(self) -> &'static str {
-        match self {
-            Operator::And => "intersection",
-            Operator::Or => "union",
-            Operator::Xor => "symmetric_difference",
-            Operator::Sub => "difference",
-        }
-    }
+const XOR: Operator = Operator {
+    trait_name: "BitXor",
+    function: "bitxor",
+    operation: "symmetric_difference",
+    in_words: "symmetric difference",
+    sign: "^",
+};
 
-    /// Its sign.
-    fn sign(self) -> &'static str {
-        match self {
-            Operator::And => "&",
-            Operator::Or => "|",
-            Operator::Xor => "^",
-            Operator::Sub => "-",
-        }
-    }
+const SUB: Operator = Operator {
+    trait_name: "Sub",
+    function: "sub",
+    operation: "difference",
+    in_words: "difference",
+    sign: "-",
+};
 
-    /// The operation in words.
-    fn in_words(self) -> &'static str {
-        match self {
-            Operator::Xor => "symmetric difference",
-            _ => self.operation(),
-        }
+/// The five operators, unless they are left out.
+pub(super) fn operators(alloc: Global, planned: &PlannedEnum) -> Text {
+    let mut out = String::new(alloc);
+    if planned.declaration.options.leaves_out_operators {
+        return Ok(out);
     }
+    let name = planned.declaration.name.as_str();
+    for operator in [AND, OR, XOR, SUB] {
+        out.push_str(by_element(alloc, name, operator)?.as_str())?;
+        out.push_str(by_set(alloc, name, operator)?.as_str())?;
+    }
+    out.push_str(complement(alloc, name)?.as_str())?;
+    Ok(out)
 }
 
-/// Appends the five operators, unless they are left out.
-pub(super) fn append_operators(
-    out: &mut String,
-    declaration: &EnumDeclaration,
-) -> Result<(), AllocError> {
-    if declaration.options.leaves_out_operators {
-        return Ok(());
-    }
-    let name = declaration.name.as_str();
-    for operator in [Operator::And, Operator::Or, Operator::Xor, Operator::Sub] {
-        append_by_element(out, name, operator)?;
-        append_by_set(out, name, operator)?;
-    }
-    append_complement(out, name)
-}
-
-/// Appends an operator between two elements.
-fn append_by_element(out: &mut String, name: &str, operator: Operator) -> Result<(), AllocError> {
-    let trait_name = operator.trait_name();
-    let function = operator.function_name();
-    let operation = operator.operation();
-    let sign = operator.sign();
-    let in_words = operator.in_words();
-    write!(
-        out,
+/// An operator between two elements.
+fn by_element(alloc: Global, name: &str, operator: Operator) -> Text {
+    let Operator { trait_name, function, operation, in_words, sign } = operator;
+    format!(
+        in alloc;
         "
 
 /// The {in_words} of the set of the one and that of the other.
@@ -107,15 +87,11 @@ impl std::ops::{trait_name} for {name} {{
     )
 }
 
-/// Appends an operator between an element and a set.
-fn append_by_set(out: &mut String, name: &str, operator: Operator) -> Result<(), AllocError> {
-    let trait_name = operator.trait_name();
-    let function = operator.function_name();
-    let operation = operator.operation();
-    let sign = operator.sign();
-    let in_words = operator.in_words();
-    write!(
-        out,
+/// An operator between an element and a set.
+fn by_set(alloc: Global, name: &str, operator: Operator) -> Text {
+    let Operator { trait_name, function, operation, in_words, sign } = operator;
+    format!(
+        in alloc;
         "
 
 /// The {in_words} of the set of the one and the other.
@@ -135,10 +111,10 @@ impl std::ops::{trait_name}<EnumSet<{name}>> for {name} {{
     )
 }
 
-/// Appends the operator `!`.
-fn append_complement(out: &mut String, name: &str) -> Result<(), AllocError> {
-    write!(
-        out,
+/// The operator `!`.
+fn complement(alloc: Global, name: &str) -> Text {
+    format!(
+        in alloc;
         "
 
 /// The set of all the others.

@@ -1,10 +1,12 @@
 //! The words that lists are made of.
 
-use enumset_derive_plan::{EnumDeclaration, Plan};
+use super::Text;
+use super::layout::{LIST_START, lines, wrapped};
+use crate::source::PlannedEnum;
 use std::alloc::{AllocError, Global};
 
 /// What stands in a list for a variant.
-#[derive(Clone, Copy, Debug, PartialEq, Eq)]
+#[derive(Clone, Copy)]
 pub(super) enum Word {
     /// Its name.
     Variant,
@@ -22,41 +24,46 @@ pub(super) enum Word {
     Name,
 }
 
-/// A word for each variant of an enum.
-pub(super) fn words_of(
-    alloc: Global,
-    word: Word,
-    declaration: &EnumDeclaration,
-    plan: &Plan,
-) -> Result<Vec<String>, AllocError> {
-    let mut words = Vec::new(alloc);
-    for (variant, bit) in declaration.variants.iter().zip(plan.bits.iter()) {
-        words.push(word_of(alloc, word, variant.name.as_str(), *bit)?)?;
+impl Word {
+    /// The word of a variant of this name and with this bit.
+    fn of(self, alloc: Global, name: &str, bit: u32) -> Text {
+        match self {
+            Word::Variant => String::from_str(alloc, name),
+            Word::BitAndVariant => format!(in alloc; "{bit} {name}"),
+            Word::BitArm => format!(in alloc; "Self::{name} => {bit},"),
+            Word::NameArm => format!(in alloc; "Self::{name} => f.write_str(\"{name}\"),"),
+            Word::Bit => format!(in alloc; "{bit} ∷"),
+            Word::Value => format!(in alloc; "variant.{name} ∷"),
+            Word::Name => format!(in alloc; "codes \"{name}\" ∷"),
+        }
     }
-    Ok(words)
-}
 
-/// The list of a clause with such words.
-pub(super) fn listed(
-    alloc: Global,
-    word: Word,
-    declaration: &EnumDeclaration,
-    plan: &Plan,
-) -> Result<Vec<String>, AllocError> {
-    let mut words = words_of(alloc, word, declaration, plan)?;
-    words.push(String::from_str(alloc, "[]")?)?;
-    Ok(words)
-}
+    /// Such a word for each variant of an enum, after these words.
+    pub(super) fn of_each(
+        self,
+        alloc: Global,
+        words: Vec<String>,
+        planned: &PlannedEnum,
+    ) -> Result<Vec<String>, AllocError> {
+        let mut words = words;
+        let variants = planned.declaration.variants.iter();
+        for (variant, bit) in variants.zip(planned.plan.bits.iter()) {
+            words.push(self.of(alloc, variant.name.as_str(), *bit)?)?;
+        }
+        Ok(words)
+    }
 
-/// The word of a variant of this name and with this bit.
-fn word_of(alloc: Global, word: Word, name: &str, bit: u32) -> Result<String, AllocError> {
-    match word {
-        Word::Variant => String::from_str(alloc, name),
-        Word::BitAndVariant => format!(in alloc; "{bit} {name}"),
-        Word::BitArm => format!(in alloc; "Self::{name} => {bit},"),
-        Word::NameArm => format!(in alloc; "Self::{name} => f.write_str(\"{name}\"),"),
-        Word::Bit => format!(in alloc; "{bit} ∷"),
-        Word::Value => format!(in alloc; "variant.{name} ∷"),
-        Word::Name => format!(in alloc; "codes \"{name}\" ∷"),
+    /// The list of a clause with such words, the first in this room.
+    pub(super) fn list(self, alloc: Global, room: usize, planned: &PlannedEnum) -> Text {
+        let mut words = self.of_each(alloc, Vec::new(alloc), planned)?;
+        words.push(String::from_str(alloc, "[]")?)?;
+        wrapped(alloc, LIST_START, room, &words)
+    }
+
+    /// The match with such arms, on lines of their own.
+    pub(super) fn arms(self, alloc: Global, planned: &PlannedEnum) -> Text {
+        let arms = self.of_each(alloc, Vec::new(alloc), planned)?;
+        let arms = lines(alloc, "            ", &arms)?;
+        format!(in alloc; "        match self {{\n{arms}        }}\n")
     }
 }

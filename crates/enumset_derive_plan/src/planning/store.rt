@@ -91,7 +91,7 @@ fn words_of(alloc: Global, bits: &[u32], count: u32) -> Result<Vec<u64>, AllocEr
     ensures bits { IfOk result (λ words. IsTrue (lists_words bits.now words.items)) }
 {
     match bits {
-        [] => vec![in alloc; 0u64; count as usize],
+        [] => Ok(vec![in alloc; 0u64; count as usize]?),
         [bit, rest @ ..] => {
             let mut words = words_of(alloc, rest, count)?;
             words[(*bit / 64) as usize] += 1 << (*bit % 64);
