@@ -1,7 +1,7 @@
 //! The arguments of the program.
 
 use crate::fault::ProgramFault;
-use std::env::{self, Env};
+use std::env::{self, Args, Env};
 use std::io::ErrorKind;
 
 /// The longest name has so many bytes.
@@ -26,7 +26,7 @@ impl Request {
         let _ = arguments.next();
         let crate_name = name_of(arguments.next())?;
         let module_name = name_of(arguments.next())?;
-        let file = file_of(arguments.next(), arguments.next(), arguments.next())?;
+        let file = file_of(&mut arguments)?;
         Ok(Request {
             crate_name,
             module_name,
@@ -59,14 +59,13 @@ fn is_name(text: &str) -> bool {
 }
 
 /// The file that is asked for by the arguments after the names.
-fn file_of(
-    flag: Option<String>,
-    file: Option<String>,
-    more: Option<String>,
-) -> Result<Option<String>, ProgramFault> {
-    match (flag, file, more) {
-        (None, _, _) => Ok(None),
-        (Some(flag), Some(file), None) if flag.as_str() == "-o" => Ok(Some(file)),
-        _ => Err(ProgramFault::Arguments),
+fn file_of(arguments: &mut Args) -> Result<Option<String>, ProgramFault> {
+    let Some(flag) = arguments.next() else {
+        return Ok(None);
+    };
+    let file = arguments.next().ok_or(ProgramFault::Arguments)?;
+    if flag.as_str() != "-o" || arguments.next().is_some() {
+        return Err(ProgramFault::Arguments);
     }
+    Ok(Some(file))
 }

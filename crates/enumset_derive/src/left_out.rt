@@ -11,6 +11,17 @@ pub struct LeftOut {
     pub text: String,
 }
 
+/// Whether an attribute of this name may stand on an enum that derives these names, or on a variant of it.
+pub fn has_meaning(attribute: &str, derives: &[String]) -> bool {
+    match attribute {
+        "repr" | "cfg_attr" | "rustfmt" => false,
+        "serde" => derives
+            .iter()
+            .any(|name| name.ends_with("Serialize") || name.ends_with("Deserialize")),
+        _ => true,
+    }
+}
+
 impl fmt::Display for LeftOut {
     fn fmt<W: fmt::Write>(&self, f: &mut fmt::Formatter<W>) -> fmt::Result {
         let place = self.place;

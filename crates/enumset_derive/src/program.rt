@@ -17,23 +17,35 @@ use std::rt::Files;
 pub fn answer<R: Env + Files + Input + Print + Eprint + AllocGlobal>(
     rt: &R,
 ) -> Result<(), ProgramFault> {
-    let request = Request::read(rt)?;
+    let Request {
+        crate_name,
+        module_name,
+        file,
+    } = Request::read(rt)?;
     let input = read_input(rt.alloc(), rt.reader())?;
     let source = read_source(rt.alloc(), text_of(&input)?)?;
     let module = ModuleName {
-        crate_name: request.crate_name.as_str(),
-        module_name: request.module_name.as_str(),
+        crate_name: crate_name.as_str(),
+        module_name: module_name.as_str(),
     };
     let text = module_text(rt.alloc(), module, &source)?;
     say_left_out(rt, &source);
-    match request.file {
-        None => io::writer(rt)
-            .write_all(text.as_bytes())
-            .map_err(|_| ProgramFault::Writing),
-        Some(file) => match fs::write(rt, file.as_str(), text.as_bytes()) {
-            Ok(()) => Ok(()),
-            Err(_) => Err(ProgramFault::File(file)),
-        },
+    write_module(rt, text.as_str(), file)
+}
+
+/// Writes a text to a file, or to standard output.
+fn write_module<R: Files + Print>(
+    rt: &R,
+    text: &str,
+    file: Option<String>,
+) -> Result<(), ProgramFault> {
+    let Some(file) = file else {
+        let written = io::writer(rt).write_all(text.as_bytes());
+        return written.map_err(|_| ProgramFault::Writing);
+    };
+    match fs::write(rt, file.as_str(), text) {
+        Ok(()) => Ok(()),
+        Err(_) => Err(ProgramFault::File(file)),
     }
 }
 

@@ -3,6 +3,7 @@
 use super::draft::Draft;
 use super::reader::Reader;
 use super::stops::Stop;
+use crate::left_out::has_meaning;
 use crate::tokens::Kind;
 use enumset_derive_plan::{DeriveError, Wanted};
 
@@ -53,9 +54,13 @@ impl<'a> Reader<'a> {
             let read = self.read_options(draft);
             return self.end_attribute(draft, read);
         }
+        let name = self.token.text;
         self.skip_to_attribute_end(0)?;
-        draft.push(self.string(self.text_through(begin.onward))?)?;
-        Ok(())
+        if has_meaning(name, draft.derives.as_slice()) {
+            draft.push(self.string(self.text_through(begin.onward))?)?;
+            return Ok(());
+        }
+        self.note_left_out(begin)
     }
 
     /// Goes on to the end of an attribute, whose derives or options were read.

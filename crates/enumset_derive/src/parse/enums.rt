@@ -25,7 +25,7 @@ impl<'a> Reader<'a> {
         let name = self.string(self.token.text)?;
         self.advance_past_blanks()?;
         self.begin_variants()?;
-        let (variants, last_comments) = self.read_variants()?;
+        let (variants, last_comments) = self.read_variants(draft.derives.as_slice())?;
         let declaration = EnumDeclaration {
             place,
             attributes: draft.attributes,

@@ -143,9 +143,11 @@ impl<'a> Reader<'a> {
         ensures steps { OnOk result (left self.new < left self.old) }
     {
         let begin = self.token;
+        let left_out = self.left_out.len();
         let draft = self.read_attributes()?;
         let visibility = self.read_visibility()?;
         if !draft.is_element_type {
+            self.left_out.truncate(left_out);
             return self.read_other(begin);
         }
         if let Some(fault) = draft.fault {

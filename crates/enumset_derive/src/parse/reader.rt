@@ -96,15 +96,23 @@ impl<'a> Reader<'a> {
         ensures steps { OnOk result (left self.new < left self.old) }
         ensures keeps { left self.new ≤ left self.old }
     {
+        self.note_left_out(begin)?;
+        self.advance()?;
+        if matches!(self.token.kind, Kind::Space) {
+            self.advance()?;
+        }
+        Ok(())
+    }
+
+    /// Notes that the text from a token to the one where the reader is has no meaning here.
+    pub fn note_left_out(&mut self, begin: Token<'a>) -> Result<(), DeriveError>
+        ensures { left self.new ≡ left self.old }
+    {
         let text = self.string(self.text_through(begin.onward))?;
         self.left_out.push(LeftOut {
             place: begin.place,
             text,
         })?;
-        self.advance()?;
-        if matches!(self.token.kind, Kind::Space) {
-            self.advance()?;
-        }
         Ok(())
     }
 

@@ -1,6 +1,7 @@
 //! The variants of an enum.
 
 use super::reader::Reader;
+use crate::left_out::has_meaning;
 use crate::tokens::Kind;
 use enumset_derive_plan::{DeriveError, Discriminant, Fault, Reason, Variant, Wanted};
 
@@ -17,21 +18,25 @@ impl<'a> Reader<'a> {
     ghost use Rattle.std.specs.Prelude.{◌≤◌, ◌<◌, OnOk};
     ghost use Rattle.enumset_derive.specs.Reading.{left};
 
-    /// Reads variants, up to the `}` after them, and the comments after the last one.
-    pub(super) fn read_variants(&mut self) -> Result<(Vec<Variant>, Vec<String>), DeriveError>
+    /// Reads the variants of an enum that derives these names, up to the `}` after them, and the comments after the last
+    /// one.
+    pub(super) fn read_variants(
+        &mut self,
+        derives: &[String],
+    ) -> Result<(Vec<Variant>, Vec<String>), DeriveError>
         ensures keeps { left self.new ≤ left self.old }
     {
         let mut variants = Vec::new(self.alloc);
-        let mut before = self.read_before_variant()?;
+        let mut before = self.read_before_variant(derives)?;
         while before.has_attribute || !self.token.is_mark('}') {
             variants.push(self.read_variant(before.attributes)?)?;
-            before = self.read_before_variant()?;
+            before = self.read_before_variant(derives)?;
         }
         Ok((variants, before.attributes))
     }
 
     /// Reads the comments and the attributes before a variant.
-    fn read_before_variant(&mut self) -> Result<BeforeVariant, DeriveError>
+    fn read_before_variant(&mut self, derives: &[String]) -> Result<BeforeVariant, DeriveError>
         ensures keeps { left self.new ≤ left self.old }
     {
         let mut before = BeforeVariant {
@@ -39,29 +44,40 @@ impl<'a> Reader<'a> {
             has_attribute: false,
         };
         while self.token.is_blank() || self.token.is_mark('#') {
-            let begin = self.token.onward;
-            if self.token.is_mark('#') {
-                self.skip_variant_attribute()?;
-                before.has_attribute = true;
-            }
-            if !matches!(self.token.kind, Kind::Space) {
-                let text = self.string(self.text_through(begin))?;
-                before.attributes.push(text)?;
+            if self.token.is_comment() {
+                before.attributes.push(self.string(self.token.text)?)?;
+            } else if self.token.is_mark('#') {
+                self.read_variant_attribute(derives, &mut before)?;
             }
             self.advance()?;
         }
         Ok(before)
     }
 
-    /// Goes on to the end of an attribute of a variant.
-    fn skip_variant_attribute(&mut self) -> Result<(), DeriveError>
+    /// Reads an attribute of a variant, up to the bracket that ends it.
+    fn read_variant_attribute(
+        &mut self,
+        derives: &[String],
+        before: &mut BeforeVariant,
+    ) -> Result<(), DeriveError>
         ensures keeps { left self.new ≤ left self.old }
     {
+        let begin = self.token;
         self.advance_past_blanks()?;
         if !self.token.is_mark('[') {
             return Err(self.wanted(Wanted::Attribute));
         }
-        self.skip_to_attribute_end(1)
+        self.advance_past_blanks()?;
+        let name = self.token.text;
+        self.skip_to_attribute_end(1)?;
+        before.has_attribute = true;
+        if has_meaning(name, derives) {
+            before
+                .attributes
+                .push(self.string(self.text_through(begin.onward))?)?;
+            return Ok(());
+        }
+        self.note_left_out(begin)
     }
 
     /// Reads a variant, up to the one after it or the `}` after the last one.
