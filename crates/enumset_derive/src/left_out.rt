@@ -15,9 +15,8 @@ pub struct LeftOut {
 pub fn has_meaning(attribute: &str, derives: &[String]) -> bool {
     match attribute {
         "repr" | "cfg_attr" | "rustfmt" => false,
-        "serde" => derives
-            .iter()
-            .any(|name| name.ends_with("Serialize") || name.ends_with("Deserialize")),
+        "serde" => derives.iter().any(|name| name.ends_with("Serialize")
+            || name.ends_with("Deserialize")),
         _ => true,
     }
 }

@@ -10,7 +10,6 @@ use comments::after_slash;
 use enumset_derive_plan::Place;
 use quotes::{after_quote, after_tick};
 use words::{after_bytes_prefix, after_raw_prefix, is_word, split_first};
-
 pub(crate) use words::{before, is_name};
 
 /// What a token is.

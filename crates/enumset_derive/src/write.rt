@@ -98,8 +98,5 @@ fn planned_text(alloc: Global, module: ModuleName, planned: &PlannedEnum) -> Tex
     let display = display(alloc, module, planned)?;
     let operators = operators(alloc, planned)?;
     let json = json(alloc, planned)?;
-    format!(
-        in alloc;
-        "{the_enum}\n\n{element_type}{with_repr}{names}{display}{operators}{json}"
-    )
+    format!(in alloc; "{the_enum}\n\n{element_type}{with_repr}{names}{display}{operators}{json}")
 }

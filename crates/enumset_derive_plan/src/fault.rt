@@ -81,29 +81,24 @@ pub struct OutOfRange {
 /// What is wanted at a place.
 #[derive(Clone, Copy, Debug)]
 pub enum Wanted {
-    /// A name of an enum.
     EnumName,
-    /// `{`, after the name of an enum.
+    /// After the name of an enum.
     Variants,
-    /// A name of a variant, or `}`.
     VariantName,
-    /// `,` or `}`, after a variant.
+    /// After a variant.
     NextVariant,
-    /// `[`, after the `#` of an attribute.
+    /// After `#`.
     Attribute,
-    /// `(`, after the name of an attribute.
+    /// After the name of an attribute.
     Arguments,
-    /// A name of an option, or `)`.
     OptionName,
-    /// `=` and a text in quotes, after the name of an option.
     OptionValue,
-    /// `,` or `)`, after an option.
+    /// After an option.
     NextOption,
-    /// A path, or `)`, among the derives.
     DeriveName,
-    /// `,` or `)`, after a derive.
+    /// After a derive.
     NextDerive,
-    /// An item, after attributes.
+    /// After attributes.
     Item,
 }
 
@@ -116,50 +111,50 @@ impl fmt::Display for Fault {
 impl fmt::Display for Reason {
     fn fmt<W: fmt::Write>(&self, f: &mut fmt::Formatter<W>) -> fmt::Result {
         match self {
-            Reason::NotUtf8 => write!(f, "these bytes are no text in UTF-8"),
-            Reason::UnclosedComment => write!(f, "this comment has no end"),
-            Reason::UnclosedQuote => write!(f, "this quote has no end"),
-            Reason::UnclosedBracket => write!(f, "this bracket has no end"),
             Reason::Wanted(wanted) => write!(f, "wanted: {wanted}"),
-            Reason::NotAnEnum => write!(f, "`EnumSetType` is for enums alone"),
-            Reason::HasParameters => write!(f, "the enum must have no parameters"),
-            Reason::HasFields => write!(f, "a variant must have no fields"),
-            Reason::UnknownOption => write!(f, "there is no such option"),
-            Reason::OldListOption => {
-                write!(f, "`serialize_as_list` is written `serialize_repr = \"list\"`")
-            }
             Reason::OptionTwice(first) => write!(f, "this option was given at {first}"),
-            Reason::UnknownMap => write!(f, "`map` is \"lsb\", \"msb\", \"mask\" or \"compact\""),
-            Reason::UnknownRepresentation => {
-                write!(
-                    f,
-                    "`repr` is \"u8\", \"u16\", \"u32\", \"u64\", \"u128\" or \"array\"; \
-                     over another representation write the element type by hand, as in docs/ELEMENT-TYPES.md"
-                )
-            }
-            Reason::UnknownSerialized => {
-                write!(
-                    f,
-                    "`serialize_repr` is \"u8\", \"u16\", \"u32\", \"u64\", \"u128\", \"array\", \"list\" or \"map\""
-                )
-            }
-            Reason::NotALiteral => write!(f, "a discriminant must be a literal of an integer"),
-            Reason::LiteralTooLarge => {
-                write!(
-                    f,
-                    "a literal past 2^128 - 1 must be a power of two, and not decimal"
-                )
-            }
-            Reason::IntegerMissing => write!(f, "`map = \"msb\"` needs `repr` to be an integer"),
-            Reason::TooManyVariants => write!(f, "an enum may have at most 256 variants"),
             Reason::NameTwice(first) => write!(f, "this name was given at {first}"),
-            Reason::NotAMask => write!(f, "a mask must be a power of two"),
-            Reason::PastGreatest => write!(f, "a bit must be from 0 to 4294967231"),
-            Reason::ImpliedTooLarge => write!(f, "the implied discriminant is past 2^128 - 1"),
-            Reason::PastRepresentation(out) => { write!(f, "`repr` is too small: {out}") }
-            Reason::PastSerialized(out) => { write!(f, "`serialize_repr` is too small: {out}") }
+            Reason::PastRepresentation(out) => write!(f, "`repr` is too small: {out}"),
+            Reason::PastSerialized(out) => write!(f, "`serialize_repr` is too small: {out}"),
             Reason::BitTwice(first) => write!(f, "this bit was taken at {first}"),
             Reason::DiscriminantTwice(first) => write!(f, "this discriminant was taken at {first}"),
+            _ => f.write_str(self.words()),
+        }
+    }
+}
+
+const REPRESENTATIONS: &str =
+    "`repr` is \"u8\", \"u16\", \"u32\", \"u64\", \"u128\" or \"array\"; over another \
+    representation write the element type by hand, as in docs/ELEMENT-TYPES.md";
+
+const FORMS: &str =
+    "`serialize_repr` is \"u8\", \"u16\", \"u32\", \"u64\", \"u128\", \"array\", \"list\" or \"map\"";
+
+impl Reason {
+    /// The text of a reason that has no more to say.
+    fn words(&self) -> &'static str {
+        match self {
+            Reason::NotUtf8 => "these bytes are no text in UTF-8",
+            Reason::UnclosedComment => "this comment has no end",
+            Reason::UnclosedQuote => "this quote has no end",
+            Reason::UnclosedBracket => "this bracket has no end",
+            Reason::NotAnEnum => "`EnumSetType` is for enums alone",
+            Reason::HasParameters => "the enum must have no parameters",
+            Reason::HasFields => "a variant must have no fields",
+            Reason::UnknownOption => "there is no such option",
+            Reason::OldListOption => "`serialize_as_list` is written `serialize_repr = \"list\"`",
+            Reason::UnknownMap => "`map` is \"lsb\", \"msb\", \"mask\" or \"compact\"",
+            Reason::UnknownRepresentation => REPRESENTATIONS,
+            Reason::UnknownSerialized => FORMS,
+            Reason::NotALiteral => "a discriminant must be a literal of an integer",
+            Reason::LiteralTooLarge =>
+                "a literal past 2^128 - 1 must be a power of two, and not decimal",
+            Reason::IntegerMissing => "`map = \"msb\"` needs `repr` to be an integer",
+            Reason::TooManyVariants => "an enum may have at most 256 variants",
+            Reason::NotAMask => "a mask must be a power of two",
+            Reason::PastGreatest => "a bit must be from 0 to 4294967231",
+            Reason::ImpliedTooLarge => "the implied discriminant is past 2^128 - 1",
+            _ => "",
         }
     }
 }
@@ -172,20 +167,19 @@ impl fmt::Display for OutOfRange {
 
 impl fmt::Display for Wanted {
     fn fmt<W: fmt::Write>(&self, f: &mut fmt::Formatter<W>) -> fmt::Result {
-        match self {
-            Wanted::EnumName => write!(f, "a name of an enum"),
-            Wanted::Variants => write!(f, "`{{`"),
-            Wanted::VariantName => write!(f, "a name of a variant, or `}}`"),
-            Wanted::NextVariant => write!(f, "`,` or `}}`"),
-            Wanted::Attribute => write!(f, "`[`"),
-            Wanted::Arguments => write!(f, "`(`"),
-            Wanted::OptionName => write!(f, "a name of an option, or `)`"),
-            Wanted::OptionValue => write!(f, "`=` and a text in quotes"),
-            Wanted::NextOption => write!(f, "`,` or `)`"),
-            Wanted::DeriveName => write!(f, "a path, or `)`"),
-            Wanted::NextDerive => write!(f, "`,` or `)`"),
-            Wanted::Item => write!(f, "an item"),
-        }
+        f.write_str(match self {
+            Wanted::EnumName => "a name of an enum",
+            Wanted::Variants => "`{`",
+            Wanted::VariantName => "a name of a variant, or `}`",
+            Wanted::NextVariant => "`,` or `}`",
+            Wanted::Attribute => "`[`",
+            Wanted::Arguments => "`(`",
+            Wanted::OptionName => "a name of an option, or `)`",
+            Wanted::OptionValue => "`=` and a text in quotes",
+            Wanted::NextOption | Wanted::NextDerive => "`,` or `)`",
+            Wanted::DeriveName => "a path, or `)`",
+            Wanted::Item => "an item",
+        })
     }
 }
 

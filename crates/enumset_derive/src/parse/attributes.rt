@@ -64,7 +64,11 @@ impl<'a> Reader<'a> {
     }
 
     /// Goes on to the end of an attribute, whose derives or options were read.
-    fn end_attribute(&mut self, draft: &mut Draft, read: Result<(), Stop>) -> Result<(), DeriveError>
+    fn end_attribute(
+        &mut self,
+        draft: &mut Draft,
+        read: Result<(), Stop>,
+    ) -> Result<(), DeriveError>
         ensures keeps { left self.new ≤ left self.old }
     {
         match read {

@@ -57,7 +57,10 @@ impl Brackets {
     /// An end without a beginning is no fault.
     fn end(&mut self, mark: char) -> Result<(), DeriveError> {
         match self.open.pop() {
-            Some(bracket) if bracket.end != mark => fault_at(bracket.place, Reason::UnclosedBracket),
+            Some(bracket) if bracket.end != mark => fault_at(
+                bracket.place,
+                Reason::UnclosedBracket,
+            ),
             _ => Ok(()),
         }
     }

@@ -157,13 +157,15 @@ impl<'a> Reader<'a> {
             }
             Key::Representation => {
                 let representation = representation_named(value);
-                settings.representation =
-                    Some(representation.ok_or(self.noted(Reason::UnknownRepresentation))?);
+                settings.representation = Some(representation.ok_or(self.noted(
+                    Reason::UnknownRepresentation,
+                ))?);
             }
             Key::Serialized => {
                 let serialized = serialized_named(value);
-                settings.serialized =
-                    Some(serialized.ok_or(self.noted(Reason::UnknownSerialized))?);
+                settings.serialized = Some(serialized.ok_or(self.noted(
+                    Reason::UnknownSerialized,
+                ))?);
             }
             _ => settings.crate_name = Some(self.string(value)?),
         }

@@ -16,7 +16,8 @@ pub(super) fn split_first(text: &str) -> Option<(char, &str)>
 
 /// What stands in a text before the rest of it.
 pub(crate) fn before<'a>(text: &'a str, rest: &str) -> &'a str {
-    text.get(..text.len().saturating_sub(rest.len())).unwrap_or("")
+    text.get(..text.len().saturating_sub(rest.len()))
+        .unwrap_or("")
 }
 
 /// Whether a character may stand in a word: a letter, a digit, `_`, or a character past ASCII.
@@ -30,9 +31,8 @@ pub(crate) fn is_name(text: &str) -> bool {
     match split_first(name) {
         Some((first, _)) => {
             !first.is_ascii_digit()
-                && name
-                    .chars()
-                    .all(|character| character == '_' || character.is_ascii_alphanumeric())
+                && name.chars().all(|character| character == '_'
+                    || character.is_ascii_alphanumeric())
         }
         None => false,
     }

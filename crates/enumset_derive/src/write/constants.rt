@@ -28,8 +28,7 @@ pub(super) fn constants(alloc: Global, plan: &Plan) -> Text {
     };
     let bit_width = plan.bit_width;
     let variant_count = plan.variant_count;
-    format!(
-        in alloc;
+    format!(in alloc;
         "    ghost ALL_BITS = {{ {bits_in_clause} }};
 
     const ALL_BITS: {representation} = {all_bits};

@@ -20,8 +20,7 @@ pub(super) fn display(alloc: Global, module: ModuleName, planned: &PlannedEnum) 
     } else {
         Word::NameArm.arms(alloc, planned)?
     };
-    format!(
-        in alloc;
+    format!(in alloc;
         "
 
 /// The name of the variant.

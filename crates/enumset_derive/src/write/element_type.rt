@@ -25,8 +25,7 @@ pub(super) fn element_type(alloc: Global, module: ModuleName, planned: &PlannedE
         Form::InPlace => format!(in alloc; "lawful_in_place the_type ({law} the_type _ tt)")?,
         Form::ByDiscriminant | Form::ByArms => format!(in alloc; "{law} the_type _ tt")?,
     };
-    format!(
-        in alloc;
+    format!(in alloc;
         "impl EnumSetType for {name} {{
 {uses}
     type Repr = {representation};
@@ -62,8 +61,7 @@ fn uses(alloc: Global, module: ModuleName, planned: &PlannedEnum, form: Form) ->
         Form::InPlace => ("in_place", ", lawful_in_place"),
         Form::ByDiscriminant | Form::ByArms => ("with_bits", ""),
     };
-    let mut out = format!(
-        in alloc;
+    let mut out = format!(in alloc;
         "{lists}    ghost use Rattle.enumset_sets.specs.Laws.Elements.{{{elements}, {law}{place}}};
     ghost use Rattle.{crate_name}.specs.contracts.{module_name}.{name}.{{the_type}};
 "

@@ -81,7 +81,7 @@ fn imports(alloc: Global, facade: &str, names: BTreeSet<String>) -> Text {
 
 /// The import of names on one line, or on several, or of all names.
 fn list(alloc: Global, facade: &str, names: &[String]) -> Text {
-    if names.iter().any(|name| name.as_str() == "*") {
+    if names.iter().any(|name| name.as_str().contains('*')) {
         return format!(in alloc; "use {facade}::*;");
     }
     let list = joined(alloc, names)?;

@@ -8,7 +8,8 @@ use crate::source::PlannedEnum;
 use std::alloc::Global;
 
 /// What the calls of a number import.
-const NUMBER_USES: &str = "    ghost use Rattle.std.specs.Prelude.{◌≡◌, ◌↔◌, IsOk, IfOk, IfErr, IsTrue};
+const NUMBER_USES: &str =
+    "    ghost use Rattle.std.specs.Prelude.{◌≡◌, ◌↔◌, IsOk, IfOk, IfErr, IsTrue};
     ghost use Rattle.enumset_repr.specs.BitSet.{is_subset, below};
     ghost use Rattle.enumset_repr.specs.Number.{number};
     ghost use Rattle.enumset_sets.specs.Elements.{valid_bits};
@@ -41,8 +42,7 @@ pub(super) fn json(alloc: Global, planned: &PlannedEnum) -> Text {
         planned.declaration.options.denies_unknown,
     )?;
     let unknown = "Rattle.enumset.specs.declared.set_json.unknown.Unknown.TheVariants";
-    format!(
-        in alloc;
+    format!(in alloc;
         "
 
 impl {name} {{
@@ -61,8 +61,7 @@ fn uses(alloc: Global, form: JsonForm) -> Text {
     match form {
         JsonForm::Number(_) => String::from_str(alloc, NUMBER_USES),
         JsonForm::Words(_) => String::from_str(alloc, WORDS_USES),
-        JsonForm::List | JsonForm::Map => format!(
-            in alloc;
+        JsonForm::List | JsonForm::Map => format!(in alloc;
             "    ghost use Rattle.std.specs.Prelude.{{◌≡◌, IfOk, IfErr}};
     ghost use Rattle.serde_json.specs.View.{{view}};
     ghost use Rattle.enumset.specs.Names.{{names_of}};

@@ -20,8 +20,7 @@ pub(super) fn from_json(alloc: Global, name: &str, form: JsonForm, denies_unknow
     };
     let read_by = read_by(alloc, name, form)?;
     let unknown = if denies_unknown { "Refuse" } else { "Drop" };
-    let mut out = format!(
-        in alloc;
+    let mut out = format!(in alloc;
         "    /// The set that `to_json` writes so. {becomes}
     ///
     /// The faults are those of [`set_json::from_{call}`], in their order. It takes no memory.

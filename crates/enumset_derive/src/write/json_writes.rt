@@ -9,8 +9,7 @@ pub(super) fn to_json(alloc: Global, name: &str, form: JsonForm) -> Text {
     let doc = doc(alloc, form)?;
     let promise = promise(alloc, name, form)?;
     let call = form.call_name();
-    let mut out = format!(
-        in alloc;
+    let mut out = format!(in alloc;
         "{doc}
     pub fn to_json(
         alloc: std::alloc::Global,
@@ -31,19 +30,18 @@ pub(super) fn to_json(alloc: Global, name: &str, form: JsonForm) -> Text {
 fn doc(alloc: Global, form: JsonForm) -> Text {
     let what = match form {
         JsonForm::Number(integer) => {
-            return format!(
-                in alloc;
+            return format!(in alloc;
                 "    /// The set's number, which JSON takes as a `{integer}`.
     ///
     /// The only fault is [`set_json::JsonFault::TooWide`], of a member that is past its bits. It takes no memory."
             );
         }
         JsonForm::Words(_) => "array of the set's words of 64 bits, the lowest first.",
-        JsonForm::List => "array of the names of the set's members, in ascending order of their bits.",
+        JsonForm::List =>
+            "array of the names of the set's members, in ascending order of their bits.",
         JsonForm::Map => "object with the name of each of the set's members and `true`.",
     };
-    format!(
-        in alloc;
+    format!(in alloc;
         "    /// The {what} The only fault is
     /// [`set_json::JsonFault::OutOfMemory`]."
     )
@@ -55,20 +53,17 @@ fn promise(alloc: Global, name: &str, form: JsonForm) -> Text {
     match form {
         JsonForm::Number(integer) => {
             let width = integer.width();
-            format!(
-                in alloc;
+            format!(in alloc;
                 "        ensures fits {{ IsOk result ↔ IsTrue (is_subset set.now (below {width})) }}
         ensures value {{ IfOk result (λ value. view value ≡ number_value (number set.now)) }}
         ensures fault {{ IfErr result (λ fault. fault ≡ TooWide) }}"
             )
         }
-        JsonForm::Words(count) => format!(
-            in alloc;
+        JsonForm::Words(count) => format!(in alloc;
             "        ensures value {{ IfOk result (λ value. view value ≡ words_value (words set.now {count})) }}
         ensures fault {{ IfErr result (λ fault. fault ≡ OutOfMemory) }}"
         ),
-        JsonForm::List | JsonForm::Map => format!(
-            in alloc;
+        JsonForm::List | JsonForm::Map => format!(in alloc;
             "        ensures value {{ IfOk result (λ value. view value ≡ {call}_value
             (names_of ⟦<{name} as EnumSetType>⟧.elements ⟦<{name} as EnumSetNames>⟧.names) set.now) }}
         ensures fault {{ IfErr result (λ fault. fault ≡ OutOfMemory) }}"

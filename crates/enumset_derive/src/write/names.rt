@@ -31,8 +31,7 @@ pub(super) fn names(alloc: Global, planned: &PlannedEnum) -> Text {
     let name = &planned.declaration.name;
     let names = Word::Name.list(alloc, 80, planned)?;
     let call = names_of(alloc, planned)?;
-    format!(
-        in alloc;
+    format!(in alloc;
         "
 
 impl EnumSetNames for {name} {{
@@ -55,8 +54,7 @@ pub(super) fn with_repr(alloc: Global, planned: &PlannedEnum) -> Text {
         return Ok(String::new(alloc));
     }
     let name = &planned.declaration.name;
-    format!(
-        in alloc;
+    format!(in alloc;
         "
 
 impl EnumSetTypeWithRepr for {name} {{

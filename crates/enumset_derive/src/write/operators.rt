@@ -64,9 +64,14 @@ pub(super) fn operators(alloc: Global, planned: &PlannedEnum) -> Text {
 
 /// An operator between two elements.
 fn by_element(alloc: Global, name: &str, operator: Operator) -> Text {
-    let Operator { trait_name, function, operation, in_words, sign } = operator;
-    format!(
-        in alloc;
+    let Operator {
+        trait_name,
+        function,
+        operation,
+        in_words,
+        sign,
+    } = operator;
+    format!(in alloc;
         "
 
 /// The {in_words} of the set of the one and that of the other.
@@ -89,9 +94,14 @@ impl std::ops::{trait_name} for {name} {{
 
 /// An operator between an element and a set.
 fn by_set(alloc: Global, name: &str, operator: Operator) -> Text {
-    let Operator { trait_name, function, operation, in_words, sign } = operator;
-    format!(
-        in alloc;
+    let Operator {
+        trait_name,
+        function,
+        operation,
+        in_words,
+        sign,
+    } = operator;
+    format!(in alloc;
         "
 
 /// The {in_words} of the set of the one and the other.
@@ -113,8 +123,7 @@ impl std::ops::{trait_name}<EnumSet<{name}>> for {name} {{
 
 /// The operator `!`.
 fn complement(alloc: Global, name: &str) -> Text {
-    format!(
-        in alloc;
+    format!(in alloc;
         "
 
 /// The set of all the others.
