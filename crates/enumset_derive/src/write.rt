@@ -56,6 +56,7 @@ pub fn module_text(
     for (place, item) in items.iter().enumerate() {
         match item {
             Item::Other(text) => {
+                let last = if out.ends_with('\n') { None } else { last };
                 out.push_str(text_between(last, text.as_str(), items.get(place + 1)))?;
             }
             Item::Imports(_) => {
@@ -71,7 +72,8 @@ pub fn module_text(
     Ok(out)
 }
 
-/// A text between two items: an enum has an empty line after imports and after another enum.
+/// A text between two items: an enum has an empty line after imports and after another enum. Only the first imports have
+/// a text, so `last` is none after others.
 fn text_between<'a>(last: Option<&Item>, text: &'a str, next: Option<&Item>) -> &'a str {
     let has_empty_line = text.chars().filter(|c| *c == '\n').count() >= 2;
     match (last, next) {
