@@ -55,7 +55,7 @@ impl<'a> Reader<'a> {
             return self.end_attribute(draft, read);
         }
         let name = self.token.text;
-        self.skip_to_attribute_end(0)?;
+        self.skip_to(']', 0)?;
         if has_meaning(name, draft.derives.as_slice()) {
             draft.push(self.string(self.text_through(begin.onward))?)?;
             return Ok(());
@@ -76,7 +76,7 @@ impl<'a> Reader<'a> {
             Err(Stop::Noted(fault)) => draft.note(fault),
             Err(Stop::Error(error)) => return Err(error),
         }
-        self.skip_to_attribute_end(0)
+        self.skip_to(']', 0)
     }
 
     /// Reads a visibility, as `pub` or `pub(crate)`, if there is one.
@@ -90,20 +90,10 @@ impl<'a> Reader<'a> {
         self.advance_past_blanks()?;
         if self.token.is_mark('(') {
             let begin = self.token.onward;
-            self.skip_to_bracket_end()?;
+            self.skip_to(')', 0)?;
             visibility.push_str(self.text_through(begin))?;
             self.advance_past_blanks()?;
         }
         Ok(visibility)
-    }
-
-    /// Goes on to the end of the brackets that begin here, which stand in no others.
-    fn skip_to_bracket_end(&mut self) -> Result<(), DeriveError>
-        ensures keeps { left self.new ≤ left self.old }
-    {
-        while self.depth() > 0 {
-            self.advance()?;
-        }
-        Ok(())
     }
 }

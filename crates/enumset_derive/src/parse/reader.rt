@@ -81,11 +81,11 @@ impl<'a> Reader<'a> {
         self.brackets.innermost().unwrap_or(self.token.place)
     }
 
-    /// Goes on to the end of the attribute that the reader is in, which itself is in so many brackets.
-    pub fn skip_to_attribute_end(&mut self, depth: usize) -> Result<(), DeriveError>
+    /// Goes on to a mark that stands in so many brackets, unless the reader is at one.
+    pub fn skip_to(&mut self, mark: char, depth: usize) -> Result<(), DeriveError>
         ensures { left self.new ≤ left self.old }
     {
-        while !self.token.is_mark(']') || self.depth() != depth {
+        while !self.token.is_mark(mark) || self.depth() != depth {
             self.advance()?;
         }
         Ok(())

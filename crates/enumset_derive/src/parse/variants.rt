@@ -69,7 +69,7 @@ impl<'a> Reader<'a> {
         }
         self.advance_past_blanks()?;
         let name = self.token.text;
-        self.skip_to_attribute_end(1)?;
+        self.skip_to(']', 1)?;
         before.has_attribute = true;
         if has_meaning(name, derives) {
             before

@@ -1,6 +1,6 @@
 use Rattle.std.proofs.Common.{◌≤◌}
 use Rattle.enumset_derive.specs.Reading.{left}
-use Rattle.enumset_derive.proofs.parse.reader.Reader.skip_to_attribute_end.Given as goal
+use Rattle.enumset_derive.proofs.parse.reader.Reader.skip_to.Given as goal
 
 -- each turn goes on in the text
 abbrev pub invariant-loop-self : goal.invariant-loop-self
