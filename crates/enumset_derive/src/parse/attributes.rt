@@ -60,7 +60,7 @@ impl<'a> Reader<'a> {
             draft.push(self.string(self.text_through(begin.onward))?)?;
             return Ok(());
         }
-        self.note_left_out(begin)
+        self.note_left_out(begin.place, self.text_through(begin.onward))
     }
 
     /// Goes on to the end of an attribute, whose derives or options were read.

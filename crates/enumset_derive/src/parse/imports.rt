@@ -81,7 +81,9 @@ impl<'a> Reader<'a> {
                 return self.read_tree();
             }
         }
-        self.skip_item()?;
+        if !self.is_at_end() {
+            self.skip_item()?;
+        }
         Ok(None)
     }
 

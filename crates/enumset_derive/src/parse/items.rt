@@ -55,6 +55,7 @@ impl<'a> Reader<'a> {
             }
             if self.text_through(begin.onward) == "#![no_std]" {
                 head.push_str(before(rest, begin.onward))?;
+                self.advance()?;
                 self.leave_out(begin)?;
                 rest = self.token.onward;
             } else {
@@ -148,6 +149,9 @@ impl<'a> Reader<'a> {
         let visibility = self.read_visibility()?;
         if !draft.is_element_type {
             self.left_out.truncate(left_out);
+            if self.is_at_end() {
+                return Ok(Found::Other);
+            }
             return self.read_other(begin);
         }
         if let Some(fault) = draft.fault {
@@ -164,36 +168,26 @@ impl<'a> Reader<'a> {
 
     /// Goes on past an item that is no enum, from its keyword on. One that has no meaning here is left out.
     fn read_other(&mut self, begin: Token<'a>) -> Result<Found, DeriveError>
-        ensures keeps { left self.new ≤ left self.old }
+        ensures steps { OnOk result (left self.new < left self.old) }
     {
-        if !self.is_extern_crate() {
-            self.skip_item()?;
-            return Ok(Found::Other);
-        }
-        self.skip_to_item_end()?;
-        if self.is_at_end() {
+        let is_crate = self.is_extern_crate();
+        self.skip_item()?;
+        if !is_crate {
             return Ok(Found::Other);
         }
         self.leave_out(begin)?;
         Ok(Found::Nothing)
     }
 
-    /// Goes on past an item that goes through.
+    /// Goes on past an item that goes through, of which the reader is at a token.
     pub(super) fn skip_item(&mut self) -> Result<(), DeriveError>
+        ensures steps { OnOk result (left self.new < left self.old) }
         ensures keeps { left self.new ≤ left self.old }
     {
-        self.skip_to_item_end()?;
-        if !self.is_at_end() {
-            self.advance()?;
-        }
-        Ok(())
-    }
-
-    /// Goes on to the last token of an item that goes through.
-    fn skip_to_item_end(&mut self) -> Result<(), DeriveError>
-        ensures keeps { left self.new ≤ left self.old }
-    {
-        while !self.is_at_end() && !self.ends_item() {
+        let mut has_ended = self.ends_item();
+        self.advance()?;
+        while !has_ended && !self.is_at_end() {
+            has_ended = self.ends_item();
             self.advance()?;
         }
         Ok(())

@@ -91,28 +91,23 @@ impl<'a> Reader<'a> {
         Ok(())
     }
 
-    /// Leaves out the text from a token to the one where the reader is, and the space after it.
+    /// Leaves out the text from a token to before the one where the reader is, and the space after it.
     pub fn leave_out(&mut self, begin: Token<'a>) -> Result<(), DeriveError>
-        ensures steps { OnOk result (left self.new < left self.old) }
         ensures keeps { left self.new ≤ left self.old }
     {
-        self.note_left_out(begin)?;
-        self.advance()?;
+        self.note_left_out(begin.place, before(begin.onward, self.token.onward))?;
         if matches!(self.token.kind, Kind::Space) {
             self.advance()?;
         }
         Ok(())
     }
 
-    /// Notes that the text from a token to the one where the reader is has no meaning here.
-    pub fn note_left_out(&mut self, begin: Token<'a>) -> Result<(), DeriveError>
+    /// Notes that a text has no meaning here.
+    pub fn note_left_out(&mut self, place: Place, text: &str) -> Result<(), DeriveError>
         ensures { left self.new ≡ left self.old }
     {
-        let text = self.string(self.text_through(begin.onward))?;
-        self.left_out.push(LeftOut {
-            place: begin.place,
-            text,
-        })?;
+        let text = self.string(text)?;
+        self.left_out.push(LeftOut { place, text })?;
         Ok(())
     }
 

@@ -77,12 +77,13 @@ impl<'a> Reader<'a> {
                 .push(self.string(self.text_through(begin.onward))?)?;
             return Ok(());
         }
-        self.note_left_out(begin)
+        self.note_left_out(begin.place, self.text_through(begin.onward))
     }
 
     /// Reads a variant, up to the one after it or the `}` after the last one.
     fn read_variant(&mut self, attributes: Vec<String>) -> Result<Variant, DeriveError>
         ensures steps { OnOk result (left self.new < left self.old) }
+        ensures keeps { left self.new ≤ left self.old }
     {
         if !self.token.is_name() {
             return Err(self.wanted(Wanted::VariantName));
