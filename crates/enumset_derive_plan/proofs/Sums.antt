@@ -1,10 +1,10 @@
 -- Numbers and words of different bits.
-use Rattle.std.proofs.Common.{◌≡◌, ◌==◌, ◌<◌, ◌≤◌, ℕ, suc, zero, ◌+◌, ◌-◌, ◌*◌, ◌/◌, ◌%◌, ◌^◌, Bool, true, false, not, cond, List, [], ◌∷◌, length, get_or, set, drop, slice_index_or, replicate, sum_by, refl, ap, sym, subst, ◌∙◌, arith, eqb-true, eq-eqb, true≢false, inl, inr}
+use Rattle.std.proofs.Common.{◌≡◌, ◌==◌, ◌<◌, ◌≤◌, ℕ, suc, zero, ◌+◌, ◌-◌, ◌*◌, ◌/◌, ◌%◌, ◌^◌, true, false, not, cond, List, [], ◌∷◌, length, get_or, set, take, drop, slice_index_or, replicate, sum_by, refl, ap, sym, subst, ◌∙◌, arith, eqb-true, eq-eqb, true≢false, inl, inr}
 use Rattle.std.specs.Prelude.{nat_lt}
 use Rattle.std.proofs.Math.Pow.{pow-lt}
 use Rattle.std.proofs.lemmas.Bool.{and_parts, and_from, or_parts, or_cases, not-true}
 use Rattle.std.proofs.lemmas.Bool.Decides.{nat_tests}
-use Rattle.std.proofs.lemmas.List.{get_or-set_same}
+use Rattle.std.proofs.lemmas.List.{get_or-set_same, take_rest}
 use Rattle.std.proofs.lemmas.List.Sums.{sum_by-cons}
 use Rattle.enumset_repr.specs.BitSet.{is_in, from_list, below}
 use Rattle.enumset_repr.specs.Number.{number, is_distinct, lists_bits}
@@ -22,23 +22,18 @@ in_below q w (b ∷ bs) low one = elim (or_cases (q == b) _ one) [
 ]
 
 -- the sum of different powers below 2 ^ w is below 2 ^ w
-pub sum_below : (w : ℕ) (bs : List ℕ) → is_distinct bs ≡ true → one_past_all bs ≤ w → sum_by (λ b. 2 ^ b) bs < 2 ^ w
+sum_below : (w : ℕ) (bs : List ℕ) → is_distinct bs ≡ true → one_past_all bs ≤ w → sum_by (λ b. 2 ^ b) bs < 2 ^ w
 sum_below w bs apart low =
     let n = sum_by (λ b. 2 ^ b) bs in
     let is = bits_listed bs n (and_from _ _ apart (eq-eqb n n refl)) in
     let within = contains-is_subset (from_list bs) (below w) (λ q one. contains-below w q ∙ in_below q w bs low (sym (contains-from_list bs q) ∙ one)) in
     subst (λ m. m < 2 ^ w) (ap number (sym is) ∙ number-bits n) (number-within (from_list bs) w within)
 
--- the first number of a list, and the rest
-pub head_rest : (bs : List ℕ) → 1 ≤ length bs → bs ≡ slice_index_or bs 0 0 ∷ drop 1 bs
-head_rest [] some = absurd (omega (arith, some))
-head_rest (b ∷ bs) some = refl
-
 -- a shift of 1 within a type
-pub shift_128 : (b : ℕ) → b < 128 → (1 * 2 ^ b) % 340282366920938463463374607431768211456 ≡ 2 ^ b
+shift_128 : (b : ℕ) → b < 128 → (1 * 2 ^ b) % 340282366920938463463374607431768211456 ≡ 2 ^ b
 shift_128 b small = omega (arith, pow-lt {i = b} {j = 128} small)
 
-pub shift_64 : (b : ℕ) → b < 64 → (1 * 2 ^ b) % 18446744073709551616 ≡ 2 ^ b
+shift_64 : (b : ℕ) → b < 64 → (1 * 2 ^ b) % 18446744073709551616 ≡ 2 ^ b
 shift_64 b small = omega (arith, pow-lt {i = b} {j = 64} small)
 
 -- ---- words
@@ -102,26 +97,31 @@ lists_words-cons (n ∷ ns) bs (suc k) r b at small within new lists =
     let later : nat_lt b 64 ≡ false = grind (arith, nat_tests, at) in
     rw later (and_from _ _ parts.0 (lists_words-cons ns (in_later_words bs) k r (b - 64) (omega (arith, at)) small (omega (arith, within)) (out_of_later bs b later new) parts.1))
 
--- the words of a list, with one bit more
-abbrev pub with_bit : List ℕ → ℕ → List ℕ
-with_bit ns b = set ns (b / 64) (get_or ns (b / 64) 0 + (1 * 2 ^ (b % 64)) % 18446744073709551616)
-
-pub word_within : (b n : ℕ) (bs : List ℕ) → one_past_all (b ∷ bs) ≤ 64 * n → b / 64 < n
-word_within b n bs low = omega (arith, low)
-
-pub with_bit_lists : (b : ℕ) (bs ns : List ℕ) → is_distinct (b ∷ bs) ≡ true → one_past_all (b ∷ bs) ≤ 64 * length ns → lists_words bs ns ≡ true → lists_words (b ∷ bs) (with_bit ns b) ≡ true
-with_bit_lists b bs ns apart low lists =
-    let small : b % 64 < 64 = omega arith in
-    let at : b ≡ 64 * (b / 64) + b % 64 = omega arith in
-    rw (shift_64 (b % 64) small)
-    (lists_words-cons ns bs (b / 64) (b % 64) b at small (word_within b (length ns) bs low) (not-true _ (and_parts (not (is_in b bs)) (is_distinct bs) apart).0) lists)
-
-pub with_bit_fits : (b : ℕ) (bs ns : List ℕ) → is_distinct (b ∷ bs) ≡ true → one_past_all (b ∷ bs) ≤ 64 * length ns → lists_words bs ns ≡ true → get_or ns (b / 64) 0 + (1 * 2 ^ (b % 64)) % 18446744073709551616 < 2 ^ 64
-with_bit_fits b bs ns apart low lists =
-    omega (arith, word_fits (with_bit ns b) (b ∷ bs) (b / 64) (with_bit_lists b bs ns apart low lists), get_or-set_same ns (b / 64) (get_or ns (b / 64) 0 + (1 * 2 ^ (b % 64)) % 18446744073709551616) 0 (word_within b (length ns) bs low))
-
 -- what is read within a list does not depend on what is read past it
-pub read_within : (ns : List ℕ) (k x : ℕ) → k < length ns → x ≡ get_or ns k x → x ≡ get_or ns k 0
+read_within : (ns : List ℕ) (k x : ℕ) → k < length ns → x ≡ get_or ns k x → x ≡ get_or ns k 0
 read_within [] k x within read = absurd (omega (arith, within))
 read_within (n ∷ ns) zero x within read = read
 read_within (n ∷ ns) (suc k) x within read = read_within ns k x (omega (arith, within)) read
+
+-- the first of some bits is put into the words of the rest
+abbrev pub put : List ℕ → List ℕ → ℕ → ℕ
+put bs ns x = x + (1 * 2 ^ (slice_index_or bs 0 0 % 64)) % 18446744073709551616
+
+pub put_bit : (bs ns : List ℕ) (n x : ℕ) → 1 ≤ length bs → is_distinct bs ≡ true → one_past_all bs ≤ 64 * n → length ns ≡ n → lists_words (take (length bs - 1) (drop 1 bs)) ns ≡ true → x ≡ get_or ns (slice_index_or bs 0 0 / 64) x → (put bs ns x < 2 ^ 64) × (lists_words bs (set ns (slice_index_or bs 0 0 / 64) (put bs ns x)) ≡ true)
+put_bit [] ns n x some apart low count lists read = absurd (omega (arith, some))
+put_bit (b ∷ bs) ns n x some apart low count lists read =
+    let k = b / 64 in
+    let small : b % 64 < 64 = omega arith in
+    let at : b ≡ 64 * k + b % 64 = omega arith in
+    let within : k < length ns = omega (arith, low, count) in
+    let rest : lists_words bs ns ≡ true = subst (λ ds. lists_words ds ns ≡ true) (take_rest (b ∷ bs) 1) lists in
+    let sum : put (b ∷ bs) ns x ≡ get_or ns k 0 + 2 ^ (b % 64) = omega (arith, read_within ns k x within read, shift_64 (b % 64) small) in
+    let listed : lists_words (b ∷ bs) (set ns k (put (b ∷ bs) ns x)) ≡ true = rw sum (lists_words-cons ns bs k (b % 64) b at small within (not-true _ (and_parts (not (is_in b bs)) (is_distinct bs) apart).0) rest) in
+    (omega (arith, word_fits (set ns k (put (b ∷ bs) ns x)) (b ∷ bs) k listed, get_or-set_same ns k (put (b ∷ bs) ns x) 0 within), listed)
+
+-- the first of some bits is added to the number of the rest
+pub sum_fits : (bs : List ℕ) (n : ℕ) → 1 ≤ length bs → is_distinct bs ≡ true → one_past_all bs ≤ 128 → n ≡ sum_by (λ b. 2 ^ b) (take (length bs - 1) (drop 1 bs)) → n + (1 * 2 ^ slice_index_or bs 0 0) % 340282366920938463463374607431768211456 < 2 ^ 128
+sum_fits [] n some apart low sum = absurd (omega (arith, some))
+sum_fits (b ∷ bs) n some apart low sum =
+    let rest : n ≡ sum_by (λ d. 2 ^ d) bs = sum ∙ ap (λ ds. sum_by (λ d. 2 ^ d) ds) (take_rest (b ∷ bs) 1) in
+    omega (arith, rest, sum_below 128 (b ∷ bs) apart low, sum_by-cons (λ d. 2 ^ d) b bs, shift_128 b (omega (arith, low)))

@@ -12,54 +12,41 @@ pub struct Fault {
     pub reason: Reason,
 }
 
-/// What is wrong.
+/// What is wrong. What `Display` writes of each says more.
 #[derive(Clone, Copy, Debug)]
 pub enum Reason {
     // of reading
-    /// The bytes here are no text in UTF-8.
     NotUtf8,
-    /// A block comment has no end.
     UnclosedComment,
-    /// A text or a character in quotes has no end.
     UnclosedQuote,
     /// A bracket has no end, or another end.
     UnclosedBracket,
-    /// Something else is wanted here.
     Wanted(Wanted),
     /// `EnumSetType` is derived on something other than an enum.
     NotAnEnum,
-    /// The enum has parameters.
     HasParameters,
-    /// The variant has fields.
     HasFields,
-    /// `#[enumset(..)]` has no such option.
     UnknownOption,
     /// The option is `serialize_as_list`, the older name of a form in JSON.
     OldListOption,
     /// The option was given before, there.
     OptionTwice(Place),
-    /// `map` has no such value.
     UnknownMap,
-    /// `repr` has no such value.
     UnknownRepresentation,
-    /// `serialize_repr` has no such value.
     UnknownSerialized,
     /// The discriminant is no literal of an integer.
     NotALiteral,
     /// The literal is past 2^128 - 1, and is no power of two in hexadecimal, octal or binary digits.
     LiteralTooLarge,
     // of planning
-    /// `map = "msb"` stands without a `repr` that is an integer.
     IntegerMissing,
     /// The enum has more than 256 variants. The place is that of variant 257.
     TooManyVariants,
     /// The variant has the name of one before, there.
     NameTwice(Place),
-    /// The discriminant is no power of two, so it is no mask.
     NotAMask,
     /// The discriminant, or the bit of which it is the mask, is not from 0 to 4294967231.
     PastGreatest,
-    /// The implied discriminant is past 2^128 - 1.
     ImpliedTooLarge,
     /// The bit is not below the width of the integer that `repr` names.
     PastRepresentation(OutOfRange),
