@@ -46,41 +46,43 @@ pub fn module_text(
 ) -> Result<String, AllocError> {
     let items = source.items.as_slice();
     let imports = imports_of(alloc, items)?;
-    let mut imports = imports.as_str();
     let mut out = source.head.clone()?;
     if !items.iter().any(is_imports) && items.iter().any(is_enum) {
-        out.push_str(imports)?;
+        out.push_str(imports.as_str())?;
         out.push_str("\n\n")?;
     }
-    let mut last = None;
+    let mut has_imports = false;
+    let mut is_after_item = false;
     for (place, item) in items.iter().enumerate() {
         match item {
             Item::Other(text) => {
-                let last = if out.ends_with('\n') { None } else { last };
-                out.push_str(text_between(last, text.as_str(), items.get(place + 1)))?;
+                let is_before_enum = matches!(items.get(place + 1), Some(Item::Enum(_)));
+                if is_after_item && is_before_enum && is_narrow(text.as_str()) {
+                    out.push_str("\n\n")?;
+                } else {
+                    out.push_str(text.as_str())?;
+                }
+                is_after_item = false;
             }
             Item::Imports(_) => {
-                out.push_str(imports)?;
-                imports = "";
+                if !has_imports {
+                    out.push_str(imports.as_str())?;
+                    is_after_item = true;
+                }
+                has_imports = true;
             }
             Item::Enum(planned) => {
                 out.push_str(planned_text(alloc, module, planned)?.as_str())?;
+                is_after_item = true;
             }
         }
-        last = Some(item);
     }
     Ok(out)
 }
 
-/// A text between two items: an enum has an empty line after imports and after another enum. Only the first imports have
-/// a text, so `last` is none after others.
-fn text_between<'a>(last: Option<&Item>, text: &'a str, next: Option<&Item>) -> &'a str {
-    let has_empty_line = text.chars().filter(|c| *c == '\n').count() >= 2;
-    match (last, next) {
-        (Some(Item::Imports(_) | Item::Enum(_)), Some(Item::Enum(_)))
-            if !has_empty_line && text.trim().is_empty() => "\n\n",
-        _ => text,
-    }
+/// Whether a text is space without an empty line: an enum has one after imports and after another enum.
+fn is_narrow(text: &str) -> bool {
+    text.trim().is_empty() && text.chars().filter(|c| *c == '\n').count() < 2
 }
 
 fn is_imports(item: &Item) -> bool {
