@@ -1,4 +1,1 @@
-pub mod Faults
-pub mod Written
-pub mod Arguments
-pub mod Modules
+pub mod Reading

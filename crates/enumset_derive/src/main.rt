@@ -1,17 +1,18 @@
 //! Writes the module of Rattle for a source of enums.
 //!
 //! `enumset_derive CRATE MODULE` reads the source from standard input and prints the module. The names are those of the
-//! crate and of the module in it that the text is for. With `--proofs FOLDER` after them the program also writes, into
-//! the crate's folder, what proofs about the enums want.
+//! crate and of the module in it that the text is for. With `-o FILE` after them the module goes into that file, once
+//! the source had no fault.
 #![tactic(auto)]
 
 mod arguments;
 mod fault;
-mod outputs;
+mod left_out;
+mod parse;
 mod program;
-mod proof_files;
-#[cfg(test)]
-mod tests;
+mod source;
+mod tokens;
+mod write;
 
 use std::process::ExitCode;
 

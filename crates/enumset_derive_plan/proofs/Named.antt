@@ -1,17 +1,17 @@
 -- Variants with their bits, one more at a time.
-use Rattle.std.proofs.Common.{◌≡◌, ◌==◌, ℕ, Bool, true, false, not, cond, ◌||◌, List, [], ◌∷◌, ◌++◌, Option, Some, None, Ok, Err, refl, ap, ◌∙◌, arith}
+use Rattle.std.proofs.Common.{◌≡◌, ◌==◌, ◌<◌, ◌≤◌, ℕ, Bool, true, false, not, cond, ◌||◌, List, [], ◌∷◌, ◌++◌, Option, Some, None, Ok, refl, ap, ◌∙◌, arith}
 use Rattle.std.specs.List.{find}
 use Rattle.std.proofs.lemmas.Bool.{and_parts, and_from, or_parts}
 use Rattle.std.proofs.lemmas.Bool.Decides.{nat_tests}
 use Rattle.std.proofs.lemmas.List.{map-append}
-use Rattle.std.proofs.lemmas.List.Folds.{list_any-append, list_all-append}
+use Rattle.std.proofs.lemmas.List.Folds.{list_any-append}
 use Rattle.enumset_repr.specs.BitSet.{is_in}
 use Rattle.enumset_repr.specs.Number.{is_distinct}
-use Rattle.enumset_derive_plan.specs.Bits.{next_number}
-use Rattle.enumset_derive_plan.specs.Variants.{bits_of, named_variant, named_from, is_in_range, are_in_range}
+use Rattle.enumset_sets.specs.Laws.Elements.{one_past_all}
+use Rattle.enumset_derive_plan.specs.Numbers.{next_number}
+use Rattle.enumset_derive_plan.specs.Variants.{bits_of, named_variant, named_from}
 use Rattle.enumset_derive_plan.specs.declared.number.Number.{Number}
 use Rattle.enumset_derive_plan.specs.declared.declaration.Variant.{Variant}
-use Rattle.enumset_derive_plan.specs.declared.fault.Fault.{Fault}
 use Rattle.enumset_derive_plan.specs.declared.planning.rules.Rules.{Rules}
 use Rattle.enumset_derive_plan.specs.declared.planning.named.Named.{Named}
 
@@ -28,27 +28,21 @@ not_taken b (n ∷ ns) none =
 pub named_from-next : (rules : Rules) (earlier : List Variant) (named : List Named) (implied : Option Number) (v : Variant) (n : Named) (vs : List Variant) → named_variant rules earlier named implied v ≡ Ok n → named_from rules earlier named implied (v ∷ vs) ≡ named_from rules (earlier ++ v ∷ []) (named ++ n ∷ []) (next_number n.number) vs
 named_from-next rules earlier named implied v n vs h = rw h refl
 
-pub named_from-fault : (rules : Rules) (earlier : List Variant) (named : List Named) (implied : Option Number) (v : Variant) (f : Fault) (vs : List Variant) → named_variant rules earlier named implied v ≡ Err f → named_from rules earlier named implied (v ∷ vs) ≡ Err f
-named_from-fault rules earlier named implied v f vs h = rw h refl
-
-pub is_distinct-append : (bs : List ℕ) (b : ℕ) → is_distinct bs ≡ true → is_in b bs ≡ false → is_distinct (bs ++ b ∷ []) ≡ true
+is_distinct-append : (bs : List ℕ) (b : ℕ) → is_distinct bs ≡ true → is_in b bs ≡ false → is_distinct (bs ++ b ∷ []) ≡ true
 is_distinct-append [] b apart new = refl
 is_distinct-append (c ∷ bs) b apart new =
     let parts = and_parts _ _ apart in
     let news = or_parts (b == c) _ new in
-    and_from _ _ (ap not (list_any-append (λ d. c == d) bs (b ∷ [])) ∙ still (is_in c bs) (c == b) parts.0 (eq_sym-false c b news.0)) (is_distinct-append bs b parts.1 news.1)
+    and_from _ _ (ap not (list_any-append (λ d. c == d) bs (b ∷ [])) ∙ still (is_in c bs) (c == b) parts.0 (grind (arith, nat_tests, news.0))) (is_distinct-append bs b parts.1 news.1)
   where
     still : (s t : Bool) → not s ≡ true → t ≡ false → not (s || (t || false)) ≡ true
     still true t h e = absurd (cc)
     still false true h e = absurd (cc)
     still false false h e = refl
 
-    eq_sym-false : (m n : ℕ) → (n == m) ≡ false → (m == n) ≡ false
-    eq_sym-false m n h = grind (arith, nat_tests, h)
-
 pub bits_of-append : (named : List Named) (n : Named) → is_distinct (bits_of named) ≡ true → is_in n.bit (bits_of named) ≡ false → is_distinct (bits_of (named ++ n ∷ [])) ≡ true
 bits_of-append named n apart new = rw (map-append (λ m. m.bit) named (n ∷ [])) (is_distinct-append (bits_of named) n.bit apart new)
 
-pub in_range-append : (rules : Rules) (named : List Named) (n : Named) → are_in_range rules named ≡ true → is_in_range rules n.bit ≡ true → are_in_range rules (named ++ n ∷ []) ≡ true
-in_range-append rules named n all one =
-    rw (map-append (λ m. m.bit) named (n ∷ []), list_all-append (is_in_range rules) (bits_of named) (n.bit ∷ [])) (and_from _ _ all (and_from _ true one refl))
+pub below-append : (limit : ℕ) (named : List Named) (n : Named) → one_past_all (bits_of named) ≤ limit → n.bit < limit → one_past_all (bits_of (named ++ n ∷ [])) ≤ limit
+below-append limit [] n all one = omega (arith, one)
+below-append limit (m ∷ named) n all one = omega (arith, all, below-append limit named n (omega (arith, all)) one)

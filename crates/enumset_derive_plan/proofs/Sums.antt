@@ -1,111 +1,127 @@
--- The sum of the powers of two of different numbers.
-use Rattle.std.proofs.Common.{◌≡◌, ◌==◌, ◌<◌, ◌≤◌, ℕ, suc, zero, ◌+◌, ◌*◌, ◌%◌, ◌^◌, Bool, true, false, not, cond, ◌||◌, List, [], ◌∷◌, length, get_or, take, drop, sum_by, refl, ap, ◌∙◌, arith, drop-cons}
+-- Numbers and words of different bits.
+use Rattle.std.proofs.Common.{◌≡◌, ◌==◌, ◌<◌, ◌≤◌, ℕ, suc, zero, ◌+◌, ◌-◌, ◌*◌, ◌/◌, ◌%◌, ◌^◌, true, false, not, cond, List, [], ◌∷◌, length, get_or, set, take, drop, slice_index_or, replicate, sum_by, refl, ap, sym, subst, ◌∙◌, arith, eqb-true, eq-eqb, true≢false, inl, inr}
 use Rattle.std.specs.Prelude.{nat_lt}
 use Rattle.std.proofs.Math.Pow.{pow-lt}
-use Rattle.std.proofs.lemmas.Bool.{and_parts, and_from, or_parts, not-true}
+use Rattle.std.proofs.lemmas.Bool.{and_parts, and_from, or_parts, or_cases, not-true}
 use Rattle.std.proofs.lemmas.Bool.Decides.{nat_tests}
+use Rattle.std.proofs.lemmas.List.{get_or-set_same, take_rest}
 use Rattle.std.proofs.lemmas.List.Sums.{sum_by-cons}
-use Rattle.enumset_repr.specs.BitSet.{is_in}
-use Rattle.enumset_repr.specs.Number.{is_distinct}
-use Rattle.enumset_derive_plan.specs.Stores.{are_below}
+use Rattle.enumset_repr.specs.BitSet.{is_in, from_list, below}
+use Rattle.enumset_repr.specs.Number.{number, is_distinct, lists_bits}
+use Rattle.enumset_repr.specs.Words.{in_first_word, in_later_words, lists_words}
+use Rattle.enumset_repr.specs.Laws.Members.{contains-is_subset, contains-from_list, contains-below}
+use Rattle.enumset_repr.specs.Laws.Numbers.{number-bits, number-within}
+use Rattle.enumset_repr.specs.Laws.Listed.{bits_listed}
+use Rattle.enumset_sets.specs.Laws.Elements.{one_past_all}
 
--- a list without the first place of a number
-without : ℕ → List ℕ → List ℕ
-without w [] = []
-without w (b ∷ bs) = cond (w == b) bs (b ∷ without w bs)
-
-less_below : (w : ℕ) (bs : List ℕ) → are_below (suc w) bs ≡ true → is_in w bs ≡ false → are_below w bs ≡ true
-less_below w [] below out = refl
-less_below w (b ∷ bs) below out =
-    let parts = and_parts (nat_lt b (suc w)) (are_below (suc w) bs) below in
-    let outs = or_parts (w == b) _ out in
-    and_from _ _ (grind (arith, nat_tests, parts.0, outs.0)) (less_below w bs parts.1 outs.1)
-
-below-without : (w : ℕ) (bs : List ℕ) → are_below (suc w) bs ≡ true → is_distinct bs ≡ true → are_below w (without w bs) ≡ true
-unfolding without
-below-without w [] below apart = refl
-below-without w (b ∷ bs) below apart =
-    let parts = and_parts (nat_lt b (suc w)) (are_below (suc w) bs) below in
-    let aparts = and_parts (not (is_in b bs)) (is_distinct bs) apart in
-    elim (w == b) as (λ t. (w == b) ≡ t → are_below w (cond t bs (b ∷ without w bs)) ≡ true) [
-      | true ↦ λ e. let same : w ≡ b = grind (arith, nat_tests, e) in less_below w bs parts.1 (ap (λ x. is_in x bs) same ∙ not-true _ aparts.0)
-      | false ↦ λ e. and_from _ _ (grind (arith, nat_tests, parts.0, e)) (below-without w bs parts.1 aparts.1)
-    ] refl
-
-out-without : (q w : ℕ) (bs : List ℕ) → is_in q bs ≡ false → is_in q (without w bs) ≡ false
-unfolding without
-out-without q w [] out = refl
-out-without q w (b ∷ bs) out =
-    let outs = or_parts (q == b) _ out in
-    elim (w == b) as (λ t. is_in q (cond t bs (b ∷ without w bs)) ≡ false) [
-      | true ↦ outs.1
-      | false ↦ rw outs.0 (out-without q w bs outs.1)
-    ]
-
-not_in : (t : Bool) → t ≡ false → not t ≡ true
-not_in true h = absurd (cc)
-not_in false h = refl
-
-distinct-without : (w : ℕ) (bs : List ℕ) → is_distinct bs ≡ true → is_distinct (without w bs) ≡ true
-unfolding without
-distinct-without w [] apart = refl
-distinct-without w (b ∷ bs) apart =
-    let aparts = and_parts (not (is_in b bs)) (is_distinct bs) apart in
-    elim (w == b) as (λ t. is_distinct (cond t bs (b ∷ without w bs)) ≡ true) [
-      | true ↦ aparts.1
-      | false ↦ and_from _ _ (not_in _ (out-without b w bs (not-true _ aparts.0))) (distinct-without w bs aparts.1)
-    ]
-
-sum-without : (w : ℕ) (bs : List ℕ) → sum_by (λ b. 2 ^ b) bs ≤ 2 ^ w + sum_by (λ b. 2 ^ b) (without w bs)
-unfolding without
-sum-without w [] = omega arith
-sum-without w (b ∷ bs) =
-    elim (w == b) as (λ t. (w == b) ≡ t → sum_by (λ b. 2 ^ b) (b ∷ bs) ≤ 2 ^ w + sum_by (λ b. 2 ^ b) (cond t bs (b ∷ without w bs))) [
-      | true ↦ λ e. let same : w ≡ b = grind (arith, nat_tests, e) in rw same (omega (arith, sum_by-cons (λ c. 2 ^ c) b bs))
-      | false ↦ λ e. omega (arith, sum-without w bs, sum_by-cons (λ c. 2 ^ c) b bs, sum_by-cons (λ c. 2 ^ c) b (without w bs))
-    ] refl
+in_below : (q w : ℕ) (bs : List ℕ) → one_past_all bs ≤ w → is_in q bs ≡ true → nat_lt q w ≡ true
+in_below q w [] low one = absurd (true≢false (sym one))
+in_below q w (b ∷ bs) low one = elim (or_cases (q == b) _ one) [
+  | inl here ↦ grind (arith, nat_tests, here, low)
+  | inr later ↦ in_below q w bs (omega (arith, low)) later
+]
 
 -- the sum of different powers below 2 ^ w is below 2 ^ w
-pub sum_below : (w : ℕ) (bs : List ℕ) → is_distinct bs ≡ true → are_below w bs ≡ true → sum_by (λ b. 2 ^ b) bs < 2 ^ w
-sum_below w [] apart below = omega (arith, pow_positive w)
-  where
-    pow_positive : (w : ℕ) → 0 < 2 ^ w
-    pow_positive zero = omega arith
-    pow_positive (suc w) = omega (arith, pow_positive w)
-sum_below zero (b ∷ bs) apart below = absurd (grind (arith, nat_tests, (and_parts (nat_lt b zero) (are_below zero bs) below).0))
-sum_below (suc w) (b ∷ bs) apart below =
-    omega (arith, sum-without w (b ∷ bs), sum_below w (without w (b ∷ bs)) (distinct-without w (b ∷ bs) apart) (below-without w (b ∷ bs) below apart))
-
--- a power of two of what is left
-pub power_of_next : (bs : List ℕ) (i : ℕ) → i < length bs → 2 ^ get_or bs i 0 ≤ sum_by (λ b. 2 ^ b) (drop i bs)
-power_of_next bs i within = rw (drop-cons bs i 0 within) (omega (arith, sum_by-cons (λ c. 2 ^ c) (get_or bs i 0) (drop (suc i) bs)))
+sum_below : (w : ℕ) (bs : List ℕ) → is_distinct bs ≡ true → one_past_all bs ≤ w → sum_by (λ b. 2 ^ b) bs < 2 ^ w
+sum_below w bs apart low =
+    let n = sum_by (λ b. 2 ^ b) bs in
+    let is = bits_listed bs n (and_from _ _ apart (eq-eqb n n refl)) in
+    let within = contains-is_subset (from_list bs) (below w) (λ q one. contains-below w q ∙ in_below q w bs low (sym (contains-from_list bs q) ∙ one)) in
+    subst (λ m. m < 2 ^ w) (ap number (sym is) ∙ number-bits n) (number-within (from_list bs) w within)
 
 -- a shift of 1 within a type
-pub shift_128 : (b : ℕ) → b < 128 → (1 * 2 ^ b) % 340282366920938463463374607431768211456 ≡ 2 ^ b
+shift_128 : (b : ℕ) → b < 128 → (1 * 2 ^ b) % 340282366920938463463374607431768211456 ≡ 2 ^ b
 shift_128 b small = omega (arith, pow-lt {i = b} {j = 128} small)
 
-pub shift_64 : (b : ℕ) → b < 64 → (1 * 2 ^ b) % 18446744073709551616 ≡ 2 ^ b
+shift_64 : (b : ℕ) → b < 64 → (1 * 2 ^ b) % 18446744073709551616 ≡ 2 ^ b
 shift_64 b small = omega (arith, pow-lt {i = b} {j = 64} small)
 
--- an item of a list of different numbers is not among those before it
-pub apart_from_before : (bs : List ℕ) (i : ℕ) → is_distinct bs ≡ true → i < length bs → is_in (get_or bs i 0) (take i bs) ≡ false
-apart_from_before [] i apart within = absurd (omega (arith, within))
-apart_from_before (b ∷ bs) zero apart within = refl
-apart_from_before (b ∷ bs) (suc i) apart within =
-    let parts = and_parts (not (is_in b bs)) (is_distinct bs) apart in
-    let later : i < length bs = omega (arith, within) in
-    or_none (get_or bs i 0 == b) _ (differs b bs i (not-true _ parts.0) later) (apart_from_before bs i parts.1 later)
-  where
-    or_none : (s t : Bool) → s ≡ false → t ≡ false → (s || t) ≡ false
-    or_none true t h e = absurd (cc)
-    or_none false t h e = e
+-- ---- words
 
-    differs : (b : ℕ) (bs : List ℕ) (i : ℕ) → is_in b bs ≡ false → i < length bs → (get_or bs i 0 == b) ≡ false
-    differs b [] i out within = absurd (omega (arith, within))
-    differs b (c ∷ bs) zero out within = let h = (or_parts (b == c) (is_in b bs) out).0 in grind (arith, nat_tests, h)
-    differs b (c ∷ bs) (suc i) out within = differs b bs i (or_parts (b == c) (is_in b bs) out).1 (omega (arith, within))
+out_of_first : (bs : List ℕ) (b : ℕ) → is_in b bs ≡ false → is_in b (in_first_word bs) ≡ false
+out_of_first [] b out = refl
+out_of_first (c ∷ bs) b out =
+    let outs = or_parts (b == c) (is_in b bs) out in
+    elim (nat_lt c 64) as (λ t. is_in b (cond t (c ∷ in_first_word bs) (in_first_word bs)) ≡ false) [
+      | true ↦ rw outs.0 (out_of_first bs b outs.1)
+      | false ↦ out_of_first bs b outs.1
+    ]
 
-pub item_below : (n : ℕ) (bs : List ℕ) (i : ℕ) → are_below n bs ≡ true → i < length bs → get_or bs i 0 < n
-item_below n [] i below within = absurd (omega (arith, within))
-item_below n (b ∷ bs) zero below within = let h = (and_parts (nat_lt b n) (are_below n bs) below).0 in grind (arith, nat_tests, h)
-item_below n (b ∷ bs) (suc i) below within = item_below n bs i (and_parts (nat_lt b n) (are_below n bs) below).1 (omega (arith, within))
+out_of_later : (bs : List ℕ) (b : ℕ) → nat_lt b 64 ≡ false → is_in b bs ≡ false → is_in (b - 64) (in_later_words bs) ≡ false
+out_of_later [] b large out = refl
+out_of_later (c ∷ bs) b large out =
+    let outs = or_parts (b == c) (is_in b bs) out in
+    elim (nat_lt c 64) as (λ t. nat_lt c 64 ≡ t → is_in (b - 64) (cond t (in_later_words bs) ((c - 64) ∷ in_later_words bs)) ≡ false) [
+      | true ↦ λ e. out_of_later bs b large outs.1
+      | false ↦ λ e. let other : ((b - 64) == (c - 64)) ≡ false = grind (arith, nat_tests, e, large, outs.0) in rw other (out_of_later bs b large outs.1)
+    ] refl
+
+first_below : (bs : List ℕ) → one_past_all (in_first_word bs) ≤ 64
+first_below [] = omega arith
+first_below (c ∷ bs) =
+    elim (nat_lt c 64) as (λ t. nat_lt c 64 ≡ t → one_past_all (cond t (c ∷ in_first_word bs) (in_first_word bs)) ≤ 64) [
+      | true ↦ λ e. let small : c < 64 = grind (arith, nat_tests, e) in omega (arith, small, first_below bs)
+      | false ↦ λ e. first_below bs
+    ] refl
+
+-- each word of listed bits is below 2 ^ 64
+word_fits : (ns bs : List ℕ) (k : ℕ) → lists_words bs ns ≡ true → get_or ns k 0 < 2 ^ 64
+word_fits [] bs k lists = omega arith
+word_fits (n ∷ ns) bs zero lists =
+    let parts = and_parts (lists_bits (in_first_word bs) n) (lists_words (in_later_words bs) ns) lists in
+    let inner = and_parts (is_distinct (in_first_word bs)) (sum_by (λ c. 2 ^ c) (in_first_word bs) == n) parts.0 in
+    omega (arith, eqb-true _ n inner.1, sum_below 64 (in_first_word bs) inner.0 (first_below bs))
+word_fits (n ∷ ns) bs (suc k) lists =
+    word_fits ns (in_later_words bs) k (and_parts (lists_bits (in_first_word bs) n) (lists_words (in_later_words bs) ns) lists).1
+
+pub lists_words-none : (n : ℕ) (bs : List ℕ) → length bs < 1 → lists_words bs (replicate n 0) ≡ true
+lists_words-none zero [] none = refl
+lists_words-none (suc n) [] none = lists_words-none n [] none
+lists_words-none n (b ∷ bs) none = absurd (omega (arith, none))
+
+lists_bits-cons : (bs : List ℕ) (b n : ℕ) → is_in b bs ≡ false → lists_bits bs n ≡ true → lists_bits (b ∷ bs) (n + 2 ^ b) ≡ true
+lists_bits-cons bs b n new lists =
+    let parts = and_parts (is_distinct bs) (sum_by (λ c. 2 ^ c) bs == n) lists in
+    and_from _ _ (and_from _ _ (ap not new) parts.0) (eq-eqb _ _ (omega (arith, eqb-true _ n parts.1, sum_by-cons (λ c. 2 ^ c) b bs)))
+
+-- bit r of word k is put in
+lists_words-cons : (ns bs : List ℕ) (k r b : ℕ) → b ≡ 64 * k + r → r < 64 → k < length ns → is_in b bs ≡ false → lists_words bs ns ≡ true → lists_words (b ∷ bs) (set ns k (get_or ns k 0 + 2 ^ r)) ≡ true
+lists_words-cons [] bs k r b at small within new lists = absurd (omega (arith, within))
+lists_words-cons (n ∷ ns) bs zero r b at small within new lists =
+    let parts = and_parts (lists_bits (in_first_word bs) n) (lists_words (in_later_words bs) ns) lists in
+    let same : b ≡ r = omega (arith, at) in
+    let first : nat_lt b 64 ≡ true = grind (arith, nat_tests, same, small) in
+    rw (first, ← same) (and_from _ _ (lists_bits-cons (in_first_word bs) b n (out_of_first bs b new) parts.0) parts.1)
+lists_words-cons (n ∷ ns) bs (suc k) r b at small within new lists =
+    let parts = and_parts (lists_bits (in_first_word bs) n) (lists_words (in_later_words bs) ns) lists in
+    let later : nat_lt b 64 ≡ false = grind (arith, nat_tests, at) in
+    rw later (and_from _ _ parts.0 (lists_words-cons ns (in_later_words bs) k r (b - 64) (omega (arith, at)) small (omega (arith, within)) (out_of_later bs b later new) parts.1))
+
+-- what is read within a list does not depend on what is read past it
+read_within : (ns : List ℕ) (k x : ℕ) → k < length ns → x ≡ get_or ns k x → x ≡ get_or ns k 0
+read_within [] k x within read = absurd (omega (arith, within))
+read_within (n ∷ ns) zero x within read = read
+read_within (n ∷ ns) (suc k) x within read = read_within ns k x (omega (arith, within)) read
+
+-- the first of some bits is put into the words of the rest
+abbrev pub put : List ℕ → List ℕ → ℕ → ℕ
+put bs ns x = x + (1 * 2 ^ (slice_index_or bs 0 0 % 64)) % 18446744073709551616
+
+pub put_bit : (bs ns : List ℕ) (n x : ℕ) → 1 ≤ length bs → is_distinct bs ≡ true → one_past_all bs ≤ 64 * n → length ns ≡ n → lists_words (take (length bs - 1) (drop 1 bs)) ns ≡ true → x ≡ get_or ns (slice_index_or bs 0 0 / 64) x → (put bs ns x < 2 ^ 64) × (lists_words bs (set ns (slice_index_or bs 0 0 / 64) (put bs ns x)) ≡ true)
+put_bit [] ns n x some apart low count lists read = absurd (omega (arith, some))
+put_bit (b ∷ bs) ns n x some apart low count lists read =
+    let k = b / 64 in
+    let small : b % 64 < 64 = omega arith in
+    let at : b ≡ 64 * k + b % 64 = omega arith in
+    let within : k < length ns = omega (arith, low, count) in
+    let rest : lists_words bs ns ≡ true = subst (λ ds. lists_words ds ns ≡ true) (take_rest (b ∷ bs) 1) lists in
+    let sum : put (b ∷ bs) ns x ≡ get_or ns k 0 + 2 ^ (b % 64) = omega (arith, read_within ns k x within read, shift_64 (b % 64) small) in
+    let listed : lists_words (b ∷ bs) (set ns k (put (b ∷ bs) ns x)) ≡ true = rw sum (lists_words-cons ns bs k (b % 64) b at small within (not-true _ (and_parts (not (is_in b bs)) (is_distinct bs) apart).0) rest) in
+    (omega (arith, word_fits (set ns k (put (b ∷ bs) ns x)) (b ∷ bs) k listed, get_or-set_same ns k (put (b ∷ bs) ns x) 0 within), listed)
+
+-- the first of some bits is added to the number of the rest
+pub sum_fits : (bs : List ℕ) (n : ℕ) → 1 ≤ length bs → is_distinct bs ≡ true → one_past_all bs ≤ 128 → n ≡ sum_by (λ b. 2 ^ b) (take (length bs - 1) (drop 1 bs)) → n + (1 * 2 ^ slice_index_or bs 0 0) % 340282366920938463463374607431768211456 < 2 ^ 128
+sum_fits [] n some apart low sum = absurd (omega (arith, some))
+sum_fits (b ∷ bs) n some apart low sum =
+    let rest : n ≡ sum_by (λ d. 2 ^ d) bs = sum ∙ ap (λ ds. sum_by (λ d. 2 ^ d) ds) (take_rest (b ∷ bs) 1) in
+    omega (arith, rest, sum_below 128 (b ∷ bs) apart low, sum_by-cons (λ d. 2 ^ d) b bs, shift_128 b (omega (arith, low)))

@@ -3,18 +3,9 @@ use Rattle.std.proofs.Common.{◌≡◌, ◌==◌, ℕ, suc, zero, ◌^◌, Bool
 use denote.Enum.Bare.{Bare}
 use Rattle.enumset_repr.specs.Number.{is_distinct}
 use Rattle.enumset_repr.specs.Words.{lists_words}
-use Rattle.enumset_sets.specs.Laws.Elements.{one_past_all, once_known, or_else, IsLawful, IsLawfulNumber, IsLawfulWords}
-use Rattle.enumset_derive_plan.specs.Stores.{IsStore}
-use Rattle.enumset_derive_plan.specs.Plans.{without_fields, IsLawfulStore}
-use Rattle.enumset_derive_plan.specs.Laws.Plans.{variants_of}
-use Rattle.enumset_derive_plan.specs.declared.options.Representation.{Representation}
-use Rattle.enumset_derive_plan.specs.declared.options.Representation.TheVariants as representation
-use Rattle.enumset_derive_plan.specs.declared.plan.Store.{Store}
-use Rattle.enumset_derive_plan.specs.declared.plan.Store.TheVariants as store
-
-known : (n : ℕ) (next : Type 0) → next → once_known n next
-known zero next h = h
-known (suc n) next h = h
+use Rattle.enumset_sets.specs.Laws.Elements.{one_past_all, or_else, IsLawful, IsLawfulNumber, IsLawfulWords}
+use Rattle.enumset_derive_plan.specs.Plans.{without_fields}
+use Rattle.enumset_derive_plan.specs.Laws.Plans.{variants_of, known}
 
 past : (test : Bool) (fault next : Type 0) → test ≡ true → next → or_else test fault next
 past true fault next passes h = h
@@ -40,9 +31,3 @@ lawful_number_of bs all width sum apart reach =
 
 pub lawful_words_of : (bs ns : List ℕ) (width : ℕ) → lists_words bs ns ≡ true → is_distinct bs ≡ true → width ≡ one_past_all bs → IsLawfulWords (without_fields (length bs)) bs ns width (length bs)
 lawful_words_of bs ns width lists apart reach = lawful_of bs (lists_words bs ns) _ width lists apart (sym reach)
-
-pub lawful_store : (kind : Representation) (bs : List ℕ) (width : ℕ) (s : Store) → IsStore kind bs width s → is_distinct bs ≡ true → width ≡ one_past_all bs → IsLawfulStore (length bs) bs s width (length bs)
-lawful_store (representation.Integer t) bs width (store.Integer u all) is apart reach = lawful_number_of bs all width is.1 apart reach
-lawful_store (representation.Integer t) bs width (store.Words ns) is apart reach = absurd is
-lawful_store representation.Words bs width (store.Integer u all) is apart reach = absurd is
-lawful_store representation.Words bs width (store.Words ns) is apart reach = lawful_words_of bs ns.items width is.1 apart reach

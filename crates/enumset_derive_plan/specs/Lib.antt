@@ -1,8 +1,4 @@
-pub mod Steps
-pub mod Integers
-pub mod Faults
-pub mod Bits
+pub mod Numbers
 pub mod Variants
-pub mod Stores
 pub mod Plans
 pub mod Laws

@@ -6,56 +6,47 @@ use std::error::Error;
 use std::fmt;
 
 /// A fault of a source text, and where it is.
-#[derive(Clone, Copy, Debug, PartialEq, Eq)]
+#[derive(Clone, Copy, Debug)]
 pub struct Fault {
     pub place: Place,
     pub reason: Reason,
 }
 
-/// What is wrong.
-#[derive(Clone, Copy, Debug, PartialEq, Eq)]
+/// What is wrong. What `Display` writes of each says more.
+#[derive(Clone, Copy, Debug)]
 pub enum Reason {
     // of reading
-    /// A block comment has no end.
+    NotUtf8,
     UnclosedComment,
-    /// A text or a character in quotes has no end.
     UnclosedQuote,
     /// A bracket has no end, or another end.
     UnclosedBracket,
-    /// Something else is wanted here.
     Wanted(Wanted),
     /// `EnumSetType` is derived on something other than an enum.
     NotAnEnum,
-    /// The enum has parameters.
     HasParameters,
-    /// The variant has fields.
     HasFields,
-    /// `#[enumset(..)]` has no such option.
     UnknownOption,
+    /// The option is `serialize_as_list`, the older name of a form in JSON.
+    OldListOption,
     /// The option was given before, there.
     OptionTwice(Place),
-    /// `map` has no such value.
     UnknownMap,
-    /// `repr` has no such value.
     UnknownRepresentation,
-    /// `serialize_repr` has no such value.
     UnknownSerialized,
     /// The discriminant is no literal of an integer.
     NotALiteral,
     /// The literal is past 2^128 - 1, and is no power of two in hexadecimal, octal or binary digits.
     LiteralTooLarge,
     // of planning
-    /// `map = "msb"` stands without a `repr` that is an integer.
     IntegerMissing,
     /// The enum has more than 256 variants. The place is that of variant 257.
     TooManyVariants,
     /// The variant has the name of one before, there.
     NameTwice(Place),
-    /// The discriminant is no power of two, so it is no mask.
     NotAMask,
     /// The discriminant, or the bit of which it is the mask, is not from 0 to 4294967231.
     PastGreatest,
-    /// The implied discriminant is past 2^128 - 1.
     ImpliedTooLarge,
     /// The bit is not below the width of the integer that `repr` names.
     PastRepresentation(OutOfRange),
@@ -68,142 +59,121 @@ pub enum Reason {
 }
 
 /// A bit, and the width that it is not below.
-#[derive(Clone, Copy, Debug, PartialEq, Eq)]
+#[derive(Clone, Copy, Debug)]
 pub struct OutOfRange {
     pub bit: u32,
     pub width: u32,
 }
 
 /// What is wanted at a place.
-#[derive(Clone, Copy, Debug, PartialEq, Eq)]
+#[derive(Clone, Copy, Debug)]
 pub enum Wanted {
-    /// A name of an enum.
     EnumName,
-    /// `{`, after the name of an enum.
+    /// After the name of an enum.
     Variants,
-    /// A name of a variant, or `}`.
     VariantName,
-    /// `,` or `}`, after a variant.
+    /// After a variant.
     NextVariant,
-    /// `[`, after the `#` of an attribute.
+    /// After `#`.
     Attribute,
-    /// `(`, after the name of an attribute.
+    /// After the name of an attribute.
     Arguments,
-    /// A name of an option, or `)`.
     OptionName,
-    /// `=` and a text in quotes, after the name of an option.
     OptionValue,
-    /// `,` or `)`, after an option.
+    /// After an option.
     NextOption,
-    /// A path, or `)`, among the derives.
     DeriveName,
-    /// `,` or `)`, after a derive.
+    /// After a derive.
     NextDerive,
-    /// An item, after attributes.
+    /// After attributes.
     Item,
 }
 
 impl fmt::Display for Fault {
-    ghost use Rattle.std.specs.Prelude.{Some};
-    ghost use Rattle.enumset_derive_plan.specs.Faults.{fault_text};
-
-    ghost output = { λ fault. Some (fault_text fault) };
-
     fn fmt<W: fmt::Write>(&self, f: &mut fmt::Formatter<W>) -> fmt::Result {
         write!(f, "{}: {}", self.place, self.reason)
     }
 }
 
 impl fmt::Display for Reason {
-    ghost use Rattle.std.specs.Prelude.{Some};
-    ghost use Rattle.enumset_derive_plan.specs.Faults.{reason_text};
-
-    ghost output = { λ reason. Some (reason_text reason) };
-
     fn fmt<W: fmt::Write>(&self, f: &mut fmt::Formatter<W>) -> fmt::Result {
         match self {
-            Reason::UnclosedComment => write!(f, "this comment has no end"),
-            Reason::UnclosedQuote => write!(f, "this quote has no end"),
-            Reason::UnclosedBracket => write!(f, "this bracket has no end"),
             Reason::Wanted(wanted) => write!(f, "wanted: {wanted}"),
-            Reason::NotAnEnum => write!(f, "`EnumSetType` is for enums alone"),
-            Reason::HasParameters => write!(f, "the enum must have no parameters"),
-            Reason::HasFields => write!(f, "a variant must have no fields"),
-            Reason::UnknownOption => write!(f, "there is no such option"),
             Reason::OptionTwice(first) => write!(f, "this option was given at {first}"),
-            Reason::UnknownMap => write!(f, "`map` is \"lsb\", \"msb\", \"mask\" or \"compact\""),
-            Reason::UnknownRepresentation => {
-                write!(
-                    f,
-                    "`repr` is \"u8\", \"u16\", \"u32\", \"u64\", \"u128\" or \"array\""
-                )
-            }
-            Reason::UnknownSerialized => {
-                write!(
-                    f,
-                    "`serialize_repr` is \"u8\", \"u16\", \"u32\", \"u64\", \"u128\", \"array\", \"list\" or \"map\""
-                )
-            }
-            Reason::NotALiteral => write!(f, "a discriminant must be a literal of an integer"),
-            Reason::LiteralTooLarge => {
-                write!(
-                    f,
-                    "a literal past 2^128 - 1 must be a power of two, and not decimal"
-                )
-            }
-            Reason::IntegerMissing => write!(f, "`map = \"msb\"` needs `repr` to be an integer"),
-            Reason::TooManyVariants => write!(f, "an enum may have at most 256 variants"),
             Reason::NameTwice(first) => write!(f, "this name was given at {first}"),
-            Reason::NotAMask => write!(f, "a mask must be a power of two"),
-            Reason::PastGreatest => write!(f, "a bit must be from 0 to 4294967231"),
-            Reason::ImpliedTooLarge => write!(f, "the implied discriminant is past 2^128 - 1"),
-            Reason::PastRepresentation(out) => { write!(f, "`repr` is too small: {out}") }
-            Reason::PastSerialized(out) => { write!(f, "`serialize_repr` is too small: {out}") }
+            Reason::PastRepresentation(out) => write!(f, "`repr` is too small: {out}"),
+            Reason::PastSerialized(out) => write!(f, "`serialize_repr` is too small: {out}"),
             Reason::BitTwice(first) => write!(f, "this bit was taken at {first}"),
             Reason::DiscriminantTwice(first) => write!(f, "this discriminant was taken at {first}"),
+            _ => f.write_str(self.words()),
+        }
+    }
+}
+
+const REPRESENTATIONS: &str =
+    "`repr` is \"u8\", \"u16\", \"u32\", \"u64\", \"u128\" or \"array\"; over another \
+    representation write the element type by hand, as in docs/ELEMENT-TYPES.md";
+
+const FORMS: &str =
+    "`serialize_repr` is \"u8\", \"u16\", \"u32\", \"u64\", \"u128\", \"array\", \"list\" or \"map\"";
+
+impl Reason {
+    /// The text of a reason that has no more to say.
+    fn words(&self) -> &'static str {
+        match self {
+            Reason::NotUtf8 => "these bytes are no text in UTF-8",
+            Reason::UnclosedComment => "this comment has no end",
+            Reason::UnclosedQuote => "this quote has no end",
+            Reason::UnclosedBracket => "this bracket has no end",
+            Reason::NotAnEnum => "`EnumSetType` is for enums alone",
+            Reason::HasParameters => "the enum must have no parameters",
+            Reason::HasFields => "a variant must have no fields",
+            Reason::UnknownOption => "there is no such option",
+            Reason::OldListOption => "`serialize_as_list` is written `serialize_repr = \"list\"`",
+            Reason::UnknownMap => "`map` is \"lsb\", \"msb\", \"mask\" or \"compact\"",
+            Reason::UnknownRepresentation => REPRESENTATIONS,
+            Reason::UnknownSerialized => FORMS,
+            Reason::NotALiteral => "a discriminant must be a literal of an integer",
+            Reason::LiteralTooLarge =>
+                "a literal past 2^128 - 1 must be a power of two, and not decimal",
+            Reason::IntegerMissing => "`map = \"msb\"` needs `repr` to be an integer",
+            Reason::TooManyVariants => "an enum may have at most 256 variants",
+            Reason::NotAMask => "a mask must be a power of two",
+            Reason::PastGreatest => "a bit must be from 0 to 4294967231",
+            Reason::ImpliedTooLarge => "the implied discriminant is past 2^128 - 1",
+            _ => "",
         }
     }
 }
 
 impl fmt::Display for OutOfRange {
-    ghost use Rattle.std.specs.Prelude.{Some};
-    ghost use Rattle.enumset_derive_plan.specs.Faults.{range_text};
-
-    ghost output = { λ out. Some (range_text out) };
-
     fn fmt<W: fmt::Write>(&self, f: &mut fmt::Formatter<W>) -> fmt::Result {
         write!(f, "bit {}, width {}", self.bit, self.width)
     }
 }
 
 impl fmt::Display for Wanted {
-    ghost use Rattle.std.specs.Prelude.{Some};
-    ghost use Rattle.enumset_derive_plan.specs.Faults.{wanted_text};
-
-    ghost output = { λ wanted. Some (wanted_text wanted) };
-
     fn fmt<W: fmt::Write>(&self, f: &mut fmt::Formatter<W>) -> fmt::Result {
-        match self {
-            Wanted::EnumName => write!(f, "a name of an enum"),
-            Wanted::Variants => write!(f, "`{{`"),
-            Wanted::VariantName => write!(f, "a name of a variant, or `}}`"),
-            Wanted::NextVariant => write!(f, "`,` or `}}`"),
-            Wanted::Attribute => write!(f, "`[`"),
-            Wanted::Arguments => write!(f, "`(`"),
-            Wanted::OptionName => write!(f, "a name of an option, or `)`"),
-            Wanted::OptionValue => write!(f, "`=` and a text in quotes"),
-            Wanted::NextOption => write!(f, "`,` or `)`"),
-            Wanted::DeriveName => write!(f, "a path, or `)`"),
-            Wanted::NextDerive => write!(f, "`,` or `)`"),
-            Wanted::Item => write!(f, "an item"),
-        }
+        f.write_str(match self {
+            Wanted::EnumName => "a name of an enum",
+            Wanted::Variants => "`{`",
+            Wanted::VariantName => "a name of a variant, or `}`",
+            Wanted::NextVariant => "`,` or `}`",
+            Wanted::Attribute => "`[`",
+            Wanted::Arguments => "`(`",
+            Wanted::OptionName => "a name of an option, or `)`",
+            Wanted::OptionValue => "`=` and a text in quotes",
+            Wanted::NextOption | Wanted::NextDerive => "`,` or `)`",
+            Wanted::DeriveName => "a path, or `)`",
+            Wanted::Item => "an item",
+        })
     }
 }
 
 impl Error for Fault {}
 
 /// Why there is no module.
-#[derive(Clone, Copy, Debug, PartialEq, Eq)]
+#[derive(Clone, Copy, Debug)]
 pub enum DeriveError {
     /// The text has a fault.
     Fault(Fault),
@@ -212,11 +182,6 @@ pub enum DeriveError {
 }
 
 impl fmt::Display for DeriveError {
-    ghost use Rattle.std.specs.Prelude.{Some};
-    ghost use Rattle.enumset_derive_plan.specs.Faults.{error_text};
-
-    ghost output = { λ error. Some (error_text error) };
-
     fn fmt<W: fmt::Write>(&self, f: &mut fmt::Formatter<W>) -> fmt::Result {
         match self {
             DeriveError::Fault(fault) => write!(f, "{fault}"),

@@ -1,12 +1,12 @@
 //! The unsigned integer types.
 
 ghost use Rattle.std.specs.Prelude.{◌≡◌};
-ghost use Rattle.enumset_derive_plan.specs.Integers.{width};
+ghost use Rattle.enumset_derive_plan.specs.Numbers.{width};
 
 use std::fmt;
 
 /// An unsigned integer type.
-#[derive(Clone, Copy, Debug, PartialEq, Eq)]
+#[derive(Clone, Copy)]
 pub enum IntegerType {
     U8,
     U16,
@@ -32,11 +32,6 @@ impl IntegerType {
 
 /// The name of the type, as `u8`.
 impl fmt::Display for IntegerType {
-    ghost use Rattle.std.specs.Prelude.{Some};
-    ghost use Rattle.enumset_derive_plan.specs.Integers.{type_name};
-
-    ghost output = { λ integer. Some (type_name integer) };
-
     fn fmt<W: fmt::Write>(&self, f: &mut fmt::Formatter<W>) -> fmt::Result {
         match self {
             IntegerType::U8 => write!(f, "u8"),

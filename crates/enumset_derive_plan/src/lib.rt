@@ -1,7 +1,7 @@
 //! Declarations of enums, and the plan of an element type: its bits, its representation, its constants.
 //!
-//! Nothing here reads or writes a text: `enumset_derive_source` reads declarations, and `enumset_derive_module` writes
-//! modules from declarations and plans.
+//! Nothing here reads or writes a text: the program `enumset_derive` reads declarations, and writes modules from
+//! declarations and plans.
 #![tactic(auto)]
 
 pub mod declaration;
@@ -12,9 +12,8 @@ pub mod options;
 pub mod place;
 pub mod plan;
 pub mod planning;
-pub mod text;
 
-pub use declaration::{Discriminant, EnumDeclaration, Item, Source, Variant};
+pub use declaration::{Discriminant, EnumDeclaration, Variant};
 pub use fault::{DeriveError, Fault, OutOfRange, Reason, Wanted};
 pub use integer_type::IntegerType;
 pub use number::Number;
@@ -22,4 +21,3 @@ pub use options::{Map, Options, Representation, Serialized};
 pub use place::Place;
 pub use plan::{Plan, Store};
 pub use planning::plan_enum;
-pub use text::Text;

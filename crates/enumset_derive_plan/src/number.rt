@@ -1,13 +1,13 @@
 //! The numbers of discriminants.
 
 ghost use Rattle.std.specs.Prelude.{◌≡◌};
-ghost use Rattle.enumset_derive_plan.specs.Bits.{next_number, same_number};
+ghost use Rattle.enumset_derive_plan.specs.Numbers.{next_number, same_number};
 
 /// The number of a discriminant. Each number has one form: zero is `Small(0)`.
 ///
 /// A literal past 2^128 - 1 names a bit only if it is the mask of the bit, a power of two. So no other number past
 /// 2^128 - 1 is kept.
-#[derive(Clone, Copy, Debug, PartialEq, Eq)]
+#[derive(Clone, Copy)]
 pub enum Number {
     /// A number from 0 to 2^128 - 1.
     Small(u128),

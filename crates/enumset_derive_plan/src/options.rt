@@ -2,10 +2,9 @@
 
 use crate::integer_type::IntegerType;
 use crate::place::Place;
-use crate::text::Text;
 
 /// The options of an element type.
-#[derive(Debug, Drop)]
+#[derive(Drop)]
 pub struct Options {
     /// Which bit a discriminant names: `map`, by default `Lsb`.
     pub map: Map,
@@ -24,11 +23,11 @@ pub struct Options {
     /// Whether `Display` by the variants' names is written: `display`.
     pub has_display: bool,
     /// The name of the crate `enumset` in the code that is written: `crate_name`, if it is given.
-    pub crate_name: Option<Text>,
+    pub crate_name: Option<String>,
 }
 
 /// Which bit a discriminant names.
-#[derive(Clone, Copy, Debug, PartialEq, Eq)]
+#[derive(Clone, Copy)]
 pub enum Map {
     /// Its own number, counted from the least significant bit.
     Lsb,
@@ -41,7 +40,7 @@ pub enum Map {
 }
 
 /// What keeps a set.
-#[derive(Clone, Copy, Debug, PartialEq, Eq)]
+#[derive(Clone, Copy)]
 pub enum Representation {
     /// One integer.
     Integer(IntegerType),
@@ -50,7 +49,7 @@ pub enum Representation {
 }
 
 /// What a set is in JSON.
-#[derive(Clone, Copy, Debug, PartialEq, Eq)]
+#[derive(Clone, Copy)]
 pub enum Serialized {
     /// A number of this type.
     Integer(IntegerType),

@@ -5,18 +5,13 @@ use std::fmt;
 /// A place in a text: its line, and the character in that line, both counted from 1.
 ///
 /// A line feed ends a line. A character is a Unicode scalar value, so a tab is one.
-#[derive(Clone, Copy, Debug, PartialEq, Eq)]
+#[derive(Clone, Copy, Debug)]
 pub struct Place {
     pub line: u64,
     pub column: u64,
 }
 
 impl fmt::Display for Place {
-    ghost use Rattle.std.specs.Prelude.{Some};
-    ghost use Rattle.enumset_derive_plan.specs.Faults.{place_text};
-
-    ghost output = { λ place. Some (place_text place) };
-
     fn fmt<W: fmt::Write>(&self, f: &mut fmt::Formatter<W>) -> fmt::Result {
         write!(f, "line {}, column {}", self.line, self.column)
     }

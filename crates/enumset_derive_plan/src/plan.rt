@@ -4,7 +4,7 @@ use crate::integer_type::IntegerType;
 use crate::number::Number;
 
 /// What the implementation of an element type says of an enum.
-#[derive(Debug, Drop)]
+#[derive(Drop)]
 pub struct Plan {
     /// The bit of each variant, in the order of the declaration.
     pub bits: Vec<u32>,
@@ -19,7 +19,7 @@ pub struct Plan {
 }
 
 /// What keeps a set, with the value of `ALL_BITS`.
-#[derive(Debug, Drop)]
+#[derive(Drop)]
 pub enum Store {
     /// An integer of this type, and the number of all bits.
     Integer(IntegerType, u128),

@@ -2,7 +2,8 @@
 
 ghost use Rattle.std.specs.Prelude.{◌≡◌, ◌≤◌, length, IsTrue, IfOk, IfErr};
 ghost use Rattle.enumset_repr.specs.Number.{is_distinct};
-ghost use Rattle.enumset_derive_plan.specs.Variants.{named_variants, bits_of, numbers_of, are_in_range, IsErrorOf};
+ghost use Rattle.enumset_sets.specs.Laws.Elements.{one_past_all};
+ghost use Rattle.enumset_derive_plan.specs.Variants.{named_variants, bits_of, numbers_of, bit_limit, IsErrorOf};
 ghost use Rattle.enumset_derive_plan.specs.Plans.{IsPlanned, IsLawfulPlan, IsStoredAsAsked};
 
 pub mod named;
@@ -37,7 +38,7 @@ pub fn plan_enum(alloc: Global, declaration: &EnumDeclaration) -> Result<Plan, D
 fn plan_of(alloc: Global, rules: Rules, named: &[Named]) -> Result<Plan, AllocError>
     requires few { length named.now ≤ 256 }
     requires distinct { IsTrue (is_distinct (bits_of named.now)) }
-    requires range { IsTrue (are_in_range rules named.now) }
+    requires range { one_past_all (bits_of named.now) ≤ bit_limit rules.representation }
     ensures bits { IfOk result (λ plan. plan.bits.items ≡ bits_of named.now) }
     ensures discriminants { IfOk result (λ plan. plan.discriminants.items ≡ numbers_of named.now) }
     ensures lawful { IfOk result (IsLawfulPlan (length named.now)) }

@@ -66,7 +66,7 @@ impl Numbered {
     pub fn to_json(
         alloc: std::alloc::Global,
         set: &EnumSet<Self>,
-    ) -> Result<serde_json::Value, set_json::JsonFault>
+    ) -> std::result::Result<serde_json::Value, set_json::JsonFault>
         ensures fits { IsOk result ↔ IsTrue (is_subset set.now (below 8)) }
         ensures value { IfOk result (λ value. view value ≡ number_value (number set.now)) }
         ensures fault { IfErr result (λ fault. fault ≡ TooWide) }
@@ -77,7 +77,9 @@ impl Numbered {
     /// The set that `to_json` writes so. Bits that no variant has are left out.
     ///
     /// The faults are those of [`set_json::from_number`], in their order. It takes no memory.
-    pub fn from_json(value: &serde_json::Value) -> Result<EnumSet<Self>, set_json::JsonFault>
+    pub fn from_json(
+        value: &serde_json::Value,
+    ) -> std::result::Result<EnumSet<Self>, set_json::JsonFault>
         ensures { result ≡ set_of_number
             (valid_bits ⟦<Numbered as EnumSetType>⟧.elements) 8
             unknown.Drop (view value.now) }
@@ -139,7 +141,7 @@ impl InWords {
     pub fn to_json(
         alloc: std::alloc::Global,
         set: &EnumSet<Self>,
-    ) -> Result<serde_json::Value, set_json::JsonFault>
+    ) -> std::result::Result<serde_json::Value, set_json::JsonFault>
         ensures value { IfOk result (λ value. view value ≡ words_value (words set.now 4)) }
         ensures fault { IfErr result (λ fault. fault ≡ OutOfMemory) }
     {
@@ -149,7 +151,9 @@ impl InWords {
     /// The set that `to_json` writes so. A bit that no variant has is a fault.
     ///
     /// The faults are those of [`set_json::from_words`], in their order. It takes no memory.
-    pub fn from_json(value: &serde_json::Value) -> Result<EnumSet<Self>, set_json::JsonFault>
+    pub fn from_json(
+        value: &serde_json::Value,
+    ) -> std::result::Result<EnumSet<Self>, set_json::JsonFault>
         ensures { result ≡ set_of_words
             (valid_bits ⟦<InWords as EnumSetType>⟧.elements)
             unknown.Refuse (view value.now) }
@@ -227,7 +231,7 @@ impl Listed {
     pub fn to_json(
         alloc: std::alloc::Global,
         set: &EnumSet<Self>,
-    ) -> Result<serde_json::Value, set_json::JsonFault>
+    ) -> std::result::Result<serde_json::Value, set_json::JsonFault>
         ensures value { IfOk result (λ value. view value ≡ list_value
             (names_of ⟦<Listed as EnumSetType>⟧.elements ⟦<Listed as EnumSetNames>⟧.names) set.now) }
         ensures fault { IfErr result (λ fault. fault ≡ OutOfMemory) }
@@ -238,7 +242,9 @@ impl Listed {
     /// The set that `to_json` writes so. Names that no variant has are left out.
     ///
     /// The faults are those of [`set_json::from_list`], in their order. It takes no memory.
-    pub fn from_json(value: &serde_json::Value) -> Result<EnumSet<Self>, set_json::JsonFault>
+    pub fn from_json(
+        value: &serde_json::Value,
+    ) -> std::result::Result<EnumSet<Self>, set_json::JsonFault>
         ensures { result ≡ set_of_list
             (names_of ⟦<Listed as EnumSetType>⟧.elements ⟦<Listed as EnumSetNames>⟧.names)
             unknown.Drop (view value.now) }
@@ -316,7 +322,7 @@ impl Mapped {
     pub fn to_json(
         alloc: std::alloc::Global,
         set: &EnumSet<Self>,
-    ) -> Result<serde_json::Value, set_json::JsonFault>
+    ) -> std::result::Result<serde_json::Value, set_json::JsonFault>
         ensures value { IfOk result (λ value. view value ≡ map_value
             (names_of ⟦<Mapped as EnumSetType>⟧.elements ⟦<Mapped as EnumSetNames>⟧.names) set.now) }
         ensures fault { IfErr result (λ fault. fault ≡ OutOfMemory) }
@@ -327,7 +333,9 @@ impl Mapped {
     /// The set that `to_json` writes so. A name that no variant has is a fault.
     ///
     /// The faults are those of [`set_json::from_map`], in their order. It takes no memory.
-    pub fn from_json(value: &serde_json::Value) -> Result<EnumSet<Self>, set_json::JsonFault>
+    pub fn from_json(
+        value: &serde_json::Value,
+    ) -> std::result::Result<EnumSet<Self>, set_json::JsonFault>
         ensures { result ≡ set_of_map
             (names_of ⟦<Mapped as EnumSetType>⟧.elements ⟦<Mapped as EnumSetNames>⟧.names)
             unknown.Refuse (view value.now) }

@@ -1,7 +1,7 @@
-//! Element types whose sets have a form in JSON, over integers and over words, with what proofs want of some of them.
+//! Element types whose sets have a form in JSON, over integers and over words.
 //!
-//! `enumset_derive` writes each module from its file in `enums/`, and the files for proofs: change that file, and call
-//! `scripts/written-types`. The names of `Of64` and `Wide` are given by hand.
+//! `enumset_derive` writes each module from its file in `enums/`: change that file, and call `scripts/written-types`. The
+//! names of `Of64` and `Wide` are given by hand.
 #![tactic(auto)]
 
 pub mod forms;

@@ -80,7 +80,7 @@ impl Letters {
     pub fn to_json(
         alloc: std::alloc::Global,
         set: &EnumSet<Self>,
-    ) -> Result<serde_json::Value, set_json::JsonFault>
+    ) -> std::result::Result<serde_json::Value, set_json::JsonFault>
         ensures value { IfOk result (λ value. view value ≡ list_value
             (names_of ⟦<Letters as EnumSetType>⟧.elements ⟦<Letters as EnumSetNames>⟧.names) set.now) }
         ensures fault { IfErr result (λ fault. fault ≡ OutOfMemory) }
@@ -91,7 +91,9 @@ impl Letters {
     /// The set that `to_json` writes so. Names that no variant has are left out.
     ///
     /// The faults are those of [`set_json::from_list`], in their order. It takes no memory.
-    pub fn from_json(value: &serde_json::Value) -> Result<EnumSet<Self>, set_json::JsonFault>
+    pub fn from_json(
+        value: &serde_json::Value,
+    ) -> std::result::Result<EnumSet<Self>, set_json::JsonFault>
         ensures { result ≡ set_of_list
             (names_of ⟦<Letters as EnumSetType>⟧.elements ⟦<Letters as EnumSetNames>⟧.names)
             unknown.Drop (view value.now) }
@@ -178,7 +180,7 @@ impl LaterLetters {
     pub fn to_json(
         alloc: std::alloc::Global,
         set: &EnumSet<Self>,
-    ) -> Result<serde_json::Value, set_json::JsonFault>
+    ) -> std::result::Result<serde_json::Value, set_json::JsonFault>
         ensures value { IfOk result (λ value. view value ≡ list_value
             (names_of ⟦<LaterLetters as EnumSetType>⟧.elements ⟦<LaterLetters as EnumSetNames>⟧.names) set.now) }
         ensures fault { IfErr result (λ fault. fault ≡ OutOfMemory) }
@@ -189,7 +191,9 @@ impl LaterLetters {
     /// The set that `to_json` writes so. Names that no variant has are left out.
     ///
     /// The faults are those of [`set_json::from_list`], in their order. It takes no memory.
-    pub fn from_json(value: &serde_json::Value) -> Result<EnumSet<Self>, set_json::JsonFault>
+    pub fn from_json(
+        value: &serde_json::Value,
+    ) -> std::result::Result<EnumSet<Self>, set_json::JsonFault>
         ensures { result ≡ set_of_list
             (names_of ⟦<LaterLetters as EnumSetType>⟧.elements ⟦<LaterLetters as EnumSetNames>⟧.names)
             unknown.Drop (view value.now) }
@@ -270,7 +274,7 @@ impl Sparse {
     pub fn to_json(
         alloc: std::alloc::Global,
         set: &EnumSet<Self>,
-    ) -> Result<serde_json::Value, set_json::JsonFault>
+    ) -> std::result::Result<serde_json::Value, set_json::JsonFault>
         ensures value { IfOk result (λ value. view value ≡ list_value
             (names_of ⟦<Sparse as EnumSetType>⟧.elements ⟦<Sparse as EnumSetNames>⟧.names) set.now) }
         ensures fault { IfErr result (λ fault. fault ≡ OutOfMemory) }
@@ -281,7 +285,9 @@ impl Sparse {
     /// The set that `to_json` writes so. Names that no variant has are left out.
     ///
     /// The faults are those of [`set_json::from_list`], in their order. It takes no memory.
-    pub fn from_json(value: &serde_json::Value) -> Result<EnumSet<Self>, set_json::JsonFault>
+    pub fn from_json(
+        value: &serde_json::Value,
+    ) -> std::result::Result<EnumSet<Self>, set_json::JsonFault>
         ensures { result ≡ set_of_list
             (names_of ⟦<Sparse as EnumSetType>⟧.elements ⟦<Sparse as EnumSetNames>⟧.names)
             unknown.Drop (view value.now) }

@@ -128,7 +128,7 @@ impl Of64 {
     pub fn to_json(
         alloc: std::alloc::Global,
         set: &EnumSet<Self>,
-    ) -> Result<serde_json::Value, set_json::JsonFault>
+    ) -> std::result::Result<serde_json::Value, set_json::JsonFault>
         ensures fits { IsOk result ↔ IsTrue (is_subset set.now (below 64)) }
         ensures value { IfOk result (λ value. view value ≡ number_value (number set.now)) }
         ensures fault { IfErr result (λ fault. fault ≡ TooWide) }
@@ -139,7 +139,9 @@ impl Of64 {
     /// The set that `to_json` writes so. A bit that no variant has is a fault.
     ///
     /// The faults are those of [`set_json::from_number`], in their order. It takes no memory.
-    pub fn from_json(value: &serde_json::Value) -> Result<EnumSet<Self>, set_json::JsonFault>
+    pub fn from_json(
+        value: &serde_json::Value,
+    ) -> std::result::Result<EnumSet<Self>, set_json::JsonFault>
         ensures { result ≡ set_of_number
             (valid_bits ⟦<Of64 as EnumSetType>⟧.elements) 64
             unknown.Refuse (view value.now) }

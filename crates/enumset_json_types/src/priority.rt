@@ -68,7 +68,7 @@ impl Priority {
     pub fn to_json(
         alloc: std::alloc::Global,
         set: &EnumSet<Self>,
-    ) -> Result<serde_json::Value, set_json::JsonFault>
+    ) -> std::result::Result<serde_json::Value, set_json::JsonFault>
         ensures fits { IsOk result ↔ IsTrue (is_subset set.now (below 16)) }
         ensures value { IfOk result (λ value. view value ≡ number_value (number set.now)) }
         ensures fault { IfErr result (λ fault. fault ≡ TooWide) }
@@ -79,7 +79,9 @@ impl Priority {
     /// The set that `to_json` writes so. Bits that no variant has are left out.
     ///
     /// The faults are those of [`set_json::from_number`], in their order. It takes no memory.
-    pub fn from_json(value: &serde_json::Value) -> Result<EnumSet<Self>, set_json::JsonFault>
+    pub fn from_json(
+        value: &serde_json::Value,
+    ) -> std::result::Result<EnumSet<Self>, set_json::JsonFault>
         ensures { result ≡ set_of_number
             (valid_bits ⟦<Priority as EnumSetType>⟧.elements) 16
             unknown.Drop (view value.now) }

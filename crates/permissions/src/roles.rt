@@ -73,7 +73,7 @@ impl Role {
     pub fn to_json(
         alloc: std::alloc::Global,
         set: &EnumSet<Self>,
-    ) -> Result<serde_json::Value, set_json::JsonFault>
+    ) -> std::result::Result<serde_json::Value, set_json::JsonFault>
         ensures value { IfOk result (λ value. view value ≡ list_value
             (names_of ⟦<Role as EnumSetType>⟧.elements ⟦<Role as EnumSetNames>⟧.names) set.now) }
         ensures fault { IfErr result (λ fault. fault ≡ OutOfMemory) }
@@ -84,7 +84,9 @@ impl Role {
     /// The set that `to_json` writes so. A name that no variant has is a fault.
     ///
     /// The faults are those of [`set_json::from_list`], in their order. It takes no memory.
-    pub fn from_json(value: &serde_json::Value) -> Result<EnumSet<Self>, set_json::JsonFault>
+    pub fn from_json(
+        value: &serde_json::Value,
+    ) -> std::result::Result<EnumSet<Self>, set_json::JsonFault>
         ensures { result ≡ set_of_list
             (names_of ⟦<Role as EnumSetType>⟧.elements ⟦<Role as EnumSetNames>⟧.names)
             unknown.Refuse (view value.now) }

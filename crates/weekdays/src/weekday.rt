@@ -78,7 +78,7 @@ impl Weekday {
     pub fn to_json(
         alloc: std::alloc::Global,
         set: &EnumSet<Self>,
-    ) -> Result<serde_json::Value, set_json::JsonFault>
+    ) -> std::result::Result<serde_json::Value, set_json::JsonFault>
         ensures value { IfOk result (λ value. view value ≡ list_value
             (names_of ⟦<Weekday as EnumSetType>⟧.elements ⟦<Weekday as EnumSetNames>⟧.names) set.now) }
         ensures fault { IfErr result (λ fault. fault ≡ OutOfMemory) }
@@ -89,7 +89,9 @@ impl Weekday {
     /// The set that `to_json` writes so. Names that no variant has are left out.
     ///
     /// The faults are those of [`set_json::from_list`], in their order. It takes no memory.
-    pub fn from_json(value: &serde_json::Value) -> Result<EnumSet<Self>, set_json::JsonFault>
+    pub fn from_json(
+        value: &serde_json::Value,
+    ) -> std::result::Result<EnumSet<Self>, set_json::JsonFault>
         ensures { result ≡ set_of_list
             (names_of ⟦<Weekday as EnumSetType>⟧.elements ⟦<Weekday as EnumSetNames>⟧.names)
             unknown.Drop (view value.now) }

@@ -18,7 +18,7 @@ was_known : (n : ℕ) (next : Type 0) → once_known n next → next
 was_known zero next h = h
 was_known (suc n) next h = h
 
-known : (n : ℕ) (next : Type 0) → next → once_known n next
+pub known : (n : ℕ) (next : Type 0) → next → once_known n next
 known zero next h = h
 known (suc n) next h = h
 

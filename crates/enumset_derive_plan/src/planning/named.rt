@@ -1,12 +1,14 @@
 //! The variants of an enum, each with its bit.
 
-ghost use Rattle.std.specs.Prelude.{◌≡◌, ◌+◌, ◌≤◌, ◌==◌, length, false, [], IsTrue, IfOk, IfErr};
+ghost use Rattle.std.specs.Prelude.{◌≡◌, ◌+◌, ◌<◌, ◌≤◌, ◌==◌, length, false, [], IsTrue, IfOk, IfErr};
 ghost use Rattle.std.specs.List.{find};
+ghost use Rattle.std.specs.Option.{option_map};
 ghost use Rattle.enumset_repr.specs.BitSet.{is_in};
 ghost use Rattle.enumset_repr.specs.Number.{is_distinct};
+ghost use Rattle.enumset_sets.specs.Laws.Elements.{one_past_all};
 ghost use Rattle.enumset_derive_plan.specs.declared.number.Number.TheVariants.{Small};
-ghost use Rattle.enumset_derive_plan.specs.Bits.{same_number};
-ghost use Rattle.enumset_derive_plan.specs.Variants.{number_of, number_place, place_of_name, name_test, taken_test, bit_among, named_variant, named_from, is_in_range, are_in_range, bits_of, IsErrorOf};
+ghost use Rattle.enumset_derive_plan.specs.Numbers.{same_number};
+ghost use Rattle.enumset_derive_plan.specs.Variants.{number_of, number_place, has_name, name_test, taken_test, bit_among, named_variant, named_from, bit_limit, bits_of, IsErrorOf};
 
 use super::rules::Rules;
 use crate::declaration::Variant;
@@ -19,7 +21,7 @@ use std::alloc::Global;
 const VARIANT_LIMIT: usize = 256;
 
 /// A variant whose bit is known.
-#[derive(Clone, Copy, Debug, PartialEq, Eq)]
+#[derive(Clone, Copy)]
 pub struct Named {
     pub bit: u32,
     /// The discriminant, given or implied.
@@ -39,7 +41,7 @@ pub fn name_variants(
     ensures count { IfOk result (λ named. length named.items ≡ length variants.now) }
     ensures few { IfOk result (λ named. length named.items ≤ 256) }
     ensures distinct { IfOk result (λ named. IsTrue (is_distinct (bits_of named.items))) }
-    ensures range { IfOk result (λ named. IsTrue (are_in_range rules named.items)) }
+    ensures range { IfOk result (λ named. one_past_all (bits_of named.items) ≤ bit_limit rules.representation) }
     ensures fault { IfErr result (IsErrorOf (named_from rules [] [] (Some (Small 0)) variants.now)) }
 {
     let mut named = Vec::new(alloc);
@@ -54,7 +56,7 @@ pub fn name_variants(
 
 /// The variant with its bit, or its first fault. The variants before it are given, with their bits, and the
 /// discriminant that it has if it gives none.
-pub fn name_variant(
+fn name_variant(
     rules: Rules,
     earlier: &[Variant],
     named: &[Named],
@@ -64,10 +66,15 @@ pub fn name_variant(
     requires { length named.now ≡ length earlier.now }
     ensures variant { result ≡ named_variant rules earlier.now named.now implied variant.now }
     ensures new { IfOk result (λ n. is_in n.bit (bits_of named.now) ≡ false) }
-    ensures range { IfOk result (λ n. IsTrue (is_in_range rules n.bit)) }
+    ensures range { IfOk result (λ n. n.bit < bit_limit rules.representation) }
     ensures few { IfOk result (λ _. length named.now + 1 ≤ 256) }
 {
-    test_name(earlier, variant)?;
+    if let Err(reason) = test_name(earlier, variant) {
+        return Err(Fault {
+            place: variant.place,
+            reason,
+        });
+    }
     let place = number_place(variant);
     let Some(number) = number_of(variant, implied) else {
         return Err(Fault {
@@ -81,34 +88,27 @@ pub fn name_variant(
     }
 }
 
-/// Whether there may be one more variant, and of this name; or the fault.
-fn test_name(earlier: &[Variant], variant: &Variant) -> Result<(), Fault>
+/// Whether there may be one more variant, and of this name; or what is wrong.
+fn test_name(earlier: &[Variant], variant: &Variant) -> Result<(), Reason>
     ensures test { result ≡ name_test earlier.now variant.now }
     ensures few { IfOk result (λ _. length earlier.now + 1 ≤ 256) }
 {
-    let place = variant.place;
     if earlier.len() >= VARIANT_LIMIT {
-        return Err(Fault {
-            place,
-            reason: Reason::TooManyVariants,
-        });
+        return Err(Reason::TooManyVariants);
     }
-    match place_of_name(earlier, variant.name.as_bytes()) {
-        Some(first) => Err(Fault {
-            place,
-            reason: Reason::NameTwice(first),
-        }),
+    match place_of_name(earlier, variant) {
+        Some(first) => Err(Reason::NameTwice(first)),
         None => Ok(()),
     }
 }
 
-/// Where the first variant of this name is.
-fn place_of_name(variants: &[Variant], name: &[u8]) -> Option<Place>
-    ensures { result ≡ place_of_name variants.now name.now }
+/// Where the first variant is that has the name of this one.
+fn place_of_name(variants: &[Variant], variant: &Variant) -> Option<Place>
+    ensures { result ≡ option_map (λ w. w.place) (find (has_name variant.now) variants.now) }
 {
-    for variant in variants {
-        if variant.name.as_bytes() == name {
-            return Some(variant.place);
+    for other in variants {
+        if other.name.as_str() == variant.name.as_str() {
+            return Some(other.place);
         }
     }
     None
@@ -139,7 +139,7 @@ fn bit_among(rules: Rules, named: &[Named], number: Number) -> Result<u32, Reaso
     requires { length named.now + 1 ≤ 256 }
     ensures bit { result ≡ bit_among rules named.now number }
     ensures new { IfOk result (λ b. is_in b (bits_of named.now) ≡ false) }
-    ensures range { IfOk result (λ b. IsTrue (is_in_range rules b)) }
+    ensures range { IfOk result (λ b. b < bit_limit rules.representation) }
 {
     let bit = rules.naming.bit_of(named.len() as u32, number)?;
     rules.test_range(bit)?;

@@ -1,7 +1,7 @@
 //! Which bit a discriminant names.
 
-ghost use Rattle.std.specs.Prelude.{◌≡◌};
-ghost use Rattle.enumset_derive_plan.specs.Bits.{naming_of, bit_of, small_bit, bit_from_top, bit_of_mask};
+ghost use Rattle.std.specs.Prelude.{◌≡◌, ◌<◌, IfOk};
+ghost use Rattle.enumset_derive_plan.specs.Numbers.{naming_of, bit_of, small_bit, bit_from_top, bit_of_mask};
 
 use crate::fault::{OutOfRange, Reason};
 use crate::integer_type::IntegerType;
@@ -12,7 +12,7 @@ use crate::options::{Map, Representation};
 const GREATEST_BIT: u32 = 4294967231;
 
 /// How a discriminant names a bit.
-#[derive(Clone, Copy, Debug, PartialEq, Eq)]
+#[derive(Clone, Copy)]
 pub enum Naming {
     /// Its own number.
     Lsb,
@@ -29,20 +29,20 @@ impl Naming {
     pub fn of(map: Map, representation: Option<Representation>) -> Option<Naming>
         ensures { result ≡ naming_of map representation }
     {
-        match map {
-            Map::Lsb => Some(Naming::Lsb),
-            Map::Msb => match representation {
-                Some(Representation::Integer(integer)) => Some(Naming::Msb(integer)),
-                _ => None,
-            },
-            Map::Mask => Some(Naming::Mask),
-            Map::Compact => Some(Naming::Compact),
+        match (map, representation) {
+            (Map::Lsb, _) => Some(Naming::Lsb),
+            (Map::Msb, Some(Representation::Integer(integer))) => Some(Naming::Msb(integer)),
+            (Map::Msb, _) => None,
+            (Map::Mask, _) => Some(Naming::Mask),
+            (Map::Compact, _) => Some(Naming::Compact),
         }
     }
 
     /// The bit of the variant at a place, counted from 0, that has a discriminant; or why it has none.
     pub fn bit_of(self, place: u32, number: Number) -> Result<u32, Reason>
-        ensures { result ≡ bit_of self place number }
+        requires { place < 256 }
+        ensures bit { result ≡ bit_of self place number }
+        ensures below { IfOk result (λ b. b < 4294967232) }
     {
         match self {
             Naming::Lsb => small_bit(number),
@@ -54,7 +54,8 @@ impl Naming {
 }
 
 fn small_bit(number: Number) -> Result<u32, Reason>
-    ensures { result ≡ small_bit number }
+    ensures bit { result ≡ small_bit number }
+    ensures below { IfOk result (λ b. b < 4294967232) }
 {
     match number {
         Number::Small(bit) if bit <= u128::from(GREATEST_BIT) => Ok(bit as u32),
@@ -63,7 +64,8 @@ fn small_bit(number: Number) -> Result<u32, Reason>
 }
 
 fn bit_from_top(integer: IntegerType, bit: u32) -> Result<u32, Reason>
-    ensures { result ≡ bit_from_top integer bit }
+    ensures bit { result ≡ bit_from_top integer bit }
+    ensures below { IfOk result (λ b. b < 128) }
 {
     let width = integer.width();
     if bit < width {
@@ -74,7 +76,8 @@ fn bit_from_top(integer: IntegerType, bit: u32) -> Result<u32, Reason>
 }
 
 fn bit_of_mask(number: Number) -> Result<u32, Reason>
-    ensures { result ≡ bit_of_mask number }
+    ensures bit { result ≡ bit_of_mask number }
+    ensures below { IfOk result (λ b. b < 4294967232) }
 {
     match number {
         Number::Small(mask) if mask.is_power_of_two() => Ok(mask.trailing_zeros()),

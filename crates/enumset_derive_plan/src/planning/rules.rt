@@ -1,14 +1,14 @@
 //! What the options of an enum ask of its bits.
 
-ghost use Rattle.std.specs.Prelude.{◌≡◌, IfOk};
-ghost use Rattle.enumset_derive_plan.specs.Variants.{rules_of, range_test};
+ghost use Rattle.std.specs.Prelude.{◌≡◌, ◌<◌, IfOk};
+ghost use Rattle.enumset_derive_plan.specs.Variants.{rules_of, bit_limit, range_test};
 
 use super::naming::Naming;
 use crate::fault::{Fault, OutOfRange, Reason};
 use crate::options::{Options, Representation, Serialized};
 
 /// What the options of an enum ask of its bits.
-#[derive(Clone, Copy, Debug, PartialEq, Eq)]
+#[derive(Clone, Copy)]
 pub struct Rules {
     /// How a discriminant names a bit.
     pub naming: Naming,
@@ -23,7 +23,6 @@ impl Rules {
     pub fn of(options: &Options) -> Result<Rules, Fault>
         ensures rules { result ≡ rules_of options.now }
         ensures representation { IfOk result (λ rules. rules.representation ≡ options.now.representation) }
-        ensures serialized { IfOk result (λ rules. rules.serialized ≡ options.now.serialized) }
     {
         match Naming::of(options.map, options.representation) {
             Some(naming) => Ok(Rules {
@@ -40,7 +39,9 @@ impl Rules {
 
     /// Whether what keeps a set, and what a set is in JSON, has this bit; or which has it not.
     pub fn test_range(self, bit: u32) -> Result<(), Reason>
-        ensures { result ≡ range_test self bit }
+        requires { bit < 4294967232 }
+        ensures test { result ≡ range_test self bit }
+        ensures below { IfOk result (λ _. bit < bit_limit self.representation) }
     {
         if let Some(Representation::Integer(integer)) = self.representation {
             let width = integer.width();

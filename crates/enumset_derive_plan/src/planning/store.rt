@@ -1,11 +1,11 @@
 //! What keeps a set, and the set of all bits in it.
 
-ghost use Rattle.std.specs.Prelude.{◌≡◌, ◌*◌, ◌^◌, IsTrue, IfOk, length, nat_lt, nat_le, sum_by};
-ghost use Rattle.std.specs.List.{list_all};
+ghost use Rattle.std.specs.Prelude.{◌≡◌, ◌≤◌, ◌*◌, ◌^◌, length, sum_by, IsTrue, IfOk};
 ghost use Rattle.enumset_repr.specs.Number.{is_distinct};
 ghost use Rattle.enumset_repr.specs.Words.{lists_words};
-ghost use Rattle.enumset_derive_plan.specs.Stores.{kind_of, smallest_integer, word_count, IsStore, are_below, has_room};
 ghost use Rattle.enumset_sets.specs.Laws.Elements.{one_past_all};
+ghost use Rattle.enumset_derive_plan.specs.Variants.{bit_limit};
+ghost use Rattle.enumset_derive_plan.specs.Plans.{smallest_integer, kind_of, HasRoom, IsStore, IsLawfulStore};
 
 use crate::integer_type::IntegerType;
 use crate::options::Representation;
@@ -14,19 +14,20 @@ use std::alloc::{AllocError, Global};
 
 /// One past the greatest bit, or 0 if there is none.
 pub fn width_of(bits: &[u32]) -> u32
-    requires { IsTrue (are_below 4294967232 bits.now) }
+    requires { one_past_all bits.now ≤ 4294967232 }
     ensures { result ≡ one_past_all bits.now }
 {
-    let mut width = 0;
-    for bit in bits {
-        width = width.max(*bit + 1);
+    match bits {
+        [] => 0,
+        [bit, rest @ ..] => (*bit + 1).max(width_of(rest)),
     }
-    width
 }
 
 /// What keeps a set: as asked for, else the smallest integer with this many bits, else words.
 pub fn kind_of(representation: Option<Representation>, width: u32) -> Representation
-    ensures { result ≡ kind_of representation width }
+    requires { width ≤ bit_limit representation }
+    ensures kind { result ≡ kind_of representation width }
+    ensures room { HasRoom result width }
 {
     match representation {
         Some(representation) => representation,
@@ -59,9 +60,10 @@ pub fn store_of(
     width: u32,
 ) -> Result<Store, AllocError>
     requires distinct { IsTrue (is_distinct bits.now) }
-    requires below { IsTrue (are_below width bits.now) }
-    requires room { IsTrue (has_room kind bits.now) }
-    ensures { IfOk result (IsStore kind bits.now width) }
+    requires width { width ≡ one_past_all bits.now }
+    requires room { HasRoom kind width }
+    ensures kind { IfOk result (IsStore kind width) }
+    ensures lawful { IfOk result (λ s. IsLawfulStore (length bits.now) bits.now s width (length bits.now)) }
 {
     match kind {
         Representation::Integer(integer) => Ok(Store::Integer(integer, number_of(bits))),
@@ -72,26 +74,28 @@ pub fn store_of(
 /// The number of these bits.
 fn number_of(bits: &[u32]) -> u128
     requires distinct { IsTrue (is_distinct bits.now) }
-    requires below { IsTrue (are_below 128 bits.now) }
+    requires below { one_past_all bits.now ≤ 128 }
     ensures { result ≡ sum_by (λ b. 2 ^ b) bits.now }
 {
-    let mut number = 0u128;
-    for bit in bits {
-        number += 1 << *bit;
+    match bits {
+        [] => 0,
+        [bit, rest @ ..] => number_of(rest) + (1 << *bit),
     }
-    number
 }
 
 /// As many words, with these bits.
 fn words_of(alloc: Global, bits: &[u32], count: u32) -> Result<Vec<u64>, AllocError>
     requires distinct { IsTrue (is_distinct bits.now) }
-    requires below { IsTrue (are_below (64 * count) bits.now) }
+    requires below { one_past_all bits.now ≤ 64 * count }
     ensures count { IfOk result (λ words. length words.items ≡ count) }
     ensures bits { IfOk result (λ words. IsTrue (lists_words bits.now words.items)) }
 {
-    let mut words = vec![in alloc; 0u64; count as usize]?;
-    for bit in bits {
-        words[(*bit / 64) as usize] += 1 << (*bit % 64);
+    match bits {
+        [] => Ok(vec![in alloc; 0u64; count as usize]?),
+        [bit, rest @ ..] => {
+            let mut words = words_of(alloc, rest, count)?;
+            words[(*bit / 64) as usize] += 1 << (*bit % 64);
+            Ok(words)
+        }
     }
-    Ok(words)
 }

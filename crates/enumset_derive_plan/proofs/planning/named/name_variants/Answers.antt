@@ -1,8 +1,8 @@
 use Rattle.std.proofs.Common.{rules, ◌≡◌, ◌+◌, suc, ◌<◌, [], ◌∷◌, ◌++◌, length, take, drop, Ok, sym, ap, ◌∙◌, arith, get_or, drop-cons, add-one, length-append}
 use Rattle.std.proofs.lemmas.List.{take_more}
-use Rattle.enumset_derive_plan.specs.Bits.{next_number}
-use Rattle.enumset_derive_plan.specs.Variants.{named_variant, named_from}
-use Rattle.enumset_derive_plan.proofs.Named.{named_from-next, bits_of-append, in_range-append}
+use Rattle.enumset_derive_plan.specs.Numbers.{next_number}
+use Rattle.enumset_derive_plan.specs.Variants.{named_variant, named_from, bit_limit}
+use Rattle.enumset_derive_plan.proofs.Named.{named_from-next, bits_of-append, below-append}
 use Rattle.enumset_derive_plan.proofs.planning.named.name_variants.Goals as goal
 
 pub loop-i-preserved : goal.loop-i-preserved
@@ -25,5 +25,5 @@ loop-i-preserved c =
       count = rw items (length-append before (n ∷ []) ∙ omega (arith, c.loop-i.invariant.count));
       few = search rules;
       distinct = rw items (bits_of-append before n c.loop-i.invariant.distinct (search rules));
-      range = rw items (in_range-append rules_now before n c.loop-i.invariant.range (search rules));
+      range = rw items (below-append (bit_limit rules_now.representation) before n c.loop-i.invariant.range (search rules));
     }

@@ -1,8 +1,9 @@
 use Rattle.std.proofs.Common.{◌≡◌, ◌≤◌, take, drop, length, Some, []}
 use Rattle.std.specs.Prelude.{IsTrue}
 use Rattle.enumset_repr.specs.Number.{is_distinct}
+use Rattle.enumset_sets.specs.Laws.Elements.{one_past_all}
 use Rattle.enumset_derive_plan.specs.declared.number.Number.TheVariants.{Small}
-use Rattle.enumset_derive_plan.specs.Variants.{named_from, bits_of, are_in_range}
+use Rattle.enumset_derive_plan.specs.Variants.{named_from, bits_of, bit_limit}
 use Rattle.enumset_derive_plan.proofs.planning.named.name_variants.Given as goal
 
 -- what is left goes on from the variants so far
@@ -12,5 +13,5 @@ invariant-loop-i l = record {
   count : length l.named.items ≡ l.i;
   few : l.i ≤ 256;
   distinct : IsTrue (is_distinct (bits_of l.named.items));
-  range : IsTrue (are_in_range l.rules l.named.items);
+  range : one_past_all (bits_of l.named.items) ≤ bit_limit l.rules.representation;
 }

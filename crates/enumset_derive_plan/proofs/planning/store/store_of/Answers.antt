@@ -1,15 +1,11 @@
-use Rattle.std.proofs.Common.{rules, ◌≡◌, ◌≤◌, ◌*◌, true, arith}
-use Rattle.enumset_derive_plan.specs.Integers.{width}
-use Rattle.enumset_derive_plan.specs.Stores.{are_below}
-use Rattle.enumset_derive_plan.proofs.Rooms.{wider, width_most}
+use Rattle.enumset_derive_plan.proofs.Tests.{lawful_number_of, lawful_words_of}
 use Rattle.enumset_derive_plan.proofs.planning.store.store_of.Goals as goal
 
-pub number_of-requires-clause-below : goal.number_of-requires-clause-below
-number_of-requires-clause-below c =
-    let below : are_below (width c.in-Integer.integer) c.args.bits.now ≡ true = search rules in
-    wider (width c.in-Integer.integer) 128 c.args.bits.now (width_most c.in-Integer.integer) below
+pub returns-in-Integer-clause-lawful : goal.returns-in-Integer-clause-lawful
+returns-in-Integer-clause-lawful c =
+    lawful_number_of c.args.bits.now c.number_of.result c.args.width c.number_of.ensures c.requires.distinct c.requires.width
 
-pub words_of-requires-clause-below : goal.words_of-requires-clause-below
-words_of-requires-clause-below c =
-    let enough : c.args.width ≤ 64 * c.div_ceil.result = omega (arith, c.div_ceil.ensures) in
-    wider c.args.width (64 * c.div_ceil.result) c.args.bits.now enough c.requires.below
+pub returns-in_ok-words_of-in-Words-clause-lawful :
+    goal.returns-in_ok-words_of-in-Words-clause-lawful
+returns-in_ok-words_of-in-Words-clause-lawful c =
+    lawful_words_of c.args.bits.now c.in_ok-words_of-in-Words.field-0.items c.args.width c.in_ok-words_of-in-Words.ensures.bits c.requires.distinct c.requires.width
