@@ -1,4 +1,3 @@
--- From here on enumset_derive writes this, from the enums of rights.
 -- Laws of the values of the enum Right and their bits.
 --     all, lawful      the bits of ALL_BITS;  the laws of the element type
 --     all_is_valid      the bits of ALL_BITS are the valid bits
@@ -38,5 +37,3 @@ pub holds_of_all : (P : Right → Type 0) → value.HoldsOfEach P values → (v 
 holds_of_all P each v = value.holds_of_all elements lawful values refl P each v
 
 pub ruleset laws = (all_is_valid, bit_is_valid, bit_tells, valid_has_value)
-
--- Up to here enumset_derive writes this, from the enums of rights.

@@ -1,4 +1,1 @@
--- From here on enumset_derive writes this, from the enums of rights.
 pub mod Right
-
--- Up to here enumset_derive writes this, from the enums of rights.

@@ -1,4 +1,3 @@
--- From here on enumset_derive writes this, from the enums of rights.
 -- The values of the enum Right and their bits.
 --     elements      the bit of each value, and the list of the bits
 --     bit, valid      the bit of a value;  the set of the valid bits
@@ -21,5 +20,3 @@ valid = valid_bits elements
 
 abbrev pub values : List Right
 values = variant.Read ∷ variant.Write ∷ variant.Share ∷ []
-
--- Up to here enumset_derive writes this, from the enums of rights.

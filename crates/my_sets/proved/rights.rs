@@ -1,6 +1,0 @@
-#[derive(EnumSetType)]
-pub enum Right {
-    Read,
-    Write,
-    Share,
-}
