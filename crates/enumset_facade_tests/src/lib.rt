@@ -33,4 +33,3 @@ mod serialized_sets;
 #[cfg(test)]
 mod steps;
 #[cfg(test)]
-mod users_code;

@@ -1,0 +1,133 @@
+//! Machines whose states are sets of flags.
+
+ghost use Rattle.std.specs.Prelude.{◌≡◌, ◌↔◌, true, IsTrue, IsOk, IfOk, IfErr, All};
+ghost use Rattle.example_door.specs.Machines.{transition, allows, after, after_all, holds, Keeps, keeps_from, IsRefusal};
+
+use crate::flag::Flag;
+use enumset::EnumSet;
+use std::fmt;
+
+/// What a transition asks of a state, and what it changes.
+#[derive(Clone, Copy, Debug)]
+pub struct Transition {
+    /// The flags that must be set.
+    pub required: EnumSet<Flag>,
+    /// The flags that must not be set.
+    pub forbidden: EnumSet<Flag>,
+    pub clears: EnumSet<Flag>,
+    pub sets: EnumSet<Flag>,
+}
+
+/// Why a transition may not be taken.
+#[derive(Clone, Copy, Debug)]
+pub struct Refusal {
+    /// What must be set, and is not.
+    pub missing: EnumSet<Flag>,
+    /// What must not be set, and is.
+    pub barring: EnumSet<Flag>,
+}
+
+/// What must hold of every state.
+#[derive(Clone, Copy, Debug)]
+pub enum Rule {
+    /// The two flags are not both set.
+    NeverBoth(Flag, Flag),
+    /// Where the first flag is set, so is the second.
+    Implies(Flag, Flag),
+}
+
+impl Rule {
+    /// Whether the rule holds of a state.
+    pub fn holds(self, state: EnumSet<Flag>) -> bool
+        ensures { result ≡ holds self state }
+    {
+        match self {
+            Rule::NeverBoth(one, other) => !(state.contains(one) && state.contains(other)),
+            Rule::Implies(one, other) => !state.contains(one) || state.contains(other),
+        }
+    }
+}
+
+impl Transition {
+    pub fn new(
+        required: EnumSet<Flag>,
+        forbidden: EnumSet<Flag>,
+        clears: EnumSet<Flag>,
+        sets: EnumSet<Flag>,
+    ) -> Transition
+        ensures { result ≡ transition required forbidden clears sets }
+    {
+        Transition {
+            required,
+            forbidden,
+            clears,
+            sets,
+        }
+    }
+
+    /// The state after the transition, or why it may not be taken.
+    pub fn step(&self, state: EnumSet<Flag>) -> Result<EnumSet<Flag>, Refusal>
+        ensures taken { IsOk result ↔ IsTrue (allows self.now state) }
+        ensures next { IfOk result (λ next. next ≡ after self.now state) }
+        ensures refused { IfErr result (IsRefusal self.now state) }
+    {
+        if self.required.is_subset(state) && self.forbidden.is_disjoint(state) {
+            Ok(state - self.clears | self.sets)
+        } else {
+            Err(Refusal {
+                missing: self.required - state,
+                barring: self.forbidden & state,
+            })
+        }
+    }
+
+    /// Whether the transition keeps a rule: whether it holds after each step from a state where it holds.
+    ///
+    /// Only the two flags of the rule matter, so it tries the states with what is required and any of the two.
+    pub fn keeps(&self, rule: Rule) -> bool
+        ensures { IsTrue result ↔ Keeps rule self.now }
+    {
+        let least = self.required;
+        match rule {
+            Rule::NeverBoth(one, other) | Rule::Implies(one, other) => {
+                self.keeps_from(rule, least)
+                    && self.keeps_from(rule, least | one)
+                    && self.keeps_from(rule, least | other)
+                    && self.keeps_from(rule, least | one | other)
+            }
+        }
+    }
+
+    // Whether the rule is kept in a step from one state.
+    fn keeps_from(&self, rule: Rule, state: EnumSet<Flag>) -> bool
+        ensures { result ≡ keeps_from rule self.now state }
+    {
+        !rule.holds(state) || rule.holds(self.step(state).unwrap_or(state))
+    }
+}
+
+/// The state after transitions in turn, of which those that may not be taken change nothing.
+pub fn run(start: EnumSet<Flag>, transitions: &[Transition]) -> EnumSet<Flag>
+    ensures steps { result ≡ after_all transitions.now start }
+    ensures kept { (rule : Rule) → All (Keeps rule) transitions.now → holds rule start ≡ true →
+        holds rule result ≡ true }
+{
+    let mut state = start;
+    for transition in transitions {
+        state = transition.step(state).unwrap_or(state);
+    }
+    state
+}
+
+impl fmt::Display for Refusal {
+    fn fmt<W: fmt::Write>(&self, f: &mut fmt::Formatter<W>) -> fmt::Result {
+        f.write_str("refused")?;
+        if !self.missing.is_empty() {
+            write!(f, " without {}", self.missing)?;
+        }
+        if !self.barring.is_empty() {
+            write!(f, " while {}", self.barring)?;
+        }
+        Ok(())
+    }
+}

@@ -1,0 +1,54 @@
+//! The kinds of tokens.
+
+use enumset::{EnumSetType, EnumSetTypeWithRepr, variant_of};
+
+/// A kind of token.
+#[derive(Clone, Copy, PartialEq, Eq, Debug)]
+pub enum Kind {
+    Number,
+    Open,
+    Minus,
+    Plus,
+    Times,
+    Divide,
+    Close,
+    /// The end of the input, which is the last token.
+    End,
+}
+
+impl EnumSetType for Kind {
+    ghost use Rattle.enumset_sets.specs.Laws.Elements.{in_place, lawful_in_integer, lawful_in_place};
+    ghost use Rattle.example_expressions.specs.contracts.kind.Kind.{the_type};
+
+    type Repr = u8;
+
+    ghost elements = { in_place the_type };
+
+    ghost ALL_BITS = { 255 };
+
+    const ALL_BITS: u8 = 255;
+
+    ghost BIT_WIDTH = { 8 };
+
+    const BIT_WIDTH: u32 = 8;
+
+    ghost VARIANT_COUNT = { 8 };
+
+    const VARIANT_COUNT: u32 = 8;
+
+    fn enum_into_u32(self) -> u32 {
+        self as u32
+    }
+
+    fn enum_from_u32(val: u32) -> Self {
+        variant_of!(val, Kind: Number Open Minus Plus Times Divide Close End)
+    }
+
+    ghost lawful = { lawful_in_place the_type (lawful_in_integer the_type _ tt) };
+}
+
+impl EnumSetTypeWithRepr for Kind {
+    ghost use Rattle.std.proofs.Common.{rules};
+
+    ghost narrow = { Prim.search rules };
+}

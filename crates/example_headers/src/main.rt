@@ -1,0 +1,24 @@
+//! Relays frames, and keeps the flags of later versions.
+//!
+//! `example_headers` reads a frame a line from standard input, in hex, and writes the frame that is sent on. Standard
+//! error says what was understood.
+#![tactic(auto)]
+
+mod digits;
+mod flag;
+mod flags;
+mod frame;
+mod newer_flag;
+mod program;
+
+use std::process::ExitCode;
+
+fn main(rt: HostRuntime) -> ExitCode {
+    match program::relay(&rt) {
+        Ok(status) => status,
+        Err(error) => {
+            let _ = eprintln!(rt; "example_headers: {error}");
+            ExitCode::from(2)
+        }
+    }
+}

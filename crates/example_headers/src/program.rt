@@ -1,0 +1,35 @@
+//! What the program does: its input and its output.
+
+use crate::digits::decode;
+use crate::frame::{read_frame, write_frame};
+use std::process::ExitCode;
+use std::{fmt, io};
+
+/// Relays each frame in turn, up to the first line that is none, and says what was understood. An empty line is left out.
+pub fn relay<R: Input + Print + Eprint + AllocGlobal>(rt: &R) -> io::Result<ExitCode> {
+    for (line, number) in rt.lines(rt.alloc()).zip(1..=u64::MAX) {
+        let line = line?;
+        if line.is_empty() {
+            continue;
+        }
+        let Some(bytes) = decode(rt.alloc(), line.as_str())? else {
+            return stop(rt, number, "not two digits for each byte");
+        };
+        let frame = match read_frame(&bytes) {
+            Ok(frame) => frame,
+            Err(fault) => return stop(rt, number, fault),
+        };
+        eprintln!(rt; "line {number}: {frame}")?;
+        for byte in &write_frame(rt.alloc(), &frame.relayed())? {
+            print!(rt; "{byte:02x}")?;
+        }
+        println!(rt)?;
+    }
+    Ok(ExitCode::SUCCESS)
+}
+
+// Says at which line the program stops, and why.
+fn stop(rt: &impl Eprint, number: u64, why: impl fmt::Display + Drop) -> io::Result<ExitCode> {
+    eprintln!(rt; "example_headers: line {number}: {why}")?;
+    Ok(ExitCode::from(2))
+}

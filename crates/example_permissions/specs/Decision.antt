@@ -1,0 +1,9 @@
+-- What a request gets.
+--     missing_of      the rights that a decision says are missing
+use Rattle.enumset_repr.specs.BitSet.{BitSet, empty}
+use Rattle.example_permissions.specs.declared.decision.Decision.{Decision}
+use Rattle.example_permissions.specs.declared.decision.Decision.TheVariants.{Allowed, Denied}
+
+abbrev pub missing_of : Decision → BitSet
+missing_of Allowed = empty
+missing_of (Denied missing) = missing

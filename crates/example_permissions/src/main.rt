@@ -1,0 +1,68 @@
+//! Says which requests of users a policy allows.
+//!
+//! `example_permissions POLICY` reads a policy from a file, and a request a line from standard input. The exit status
+//! is 0 if all requests are allowed, 1 if one is denied, and 2 at a fault.
+#![tactic(auto)]
+
+mod decision;
+mod fault;
+mod policy;
+mod reader;
+mod rights;
+mod roles;
+
+use decision::Decision;
+use fault::Fault;
+use reader::Policy;
+use std::process::ExitCode;
+use std::rt::{Env, Files};
+use std::{env, fmt, fs, io};
+
+// Reads the policy, and answers each request in turn, up to the first line that is none.
+fn answer_all<R>(rt: &R) -> io::Result<ExitCode>
+where
+    R: Env + Files + Input + Print + Eprint + AllocGlobal,
+{
+    let mut args = env::args(rt)?.skip(1);
+    let (Some(path), None) = (args.next(), args.next()) else {
+        return stop(rt, "usage: example_permissions POLICY < REQUESTS");
+    };
+    let policy = match read_policy(rt, path.as_str()) {
+        Ok(policy) => policy,
+        Err(fault) => return stop(rt, format_args!("{path}: {fault}")),
+    };
+    let mut status = ExitCode::SUCCESS;
+    for (line, number) in rt.lines(rt.alloc()).zip(1..=u64::MAX) {
+        let decision = match policy.answer(rt.alloc(), line?.as_str()) {
+            Ok(Some(decision)) => decision,
+            Ok(None) => continue,
+            Err(fault) => return stop(rt, format_args!("line {number}: {fault}")),
+        };
+        println!(rt; "{decision}")?;
+        if decision != Decision::Allowed {
+            status = ExitCode::from(1);
+        }
+    }
+    Ok(status)
+}
+
+fn read_policy<R: Files + AllocGlobal>(rt: &R, path: &str) -> Result<Policy, Fault> {
+    let text = fs::read_to_string(rt, path).map_err(Fault::Io)?;
+    Policy::from_json(rt.alloc(), text.as_str())
+}
+
+// Says why the program stops.
+fn stop(rt: &impl Eprint, why: impl fmt::Display + Drop) -> io::Result<ExitCode> {
+    eprintln!(rt; "example_permissions: {why}")?;
+    Ok(ExitCode::from(2))
+}
+
+fn main(rt: HostRuntime) -> ExitCode {
+    match answer_all(&rt) {
+        Ok(status) => status,
+        Err(error) => {
+            let _ = stop(&rt, error);
+            ExitCode::from(2)
+        }
+    }
+}

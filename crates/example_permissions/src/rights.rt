@@ -1,0 +1,97 @@
+//! What may be done with a document.
+use enumset::{
+    EnumSet, EnumSetNames, EnumSetType, EnumSetTypeWithRepr, names_of, set_json, variant_of,
+};
+
+/// A right.
+#[derive(Clone, Copy, PartialEq, Eq, Debug)]
+pub enum Right {
+    Read,
+    Write,
+    Share,
+    Delete,
+}
+
+impl EnumSetType for Right {
+    ghost use Rattle.enumset_sets.specs.Laws.Elements.{in_place, lawful_in_integer, lawful_in_place};
+    ghost use Rattle.example_permissions.specs.contracts.rights.Right.{the_type};
+
+    type Repr = u8;
+
+    ghost elements = { in_place the_type };
+
+    ghost ALL_BITS = { 15 };
+
+    const ALL_BITS: u8 = 15;
+
+    ghost BIT_WIDTH = { 4 };
+
+    const BIT_WIDTH: u32 = 4;
+
+    ghost VARIANT_COUNT = { 4 };
+
+    const VARIANT_COUNT: u32 = 4;
+
+    fn enum_into_u32(self) -> u32 {
+        self as u32
+    }
+
+    fn enum_from_u32(val: u32) -> Self {
+        variant_of!(val, Right: Read Write Share Delete)
+    }
+
+    ghost lawful = { lawful_in_place the_type (lawful_in_integer the_type _ tt) };
+}
+
+impl EnumSetTypeWithRepr for Right {
+    ghost use Rattle.std.proofs.Common.{rules};
+
+    ghost narrow = { Prim.search rules };
+}
+
+impl EnumSetNames for Right {
+    ghost use Rattle.std.specs.Prelude.{codes, ◌∷◌, []};
+
+    ghost names = { codes "Read" ∷ codes "Write" ∷ codes "Share" ∷ codes "Delete" ∷ [] };
+
+    fn names() -> &'static [(Self, &'static str)] {
+        names_of!(Right: Read Write Share Delete)
+    }
+
+    ghost named = { tt };
+}
+
+impl Right {
+    ghost use Rattle.std.specs.Prelude.{◌≡◌, IfOk, IfErr};
+    ghost use Rattle.serde_json.specs.View.{view};
+    ghost use Rattle.enumset.specs.Names.{names_of};
+    ghost use Rattle.enumset.specs.JsonNames.{list_value, set_of_list};
+    ghost use Rattle.enumset.specs.declared.set_json.fault.JsonFault.TheVariants.{OutOfMemory};
+    ghost use Rattle.enumset.specs.declared.set_json.unknown.Unknown.TheVariants as unknown;
+
+    /// The array of the names of the set's members, in ascending order of their bits. The only fault is
+    /// [`set_json::JsonFault::OutOfMemory`].
+    pub fn to_json(
+        alloc: std::alloc::Global,
+        set: &EnumSet<Self>,
+    ) -> std::result::Result<serde_json::Value, set_json::JsonFault>
+        ensures value { IfOk result (λ value. view value ≡ list_value
+            (names_of ⟦<Right as EnumSetType>⟧.elements ⟦<Right as EnumSetNames>⟧.names) set.now) }
+        ensures fault { IfErr result (λ fault. fault ≡ OutOfMemory) }
+    {
+        set_json::to_list(alloc, set)
+    }
+
+    /// The set that `to_json` writes so. A name that no variant has is a fault.
+    ///
+    /// The faults are those of [`set_json::from_list`], in their order. It takes no memory.
+    pub fn from_json(
+        value: &serde_json::Value,
+    ) -> std::result::Result<EnumSet<Self>, set_json::JsonFault>
+        ensures { result ≡ set_of_list
+            (names_of ⟦<Right as EnumSetType>⟧.elements ⟦<Right as EnumSetNames>⟧.names)
+            unknown.Refuse (view value.now) }
+    {
+        set_json::from_list(value, set_json::Unknown::Refuse)
+    }
+}

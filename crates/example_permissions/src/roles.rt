@@ -1,0 +1,96 @@
+//! What a user of documents may be.
+use enumset::{
+    EnumSet, EnumSetNames, EnumSetType, EnumSetTypeWithRepr, names_of, set_json, variant_of,
+};
+
+/// A role.
+#[derive(Clone, Copy, PartialEq, Eq, Debug)]
+pub enum Role {
+    Reader,
+    Editor,
+    Owner,
+}
+
+impl EnumSetType for Role {
+    ghost use Rattle.enumset_sets.specs.Laws.Elements.{in_place, lawful_in_integer, lawful_in_place};
+    ghost use Rattle.example_permissions.specs.contracts.roles.Role.{the_type};
+
+    type Repr = u8;
+
+    ghost elements = { in_place the_type };
+
+    ghost ALL_BITS = { 7 };
+
+    const ALL_BITS: u8 = 7;
+
+    ghost BIT_WIDTH = { 3 };
+
+    const BIT_WIDTH: u32 = 3;
+
+    ghost VARIANT_COUNT = { 3 };
+
+    const VARIANT_COUNT: u32 = 3;
+
+    fn enum_into_u32(self) -> u32 {
+        self as u32
+    }
+
+    fn enum_from_u32(val: u32) -> Self {
+        variant_of!(val, Role: Reader Editor Owner)
+    }
+
+    ghost lawful = { lawful_in_place the_type (lawful_in_integer the_type _ tt) };
+}
+
+impl EnumSetTypeWithRepr for Role {
+    ghost use Rattle.std.proofs.Common.{rules};
+
+    ghost narrow = { Prim.search rules };
+}
+
+impl EnumSetNames for Role {
+    ghost use Rattle.std.specs.Prelude.{codes, ◌∷◌, []};
+
+    ghost names = { codes "Reader" ∷ codes "Editor" ∷ codes "Owner" ∷ [] };
+
+    fn names() -> &'static [(Self, &'static str)] {
+        names_of!(Role: Reader Editor Owner)
+    }
+
+    ghost named = { tt };
+}
+
+impl Role {
+    ghost use Rattle.std.specs.Prelude.{◌≡◌, IfOk, IfErr};
+    ghost use Rattle.serde_json.specs.View.{view};
+    ghost use Rattle.enumset.specs.Names.{names_of};
+    ghost use Rattle.enumset.specs.JsonNames.{list_value, set_of_list};
+    ghost use Rattle.enumset.specs.declared.set_json.fault.JsonFault.TheVariants.{OutOfMemory};
+    ghost use Rattle.enumset.specs.declared.set_json.unknown.Unknown.TheVariants as unknown;
+
+    /// The array of the names of the set's members, in ascending order of their bits. The only fault is
+    /// [`set_json::JsonFault::OutOfMemory`].
+    pub fn to_json(
+        alloc: std::alloc::Global,
+        set: &EnumSet<Self>,
+    ) -> std::result::Result<serde_json::Value, set_json::JsonFault>
+        ensures value { IfOk result (λ value. view value ≡ list_value
+            (names_of ⟦<Role as EnumSetType>⟧.elements ⟦<Role as EnumSetNames>⟧.names) set.now) }
+        ensures fault { IfErr result (λ fault. fault ≡ OutOfMemory) }
+    {
+        set_json::to_list(alloc, set)
+    }
+
+    /// The set that `to_json` writes so. A name that no variant has is a fault.
+    ///
+    /// The faults are those of [`set_json::from_list`], in their order. It takes no memory.
+    pub fn from_json(
+        value: &serde_json::Value,
+    ) -> std::result::Result<EnumSet<Self>, set_json::JsonFault>
+        ensures { result ≡ set_of_list
+            (names_of ⟦<Role as EnumSetType>⟧.elements ⟦<Role as EnumSetNames>⟧.names)
+            unknown.Refuse (view value.now) }
+    {
+        set_json::from_list(value, set_json::Unknown::Refuse)
+    }
+}

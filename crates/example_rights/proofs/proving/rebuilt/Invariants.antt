@@ -1,0 +1,7 @@
+use Rattle.std.proofs.Common.{◌≡◌}
+use Rattle.enumset_repr.specs.BitSet.{insert_each}
+use Rattle.example_rights.proofs.proving.rebuilt.Given as goal
+
+-- the copy, with the rights that are still to come, is the granted set
+abbrev pub invariant-loop-right : goal.invariant-loop-right
+invariant-loop-right g l = insert_each l.copy l.right-iterator.items ≡ l.granted

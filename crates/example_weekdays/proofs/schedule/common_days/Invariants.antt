@@ -1,0 +1,8 @@
+use Rattle.std.proofs.Common.{◌≡◌, drop}
+use Rattle.enumset.specs.Folds.{intersection_all}
+use Rattle.example_weekdays.specs.Week.{week}
+use Rattle.example_weekdays.proofs.schedule.common_days.Given as goal
+
+-- what the schedules still to come leave of the days so far is what is common to all
+abbrev pub invariant-loop-schedule : goal.invariant-loop-schedule
+invariant-loop-schedule l = intersection_all l.days (drop l.schedule-index l.schedules) ≡ intersection_all week l.schedules

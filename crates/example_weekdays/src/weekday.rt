@@ -1,0 +1,101 @@
+//! The days of the week.
+use enumset::{
+    EnumSet, EnumSetNames, EnumSetType, EnumSetTypeWithRepr, names_of, set_json, variant_of,
+};
+
+/// A day of the week, on bits 0 to 6.
+#[derive(Clone, Copy, PartialEq, Eq, Debug)]
+pub enum Weekday {
+    Monday,
+    Tuesday,
+    Wednesday,
+    Thursday,
+    Friday,
+    Saturday,
+    Sunday,
+}
+
+impl EnumSetType for Weekday {
+    ghost use Rattle.enumset_sets.specs.Laws.Elements.{in_place, lawful_in_integer, lawful_in_place};
+    ghost use Rattle.example_weekdays.specs.contracts.weekday.Weekday.{the_type};
+
+    type Repr = u8;
+
+    ghost elements = { in_place the_type };
+
+    ghost ALL_BITS = { 127 };
+
+    const ALL_BITS: u8 = 127;
+
+    ghost BIT_WIDTH = { 7 };
+
+    const BIT_WIDTH: u32 = 7;
+
+    ghost VARIANT_COUNT = { 7 };
+
+    const VARIANT_COUNT: u32 = 7;
+
+    fn enum_into_u32(self) -> u32 {
+        self as u32
+    }
+
+    fn enum_from_u32(val: u32) -> Self {
+        variant_of!(val, Weekday: Monday Tuesday Wednesday Thursday Friday Saturday Sunday)
+    }
+
+    ghost lawful = { lawful_in_place the_type (lawful_in_integer the_type _ tt) };
+}
+
+impl EnumSetTypeWithRepr for Weekday {
+    ghost use Rattle.std.proofs.Common.{rules};
+
+    ghost narrow = { Prim.search rules };
+}
+
+impl EnumSetNames for Weekday {
+    ghost use Rattle.std.specs.Prelude.{codes, ◌∷◌, []};
+
+    ghost names = { codes "Monday" ∷ codes "Tuesday" ∷ codes "Wednesday" ∷
+        codes "Thursday" ∷ codes "Friday" ∷ codes "Saturday" ∷ codes "Sunday" ∷ [] };
+
+    fn names() -> &'static [(Self, &'static str)] {
+        names_of!(Weekday: Monday Tuesday Wednesday Thursday Friday Saturday Sunday)
+    }
+
+    ghost named = { tt };
+}
+
+impl Weekday {
+    ghost use Rattle.std.specs.Prelude.{◌≡◌, IfOk, IfErr};
+    ghost use Rattle.serde_json.specs.View.{view};
+    ghost use Rattle.enumset.specs.Names.{names_of};
+    ghost use Rattle.enumset.specs.JsonNames.{list_value, set_of_list};
+    ghost use Rattle.enumset.specs.declared.set_json.fault.JsonFault.TheVariants.{OutOfMemory};
+    ghost use Rattle.enumset.specs.declared.set_json.unknown.Unknown.TheVariants as unknown;
+
+    /// The array of the names of the set's members, in ascending order of their bits. The only fault is
+    /// [`set_json::JsonFault::OutOfMemory`].
+    pub fn to_json(
+        alloc: std::alloc::Global,
+        set: &EnumSet<Self>,
+    ) -> std::result::Result<serde_json::Value, set_json::JsonFault>
+        ensures value { IfOk result (λ value. view value ≡ list_value
+            (names_of ⟦<Weekday as EnumSetType>⟧.elements ⟦<Weekday as EnumSetNames>⟧.names) set.now) }
+        ensures fault { IfErr result (λ fault. fault ≡ OutOfMemory) }
+    {
+        set_json::to_list(alloc, set)
+    }
+
+    /// The set that `to_json` writes so. Names that no variant has are left out.
+    ///
+    /// The faults are those of [`set_json::from_list`], in their order. It takes no memory.
+    pub fn from_json(
+        value: &serde_json::Value,
+    ) -> std::result::Result<EnumSet<Self>, set_json::JsonFault>
+        ensures { result ≡ set_of_list
+            (names_of ⟦<Weekday as EnumSetType>⟧.elements ⟦<Weekday as EnumSetNames>⟧.names)
+            unknown.Drop (view value.now) }
+    {
+        set_json::from_list(value, set_json::Unknown::Drop)
+    }
+}

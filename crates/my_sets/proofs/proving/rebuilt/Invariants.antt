@@ -1,7 +1,0 @@
-use Rattle.std.proofs.Common.{◌≡◌}
-use Rattle.enumset_repr.specs.BitSet.{insert_each}
-use Rattle.my_sets.proofs.proving.rebuilt.Given as goal
-
--- the copy, with the rights that are still to come, is the granted set
-abbrev pub invariant-loop-right : goal.invariant-loop-right
-invariant-loop-right g l = insert_each l.copy l.right-iterator.items ≡ l.granted

@@ -1,8 +1,0 @@
-use Rattle.std.proofs.Common.{◌≡◌, drop}
-use Rattle.enumset.specs.Folds.{intersection_all}
-use Rattle.weekdays.specs.Week.{week}
-use Rattle.weekdays.proofs.schedule.common_days.Given as goal
-
--- what the schedules still to come leave of the days so far is what is common to all
-abbrev pub invariant-loop-schedule : goal.invariant-loop-schedule
-invariant-loop-schedule l = intersection_all l.days (drop l.schedule-index l.schedules) ≡ intersection_all week l.schedules
