@@ -22,17 +22,14 @@ use std::io;
 fn main(rt: HostRuntime) -> Result<(), io::Error> {
     let mut granted = Right::Read | Right::Share;
     println!(rt; "{granted:?}, {} rights", granted.len())?;
-    let requested = enum_set!(Right::Read | Right::Write);
-    for right in missing(granted, requested) {
+    for right in missing(granted, enum_set!(Right::Read | Right::Write)) {
         println!(rt; "{right:?} is missing")?;
     }
     granted.insert(Right::Write);
     granted.remove(Right::Share);
+    println!(rt; "{}", granted.contains(Right::Write))?;
     println!(rt; "{granted:?}, not {:?}", !granted)?;
     let number = granted.as_u8_truncated();
-    println!(rt;
-        "{number} is {:?}",
-        EnumSet::<Right>::from_u8_truncated(number)
-    )?;
-    Ok(())
+    let read = EnumSet::<Right>::from_u8_truncated(number);
+    println!(rt; "{number} is {read:?}")
 }
