@@ -66,9 +66,10 @@ macro_rules! enum_set_complement {
     };
 }
 
-/// The table that [`EnumSetNames::names`](crate::EnumSetNames::names) returns: `names_of!(Right: Read Write Share)` lists
-/// all variants of the enum in the order of the list of bits, each under its own name. Other names stand each after its
-/// variant: `names_of!(Right: Read "read" Write "write" Share "share")`.
+/// The table that [`EnumSetNames::names`](crate::EnumSetNames::names) returns: `names_of!(Right: Read Write Share)`
+/// lists all variants of the enum in the order of the list of bits, each under its own name. Other names stand each
+/// after its variant: `names_of!(Right: Read "read" Write "write" Share "share")`. It has no counterpart in Rust's
+/// `enumset`.
 #[macro_export]
 macro_rules! names_of {
     ($of:ident:) => {

@@ -12,7 +12,7 @@ use crate::cursors::{Cursors, step_back, step_front};
 use crate::row::Row;
 use std::alloc::{AllocError, Global};
 
-/// An end of a list.
+/// An end of a list. It has no counterpart in Rust's `enumset`.
 #[derive(Clone, Copy, Debug, PartialEq, Eq)]
 pub enum End {
     /// The end with the least item.

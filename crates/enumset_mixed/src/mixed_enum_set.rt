@@ -43,6 +43,7 @@ impl<T: EnumSetTypeWithRepr, R: EnumSetTypeRepr> Model for MixedEnumSet<T, R> {
     ghost inverse_ok = { λ a h i. record { repr = h.inverse i; of = a.of } };
 }
 
+/// The same set, always `Ok`. A set is `Copy`, so this is for generic code.
 impl<T: EnumSetTypeWithRepr, R: EnumSetTypeRepr> Clone for MixedEnumSet<T, R> {
     ghost use Rattle.std.specs.Prelude.{⊤};
 
@@ -60,6 +61,7 @@ impl<T: EnumSetTypeWithRepr, R: EnumSetTypeRepr> Clone for MixedEnumSet<T, R> {
 
 impl<T: EnumSetTypeWithRepr, R: EnumSetTypeRepr> Copy for MixedEnumSet<T, R> {}
 
+/// Sets are equal if they have the same members.
 impl<T: EnumSetTypeWithRepr> PartialEq for MixedEnumSet<T> {
     ghost use Rattle.enumset_repr.specs.BitSet.{is_same};
     ghost use Rattle.enumset_repr.specs.Laws.Equality.{is_same-IsPartialEquivalence};
@@ -79,6 +81,7 @@ impl<T: EnumSetTypeWithRepr> Eq for MixedEnumSet<T> {
     ghost laws = { is_same-IsEquivalence };
 }
 
+/// The empty set.
 impl<T: EnumSetTypeWithRepr> Default for MixedEnumSet<T> {
     ghost use Rattle.std.specs.Prelude.{◌≡◌};
     ghost use Rattle.enumset_repr.specs.BitSet.{empty};
@@ -163,7 +166,8 @@ impl<T: EnumSetTypeWithRepr> MixedEnumSet<T> {
         EnumSet::<T>::bit_index(t)
     }
 
-    /// Whether a bit is valid: whether a variant has it. No bit at or past the width of the representation is valid.
+    /// Whether a bit is valid: whether a variant has it. No bit at or past the width of the representation is valid. In
+    /// Rust such a bit is another bit, an overflow or a panic.
     pub fn is_bit_valid(bit: u32) -> bool
         ensures valid { result ≡ set.contains (valid_bits T.elements) bit }
         ensures of_a_variant { result ≡ set.is_in bit T.elements.bit_list }
@@ -224,7 +228,8 @@ impl<T: EnumSetTypeWithRepr> MixedEnumSet<T> {
         self.repr.has_bit(Self::bit_index(value))
     }
 
-    /// Whether a bit is a member, valid or unknown. No bit at or past the width of the representation is a member.
+    /// Whether a bit is a member, valid or unknown. No bit at or past the width of the representation is a member. In
+    /// Rust such a bit is another bit, an overflow or a panic.
     pub fn has_bit(&self, value: u32) -> bool
         ensures has { result ≡ set.contains self.now value }
         ensures past { T.Repr.WIDTH ≤ value → result ≡ false }
@@ -241,7 +246,7 @@ impl<T: EnumSetTypeWithRepr> MixedEnumSet<T> {
     }
 
     /// Adds a bit, valid or not, and returns whether it was absent. The bit must be below the width of the
-    /// representation, `T::Repr::WIDTH`.
+    /// representation, `T::Repr::WIDTH`. In Rust any other bit is another bit, an overflow or a panic.
     pub fn insert_bit(&mut self, value: u32) -> bool
         requires { value < T.Repr.WIDTH }
         ensures inserted { self.new ≡ set.insert self.old value }
@@ -264,7 +269,8 @@ impl<T: EnumSetTypeWithRepr> MixedEnumSet<T> {
     }
 
     /// Removes a bit, valid or not, and returns whether it was present. A bit at or past the width of the
-    /// representation is never present, so the call returns false and the set stays as it was.
+    /// representation is never present, so the call returns false and the set stays as it was. In Rust such a bit is
+    /// another bit, an overflow or a panic.
     #[tactic(auto, using(enumset_repr::specs::Laws::Algebra::remove_absent))]
     pub fn remove_bit(&mut self, value: u32) -> bool
         ensures removed { self.new ≡ set.remove self.old value }

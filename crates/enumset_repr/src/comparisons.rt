@@ -7,7 +7,7 @@ ghost use Rattle.enumset_repr.specs.Order.{compare};
 use crate::repr::EnumSetTypeRepr;
 use std::cmp::Ordering;
 
-/// Whether both sets have the same members.
+/// Whether both sets have the same members. Rust's `enumset` writes `==`.
 pub fn are_same<R: EnumSetTypeRepr>(a: &R, b: &R) -> bool
     ensures { result ≡ set.is_same (R.members a.now) (R.members b.now) }
 {
@@ -16,7 +16,8 @@ pub fn are_same<R: EnumSetTypeRepr>(a: &R, b: &R) -> bool
     *a == *b
 }
 
-/// How the two sets compare: the greater is the one that has the greatest number that is in exactly one of them.
+/// How the two sets compare: the greater is the one that has the greatest number that is in exactly one of them. Rust's
+/// `enumset` writes `cmp`.
 pub fn order_of<R: EnumSetTypeRepr>(a: &R, b: &R) -> Ordering
     ensures { result ≡ compare (R.members a.now) (R.members b.now) }
 {

@@ -1,4 +1,4 @@
-//! Laws that a proof learns from a call.
+//! Laws that a proof learns from a call. They have no counterpart in Rust's `enumset`.
 
 ghost use Rattle.std.specs.Prelude.{◌≡◌, ◌≢◌, ◌↔◌, IsTrue};
 ghost use Rattle.std.specs.Cmp.{IsTotalOrder};

@@ -17,6 +17,40 @@ use std::marker::{Model, PhantomData};
 /// It mirrors `EnumSet` of Rust's `enumset`, and its calls keep their names, except for
 /// [`eq_element`](EnumSet::eq_element). [`copied`](EnumSet::copied) has no counterpart there. The parameter `R` is
 /// always the representation of `T`: write `EnumSet<T>`.
+///
+/// # Numbers
+///
+/// The number of a set is the sum of 2^b over its members b. Let X be `u8`, `u16`, `u32`, `u64`, `u128` or `usize`, and
+/// its width 8, 16, 32, 64, 128 or 64:
+///
+/// | Call | It returns | It requires |
+/// | --- | --- | --- |
+/// | `as_X` | the number | that every member is below the width |
+/// | `try_as_X` | the number, if every member is below the width, else `None` | |
+/// | `as_X_truncated` | the number of the set of the members below the width | |
+/// | `from_X` | the set of the number | that every bit of it is valid |
+/// | `try_from_X` | the set of the number, if every bit of it is valid, else `None` | |
+/// | `from_X_truncated` | the set of its valid bits | |
+/// | `from_X_unchecked` | as `from_X` | the same |
+///
+/// The `try_` form is the test for what the other form requires: code that has matched its `Some` may call the other.
+///
+/// # Words
+///
+/// Word w of a set, a number of 64 bits, has the members from 64w to 64w + 63; the lowest word comes first. Arrays and
+/// slices may have any length. Words past the last of the representation are 0.
+///
+/// | Array | Slice | It returns or writes | It requires |
+/// | --- | --- | --- | --- |
+/// | `as_array` | `copy_into_slice` | the words | that every member is in one of them |
+/// | `try_as_array` | `try_copy_into_slice` | the words, if every member is in one of them, else `None` | |
+/// | `as_array_truncated` | `copy_into_slice_truncated` | the words, without the members that are in none of them | |
+/// | `from_array` | `from_slice` | the set of the words | that every bit of them is valid |
+/// | `try_from_array` | `try_from_slice` | the set of the words, if every bit of them is valid, else `None` | |
+/// | `from_array_truncated` | `from_slice_truncated` | the set of their valid bits | |
+/// | `from_array_unchecked` | `from_slice_unchecked` | as `from_array`, `from_slice` | the same |
+///
+/// [`to_vec`](EnumSet::to_vec) returns all words of the representation.
 pub struct EnumSet<T: EnumSetType, R: EnumSetTypeRepr = <T as EnumSetType>::Repr> {
     pub(crate) repr: R,
     of: PhantomData<T>,
@@ -41,6 +75,7 @@ impl<T: EnumSetType, R: EnumSetTypeRepr> Model for EnumSet<T, R> {
     ghost inverse_ok = { λ a h i. record { repr = h.inverse i; of = a.of } };
 }
 
+/// The same set, always `Ok`. A set is `Copy`, so this is for generic code.
 impl<T: EnumSetType, R: EnumSetTypeRepr> Clone for EnumSet<T, R> {
     ghost use Rattle.std.specs.Prelude.{⊤};
 
@@ -58,6 +93,7 @@ impl<T: EnumSetType, R: EnumSetTypeRepr> Clone for EnumSet<T, R> {
 
 impl<T: EnumSetType, R: EnumSetTypeRepr> Copy for EnumSet<T, R> {}
 
+/// Sets are equal if they have the same members.
 impl<T: EnumSetType> PartialEq for EnumSet<T> {
     ghost use Rattle.enumset_repr.specs.BitSet.{is_same};
     ghost use Rattle.enumset_repr.specs.Laws.Equality.{is_same-IsPartialEquivalence};
@@ -77,6 +113,7 @@ impl<T: EnumSetType> Eq for EnumSet<T> {
     ghost laws = { is_same-IsEquivalence };
 }
 
+/// The empty set.
 impl<T: EnumSetType> Default for EnumSet<T> {
     ghost use Rattle.std.specs.Prelude.{◌≡◌};
     ghost use Rattle.enumset_repr.specs.BitSet.{empty};
@@ -182,7 +219,8 @@ impl<T: EnumSetType> EnumSet<T> {
         bit_of_value(t)
     }
 
-    /// Whether a bit is valid: whether a variant has it. No bit at or past the width of the representation is valid.
+    /// Whether a bit is valid: whether a variant has it. No bit at or past the width of the representation is valid. In
+    /// Rust such a bit is another bit, an overflow or a panic.
     pub fn is_bit_valid(bit: u32) -> bool
         ensures valid { result ≡ set.contains (valid_bits T.elements) bit }
         ensures of_a_variant { result ≡ set.is_in bit T.elements.bit_list }

@@ -1,7 +1,7 @@
 //! Laws of round trips: what one call makes of a set, another call reads as the same set.
 //!
 //! Each law is a function that does nothing at run time, over every element type. Code that needs a law calls it with
-//! its set, and the proof of that code then knows what the function ensures.
+//! its set, and the proof of that code then knows what the function ensures. Rust's `enumset` has no laws.
 
 ghost use Rattle.std.specs.Prelude.{◌≡◌, ◌*◌, IsTrue};
 ghost use Rattle.enumset_repr.specs.BitSet.{below, low, intersection, is_subset};

@@ -9,6 +9,8 @@
 /// The bit must be that of a variant. The macro takes up to 256 variants, as many as an enum may have, and expands to
 /// one `match` over the bits. If more than 128 bits are named they have to ascend, and there is one `match` for each 64
 /// of them. An enum without variants has no bit, so for it the macro expands to `unreachable!()`.
+///
+/// Rust's derive writes such a match.
 #[macro_export]
 macro_rules! variant_of {
     // All variants have arms. The last arm is never taken: `is_below` tells the proof so.

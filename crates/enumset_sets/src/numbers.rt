@@ -1,19 +1,4 @@
-//! Sets to and from numbers: the same seven calls for each of `u8`, `u16`, `u32`, `u64`, `u128` and `usize`.
-//!
-//! The number of a set is the sum of 2^b over its members b. Let X be the type, and its width 8, 16, 32, 64, 128 or 64:
-//!
-//! | Call | It returns | It requires |
-//! | --- | --- | --- |
-//! | `as_X` | the number | that every member is below the width |
-//! | `try_as_X` | the number, if every member is below the width, else `None` | |
-//! | `as_X_truncated` | the number of the set of the members below the width | |
-//! | `from_X` | the set of the number | that every bit of it is valid |
-//! | `try_from_X` | the set of the number, if every bit of it is valid, else `None` | |
-//! | `from_X_truncated` | the set of its valid bits | |
-//! | `from_X_unchecked` | as `from_X` | the same |
-//!
-//! The `try_` form is the test for what the other form requires: code that has matched its `Some` may call the other.
-//! The call with the name of Rust's unchecked one is safe here, since its condition is proved at each call.
+//! Sets to and from numbers, by the table of [`EnumSet`](crate::EnumSet).
 
 mod u128_conversions;
 mod u16_conversions;

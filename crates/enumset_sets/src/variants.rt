@@ -1,7 +1,7 @@
 //! Functions that tell a proof that a match over bits has an arm for each variant.
 //!
 //! The macro [`variant_of!`](crate::variant_of) calls them, and so may an `enum_from_u32` that is written by hand. They
-//! do nothing at run time.
+//! do nothing at run time, and have no counterpart in Rust's `enumset`.
 
 ghost use Rattle.std.specs.Prelude.{◌<◌, ◌≤◌, ◌++◌, IsTrue};
 ghost use Rattle.std.specs.List.{filter, range_with_len};

@@ -25,7 +25,7 @@ impl<T: EnumSetTypeWithRepr> EnumSet<T> {
     }
 
     /// The set that a value represents. Every bit of it must be valid: [`try_from_repr`](EnumSet::try_from_repr) is the
-    /// test.
+    /// test. Rust's call panics instead.
     pub fn from_repr(repr: T::Repr) -> EnumSet<T>
         requires valid { IsTrue (set.is_subset (T.Repr.members repr) (valid_bits T.elements)) }
         ensures { result ≡ T.Repr.members repr }
@@ -49,7 +49,8 @@ impl<T: EnumSetTypeWithRepr> EnumSet<T> {
         truncated(repr)
     }
 
-    /// The set that a value represents. Every bit of it must be valid, as for [`from_repr`](EnumSet::from_repr).
+    /// The set that a value represents. Every bit of it must be valid, as for [`from_repr`](EnumSet::from_repr). Rust's
+    /// call is unsafe.
     pub fn from_repr_unchecked(repr: T::Repr) -> EnumSet<T>
         requires valid { IsTrue (set.is_subset (T.Repr.members repr) (valid_bits T.elements)) }
         ensures { result ≡ T.Repr.members repr }

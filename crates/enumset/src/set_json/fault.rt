@@ -3,7 +3,8 @@
 use std::alloc::{AllocError, AllocFailed};
 use std::{error, fmt};
 
-/// Why a set was not written as a JSON value, or a JSON value not read as a set.
+/// Why a set was not written as a JSON value, or a JSON value not read as a set. Rust's `enumset` has the errors of
+/// each format in its place.
 #[derive(Clone, Copy, Debug, PartialEq, Eq)]
 pub enum JsonFault {
     /// A member is at or past the width.

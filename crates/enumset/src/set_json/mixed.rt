@@ -20,7 +20,7 @@ use serde_json::Value;
 use std::alloc::Global;
 
 /// The set's number, unknown bits included. The representation may have 64 bits at most. It takes no memory, and always
-/// succeeds.
+/// succeeds. It is what Rust's `enumset` writes of a `MixedEnumSet`.
 pub fn mixed_to_number<T: EnumSetTypeWithRepr>(
     _alloc: Global,
     set: &MixedEnumSet<T>,
@@ -37,7 +37,7 @@ pub fn mixed_to_number<T: EnumSetTypeWithRepr>(
 /// The set of all bits of a number below two to the representation's width, which may be 64 at most.
 ///
 /// The errors are [`JsonFault::NotANumber`], [`JsonFault::NotWhole`] and [`JsonFault::OutOfRange`], tested in this
-/// order. It takes no memory.
+/// order. It takes no memory. It reads what Rust's `enumset` writes of a `MixedEnumSet`.
 pub fn mixed_from_number<T: EnumSetTypeWithRepr>(
     value: &Value,
 ) -> Result<MixedEnumSet<T>, JsonFault>
@@ -49,7 +49,8 @@ pub fn mixed_from_number<T: EnumSetTypeWithRepr>(
 }
 
 /// The set's words of 64 bits, the lowest first, as many as its representation has, unknown bits included. The only
-/// fault is [`JsonFault::OutOfMemory`], and there is none where the representation has no word.
+/// fault is [`JsonFault::OutOfMemory`], and there is none where the representation has no word. Rust's `enumset` writes
+/// a number of 128 bits instead.
 pub fn mixed_to_words<T: EnumSetTypeWithRepr>(
     alloc: Global,
     set: &MixedEnumSet<T>,

@@ -3,12 +3,17 @@
 ghost use Rattle.std.specs.Prelude.{◌≡◌, ◌≤◌};
 ghost use Rattle.enumset.specs.Json.{width_of};
 
-/// The type of numbers that a set is written as or read from: 8, 16, 32 or 64 bits.
+/// The type of numbers that a set is written as or read from: 8, 16, 32 or 64 bits. Rust's `enumset` names it by
+/// `serialize_repr`.
 #[derive(Clone, Copy, Debug, PartialEq, Eq)]
 pub enum JsonWidth {
+    /// Bits 0 to 7.
     U8,
+    /// Bits 0 to 15.
     U16,
+    /// Bits 0 to 31.
     U32,
+    /// Bits 0 to 63.
     U64,
 }
 

@@ -19,7 +19,8 @@ use serde_json::Value;
 use std::alloc::Global;
 
 /// The set's words of 64 bits, the lowest first, as many as its representation has. The only fault is
-/// [`JsonFault::OutOfMemory`], and there is none where the representation has no word.
+/// [`JsonFault::OutOfMemory`], and there is none where the representation has no word. It is the form of
+/// `serialize_repr = "array"` of Rust's `enumset`.
 pub fn to_words<T: EnumSetType>(alloc: Global, set: &EnumSet<T>) -> Result<Value, JsonFault>
     ensures succeeds { T.Repr.PREFERRED_ARRAY_LEN ≡ 0 → IsOk result }
     ensures value { IfOk result (λ value.
@@ -46,7 +47,8 @@ pub(super) fn words_of<R: EnumSetTypeRepr>(alloc: Global, repr: &R) -> Result<Va
 /// The set of the valid bits of an array of words of 64 bits, the lowest first. There may be any number of them.
 ///
 /// The errors are [`JsonFault::NotAnArray`], [`JsonFault::NotAWord`] of the first element that is none and, where
-/// unknown bits are refused, [`JsonFault::UnknownBits`], tested in this order. It takes no memory.
+/// unknown bits are refused, [`JsonFault::UnknownBits`], tested in this order. It takes no memory. It reads the form of
+/// `serialize_repr = "array"` of Rust's `enumset`.
 pub fn from_words<T: EnumSetType>(value: &Value, unknown: Unknown) -> Result<EnumSet<T>, JsonFault>
     ensures { result ≡ set_of_words (valid_bits T.elements) unknown (view value.now) }
 {

@@ -12,7 +12,8 @@ use enumset_repr::EnumSetTypeRepr;
 
 #[tactic(auto, using(crate::specs::Laws::Conversions::conversions))]
 impl<T: EnumSetType> EnumSet<T> {
-    /// The set as a number. Every member must be below 128: [`try_as_u128`](EnumSet::try_as_u128) is the test.
+    /// The set as a number. Every member must be below 128: [`try_as_u128`](EnumSet::try_as_u128) is the test. Rust's
+    /// call panics instead.
     pub fn as_u128(&self) -> u128
         requires fits { IsTrue (set.is_subset self.now (set.below u128.BITS)) }
         ensures { result ≡ number self.now }
@@ -36,6 +37,7 @@ impl<T: EnumSetType> EnumSet<T> {
     }
 
     /// The set of a number. Every bit of it must be valid: [`try_from_u128`](EnumSet::try_from_u128) is the test.
+    /// Rust's call panics instead.
     pub fn from_u128(value: u128) -> EnumSet<T>
         requires valid { IsTrue (set.is_subset (bits value) (valid_bits T.elements)) }
         ensures { result ≡ bits value }
@@ -59,7 +61,8 @@ impl<T: EnumSetType> EnumSet<T> {
         Self::from_u128(value & Self::all().as_u128_truncated())
     }
 
-    /// The set of a number. Every bit of it must be valid, as for [`from_u128`](EnumSet::from_u128).
+    /// The set of a number. Every bit of it must be valid, as for [`from_u128`](EnumSet::from_u128). Rust's call is
+    /// unsafe.
     pub fn from_u128_unchecked(value: u128) -> EnumSet<T>
         requires valid { IsTrue (set.is_subset (bits value) (valid_bits T.elements)) }
         ensures { result ≡ bits value }

@@ -11,7 +11,8 @@ use enumset_repr::EnumSetTypeRepr;
 
 #[tactic(auto, using(crate::specs::Laws::Conversions::conversions))]
 impl<T: EnumSetType> EnumSet<T> {
-    /// The set as a number. Every member must be below 16: [`try_as_u16`](EnumSet::try_as_u16) is the test.
+    /// The set as a number. Every member must be below 16: [`try_as_u16`](EnumSet::try_as_u16) is the test. Rust's call
+    /// panics instead.
     pub fn as_u16(&self) -> u16
         requires fits { IsTrue (set.is_subset self.now (set.below u16.BITS)) }
         ensures { result ≡ number self.now }
@@ -34,7 +35,8 @@ impl<T: EnumSetType> EnumSet<T> {
         self.repr.to_u16()
     }
 
-    /// The set of a number. Every bit of it must be valid: [`try_from_u16`](EnumSet::try_from_u16) is the test.
+    /// The set of a number. Every bit of it must be valid: [`try_from_u16`](EnumSet::try_from_u16) is the test. Rust's
+    /// call panics instead.
     pub fn from_u16(value: u16) -> EnumSet<T>
         requires valid { IsTrue (set.is_subset (bits value) (valid_bits T.elements)) }
         ensures { result ≡ bits value }
@@ -58,7 +60,8 @@ impl<T: EnumSetType> EnumSet<T> {
         Self::from_u128_truncated(value as u128)
     }
 
-    /// The set of a number. Every bit of it must be valid, as for [`from_u16`](EnumSet::from_u16).
+    /// The set of a number. Every bit of it must be valid, as for [`from_u16`](EnumSet::from_u16). Rust's call is
+    /// unsafe.
     pub fn from_u16_unchecked(value: u16) -> EnumSet<T>
         requires valid { IsTrue (set.is_subset (bits value) (valid_bits T.elements)) }
         ensures { result ≡ bits value }

@@ -11,7 +11,8 @@ use enumset_repr::EnumSetTypeRepr;
 
 #[tactic(auto, using(crate::specs::Laws::Conversions::conversions))]
 impl<T: EnumSetType> EnumSet<T> {
-    /// The set as a number. Every member must be below 64: [`try_as_u64`](EnumSet::try_as_u64) is the test.
+    /// The set as a number. Every member must be below 64: [`try_as_u64`](EnumSet::try_as_u64) is the test. Rust's call
+    /// panics instead.
     pub fn as_u64(&self) -> u64
         requires fits { IsTrue (set.is_subset self.now (set.below u64.BITS)) }
         ensures { result ≡ number self.now }
@@ -34,7 +35,8 @@ impl<T: EnumSetType> EnumSet<T> {
         self.repr.to_u64()
     }
 
-    /// The set of a number. Every bit of it must be valid: [`try_from_u64`](EnumSet::try_from_u64) is the test.
+    /// The set of a number. Every bit of it must be valid: [`try_from_u64`](EnumSet::try_from_u64) is the test. Rust's
+    /// call panics instead.
     pub fn from_u64(value: u64) -> EnumSet<T>
         requires valid { IsTrue (set.is_subset (bits value) (valid_bits T.elements)) }
         ensures { result ≡ bits value }
@@ -58,7 +60,8 @@ impl<T: EnumSetType> EnumSet<T> {
         Self::from_u128_truncated(value as u128)
     }
 
-    /// The set of a number. Every bit of it must be valid, as for [`from_u64`](EnumSet::from_u64).
+    /// The set of a number. Every bit of it must be valid, as for [`from_u64`](EnumSet::from_u64). Rust's call is
+    /// unsafe.
     pub fn from_u64_unchecked(value: u64) -> EnumSet<T>
         requires valid { IsTrue (set.is_subset (bits value) (valid_bits T.elements)) }
         ensures { result ≡ bits value }

@@ -11,7 +11,8 @@ use enumset_repr::EnumSetTypeRepr;
 
 #[tactic(auto, using(crate::specs::Laws::Conversions::conversions))]
 impl<T: EnumSetType> EnumSet<T> {
-    /// The set as a number. Every member must be below 64: [`try_as_usize`](EnumSet::try_as_usize) is the test.
+    /// The set as a number. Every member must be below 64: [`try_as_usize`](EnumSet::try_as_usize) is the test. Rust's
+    /// call panics instead.
     pub fn as_usize(&self) -> usize
         requires fits { IsTrue (set.is_subset self.now (set.below usize.BITS)) }
         ensures { result ≡ number self.now }
@@ -35,6 +36,7 @@ impl<T: EnumSetType> EnumSet<T> {
     }
 
     /// The set of a number. Every bit of it must be valid: [`try_from_usize`](EnumSet::try_from_usize) is the test.
+    /// Rust's call panics instead.
     pub fn from_usize(value: usize) -> EnumSet<T>
         requires valid { IsTrue (set.is_subset (bits value) (valid_bits T.elements)) }
         ensures { result ≡ bits value }
@@ -58,7 +60,8 @@ impl<T: EnumSetType> EnumSet<T> {
         Self::from_u128_truncated(value as u128)
     }
 
-    /// The set of a number. Every bit of it must be valid, as for [`from_usize`](EnumSet::from_usize).
+    /// The set of a number. Every bit of it must be valid, as for [`from_usize`](EnumSet::from_usize). Rust's call is
+    /// unsafe.
     pub fn from_usize_unchecked(value: usize) -> EnumSet<T>
         requires valid { IsTrue (set.is_subset (bits value) (valid_bits T.elements)) }
         ensures { result ≡ bits value }

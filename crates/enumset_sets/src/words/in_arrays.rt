@@ -13,6 +13,7 @@ use enumset_repr::{from_u64_array, to_u64_array, try_from_u64_array, try_to_u64_
 #[tactic(auto, using(crate::specs::Laws::Conversions::conversions))]
 impl<T: EnumSetType> EnumSet<T> {
     /// The words of the set. Every member must be in one of them: [`try_as_array`](EnumSet::try_as_array) is the test.
+    /// Rust's call panics instead.
     pub fn as_array<const O: usize>(&self) -> [u64; O]
         requires fits { IsTrue (set.is_subset self.now (set.below (64 * O))) }
         ensures { result ≡ words self.now O }
@@ -36,6 +37,7 @@ impl<T: EnumSetType> EnumSet<T> {
     }
 
     /// The set of words. Every bit of them must be valid: [`try_from_array`](EnumSet::try_from_array) is the test.
+    /// Rust's call panics instead.
     pub fn from_array<const O: usize>(array: [u64; O]) -> EnumSet<T>
         requires valid { IsTrue (set.is_subset (bits_of array) (valid_bits T.elements)) }
         ensures { result ≡ bits_of array.entry }
@@ -59,7 +61,8 @@ impl<T: EnumSetType> EnumSet<T> {
         truncated_low(from_u64_array(array))
     }
 
-    /// The set of words. Every bit of them must be valid, as for [`from_array`](EnumSet::from_array).
+    /// The set of words. Every bit of them must be valid, as for [`from_array`](EnumSet::from_array). Rust's call is
+    /// unsafe.
     pub fn from_array_unchecked<const O: usize>(array: [u64; O]) -> EnumSet<T>
         requires valid { IsTrue (set.is_subset (bits_of array) (valid_bits T.elements)) }
         ensures { result ≡ bits_of array.entry }

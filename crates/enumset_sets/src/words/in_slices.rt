@@ -13,7 +13,7 @@ use enumset_repr::EnumSetTypeRepr;
 #[tactic(auto, using(crate::specs::Laws::Conversions::conversions))]
 impl<T: EnumSetType> EnumSet<T> {
     /// Writes the words of the set to a slice. Every member must be in one of them:
-    /// [`try_copy_into_slice`](EnumSet::try_copy_into_slice) is the test.
+    /// [`try_copy_into_slice`](EnumSet::try_copy_into_slice) is the test. Rust's call panics instead.
     pub fn copy_into_slice(&self, slice: &mut [u64])
         requires fits { IsTrue (set.is_subset self.now (set.below (64 * length slice.old))) }
         ensures { slice.new ≡ words self.now (length slice.old) }
@@ -40,6 +40,7 @@ impl<T: EnumSetType> EnumSet<T> {
     }
 
     /// The set of words. Every bit of them must be valid: [`try_from_slice`](EnumSet::try_from_slice) is the test.
+    /// Rust's call panics instead.
     pub fn from_slice(slice: &[u64]) -> EnumSet<T>
         requires valid { IsTrue (set.is_subset (bits_of slice.now) (valid_bits T.elements)) }
         ensures { result ≡ bits_of slice.now }
@@ -63,7 +64,8 @@ impl<T: EnumSetType> EnumSet<T> {
         truncated_low(T::Repr::from_u64_slice(slice))
     }
 
-    /// The set of words. Every bit of them must be valid, as for [`from_slice`](EnumSet::from_slice).
+    /// The set of words. Every bit of them must be valid, as for [`from_slice`](EnumSet::from_slice). Rust's call is
+    /// unsafe.
     pub fn from_slice_unchecked(slice: &[u64]) -> EnumSet<T>
         requires valid { IsTrue (set.is_subset (bits_of slice.now) (valid_bits T.elements)) }
         ensures { result ≡ bits_of slice.now }
