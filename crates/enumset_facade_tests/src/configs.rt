@@ -1,7 +1,7 @@
 //! Config texts, for the functions that docs/JSON.md shows: what becomes of each.
 
 use crate::config::{ConfigFault, with_flag_in_list, with_flag_in_number};
-use enumset_json_types::{Letters, Sparse, Wide};
+use enumset_test_types::{Letters, Sparse, Wide};
 use std::alloc::{AllocError, Global};
 use std::test::Fail;
 

@@ -9,8 +9,7 @@ use enumset::set_json::{
     from_words_text, to_list_text, to_map_text, to_number_text, to_words_text,
 };
 use enumset::{EnumSet, EnumSetNames, EnumSetType};
-use enumset_json_types::{LaterLetters, Letters, Of64, Sparse, Wide};
-use enumset_sizes::{In5Words, In17Words};
+use enumset_test_types::{In5Words, In17Words, LaterLetters, Letters, Of64, Sparse, Wide};
 use std::alloc::Global;
 use std::fmt;
 use std::process::Abort;

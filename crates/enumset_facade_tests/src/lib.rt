@@ -32,4 +32,3 @@ mod sending_json;
 mod serialized_sets;
 #[cfg(test)]
 mod steps;
-#[cfg(test)]

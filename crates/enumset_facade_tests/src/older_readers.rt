@@ -8,7 +8,7 @@ use enumset::set_json::{
     JsonWidth, Unknown, from_number_text, from_words_text, mixed_from_number_text,
     mixed_from_words_text, mixed_to_number_text, mixed_to_words_text,
 };
-use enumset_json_types::{LaterLetters, Letters};
+use enumset_test_types::{LaterLetters, Letters};
 use std::alloc::Global;
 use std::process::Abort;
 use std::test::Fail;

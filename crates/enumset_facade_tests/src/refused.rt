@@ -11,7 +11,7 @@ use enumset::set_json::{
     mixed_from_number_text, mixed_from_words_text, mixed_to_number, mixed_to_number_text,
     mixed_to_words_text, to_number, to_words,
 };
-use enumset_json_types::{Letters, Sparse};
+use enumset_test_types::{Letters, Sparse};
 use enumset_worked::Marks;
 use std::alloc::Global;
 use std::process::Abort;

@@ -2,7 +2,7 @@
 
 use enumset::set_json::JsonFault;
 use enumset::{EnumSet, EnumSetType, enum_set};
-use enumset_json_types::{InWords, Listed, Mapped, Numbered, Of64, Priority};
+use enumset_test_types::{InWords, Listed, Mapped, Numbered, Of64, Priority};
 use serde_json::Value;
 use std::alloc::Global;
 use std::fmt;

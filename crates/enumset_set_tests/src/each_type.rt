@@ -5,7 +5,7 @@ use crate::compare::same_lines;
 use enumset_mixed::MixedEnumSet;
 use enumset_repr::EnumSetTypeRepr;
 use enumset_sets::{EnumSet, EnumSetType, EnumSetTypeWithRepr};
-use enumset_sizes::{
+use enumset_test_types::{
     GapsInU128, GapsInWords, In5Words, In17Words, Month, Of32, Of33, Of128, Of256,
 };
 use enumset_worked::{

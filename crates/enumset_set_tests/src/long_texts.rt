@@ -3,7 +3,7 @@
 use crate::sets::two_of;
 use enumset_mixed::{MixedEnumSet, MixedValue};
 use enumset_sets::EnumSet;
-use enumset_sizes::Of256;
+use enumset_test_types::Of256;
 use enumset_worked::{Letters, Marks, PairNumber};
 use std::fmt::{self, Write};
 use std::test::Fail;

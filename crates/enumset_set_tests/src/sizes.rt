@@ -7,7 +7,7 @@
 //! The types are over `u8`, `u16`, `u32`, `u64` and `u128`, and then over two, three and four words.
 use enumset_mixed::{MixedEnumSet, MixedEnumSetIter};
 use enumset_sets::{EnumSet, EnumSetIter};
-use enumset_sizes::{Month, Of32, Of33, Of256};
+use enumset_test_types::{Month, Of32, Of33, Of256};
 use enumset_worked::{Letters, PairWords, Sparse, Wide};
 use std::mem::size_of;
 

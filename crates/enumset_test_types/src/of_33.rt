@@ -42,7 +42,7 @@ pub enum Of33 {
 
 impl EnumSetType for Of33 {
     ghost use Rattle.enumset_sets.specs.Laws.Elements.{in_place, lawful_in_integer, lawful_in_place};
-    ghost use Rattle.enumset_sizes.specs.contracts.of_33.Of33.{the_type};
+    ghost use Rattle.enumset_test_types.specs.contracts.of_33.Of33.{the_type};
 
     type Repr = u64;
 

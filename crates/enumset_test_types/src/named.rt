@@ -19,7 +19,7 @@ pub enum Letters {
 
 impl EnumSetType for Letters {
     ghost use Rattle.enumset_sets.specs.Laws.Elements.{in_place, lawful_in_integer, lawful_in_place};
-    ghost use Rattle.enumset_json_types.specs.contracts.named.Letters.{the_type};
+    ghost use Rattle.enumset_test_types.specs.contracts.named.Letters.{the_type};
 
     type Repr = u8;
 
@@ -119,7 +119,7 @@ pub enum LaterLetters {
 impl EnumSetType for LaterLetters {
     ghost use Rattle.std.specs.Prelude.{◌∷◌, []};
     ghost use Rattle.enumset_sets.specs.Laws.Elements.{with_bits, lawful_in_words};
-    ghost use Rattle.enumset_json_types.specs.contracts.named.LaterLetters.{the_type};
+    ghost use Rattle.enumset_test_types.specs.contracts.named.LaterLetters.{the_type};
 
     type Repr = ArrayRepr<2>;
 
@@ -214,7 +214,7 @@ pub enum Sparse {
 impl EnumSetType for Sparse {
     ghost use Rattle.std.specs.Prelude.{◌∷◌, []};
     ghost use Rattle.enumset_sets.specs.Laws.Elements.{with_bits, lawful_in_integer};
-    ghost use Rattle.enumset_json_types.specs.contracts.named.Sparse.{the_type};
+    ghost use Rattle.enumset_test_types.specs.contracts.named.Sparse.{the_type};
 
     type Repr = u128;
 

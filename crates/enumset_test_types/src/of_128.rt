@@ -137,7 +137,7 @@ pub enum Of128 {
 
 impl EnumSetType for Of128 {
     ghost use Rattle.enumset_sets.specs.Laws.Elements.{in_place, lawful_in_integer, lawful_in_place};
-    ghost use Rattle.enumset_sizes.specs.contracts.of_128.Of128.{the_type};
+    ghost use Rattle.enumset_test_types.specs.contracts.of_128.Of128.{the_type};
 
     type Repr = u128;
 

@@ -41,7 +41,7 @@ pub enum Of32 {
 
 impl EnumSetType for Of32 {
     ghost use Rattle.enumset_sets.specs.Laws.Elements.{in_place, lawful_in_integer, lawful_in_place};
-    ghost use Rattle.enumset_sizes.specs.contracts.of_32.Of32.{the_type};
+    ghost use Rattle.enumset_test_types.specs.contracts.of_32.Of32.{the_type};
 
     type Repr = u32;
 

@@ -14,7 +14,7 @@ pub enum Wide {
 impl EnumSetType for Wide {
     ghost use Rattle.std.specs.Prelude.{◌∷◌, []};
     ghost use Rattle.enumset_sets.specs.Laws.Elements.{with_bits, lawful_in_words};
-    ghost use Rattle.enumset_json_types.specs.contracts.wide.Wide.{the_type};
+    ghost use Rattle.enumset_test_types.specs.contracts.wide.Wide.{the_type};
 
     type Repr = ArrayRepr<3>;
 

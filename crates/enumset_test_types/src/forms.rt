@@ -15,7 +15,7 @@ pub enum Numbered {
 
 impl EnumSetType for Numbered {
     ghost use Rattle.enumset_sets.specs.Laws.Elements.{in_place, lawful_in_integer, lawful_in_place};
-    ghost use Rattle.enumset_json_types.specs.contracts.forms.Numbered.{the_type};
+    ghost use Rattle.enumset_test_types.specs.contracts.forms.Numbered.{the_type};
 
     type Repr = u8;
 
@@ -98,7 +98,7 @@ pub enum InWords {
 impl EnumSetType for InWords {
     ghost use Rattle.std.specs.Prelude.{◌∷◌, []};
     ghost use Rattle.enumset_sets.specs.Laws.Elements.{with_bits, lawful_in_words};
-    ghost use Rattle.enumset_json_types.specs.contracts.forms.InWords.{the_type};
+    ghost use Rattle.enumset_test_types.specs.contracts.forms.InWords.{the_type};
 
     type Repr = ArrayRepr<4>;
 
@@ -171,7 +171,7 @@ pub enum Listed {
 
 impl EnumSetType for Listed {
     ghost use Rattle.enumset_sets.specs.Laws.Elements.{in_place, lawful_in_integer, lawful_in_place};
-    ghost use Rattle.enumset_json_types.specs.contracts.forms.Listed.{the_type};
+    ghost use Rattle.enumset_test_types.specs.contracts.forms.Listed.{the_type};
 
     type Repr = u8;
 
@@ -262,7 +262,7 @@ pub enum Mapped {
 
 impl EnumSetType for Mapped {
     ghost use Rattle.enumset_sets.specs.Laws.Elements.{in_place, lawful_in_integer, lawful_in_place};
-    ghost use Rattle.enumset_json_types.specs.contracts.forms.Mapped.{the_type};
+    ghost use Rattle.enumset_test_types.specs.contracts.forms.Mapped.{the_type};
 
     type Repr = u8;
 

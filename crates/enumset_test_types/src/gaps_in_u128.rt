@@ -73,7 +73,7 @@ pub enum GapsInU128 {
 impl EnumSetType for GapsInU128 {
     ghost use Rattle.std.specs.Prelude.{◌∷◌, []};
     ghost use Rattle.enumset_sets.specs.Laws.Elements.{with_bits, lawful_in_integer};
-    ghost use Rattle.enumset_sizes.specs.contracts.gaps_in_u128.GapsInU128.{the_type};
+    ghost use Rattle.enumset_test_types.specs.contracts.gaps_in_u128.GapsInU128.{the_type};
 
     type Repr = u128;
 

@@ -21,7 +21,7 @@ pub enum Month {
 
 impl EnumSetType for Month {
     ghost use Rattle.enumset_sets.specs.Laws.Elements.{in_place, lawful_in_integer, lawful_in_place};
-    ghost use Rattle.enumset_sizes.specs.contracts.month.Month.{the_type};
+    ghost use Rattle.enumset_test_types.specs.contracts.month.Month.{the_type};
 
     type Repr = u16;
 

@@ -140,7 +140,7 @@ pub enum GapsInWords {
 impl EnumSetType for GapsInWords {
     ghost use Rattle.std.specs.Prelude.{◌∷◌, []};
     ghost use Rattle.enumset_sets.specs.Laws.Elements.{with_bits, lawful_in_words};
-    ghost use Rattle.enumset_sizes.specs.contracts.gaps_in_words.GapsInWords.{the_type};
+    ghost use Rattle.enumset_test_types.specs.contracts.gaps_in_words.GapsInWords.{the_type};
 
     type Repr = ArrayRepr<7>;
 
