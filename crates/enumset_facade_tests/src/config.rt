@@ -1,8 +1,6 @@
 //! Flags in a config file.
-use enumset::set_json::{
-    JsonFault, JsonWidth, Unknown, from_list, from_number, to_list, to_number,
-};
-use enumset::{EnumSet, EnumSetNames, EnumSetType};
+use enumset::set_json::{JsonFault, Unknown, from_list, to_list};
+use enumset::{EnumSet, EnumSetNames};
 use serde_json::{Error, Value, put};
 use std::alloc::{AllocError, Global};
 use std::{error, fmt};
@@ -56,21 +54,6 @@ impl From<AllocError> for ConfigFault {
     fn from(_error: AllocError) -> ConfigFault {
         ConfigFault::OutOfMemory
     }
-}
-
-/// A config text with one more flag, where the flags are a number.
-pub fn with_flag_in_number<T: EnumSetType>(
-    alloc: Global,
-    text: &str,
-    flag: T,
-) -> Result<String, ConfigFault> {
-    let mut config = Value::from_str(alloc, text)?;
-    let number = config.get("flags").ok_or(ConfigFault::NoFlags)?;
-    let mut flags: EnumSet<T> = from_number(number, JsonWidth::U32, Unknown::Refuse)?;
-    flags.insert(flag);
-    let number = to_number(alloc, &flags, JsonWidth::U32)?;
-    put_flags(alloc, &mut config, number)?;
-    Ok(config.to_string_pretty(alloc)?)
 }
 
 /// A config text with one more flag, where the flags are a list of names.

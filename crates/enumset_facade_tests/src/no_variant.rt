@@ -1,7 +1,7 @@
 //! Sets of an enum without variants.
 
-use crate::json::{Form, expect_form, write};
-use enumset::set_json::JsonWidth;
+use crate::json::{Form, read, write};
+use enumset::set_json::{JsonFault, JsonWidth, Unknown};
 use enumset::{EnumSet, EnumSetNames, EnumSetType, names_of, variant_of};
 use std::alloc::Global;
 use std::fmt;
@@ -27,8 +27,9 @@ fn expect_nothing<T: EnumSetNames + fmt::Debug>(
         write!(text, " {}", write(alloc, form, &all)?)?;
     }
     assert_eq!(rt; text.as_str(), "EnumSet() 0 [0] [] {}");
-    let unknown = "{\"A\":false} -> Ok(EnumSet()) Err(UnknownName(0))";
-    expect_form::<T>(rt, alloc, Form::Map, unknown)
+    let unknown = read::<T>(alloc, Form::Map, "{\"A\":false}", Unknown::Refuse);
+    assert_eq!(rt; unknown, Err(JsonFault::UnknownName(0)));
+    Ok(())
 }
 
 #[test]
