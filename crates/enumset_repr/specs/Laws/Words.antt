@@ -1,8 +1,7 @@
 -- Words of 64 bits: laws of `word`, `upward_shift` and `with_word`, at every width and place.
 --     contains-upward_shift, contains-with_word      their members
 --     contains-bits-word      the bits of a word of a set
---     word-bits, word-within, same_words      a word of a number's set;  a word is below 2 ^ 64;  sets with the same
---         words are equal
+--     word-bits      a word of a number's set
 --     bits-shifted_up      the set of `n << k`
 --     bits-put_low, bits-put_word      the set of a number after one of its words was replaced
 use Rattle.std.proofs.Common.{◌≡◌, ◌<◌, ◌≤◌, ℕ, suc, ◌+◌, ◌-◌, ◌*◌, ◌/◌, ◌%◌, ◌^◌, Bool, true, false, not, ◌&&◌, ◌||◌, List, [], ◌∷◌, refl, sym, ap, ◌∙◌, arith, inl, inr, ◌⊎◌, map, cond}
