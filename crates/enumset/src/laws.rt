@@ -70,6 +70,7 @@ pub fn json_words_and_back<T: EnumSetType>(set: &EnumSet<T>, unknown: Unknown)
 pub fn json_mixed_number_and_back<T: EnumSetTypeWithRepr>(set: &MixedEnumSet<T>)
     ensures { mixed_set_of_number T.Repr.WIDTH (number_value (number set.now)) ≡ Ok set.now }
 {
+    // That the members are below the width is a law of values.
     set.as_repr().learn_is_value();
 }
 
@@ -80,6 +81,7 @@ pub fn json_mixed_words_and_back<T: EnumSetTypeWithRepr>(set: &MixedEnumSet<T>, 
         (words_value (words set.now T.Repr.PREFERRED_ARRAY_LEN))
         ≡ Ok set.now }
 {
+    // That the members are below the width is a law of values.
     set.as_repr().learn_is_value();
 }
 

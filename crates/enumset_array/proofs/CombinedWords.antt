@@ -94,7 +94,7 @@ module _ (n : ℕ) (a : List ℕ) (first : IsArrayRepr n a) where
     where
       at : (w q : ℕ) → q < 64 → (w < in_use n) ⊎ (in_use n ≤ w) → contains (bits (slice_index (inverted n a) w)) q ≡ (nat_lt (64 * w + q) (64 * in_use n) && not (contains (set_of n a) (64 * w + q)))
       at w q small (inl low) =
-          ap (λ x. contains (bits x) q) (turned w low) ∙ ap (λ s. contains s q) (bits-not w64 (slice_index a w) (first.fit w)) ∙ contains-difference _ _ q
+          ap (λ x. contains (bits x) q) (turned w low) ∙ ap (λ s. contains s q) (bits-not 64 (slice_index a w) (first.fit w)) ∙ contains-difference _ _ q
           ∙ (λ i. (contains-below 64 q ∙ lt-ltb q 64 small ∙ sym (lt-ltb (64 * w + q) (64 * in_use n) (omega (arith, low, small)))) i && not (sym (contains-set_of n a w q first small) i))
       at w q small (inr past) =
           contains-zero _ q (none w past) ∙ ap (λ t. t && not (contains (set_of n a) (64 * w + q))) (sym (le-ltb (64 * w + q) (64 * in_use n) (omega (arith, past))))

@@ -69,7 +69,7 @@ small_bit k = omega arith
 insert_at : (n : ℕ) (ws : List ℕ) (i k : ℕ) → IsArrayRepr n ws → i < in_use n → k < 64 → set_of n (set ws i (bit_or (slice_index ws i) (bit_of k))) ≡ insert (set_of n ws) (64 * i + k)
 insert_at n ws i k is_repr low small = set_at n ws i _ is_repr low (or_lt 64 _ _ (is_repr.fit i) (small_bit k)) (insert (set_of n ws) (64 * i + k))
     (λ b under.
-    ap (λ s. contains s b) (bits-set w64 (slice_index ws i) k (is_repr.fit i) small) ∙ contains-insert _ k b
+    ap (λ s. contains s b) (bits-set 64 (slice_index ws i) k small) ∙ contains-insert _ k b
     ∙ (λ j. sym (same_bit i b k) j || sym (contains-set_of n ws i b is_repr under) j) ∙ sym (contains-insert _ (64 * i + k) (64 * i + b)))
     (λ w b apart under. sym (contains-insert _ (64 * i + k) (64 * w + b) ∙ ap (λ t. t || contains (set_of n ws) (64 * w + b)) (other_word i w b k apart under small)))
 
@@ -80,7 +80,7 @@ insert_bit n ws bit is_repr below = (set_repr n ws (bit / 64) _ is_repr (omega (
 remove_at : (n : ℕ) (ws : List ℕ) (i k : ℕ) → IsArrayRepr n ws → i < in_use n → k < 64 → set_of n (set ws i (bit_and (slice_index ws i) (bit_not w64 (bit_of k)))) ≡ remove (set_of n ws) (64 * i + k)
 remove_at n ws i k is_repr low small = set_at n ws i _ is_repr low (and_lt 64 _ _ (is_repr.fit i) (ones_sub-lt 64 (bit_of k))) (remove (set_of n ws) (64 * i + k))
     (λ b under.
-    ap (λ s. contains s b) (bits-clear w64 (slice_index ws i) k (is_repr.fit i) small) ∙ contains-remove _ k b
+    ap (λ s. contains s b) (bits-clear 64 (slice_index ws i) k (is_repr.fit i) small) ∙ contains-remove _ k b
     ∙ (λ j. not (sym (same_bit i b k) j) && sym (contains-set_of n ws i b is_repr under) j) ∙ sym (contains-remove _ (64 * i + k) (64 * i + b)))
     (λ w b apart under. sym (contains-remove _ (64 * i + k) (64 * w + b) ∙ ap (λ t. not t && contains (set_of n ws) (64 * w + b)) (other_word i w b k apart under small)))
 
@@ -91,7 +91,7 @@ remove_bit n ws bit is_repr below = (set_repr n ws (bit / 64) _ is_repr (omega (
 pub test_bit : (n : ℕ) (ws : List ℕ) (bit : ℕ) → IsArrayRepr n ws
     → not (bit_and (slice_index ws (bit / 64)) (1 * 2 ^ (bit % 64) % 2 ^ 64) == 0) ≡ contains (set_of n ws) bit
 test_bit n ws bit is_repr =
-    sym (bits-test w64 (slice_index ws (bit / 64)) (bit % 64) (omega arith)) ∙ sym (contains-set_of n ws (bit / 64) (bit % 64) is_repr (omega arith))
+    sym (bits-test 64 (slice_index ws (bit / 64)) (bit % 64) (omega arith)) ∙ sym (contains-set_of n ws (bit / 64) (bit % 64) is_repr (omega arith))
     ∙ ap (contains (set_of n ws)) (at_word bit)
 
 -- ---- one word

@@ -57,13 +57,6 @@ impl<const N: usize> ArrayIter<N> {
             cursors: self.cursors,
         }
     }
-
-    /// The number of items left. This call makes no ask.
-    pub(crate) fn items_left(&self) -> usize
-        ensures { result ≡ length self.now.items }
-    {
-        self.row.bits_left()
-    }
 }
 
 impl<const N: usize> Iterator for ArrayIter<N> {
@@ -85,7 +78,7 @@ impl<const N: usize> Iterator for ArrayIter<N> {
         ensures lower { IsWithinCount result.0 (at_most (length self.now.items)) }
         ensures upper { IfSome result.1 (UpTo (at_most (length self.now.items))) }
     {
-        let left = self.items_left();
+        let left = self.len();
         (left, Some(left))
     }
 }
@@ -97,6 +90,13 @@ impl<const N: usize> DoubleEndedIterator for ArrayIter<N> {
     /// and span grows by one if an item is returned, and stays otherwise, as by [`step_back`].
     fn next_back(&mut self) -> Option<u32> {
         step_back(&mut self.row, &mut self.cursors)
+    }
+}
+
+impl<const N: usize> ExactSizeIterator for ArrayIter<N> {
+    /// The number of items left. This call makes no ask.
+    fn len(&self) -> usize {
+        self.row.bits_left()
     }
 }
 

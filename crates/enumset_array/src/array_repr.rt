@@ -170,10 +170,6 @@ impl<const N: usize> EnumSetTypeRepr for ArrayRepr<N> {
         ArrayIter::over(self)
     }
 
-    fn items_left(iter: &ArrayIter<N>) -> usize {
-        iter.items_left()
-    }
-
     fn same_iter(iter: &ArrayIter<N>) -> ArrayIter<N>
         ensures { result ≡ iter.now }
     {
@@ -188,17 +184,14 @@ impl<const N: usize> EnumSetTypeRepr for ArrayRepr<N> {
         self.0[i] = w;
     }
 
-    ghost empty_is = { set_of_none N };
-
-    ghost within = { within N };
-
-    ghost inverse = { inverse N };
-
-    ghost words = { width_words N };
-
-    ghost eq_is = { equal N };
-
-    ghost cmp_is = { compare_is N };
+    ghost represents = { record {
+        no_member = set_of_none N;
+        within = within N;
+        inverse = inverse N;
+        word_count = width_words N;
+        equal = equal N;
+        ordered = compare_is N;
+    } };
 
     ghost operators = { by_sets };
 

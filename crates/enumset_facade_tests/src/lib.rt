@@ -9,6 +9,8 @@ mod config;
 #[cfg(test)]
 mod configs;
 #[cfg(test)]
+mod each_law;
+#[cfg(test)]
 mod folds;
 #[cfg(test)]
 mod json;

@@ -115,6 +115,7 @@ impl<T: EnumSetTypeWithRepr> MixedEnumSet<T> {
     pub(crate) fn of_repr(repr: T::Repr) -> MixedEnumSet<T>
         ensures { result ≡ T.Repr.members repr }
     {
+        // What the type says of a set is about values alone.
         repr.learn_is_value();
         MixedEnumSet {
             repr,

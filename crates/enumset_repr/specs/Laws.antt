@@ -14,8 +14,7 @@
 --     Listed      the set of a number, or of words, whose bits are listed
 --     Steps      a step from an end of a list
 --     Integers      an integer as a representation
---     Representations      the laws of a representation whose parts say themselves what they are
---     Asks      bounds on counted reads of words
+--     Representations      the laws of a representation whose parts say themselves what they are, and that counts no asks
 pub mod Members
 pub mod Algebra
 pub mod Ascending
@@ -30,5 +29,4 @@ pub mod Listed
 pub mod Low
 pub mod WordLists
 pub mod Filled
-pub mod Asks
 pub mod Representations

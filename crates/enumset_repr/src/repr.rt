@@ -6,7 +6,7 @@ ghost use Rattle.enumset_repr.specs.BitSet as set;
 ghost use Rattle.enumset_repr.specs.BitSet.{BitSet};
 ghost use Rattle.enumset_repr.specs.Number.{bits, number};
 ghost use Rattle.enumset_repr.specs.Order.{compare};
-ghost use Rattle.enumset_repr.specs.Representations.{AreSetOperators, IsListed};
+ghost use Rattle.enumset_repr.specs.Representations.{IsRepresentation, AreSetOperators, IsListed};
 ghost use Rattle.enumset_repr.specs.Words.{word as word_of, with_word, words as words_of, bits_of};
 
 use crate::halves::{halves_of, join_halves};
@@ -58,7 +58,12 @@ pub trait EnumSetTypeRepr: Copy
     const EMPTY: Self;
 
     /// An iterator over the members, each once, ascending, from both ends.
-    type Iter: Iterator<Item = u32> + DoubleEndedIterator + Clone + Debug + Drop;
+    type Iter: Iterator<Item = u32>
+        + DoubleEndedIterator
+        + ExactSizeIterator
+        + Clone
+        + Debug
+        + Drop;
 
     // The items that an iterator has not yet yielded.
     ghost rest: { Self.Iter → List ℕ };
@@ -107,7 +112,13 @@ pub trait EnumSetTypeRepr: Copy
 
     /// The members that are not in `other`.
     fn and_not(&self, other: Self) -> Self
-        ensures { members result ≡ set.difference (members self.now) (members other) };
+        ensures { members result ≡ set.difference (members self.now) (members other) }
+    {
+        // The laws of `!` and of the width are about values alone.
+        self.learn_is_value();
+        other.learn_is_value();
+        *self & !other
+    }
 
     /// Adds every member of `other`, in place.
     ///
@@ -180,13 +191,22 @@ pub trait EnumSetTypeRepr: Copy
 
     /// The number of items that an iterator has left. Code over any representation calls it in place of `size_hint`.
     fn items_left(iter: &Self::Iter) -> usize
-        ensures { result ≡ length (rest iter.now) };
+        ensures { result ≡ length (rest iter.now) }
+    {
+        iter.len()
+    }
 
     /// An iterator with the same items left. Code over any representation calls it in place of `clone`.
     fn same_iter(iter: &Self::Iter) -> Self::Iter
         ensures rest { rest result ≡ rest iter.now }
         ensures asks { asks result ≡ asks iter.now }
-        ensures span { span result ≡ span iter.now };
+        ensures span { span result ≡ span iter.now }
+    {
+        match iter.clone() {
+            Ok(same) => same,
+            Err(_) => unreachable!(),
+        }
+    }
 
     /// The word of 64 bits at place `i`: the bits from `64 * i` to `64 * i + 63`. The place must be below
     /// [`PREFERRED_ARRAY_LEN`](EnumSetTypeRepr::PREFERRED_ARRAY_LEN).
@@ -205,6 +225,7 @@ pub trait EnumSetTypeRepr: Copy
     final fn to_u64_slice(&self, out: &mut [u64])
         ensures { out.new ≡ words_of (members self.now) (length out.old) }
     {
+        // That no member is past the last word is a law of values.
         self.learn_is_value();
         let used = out.len().min(Self::PREFERRED_ARRAY_LEN);
         for i in 0..used {
@@ -459,26 +480,10 @@ pub trait EnumSetTypeRepr: Copy
         Some(self.try_to_u64()? as usize)
     }
 
-    // The empty set has no member.
-    ghost empty_is: { members EMPTY ≡ set.empty };
-
-    // Every member is below the width.
-    ghost within: { (a : Self) → is_value a
-        → IsTrue (set.is_subset (members a) (set.below WIDTH)) };
-
-    // A value is the one that represents its set. So no two values represent the same set.
-    ghost inverse: { (a : Self) → is_value a → of_members (members a) ≡ a };
-
-    // There are as many words as the width needs.
-    ghost words: { PREFERRED_ARRAY_LEN ≡ (WIDTH + 63) / 64 };
-
-    // Two values are equal exactly if their sets are equal.
-    ghost eq_is: { (a b : Self) → is_value a → is_value b
-        → (IsTrue (Self.PartialEq.eq a b) ↔ (members a ≡ members b)) };
-
-    // Two values compare as their sets do.
-    ghost cmp_is: { (a b : Self) → is_value a → is_value b
-        → Self.Ord.cmp a b ≡ compare (members a) (members b) };
+    // The set of each value is below the width, and a value is the one that represents its set. So no two values
+    // represent the same set. Values are equal, and compare, as their sets do.
+    ghost represents: { IsRepresentation members of_members is_value EMPTY WIDTH PREFERRED_ARRAY_LEN
+        Self.PartialEq.eq Self.Ord.cmp };
 
     // `&`, `|`, `^` and `!` may be applied to any values, and are the operations on sets.
     ghost operators: { AreSetOperators members is_value WIDTH Self.BitAnd.can_bitand
@@ -488,8 +493,8 @@ pub trait EnumSetTypeRepr: Copy
     // An iterator may step from either end at any time. A step yields the first or the last of the items left.
     ghost listed: { IsListed rest Self.Iter.Iterator.can_next
         Self.Iter.DoubleEndedIterator.can_next_back Self.Iter.Iterator.next_gives
-        Self.Iter.DoubleEndedIterator.next_back_gives Self.Iter.Clone.is_clone
-        Self.Iter.Iterator.remaining };
+        Self.Iter.DoubleEndedIterator.next_back_gives Self.Iter.Clone.is_infallible
+        Self.Iter.Clone.is_clone Self.Iter.Iterator.remaining };
 
     // A step raises the sum of asks and span by at most one if it yields an item, and not at all otherwise. A clone has
     // the same asks and span.
@@ -503,6 +508,7 @@ pub trait EnumSetTypeRepr: Copy
 pub fn word_or_zero<R: EnumSetTypeRepr>(repr: &R, i: usize) -> u64
     ensures { result ≡ word_of (R.members repr.now) i }
 {
+    // That no member is past the last word is a law of values.
     repr.learn_is_value();
     if i < R::PREFERRED_ARRAY_LEN {
         repr.word(i)
@@ -518,6 +524,7 @@ pub fn word_or_zero<R: EnumSetTypeRepr>(repr: &R, i: usize) -> u64
 fn has_no_word_from<R: EnumSetTypeRepr>(repr: &R, from: usize) -> bool
     ensures { result ≡ set.is_subset (R.members repr.now) (set.below (64 * from)) }
 {
+    // That no member is past the last word is a law of values.
     repr.learn_is_value();
     let len = R::PREFERRED_ARRAY_LEN;
     if len <= from {

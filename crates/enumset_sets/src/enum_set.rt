@@ -148,6 +148,7 @@ fn bit_of_value<T: EnumSetType>(value: T) -> u32
     ensures valid { IsTrue (set.contains (valid_bits T.elements) result) }
     ensures within { result < T.Repr.WIDTH }
 {
+    // The contract of `valid_repr` alone says that the valid bits are below the width.
     let _all = valid_repr::<T>();
     value.enum_into_u32()
 }
@@ -159,6 +160,7 @@ impl<T: EnumSetType> EnumSet<T> {
         requires { IsTrue (set.is_subset (T.Repr.members repr) (valid_bits T.elements)) }
         ensures { result ≡ T.Repr.members repr }
     {
+        // What the type says of a set is about values alone.
         repr.learn_is_value();
         EnumSet {
             repr,

@@ -20,6 +20,7 @@ pub fn number_and_back<T: EnumSetType>(set: &EnumSet<T>)
     ensures back { bits (number set.now) ≡ set.now }
     ensures valid { IsTrue (is_subset set.now (valid_bits T.elements)) }
 {
+    // A proof knows what the type says of its sets once the body reads the set.
     let _held = set.repr;
 }
 
@@ -29,6 +30,7 @@ pub fn cut_number_and_back<T: EnumSetType>(set: &EnumSet<T>, width: u32)
     ensures { intersection (bits (number (low set.now width))) (valid_bits T.elements)
         ≡ low set.now width }
 {
+    // A proof knows what the type says of its sets once the body reads the set.
     let _held = set.repr;
 }
 
@@ -40,6 +42,7 @@ pub fn words_and_back<T: EnumSetType>(set: &EnumSet<T>, len: usize)
         → bits_of (words set.now len) ≡ set.now }
     ensures valid { IsTrue (is_subset set.now (valid_bits T.elements)) }
 {
+    // A proof knows what the type says of its sets once the body reads the set.
     let _held = set.repr;
 }
 
@@ -49,6 +52,7 @@ pub fn cut_words_and_back<T: EnumSetType>(set: &EnumSet<T>, len: usize)
     ensures { intersection (bits_of (words set.now len)) (valid_bits T.elements)
         ≡ low set.now (64 * len) }
 {
+    // A proof knows what the type says of its sets once the body reads the set.
     let _held = set.repr;
 }
 
@@ -58,6 +62,8 @@ pub fn all_words_and_back<T: EnumSetType>(set: &EnumSet<T>)
     ensures back { bits_of (words set.now T.Repr.PREFERRED_ARRAY_LEN) ≡ set.now }
     ensures valid { IsTrue (is_subset set.now (valid_bits T.elements)) }
 {
+    // A proof knows what the type says of its sets once the body reads the set.
     let _held = set.repr;
+    // The contract of `valid_repr` says that the valid bits are below the width.
     let _all = valid_repr::<T>();
 }

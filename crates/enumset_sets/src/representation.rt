@@ -15,6 +15,7 @@ pub fn valid_repr<T: EnumSetType>() -> T::Repr
     ensures within { IsTrue (set.is_subset (valid_bits T.elements) (set.below T.Repr.WIDTH)) }
 {
     let all = T::ALL_BITS;
+    // That the members are below the width is a law of values.
     all.learn_is_value();
     all
 }

@@ -11,31 +11,23 @@ use crate::enum_set::EnumSet;
 use crate::representation::valid_repr;
 use enumset_repr::EnumSetTypeRepr;
 
-// Undoes a cut at the width: for each set s of valid bits whose members below the width are those of `taken`, the
-// result is s. The members of `taken` must be valid.
-pub(crate) fn exact_low<T: EnumSetType>(taken: T::Repr) -> EnumSet<T>
-    requires { IsTrue (set.is_subset (T.Repr.members taken) (valid_bits T.elements)) }
-    ensures { (s : BitSet) → IsTrue (set.is_subset s (valid_bits T.elements))
-        → T.Repr.members taken ≡ set.low s T.Repr.WIDTH → result ≡ s }
+// The set that a value represents. Its members must be valid. The valid bits are below the width.
+pub(crate) fn exact<T: EnumSetType>(repr: T::Repr) -> EnumSet<T>
+    requires { IsTrue (set.is_subset (T.Repr.members repr) (valid_bits T.elements)) }
+    ensures members { result ≡ T.Repr.members repr }
+    ensures within { IsTrue (set.is_subset (valid_bits T.elements) (set.below T.Repr.WIDTH)) }
 {
+    // The contract of `valid_repr` alone says that the valid bits are below the width.
     let _all = valid_repr::<T>();
-    EnumSet::of_repr(taken)
+    EnumSet::of_repr(repr)
 }
 
-// The valid members of a value.
+// The valid members of a value. The valid bits are below the width.
 pub(crate) fn truncated<T: EnumSetType>(repr: T::Repr) -> EnumSet<T>
-    ensures { result ≡ set.intersection (T.Repr.members repr) (valid_bits T.elements) }
+    ensures members { result ≡ set.intersection (T.Repr.members repr) (valid_bits T.elements) }
+    ensures within { IsTrue (set.is_subset (valid_bits T.elements) (set.below T.Repr.WIDTH)) }
 {
     EnumSet::of_repr(repr & valid_repr::<T>())
-}
-
-// For each set s whose members below the width are those of `taken`, the result has the valid members of s.
-pub(crate) fn truncated_low<T: EnumSetType>(taken: T::Repr) -> EnumSet<T>
-    ensures { (s : BitSet) → T.Repr.members taken ≡ set.low s T.Repr.WIDTH
-        → result ≡ set.intersection s (valid_bits T.elements) }
-{
-    let _all = valid_repr::<T>();
-    truncated(taken)
 }
 
 // The set that a value represents, if all its members are valid, else `None`.
@@ -59,6 +51,7 @@ pub(crate) fn validated_low<T: EnumSetType>(taken: Option<T::Repr>) -> Option<En
         → (IsSome result ↔ IsTrue (set.is_subset s (valid_bits T.elements)))
         × IfSome result (λ t. t ≡ s) }
 {
+    // If `taken` is `None`, s is not valid, since the valid bits are below the width.
     let _all = valid_repr::<T>();
     validated(taken?)
 }

@@ -1,14 +1,11 @@
 //! A representation of one's own: sets of the numbers from 0 to 6, kept in the low seven bits of a byte.
-#![tactic(auto, using(crate::specs::Sevens::on_7))]
+#![tactic(auto, using(enumset_repr::specs::Laws::Integers::on_integers))]
 
-ghost use Rattle.std.specs.Prelude.{◌≡◌, ◌<◌, ◌^◌, refl};
+ghost use Rattle.std.specs.Prelude.{◌≡◌, ℕ, IsTrue};
 ghost use Rattle.enumset_repr.specs.BitSet as set;
 ghost use Rattle.enumset_repr.specs.Number.{bits, number};
-ghost use Rattle.enumset_repr.specs.Laws.Asks.{no_asks};
-ghost use Rattle.enumset_repr.specs.Laws.Integers.{within_width, number_of_bits, equal_bits};
-ghost use Rattle.enumset_repr.specs.Laws.Numbers.{bits-zero};
-ghost use Rattle.enumset_repr.specs.Laws.Order.{compare-bits};
-ghost use Rattle.enumset_repr.specs.Laws.Representations.{by_sets, by_list};
+ghost use Rattle.enumset_repr.specs.Laws.Integers.{by_number};
+ghost use Rattle.enumset_repr.specs.Laws.Representations.{by_sets, by_list, no_asks};
 
 use enumset_repr::{EnumSetTypeRepr, PrimitiveIter};
 use std::marker::Model;
@@ -19,13 +16,11 @@ use std::ops::{BitAnd, BitOr, BitXor, Not};
 pub struct Low7(u8);
 
 impl Model for Low7 {
-    ghost use Rattle.std.specs.Prelude.{ℕ, ◌<◌, ◌^◌};
-
     ghost Value = { ℕ };
 
     ghost view = { λ v. v.0 };
 
-    ghost invariant = { λ v. v.0 < 2 ^ 7 };
+    ghost invariant = { λ v. IsTrue (set.is_subset (bits v.0) (set.below 7)) };
 
     ghost inverse = { λ n. record { 0 = n } };
 }
@@ -35,7 +30,6 @@ impl BitAnd for Low7 {
 
     ghost bitand_gives = { λ a b r. bits r ≡ set.intersection (bits a) (bits b) };
 
-    /// The members of both.
     fn bitand(self, other: Low7) -> Low7 {
         Low7(self.0 & other.0)
     }
@@ -46,7 +40,6 @@ impl BitOr for Low7 {
 
     ghost bitor_gives = { λ a b r. bits r ≡ set.union (bits a) (bits b) };
 
-    /// The members of either.
     fn bitor(self, other: Low7) -> Low7 {
         Low7(self.0 | other.0)
     }
@@ -57,7 +50,6 @@ impl BitXor for Low7 {
 
     ghost bitxor_gives = { λ a b r. bits r ≡ set.symmetric_difference (bits a) (bits b) };
 
-    /// The members of exactly one of the two.
     fn bitxor(self, other: Low7) -> Low7 {
         Low7(self.0 ^ other.0)
     }
@@ -68,7 +60,6 @@ impl Not for Low7 {
 
     ghost not_gives = { λ a r. bits r ≡ set.difference (set.below 7) (bits a) };
 
-    /// The numbers below 7 that are not members.
     fn not(self) -> Low7 {
         Low7(self.0 ^ 0x7f)
     }
@@ -79,7 +70,7 @@ impl EnumSetTypeRepr for Low7 {
 
     ghost of_members = { number };
 
-    ghost is_value = { λ n. n < 2 ^ 7 };
+    ghost is_value = { λ n. IsTrue (set.is_subset (bits n) (set.below 7)) };
 
     ghost PREFERRED_ARRAY_LEN = { 1 };
 
@@ -117,20 +108,8 @@ impl EnumSetTypeRepr for Low7 {
         self.0 & (1 << bit) != 0
     }
 
-    fn and_not(&self, other: Low7) -> Low7 {
-        Low7(self.0 & !other.0)
-    }
-
     fn iter(self) -> PrimitiveIter<u8> {
         PrimitiveIter(self.0)
-    }
-
-    fn items_left(iter: &PrimitiveIter<u8>) -> usize {
-        iter.len()
-    }
-
-    fn same_iter(iter: &PrimitiveIter<u8>) -> PrimitiveIter<u8> {
-        *iter
     }
 
     fn word(&self, _i: usize) -> u64 {
@@ -141,17 +120,7 @@ impl EnumSetTypeRepr for Low7 {
         self.0 = (w & 0x7f) as u8;
     }
 
-    ghost empty_is = { bits-zero };
-
-    ghost within = { within_width 7 };
-
-    ghost inverse = { number_of_bits 7 };
-
-    ghost words = { refl };
-
-    ghost eq_is = { equal_bits 7 };
-
-    ghost cmp_is = { λ a b _ _. compare-bits a b };
+    ghost represents = { by_number 7 };
 
     ghost operators = { by_sets };
 

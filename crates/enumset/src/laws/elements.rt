@@ -18,6 +18,7 @@ pub fn members_are_valid<T: EnumSetType>(set: &EnumSet<T>)
         → IsTrue (is_in bit T.elements.bit_list) }
     ensures within { IsTrue (is_subset set.now (below T.Repr.WIDTH)) }
 {
+    // Their contracts say that members are valid bits, and that these are below the width.
     let _all = valid_repr::<T>();
     let _count = set.len();
 }
@@ -33,6 +34,7 @@ pub fn valid_bits_listed<T: EnumSetType>()
     ensures width { one_past_greatest (valid_bits T.elements) ≡ T.BIT_WIDTH }
     ensures within { IsTrue (is_subset (valid_bits T.elements) (below T.Repr.WIDTH)) }
 {
+    // Its contract says that the valid bits are below the width.
     let _all = valid_repr::<T>();
 }
 
@@ -46,6 +48,7 @@ pub fn bit_and_back<T: EnumSetType>()
     ensures equal { (value other : T)
         → IsTrue (T.PartialEq.eq value other) ↔ (T.elements.bit value ≡ T.elements.bit other) }
 {
+    // Its contract says that the valid bits are below the width.
     let _all = valid_repr::<T>();
 }
 

@@ -29,6 +29,7 @@ fn test_words(items: &[Value]) -> Result<(), JsonFault>
         → (i : ℕ) → slice_index (words_of (items_view items.now)) i < 2 ^ 64 }
 {
     for place in 0..items.len() {
+        // A proof learns from the call that the word is below 2^64.
         let _word = word_at(items, place);
         if items[place].as_u64().is_none() {
             return Err(JsonFault::NotAWord(place));

@@ -30,6 +30,7 @@ pub fn mixed_to_number<T: EnumSetTypeWithRepr>(
     ensures value { IfOk result (λ value. view value ≡ number_value (number set.now)) }
 {
     let repr = set.as_repr();
+    // That the members are below the width is a law of values.
     repr.learn_is_value();
     Ok(Value::from(repr.to_u64()))
 }

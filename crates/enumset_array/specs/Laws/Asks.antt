@@ -20,12 +20,13 @@ counted = record {
 pub listed : IsListed (λ (i : IterView). i.items) (λ _. Unit {0}) (λ _. Unit {0})
     (λ i r j. YieldsFirst (λ (i : IterView). i.items) i r j × CountsAsks i.asks i.span r j.asks j.span)
     (λ i r j. YieldsLast (λ (i : IterView). i.items) i r j × CountsAsks i.asks i.span r j.asks j.span)
-    (λ i j. j ≡ i) (item_count (λ (i : IterView). i.items))
+    (λ _. Unit {0}) (λ i j. j ≡ i) (item_count (λ (i : IterView). i.items))
 listed = record {
   can_step = λ _. tt;
   can_step_back = λ _. tt;
   step = λ _ _ _ step. step.0;
   step_back = λ _ _ _ step. step.0;
+  can_clone = λ _. tt;
   clone = λ i j copy. ap (λ (k : IterView). k.items) copy;
   left = λ _. refl;
 }

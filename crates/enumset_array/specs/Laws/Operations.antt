@@ -21,7 +21,7 @@ pub on_xor : IsOnBits bit_xor symmetric_difference
 on_xor = record { none = refl; fits = xor_lt 64; same = λ x y _ _. bits-xor x y; test = λ p q. (p && not q) || (q && not p); member = contains-symmetric_difference }
 
 pub on_and_not : IsOnBits (λ x y. bit_and x (bit_not w64 y)) difference
-on_and_not = record { none = refl; fits = λ x y p _. and_lt 64 x (bit_not w64 y) p (ones_sub-lt 64 y); same = bits-and_not w64; test = λ p q. p && not q; member = contains-difference }
+on_and_not = record { none = refl; fits = λ x y p _. and_lt 64 x (bit_not w64 y) p (ones_sub-lt 64 y); same = bits-and_not 64; test = λ p q. p && not q; member = contains-difference }
 
 pub on_first : IsOnBits (λ x _. x) (λ s _. s)
 on_first = record { none = refl; fits = λ x y p _. p; same = λ x y _ _. refl; test = λ p _. p; member = λ s t q. refl }

@@ -237,6 +237,12 @@ intersection_within s t within = same_set _ _ (λ q. let each = is_subset-contai
 pub difference_within : (s t : BitSet) → is_subset s t ≡ true → difference s t ≡ empty
 difference_within s t within = same_set _ _ (λ q. let each = is_subset-contains s t within q in grind (arith, members))
 
+pub intersection_difference : (s t v : BitSet) → is_subset s v ≡ true → intersection s (difference v t) ≡ difference s t
+intersection_difference s t v within = same_set _ _ (λ q. let each = is_subset-contains s v within q in grind (arith, members))
+
+pub symmetric_difference_within : (s t : BitSet) → is_subset s t ≡ true → symmetric_difference s t ≡ difference t s
+symmetric_difference_within s t within = same_set _ _ (λ q. let each = is_subset-contains s t within q in grind (arith, members))
+
 pub difference_none : (s t : BitSet) → difference s t ≡ empty → is_subset s t ≡ true
 difference_none s t none = (is_subset_iff s t).1 none
 

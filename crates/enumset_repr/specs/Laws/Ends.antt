@@ -3,16 +3,13 @@
 --     least-empty, greatest-empty      the empty set has neither
 --     greatest_facts      the greatest is a member, and none is past it
 --     ascending-least, ascending-greatest      the least comes first in the list, and the greatest last
---     trailing-least, leading-greatest      what `trailing_zeros` and `leading_zeros` count, at each width:
---         `TrailingLaw`, `LeadingLaw`
---     clear-least, least-positive      `n & (n - 1)`, at each width: `ClearLeastLaw`;  a number with a least member is not 0
+--     trailing-least, leading-greatest      what `trailing_zeros` and `leading_zeros` count, at each number of bits
+--     clear-least, least-positive      `n & (n - 1)`;  a number with a least member is not 0
 --     at_the_ends      the ends of a set, for a tactic's `using`
 use Rattle.std.proofs.Common.{◌≡◌, ◌<◌, ◌≤◌, ℕ, suc, zero, ◌+◌, ◌-◌, ◌^◌, true, false, List, [], ◌∷◌, ◌++◌, Some, None, refl, sym, ap, subst, ◌∙◌, arith, true≢false, inl, inr, length, length-append}
 use Rattle.std.specs.Prelude.{◌==◌, MatchOption, IfSome, IsSome, is_some}
 use Rattle.std.specs.Int.RustNames.{bit_and}
-use Rattle.std.specs.Int.{trailing_zeros, leading_zeros, Width}
-use Rattle.std.specs.Int.Count.{trailing_of_zero, leading_of_zero}
-use mir.Val.{bits as width_bits}
+use Rattle.std.specs.Int.Count.{count_trailing_zeros, count_leading_zeros, trailing_of_zero, leading_of_zero}
 use Rattle.std.specs.List.{slice_get, last_or}
 use Rattle.std.proofs.lemmas.Bool.{or_cases, eqb-true, eq-eqb, or_left, or_right, false_from_ne_true}
 use Rattle.enumset_repr.specs.BitSet.{is_in, BitSet, contains, ascending, empty, remove}
@@ -21,7 +18,7 @@ use Rattle.enumset_repr.specs.Laws.Steps.{last-push}
 use Rattle.enumset_repr.specs.Laws.Members.{contains-ascending, member_below}
 use Rattle.enumset_repr.specs.Laws.Ascending.{len-ascending, AscendsFrom, ascending-ascends, ascending-empty, is_in-from, is_in-below, ascending-first, ascending-last, empty_of_ascending}
 use Rattle.enumset_repr.specs.Number.{bits}
-use Rattle.enumset_repr.specs.Laws.Numbers.{bits-zero, bits-within, bits-clear_least, least-bits, greatest-bits}
+use Rattle.enumset_repr.specs.Laws.Numbers.{lt_pow, bits-zero, bits-within, bits-clear_least, least-bits, greatest-bits}
 
 -- ---- the ends of an ascending list
 
@@ -129,45 +126,36 @@ ascending-no_greatest s none = no_last (ascending s) none
 
 -- ---- the ends of a number's set
 
-abbrev pub TrailingLaw : Width → Type 0
-TrailingLaw w = (n : ℕ) → n < 2 ^ width_bits w → MatchOption (least (bits n)) (trailing_zeros w n ≡ width_bits w) (λ m. (trailing_zeros w n ≡ m) × (m < width_bits w))
-
-abbrev pub LeadingLaw : Width → Type 0
-LeadingLaw w = (n : ℕ) → n < 2 ^ width_bits w → MatchOption (greatest (bits n)) (leading_zeros w n ≡ width_bits w) (λ m. leading_zeros w n + m + 1 ≡ width_bits w)
-
 -- `n.trailing_zeros()` is the least member, or the width if there is none
-pub trailing-least : (w : Width) → TrailingLaw w
+pub trailing-least : (w n : ℕ) → n < 2 ^ w → MatchOption (least (bits n)) (count_trailing_zeros w n ≡ w) (λ m. (count_trailing_zeros w n ≡ m) × (m < w))
 trailing-least w zero fits =
     let none : least (bits 0) ≡ None = ap least bits-zero ∙ least-empty in
-    subst (λ o. MatchOption o (trailing_zeros w 0 ≡ width_bits w) (λ m. (trailing_zeros w 0 ≡ m) × (m < width_bits w))) (sym none) (trailing_of_zero (width_bits w))
+    subst (λ o. MatchOption o (count_trailing_zeros w 0 ≡ w) (λ m. (count_trailing_zeros w 0 ≡ m) × (m < w))) (sym none) (trailing_of_zero w)
 trailing-least w (suc n) fits =
     let facts = least-bits w (suc n) (omega arith) fits in
-    let some : least (bits (suc n)) ≡ Some (trailing_zeros w (suc n)) = least-is _ _ facts.0 facts.1 in
-    subst (λ o. MatchOption o (trailing_zeros w (suc n) ≡ width_bits w) (λ m. (trailing_zeros w (suc n) ≡ m) × (m < width_bits w))) (sym some)
-    (refl, member_below (bits (suc n)) (width_bits w) _ (bits-within (suc n) (width_bits w) fits) facts.0)
+    let some : least (bits (suc n)) ≡ Some (count_trailing_zeros w (suc n)) = least-is _ _ facts.0 facts.1 in
+    subst (λ o. MatchOption o (count_trailing_zeros w (suc n) ≡ w) (λ m. (count_trailing_zeros w (suc n) ≡ m) × (m < w))) (sym some)
+    (refl, member_below (bits (suc n)) w _ (bits-within (suc n) w fits) facts.0)
 
 -- `n.leading_zeros()` counts the bits above the greatest member, and is the width if there is none
-pub leading-greatest : (w : Width) → LeadingLaw w
+pub leading-greatest : (w n : ℕ) → n < 2 ^ w → MatchOption (greatest (bits n)) (count_leading_zeros w n ≡ w) (λ m. count_leading_zeros w n + m + 1 ≡ w)
 leading-greatest w zero fits =
     let none : greatest (bits 0) ≡ None = ap greatest bits-zero ∙ greatest-empty in
-    subst (λ o. MatchOption o (leading_zeros w 0 ≡ width_bits w) (λ m. leading_zeros w 0 + m + 1 ≡ width_bits w)) (sym none) (leading_of_zero (width_bits w))
+    subst (λ o. MatchOption o (count_leading_zeros w 0 ≡ w) (λ m. count_leading_zeros w 0 + m + 1 ≡ w)) (sym none) (leading_of_zero w)
 leading-greatest w (suc n) fits =
     let facts = greatest-bits w (suc n) (omega arith) fits in
-    let some : greatest (bits (suc n)) ≡ Some (width_bits w - 1 - leading_zeros w (suc n)) = greatest-is _ _ facts.1 facts.2 in
-    subst (λ o. MatchOption o (leading_zeros w (suc n) ≡ width_bits w) (λ m. leading_zeros w (suc n) + m + 1 ≡ width_bits w)) (sym some) (omega (arith, facts.0))
-
-abbrev pub ClearLeastLaw : Width → Type 0
-ClearLeastLaw w = (n : ℕ) → n < 2 ^ width_bits w → IfSome (least (bits n)) (λ m. bits (bit_and n (n - 1)) ≡ remove (bits n) m)
+    let some : greatest (bits (suc n)) ≡ Some (w - 1 - count_leading_zeros w (suc n)) = greatest-is _ _ facts.1 facts.2 in
+    subst (λ o. MatchOption o (count_leading_zeros w (suc n) ≡ w) (λ m. count_leading_zeros w (suc n) + m + 1 ≡ w)) (sym some) (omega (arith, facts.0))
 
 -- `n & (n - 1)` is without the least member
-pub clear-least : (w : Width) → ClearLeastLaw w
-clear-least w zero fits =
+pub clear-least : (n : ℕ) → IfSome (least (bits n)) (λ m. bits (bit_and n (n - 1)) ≡ remove (bits n) m)
+clear-least zero =
     let none : least (bits 0) ≡ None = ap least bits-zero ∙ least-empty in
     subst (λ o. IfSome o (λ m. bits (bit_and 0 (0 - 1)) ≡ remove (bits 0) m)) (sym none) tt
-clear-least w (suc n) fits =
-    let facts = least-bits w (suc n) (omega arith) fits in
-    let some : least (bits (suc n)) ≡ Some (trailing_zeros w (suc n)) = least-is _ _ facts.0 facts.1 in
-    subst (λ o. IfSome o (λ m. bits (bit_and (suc n) (suc n - 1)) ≡ remove (bits (suc n)) m)) (sym some) (bits-clear_least w (suc n) (omega arith) fits)
+clear-least (suc n) =
+    let facts = least-bits (suc n) (suc n) (omega arith) (lt_pow (suc n)) in
+    let some : least (bits (suc n)) ≡ Some (count_trailing_zeros (suc n) (suc n)) = least-is _ _ facts.0 facts.1 in
+    subst (λ o. IfSome o (λ m. bits (bit_and (suc n) (suc n - 1)) ≡ remove (bits (suc n)) m)) (sym some) (bits-clear_least (suc n) (suc n) (omega arith) (lt_pow (suc n)))
 
 -- a number with a least member is not 0
 pub least-positive : (n : ℕ) → IsSome (least (bits n)) → 0 < n

@@ -9,12 +9,15 @@
 --     is_subset_wider      a set below a width is below each greater width
 --     number_low, number_cut      the number of a cut set, as a remainder
 --     number_fits, fits_number      a set is below a width exactly if its number has at most so many bits
---     cut_8, small_8, fits_8 and those at 16, 32 and 64      the same at one width, for numbers below 2 ^ 128
---     wider_8, wider_16, wider_32      a set below the width is below 64
+--     cut_to, fits_in      the same for a tactic, at each width
 -- The ruleset `cuts` has what a proof about sets and their numbers needs. A crate above cites it by
--- `#[tactic(auto, using(enumset_repr::specs::Laws::Low::cuts))]`. `cuts_to` has the laws at the widths.
-use Rattle.std.proofs.Common.{◌≡◌, ◌<◌, ◌≤◌, ℕ, ◌-◌, ◌%◌, ◌^◌, true, sym, ap, subst, ◌∙◌, arith}
-use Rattle.std.proofs.lemmas.Bool.Decides.{nat_tests}
+-- `#[tactic(auto, using(enumset_repr::specs::Laws::Low::cuts))]`. `cuts_to` has what calls to and
+-- from integers need.
+use Rattle.std.proofs.Common.{◌≡◌, ◌<◌, ◌≤◌, ℕ, suc, ◌-◌, ◌%◌, ◌^◌, true, sym, ap, subst, ◌∙◌, arith}
+use Rattle.std.proofs.lemmas.Bool.{lt-ltb, ltb-true}
+use Rattle.std.proofs.lemmas.Bool.Decides.{nat_tests, same_from_decides}
+use Rattle.std.proofs.lemmas.Grind.{low_zeros}
+use Rattle.std.specs.Prelude.{nat_lt}
 use Rattle.std.specs.Int.RustNames.{bit_and}
 use Rattle.std.proofs.lemmas.Nat.{and_mask}
 use Rattle.enumset_repr.specs.BitSet.{BitSet, empty, intersection, is_subset, below, low}
@@ -68,75 +71,15 @@ fits_number s n small = subst (λ t. is_subset t (below n) ≡ true) (bits-numbe
 
 pub ruleset cuts = (low-is_subset, low_part, low_within, low_inside, within_from_low, low_intersection, low_empty, bits-number, number-bits, intersection_right, difference_within, difference_none)
 
--- ---- the laws at each width below 128, since a tactic reads no width off a numeral
+-- ---- what a call to or from an integer needs. A tactic reads no width off a numeral: it computes `low_zeros` of it.
 
-abbrev CutLaw : ℕ → Type 0
-CutLaw n = (s : BitSet) → bit_and (number (low s 128)) (2 ^ n - 1) ≡ number (low s n)
+-- `n & 0xff`
+pub cut_to : (s : BitSet) (m : ℕ) → suc m ≡ 2 ^ low_zeros 128 (suc m) → low_zeros 128 (suc m) ≤ 128 → bit_and (number (low s 128)) m ≡ number (low s (low_zeros 128 (suc m)))
+cut_to s m e less =
+    let ones : m ≡ 2 ^ low_zeros 128 (suc m) - 1 = omega (arith, e) in
+    ap (bit_and (number (low s 128))) ones ∙ and_mask _ _ ∙ number_cut s 128 _ less
 
-abbrev SmallLaw : ℕ → Type 0
-SmallLaw n = (s : BitSet) → is_subset s (below n) ≡ true → number s < 2 ^ n
+pub fits_in : (s : BitSet) (n : ℕ) → is_subset s (below n) ≡ nat_lt (number s) (2 ^ n)
+fits_in s n = same_from_decides _ _ (number_fits s n, fits_number s n) (ltb-true _ _, lt-ltb _ _)
 
-abbrev FitsLaw : ℕ → Type 0
-FitsLaw n = (s : BitSet) → number s < 2 ^ n → is_subset s (below n) ≡ true
-
-abbrev WiderLaw : ℕ → Type 0
-WiderLaw n = (s : BitSet) → is_subset s (below n) ≡ true → is_subset s (below 64) ≡ true
-
-cut_at : (n : ℕ) → n ≤ 128 → CutLaw n
-cut_at n less s = and_mask _ n ∙ number_cut s 128 n less
-
-small_at : (n : ℕ) → SmallLaw n
-small_at n s within = number_fits s n within
-
-fits_at : (n : ℕ) → FitsLaw n
-fits_at n s below_power = fits_number s n below_power
-
-wider_at : (n : ℕ) → n ≤ 64 → WiderLaw n
-wider_at n less s within = is_subset_wider s n 64 less within
-
-pub cut_8 : CutLaw 8
-cut_8 = cut_at 8 (omega arith)
-
-pub small_8 : SmallLaw 8
-small_8 = small_at 8
-
-pub fits_8 : FitsLaw 8
-fits_8 = fits_at 8
-
-pub wider_8 : WiderLaw 8
-wider_8 = wider_at 8 (omega arith)
-
-pub cut_16 : CutLaw 16
-cut_16 = cut_at 16 (omega arith)
-
-pub small_16 : SmallLaw 16
-small_16 = small_at 16
-
-pub fits_16 : FitsLaw 16
-fits_16 = fits_at 16
-
-pub wider_16 : WiderLaw 16
-wider_16 = wider_at 16 (omega arith)
-
-pub cut_32 : CutLaw 32
-cut_32 = cut_at 32 (omega arith)
-
-pub small_32 : SmallLaw 32
-small_32 = small_at 32
-
-pub fits_32 : FitsLaw 32
-fits_32 = fits_at 32
-
-pub wider_32 : WiderLaw 32
-wider_32 = wider_at 32 (omega arith)
-
-pub cut_64 : CutLaw 64
-cut_64 = cut_at 64 (omega arith)
-
-pub small_64 : SmallLaw 64
-small_64 = small_at 64
-
-pub fits_64 : FitsLaw 64
-fits_64 = fits_at 64
-
-pub ruleset cuts_to = (cut_8, small_8, fits_8, wider_8, cut_16, small_16, fits_16, wider_16, cut_32, small_32, fits_32, wider_32, cut_64, small_64, fits_64)
+pub ruleset cuts_to = (cut_to, fits_in, nat_tests)

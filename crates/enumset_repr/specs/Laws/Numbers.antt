@@ -7,23 +7,23 @@
 use Rattle.std.proofs.Common.{◌≡◌, ◌<◌, ◌≤◌, ℕ, suc, zero, ◌+◌, ◌-◌, ◌*◌, ◌/◌, ◌%◌, ◌^◌, min, max, Bool, true, false, not, ◌&&◌, ◌||◌, List, [], ◌∷◌, refl, sym, ap, ◌∙◌, length, arith, inl, inr, ◌⊎◌, true≢false, pow-suc, pow_mono, mul_assoc, mul_comm, suc-mul, pow-add, one-mul, zero-mul}
 use Rattle.std.proofs.Math.Bool.{and-true, or-false, or_comm, and_comm}
 use Rattle.std.specs.Prelude.{◌==◌, nat_lt, sum_by}
-use Rattle.std.specs.Int.{bit_at, bit_not, trailing_zeros, leading_zeros, Width}
+use Rattle.std.specs.Int.{bit_at}
 use Rattle.std.specs.Int.RustNames.{bit_and, bit_or, bit_xor, count_ones}
-use Rattle.std.specs.Int.Count.{ones_cat, leading_top}
-use mir.Val.{bits as width_bits}
+use Rattle.std.specs.Int.Count.{count_trailing_zeros, count_leading_zeros, under, ones_cat, leading_top}
 use Rattle.std.proofs.lemmas.Bool.{cases_lt, lt-ltb, le-ltb, ltb-true, eqb-true, eq-eqb, or_left, or_right}
 use Rattle.std.proofs.lemmas.Bool.Decides.{nat_tests, same_from_decides}
 use Rattle.std.proofs.lemmas.List.Sums.{sum_by-cons}
 use Rattle.std.proofs.lemmas.Nat.{pow_pos, le-div, div_below, pow_below, one_shl, shr-shr, shr_split, mod_below}
-use Rattle.std.proofs.lemmas.Nat.Bits.{and_pow, bit_at_and, bit_at_or, bit_at_xor, bit_at_not, bit_at-pow_same, bit_at-pow_other, bit_at-zero, bit_at_above, bit_at-lt, bit_at_cat_low, bit_at_cat_high, bit_at-trailing_zeros, bit_at_ones, bit_at_ones_above, same_from_bits}
+use Rattle.std.proofs.lemmas.Nat.Bits.{and_pow, bit_at_and, bit_at_or, bit_at_xor, bit_at-pow_same, bit_at-pow_other, bit_at-zero, bit_at_above, bit_at-lt, bit_at_cat_low, bit_at_cat_high, bit_at-suc, bit_at_lowest, bit_at_ones, bit_at_ones_above, same_from_bits}
 use Rattle.enumset_repr.specs.BitSet.{is_in, BitSet, contains, ascending, len, is_empty, empty, insert, only, remove, union, intersection, difference, symmetric_difference, is_subset, below, low}
 use Rattle.enumset_repr.specs.Number.{number, bits}
 use Rattle.enumset_repr.specs.Laws.Members.{same_set, contains-empty, contains-ascending, contains-retain, contains-remove, contains-insert, contains-union, contains-intersection, contains-difference, contains-symmetric_difference, contains-below, contains-low, is_subset-contains, contains-is_subset}
+use Rattle.enumset_repr.specs.Laws.Algebra.{intersection_difference, union_only, difference_only}
 use Rattle.enumset_repr.specs.Laws.Ascending.{AscendsFrom, ascending-ascends, ascending-empty, is_in-below, len-ascending, is_empty_iff}
 
 -- ---- the members of a number's set
 
-lt_pow : (n : ℕ) → n < 2 ^ n
+pub lt_pow : (n : ℕ) → n < 2 ^ n
 lt_pow zero = omega arith
 lt_pow (suc n) = omega (arith, lt_pow n, pow-suc 2 n)
 
@@ -183,14 +183,24 @@ bits-xor a b = bits_is _ _
     ∙ sym (contains-symmetric_difference (bits a) (bits b) q))
 
 -- `!n` at a width
-pub bits-not : (w : Width) (n : ℕ) → n < 2 ^ width_bits w → bits (bit_not w n) ≡ difference (below (width_bits w)) (bits n)
-bits-not w n fits = bits_is _ _ (λ q. by q (cases_lt q (width_bits w)) ∙ (λ i. sym (contains-below (width_bits w) q) i && not (sym (contains-bits n q) i)) ∙ sym (contains-difference (below (width_bits w)) (bits n) q))
+abbrev complement : ℕ → ℕ → ℕ
+complement w n = 2 ^ w - 1 - n
+
+bit_at_complement : (w n q : ℕ) → n < 2 ^ w → q < w → bit_at (complement w n) q ≡ 1 - bit_at n q
+bit_at_complement zero n q fits within = absurd (omega arith)
+bit_at_complement (suc w) n zero fits within = omega (arith, bit_at_lowest (complement (suc w) n), bit_at_lowest n, pow-suc 2 w)
+bit_at_complement (suc w) n (suc q) fits within =
+    let half : complement (suc w) n / 2 ≡ complement w (n / 2) = omega (arith, pow-suc 2 w) in
+    omega (arith, bit_at-suc (complement (suc w) n) q ∙ ap (λ m. bit_at m q) half, bit_at_complement w (n / 2) q (omega (arith, pow-suc 2 w)) (omega arith), bit_at-suc n q)
+
+pub bits-not : (w n : ℕ) → n < 2 ^ w → bits (complement w n) ≡ difference (below w) (bits n)
+bits-not w n fits = bits_is _ _ (λ q. by q (cases_lt q w) ∙ (λ i. sym (contains-below w q) i && not (sym (contains-bits n q) i)) ∙ sym (contains-difference (below w) (bits n) q))
   where
-    by : (q : ℕ) → (q < width_bits w) ⊎ (width_bits w ≤ q) → (bit_at (bit_not w n) q == 1) ≡ (nat_lt q (width_bits w) && not (bit_at n q == 1))
-    by q (inl under) = ap (λ d. d == 1) (bit_at_not w n q fits under) ∙ digit_not _ (bit_at-lt n q) ∙ ap (λ t. t && not (bit_at n q == 1)) (sym (lt-ltb q (width_bits w) under))
+    by : (q : ℕ) → (q < w) ⊎ (w ≤ q) → (bit_at (complement w n) q == 1) ≡ (nat_lt q w && not (bit_at n q == 1))
+    by q (inl under) = ap (λ d. d == 1) (bit_at_complement w n q fits under) ∙ digit_not _ (bit_at-lt n q) ∙ ap (λ t. t && not (bit_at n q == 1)) (sym (lt-ltb q w under))
     by q (inr over) =
-        let none : bit_at (bit_not w n) q ≡ 0 = bit_at_above (bit_not w n) (width_bits w) q (omega (arith, pow_pos (width_bits w))) over in
-        let past : nat_lt q (width_bits w) ≡ false = grind (arith, nat_tests, over) in
+        let none : bit_at (complement w n) q ≡ 0 = bit_at_above (complement w n) w q (omega (arith, pow_pos w)) over in
+        let past : nat_lt q w ≡ false = grind (arith, nat_tests, over) in
         ap (λ d. d == 1) none ∙ ap (λ t. t && not (bit_at n q == 1)) (sym past)
 
 -- ---- a set and its number
@@ -220,36 +230,21 @@ len-bits n = len-ascending (bits n) ∙ sym (worth-ones 0 (ascending (bits n)) (
 
 -- ---- `a & !b`, and one bit
 
-absent_past : (a b c : Bool) → (a ≡ true → b ≡ true) → (a && (b && c)) ≡ (a && c)
-absent_past true b c h = ap (λ t. t && c) (h refl)
-absent_past false b c h = refl
-
-pub bits-and_not : (w : Width) (a b : ℕ) → a < 2 ^ width_bits w → b < 2 ^ width_bits w → bits (bit_and a (bit_not w b)) ≡ difference (bits a) (bits b)
-bits-and_not w a b fits_a fits_b =
-    bits-and a (bit_not w b) ∙ ap (intersection (bits a)) (bits-not w b fits_b)
-    ∙ same_set _ _
-    (λ q. contains-intersection (bits a) _ q
-    ∙ ap (λ t. contains (bits a) q && t) (contains-difference (below (width_bits w)) (bits b) q ∙ ap (λ t. t && not (contains (bits b) q)) (contains-below (width_bits w) q))
-    ∙ absent_past (contains (bits a) q) (nat_lt q (width_bits w)) (not (contains (bits b) q)) (λ one. lt-ltb q (width_bits w) (not_past a (width_bits w) q fits_a one))
-    ∙ sym (contains-difference (bits a) (bits b) q))
+pub bits-and_not : (w a b : ℕ) → a < 2 ^ w → b < 2 ^ w → bits (bit_and a (complement w b)) ≡ difference (bits a) (bits b)
+bits-and_not w a b fits_a fits_b = bits-and a _ ∙ ap (intersection (bits a)) (bits-not w b fits_b) ∙ intersection_difference _ _ _ (bits-within a w fits_a)
 
 contains-pow : (k q : ℕ) → contains (bits (2 ^ k)) q ≡ (q == k)
 contains-pow k q = contains-bits (2 ^ k) q ∙ pow_bit k q
 
 -- `1 << k`
-pub bits-one : (w : Width) (k : ℕ) → k < width_bits w → bits (1 * 2 ^ k % 2 ^ width_bits w) ≡ only k
-bits-one w k within = ap bits (one_shl k (width_bits w) within) ∙ same_set _ _ (λ q. contains-pow k q ∙ sym (contains-insert empty k q ∙ ap (λ t. (q == k) || t) (contains-empty q) ∙ or-false (q == k)))
+pub bits-one : (w k : ℕ) → k < w → bits (1 * 2 ^ k % 2 ^ w) ≡ only k
+bits-one w k within = ap bits (one_shl k w within) ∙ same_set _ _ (λ q. contains-pow k q ∙ sym (contains-insert empty k q ∙ ap (λ t. (q == k) || t) (contains-empty q) ∙ or-false (q == k)))
 
-pub bits-set : (w : Width) (n k : ℕ) → n < 2 ^ width_bits w → k < width_bits w → bits (bit_or n (1 * 2 ^ k % 2 ^ width_bits w)) ≡ insert (bits n) k
-bits-set w n k fits within =
-    ap (λ m. bits (bit_or n m)) (one_shl k (width_bits w) within) ∙ bits-or n (2 ^ k)
-    ∙ same_set _ _ (λ q. contains-union (bits n) (bits (2 ^ k)) q ∙ ap (λ t. contains (bits n) q || t) (contains-pow k q) ∙ or_comm (contains (bits n) q) (q == k) ∙ sym (contains-insert (bits n) k q))
+pub bits-set : (w n k : ℕ) → k < w → bits (bit_or n (1 * 2 ^ k % 2 ^ w)) ≡ insert (bits n) k
+bits-set w n k within = bits-or n _ ∙ ap (union (bits n)) (bits-one w k within) ∙ union_only _ k
 
-pub bits-clear : (w : Width) (n k : ℕ) → n < 2 ^ width_bits w → k < width_bits w → bits (bit_and n (bit_not w (1 * 2 ^ k % 2 ^ width_bits w))) ≡ remove (bits n) k
-bits-clear w n k fits within =
-    ap (λ m. bits (bit_and n (bit_not w m))) (one_shl k (width_bits w) within) ∙ bits-and_not w n (2 ^ k) fits (pow_below k (width_bits w) within)
-    ∙ same_set _ _
-    (λ q. contains-difference (bits n) (bits (2 ^ k)) q ∙ ap (λ t. contains (bits n) q && not t) (contains-pow k q) ∙ and_comm (contains (bits n) q) (not (q == k)) ∙ sym (contains-remove (bits n) k q))
+pub bits-clear : (w n k : ℕ) → n < 2 ^ w → k < w → bits (bit_and n (complement w (1 * 2 ^ k % 2 ^ w))) ≡ remove (bits n) k
+bits-clear w n k fits within = bits-and_not w n _ fits (mod_below _ (2 ^ w) (pow_pos w)) ∙ ap (difference (bits n)) (bits-one w k within) ∙ difference_only _ k
 
 digit_kept : (m d : ℕ) (kept : Bool) → (kept ≡ true → m ≡ d) → (kept ≡ false → m ≡ 0) → (m == 1) ≡ (kept && (d == 1))
 digit_kept m d true same none = ap (λ x. x == 1) (same refl)
@@ -295,37 +290,57 @@ module _ (n t : ℕ) (one : bit_at n t ≡ 1) (none : (i : ℕ) → i < t → bi
       gone : (q : ℕ) → not (q == t) ≡ false → min (bit_at n q) (bit_at (n - 1) q) ≡ 0
       gone q here = let same : q ≡ t = grind (arith, nat_tests, here) in omega (arith, ap (bit_at (n - 1)) same ∙ less_one-lowest)
 
+-- `n.trailing_zeros()` is the place of the lowest 1
+IsLowest : ℕ → ℕ → ℕ → Type 0
+IsLowest w n t = (t < w) × (bit_at n t ≡ 1) × ((i : ℕ) → i < t → bit_at n i ≡ 0)
+
+lowest_by : (w n t d : ℕ) → n % 2 ≡ d → 0 < n → (0 < n / 2 → IsLowest w (n / 2) t) → IsLowest (suc w) n (under d t)
+unfolding IsLowest
+lowest_by w n t (suc d) odd some half = (omega arith, omega (arith, bit_at_lowest n), λ i under. absurd (omega arith))
+lowest_by w n t zero even some half = let rest = half (omega arith) in (omega (arith, rest.0), bit_at-suc n t ∙ rest.1, before rest.2)
+  where
+    before : ((i : ℕ) → i < t → bit_at (n / 2) i ≡ 0) → (i : ℕ) → i < suc t → bit_at n i ≡ 0
+    before none zero under = bit_at_lowest n ∙ even
+    before none (suc i) under = bit_at-suc n i ∙ none i (omega arith)
+
+lowest_set : (w n : ℕ) → 0 < n → n < 2 ^ w → IsLowest w n (count_trailing_zeros w n)
+unfolding count_trailing_zeros
+lowest_set zero n some fits = absurd (omega arith)
+lowest_set (suc w) n some fits = lowest_by w n (count_trailing_zeros w (n / 2)) (n % 2) refl some (λ rest. lowest_set w (n / 2) rest (omega (arith, pow-suc 2 w)))
+
 -- `n & (n - 1)`
-pub bits-clear_least : (w : Width) (n : ℕ) → 0 < n → n < 2 ^ width_bits w → bits (bit_and n (n - 1)) ≡ remove (bits n) (trailing_zeros w n)
+pub bits-clear_least : (w n : ℕ) → 0 < n → n < 2 ^ w → bits (bit_and n (n - 1)) ≡ remove (bits n) (count_trailing_zeros w n)
+unfolding IsLowest
 bits-clear_least w n some fits =
-    let lowest = bit_at-trailing_zeros w n some fits in
-    without_lowest n (trailing_zeros w n) lowest.1 lowest.2
+    let lowest = lowest_set w n some fits in
+    without_lowest n (count_trailing_zeros w n) lowest.1 lowest.2
 
 digit_test : (d p : ℕ) → d < 2 → 0 < p → (d == 1) ≡ not (d * p == 0)
 digit_test zero p small some = ap (λ m. not (m == 0)) (sym (zero-mul p))
 digit_test (suc zero) p small some = grind (arith, nat_tests, one-mul p)
 digit_test (suc (suc d)) p small some = absurd (omega arith)
 
-pub bits-test : (w : Width) (n k : ℕ) → k < width_bits w → contains (bits n) k ≡ not (bit_and n (1 * 2 ^ k % 2 ^ width_bits w) == 0)
+pub bits-test : (w n k : ℕ) → k < w → contains (bits n) k ≡ not (bit_and n (1 * 2 ^ k % 2 ^ w) == 0)
 bits-test w n k within =
     contains-bits n k ∙ digit_test (bit_at n k) (2 ^ k) (bit_at-lt n k) (pow_pos k)
-    ∙ ap (λ m. not (m == 0)) (sym (and_pow n k)) ∙ ap (λ m. not (bit_and n m == 0)) (sym (one_shl k (width_bits w) within))
+    ∙ ap (λ m. not (m == 0)) (sym (and_pow n k)) ∙ ap (λ m. not (bit_and n m == 0)) (sym (one_shl k w within))
 
 -- ---- the least and the greatest
 
 -- `n.trailing_zeros()` is the least member, `WIDTH - 1 - n.leading_zeros()` the greatest
-pub least-bits : (w : Width) (n : ℕ) → 0 < n → n < 2 ^ width_bits w → (contains (bits n) (trailing_zeros w n) ≡ true) × ((q : ℕ) → q < trailing_zeros w n → contains (bits n) q ≡ false)
+pub least-bits : (w n : ℕ) → 0 < n → n < 2 ^ w → (contains (bits n) (count_trailing_zeros w n) ≡ true) × ((q : ℕ) → q < count_trailing_zeros w n → contains (bits n) q ≡ false)
+unfolding IsLowest
 least-bits w n some fits =
-    let lowest = bit_at-trailing_zeros w n some fits in
+    let lowest = lowest_set w n some fits in
     (contains-bits n _ ∙ ap (λ d. d == 1) lowest.1, λ q under. contains-bits n q ∙ ap (λ d. d == 1) (lowest.2 q under))
 
 top_bit : (n j : ℕ) → 2 ^ j ≤ n → n < 2 ^ suc j → bit_at n j ≡ 1
 top_bit n j from fits = omega (arith, le-div 1 n (2 ^ j) (pow_pos j) (omega (arith, from)), div_below n (2 ^ j) 2 (pow_pos j) (omega (arith, fits, pow-suc 2 j)))
 
-pub greatest-bits : (w : Width) (n : ℕ) → 0 < n → n < 2 ^ width_bits w → (leading_zeros w n < width_bits w) × (contains (bits n) (width_bits w - 1 - leading_zeros w n) ≡ true) × ((q : ℕ) → width_bits w - 1 - leading_zeros w n < q → contains (bits n) q ≡ false)
+pub greatest-bits : (w n : ℕ) → 0 < n → n < 2 ^ w → (count_leading_zeros w n < w) × (contains (bits n) (w - 1 - count_leading_zeros w n) ≡ true) × ((q : ℕ) → w - 1 - count_leading_zeros w n < q → contains (bits n) q ≡ false)
 greatest-bits w n some fits =
-    let top = leading_top (width_bits w) n some fits in
-    let place : width_bits w - 1 - leading_zeros w n ≡ top.0 = omega (arith, top.1) in (
+    let top = leading_top w n some fits in
+    let place : w - 1 - count_leading_zeros w n ≡ top.0 = omega (arith, top.1) in (
       omega (arith, top.1),
       ap (contains (bits n)) place ∙ contains-bits n top.0 ∙ ap (λ d. d == 1) (top_bit n top.0 top.2 top.3),
       λ q over. contains-bits n q ∙ ap (λ d. d == 1) (bit_at_above n (suc top.0) q top.3 (omega (arith, place, over))),

@@ -1,8 +1,11 @@
 -- The laws of a representation whose parts say themselves what they are.
 --     by_sets      operators whose results are those of the sets
 --     by_list      an iterator whose steps are those of the list of the items left
-use Rattle.std.proofs.Common.{◌≡◌, refl, ap, List, ℕ}
+--     no_asks      an iterator that counts no asks
+use Rattle.std.proofs.Common.{◌≡◌, refl, ap, List, ℕ, arith}
+use Rattle.std.specs.Prelude.{Option}
 use Rattle.std.specs.Iterator.{YieldsFirst, YieldsLast, item_count}
+use Rattle.enumset_repr.specs.Asks.{IsCounted}
 use Rattle.enumset_repr.specs.BitSet.{BitSet, union, intersection, symmetric_difference, difference, below}
 use Rattle.enumset_repr.specs.Representations.{AreSetOperators, IsListed}
 
@@ -24,12 +27,16 @@ by_sets = record {
 }
 
 pub by_list : {I : Type 0} {rest : I → List ℕ}
-    → IsListed rest (λ _. Unit {0}) (λ _. Unit {0}) (YieldsFirst rest) (YieldsLast rest) (λ i j. j ≡ i) (item_count rest)
+    → IsListed rest (λ _. Unit {0}) (λ _. Unit {0}) (YieldsFirst rest) (YieldsLast rest) (λ _. Unit {0}) (λ i j. j ≡ i) (item_count rest)
 by_list {I} {rest} = record {
   can_step = λ _. tt;
   can_step_back = λ _. tt;
   step = λ _ _ _ step. step;
   step_back = λ _ _ _ step. step;
+  can_clone = λ _. tt;
   clone = λ i j copy. ap rest copy;
   left = λ _. refl;
 }
+
+pub no_asks : {I : Type 0} {gives gives_back : I → Option ℕ → I → Type 0} {is_clone : I → I → Type 0} → IsCounted (λ _. 0) (λ _. 0) gives gives_back is_clone
+no_asks = record { step = λ i r j gives. (omega arith, omega arith); step_back = λ i r j gives. (omega arith, omega arith); clone = λ i j copy. (refl, refl) }

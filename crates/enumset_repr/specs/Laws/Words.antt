@@ -6,16 +6,15 @@
 --     bits-put_low, bits-put_word      the set of a number after one of its words was replaced
 use Rattle.std.proofs.Common.{◌≡◌, ◌<◌, ◌≤◌, ℕ, suc, ◌+◌, ◌-◌, ◌*◌, ◌/◌, ◌%◌, ◌^◌, Bool, true, false, not, ◌&&◌, ◌||◌, List, [], ◌∷◌, refl, sym, ap, ◌∙◌, arith, inl, inr, ◌⊎◌, map, cond}
 use Rattle.std.specs.Prelude.{◌==◌, nat_lt, nat_le, sum_by, filter}
-use Rattle.std.specs.Int.{bit_at, bit_not, Width}
+use Rattle.std.specs.Int.{bit_at}
 use Rattle.std.specs.Int.RustNames.{bit_and, bit_or}
-use mir.Val.{bits as width_bits}
 use Rattle.std.proofs.Math.Bool.{and-false, and-or_distrib_left, and-or_distrib_right}
 use Rattle.std.proofs.lemmas.Bool.{cases_lt, lt-ltb, le-ltb}
 use Rattle.std.proofs.lemmas.Bool.Decides.{nat_tests}
 use Rattle.std.proofs.lemmas.List.Sums.{sum_by-cons}
 use Rattle.std.proofs.lemmas.Nat.{pow_pos, mod_below}
 use Rattle.std.proofs.lemmas.Nat.Bits.{bit_at_ones, bit_at_ones_above, bit_at_cat_low, bit_at_cat_high, bit_at-zero}
-use Rattle.enumset_repr.specs.BitSet.{is_in, BitSet, contains, ascending, from_list, union, difference, low}
+use Rattle.enumset_repr.specs.BitSet.{is_in, BitSet, contains, ascending, from_list, union, difference, is_subset, below, low}
 use Rattle.enumset_repr.specs.Number.{number, bits}
 use Rattle.enumset_repr.specs.Words.{is_in_word, word, upward_shift, with_word}
 use Rattle.enumset_repr.specs.Laws.Members.{same_set, contains-ascending, contains-retain, contains-from_list, contains-union, contains-difference, contains-low, none_of, member_below}
@@ -143,22 +142,22 @@ kept_outside true m o same = ap not (same refl)
 kept_outside false m o same = refl
 
 -- any word, at any width: `n & !(u64::MAX << k) | x << k`, where k is 64 times the place
-pub bits-put_word : (w : Width) (n x i : ℕ) → n < 2 ^ width_bits w → bits (bit_or (bit_and n (bit_not w (18446744073709551615 * 2 ^ (64 * i) % 2 ^ width_bits w))) (x * 2 ^ (64 * i) % 2 ^ width_bits w)) ≡ with_word (bits n) (width_bits w) i x
+pub bits-put_word : (w n x i : ℕ) → n < 2 ^ w → bits (bit_or (bit_and n (2 ^ w - 1 - (18446744073709551615 * 2 ^ (64 * i) % 2 ^ w))) (x * 2 ^ (64 * i) % 2 ^ w)) ≡ with_word (bits n) w i x
 bits-put_word w n x i fits =
     bits-or _ _
-    ∙ (λ j. union (bits-and_not w n (18446744073709551615 * 2 ^ (64 * i) % 2 ^ width_bits w) fits (mod_below _ (2 ^ width_bits w) (pow_pos (width_bits w))) j) (bits-shifted_up (width_bits w) x (64 * i) j))
-    ∙ same_set _ _ (λ q. contains-union _ _ q ∙ (λ j. outside q j || placed q j) ∙ sym (contains-with_word (bits n) (width_bits w) i x q))
+    ∙ (λ j. union (bits-and_not w n (18446744073709551615 * 2 ^ (64 * i) % 2 ^ w) fits (mod_below _ (2 ^ w) (pow_pos w)) j) (bits-shifted_up w x (64 * i) j))
+    ∙ same_set _ _ (λ q. contains-union _ _ q ∙ (λ j. outside q j || placed q j) ∙ sym (contains-with_word (bits n) w i x q))
   where
-    outside : (q : ℕ) → contains (difference (bits n) (bits (18446744073709551615 * 2 ^ (64 * i) % 2 ^ width_bits w))) q ≡ (contains (bits n) q && not (is_in_word i q))
+    outside : (q : ℕ) → contains (difference (bits n) (bits (18446744073709551615 * 2 ^ (64 * i) % 2 ^ w))) q ≡ (contains (bits n) q && not (is_in_word i q))
     outside q = contains-difference (bits n) _ q ∙ kept_outside (contains (bits n) q) _ _ (λ one.
-        contains-mask (width_bits w) i q ∙ mask_test i q (width_bits w) (member_below (bits n) (width_bits w) q (bits-within n (width_bits w) fits) one))
+        contains-mask w i q ∙ mask_test i q w (member_below (bits n) w q (bits-within n w fits) one))
 
-    placed : (q : ℕ) → contains (low (upward_shift (bits x) (64 * i)) (width_bits w)) q ≡ ((nat_le (64 * i) q && contains (bits x) (q - 64 * i)) && nat_lt q (width_bits w))
-    placed q = contains-low _ (width_bits w) q ∙ ap (λ t. t && nat_lt q (width_bits w)) (contains-upward_shift (bits x) (64 * i) q)
+    placed : (q : ℕ) → contains (low (upward_shift (bits x) (64 * i)) w) q ≡ ((nat_le (64 * i) q && contains (bits x) (q - 64 * i)) && nat_lt q w)
+    placed q = contains-low _ w q ∙ ap (λ t. t && nat_lt q w) (contains-upward_shift (bits x) (64 * i) q)
 
 -- the lowest word, at a width of at most 64 bits
-pub bits-put_low : (width n x : ℕ) → width ≤ 64 → n < 2 ^ width → bits (x % 2 ^ width) ≡ with_word (bits n) width 0 x
-bits-put_low width n x narrow fits = bits-low x width ∙ same_set _ _ (λ q. contains-low (bits x) width q ∙ lowest q ∙ sym (contains-with_word (bits n) width 0 x q))
+pub bits-put_low : (width n x : ℕ) → width ≤ 64 → is_subset (bits n) (below width) ≡ true → bits (x % 2 ^ width) ≡ with_word (bits n) width 0 x
+bits-put_low width n x narrow within = bits-low x width ∙ same_set _ _ (λ q. contains-low (bits x) width q ∙ lowest q ∙ sym (contains-with_word (bits n) width 0 x q))
   where
     all_low : (q : ℕ) → q < width → not (is_in_word 0 q) ≡ false
     all_low q under = grind (arith, nat_tests, narrow, under)
@@ -167,5 +166,5 @@ bits-put_low width n x narrow fits = bits-low x width ∙ same_set _ _ (λ q. co
     lowest q =
         let from : nat_le 0 q ≡ true = grind (arith, nat_tests) in
         let same : q - 0 ≡ q = omega arith in
-        let none : (contains (bits n) q && not (is_in_word 0 q)) ≡ false = none_of (contains (bits n) q) _ (λ one. all_low q (member_below (bits n) width q (bits-within n width fits) one)) in
+        let none : (contains (bits n) q && not (is_in_word 0 q)) ≡ false = none_of (contains (bits n) q) _ (λ one. all_low q (member_below (bits n) width q within one)) in
         (λ j. (sym from j && contains (bits x) (sym same j)) && nat_lt q width) ∙ ap (λ t. t || ((nat_le 0 q && contains (bits x) (q - 0)) && nat_lt q width)) (sym none)

@@ -1,20 +1,17 @@
 //! `u8` as a representation of 8 bits.
 
-ghost use Rattle.std.specs.Prelude.{◌≡◌, ◌<◌, ◌^◌, refl};
+ghost use Rattle.std.specs.Prelude.{IsTrue};
 ghost use Rattle.std.specs.Int.{w8};
 ghost use Rattle.enumset_repr.specs.BitSet as set;
 ghost use Rattle.enumset_repr.specs.Number.{bits, number};
-ghost use Rattle.enumset_repr.specs.Laws.Asks.{no_asks};
-ghost use Rattle.enumset_repr.specs.Laws.Numbers.{bits-zero};
-ghost use Rattle.enumset_repr.specs.Laws.Order.{compare-bits};
-ghost use Rattle.enumset_repr.specs.Laws.Integers.{within_width, number_of_bits, equal_bits, integer_operators};
-ghost use Rattle.enumset_repr.specs.Laws.Representations.{by_list};
+ghost use Rattle.enumset_repr.specs.Laws.Integers.{by_number, integer_operators};
+ghost use Rattle.enumset_repr.specs.Laws.Representations.{by_list, no_asks};
 
 use crate::primitive::Primitive;
 use crate::primitive_iter::PrimitiveIter;
 use crate::repr::EnumSetTypeRepr;
 
-#[tactic(auto, using(crate::specs::Laws::Integers::on_8))]
+#[tactic(auto, using(crate::specs::Laws::Integers::on_integers))]
 impl Primitive for u8 {
     ghost set_of = { bits };
 
@@ -43,13 +40,13 @@ impl Primitive for u8 {
     }
 }
 
-#[tactic(auto, using(crate::specs::Laws::Integers::on_8))]
+#[tactic(auto, using(crate::specs::Laws::Integers::on_integers))]
 impl EnumSetTypeRepr for u8 {
     ghost members = { bits };
 
     ghost of_members = { number };
 
-    ghost is_value = { λ n. n < 2 ^ 8 };
+    ghost is_value = { λ n. IsTrue (set.is_subset (bits n) (set.below 8)) };
 
     ghost PREFERRED_ARRAY_LEN = { 1 };
 
@@ -95,14 +92,6 @@ impl EnumSetTypeRepr for u8 {
         PrimitiveIter(self)
     }
 
-    fn items_left(iter: &PrimitiveIter<u8>) -> usize {
-        iter.len()
-    }
-
-    fn same_iter(iter: &PrimitiveIter<u8>) -> PrimitiveIter<u8> {
-        *iter
-    }
-
     fn word(&self, _i: usize) -> u64 {
         *self as u64
     }
@@ -113,17 +102,7 @@ impl EnumSetTypeRepr for u8 {
         *self = (w & u8::MAX as u64) as u8;
     }
 
-    ghost empty_is = { bits-zero };
-
-    ghost within = { within_width 8 };
-
-    ghost inverse = { number_of_bits 8 };
-
-    ghost words = { refl };
-
-    ghost eq_is = { equal_bits 8 };
-
-    ghost cmp_is = { λ a b _ _. compare-bits a b };
+    ghost represents = { by_number 8 };
 
     ghost operators = { integer_operators w8 };
 

@@ -4,7 +4,7 @@
 --     bits_masked      the bits that a number shares with that of a set, after a cut at the number's width
 --     words_within      the words of a set up to its last member represent that set
 --     words_of_repr      so do as many words as its representation has
--- The ruleset `conversions` has the first two.
+-- The ruleset `conversions` has the first two, and what a cut at a width leaves of valid bits.
 use Rattle.std.proofs.Common.{◌≡◌, ◌<◌, ℕ, ◌+◌, ◌*◌, ◌/◌, ◌^◌, true, bit_and, ap, ◌∙◌, arith}
 use Rattle.enumset_repr.specs.BitSet.{BitSet, intersection, is_subset, below, low}
 use Rattle.enumset_repr.specs.Number.{bits, number}
@@ -12,7 +12,7 @@ use Rattle.enumset_repr.specs.Laws.Members.{same_set, is_subset-contains, member
 use Rattle.enumset_repr.specs.Laws.Numbers.{bits-and, bits-number, bits-within}
 use Rattle.enumset_repr.specs.Laws.Algebra.{is_subset_trans}
 use Rattle.enumset_repr.specs.Words.{words, bits_of}
-use Rattle.enumset_repr.specs.Laws.Low.{low_part, low_within, is_subset_wider}
+use Rattle.enumset_repr.specs.Laws.Low.{low_part, low_within, low_inside, low_intersection, is_subset_wider}
 use Rattle.enumset_repr.specs.Laws.WordLists.{bits_of-words}
 
 pub number_within : (s : BitSet) (n : ℕ) → is_subset s (below n) ≡ true → number (low s n) ≡ number s
@@ -33,4 +33,4 @@ pub words_of_repr : (s v : BitSet) (n width : ℕ) → n ≡ (width + 63) / 64 �
 words_of_repr s v n width is bound part =
     words_within s n (is_subset_wider s width (64 * n) (omega (arith, is)) (is_subset_trans s v (below width) part bound))
 
-pub ruleset conversions = (number_within, low_part_within)
+pub ruleset conversions = (number_within, low_part_within, low_inside, low_intersection)

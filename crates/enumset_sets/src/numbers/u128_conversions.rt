@@ -7,7 +7,7 @@ ghost use Rattle.enumset_sets.specs.Elements.{valid_bits};
 
 use crate::element::EnumSetType;
 use crate::enum_set::EnumSet;
-use crate::validated::{exact_low, validated_low};
+use crate::validated::{exact, validated_low};
 use enumset_repr::EnumSetTypeRepr;
 
 #[tactic(auto, using(crate::specs::Laws::Conversions::conversions))]
@@ -42,7 +42,7 @@ impl<T: EnumSetType> EnumSet<T> {
         requires valid { IsTrue (set.is_subset (bits value) (valid_bits T.elements)) }
         ensures { result ≡ bits value }
     {
-        exact_low(T::Repr::from_u128(value))
+        exact(T::Repr::from_u128(value))
     }
 
     /// The set of a number, if every bit of it is valid, else `None`.

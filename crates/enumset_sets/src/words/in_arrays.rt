@@ -7,7 +7,7 @@ ghost use Rattle.enumset_sets.specs.Elements.{valid_bits};
 
 use crate::element::EnumSetType;
 use crate::enum_set::EnumSet;
-use crate::validated::{exact_low, truncated_low, validated_low};
+use crate::validated::{exact, truncated, validated_low};
 use enumset_repr::{from_u64_array, to_u64_array, try_from_u64_array, try_to_u64_array};
 
 #[tactic(auto, using(crate::specs::Laws::Conversions::conversions))]
@@ -42,7 +42,7 @@ impl<T: EnumSetType> EnumSet<T> {
         requires valid { IsTrue (set.is_subset (bits_of array) (valid_bits T.elements)) }
         ensures { result ≡ bits_of array.entry }
     {
-        exact_low(from_u64_array(array))
+        exact(from_u64_array(array))
     }
 
     /// The set of words, if every bit of them is valid, else `None`.
@@ -58,7 +58,7 @@ impl<T: EnumSetType> EnumSet<T> {
     pub fn from_array_truncated<const O: usize>(array: [u64; O]) -> EnumSet<T>
         ensures { result ≡ set.intersection (bits_of array.entry) (valid_bits T.elements) }
     {
-        truncated_low(from_u64_array(array))
+        truncated(from_u64_array(array))
     }
 
     /// The set of words. Every bit of them must be valid, as for [`from_array`](EnumSet::from_array). Rust's call is

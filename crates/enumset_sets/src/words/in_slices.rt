@@ -7,7 +7,7 @@ ghost use Rattle.enumset_sets.specs.Elements.{valid_bits};
 
 use crate::element::EnumSetType;
 use crate::enum_set::EnumSet;
-use crate::validated::{exact_low, truncated_low, validated_low};
+use crate::validated::{exact, truncated, validated_low};
 use enumset_repr::EnumSetTypeRepr;
 
 #[tactic(auto, using(crate::specs::Laws::Conversions::conversions))]
@@ -45,7 +45,7 @@ impl<T: EnumSetType> EnumSet<T> {
         requires valid { IsTrue (set.is_subset (bits_of slice.now) (valid_bits T.elements)) }
         ensures { result ≡ bits_of slice.now }
     {
-        exact_low(T::Repr::from_u64_slice(slice))
+        exact(T::Repr::from_u64_slice(slice))
     }
 
     /// The set of words, if every bit of them is valid, else `None`.
@@ -61,7 +61,7 @@ impl<T: EnumSetType> EnumSet<T> {
     pub fn from_slice_truncated(slice: &[u64]) -> EnumSet<T>
         ensures { result ≡ set.intersection (bits_of slice.now) (valid_bits T.elements) }
     {
-        truncated_low(T::Repr::from_u64_slice(slice))
+        truncated(T::Repr::from_u64_slice(slice))
     }
 
     /// The set of words. Every bit of them must be valid, as for [`from_slice`](EnumSet::from_slice). Rust's call is

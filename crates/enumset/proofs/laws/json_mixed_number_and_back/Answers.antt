@@ -6,4 +6,4 @@ use Rattle.enumset.proofs.laws.json_mixed_number_and_back.Goals as goal
 pub returns : goal.returns
 returns g c =
     mixed_number_and_back _ _
-    (subst (λ s. is_subset s (below g.T.Repr.EnumSetTypeRepr.WIDTH) ≡ true) c.as_repr.ensures (g.met.T.Repr.EnumSetTypeRepr.within _ c.learn_is_value.ensures))
+    (subst (λ s. is_subset s (below g.T.Repr.EnumSetTypeRepr.WIDTH) ≡ true) c.as_repr.ensures (g.met.T.Repr.EnumSetTypeRepr.represents.within _ c.learn_is_value.ensures))

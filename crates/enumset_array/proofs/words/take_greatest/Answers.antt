@@ -9,7 +9,7 @@ pub returns : goal.returns
 returns c =
     let fits : c.args.word.now < 2 ^ 64 = search rules in
     let some : 0 < c.args.word.now = search rules in
-    let found = greatest-bits w64 c.args.word.now some fits in
+    let found = greatest-bits 64 c.args.word.now some fits in
     let small : 63 - leading_zeros w64 c.args.word.now < 64 = omega arith in
     ascending-last _ _ found.1 found.2
-    ∙ ap (λ s. ascending s ++ (63 - leading_zeros w64 c.args.word.now) ∷ []) (sym (bits-clear w64 c.args.word.now (63 - leading_zeros w64 c.args.word.now) fits small))
+    ∙ ap (λ s. ascending s ++ (63 - leading_zeros w64 c.args.word.now) ∷ []) (sym (bits-clear 64 c.args.word.now (63 - leading_zeros w64 c.args.word.now) fits small))

@@ -9,6 +9,6 @@ pub returns : goal.returns
 returns c =
     let fits : c.args.word.now < 2 ^ 64 = search rules in
     let some : 0 < c.args.word.now = search rules in
-    let found = least-bits w64 c.args.word.now some fits in
+    let found = least-bits 64 c.args.word.now some fits in
     ascending-first _ _ found.0 found.1
-    ∙ ap (λ s. trailing_zeros w64 c.args.word.now ∷ ascending s) (sym (bits-clear_least w64 c.args.word.now some fits))
+    ∙ ap (λ s. trailing_zeros w64 c.args.word.now ∷ ascending s) (sym (bits-clear_least 64 c.args.word.now some fits))

@@ -11,7 +11,7 @@ use Rattle.enumset_repr.proofs.repr.has_no_word_from.Goals as goal
 pub returns-then-len-from : goal.returns-then-len-from
 returns-then-len-from g c =
     sym (within_words (g.R.EnumSetTypeRepr.members c.args.repr.now) c.args.from (λ w past.
-    word_past_repr _ _ _ w (g.met.R.EnumSetTypeRepr.within c.args.repr.now c.learn_is_value.ensures) g.met.R.EnumSetTypeRepr.words (omega (arith, past, c.if-len-from.true, c.PREFERRED_ARRAY_LEN-len.ensures))))
+    word_past_repr _ _ _ w (g.met.R.EnumSetTypeRepr.represents.within c.args.repr.now c.learn_is_value.ensures) g.met.R.EnumSetTypeRepr.represents.word_count (omega (arith, past, c.if-len-from.true, c.PREFERRED_ARRAY_LEN-len.ensures))))
 
 pub returns-then-word-ne0 : goal.returns-then-word-ne0
 returns-then-word-ne0 g c =
@@ -37,6 +37,6 @@ returns g c =
         | inl before ↦ c.loop-k.invariant w past before
         | inr rest ↦ c.are_zero-2.ensures.0 zero w (omega (arith, rest, c.loop-k-test.false)) (omega (arith, under, c.PREFERRED_ARRAY_LEN-len.ensures))
       ]
-      | inr from ↦ word_past_repr _ _ _ w (g.met.R.EnumSetTypeRepr.within c.args.repr.now c.learn_is_value.ensures) g.met.R.EnumSetTypeRepr.words from
+      | inr from ↦ word_past_repr _ _ _ w (g.met.R.EnumSetTypeRepr.represents.within c.args.repr.now c.learn_is_value.ensures) g.met.R.EnumSetTypeRepr.represents.word_count from
     ]))
     (λ within. c.are_zero-2.ensures.1 (λ w from under. word-past s _ w within (omega (arith, from))))

@@ -9,5 +9,5 @@ returns g c =
     let new = g.New.Repr.EnumSetTypeRepr.PREFERRED_ARRAY_LEN in
     let width = g.Old.Repr.EnumSetTypeRepr.WIDTH in record {
       carried = λ within. words_kept s width new c.args.past within c.all_words_and_back.ensures.back;
-      as_it_was = λ within. words_and_back s (valid_bits g.New.EnumSetType.elements) old c.args.unknown c.all_words_and_back.ensures.valid (all_in_words s old width g.met.Old.Repr.EnumSetTypeRepr.words within);
+      as_it_was = λ within. words_and_back s (valid_bits g.New.EnumSetType.elements) old c.args.unknown c.all_words_and_back.ensures.valid (all_in_words s old width g.met.Old.Repr.EnumSetTypeRepr.represents.word_count within);
     }

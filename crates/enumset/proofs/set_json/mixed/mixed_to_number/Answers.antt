@@ -8,4 +8,4 @@ pub returns-clause-value : goal.returns-clause-value
 returns-clause-value g c =
     c.from.ensures
     ∙ ap number_value (c.to_u64.ensures
-    ∙ ap number (low_within _ 64 (is_subset_wider _ g.T.Repr.EnumSetTypeRepr.WIDTH 64 c.requires.narrow (g.met.T.Repr.EnumSetTypeRepr.within _ c.learn_is_value.ensures)) ∙ c.as_repr-repr.ensures))
+    ∙ ap number (low_within _ 64 (is_subset_wider _ g.T.Repr.EnumSetTypeRepr.WIDTH 64 c.requires.narrow (g.met.T.Repr.EnumSetTypeRepr.represents.within _ c.learn_is_value.ensures)) ∙ c.as_repr-repr.ensures))

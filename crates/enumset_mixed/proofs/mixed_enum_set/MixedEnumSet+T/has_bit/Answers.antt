@@ -6,4 +6,4 @@ use Rattle.enumset_mixed.proofs.mixed_enum_set.MixedEnumSet+T.has_bit.Goals as g
 pub returns-else-value-WIDTH-clause-has : goal.returns-else-value-WIDTH-clause-has
 returns-else-value-WIDTH-clause-has g c =
     le-ltb _ _ c.if-value-WIDTH.false
-    ∙ sym (rw (← c.self.view_is) (contains-past _ _ _ (g.met.T.Repr.EnumSetTypeRepr.within _ c.self.invariant.is_value) (omega (arith, c.if-value-WIDTH.false, c.WIDTH.ensures))))
+    ∙ sym (rw (← c.self.view_is) (contains-past _ _ _ (g.met.T.Repr.EnumSetTypeRepr.represents.within _ c.self.invariant.is_value) (omega (arith, c.if-value-WIDTH.false, c.WIDTH.ensures))))

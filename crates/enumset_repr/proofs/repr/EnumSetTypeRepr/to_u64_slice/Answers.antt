@@ -12,4 +12,4 @@ loop-i-preserved g c = placed _ c.loop-i.out c.loop-i.i c.word.result (omega ari
 
 pub loop-place-preserved : goal.loop-place-preserved
 loop-place-preserved g c = placed _ c.loop-place.out c.loop-place.place 0 (omega arith) c.loop-place.invariant
-    (sym (word_past_repr _ _ _ c.loop-place.place (g.met.Self.EnumSetTypeRepr.within c.args.self.now c.learn_is_value.ensures) g.met.Self.EnumSetTypeRepr.words (omega arith)))
+    (sym (word_past_repr _ _ _ c.loop-place.place (g.met.Self.EnumSetTypeRepr.represents.within c.args.self.now c.learn_is_value.ensures) g.met.Self.EnumSetTypeRepr.represents.word_count (omega arith)))

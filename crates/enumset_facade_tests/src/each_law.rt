@@ -1,0 +1,33 @@
+//! Each law that no other program of this repository calls, at a concrete type.
+
+use enumset::set::MixedEnumSet;
+use enumset::set_json::{JsonWidth, Unknown};
+use enumset::{EnumSet, laws};
+use enumset_json_types::{LaterLetters, Letters};
+
+#[test]
+fn of_sets_and_elements(_rt: HostRuntime) {
+    let letters = EnumSet::<Letters>::all();
+    laws::complements();
+    laws::both_ends();
+    laws::fold_of_sets();
+    laws::fold_of_elements::<Letters>();
+    laws::valid_bits_listed::<Letters>();
+    laws::valid_before_invalid::<Letters>();
+    laws::cut_number_and_back(&letters, 2);
+    laws::words_and_back(&letters, 1);
+    laws::cut_words_and_back(&letters, 1);
+    laws::all_words_and_back(&letters);
+}
+
+#[test]
+fn of_json(_rt: HostRuntime) {
+    let letters = EnumSet::<Letters>::all();
+    let later = EnumSet::<LaterLetters>::all();
+    laws::name_and_back(Letters::A, "A");
+    laws::json_map_and_back(&letters, Unknown::Refuse);
+    laws::json_mixed_words_and_back(&MixedEnumSet::<Letters>::from_repr(0x81), Unknown::Refuse);
+    laws::older_reader::<Letters, LaterLetters>(&later, JsonWidth::U64, Unknown::Drop);
+    laws::carried_along::<Letters, LaterLetters>(&later, Unknown::Drop, Unknown::Refuse);
+    laws::carried_along_in_number::<Letters, LaterLetters>(&later, JsonWidth::U64, Unknown::Drop);
+}
