@@ -32,3 +32,6 @@ pub mod WordLists
 pub mod Filled
 pub mod Asks
 pub mod Representations
+pub mod Counting
+pub mod Firsts
+pub mod Ordering
