@@ -30,3 +30,6 @@ pub mod Low
 pub mod WordLists
 pub mod Filled
 pub mod Representations
+pub mod Counting
+pub mod Firsts
+pub mod Ordering

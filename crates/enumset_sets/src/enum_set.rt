@@ -1,6 +1,7 @@
 //! The set of elements.
 
-ghost use Rattle.std.specs.Prelude.{◌≡◌, ◌<◌, ◌≤◌, ◌↔◌, IsTrue, false, not};
+ghost use Rattle.std.specs.Prelude.{◌≡◌, ◌<◌, ◌≤◌, ◌↔◌, ◌^◌, IsTrue, false, not, length};
+ghost use Rattle.std.specs.Iterator.Runs.{EveryRun, ItemsMapTo};
 ghost use Rattle.enumset_repr.specs.BitSet as set;
 ghost use Rattle.enumset_sets.specs.Elements.{one_past_greatest, valid_bits};
 
@@ -377,7 +378,12 @@ impl<T: EnumSetType> EnumSet<T> {
         ensures asks { result.asks ≡ 0 }
         ensures span { result.span ≤ T.Repr.PREFERRED_ARRAY_LEN }
         ensures valid { IsTrue (set.is_subset self.now (valid_bits T.elements)) }
+        ensures runs { EveryRun ⟦<EnumSetIter<T> as Iterator>⟧.next_gives
+            (λ run. ItemsMapTo run T.elements.bit run.from.items) }
+        ensures fits { length result.items < 2 ^ 32 }
     {
+        let _all = valid_repr::<T>();
+        let _width = T::Repr::WIDTH;
         EnumSetIter::over(self.repr)
     }
 

@@ -1,8 +1,26 @@
 //! Sets to and from numbers, by the table of [`EnumSet`](crate::EnumSet).
 
+ghost use Rattle.std.specs.Prelude.{◌≡◌, ◌<◌, IsTrue};
+ghost use Rattle.enumset_repr.specs.BitSet.{is_subset, below, low};
+
 mod u128_conversions;
 mod u16_conversions;
 mod u32_conversions;
 mod u64_conversions;
 mod u8_conversions;
 mod usize_conversions;
+
+use crate::element::EnumSetType;
+use crate::enum_set::EnumSet;
+use crate::representation::valid_repr;
+use enumset_repr::EnumSetTypeRepr;
+
+// A cut at a width leaves a set as it is, if the width holds the representation or every member is below it.
+#[tactic(auto, using(crate::specs::Laws::Conversions::conversions))]
+fn learn_fits<T: EnumSetType>(set: &EnumSet<T>, width: u32)
+    requires { width < T.Repr.WIDTH → IsTrue (is_subset set.now (below width)) }
+    ensures { low set.now width ≡ set.now }
+{
+    let _held = set.repr;
+    let _all = valid_repr::<T>();
+}

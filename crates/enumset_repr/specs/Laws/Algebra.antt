@@ -32,6 +32,10 @@ empty_union s = same_set _ _ (λ q. grind (arith, members))
 pub union_intersection : (s t : BitSet) → union s (intersection s t) ≡ s
 union_intersection s t = same_set _ _ (λ q. grind (arith, members))
 
+-- what is inside a set of a union is what is inside it of the two
+pub union_inside : (s t u : BitSet) → intersection (union s t) u ≡ union (intersection s u) (intersection t u)
+union_inside s t u = same_set _ _ (λ q. grind (arith, members))
+
 pub union_over_intersection : (s t u : BitSet) → union s (intersection t u) ≡ intersection (union s t) (union s u)
 union_over_intersection s t u = same_set _ _ (λ q. grind (arith, members))
 
@@ -90,6 +94,9 @@ union_difference s t = same_set _ _ (λ q. grind (arith, members))
 
 pub difference_then_union : (s t : BitSet) → union (difference s t) t ≡ union s t
 difference_then_union s t = same_set _ _ (λ q. grind (arith, members))
+
+pub difference_apart_from : (s t : BitSet) → intersection (difference s t) t ≡ empty
+difference_apart_from s t = same_set _ _ (λ q. grind (arith, members))
 
 pub difference_twice : (s t : BitSet) → difference (difference s t) t ≡ difference s t
 difference_twice s t = same_set _ _ (λ q. grind (arith, members))
@@ -166,6 +173,9 @@ insert_union s t b = same_set _ _ (λ q. grind (arith, members))
 
 pub union_insert : (s t : BitSet) (b : ℕ) → union s (insert t b) ≡ insert (union s t) b
 union_insert s t b = same_set _ _ (λ q. grind (arith, members))
+
+pub insert_inside : (s t : BitSet) (b : ℕ) → contains t b ≡ true → intersection (insert s b) t ≡ insert (intersection s t) b
+insert_inside s t b one = same_set _ _ (λ q. grind (arith, members, nat_tests))
 
 pub ruleset on_one_number = (contains_insert, contains_remove, insert_twice, insert_present, remove_twice, remove_absent, remove_insert, insert_remove, union_only, difference_only)
 
@@ -262,6 +272,11 @@ from_list_ascending s = same_set _ _ (λ q. contains-from_list (ascending s) q �
 pub insert_each_ascending : (s : BitSet) → insert_each empty (ascending s) ≡ s
 unfolding union
 insert_each_ascending s = empty_union s
+
+-- a set with the members of another inserted one by one
+pub insert_each_union : (s t : BitSet) → insert_each s (ascending t) ≡ union s t
+unfolding union
+insert_each_union s t = refl
 
 -- a step of a loop that inserts the numbers of a list in turn: it inserts the first and leaves the others
 pub insert_each_insert : (s : BitSet) (b : ℕ) (bs : List ℕ) → insert_each (insert s b) bs ≡ insert_each s (b ∷ bs)

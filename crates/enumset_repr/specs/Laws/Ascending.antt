@@ -149,7 +149,7 @@ ascending-last s m one greatest =
     ascending_is s _ (ascends-push 0 m _ (omega arith) (ascending-ascends (remove s m)) earlier)
     (λ q. back_in s m q one ∙ ap (λ b. (q == m) || b) (contains-ascending (remove s m) q) ∙ sym (is_in-push q m _))
 
-empty_of_len : (s : BitSet) → len s ≡ 0 → s ≡ empty
+pub empty_of_len : (s : BitSet) → len s ≡ 0 → s ≡ empty
 unfolding len empty
 empty_of_len s e = fin.empty_of_len s e
 

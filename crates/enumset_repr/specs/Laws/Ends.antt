@@ -64,7 +64,7 @@ no_first : (xs : List ℕ) → slice_get xs 0 ≡ None → xs ≡ []
 no_first [] none = refl
 no_first (x ∷ xs) none = absurd (no_item x (sym none))
 
-least_facts : (s : BitSet) (m : ℕ) → least s ≡ Some m → (contains s m ≡ true) × ((q : ℕ) → q < m → contains s q ≡ false)
+pub least_facts : (s : BitSet) (m : ℕ) → least s ≡ Some m → (contains s m ≡ true) × ((q : ℕ) → q < m → contains s q ≡ false)
 unfolding least
 least_facts s m first =
     let parts = first_item (ascending s) m first in

@@ -1,11 +1,13 @@
 -- What becomes of a set that is cut at a width, and of one that is taken through words.
 --     number_within      the number of a set below a width, after a cut there
+--     low_held      a set of valid bits below the width is not changed by a cut that it fits
 --     low_part_within      a subset of v is still one after a cut
 --     bits_masked      the bits that a number shares with that of a set, after a cut at the number's width
 --     words_within      the words of a set up to its last member represent that set
 --     words_of_repr      so do as many words as its representation has
 -- The ruleset `conversions` has the first two, and what a cut at a width leaves of valid bits.
-use Rattle.std.proofs.Common.{◌≡◌, ◌<◌, ℕ, ◌+◌, ◌*◌, ◌/◌, ◌^◌, true, bit_and, ap, ◌∙◌, arith}
+use Rattle.std.proofs.Common.{◌≡◌, ◌<◌, ℕ, ◌+◌, ◌*◌, ◌/◌, ◌^◌, true, bit_and, ap, ◌∙◌, arith, inl, inr}
+use Rattle.std.proofs.lemmas.Bool.{cases_lt}
 use Rattle.enumset_repr.specs.BitSet.{BitSet, intersection, is_subset, below, low}
 use Rattle.enumset_repr.specs.Number.{bits, number}
 use Rattle.enumset_repr.specs.Laws.Members.{same_set, is_subset-contains, members}
@@ -17,6 +19,13 @@ use Rattle.enumset_repr.specs.Laws.WordLists.{bits_of-words}
 
 pub number_within : (s : BitSet) (n : ℕ) → is_subset s (below n) ≡ true → number (low s n) ≡ number s
 number_within s n within = ap number (low_within s n within)
+
+-- a subset of v, where v is below a width, is not changed by a cut there, nor by a narrower one that it is below
+pub low_held : (s v : BitSet) (width n : ℕ) → is_subset s v ≡ true → is_subset v (below width) ≡ true → (n < width → is_subset s (below n) ≡ true) → low s n ≡ s
+low_held s v width n part bound fits = elim (cases_lt n width) [
+  | inl narrow ↦ low_within s n (fits narrow)
+  | inr wide ↦ low_within s n (is_subset_wider s width n wide (is_subset_trans s v (below width) part bound))
+]
 
 pub low_part_within : (s v : BitSet) (n : ℕ) → is_subset s v ≡ true → is_subset (low s n) v ≡ true
 low_part_within s v n within = is_subset_trans (low s n) s v (low_part s n) within
@@ -33,4 +42,4 @@ pub words_of_repr : (s v : BitSet) (n width : ℕ) → n ≡ (width + 63) / 64 �
 words_of_repr s v n width is bound part =
     words_within s n (is_subset_wider s width (64 * n) (omega (arith, is)) (is_subset_trans s v (below width) part bound))
 
-pub ruleset conversions = (number_within, low_part_within, low_inside, low_intersection)
+pub ruleset conversions = (number_within, low_part_within, low_held, low_inside, low_intersection)

@@ -1,12 +1,13 @@
 //! Sets to and from `u128`.
 
-ghost use Rattle.std.specs.Prelude.{◌≡◌, ◌↔◌, IsTrue, IsSome, IfSome};
+ghost use Rattle.std.specs.Prelude.{◌≡◌, ◌<◌, ◌↔◌, IsTrue, IsSome, IfSome};
 ghost use Rattle.enumset_repr.specs.BitSet as set;
 ghost use Rattle.enumset_repr.specs.Number.{bits, number};
 ghost use Rattle.enumset_sets.specs.Elements.{valid_bits};
 
 use crate::element::EnumSetType;
 use crate::enum_set::EnumSet;
+use crate::numbers::learn_fits;
 use crate::validated::{exact, validated_low};
 use enumset_repr::EnumSetTypeRepr;
 
@@ -15,9 +16,11 @@ impl<T: EnumSetType> EnumSet<T> {
     /// The set as a number. Every member must be below 128: [`try_as_u128`](EnumSet::try_as_u128) is the test. Rust's
     /// call panics instead.
     pub fn as_u128(&self) -> u128
-        requires fits { IsTrue (set.is_subset self.now (set.below u128.BITS)) }
+        requires fits { u128.BITS < T.Repr.WIDTH
+            → IsTrue (set.is_subset self.now (set.below u128.BITS)) }
         ensures { result ≡ number self.now }
     {
+        learn_fits(self, u128::BITS);
         self.as_u128_truncated()
     }
 

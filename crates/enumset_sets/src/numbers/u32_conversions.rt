@@ -1,12 +1,13 @@
 //! Sets to and from `u32`.
 
-ghost use Rattle.std.specs.Prelude.{◌≡◌, ◌↔◌, IsTrue, IsSome, IfSome};
+ghost use Rattle.std.specs.Prelude.{◌≡◌, ◌<◌, ◌↔◌, IsTrue, IsSome, IfSome};
 ghost use Rattle.enumset_repr.specs.BitSet as set;
 ghost use Rattle.enumset_repr.specs.Number.{bits, number};
 ghost use Rattle.enumset_sets.specs.Elements.{valid_bits};
 
 use crate::element::EnumSetType;
 use crate::enum_set::EnumSet;
+use crate::numbers::learn_fits;
 use enumset_repr::EnumSetTypeRepr;
 
 #[tactic(auto, using(crate::specs::Laws::Conversions::conversions))]
@@ -14,9 +15,11 @@ impl<T: EnumSetType> EnumSet<T> {
     /// The set as a number. Every member must be below 32: [`try_as_u32`](EnumSet::try_as_u32) is the test. Rust's call
     /// panics instead.
     pub fn as_u32(&self) -> u32
-        requires fits { IsTrue (set.is_subset self.now (set.below u32.BITS)) }
+        requires fits { u32.BITS < T.Repr.WIDTH
+            → IsTrue (set.is_subset self.now (set.below u32.BITS)) }
         ensures { result ≡ number self.now }
     {
+        learn_fits(self, u32::BITS);
         self.as_u32_truncated()
     }
 

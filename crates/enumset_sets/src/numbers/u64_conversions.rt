@@ -1,12 +1,13 @@
 //! Sets to and from `u64`.
 
-ghost use Rattle.std.specs.Prelude.{◌≡◌, ◌↔◌, IsTrue, IsSome, IfSome};
+ghost use Rattle.std.specs.Prelude.{◌≡◌, ◌<◌, ◌↔◌, IsTrue, IsSome, IfSome};
 ghost use Rattle.enumset_repr.specs.BitSet as set;
 ghost use Rattle.enumset_repr.specs.Number.{bits, number};
 ghost use Rattle.enumset_sets.specs.Elements.{valid_bits};
 
 use crate::element::EnumSetType;
 use crate::enum_set::EnumSet;
+use crate::numbers::learn_fits;
 use enumset_repr::EnumSetTypeRepr;
 
 #[tactic(auto, using(crate::specs::Laws::Conversions::conversions))]
@@ -14,9 +15,11 @@ impl<T: EnumSetType> EnumSet<T> {
     /// The set as a number. Every member must be below 64: [`try_as_u64`](EnumSet::try_as_u64) is the test. Rust's call
     /// panics instead.
     pub fn as_u64(&self) -> u64
-        requires fits { IsTrue (set.is_subset self.now (set.below u64.BITS)) }
+        requires fits { u64.BITS < T.Repr.WIDTH
+            → IsTrue (set.is_subset self.now (set.below u64.BITS)) }
         ensures { result ≡ number self.now }
     {
+        learn_fits(self, u64::BITS);
         self.as_u64_truncated()
     }
 

@@ -1,0 +1,96 @@
+-- How many members sets have.
+--     ascending-intersection, ascending-difference      the members of s that are in t, and that are not, ascending
+--     len-parts      the members of s outside t and those inside t are all of s
+--     len-union      a union and an intersection have together as many members as the two sets
+--     len-intersection, len-difference, len-subset      a part has no more members
+--     len-inserted, len-removed      one more, and one less
+--     len_zero_iff      a set has no member exactly if it is the empty set
+--     kept_count, passed_count      as many members of s are in t as the list of s has numbers that are in t
+-- The ruleset `counting` has those that a tactic can apply by itself.
+use Rattle.std.proofs.Common.{◌≡◌, ◌≤◌, ◌+◌, ◌-◌, ℕ, suc, zero, Bool, true, false, cond, not, ◌&&◌, List, [], ◌∷◌, length, filter, refl, sym, ap, ◌∙◌, arith, ◌↔◌}
+use Rattle.std.proofs.lemmas.Bool.Decides.{nat_tests}
+use Rattle.std.proofs.lemmas.List.Filters.{length-filter_both}
+use Rattle.enumset_repr.specs.BitSet.{BitSet, is_in, contains, ascending, len, empty, insert, remove, union, intersection, difference, is_subset}
+use Rattle.enumset_repr.specs.Laws.Members.{contains-empty, contains-ascending, contains-intersection, contains-difference}
+use Rattle.enumset_repr.specs.Laws.Algebra.{intersection_comm, intersection_union, intersection_within, union_comm, union_difference}
+use Rattle.enumset_repr.specs.Laws.Ascending.{AscendsFrom, ascending-ascends, ascending_is, len-ascending, len-below, len-empty, len-insert, len-remove, empty_of_len}
+
+ascends_lower : (j k : ℕ) (xs : List ℕ) → k ≤ j → AscendsFrom j xs → AscendsFrom k xs
+ascends_lower j k [] less a = tt
+ascends_lower j k (x ∷ xs) less a = (omega (arith, a.0), a.1)
+
+module _ (p : ℕ → Bool) where
+  ascends-filter : (k : ℕ) (xs : List ℕ) → AscendsFrom k xs → AscendsFrom k (filter p xs)
+  ascends-filter k [] a = tt
+  ascends-filter k (x ∷ xs) a = elim (p x) as (λ b. AscendsFrom k (cond b (x ∷ filter p xs) (filter p xs))) [
+    | true ↦ (a.0, ascends-filter (suc x) xs a.1)
+    | false ↦ ascends_lower (suc x) k (filter p xs) (omega (arith, a.0)) (ascends-filter (suc x) xs a.1)
+  ]
+
+  is_in-filter : (q : ℕ) (xs : List ℕ) → is_in q (filter p xs) ≡ (is_in q xs && p q)
+  is_in-filter q [] = refl
+  is_in-filter q (x ∷ xs) = let rest = is_in-filter q xs in grind (arith, nat_tests)
+
+pub ascending-intersection : (s t : BitSet) → ascending (intersection s t) ≡ filter (contains t) (ascending s)
+ascending-intersection s t = ascending_is (intersection s t) (filter (contains t) (ascending s))
+    (ascends-filter (contains t) 0 (ascending s) (ascending-ascends s))
+    (λ q. contains-intersection s t q ∙ ap (λ b. b && contains t q) (contains-ascending s q) ∙ sym (is_in-filter (contains t) q (ascending s)))
+
+pub ascending-difference : (s t : BitSet) → ascending (difference s t) ≡ filter (λ b. not (contains t b)) (ascending s)
+ascending-difference s t = ascending_is (difference s t) (filter (λ b. not (contains t b)) (ascending s))
+    (ascends-filter (λ b. not (contains t b)) 0 (ascending s) (ascending-ascends s))
+    (λ q. contains-difference s t q ∙ ap (λ b. b && not (contains t q)) (contains-ascending s q) ∙ sym (is_in-filter (λ b. not (contains t b)) q (ascending s)))
+
+not_not : (b : Bool) → b ≡ not (not b)
+not_not true = refl
+not_not false = refl
+
+pub len-parts : (s t : BitSet) → len (difference s t) + len (intersection s t) ≡ len s
+len-parts s t =
+    let out = len-ascending (difference s t) ∙ ap length (ascending-difference s t) in
+    let inside = len-ascending (intersection s t) ∙ ap length (ascending-intersection s t) in
+    let both = length-filter_both (λ b. not (contains t b)) (contains t) (λ x. not_not (contains t x)) (ascending s) in
+    omega (arith, out, inside, both, len-ascending s)
+
+pub len-intersection : (s t : BitSet) → len (intersection s t) ≤ len s
+len-intersection s t = omega (arith, len-parts s t)
+
+pub len-intersection_right : (s t : BitSet) → len (intersection s t) ≤ len t
+len-intersection_right s t = omega (arith, len-intersection t s, ap len (intersection_comm s t))
+
+pub len-difference : (s t : BitSet) → len (difference s t) ≤ len s
+len-difference s t = omega (arith, len-parts s t)
+
+pub len-union : (s t : BitSet) → len (union s t) + len (intersection s t) ≡ len s + len t
+len-union s t =
+    let parts = len-parts (union s t) t in
+    let outside = ap len (union_difference s t) in
+    let inside = ap len (intersection_comm (union s t) t ∙ ap (intersection t) (union_comm s t) ∙ intersection_union t s) in
+    omega (arith, parts, outside, inside, len-parts s t)
+
+pub len-subset : (s t : BitSet) → is_subset s t ≡ true → len s ≤ len t
+len-subset s t within = omega (arith, ap len (intersection_within s t within), len-intersection_right s t)
+
+pub len_zero_iff : (s : BitSet) → (len s ≡ 0) ↔ (s ≡ empty)
+len_zero_iff s = (empty_of_len s, λ e. ap len e ∙ len-empty)
+
+pub len-inserted : (s : BitSet) (b : ℕ) → contains s b ≡ false → len (insert s b) ≡ len s + 1
+len-inserted s b none = len-insert s b ∙ ap (λ t. cond t (len s) (len s + 1)) none
+
+pub len-some : (s : BitSet) (b : ℕ) → contains s b ≡ true → 1 ≤ len s
+len-some s b one = some (len s) refl where
+  some : (n : ℕ) → len s ≡ n → 1 ≤ n
+  some zero none = let no = ap (λ t. contains t b) (empty_of_len s none) in grind (arith, contains-empty)
+  some (suc n) is = omega arith
+
+pub len-removed : (s : BitSet) (b : ℕ) → contains s b ≡ true → len (remove s b) + 1 ≡ len s
+len-removed s b one = omega (arith, len-some s b one, len-remove s b ∙ ap (λ t. cond t (len s - 1) (len s)) one)
+
+-- as many members of s are in t as numbers of its list
+pub kept_count : (s t : BitSet) → length (filter (contains t) (ascending s)) ≡ len (intersection s t)
+kept_count s t = ap length (sym (ascending-intersection s t)) ∙ sym (len-ascending (intersection s t))
+
+pub left_count : (s t : BitSet) → length (filter (λ b. not (contains t b)) (ascending s)) ≡ len (difference s t)
+left_count s t = ap length (sym (ascending-difference s t)) ∙ sym (len-ascending (difference s t))
+
+pub ruleset counting = (len-empty, len-parts, len-union, len-intersection, len-intersection_right, len-difference, len-subset, len_zero_iff, len-inserted, len-removed, len-below, kept_count, left_count)
