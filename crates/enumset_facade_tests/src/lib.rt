@@ -34,4 +34,3 @@ mod sending_json;
 mod serialized_sets;
 #[cfg(test)]
 mod steps;
-#[cfg(test)]
