@@ -16,7 +16,7 @@ use Rattle.enumset_repr.specs.BitSet.{is_in, BitSet, contains, ascending, empty,
 use Rattle.enumset_repr.specs.Ends.{last, least, greatest}
 use Rattle.enumset_repr.specs.Laws.Steps.{last-push}
 use Rattle.enumset_repr.specs.Laws.Members.{contains-ascending, member_below}
-use Rattle.enumset_repr.specs.Laws.Ascending.{len-ascending, AscendsFrom, ascending-ascends, ascending-empty, is_in-from, is_in-below, ascending-first, ascending-last, empty_of_ascending}
+use Rattle.enumset_repr.specs.Laws.Ascending.{len-ascending, AscendsFrom, ascending-ascends, ascending-empty, is_in-below, ascending-first, ascending-last}
 use Rattle.enumset_repr.specs.Number.{bits}
 use Rattle.enumset_repr.specs.Laws.Numbers.{lt_pow, bits-zero, bits-within, bits-clear_least, least-bits, greatest-bits}
 
@@ -128,34 +128,24 @@ ascending-no_greatest s none = no_last (ascending s) none
 
 -- `n.trailing_zeros()` is the least member, or the width if there is none
 pub trailing-least : (w n : ℕ) → n < 2 ^ w → MatchOption (least (bits n)) (count_trailing_zeros w n ≡ w) (λ m. (count_trailing_zeros w n ≡ m) × (m < w))
-trailing-least w zero fits =
-    let none : least (bits 0) ≡ None = ap least bits-zero ∙ least-empty in
-    subst (λ o. MatchOption o (count_trailing_zeros w 0 ≡ w) (λ m. (count_trailing_zeros w 0 ≡ m) × (m < w))) (sym none) (trailing_of_zero w)
+trailing-least w zero fits = rw (bits-zero, least-empty) (trailing_of_zero w)
 trailing-least w (suc n) fits =
     let facts = least-bits w (suc n) (omega arith) fits in
-    let some : least (bits (suc n)) ≡ Some (count_trailing_zeros w (suc n)) = least-is _ _ facts.0 facts.1 in
-    subst (λ o. MatchOption o (count_trailing_zeros w (suc n) ≡ w) (λ m. (count_trailing_zeros w (suc n) ≡ m) × (m < w))) (sym some)
-    (refl, member_below (bits (suc n)) w _ (bits-within (suc n) w fits) facts.0)
+    rw (least-is _ _ facts.0 facts.1) (refl, member_below (bits (suc n)) w _ (bits-within (suc n) w fits) facts.0)
 
 -- `n.leading_zeros()` counts the bits above the greatest member, and is the width if there is none
 pub leading-greatest : (w n : ℕ) → n < 2 ^ w → MatchOption (greatest (bits n)) (count_leading_zeros w n ≡ w) (λ m. count_leading_zeros w n + m + 1 ≡ w)
-leading-greatest w zero fits =
-    let none : greatest (bits 0) ≡ None = ap greatest bits-zero ∙ greatest-empty in
-    subst (λ o. MatchOption o (count_leading_zeros w 0 ≡ w) (λ m. count_leading_zeros w 0 + m + 1 ≡ w)) (sym none) (leading_of_zero w)
+leading-greatest w zero fits = rw (bits-zero, greatest-empty) (leading_of_zero w)
 leading-greatest w (suc n) fits =
     let facts = greatest-bits w (suc n) (omega arith) fits in
-    let some : greatest (bits (suc n)) ≡ Some (w - 1 - count_leading_zeros w (suc n)) = greatest-is _ _ facts.1 facts.2 in
-    subst (λ o. MatchOption o (count_leading_zeros w (suc n) ≡ w) (λ m. count_leading_zeros w (suc n) + m + 1 ≡ w)) (sym some) (omega (arith, facts.0))
+    rw (greatest-is _ _ facts.1 facts.2) (omega (arith, facts.0))
 
 -- `n & (n - 1)` is without the least member
 pub clear-least : (n : ℕ) → IfSome (least (bits n)) (λ m. bits (bit_and n (n - 1)) ≡ remove (bits n) m)
-clear-least zero =
-    let none : least (bits 0) ≡ None = ap least bits-zero ∙ least-empty in
-    subst (λ o. IfSome o (λ m. bits (bit_and 0 (0 - 1)) ≡ remove (bits 0) m)) (sym none) tt
+clear-least zero = rw (bits-zero, least-empty) tt
 clear-least (suc n) =
     let facts = least-bits (suc n) (suc n) (omega arith) (lt_pow (suc n)) in
-    let some : least (bits (suc n)) ≡ Some (count_trailing_zeros (suc n) (suc n)) = least-is _ _ facts.0 facts.1 in
-    subst (λ o. IfSome o (λ m. bits (bit_and (suc n) (suc n - 1)) ≡ remove (bits (suc n)) m)) (sym some) (bits-clear_least (suc n) (suc n) (omega arith) (lt_pow (suc n)))
+    rw (least-is _ _ facts.0 facts.1) (bits-clear_least (suc n) (suc n) (omega arith) (lt_pow (suc n)))
 
 -- a number with a least member is not 0
 pub least-positive : (n : ℕ) → IsSome (least (bits n)) → 0 < n

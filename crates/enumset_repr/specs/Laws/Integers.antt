@@ -15,7 +15,7 @@ use Rattle.std.proofs.lemmas.Bool.{eqb-true, eq-eqb}
 use Rattle.std.proofs.lemmas.Bool.Decides.{nat_tests}
 use Rattle.std.proofs.lemmas.Grind.{low_zeros}
 use Rattle.std.proofs.lemmas.Nat.{and_mask, and_le_l}
-use Rattle.enumset_repr.specs.BitSet.{contains, only, difference, symmetric_difference, is_subset, below}
+use Rattle.enumset_repr.specs.BitSet.{contains, only, difference, is_subset, below}
 use Rattle.enumset_repr.specs.Representations.{IsRepresentation, AreSetOperators}
 use Rattle.enumset_repr.specs.Number.{number, bits}
 use Rattle.enumset_repr.specs.Words.{word, with_word}

@@ -1,11 +1,12 @@
 -- The set of a number, and what the operations on numbers do to it. Each law holds for every width or place.
 --     contains-bits, bits-.., len-bits      the set of a number, and of the result of an operator
 --     bits-number, number-bits      from a set to its number and back;  from a number to its set and back
+--     same_number      numbers with the same bits are equal
 --     least-bits, greatest-bits      `trailing_zeros` and `leading_zeros`
 --     bits_full      a number of n ones
 --     on_numbers      the laws that name no width, for a tactic's `using`
 use Rattle.std.proofs.Common.{◌≡◌, ◌<◌, ◌≤◌, ℕ, suc, zero, ◌+◌, ◌-◌, ◌*◌, ◌/◌, ◌%◌, ◌^◌, min, max, Bool, true, false, not, ◌&&◌, ◌||◌, List, [], ◌∷◌, refl, sym, ap, ◌∙◌, length, arith, inl, inr, ◌⊎◌, true≢false, pow-suc, pow_mono, mul_assoc, mul_comm, suc-mul, pow-add, one-mul, zero-mul}
-use Rattle.std.proofs.Math.Bool.{and-true, or-false, or_comm, and_comm}
+use Rattle.std.proofs.Math.Bool.{and-true, or-false}
 use Rattle.std.specs.Prelude.{◌==◌, nat_lt, sum_by}
 use Rattle.std.specs.Int.{bit_at}
 use Rattle.std.specs.Int.RustNames.{bit_and, bit_or, bit_xor, count_ones}
@@ -211,6 +212,10 @@ bits-number s = bits_is (number s) s (λ q. worth-bit 0 (ascending s) (ascending
 
 pub number-bits : (n : ℕ) → number (bits n) ≡ n
 number-bits n = same_from_bits (number (bits n)) n (λ q. digit_is _ _ (bit_at-lt (number (bits n)) q) (bit_at-lt n q) (sym (contains-bits (number (bits n)) q) ∙ ap (λ s. contains s q) (bits-number (bits n)) ∙ contains-bits n q))
+
+-- numbers with the same bits are equal
+pub same_number : (n k : ℕ) → ((q : ℕ) → contains (bits n) q ≡ contains (bits k) q) → n ≡ k
+same_number n k same = sym (number-bits n) ∙ ap number (same_set _ _ same) ∙ number-bits k
 
 number-empty : number empty ≡ 0
 unfolding number

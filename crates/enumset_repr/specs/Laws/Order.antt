@@ -23,13 +23,9 @@ use Rattle.enumset_repr.specs.Order.{deciding_number, by_holder, compare}
 use Rattle.enumset_repr.specs.Laws.Members.{same_set, contains-empty, contains-symmetric_difference, contains-difference, is_subset-contains, is_same_iff}
 use Rattle.enumset_repr.specs.Laws.Ends.{greatest_facts, ascending-no_greatest}
 use Rattle.enumset_repr.specs.Laws.Ascending.{empty_of_ascending}
-use Rattle.enumset_repr.specs.Laws.Numbers.{contains-bits, contains-bits-shifted, bits-number, number-bits}
+use Rattle.enumset_repr.specs.Laws.Numbers.{contains-bits, contains-bits-shifted, bits-number, number-bits, same_number}
 
 -- ---- by the bits of a number
-
--- numbers with the same bits are equal
-same_number : (n k : ℕ) → ((q : ℕ) → contains (bits n) q ≡ contains (bits k) q) → n ≡ k
-same_number n k same = sym (number-bits n) ∙ ap number (same_set _ _ same) ∙ number-bits k
 
 clear_digit : (d : ℕ) → d < 2 → (d == 1) ≡ false → d ≡ 0
 clear_digit d small clear = grind (arith, nat_tests)

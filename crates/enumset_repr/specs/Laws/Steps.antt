@@ -2,13 +2,11 @@
 --     last-push, without_last-push      the last item of a list with one item pushed, and the list without it
 --     gives_first, gives_last      a step yields `first` of a list and leaves `without_first`;  or `last` and
 --         `without_last`
---     first_goes, last_goes      a step that yields an item leaves fewer
 use Rattle.std.proofs.Common.{◌≡◌, ℕ, ◌-◌, List, [], ◌∷◌, ◌++◌, length, take, length-append, refl, sym, ap, ◌∙◌, arith}
-use Rattle.std.specs.Prelude.{Option, Some, None, MatchOption, ⊤}
+use Rattle.std.specs.Prelude.{Option, Some, None, MatchOption}
 use Rattle.std.specs.List.{last_or}
 use Rattle.std.proofs.Math.Seq.{take-append_seam}
 use Rattle.enumset_repr.specs.Ends.{first, last, without_first, without_last}
-use Rattle.std.specs.Iterator.{YieldsFirst, YieldsLast, item_count, MakesProgress}
 
 last_or-push : (o : Option ℕ) (xs : List ℕ) (x : ℕ) → last_or o (xs ++ x ∷ []) ≡ Some x
 last_or-push o [] x = refl
@@ -30,13 +28,5 @@ gives_first xs (Some x) ys step = (sym (ap first step), sym (ap without_first st
 pub gives_last : (xs : List ℕ) (r : Option ℕ) (ys : List ℕ) → MatchOption r ((xs ≡ []) × (ys ≡ [])) (λ x. xs ≡ ys ++ x ∷ []) → (r ≡ last xs) × (ys ≡ without_last xs)
 gives_last xs None ys step = (sym (ap last step.0), step.1 ∙ sym (ap without_last step.0))
 gives_last xs (Some x) ys step = (sym (ap last step ∙ last-push ys x), sym (ap without_last step ∙ without_last-push ys x))
-
-pub first_goes : {S : Type 0} (rest : S → List ℕ) (s : S) (r : Option ℕ) (t : S) → YieldsFirst rest s r t → MakesProgress (λ _. ⊤) (item_count rest) s r t
-first_goes rest s None t e = record { on = λ _. tt; keeps = tt; rests = λ _. tt }
-first_goes rest s (Some x) t e = record { on = λ _. (tt, tt, omega (arith, ap length e)); keeps = tt; rests = λ _. tt }
-
-pub last_goes : {S : Type 0} (rest : S → List ℕ) (s : S) (r : Option ℕ) (t : S) → YieldsLast rest s r t → MakesProgress (λ _. ⊤) (item_count rest) s r t
-last_goes rest s None t e = record { on = λ _. tt; keeps = tt; rests = λ _. tt }
-last_goes rest s (Some x) t e = record { on = λ _. (tt, tt, omega (arith, ap length e, length-append (rest t) (x ∷ []))); keeps = tt; rests = λ _. tt }
 
 pub ruleset lasts = (last-push, without_last-push)

@@ -9,17 +9,17 @@ use Rattle.std.specs.Prelude.{◌==◌, nat_lt, nat_le, sum_by, filter}
 use Rattle.std.specs.Int.{bit_at}
 use Rattle.std.specs.Int.RustNames.{bit_and, bit_or}
 use Rattle.std.proofs.Math.Bool.{and-false, and-or_distrib_left, and-or_distrib_right}
-use Rattle.std.proofs.lemmas.Bool.{cases_lt, lt-ltb, le-ltb}
+use Rattle.std.proofs.lemmas.Bool.{cases_lt}
 use Rattle.std.proofs.lemmas.Bool.Decides.{nat_tests}
 use Rattle.std.proofs.lemmas.List.Sums.{sum_by-cons}
 use Rattle.std.proofs.lemmas.Nat.{pow_pos, mod_below}
-use Rattle.std.proofs.lemmas.Nat.Bits.{bit_at_ones, bit_at_ones_above, bit_at_cat_low, bit_at_cat_high, bit_at-zero}
+use Rattle.std.proofs.lemmas.Nat.Bits.{bit_at_cat_low, bit_at_cat_high, bit_at-zero}
 use Rattle.enumset_repr.specs.BitSet.{is_in, BitSet, contains, ascending, from_list, union, difference, is_subset, below, low}
 use Rattle.enumset_repr.specs.Number.{number, bits}
 use Rattle.enumset_repr.specs.Words.{is_in_word, word, upward_shift, with_word}
-use Rattle.enumset_repr.specs.Laws.Members.{same_set, contains-ascending, contains-retain, contains-from_list, contains-union, contains-difference, contains-low, none_of, member_below}
+use Rattle.enumset_repr.specs.Laws.Members.{same_set, contains-ascending, contains-retain, contains-from_list, contains-union, contains-difference, contains-low, contains-below, none_of, member_below}
 use Rattle.enumset_repr.specs.Laws.Ascending.{AscendsFrom, ascending-ascends, ascending_is}
-use Rattle.enumset_repr.specs.Laws.Numbers.{contains-bits, bits-number, number-bits, bits-within, bits-low, bits-or, bits-and_not, contains-bits-shifted}
+use Rattle.enumset_repr.specs.Laws.Numbers.{contains-bits, bits-number, same_number, bits_full, bits-within, bits-low, bits-or, bits-and_not, contains-bits-shifted}
 
 -- ---- a set shifted upward
 
@@ -95,12 +95,8 @@ contains-bits-word s w q =
     ap (λ n. contains (bits n) q) (word-number s w) ∙ ap (λ t. contains t q) (bits-number _) ∙ contains-from_list _ q
     ∙ is_in-cut w q (ascending s) ∙ ap (λ t. t && nat_lt q 64) (sym (contains-ascending s (64 * w + q)))
 
--- numbers whose sets are equal are equal
-number_is : (n m : ℕ) → ((q : ℕ) → contains (bits n) q ≡ contains (bits m) q) → n ≡ m
-number_is n m is = sym (number-bits n) ∙ ap number (same_set _ _ is) ∙ number-bits m
-
 pub word-bits : (n w : ℕ) → word (bits n) w ≡ n / 2 ^ (64 * w) % 2 ^ 64
-word-bits n w = number_is _ _ (λ q.
+word-bits n w = same_number _ _ (λ q.
     contains-bits-word (bits n) w q ∙ ap (λ t. t && nat_lt q 64) (sym (contains-bits-shifted n (64 * w) q))
     ∙ sym (contains-low (bits (n / 2 ^ (64 * w))) 64 q) ∙ ap (λ t. contains t q) (sym (bits-low (n / 2 ^ (64 * w)) 64)))
 
@@ -123,10 +119,7 @@ bits-shifted_up width n k = bits-low (n * 2 ^ k) width ∙ ap (λ s. low s width
         ∙ sym (contains-bits n (q - k)) ∙ ap (λ t. t && contains (bits n) (q - k)) (sym from)
 
 contains-ones : (q : ℕ) → contains (bits 18446744073709551615) q ≡ nat_lt q 64
-contains-ones q = contains-bits _ q ∙ elim (cases_lt q 64) [
-  | inl under ↦ ap (λ d. d == 1) (bit_at_ones 64 q under) ∙ sym (lt-ltb q 64 under)
-  | inr over ↦ ap (λ d. d == 1) (bit_at_ones_above 64 q over) ∙ sym (le-ltb q 64 over)
-]
+contains-ones q = ap (λ s. contains s q) (bits_full 64) ∙ contains-below 64 q
 
 -- a bit below the width is in the mask of a word exactly if it is in the word
 mask_test : (i q width : ℕ) → q < width → ((nat_le (64 * i) q && nat_lt (q - 64 * i) 64) && nat_lt q width) ≡ is_in_word i q
