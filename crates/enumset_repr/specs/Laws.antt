@@ -15,6 +15,10 @@
 --     Steps      a step from an end of a list
 --     Integers      an integer as a representation
 --     Representations      the laws of a representation whose parts say themselves what they are, and that counts no asks
+--     Counting      how many members sets have
+--     Firsts      the first and the last member, and the list of a set that is written out
+--     Ordering      the greater and the lesser of two sets
+--     Places      where members stand in their order: chains over a set's iterator
 pub mod Members
 pub mod Algebra
 pub mod Ascending
@@ -33,3 +37,4 @@ pub mod Representations
 pub mod Counting
 pub mod Firsts
 pub mod Ordering
+pub mod Places

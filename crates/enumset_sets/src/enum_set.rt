@@ -26,7 +26,7 @@ use std::marker::{Model, PhantomData};
 ///
 /// | Call | It returns | It requires |
 /// | --- | --- | --- |
-/// | `as_X` | the number | that every member is below the width |
+/// | `as_X` | the number | that every member is below the width, where the representation is wider |
 /// | `try_as_X` | the number, if every member is below the width, else `None` | |
 /// | `as_X_truncated` | the number of the set of the members below the width | |
 /// | `from_X` | the set of the number | that every bit of it is valid |

@@ -7,10 +7,10 @@
 --     from_list_.., insert_each_..      a set built from a list of its members
 -- The ruleset `algebra` has those that a tactic can apply by itself. A crate above cites it by
 -- `#[tactic(auto, using(enumset_repr::specs::Laws::Algebra::algebra))]`.
-use Rattle.std.proofs.Common.{◌≡◌, ℕ, true, false, List, [], ◌∷◌, refl, sym, ap, ◌∙◌, arith, ◌↔◌}
+use Rattle.std.proofs.Common.{◌≡◌, ℕ, true, false, cond, List, [], ◌∷◌, refl, sym, ap, ◌∙◌, arith, ◌↔◌}
 use Rattle.std.proofs.lemmas.Bool.Decides.{nat_tests, same_from_decides}
 use Rattle.enumset_repr.specs.BitSet.{BitSet, contains, ascending, empty, insert, only, remove, from_list, insert_each, union, intersection, difference, symmetric_difference, is_subset, is_disjoint}
-use Rattle.enumset_repr.specs.Laws.Members.{members, subsets, same_set, contains-ascending, contains-from_list, contains-insert_each, contains-is_subset, is_subset-contains, contains-is_disjoint, is_disjoint-contains, is_same_iff, is_subset_iff}
+use Rattle.enumset_repr.specs.Laws.Members.{members, subsets, same_set, contains-ascending, contains-from_list, contains-insert_each, contains-is_subset, is_subset-contains, contains-is_disjoint, is_disjoint-contains, is_same_iff, is_subset_iff, is_disjoint_iff}
 
 -- ---- union
 
@@ -174,6 +174,23 @@ insert_union s t b = same_set _ _ (λ q. grind (arith, members))
 pub union_insert : (s t : BitSet) (b : ℕ) → union s (insert t b) ≡ insert (union s t) b
 union_insert s t b = same_set _ _ (λ q. grind (arith, members))
 
+-- inserting and removing, whether the number was there or not
+pub remove_inserted : (s : BitSet) (b : ℕ) → remove (insert s b) b ≡ remove s b
+remove_inserted s b = same_set _ _ (λ q. grind (arith, members, nat_tests))
+
+pub insert_removed : (s : BitSet) (b : ℕ) → insert (remove s b) b ≡ insert s b
+insert_removed s b = same_set _ _ (λ q. grind (arith, members, nat_tests))
+
+-- the number is a member afterwards exactly if it was none before
+pub toggled : (s : BitSet) (b : ℕ) → symmetric_difference s (only b) ≡ cond (contains s b) (remove s b) (insert s b)
+toggled s b = same_set _ _ (λ q. elim (contains s b) as (λ t. contains s b ≡ t → contains (symmetric_difference s (only b)) q ≡ contains (cond t (remove s b) (insert s b)) q) [
+  | true ↦ λ one. grind (arith, members, nat_tests)
+  | false ↦ λ none. grind (arith, members, nat_tests)
+] refl)
+
+pub difference_inserted : (s t : BitSet) (b : ℕ) → contains t b ≡ false → difference (insert s b) t ≡ insert (difference s t) b
+difference_inserted s t b none = same_set _ _ (λ q. grind (arith, members, nat_tests))
+
 pub insert_inside : (s t : BitSet) (b : ℕ) → contains t b ≡ true → intersection (insert s b) t ≡ insert (intersection s t) b
 insert_inside s t b one = same_set _ _ (λ q. grind (arith, members, nat_tests))
 
@@ -264,6 +281,21 @@ difference_apart s t apart = same_set _ _ (λ q. let each = is_disjoint-contains
 
 pub ruleset on_subsets = (is_disjoint_empty, is_disjoint_difference, union_left, union_right, intersection_left, intersection_right, difference_left, insert_grows, remove_shrinks, union_within, intersection_within, difference_within, intersection_apart, difference_apart)
 
+-- ---- subsets and disjoint sets by members, and where a search meets a difference or an intersection
+
+pub is_subset_each : (s t : BitSet) → (is_subset s t ≡ true) ↔ ((q : ℕ) → contains s q ≡ true → contains t q ≡ true)
+is_subset_each s t = (is_subset-contains s t, contains-is_subset s t)
+
+pub is_disjoint_each : (s t : BitSet) → (is_disjoint s t ≡ true) ↔ ((q : ℕ) → contains s q ≡ true → contains t q ≡ false)
+is_disjoint_each s t = (is_disjoint-contains s t, contains-is_disjoint s t)
+
+-- the first part is always true: it shows the search where to take the law
+pub difference_tells : (s t : BitSet) → (difference s t ≡ difference s t) × (difference s t ≡ empty → is_subset s t ≡ true)
+difference_tells s t = (refl, difference_none s t)
+
+pub intersection_tells : (s t : BitSet) → (intersection s t ≡ intersection s t) × (intersection s t ≡ empty → is_disjoint s t ≡ true)
+intersection_tells s t = (refl, (is_disjoint_iff s t).1)
+
 -- ---- a set from a list of its members
 
 pub from_list_ascending : (s : BitSet) → from_list (ascending s) ≡ s
@@ -291,3 +323,6 @@ pub ruleset on_lists = (from_list_ascending, insert_each_ascending, insert_each_
 -- What a proof about code over sets needs: the laws of `contains`, of subsets, and those of this file that do more than
 -- reorder or regroup.
 pub ruleset algebra = (members, subsets, on_unions, on_intersections, on_differences, on_symmetric_differences, on_one_number, on_complements, on_subsets, on_lists)
+
+-- What `set_laws` of `enumset` has of this file beside `algebra`.
+pub ruleset beside_algebra = (union_inside, insert_inside, difference_apart_from, difference_inserted, toggled, remove_inserted, insert_removed, is_subset_each, is_disjoint_each, difference_tells, intersection_tells)

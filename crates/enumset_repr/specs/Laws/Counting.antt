@@ -5,11 +5,14 @@
 --     len-intersection, len-difference, len-subset      a part has no more members
 --     len-inserted, len-removed      one more, and one less
 --     len_zero_iff      a set has no member exactly if it is the empty set
---     kept_count, passed_count      as many members of s are in t as the list of s has numbers that are in t
+--     kept_count, left_count      the numbers of the list of s that are in t, and that are not, kept in a list
+--     len-kept, len-left      the same, counted
+--     length-ascending      the list of the members is as long as the set
 -- The ruleset `counting` has those that a tactic can apply by itself.
-use Rattle.std.proofs.Common.{◌≡◌, ◌≤◌, ◌+◌, ◌-◌, ℕ, suc, zero, Bool, true, false, cond, not, ◌&&◌, List, [], ◌∷◌, length, filter, refl, sym, ap, ◌∙◌, arith, ◌↔◌}
+use Rattle.std.proofs.Common.{◌≡◌, ◌≤◌, ◌+◌, ◌-◌, ℕ, suc, zero, Bool, true, false, cond, not, ◌&&◌, List, [], ◌∷◌, length, filter, count_by, refl, sym, ap, ◌∙◌, arith, ◌↔◌}
 use Rattle.std.proofs.lemmas.Bool.Decides.{nat_tests}
 use Rattle.std.proofs.lemmas.List.Filters.{length-filter_both}
+use Rattle.std.proofs.lemmas.List.Sums.{length-filter}
 use Rattle.enumset_repr.specs.BitSet.{BitSet, is_in, contains, ascending, len, empty, insert, remove, union, intersection, difference, is_subset}
 use Rattle.enumset_repr.specs.Laws.Members.{contains-empty, contains-ascending, contains-intersection, contains-difference}
 use Rattle.enumset_repr.specs.Laws.Algebra.{intersection_comm, intersection_union, intersection_within, union_comm, union_difference}
@@ -93,4 +96,13 @@ kept_count s t = ap length (sym (ascending-intersection s t)) ∙ sym (len-ascen
 pub left_count : (s t : BitSet) → length (filter (λ b. not (contains t b)) (ascending s)) ≡ len (difference s t)
 left_count s t = ap length (sym (ascending-difference s t)) ∙ sym (len-ascending (difference s t))
 
-pub ruleset counting = (len-empty, len-parts, len-union, len-intersection, len-intersection_right, len-difference, len-subset, len_zero_iff, len-inserted, len-removed, len-below, kept_count, left_count)
+pub len-kept : (s t : BitSet) → len (intersection s t) ≡ count_by (contains t) (ascending s)
+len-kept s t = sym (kept_count s t) ∙ length-filter (contains t) (ascending s)
+
+pub len-left : (s t : BitSet) → len (difference s t) ≡ count_by (λ b. not (contains t b)) (ascending s)
+len-left s t = sym (left_count s t) ∙ length-filter (λ b. not (contains t b)) (ascending s)
+
+pub length-ascending : (s : BitSet) → length (ascending s) ≡ len s
+length-ascending s = sym (len-ascending s)
+
+pub ruleset counting = (len-empty, len-parts, len-union, len-intersection, len-intersection_right, len-difference, len-subset, len_zero_iff, len-inserted, len-removed, len-below, length-ascending, len-kept, len-left)

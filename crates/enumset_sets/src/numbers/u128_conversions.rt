@@ -13,8 +13,8 @@ use enumset_repr::EnumSetTypeRepr;
 
 #[tactic(auto, using(crate::specs::Laws::Conversions::conversions))]
 impl<T: EnumSetType> EnumSet<T> {
-    /// The set as a number. Every member must be below 128: [`try_as_u128`](EnumSet::try_as_u128) is the test. Rust's
-    /// call panics instead.
+    /// The set as a number. Every member must be below 128, which is so where the representation has no more bits:
+    /// [`try_as_u128`](EnumSet::try_as_u128) is the test. Rust's call panics instead.
     pub fn as_u128(&self) -> u128
         requires fits { u128.BITS < T.Repr.WIDTH
             → IsTrue (set.is_subset self.now (set.below u128.BITS)) }

@@ -12,8 +12,8 @@ use enumset_repr::EnumSetTypeRepr;
 
 #[tactic(auto, using(crate::specs::Laws::Conversions::conversions))]
 impl<T: EnumSetType> EnumSet<T> {
-    /// The set as a number. Every member must be below 16: [`try_as_u16`](EnumSet::try_as_u16) is the test. Rust's call
-    /// panics instead.
+    /// The set as a number. Every member must be below 16, which is so where the representation has no more bits:
+    /// [`try_as_u16`](EnumSet::try_as_u16) is the test. Rust's call panics instead.
     pub fn as_u16(&self) -> u16
         requires fits { u16.BITS < T.Repr.WIDTH
             → IsTrue (set.is_subset self.now (set.below u16.BITS)) }

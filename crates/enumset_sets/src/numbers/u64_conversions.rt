@@ -12,8 +12,8 @@ use enumset_repr::EnumSetTypeRepr;
 
 #[tactic(auto, using(crate::specs::Laws::Conversions::conversions))]
 impl<T: EnumSetType> EnumSet<T> {
-    /// The set as a number. Every member must be below 64: [`try_as_u64`](EnumSet::try_as_u64) is the test. Rust's call
-    /// panics instead.
+    /// The set as a number. Every member must be below 64, which is so where the representation has no more bits:
+    /// [`try_as_u64`](EnumSet::try_as_u64) is the test. Rust's call panics instead.
     pub fn as_u64(&self) -> u64
         requires fits { u64.BITS < T.Repr.WIDTH
             → IsTrue (set.is_subset self.now (set.below u64.BITS)) }

@@ -12,8 +12,8 @@ use enumset_repr::EnumSetTypeRepr;
 
 #[tactic(auto, using(crate::specs::Laws::Conversions::conversions))]
 impl<T: EnumSetType> EnumSet<T> {
-    /// The set as a number. Every member must be below 8: [`try_as_u8`](EnumSet::try_as_u8) is the test. Rust's call
-    /// panics instead.
+    /// The set as a number. Every member must be below 8, which is so where the representation has no more bits:
+    /// [`try_as_u8`](EnumSet::try_as_u8) is the test. Rust's call panics instead.
     pub fn as_u8(&self) -> u8
         requires fits { u8.BITS < T.Repr.WIDTH
             → IsTrue (set.is_subset self.now (set.below u8.BITS)) }

@@ -1,6 +1,6 @@
 //! Sets to and from arrays of words.
 
-ghost use Rattle.std.specs.Prelude.{◌≡◌, ◌↔◌, ◌*◌, IsTrue, IsSome, IfSome};
+ghost use Rattle.std.specs.Prelude.{◌≡◌, ◌<◌, ◌↔◌, ◌*◌, IsTrue, IsSome, IfSome};
 ghost use Rattle.enumset_repr.specs.BitSet as set;
 ghost use Rattle.enumset_repr.specs.Words.{words, bits_of};
 ghost use Rattle.enumset_sets.specs.Elements.{valid_bits};
@@ -12,10 +12,10 @@ use enumset_repr::{from_u64_array, to_u64_array, try_from_u64_array, try_to_u64_
 
 #[tactic(auto, using(crate::specs::Laws::Conversions::conversions))]
 impl<T: EnumSetType> EnumSet<T> {
-    /// The words of the set. Every member must be in one of them: [`try_as_array`](EnumSet::try_as_array) is the test.
-    /// Rust's call panics instead.
+    /// The words of the set. Every member must be in one of them, which is so where they have the width of the
+    /// representation: [`try_as_array`](EnumSet::try_as_array) is the test. Rust's call panics instead.
     pub fn as_array<const O: usize>(&self) -> [u64; O]
-        requires fits { IsTrue (set.is_subset self.now (set.below (64 * O))) }
+        requires fits { 64 * O < T.Repr.WIDTH → IsTrue (set.is_subset self.now (set.below (64 * O))) }
         ensures { result ≡ words self.now O }
     {
         self.as_array_truncated()

@@ -1,6 +1,6 @@
 //! Sets to and from slices of words.
 
-ghost use Rattle.std.specs.Prelude.{◌≡◌, ◌↔◌, ◌*◌, IsTrue, IsSome, IfSome, None, length};
+ghost use Rattle.std.specs.Prelude.{◌≡◌, ◌<◌, ◌↔◌, ◌*◌, IsTrue, IsSome, IfSome, None, length};
 ghost use Rattle.enumset_repr.specs.BitSet as set;
 ghost use Rattle.enumset_repr.specs.Words.{words, bits_of};
 ghost use Rattle.enumset_sets.specs.Elements.{valid_bits};
@@ -12,10 +12,12 @@ use enumset_repr::EnumSetTypeRepr;
 
 #[tactic(auto, using(crate::specs::Laws::Conversions::conversions))]
 impl<T: EnumSetType> EnumSet<T> {
-    /// Writes the words of the set to a slice. Every member must be in one of them:
-    /// [`try_copy_into_slice`](EnumSet::try_copy_into_slice) is the test. Rust's call panics instead.
+    /// Writes the words of the set to a slice. Every member must be in one of them, which is so where they have the
+    /// width of the representation: [`try_copy_into_slice`](EnumSet::try_copy_into_slice) is the test. Rust's call
+    /// panics instead.
     pub fn copy_into_slice(&self, slice: &mut [u64])
-        requires fits { IsTrue (set.is_subset self.now (set.below (64 * length slice.old))) }
+        requires fits { 64 * length slice.old < T.Repr.WIDTH
+            → IsTrue (set.is_subset self.now (set.below (64 * length slice.old))) }
         ensures { slice.new ≡ words self.now (length slice.old) }
     {
         self.copy_into_slice_truncated(slice);
