@@ -185,12 +185,12 @@ impl<const N: usize> EnumSetTypeRepr for ArrayRepr<N> {
     }
 
     ghost represents = { record {
-        no_member = set_of_none N;
-        within = within N;
-        inverse = inverse N;
-        word_count = width_words N;
-        equal = equal N;
-        ordered = compare_is N;
+      no_member = set_of_none N;
+      within = within N;
+      inverse = inverse N;
+      word_count = width_words N;
+      equal = equal N;
+      ordered = compare_is N;
     } };
 
     ghost operators = { by_sets };

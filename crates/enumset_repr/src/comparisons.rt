@@ -8,6 +8,7 @@ use crate::repr::EnumSetTypeRepr;
 use std::cmp::Ordering;
 
 /// Whether both sets have the same members. Rust's `enumset` writes `==`.
+#[tactic(auto, using(crate::specs::Laws::Members::is_same_iff))]
 pub fn are_same<R: EnumSetTypeRepr>(a: &R, b: &R) -> bool
     ensures { result ≡ set.is_same (R.members a.now) (R.members b.now) }
 {
