@@ -19,6 +19,7 @@
 --     Firsts      the first and the last member, and the list of a set that is written out
 --     Ordering      the greater and the lesser of two sets
 --     Places      where members stand in their order: chains over a set's iterator
+--     Loops      the steps of a loop over a set's iterator
 pub mod Members
 pub mod Algebra
 pub mod Ascending
@@ -38,3 +39,4 @@ pub mod Counting
 pub mod Firsts
 pub mod Ordering
 pub mod Places
+pub mod Loops

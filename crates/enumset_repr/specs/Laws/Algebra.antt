@@ -325,4 +325,4 @@ pub ruleset on_lists = (from_list_ascending, insert_each_ascending, insert_each_
 pub ruleset algebra = (members, subsets, on_unions, on_intersections, on_differences, on_symmetric_differences, on_one_number, on_complements, on_subsets, on_lists)
 
 -- What `set_laws` of `enumset` has of this file beside `algebra`.
-pub ruleset beside_algebra = (union_inside, insert_inside, difference_apart_from, difference_inserted, toggled, remove_inserted, insert_removed, is_subset_each, is_disjoint_each, difference_tells, intersection_tells)
+pub ruleset beside_algebra = (union_inside, insert_inside, difference_apart_from, difference_tells, intersection_tells, is_subset_each, is_disjoint_each, toggled, remove_inserted, insert_removed)

@@ -105,4 +105,4 @@ len-left s t = sym (left_count s t) ∙ length-filter (λ b. not (contains t b))
 pub length-ascending : (s : BitSet) → length (ascending s) ≡ len s
 length-ascending s = sym (len-ascending s)
 
-pub ruleset counting = (len-empty, len-parts, len-union, len-intersection, len-intersection_right, len-difference, len-subset, len_zero_iff, len-inserted, len-removed, len-below, length-ascending, len-kept, len-left)
+pub ruleset counting = (len-empty, len-parts, len-union, len-intersection, len-intersection_right, len-difference, len-subset, len_zero_iff, len-inserted, len-removed, len-below, kept_count, left_count, length-ascending)

@@ -4,7 +4,7 @@
 --     some_shared, some_outside      two sets are not disjoint, and one is no subset of the other, exactly if such a
 --         member stands at some place
 --     first_at, find_tells      the first place at which a test passes, and what `find` finds there
--- The ruleset `chains` has what a proof about `any`, `all` and `find` over a set's iterator needs.
+-- The ruleset `chains` has what a proof about `any`, `all`, `find` and a count over a set's iterator needs.
 use Rattle.std.proofs.Common.{◌≡◌, ◌<◌, ℕ, suc, zero, Bool, true, false, cond, List, [], ◌∷◌, Option, Some, None, length, refl, sym, ap, ◌∙◌, arith, true≢false, ◌↔◌}
 use Rattle.std.specs.Prelude.{◌==◌, SomeIndex, slice_index, MatchOption}
 use Rattle.std.specs.List.{slice_index_or, find}
@@ -14,6 +14,7 @@ use Rattle.enumset_repr.specs.BitSet.{BitSet, is_in, contains, ascending, inters
 use Rattle.enumset_repr.specs.Laws.Members.{contains-ascending, contains-intersection, contains-difference, is_subset-contains, is_disjoint-contains, is_disjoint_iff}
 use Rattle.enumset_repr.specs.Laws.Algebra.{intersection_self, difference_none}
 use Rattle.enumset_repr.specs.Laws.Ascending.{empty_of_ascending}
+use Rattle.enumset_repr.specs.Laws.Counting.{len-kept, len-left, length-ascending}
 
 -- the place of a number in a list
 abbrev place_in : ℕ → List ℕ → ℕ
@@ -105,4 +106,4 @@ find-found p (x ∷ xs) = elim (p x) as (λ t. p x ≡ t → IsFound p (x ∷ xs
 pub find_tells : (p : ℕ → Bool) (xs : List ℕ) → (find p xs ≡ find p xs) × IsFound p xs (find p xs) (first_at p xs)
 find_tells p xs = (refl, find-found p xs)
 
-pub ruleset chains = (some_shared, some_outside, find_tells)
+pub ruleset chains = (some_shared, some_outside, find_tells, len-kept, len-left, length-ascending)
