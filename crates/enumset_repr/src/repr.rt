@@ -128,6 +128,7 @@ pub trait EnumSetTypeRepr: Copy
         ensures value { is_value self.new }
     {
         *self = *self | *other;
+        // The clause `value` needs it.
         self.learn_is_value();
     }
 
@@ -139,6 +140,7 @@ pub trait EnumSetTypeRepr: Copy
         ensures value { is_value self.new }
     {
         *self = *self & *other;
+        // The clause `value` needs it.
         self.learn_is_value();
     }
 
@@ -151,6 +153,7 @@ pub trait EnumSetTypeRepr: Copy
         ensures value { is_value self.new }
     {
         *self = *self ^ *other;
+        // The clause `value` needs it.
         self.learn_is_value();
     }
 
@@ -162,6 +165,7 @@ pub trait EnumSetTypeRepr: Copy
         ensures value { is_value self.new }
     {
         *self = self.and_not(*other);
+        // The clause `value` needs it.
         self.learn_is_value();
     }
 
