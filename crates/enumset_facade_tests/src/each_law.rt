@@ -3,7 +3,7 @@
 use enumset::set::MixedEnumSet;
 use enumset::set_json::{JsonWidth, Unknown};
 use enumset::{EnumSet, laws};
-use enumset_json_types::{LaterLetters, Letters};
+use enumset_test_types::{LaterLetters, Letters};
 use enumset_worked::Wide;
 
 #[test]
