@@ -1,7 +1,7 @@
 //! The constants of an element type.
 
 use super::Text;
-use super::layout::{LIST_START, wrapped, write_lines};
+use super::layout::{LIST_START, wrapped};
 use super::parts::Parts;
 use enumset_derive_plan::{Plan, Store};
 use std::alloc::{AllocError, Global};
@@ -11,20 +11,18 @@ pub(super) fn set_constants(parts: &mut Parts, plan: &Plan) -> Result<(), AllocE
     let alloc = parts.alloc;
     match &plan.store {
         Store::Integer(integer, number) => {
-            parts.set("LAW", String::from_str(alloc, "lawful_in_integer")?)?;
-            let width = integer.width().to_string(alloc)?;
-            parts.set("REPR", ["u", width.as_str()].join(alloc, "")?)?;
+            parts.define("LAW", "lawful_in_integer")?;
+            parts.set("SIZE", integer.width().to_string(alloc)?)?;
+            parts.define("REPR", "u@SIZE@")?;
             parts.set("BITS", number.to_string(alloc)?)?;
-            parts.set("ALL_BITS", number.to_string(alloc)?)?;
+            parts.define("ALL_BITS", "@BITS@")?;
         }
         Store::Words(words) => {
-            let count = words.len().to_string(alloc)?;
-            let representation = ["ArrayRepr<", count.as_str(), ">"].join(alloc, "")?;
-            let room = 77usize.saturating_sub(representation.len());
-            parts.set("LAW", String::from_str(alloc, "lawful_in_words")?)?;
-            parts.set("REPR", representation)?;
+            parts.define("LAW", "lawful_in_words")?;
+            parts.set("SIZE", words.len().to_string(alloc)?)?;
+            parts.define("REPR", "ArrayRepr<@SIZE@>")?;
             parts.set("BITS", list(alloc, words)?)?;
-            parts.set("ALL_BITS", array(alloc, room, words)?)?;
+            set_array(parts, words)?;
         }
     }
     parts.set("WIDTH", plan.bit_width.to_string(alloc)?)?;
@@ -38,33 +36,32 @@ fn list(alloc: Global, numbers: &[u64]) -> Text {
     wrapped(alloc, LIST_START, 77, &words)
 }
 
-/// Words as the value of a representation, on one line of less than this length, or on filled lines, or with a line for
-/// each word if one has more than ten digits.
-fn array(alloc: Global, room: usize, numbers: &[u64]) -> Text {
-    let items = numbers_with(alloc, numbers, "")?.join(alloc, ", ")?;
-    let line = ["ArrayRepr([", items.as_str(), "])"].join(alloc, "")?;
-    if line.len() < room {
-        return Ok(line);
+/// Sets the value of a representation of these words, on one line if it fits, or on filled lines, or with a line for each
+/// word if one has more than ten digits.
+fn set_array(parts: &mut Parts, numbers: &[u64]) -> Result<(), AllocError> {
+    let alloc = parts.alloc;
+    let line = numbers_with(alloc, numbers, "")?.join(alloc, ", ")?;
+    if line.len().saturating_add(parts.part("REPR").len()) < 64 {
+        parts.set("LINE", line)?;
+        return parts.define("ALL_BITS", "ArrayRepr([@LINE@])");
     }
     let words = numbers_with(alloc, numbers, ",")?;
-    let mut out = String::from_str(alloc, "ArrayRepr([\n")?;
-    if are_long(numbers) {
-        write_lines(&mut out, "        ", &words)?;
+    let lines = if are_long(numbers) {
+        words.join(alloc, LIST_START)?
     } else {
-        out.push_str("        ")?;
-        out.push_str(wrapped(alloc, LIST_START, 92, &words)?.as_str())?;
-        out.push('\n')?;
-    }
-    out.push_str("    ])")?;
-    Ok(out)
+        wrapped(alloc, LIST_START, 92, &words)?
+    };
+    parts.set("LINES", lines)?;
+    parts.define("ALL_BITS", "ArrayRepr([\n        @LINES@\n    ])")
 }
 
 /// Each number with a mark after it.
 fn numbers_with(alloc: Global, numbers: &[u64], mark: &str) -> Result<Vec<String>, AllocError> {
     let mut words = Vec::new(alloc);
     for number in numbers {
-        let number = number.to_string(alloc)?;
-        words.push([number.as_str(), mark].join(alloc, "")?)?;
+        let mut word = number.to_string(alloc)?;
+        word.push_str(mark)?;
+        words.push(word)?;
     }
     Ok(words)
 }

@@ -3,6 +3,7 @@
 use super::Text;
 use super::element_type::{are_named, is_narrow};
 use super::layout::wrapped;
+use super::parts::Parts;
 use crate::source::{Item, Source};
 use crate::tokens::is_space;
 use enumset_derive_plan::{EnumDeclaration, Plan, Store};
@@ -26,18 +27,19 @@ pub(super) fn imports_of(alloc: Global, source: &Source) -> Text {
     let mut out = String::new(alloc);
     let mut plain = Vec::new(alloc);
     for name in &names {
-        let stands_alone = name.contains(':') || name.contains(is_space);
-        if !stands_alone {
+        if !name.contains(':') && !name.contains(is_space) {
             plain.push(name.as_str())?;
         } else if facade == "enumset_sets" && name.as_str() == "internal::ArrayRepr" {
             out.push_str("use enumset_array::ArrayRepr;\n")?;
         } else {
-            let line = ["use ", facade, "::", name.as_str(), ";\n"].join(alloc, "")?;
-            out.push_str(line.as_str())?;
+            out.push_str("use ")?;
+            out.push_str(facade)?;
+            out.push_str("::")?;
+            out.push_str(name.as_str())?;
+            out.push_str(";\n")?;
         }
     }
-    let list = list(alloc, facade, &plain)?;
-    out.push_str(list.as_str())?;
+    write_list(alloc, &mut out, facade, &plain)?;
     Ok(out)
 }
 
@@ -67,20 +69,29 @@ fn insert_needed(
     Ok(())
 }
 
-/// The import of names on one line, or on several, or of all names.
-fn list(alloc: Global, facade: &str, names: &[&str]) -> Text {
-    let list = names.join(alloc, ", ")?;
-    if list.contains('*') {
-        return ["use ", facade, "::*;"].join(alloc, "");
+/// Writes the import of names on one line, or on several, or of all names.
+fn write_list(
+    alloc: Global,
+    out: &mut String,
+    facade: &str,
+    names: &[&str],
+) -> Result<(), AllocError> {
+    let mut parts = Parts::new(alloc);
+    parts.define("FACADE", facade)?;
+    parts.set("LINE", names.join(alloc, ", ")?)?;
+    if parts.part("LINE").contains('*') {
+        return parts.write(out, "use @FACADE@::*;");
     }
-    let line = ["use ", facade, "::{", list.as_str(), "};"].join(alloc, "")?;
-    if line.len() <= 100 {
-        return Ok(line);
+    parts.define("WHOLE", "use @FACADE@::{@LINE@};")?;
+    if parts.part("WHOLE").len() <= 100 {
+        return parts.write(out, "@WHOLE@");
     }
     let mut words = Vec::new(alloc);
     for name in names {
-        words.push([*name, ","].join(alloc, "")?)?;
+        let mut word = String::from_str(alloc, name)?;
+        word.push(',')?;
+        words.push(word)?;
     }
-    let words = wrapped(alloc, "\n    ", 96, &words)?;
-    ["use ", facade, "::{\n    ", words.as_str(), "\n};"].join(alloc, "")
+    parts.set("LINES", wrapped(alloc, "\n    ", 96, &words)?)?;
+    parts.write(out, "use @FACADE@::{\n    @LINES@\n};")
 }

@@ -41,7 +41,7 @@ impl Parts {
     }
 
     /// The part of this name.
-    fn part(&self, name: &str) -> &str {
+    pub fn part(&self, name: &str) -> &str {
         for (other, text) in &self.parts {
             if *other == name {
                 return text.as_str();

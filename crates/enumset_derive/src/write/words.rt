@@ -68,24 +68,25 @@ pub(super) fn macro_call(
     declaration: &EnumDeclaration,
     plan: &Plan,
 ) -> Text {
+    let mut name = String::from_str(alloc, declaration.name)?;
+    name.push(':')?;
     let mut words = Vec::new(alloc);
-    words.push([declaration.name, ":"].join(alloc, "")?)?;
+    words.push(name)?;
     push_words(alloc, &mut words, pattern, declaration, plan)?;
     let [name, first] = begin;
     let [short, long] = rooms;
-    let line = words.join(alloc, " ")?;
-    if line.len() < short {
-        return ["        ", name, "!(", first, line.as_str(), ")"].join(alloc, "");
-    }
-    let lines = wrapped(alloc, "\n            ", long, &words)?;
-    let start = "!(\n            ";
-    [
-        "        ",
-        name,
-        start,
-        first,
-        lines.as_str(),
-        "\n        )",
-    ]
-    .join(alloc, "")
+    let mut text = words.join(alloc, " ")?;
+    let (start, end) = if text.len() < short {
+        ("!(", ")")
+    } else {
+        text = wrapped(alloc, "\n            ", long, &words)?;
+        ("!(\n            ", "\n        )")
+    };
+    let mut out = String::from_str(alloc, "        ")?;
+    out.push_str(name)?;
+    out.push_str(start)?;
+    out.push_str(first)?;
+    out.push_str(text.as_str())?;
+    out.push_str(end)?;
+    Ok(out)
 }
