@@ -1,6 +1,7 @@
 //! The arguments of the program.
 
 use crate::fault::ProgramFault;
+use crate::tokens::is_digit;
 use std::env::{self, Args, Env};
 use std::io::ErrorKind;
 
@@ -19,10 +20,13 @@ pub struct Request {
 impl Request {
     /// Reads the arguments: the names of the crate and of the module, and maybe `-o` and a file.
     pub fn read<R: Env + AllocGlobal>(rt: &R) -> Result<Request, ProgramFault> {
-        let mut arguments = env::args(rt).map_err(|error| match error.kind() {
-            ErrorKind::OutOfMemory => ProgramFault::OUT_OF_MEMORY,
-            _ => ProgramFault::NotAName,
-        })?;
+        let mut arguments = match env::args(rt) {
+            Ok(arguments) => arguments,
+            Err(error) if error.kind() == ErrorKind::OutOfMemory => {
+                return Err(ProgramFault::OUT_OF_MEMORY);
+            }
+            Err(_) => return Err(ProgramFault::NotAName),
+        };
         let _ = arguments.next();
         let crate_name = name_of(arguments.next())?;
         let module_name = name_of(arguments.next())?;
@@ -47,15 +51,14 @@ fn name_of(argument: Option<String>) -> Result<String, ProgramFault> {
 
 /// Whether a text is a small letter or `_`, and then small letters, digits and `_`.
 fn is_name(text: &str) -> bool {
-    let begins = match text.chars().next() {
-        Some(first) => !first.is_ascii_digit(),
-        None => false,
-    };
-    begins
+    !text.is_empty()
         && text.len() <= NAME_LIMIT
-        && text.chars().all(|character| {
-            character.is_ascii_lowercase() || character.is_ascii_digit() || character == '_'
-        })
+        && !text.starts_with(is_digit)
+        && text.trim_start_matches(may_stand_in_name).is_empty()
+}
+
+fn may_stand_in_name(character: char) -> bool {
+    character.is_ascii_lowercase() || is_digit(character) || character == '_'
 }
 
 /// The file that is asked for by the arguments after the names.

@@ -2,11 +2,10 @@
 
 use enumset_derive_plan::DeriveError;
 use std::alloc::AllocError;
-use std::error::Error;
 use std::fmt;
 
 /// Why the program wrote no module, or not all of it.
-#[derive(Debug, Drop)]
+#[derive(Drop)]
 pub enum ProgramFault {
     /// The arguments are not two, or four of which the third is `-o`.
     Arguments,
@@ -37,26 +36,23 @@ impl ProgramFault {
     }
 }
 
+/// The arguments that the program takes.
+const ARGUMENTS: &str =
+    "two arguments: the names of the crate and of the module; and for a file in place of standard output, -o FILE";
+
 /// What the program writes on standard error, without the line feed at its end.
 impl fmt::Display for ProgramFault {
     fn fmt<W: fmt::Write>(&self, f: &mut fmt::Formatter<W>) -> fmt::Result {
         match self {
-            ProgramFault::Arguments => {
-                write!(
-                    f,
-                    "two arguments: the names of the crate and of the module; and for a file in place of standard output, -o FILE"
-                )
-            }
-            ProgramFault::NotAName => write!(f, "an argument is no name"),
+            ProgramFault::Arguments => f.write_str(ARGUMENTS),
+            ProgramFault::NotAName => f.write_str("an argument is no name"),
             ProgramFault::Source(error) => write!(f, "{error}"),
-            ProgramFault::Reading => write!(f, "reading failed"),
-            ProgramFault::Writing => write!(f, "writing failed"),
+            ProgramFault::Reading => f.write_str("reading failed"),
+            ProgramFault::Writing => f.write_str("writing failed"),
             ProgramFault::File(file) => write!(f, "{file}: writing failed"),
         }
     }
 }
-
-impl Error for ProgramFault {}
 
 impl From<DeriveError> for ProgramFault {
     fn from(error: DeriveError) -> ProgramFault {

@@ -7,9 +7,8 @@
 
 mod arguments;
 mod fault;
-mod left_out;
-mod parse;
 mod program;
+mod read;
 mod source;
 mod tokens;
 mod write;

@@ -2,10 +2,9 @@
 
 use crate::arguments::Request;
 use crate::fault::ProgramFault;
-use crate::parse::read_source;
-use crate::source::Source;
-use crate::tokens::place_after;
-use crate::write::{ModuleName, module_text};
+use crate::read::read_source;
+use crate::tokens::tokens_of;
+use crate::write::module_text;
 use enumset_derive_plan::{DeriveError, Fault, Place, Reason};
 use std::alloc::Global;
 use std::env::Env;
@@ -17,20 +16,17 @@ use std::rt::Files;
 pub fn answer<R: Env + Files + Input + Print + Eprint + AllocGlobal>(
     rt: &R,
 ) -> Result<(), ProgramFault> {
-    let Request {
-        crate_name,
-        module_name,
-        file,
-    } = Request::read(rt)?;
+    let request = Request::read(rt)?;
     let input = read_input(rt.alloc(), rt.reader())?;
-    let source = read_source(rt.alloc(), text_of(&input)?)?;
-    let module = ModuleName {
-        crate_name: crate_name.as_str(),
-        module_name: module_name.as_str(),
-    };
-    let text = module_text(rt.alloc(), module, &source)?;
-    say_left_out(rt, &source);
-    write_module(rt, text.as_str(), file)
+    let text = text_of(&input)?;
+    let tokens = tokens_of(rt.alloc(), text)?;
+    let source = read_source(rt.alloc(), text, &tokens)?;
+    let written = module_text(rt.alloc(), &request, &source)?;
+    for left_out in &source.left_out {
+        let (place, text) = *left_out;
+        let _ = eprintln!(rt; "{place}: left out: {text} has no meaning here");
+    }
+    write_module(rt, written.as_str(), request.file)
 }
 
 /// Writes a text to a file, or to standard output.
@@ -60,23 +56,19 @@ fn read_input<R: Read + Drop>(alloc: Global, reader: R) -> Result<Vec<u8>, Progr
     }
 }
 
-/// The text that bytes are, or the fault where they are no text.
+/// The text that bytes are, without a byte order mark, or the fault where they are no text.
 fn text_of(input: &[u8]) -> Result<&str, DeriveError> {
     let error = match str::from_utf8(input) {
-        Ok(text) => return Ok(text),
+        Ok(text) => return Ok(text.strip_prefix('\u{FEFF}').unwrap_or(text)),
         Err(error) => error,
     };
     let valid = input.get(..error.valid_up_to()).unwrap_or(b"");
-    let begin = Place { line: 1, column: 1 };
+    let mut place = Place::BEGIN;
+    for character in str::from_utf8(valid).unwrap_or("").chars() {
+        place = place.after(character);
+    }
     Err(DeriveError::Fault(Fault {
-        place: place_after(begin, str::from_utf8(valid).unwrap_or("")),
+        place,
         reason: Reason::NotUtf8,
     }))
-}
-
-/// Says on standard error what the module does not take over.
-fn say_left_out(rt: &impl Eprint, source: &Source) {
-    for left_out in &source.left_out {
-        let _ = eprintln!(rt; "{left_out}");
-    }
 }

@@ -1,20 +1,16 @@
 //! The tokens of a source text.
 
-ghost use Rattle.std.specs.Prelude.{◌<◌, ◌≤◌, length, IfSome};
-
-mod comments;
+mod brackets;
 mod quotes;
-mod words;
 
-use comments::after_slash;
-use enumset_derive_plan::Place;
-use quotes::{after_quote, after_tick};
-use words::{after_bytes_prefix, after_raw_prefix, is_word, split_first};
-pub(crate) use words::{before, is_name};
+use brackets::in_brackets;
+use enumset_derive_plan::{Place, Reason};
+use quotes::{after_prefix, after_quote, after_tick};
+use std::alloc::{AllocError, Global};
 
 /// What a token is.
-#[derive(Clone, Copy, Debug, PartialEq, Eq)]
-pub(crate) enum Kind {
+#[derive(Clone, Copy)]
+pub enum Kind {
     /// Spaces, tabs and ends of lines.
     Space,
     /// A comment that documents nothing.
@@ -27,61 +23,30 @@ pub(crate) enum Kind {
     Word,
     /// A text or a character in quotes.
     Quoted,
-    /// A lifetime, as `'a`.
-    Lifetime,
-    /// `::`.
-    PathSeparator,
-    /// `r#` and such, where neither a name nor a raw text follows.
-    RawPrefix,
-    /// One other character.
+    /// This character, or `::` for `:`.
     Mark(char),
-    /// A block comment without an end.
-    UnclosedComment,
-    /// A text or a character in quotes without an end.
-    UnclosedQuote,
-    /// The end of the text. No character belongs to it.
+    /// A lifetime, a single `:`, or `r#` and such where neither a name nor a raw text follows.
+    Other,
+    /// The end of the text.
     End,
+    /// Nothing can be read from here on: a comment, a quote or a bracket that begins at the place has no end.
+    Fault(Reason),
 }
 
 /// A token of a source text.
 #[derive(Clone, Copy)]
-pub(crate) struct Token<'a> {
+pub struct Token<'a> {
     pub kind: Kind,
     /// As it is written.
     pub text: &'a str,
-    /// Where it begins.
+    /// Where it begins, in bytes.
+    pub begin: usize,
     pub place: Place,
-    /// The source from its first character on.
-    pub onward: &'a str,
-    /// The source after it.
-    pub rest: &'a str,
+    /// In how many brackets it is, itself among them if it begins one.
+    pub depth: usize,
 }
 
 impl<'a> Token<'a> {
-    ghost use Rattle.std.specs.Prelude.{◌≡◌};
-
-    /// The first token of a text that begins at a place; at the end of the text, its end.
-    pub fn first_of(onward: &'a str, place: Place) -> Token<'a>
-        ensures { result.onward.now ≡ onward.now }
-    {
-        let (kind, rest) = first_token(onward).unwrap_or((Kind::End, ""));
-        Token {
-            kind,
-            text: before(onward, rest),
-            place,
-            onward,
-            rest,
-        }
-    }
-
-    /// The token after this one.
-    pub fn next(&self) -> Token<'a>
-        ensures { result.onward.now ≡ self.now.rest.now }
-    {
-        Token::first_of(self.rest, place_after(self.place, self.text))
-    }
-
-    /// Whether the token is a comment.
     pub fn is_comment(&self) -> bool {
         matches!(self.kind, Kind::Comment | Kind::OuterDoc | Kind::InnerDoc)
     }
@@ -91,72 +56,146 @@ impl<'a> Token<'a> {
         matches!(self.kind, Kind::Space) || self.is_comment()
     }
 
-    /// Whether the token is this word.
-    pub fn is_word(&self, word: &str) -> bool {
-        matches!(self.kind, Kind::Word) && self.text == word
+    pub fn is_end(&self) -> bool {
+        matches!(self.kind, Kind::End)
     }
 
-    /// Whether the token is this mark.
+    /// Whether the token is written so.
+    pub fn is(&self, text: &str) -> bool {
+        self.text == text
+    }
+
     pub fn is_mark(&self, mark: char) -> bool {
         matches!(self.kind, Kind::Mark(found) if found == mark)
     }
 
-    /// The text in plain quotes that the token is.
-    pub fn text_in_quotes(&self) -> Option<&'a str> {
-        match self.kind {
-            Kind::Quoted => self.text.strip_prefix('"')?.strip_suffix('"'),
-            _ => None,
-        }
-    }
-
     /// Whether the token is a name: letters, digits and `_`, no digit first, maybe after `r#`.
     pub fn is_name(&self) -> bool {
-        matches!(self.kind, Kind::Word) && is_name(self.text)
+        let name = self.text.strip_prefix("r#").unwrap_or(self.text);
+        matches!(self.kind, Kind::Word)
+            && !name.starts_with(is_digit)
+            && name.trim_start_matches(is_ascii_word).is_empty()
     }
 }
 
-/// The place after a text that begins at a place.
-pub(crate) fn place_after(place: Place, text: &str) -> Place {
-    let mut line = place.line;
-    let mut column = place.column;
-    for character in text.chars() {
-        if character == '\n' {
-            line = line.saturating_add(1);
-            column = 1;
-        } else {
-            column = column.saturating_add(1);
+pub fn is_digit(character: char) -> bool {
+    character.is_ascii_digit()
+}
+
+fn is_ascii_word(character: char) -> bool {
+    character == '_' || character.is_ascii_alphanumeric()
+}
+
+/// The tokens of a text, with its end.
+pub fn tokens_of(alloc: Global, text: &str) -> Result<Vec<Token<'_>>, AllocError> {
+    let mut tokens = Vec::new(alloc);
+    let mut open = Vec::new(alloc);
+    let mut place = Place::BEGIN;
+    let mut end = 0;
+    for (begin, character) in text.char_indices() {
+        if begin >= end {
+            let onward = text.get(begin..).unwrap_or("");
+            let (kind, rest) = first_token(character, onward);
+            end = text.len().saturating_sub(rest.len());
+            let token = Token {
+                kind,
+                text: before(onward, rest),
+                begin,
+                place,
+                depth: 0,
+            };
+            tokens.push(in_brackets(&mut open, token)?)?;
         }
+        place = place.after(character);
     }
-    Place { line, column }
+    let token = Token {
+        kind: Kind::End,
+        text: "",
+        begin: text.len(),
+        place,
+        depth: 0,
+    };
+    tokens.push(in_brackets(&mut open, token)?)?;
+    Ok(tokens)
 }
 
-/// What the first token of a text is, and the text after it, unless the text is empty.
-fn first_token(text: &str) -> Option<(Kind, &str)>
-    ensures { IfSome result (λ found. length found.1.now < length text.now) }
-{
-    let (first, rest) = split_first(text)?;
-    Some(match first {
+/// What stands in a text before the rest of it.
+pub fn before<'a>(text: &'a str, rest: &str) -> &'a str {
+    text.get(..text.len().saturating_sub(rest.len()))
+        .unwrap_or("")
+}
+
+/// The text after the ASCII character at an index.
+fn after(text: &str, at: usize) -> &str {
+    text.get(at.saturating_add(1)..).unwrap_or("")
+}
+
+/// What the first token of a text is, and the text after it.
+fn first_token(first: char, text: &str) -> (Kind, &str) {
+    let rest = text.strip_prefix(first).unwrap_or("");
+    match first {
         ' ' | '\t' | '\n' | '\r' => (Kind::Space, rest.trim_start_matches(is_space)),
-        '/' => after_slash(rest),
+        '/' if rest.starts_with('/') => (comment_kind(text), rest.trim_start_matches(is_on_line)),
+        '/' if rest.starts_with('*') => block_comment(text),
         '"' => after_quote(rest),
         '\'' => after_tick(rest),
-        'r' => after_raw_prefix(rest),
-        'b' | 'c' => after_bytes_prefix(rest),
-        ':' => after_colon(rest),
+        'b' | 'c' | 'r' => after_prefix(text),
+        ':' => match rest.strip_prefix(':') {
+            Some(rest) => (Kind::Mark(':'), rest),
+            None => (Kind::Other, rest),
+        },
         _ if is_word(first) => (Kind::Word, rest.trim_start_matches(is_word)),
         _ => (Kind::Mark(first), rest),
-    })
+    }
 }
 
-fn is_space(character: char) -> bool {
+/// Whether a character is a space, a tab or the end of a line.
+pub fn is_space(character: char) -> bool {
     matches!(character, ' ' | '\t' | '\n' | '\r')
 }
 
-fn after_colon(text: &str) -> (Kind, &str)
-    ensures { length result.1.now ≤ length text.now }
-{
-    match split_first(text) {
-        Some((':', rest)) => (Kind::PathSeparator, rest),
-        _ => (Kind::Mark(':'), text),
+fn is_on_line(character: char) -> bool {
+    character != '\n'
+}
+
+/// Whether a character may stand in a word: a letter, a digit, `_`, or a character past ASCII.
+fn is_word(character: char) -> bool {
+    is_ascii_word(character) || !character.is_ascii()
+}
+
+/// What the comment is that a text begins with.
+fn comment_kind(text: &str) -> Kind {
+    let mut characters = text.chars();
+    let _ = characters.next();
+    let second = characters.next();
+    let third = characters.next();
+    let fourth = characters.next();
+    if third == Some('!') {
+        Kind::InnerDoc
+    } else if third == second && fourth != second && fourth != Some('/') {
+        Kind::OuterDoc
+    } else {
+        Kind::Comment
     }
+}
+
+/// What the block comment is that a text begins with, and the text after it. Block comments may stand in it.
+fn block_comment(text: &str) -> (Kind, &str) {
+    let mut depth = 0usize;
+    let mut last = ' ';
+    for (at, character) in text.char_indices() {
+        match (last, character) {
+            ('/', '*') => depth = depth.saturating_add(1),
+            ('*', '/') => depth = depth.saturating_sub(1),
+            _ => {
+                last = character;
+                continue;
+            }
+        }
+        last = ' ';
+        if depth == 0 {
+            return (comment_kind(text), after(text, at));
+        }
+    }
+    (Kind::Fault(Reason::UnclosedComment), "")
 }

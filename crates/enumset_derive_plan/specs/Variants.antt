@@ -10,7 +10,6 @@ use Rattle.std.specs.Prelude.{◌≡◌, ℕ, ◌==◌, Bool, nat_le, nat_eq, Li
 use Rattle.std.specs.List.{find}
 use Rattle.std.specs.Option.{ok_or, option_or, option_map, option_map_or}
 use Rattle.std.specs.Result.{result_map_both}
-use Rattle.std.specs.String.{string_bytes}
 use Rattle.std.specs.Cmp.Lexicographic.{pointwise}
 use Rattle.enumset_derive_plan.specs.Numbers.{width, next_number, same_number, naming_of, and_then, bit_of}
 use Rattle.enumset_derive_plan.specs.declared.integer_type.IntegerType.{IntegerType}
@@ -71,7 +70,7 @@ abbrev pub number_place : Variant → Place
 number_place v = option_map_or (λ d. d.place) v.discriminant v.place
 
 abbrev pub has_name : Variant → Variant → Bool
-has_name v w = pointwise nat_eq (string_bytes w.name) (string_bytes v.name)
+has_name v w = pointwise nat_eq w.name.now v.name.now
 
 -- the fault of what another variant took, if one did
 abbrev pub unless_found : {A F : Type 0} → Option A → (A → F) → Result (Unit {0}) F

@@ -6,48 +6,48 @@ use crate::place::Place;
 
 /// An enum that is to be an element type.
 #[derive(Drop)]
-pub struct EnumDeclaration {
-    /// Where the name is.
-    pub place: Place,
+pub struct EnumDeclaration<'a> {
     /// The comments and the attributes before its first derive, each as it is written, in their order.
-    pub attributes: Vec<String>,
+    pub attributes: Vec<&'a str>,
     /// The comments and the attributes after that, each as it is written, in their order. The derives and the options
     /// are not among them.
-    pub later_attributes: Vec<String>,
+    pub later_attributes: Vec<&'a str>,
     /// The names that are derived beside `EnumSetType`, in their order, each as it is written.
     pub derives: Vec<String>,
-    /// As it is written, as `pub` or `pub(crate)`; empty for a private enum.
-    pub visibility: String,
+    /// `pub` and what stands in brackets after it, as `(crate)`; empty if they are not there.
+    pub visibility: (&'a str, &'a str),
     /// As it is written, with the `r#` of a raw identifier.
-    pub name: String,
+    pub name: &'a str,
     /// In the order of the declaration.
-    pub variants: Vec<Variant>,
+    pub variants: Vec<Variant<'a>>,
     /// The comments after the last variant, each as it is written.
-    pub last_comments: Vec<String>,
-    pub options: Options,
+    pub last_comments: Vec<&'a str>,
+    pub options: Options<'a>,
 }
 
 /// A variant without fields.
 #[derive(Drop)]
-pub struct Variant {
+pub struct Variant<'a> {
     /// Where the name is.
     pub place: Place,
     /// The comments and the attributes before it, each as it is written, in their order.
-    pub attributes: Vec<String>,
+    pub attributes: Vec<&'a str>,
     /// As it is written, with the `r#` of a raw identifier.
-    pub name: String,
+    pub name: &'a str,
     /// The discriminant, if it is given.
-    pub discriminant: Option<Discriminant>,
-    /// The comments after it on its line, as they are written; empty if there are none.
-    pub comment_after: String,
+    pub discriminant: Option<Discriminant<'a>>,
+    /// The comments among its tokens, and after it on its line.
+    pub comments: Vec<&'a str>,
 }
 
 /// A discriminant that is given.
-#[derive(Drop)]
-pub struct Discriminant {
+#[derive(Clone, Copy)]
+pub struct Discriminant<'a> {
     /// Where the literal, or the minus sign before it, is.
     pub place: Place,
+    /// The minus sign, if there is one.
+    pub sign: &'a str,
     /// As it is written, as `0x1F`.
-    pub text: String,
+    pub literal: &'a str,
     pub number: Number,
 }

@@ -2,18 +2,17 @@
 
 use crate::place::Place;
 use std::alloc::{AllocError, AllocFailed};
-use std::error::Error;
 use std::fmt;
 
 /// A fault of a source text, and where it is.
-#[derive(Clone, Copy, Debug)]
+#[derive(Clone, Copy)]
 pub struct Fault {
     pub place: Place,
     pub reason: Reason,
 }
 
 /// What is wrong. What `Display` writes of each says more.
-#[derive(Clone, Copy, Debug)]
+#[derive(Clone, Copy)]
 pub enum Reason {
     // of reading
     NotUtf8,
@@ -21,7 +20,8 @@ pub enum Reason {
     UnclosedQuote,
     /// A bracket has no end, or another end.
     UnclosedBracket,
-    Wanted(Wanted),
+    /// This is wanted at the place.
+    Wanted(&'static str),
     /// `EnumSetType` is derived on something other than an enum.
     NotAnEnum,
     HasParameters,
@@ -59,34 +59,10 @@ pub enum Reason {
 }
 
 /// A bit, and the width that it is not below.
-#[derive(Clone, Copy, Debug)]
+#[derive(Clone, Copy)]
 pub struct OutOfRange {
     pub bit: u32,
     pub width: u32,
-}
-
-/// What is wanted at a place.
-#[derive(Clone, Copy, Debug)]
-pub enum Wanted {
-    EnumName,
-    /// After the name of an enum.
-    Variants,
-    VariantName,
-    /// After a variant.
-    NextVariant,
-    /// After `#`.
-    Attribute,
-    /// After the name of an attribute.
-    Arguments,
-    OptionName,
-    OptionValue,
-    /// After an option.
-    NextOption,
-    DeriveName,
-    /// After a derive.
-    NextDerive,
-    /// After attributes.
-    Item,
 }
 
 impl fmt::Display for Fault {
@@ -101,8 +77,20 @@ impl fmt::Display for Reason {
             Reason::Wanted(wanted) => write!(f, "wanted: {wanted}"),
             Reason::OptionTwice(first) => write!(f, "this option was given at {first}"),
             Reason::NameTwice(first) => write!(f, "this name was given at {first}"),
-            Reason::PastRepresentation(out) => write!(f, "`repr` is too small: {out}"),
-            Reason::PastSerialized(out) => write!(f, "`serialize_repr` is too small: {out}"),
+            Reason::PastRepresentation(out) => {
+                write!(
+                    f,
+                    "`repr` is too small: bit {}, width {}",
+                    out.bit, out.width
+                )
+            }
+            Reason::PastSerialized(out) => {
+                write!(
+                    f,
+                    "`serialize_repr` is too small: bit {}, width {}",
+                    out.bit, out.width
+                )
+            }
             Reason::BitTwice(first) => write!(f, "this bit was taken at {first}"),
             Reason::DiscriminantTwice(first) => write!(f, "this discriminant was taken at {first}"),
             _ => f.write_str(self.words()),
@@ -146,34 +134,8 @@ impl Reason {
     }
 }
 
-impl fmt::Display for OutOfRange {
-    fn fmt<W: fmt::Write>(&self, f: &mut fmt::Formatter<W>) -> fmt::Result {
-        write!(f, "bit {}, width {}", self.bit, self.width)
-    }
-}
-
-impl fmt::Display for Wanted {
-    fn fmt<W: fmt::Write>(&self, f: &mut fmt::Formatter<W>) -> fmt::Result {
-        f.write_str(match self {
-            Wanted::EnumName => "a name of an enum",
-            Wanted::Variants => "`{`",
-            Wanted::VariantName => "a name of a variant, or `}`",
-            Wanted::NextVariant => "`,` or `}`",
-            Wanted::Attribute => "`[`",
-            Wanted::Arguments => "`(`",
-            Wanted::OptionName => "a name of an option, or `)`",
-            Wanted::OptionValue => "`=` and a text in quotes",
-            Wanted::NextOption | Wanted::NextDerive => "`,` or `)`",
-            Wanted::DeriveName => "a path, or `)`",
-            Wanted::Item => "an item",
-        })
-    }
-}
-
-impl Error for Fault {}
-
 /// Why there is no module.
-#[derive(Clone, Copy, Debug)]
+#[derive(Clone, Copy)]
 pub enum DeriveError {
     /// The text has a fault.
     Fault(Fault),
@@ -189,8 +151,6 @@ impl fmt::Display for DeriveError {
         }
     }
 }
-
-impl Error for DeriveError {}
 
 impl From<Fault> for DeriveError {
     ghost use Rattle.std.specs.Prelude.{◌≡◌};

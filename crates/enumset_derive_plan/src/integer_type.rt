@@ -3,8 +3,6 @@
 ghost use Rattle.std.specs.Prelude.{◌≡◌};
 ghost use Rattle.enumset_derive_plan.specs.Numbers.{width};
 
-use std::fmt;
-
 /// An unsigned integer type.
 #[derive(Clone, Copy)]
 pub enum IntegerType {
@@ -26,19 +24,6 @@ impl IntegerType {
             IntegerType::U32 => 32,
             IntegerType::U64 => 64,
             IntegerType::U128 => 128,
-        }
-    }
-}
-
-/// The name of the type, as `u8`.
-impl fmt::Display for IntegerType {
-    fn fmt<W: fmt::Write>(&self, f: &mut fmt::Formatter<W>) -> fmt::Result {
-        match self {
-            IntegerType::U8 => write!(f, "u8"),
-            IntegerType::U16 => write!(f, "u16"),
-            IntegerType::U32 => write!(f, "u32"),
-            IntegerType::U64 => write!(f, "u64"),
-            IntegerType::U128 => write!(f, "u128"),
         }
     }
 }

@@ -14,7 +14,7 @@ pub mod plan;
 pub mod planning;
 
 pub use declaration::{Discriminant, EnumDeclaration, Variant};
-pub use fault::{DeriveError, Fault, OutOfRange, Reason, Wanted};
+pub use fault::{DeriveError, Fault, OutOfRange, Reason};
 pub use integer_type::IntegerType;
 pub use number::Number;
 pub use options::{Map, Options, Representation, Serialized};

@@ -4,11 +4,11 @@ use crate::integer_type::IntegerType;
 use crate::place::Place;
 
 /// The options of an element type.
-#[derive(Drop)]
-pub struct Options {
+#[derive(Clone, Copy)]
+pub struct Options<'a> {
     /// Which bit a discriminant names: `map`, by default `Lsb`.
     pub map: Map,
-    /// Where the value of `map` is; where the enum's name is, if there is none.
+    /// Where the value of `map` is, if it is given.
     pub map_place: Place,
     /// What keeps a set: `repr`, if it is given.
     pub representation: Option<Representation>,
@@ -23,7 +23,22 @@ pub struct Options {
     /// Whether `Display` by the variants' names is written: `display`.
     pub has_display: bool,
     /// The name of the crate `enumset` in the code that is written: `crate_name`, if it is given.
-    pub crate_name: Option<String>,
+    pub crate_name: Option<&'a str>,
+}
+
+impl Options<'_> {
+    /// No option.
+    pub const NONE: Options<'static> = Options {
+        map: Map::Lsb,
+        map_place: Place::BEGIN,
+        representation: None,
+        serialized: None,
+        denies_unknown: false,
+        leaves_out_operators: false,
+        leaves_out_supertraits: false,
+        has_display: false,
+        crate_name: None,
+    };
 }
 
 /// Which bit a discriminant names.

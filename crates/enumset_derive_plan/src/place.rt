@@ -5,7 +5,7 @@ use std::fmt;
 /// A place in a text: its line, and the character in that line, both counted from 1.
 ///
 /// A line feed ends a line. A character is a Unicode scalar value, so a tab is one.
-#[derive(Clone, Copy, Debug)]
+#[derive(Clone, Copy)]
 pub struct Place {
     pub line: u64,
     pub column: u64,
@@ -14,5 +14,25 @@ pub struct Place {
 impl fmt::Display for Place {
     fn fmt<W: fmt::Write>(&self, f: &mut fmt::Formatter<W>) -> fmt::Result {
         write!(f, "line {}, column {}", self.line, self.column)
+    }
+}
+
+impl Place {
+    /// The beginning of a text.
+    pub const BEGIN: Place = Place { line: 1, column: 1 };
+
+    /// The place after a character that is there.
+    pub fn after(self, character: char) -> Place {
+        if character == '\n' {
+            Place {
+                line: self.line.saturating_add(1),
+                column: 1,
+            }
+        } else {
+            Place {
+                line: self.line,
+                column: self.column.saturating_add(1),
+            }
+        }
     }
 }

@@ -5,10 +5,8 @@
 --     Folds      folds of a list with one item more at its end
 --     Iterators      what iterators that bound their asks yield
 --     Texts      the text of a set as it is written
---     Values      each valid bit has a value, and what holds of each listed value holds of all
 pub mod Conversions
 pub mod Elements
 pub mod Folds
 pub mod Iterators
 pub mod Texts
-pub mod Values

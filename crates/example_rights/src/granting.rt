@@ -1,11 +1,11 @@
 //! Rights that are granted one by one, and all at once.
 
-ghost use Rattle.std.specs.Prelude.{◌≡◌, ℕ, not, true};
+ghost use Rattle.std.specs.Prelude.{◌≡◌, not, true};
 ghost use Rattle.enumset_repr.specs.BitSet as set;
-ghost use Rattle.example_rights.specs.Right.{bit, valid};
+ghost use Rattle.example_rights.specs.Right.{bit};
 
 use crate::rights::Right;
-use enumset::EnumSet;
+use enumset::{EnumSet, laws};
 
 /// Grants a right, and returns whether it was missing.
 pub fn grant(rights: &mut EnumSet<Right>, right: Right) -> bool
@@ -15,12 +15,12 @@ pub fn grant(rights: &mut EnumSet<Right>, right: Right) -> bool
     rights.insert(right)
 }
 
-/// All rights: each of them, and no other bit.
-#[tactic(auto, using(crate::proofs::RightLaws::laws))]
+/// All rights: each of them, on the bits below 3.
 pub fn all_granted() -> EnumSet<Right>
-    ensures all { result ≡ valid }
+    ensures all { result ≡ set.below 3 }
     ensures each { (right : Right) → set.contains result (bit right) ≡ true }
-    ensures only { (q : ℕ) → set.contains result q ≡ true → (right : Right) × (bit right ≡ q) }
 {
+    laws::bit_and_back::<Right>();
+    laws::bits_below(3);
     EnumSet::all()
 }

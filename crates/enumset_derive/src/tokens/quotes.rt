@@ -1,65 +1,67 @@
-//! Texts and characters in quotes, and lifetimes.
+//! Texts and characters in quotes, lifetimes, and words that begin as they may.
 
-ghost use Rattle.std.specs.Prelude.{◌≤◌, length};
-
-use super::Kind;
-use super::words::{is_word, split_first};
+use super::{Kind, after, before, is_word};
+use enumset_derive_plan::Reason;
 
 /// What a token is that begins with `"`, and the text after it.
-pub(super) fn after_quote(text: &str) -> (Kind, &str)
-    ensures { length result.1.now ≤ length text.now }
-{
-    let mut rest = text;
-    while let Some((first, others)) = split_first(rest) {
-        rest = match (first, split_first(others)) {
-            ('"', _) => return (Kind::Quoted, others),
-            ('\\', Some((_, after))) => after,
-            _ => others,
-        };
-    }
-    (Kind::UnclosedQuote, rest)
-}
-
-/// What a token is that begins with a raw prefix, so many `#` and `"`, and the text after it.
-pub(super) fn after_raw_quote<'a>(hashes: &str, text: &'a str) -> (Kind, &'a str)
-    ensures { length result.1.now ≤ length text.now }
-{
-    let mut rest = text;
-    while let Some((first, others)) = split_first(rest) {
-        if first == '"' {
-            if let Some(after) = others.strip_prefix(hashes) {
-                return (Kind::Quoted, after);
-            }
+pub fn after_quote(text: &str) -> (Kind, &str) {
+    let mut is_escaped = false;
+    for (at, character) in text.char_indices() {
+        if character == '"' && !is_escaped {
+            return (Kind::Quoted, after(text, at));
         }
-        rest = others;
+        is_escaped = character == '\\' && !is_escaped;
     }
-    (Kind::UnclosedQuote, rest)
+    (Kind::Fault(Reason::UnclosedQuote), "")
 }
 
 /// What a token is that begins with `'`, and the text after it: a character or a lifetime.
-pub(super) fn after_tick(text: &str) -> (Kind, &str)
-    ensures { length result.1.now ≤ length text.now }
-{
-    match split_first(text) {
-        Some(('\\', escape)) => match split_first(escape) {
-            Some((_, rest)) => up_to_tick(rest),
-            None => (Kind::UnclosedQuote, escape),
-        },
-        Some((first, rest)) if is_word(first) => match split_first(rest) {
-            Some(('\'', after)) => (Kind::Quoted, after),
-            _ => (Kind::Lifetime, rest.trim_start_matches(is_word)),
-        },
-        Some((_, rest)) => up_to_tick(rest),
-        None => (Kind::UnclosedQuote, text),
+pub fn after_tick(text: &str) -> (Kind, &str) {
+    let mut characters = text.chars();
+    let first = characters.next();
+    if first.is_some_and(is_word) && !characters.as_str().starts_with('\'') {
+        return (Kind::Other, text.trim_start_matches(is_word));
+    }
+    if first == Some('\\') {
+        let _ = characters.next();
+    }
+    match characters.as_str().split_once('\'') {
+        Some((_, rest)) => (Kind::Quoted, rest),
+        None => (Kind::Fault(Reason::UnclosedQuote), ""),
     }
 }
 
-fn up_to_tick(text: &str) -> (Kind, &str)
-    ensures { length result.1.now ≤ length text.now }
-{
-    let end = text.trim_start_matches(|character: char| character != '\'');
-    match split_first(end) {
-        Some((_, rest)) => (Kind::Quoted, rest),
-        None => (Kind::UnclosedQuote, end),
+/// What a token is that begins with `b`, `c` or `r`, and the text after it: a word, a raw name, or a text in quotes.
+pub fn after_prefix(text: &str) -> (Kind, &str) {
+    let bytes = text.strip_prefix('b').or(text.strip_prefix('c'));
+    let rest = bytes.unwrap_or(text);
+    if let Some(raw) = rest.strip_prefix('r') {
+        return after_raw_prefix(raw);
+    }
+    if let Some(quoted) = rest.strip_prefix('"') {
+        return after_quote(quoted);
+    }
+    match rest.strip_prefix('\'') {
+        Some(quoted) => after_tick(quoted),
+        None => (Kind::Word, rest.trim_start_matches(is_word)),
+    }
+}
+
+/// What a token is that begins with `r`, `br` or `cr`, and the text after it. It may be a raw text or a raw name.
+fn after_raw_prefix(text: &str) -> (Kind, &str) {
+    let rest = text.trim_start_matches('#');
+    let hashes = before(text, rest);
+    if let Some(quoted) = rest.strip_prefix('"') {
+        for (at, _) in quoted.match_indices('"') {
+            if let Some(rest) = after(quoted, at).strip_prefix(hashes) {
+                return (Kind::Quoted, rest);
+            }
+        }
+        return (Kind::Fault(Reason::UnclosedQuote), "");
+    }
+    if hashes.is_empty() || rest.starts_with(is_word) {
+        (Kind::Word, rest.trim_start_matches(is_word))
+    } else {
+        (Kind::Other, rest)
     }
 }

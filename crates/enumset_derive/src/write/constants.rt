@@ -1,46 +1,32 @@
 //! The constants of an element type.
 
 use super::Text;
-use super::layout::{LIST_START, joined, lines, wrapped};
+use super::layout::{LIST_START, wrapped};
+use super::parts::Parts;
 use enumset_derive_plan::{Plan, Store};
 use std::alloc::{AllocError, Global};
 
-/// The type that keeps a set.
-pub(super) fn representation(alloc: Global, store: &Store) -> Text {
-    match store {
-        Store::Integer(integer, _) => integer.to_string(alloc),
+/// Sets the type that keeps a set, and the constants.
+pub(super) fn set_constants(parts: &mut Parts, plan: &Plan) -> Result<(), AllocError> {
+    let alloc = parts.alloc;
+    match &plan.store {
+        Store::Integer(integer, number) => {
+            parts.define("LAW", "lawful_in_integer")?;
+            parts.set("SIZE", integer.width().to_string(alloc)?)?;
+            parts.define("REPR", "u@SIZE@")?;
+            parts.set("BITS", number.to_string(alloc)?)?;
+            parts.define("ALL_BITS", "@BITS@")?;
+        }
         Store::Words(words) => {
-            let count = words.len();
-            format!(in alloc; "ArrayRepr<{count}>")
+            parts.define("LAW", "lawful_in_words")?;
+            parts.set("SIZE", words.len().to_string(alloc)?)?;
+            parts.define("REPR", "ArrayRepr<@SIZE@>")?;
+            parts.set("BITS", list(alloc, words)?)?;
+            set_array(parts, words)?;
         }
     }
-}
-
-/// The constants of an element type.
-pub(super) fn constants(alloc: Global, plan: &Plan) -> Text {
-    let representation = representation(alloc, &plan.store)?;
-    let (bits_in_clause, all_bits) = match &plan.store {
-        Store::Integer(_, number) => (number.to_string(alloc)?, number.to_string(alloc)?),
-        Store::Words(words) => {
-            let room = 77usize.saturating_sub(representation.len());
-            (list(alloc, words)?, array(alloc, room, words)?)
-        }
-    };
-    let bit_width = plan.bit_width;
-    let variant_count = plan.variant_count;
-    format!(in alloc;
-        "    ghost ALL_BITS = {{ {bits_in_clause} }};
-
-    const ALL_BITS: {representation} = {all_bits};
-
-    ghost BIT_WIDTH = {{ {bit_width} }};
-
-    const BIT_WIDTH: u32 = {bit_width};
-
-    ghost VARIANT_COUNT = {{ {variant_count} }};
-
-    const VARIANT_COUNT: u32 = {variant_count};"
-    )
+    parts.set("WIDTH", plan.bit_width.to_string(alloc)?)?;
+    parts.set("COUNT", plan.variant_count.to_string(alloc)?)
 }
 
 /// Words as a list in a clause.
@@ -50,29 +36,42 @@ fn list(alloc: Global, numbers: &[u64]) -> Text {
     wrapped(alloc, LIST_START, 77, &words)
 }
 
-/// Words as the value of a representation, on one line of less than this length, or on filled lines, or with a line for
-/// each word if one has more than ten digits.
-fn array(alloc: Global, room: usize, numbers: &[u64]) -> Text {
-    let items = joined(alloc, &numbers_with(alloc, numbers, "")?)?;
-    let line = format!(in alloc; "ArrayRepr([{items}])")?;
-    if line.len() < room {
-        return Ok(line);
+/// Sets the value of a representation of these words, on one line if it fits, or on filled lines, or with a line for each
+/// word if one has more than ten digits.
+fn set_array(parts: &mut Parts, numbers: &[u64]) -> Result<(), AllocError> {
+    let alloc = parts.alloc;
+    let line = numbers_with(alloc, numbers, "")?.join(alloc, ", ")?;
+    if line.len().saturating_add(parts.part("REPR").len()) < 64 {
+        parts.set("LINE", line)?;
+        return parts.define("ALL_BITS", "ArrayRepr([@LINE@])");
     }
     let words = numbers_with(alloc, numbers, ",")?;
-    if numbers.iter().any(|number| *number >= 10_000_000_000) {
-        let lines = lines(alloc, "        ", &words)?;
-        format!(in alloc; "ArrayRepr([\n{lines}    ])")
+    let lines = if are_long(numbers) {
+        words.join(alloc, LIST_START)?
     } else {
-        let words = wrapped(alloc, LIST_START, 92, &words)?;
-        format!(in alloc; "ArrayRepr([\n        {words}\n    ])")
-    }
+        wrapped(alloc, LIST_START, 92, &words)?
+    };
+    parts.set("LINES", lines)?;
+    parts.define("ALL_BITS", "ArrayRepr([\n        @LINES@\n    ])")
 }
 
 /// Each number with a mark after it.
 fn numbers_with(alloc: Global, numbers: &[u64], mark: &str) -> Result<Vec<String>, AllocError> {
     let mut words = Vec::new(alloc);
     for number in numbers {
-        words.push(format!(in alloc; "{number}{mark}")?)?;
+        let mut word = number.to_string(alloc)?;
+        word.push_str(mark)?;
+        words.push(word)?;
     }
     Ok(words)
+}
+
+/// Whether a number has more than ten digits.
+fn are_long(numbers: &[u64]) -> bool {
+    for number in numbers {
+        if *number >= 10_000_000_000 {
+            return true;
+        }
+    }
+    false
 }

@@ -1,94 +1,114 @@
 //! The enum itself.
 
-use super::Text;
-use super::form::are_kept;
-use super::layout::{joined, lines};
-use enumset_derive_plan::{EnumDeclaration, Variant};
+use super::layout::write_lines;
+use enumset_derive_plan::{EnumDeclaration, Number, Variant};
 use std::alloc::{AllocError, Global};
 
 /// Why an enum has no discriminants.
-const DROPPED: &str = "\
-// Its discriminants are left out: one of them is past those that Rattle takes, -2^63 to 2^63 - 1.
-";
+const DROPPED: &str =
+    "// Its discriminants are left out: one of them is past those that Rattle takes, -2^63 to 2^63 - 1.\n";
 
-/// The enum.
-pub(super) fn enum_text(alloc: Global, declaration: &EnumDeclaration) -> Text {
+/// Whether Rattle takes all discriminants that are given.
+pub(super) fn are_kept(variants: &[Variant]) -> bool {
+    for variant in variants {
+        let is_kept = match variant.discriminant {
+            None => true,
+            Some(discriminant) => match discriminant.number {
+                Number::Small(number) => number < 1 << 63,
+                Number::PowerOfTwo(_) => false,
+                Number::Negative(number) => number <= 1 << 63,
+            },
+        };
+        if !is_kept {
+            return false;
+        }
+    }
+    true
+}
+
+/// Writes the enum.
+pub(super) fn write_enum(
+    alloc: Global,
+    out: &mut String,
+    declaration: &EnumDeclaration,
+) -> Result<(), AllocError> {
     let has_discriminants = are_kept(&declaration.variants);
-    let mut out = lines(alloc, "", &declaration.attributes)?;
+    write_lines(out, "", &declaration.attributes)?;
     if !has_discriminants {
         out.push_str(DROPPED)?;
     }
-    out.push_str(derive(alloc, &derives(alloc, declaration)?)?.as_str())?;
-    out.push_str(lines(alloc, "", &declaration.later_attributes)?.as_str())?;
-    if !declaration.visibility.is_empty() {
-        let visibility = &declaration.visibility;
-        write!(out, "{visibility} ")?;
-    }
-    let name = &declaration.name;
-    write!(out, "enum {name} {{")?;
-    if !declaration.variants.is_empty() || !declaration.last_comments.is_empty() {
-        out.push('\n')?;
+    write_derives(alloc, out, declaration)?;
+    write_lines(out, "", &declaration.later_attributes)?;
+    let (visibility, restriction) = declaration.visibility;
+    let gap = if visibility.is_empty() { "" } else { " " };
+    let is_empty = declaration.variants.is_empty() && declaration.last_comments.is_empty();
+    let begin = if is_empty { " {" } else { " {\n" };
+    for text in [
+        visibility,
+        restriction,
+        gap,
+        "enum ",
+        declaration.name,
+        begin,
+    ] {
+        out.push_str(text)?;
     }
     for variant in &declaration.variants {
-        append_variant(alloc, &mut out, variant, has_discriminants)?;
+        write_variant(alloc, out, variant, has_discriminants)?;
     }
-    out.push_str(lines(alloc, "    ", &declaration.last_comments)?.as_str())?;
-    out.push('}')?;
-    Ok(out)
+    write_lines(out, "    ", &declaration.last_comments)?;
+    out.push_str("}\n\n")
 }
 
-/// The derives: those that an element type needs, unless the author writes them, and those of the source.
-fn derives(alloc: Global, declaration: &EnumDeclaration) -> Result<Vec<String>, AllocError> {
+/// Writes the attribute with the derives, on a line or on a line each: those that an element type needs, unless the author
+/// writes them, and those of the source.
+fn write_derives(
+    alloc: Global,
+    out: &mut String,
+    declaration: &EnumDeclaration,
+) -> Result<(), AllocError> {
     let mut derives = Vec::new(alloc);
     if !declaration.options.leaves_out_supertraits {
         for name in ["Clone", "Copy", "PartialEq", "Eq"] {
-            derives.push(String::from_str(alloc, name)?)?;
+            derives.push(name)?;
         }
     }
-    for derive in &declaration.derives {
-        derives.push(derive.clone()?)?;
+    for path in &declaration.derives {
+        derives.push(path.as_str())?;
     }
-    Ok(derives)
+    let line = derives.join(alloc, ", ")?;
+    let lines = derives.join(alloc, ",\n    ")?;
+    let texts = match line.len() {
+        0 => ["", "", ""],
+        1..90 => ["#[derive(", line.as_str(), ")]\n"],
+        _ => ["#[derive(\n    ", lines.as_str(), ",\n)]\n"],
+    };
+    for text in texts {
+        out.push_str(text)?;
+    }
+    Ok(())
 }
 
-/// The attribute with the derives, on a line or on a line each.
-fn derive(alloc: Global, derives: &[String]) -> Text {
-    let line = joined(alloc, derives)?;
-    if line.is_empty() {
-        Ok(line)
-    } else if line.len() < 90 {
-        format!(in alloc; "#[derive({line})]\n")
-    } else {
-        let mut out = String::from_str(alloc, "#[derive(\n")?;
-        for derive in derives {
-            write!(out, "    {derive},\n")?;
-        }
-        out.push_str(")]\n")?;
-        Ok(out)
-    }
-}
-
-/// Appends a variant, with its discriminant where the enum has discriminants.
-fn append_variant(
+/// Writes a variant, with its discriminant where the enum has discriminants.
+fn write_variant(
     alloc: Global,
     out: &mut String,
     variant: &Variant,
     has_discriminants: bool,
 ) -> Result<(), AllocError> {
-    let name = &variant.name;
-    out.push_str(lines(alloc, "    ", &variant.attributes)?.as_str())?;
-    write!(out, "    {name}")?;
-    if let Some(discriminant) = &variant.discriminant {
-        if has_discriminants {
-            let text = &discriminant.text;
-            write!(out, " = {text}")?;
+    write_lines(out, "    ", &variant.attributes)?;
+    let (begin, sign, literal) = match &variant.discriminant {
+        Some(discriminant) if has_discriminants => {
+            (" = ", discriminant.sign, discriminant.literal)
         }
+        _ => ("", "", ""),
+    };
+    for text in ["    ", variant.name, begin, sign, literal, ","] {
+        out.push_str(text)?;
     }
-    out.push(',')?;
-    if !variant.comment_after.is_empty() {
-        let comment = &variant.comment_after;
-        write!(out, " {comment}")?;
+    for comment in &variant.comments {
+        out.push(' ')?;
+        out.push_str(comment)?;
     }
-    out.push('\n')?;
-    Ok(())
+    out.push('\n')
 }

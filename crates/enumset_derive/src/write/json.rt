@@ -1,73 +1,144 @@
 //! The calls that write the sets of an element type in JSON and read them.
 
 use super::Text;
-use super::json_form::JsonForm;
-use super::json_reads::from_json;
-use super::json_writes::to_json;
-use crate::source::PlannedEnum;
-use std::alloc::Global;
+use super::parts::Parts;
+use super::templates::JSON;
+use enumset_derive_plan::{EnumDeclaration, IntegerType, Plan, Serialized, Store};
+use std::alloc::AllocError;
 
-/// What the calls of a number import.
-const NUMBER_USES: &str =
-    "    ghost use Rattle.std.specs.Prelude.{◌≡◌, ◌↔◌, IsOk, IfOk, IfErr, IsTrue};
+/// What is written where sets have a form in JSON. `@JSON_SIZE@` stands for the bits of its numbers, or for its words.
+#[derive(Clone, Copy)]
+struct Form {
+    /// What the calls of `set_json` are named by.
+    name: &'static str,
+    uses: &'static str,
+    doc: &'static str,
+    promise: &'static str,
+    /// What `from_json` reads by.
+    read_by: &'static str,
+    /// What is said where unknown bits or names are faults, and where they are left out.
+    denies: &'static str,
+    leaves_out: &'static str,
+    /// The last argument of the calls.
+    argument: &'static str,
+}
+
+const NUMBER: Form = Form {
+    name: "number",
+    uses: "    ghost use Rattle.std.specs.Prelude.{◌≡◌, ◌↔◌, IsOk, IfOk, IfErr, IsTrue};
     ghost use Rattle.enumset_repr.specs.BitSet.{is_subset, below};
     ghost use Rattle.enumset_repr.specs.Number.{number};
     ghost use Rattle.enumset_sets.specs.Elements.{valid_bits};
     ghost use Rattle.serde_json.specs.View.{view};
     ghost use Rattle.enumset.specs.Json.{number_value, set_of_number};
     ghost use Rattle.enumset.specs.declared.set_json.fault.JsonFault.TheVariants.{TooWide};
-";
+",
+    doc: "set's number, which JSON takes as a `u@JSON_SIZE@`.
+    ///
+    /// The only fault is [`set_json::JsonFault::TooWide`], of a member that is past its bits. It takes no memory.",
+    promise: "        ensures fits { IsOk result ↔ IsTrue (is_subset set.now (below @JSON_SIZE@)) }
+        ensures value { IfOk result (λ value. view value ≡ number_value (number set.now)) }
+        ensures fault { IfErr result (λ fault. fault ≡ TooWide) }",
+    read_by: "(valid_bits ⟦<@NAME@ as EnumSetType>⟧.elements) @JSON_SIZE@",
+    denies: "A bit that no variant has is a fault.",
+    leaves_out: "Bits that no variant has are left out.",
+    argument: ", set_json::JsonWidth::U@JSON_SIZE@",
+};
 
-/// What the calls of words import.
-const WORDS_USES: &str = "    ghost use Rattle.std.specs.Prelude.{◌≡◌, IfOk, IfErr};
+const WORDS: Form = Form {
+    name: "words",
+    uses: "    ghost use Rattle.std.specs.Prelude.{◌≡◌, IfOk, IfErr};
     ghost use Rattle.enumset_repr.specs.Words.{words};
     ghost use Rattle.enumset_sets.specs.Elements.{valid_bits};
     ghost use Rattle.serde_json.specs.View.{view};
     ghost use Rattle.enumset.specs.Json.{words_value, set_of_words};
     ghost use Rattle.enumset.specs.declared.set_json.fault.JsonFault.TheVariants.{OutOfMemory};
-";
+",
+    doc: "array of the set's words of 64 bits, the lowest first. The only fault is
+    /// [`set_json::JsonFault::OutOfMemory`].",
+    promise: "        ensures value { IfOk result (λ value. view value ≡ words_value (words set.now @JSON_SIZE@)) }
+        ensures fault { IfErr result (λ fault. fault ≡ OutOfMemory) }",
+    read_by: "(valid_bits ⟦<@NAME@ as EnumSetType>⟧.elements)",
+    denies: "A bit that no variant has is a fault.",
+    leaves_out: "Bits that no variant has are left out.",
+    argument: "",
+};
 
-/// The calls, if a form is asked for.
-pub(super) fn json(alloc: Global, planned: &PlannedEnum) -> Text {
-    let Some(form) = JsonForm::of(planned) else {
-        return Ok(String::new(alloc));
+const LIST: Form = Form {
+    name: "list",
+    uses: "    ghost use Rattle.std.specs.Prelude.{◌≡◌, IfOk, IfErr};
+    ghost use Rattle.serde_json.specs.View.{view};
+    ghost use Rattle.enumset.specs.Names.{names_of};
+    ghost use Rattle.enumset.specs.JsonNames.{@FORM@_value, set_of_@FORM@};
+    ghost use Rattle.enumset.specs.declared.set_json.fault.JsonFault.TheVariants.{OutOfMemory};
+",
+    doc: "array of the names of the set's members, in ascending order of their bits. The only fault is
+    /// [`set_json::JsonFault::OutOfMemory`].",
+    promise: "        ensures value { IfOk result (λ value. view value ≡ @FORM@_value
+            (names_of ⟦<@NAME@ as EnumSetType>⟧.elements ⟦<@NAME@ as EnumSetNames>⟧.names) set.now) }
+        ensures fault { IfErr result (λ fault. fault ≡ OutOfMemory) }",
+    read_by: "(names_of ⟦<@NAME@ as EnumSetType>⟧.elements ⟦<@NAME@ as EnumSetNames>⟧.names)",
+    denies: "A name that no variant has is a fault.",
+    leaves_out: "Names that no variant has are left out.",
+    argument: "",
+};
+
+const MAP_DOC: &str =
+    "object with the name of each of the set's members and `true`. The only fault is
+    /// [`set_json::JsonFault::OutOfMemory`].";
+
+/// The form that an enum asks for, and how many bits its numbers have, or how many words. A value in JSON holds no
+/// number of 128 bits: such a set is a number if its bits are below 64, else words.
+fn form_of(serialized: Serialized, plan: &Plan) -> (Form, usize) {
+    let words = match &plan.store {
+        Store::Integer(IntegerType::U128, _) => 2,
+        Store::Integer(_, _) => 1,
+        Store::Words(words) => words.len(),
     };
-    let name = planned.declaration.name.as_str();
-    let uses = uses(alloc, form)?;
-    let to_json = to_json(alloc, name, form)?;
-    let from_json = from_json(
-        alloc,
-        name,
-        form,
-        planned.declaration.options.denies_unknown,
-    )?;
-    let unknown = "Rattle.enumset.specs.declared.set_json.unknown.Unknown.TheVariants";
-    format!(in alloc;
-        "
-
-impl {name} {{
-{uses}    ghost use {unknown} as unknown;
-
-{to_json}
-
-{from_json}
-}}"
-    )
+    match serialized {
+        Serialized::Integer(IntegerType::U128) if plan.bit_width <= 64 => (NUMBER, 64),
+        Serialized::Integer(IntegerType::U128) | Serialized::Words => (WORDS, words),
+        Serialized::Integer(integer) => (NUMBER, integer.width() as usize),
+        Serialized::List => (LIST, 0),
+        Serialized::Map => {
+            let map = Form {
+                name: "map",
+                doc: MAP_DOC,
+                ..LIST
+            };
+            (map, 0)
+        }
+    }
 }
 
-/// What the calls of a form import.
-fn uses(alloc: Global, form: JsonForm) -> Text {
-    let call = form.call_name();
-    match form {
-        JsonForm::Number(_) => String::from_str(alloc, NUMBER_USES),
-        JsonForm::Words(_) => String::from_str(alloc, WORDS_USES),
-        JsonForm::List | JsonForm::Map => format!(in alloc;
-            "    ghost use Rattle.std.specs.Prelude.{{◌≡◌, IfOk, IfErr}};
-    ghost use Rattle.serde_json.specs.View.{{view}};
-    ghost use Rattle.enumset.specs.Names.{{names_of}};
-    ghost use Rattle.enumset.specs.JsonNames.{{{call}_value, set_of_{call}}};
-    ghost use Rattle.enumset.specs.declared.set_json.fault.JsonFault.TheVariants.{{OutOfMemory}};
-"
-        ),
+/// Writes the calls, if a form is asked for.
+pub(super) fn write_json(
+    parts: &mut Parts,
+    out: &mut String,
+    declaration: &EnumDeclaration,
+    plan: &Plan,
+) -> Result<(), AllocError> {
+    let options = &declaration.options;
+    let Some(serialized) = options.serialized else {
+        return Ok(());
+    };
+    let (form, size) = form_of(serialized, plan);
+    let (unknown, unknown_doc) = match options.denies_unknown {
+        true => ("Refuse", form.denies),
+        false => ("Drop", form.leaves_out),
+    };
+    parts.set("JSON_SIZE", size.to_string(parts.alloc)?)?;
+    for (name, template) in [
+        ("FORM", form.name),
+        ("UNKNOWN", unknown),
+        ("UNKNOWN_DOC", unknown_doc),
+        ("JSON_USES", form.uses),
+        ("JSON_DOC", form.doc),
+        ("JSON_PROMISE", form.promise),
+        ("JSON_READ_BY", form.read_by),
+        ("JSON_ARGUMENT", form.argument),
+    ] {
+        parts.define(name, template)?;
     }
+    parts.write(out, JSON)
 }

@@ -1,7 +1,8 @@
 //! Layout in lines of at most 100 columns.
 
 use super::Text;
-use std::alloc::Global;
+use std::alloc::{AllocError, Global};
+use std::convert::AsStr;
 
 /// How a new line of a list in an `impl` begins.
 pub(super) const LIST_START: &str = "\n        ";
@@ -27,32 +28,16 @@ pub(super) fn wrapped(alloc: Global, start: &str, room: usize, words: &[String])
     Ok(out)
 }
 
-/// Whether words fit the columns that are left on a line, each with a space or a mark after it.
-pub(super) fn fits(room: usize, words: &[String]) -> bool {
-    let mut length = 0usize;
-    for word in words {
-        length = length.saturating_add(word.len()).saturating_add(1);
-    }
-    length <= room
-}
-
 /// Texts on a line each, after the indent.
-pub(super) fn lines(alloc: Global, indent: &str, texts: &[String]) -> Text {
-    let mut out = String::new(alloc);
+pub(super) fn write_lines<S: AsStr>(
+    out: &mut String,
+    indent: &str,
+    texts: &[S],
+) -> Result<(), AllocError> {
     for text in texts {
-        writeln!(out, "{indent}{text}")?;
-    }
-    Ok(out)
-}
-
-/// Texts with a comma and a space between them.
-pub(super) fn joined(alloc: Global, texts: &[String]) -> Text {
-    let mut out = String::new(alloc);
-    for text in texts {
-        if !out.is_empty() {
-            out.push_str(", ")?;
-        }
+        out.push_str(indent)?;
         out.push_str(text.as_str())?;
+        out.push('\n')?;
     }
-    Ok(out)
+    Ok(())
 }

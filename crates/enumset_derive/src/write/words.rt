@@ -1,69 +1,92 @@
-//! The words that lists are made of.
+//! Lists with a word for each variant.
 
 use super::Text;
-use super::layout::{LIST_START, lines, wrapped};
-use crate::source::PlannedEnum;
+use super::layout::{LIST_START, wrapped, write_lines};
+use enumset_derive_plan::{EnumDeclaration, Plan};
 use std::alloc::{AllocError, Global};
 
-/// What stands in a list for a variant.
-#[derive(Clone, Copy)]
-pub(super) enum Word {
-    /// Its name.
-    Variant,
-    /// Its bit and its name.
-    BitAndVariant,
-    /// An arm that matches it and gives its bit.
-    BitArm,
-    /// An arm that matches it and writes its name.
-    NameArm,
-    /// Its bit, in a list of a clause.
-    Bit,
-    /// Its value, in a list of a clause.
-    Value,
-    /// Its name as a text, in a list of a clause.
-    Name,
+/// A word for each variant, after these: what a pattern becomes, in which `@VARIANT@` stands for the name and `@BIT@` for
+/// the bit.
+fn push_words(
+    alloc: Global,
+    words: &mut Vec<String>,
+    pattern: &str,
+    declaration: &EnumDeclaration,
+    plan: &Plan,
+) -> Result<(), AllocError> {
+    for (variant, bit) in declaration.variants.iter().zip(plan.bits.iter()) {
+        let bit = bit.to_string(alloc)?;
+        let mut word = String::new(alloc);
+        for piece in pattern.split('@') {
+            word.push_str(match piece {
+                "VARIANT" => variant.name,
+                "BIT" => bit.as_str(),
+                _ => piece,
+            })?;
+        }
+        words.push(word)?;
+    }
+    Ok(())
 }
 
-impl Word {
-    /// The word of a variant of this name and with this bit.
-    fn of(self, alloc: Global, name: &str, bit: u32) -> Text {
-        match self {
-            Word::Variant => String::from_str(alloc, name),
-            Word::BitAndVariant => format!(in alloc; "{bit} {name}"),
-            Word::BitArm => format!(in alloc; "Self::{name} => {bit},"),
-            Word::NameArm => format!(in alloc; "Self::{name} => f.write_str(\"{name}\"),"),
-            Word::Bit => format!(in alloc; "{bit} ∷"),
-            Word::Value => format!(in alloc; "variant.{name} ∷"),
-            Word::Name => format!(in alloc; "codes \"{name}\" ∷"),
-        }
-    }
+/// The list of a clause with such words, the first in this room.
+pub(super) fn list(
+    alloc: Global,
+    room: usize,
+    pattern: &str,
+    declaration: &EnumDeclaration,
+    plan: &Plan,
+) -> Text {
+    let mut words = Vec::new(alloc);
+    push_words(alloc, &mut words, pattern, declaration, plan)?;
+    words.push(String::from_str(alloc, "[]")?)?;
+    wrapped(alloc, LIST_START, room, &words)
+}
 
-    /// Such a word for each variant of an enum, after these words.
-    pub(super) fn of_each(
-        self,
-        alloc: Global,
-        words: Vec<String>,
-        planned: &PlannedEnum,
-    ) -> Result<Vec<String>, AllocError> {
-        let mut words = words;
-        let variants = planned.declaration.variants.iter();
-        for (variant, bit) in variants.zip(planned.plan.bits.iter()) {
-            words.push(self.of(alloc, variant.name.as_str(), *bit)?)?;
-        }
-        Ok(words)
-    }
+/// The match with such arms, on lines of their own.
+pub(super) fn arms(
+    alloc: Global,
+    pattern: &str,
+    declaration: &EnumDeclaration,
+    plan: &Plan,
+) -> Text {
+    let mut words = Vec::new(alloc);
+    push_words(alloc, &mut words, pattern, declaration, plan)?;
+    let mut out = String::from_str(alloc, "        match self {\n")?;
+    write_lines(&mut out, "            ", &words)?;
+    out.push_str("        }\n")?;
+    Ok(out)
+}
 
-    /// The list of a clause with such words, the first in this room.
-    pub(super) fn list(self, alloc: Global, room: usize, planned: &PlannedEnum) -> Text {
-        let mut words = self.of_each(alloc, Vec::new(alloc), planned)?;
-        words.push(String::from_str(alloc, "[]")?)?;
-        wrapped(alloc, LIST_START, room, &words)
-    }
-
-    /// The match with such arms, on lines of their own.
-    pub(super) fn arms(self, alloc: Global, planned: &PlannedEnum) -> Text {
-        let arms = self.of_each(alloc, Vec::new(alloc), planned)?;
-        let arms = lines(alloc, "            ", &arms)?;
-        format!(in alloc; "        match self {{\n{arms}        }}\n")
-    }
+/// The call of a macro with the enum's name and such words, after what it begins with. `room` is how many columns are left
+/// on its line, and on a line of its own.
+pub(super) fn macro_call(
+    alloc: Global,
+    begin: [&str; 2],
+    rooms: [usize; 2],
+    pattern: &str,
+    declaration: &EnumDeclaration,
+    plan: &Plan,
+) -> Text {
+    let mut name = String::from_str(alloc, declaration.name)?;
+    name.push(':')?;
+    let mut words = Vec::new(alloc);
+    words.push(name)?;
+    push_words(alloc, &mut words, pattern, declaration, plan)?;
+    let [name, first] = begin;
+    let [short, long] = rooms;
+    let mut text = words.join(alloc, " ")?;
+    let (start, end) = if text.len() < short {
+        ("!(", ")")
+    } else {
+        text = wrapped(alloc, "\n            ", long, &words)?;
+        ("!(\n            ", "\n        )")
+    };
+    let mut out = String::from_str(alloc, "        ")?;
+    out.push_str(name)?;
+    out.push_str(start)?;
+    out.push_str(first)?;
+    out.push_str(text.as_str())?;
+    out.push_str(end)?;
+    Ok(out)
 }

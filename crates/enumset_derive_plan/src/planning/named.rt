@@ -107,7 +107,7 @@ fn place_of_name(variants: &[Variant], variant: &Variant) -> Option<Place>
     ensures { result ≡ option_map (λ w. w.place) (find (has_name variant.now) variants.now) }
 {
     for other in variants {
-        if other.name.as_str() == variant.name.as_str() {
+        if other.name == variant.name {
             return Some(other.place);
         }
     }

@@ -1,0 +1,83 @@
+//! What lines `use enumset::..;` import.
+
+use super::reader::{Reader, Stop};
+use crate::source::Item;
+use crate::tokens::{Kind, Token};
+use enumset_derive_plan::DeriveError;
+use std::alloc::{AllocError, Global};
+use std::collections::BTreeSet;
+use std::mem;
+
+impl<'a> Reader<'a, '_> {
+    ghost use Rattle.std.specs.Prelude.{◌<◌, ◌≤◌, OnOk};
+    ghost use Rattle.enumset_derive.specs.Reading.{left};
+
+    /// Reads what a line `use enumset::..;` imports. Another item that begins with `use`, or one without an end, goes
+    /// through.
+    pub(super) fn read_use(&mut self) -> Result<(), DeriveError>
+        ensures { OnOk result (left self.new < left self.old) }
+    {
+        let begin = self.token.begin;
+        self.advance_past_blanks()?;
+        if self.token.is("enumset") {
+            self.advance_past_blanks()?;
+            if self.token.is_mark(':') {
+                return self.read_imports(begin);
+            }
+        }
+        if !self.token.is_end() {
+            self.skip_item()?;
+        }
+        Ok(())
+    }
+
+    /// Reads what stands after `use enumset::`, in a line that begins there.
+    fn read_imports(&mut self, begin: usize) -> Result<(), DeriveError>
+        ensures { OnOk result (left self.new ≤ left self.old) }
+    {
+        let rest = self.rest;
+        self.skip_to(Stop::Mark(';', 0))?;
+        if !self.token.is_end() {
+            let tokens = self.passed(rest);
+            insert_names(self.alloc, &mut self.source.imports, tokens)?;
+            self.advance()?;
+            self.source.pass_on(begin, self.token.begin)?;
+            self.source.items.push(Item::Imports)?;
+        }
+        Ok(())
+    }
+}
+
+/// Inserts what is imported by these tokens after `use enumset::`, with the `;` at their end.
+fn insert_names(
+    alloc: Global,
+    names: &mut BTreeSet<String>,
+    tokens: &[Token],
+) -> Result<(), AllocError> {
+    let mut name = String::new(alloc);
+    let mut has_gap = false;
+    let mut is_grouped = false;
+    for token in tokens {
+        let is_end = match token.kind {
+            Kind::Mark(';') => token.depth == 0,
+            Kind::Mark('}') => token.depth == 0 && is_grouped,
+            Kind::Mark(',') => token.depth == 1 && is_grouped,
+            _ => false,
+        };
+        if is_end && !name.is_empty() {
+            names.insert(mem::replace(&mut name, String::new(alloc)))?;
+        }
+        if token.is_mark('{') && token.depth == 1 && !is_grouped && name.is_empty() {
+            is_grouped = true;
+        } else if is_end || token.is_blank() {
+            has_gap = !is_end;
+        } else {
+            if has_gap && !name.is_empty() {
+                name.push(' ')?;
+            }
+            name.push_str(token.text)?;
+            has_gap = false;
+        }
+    }
+    Ok(())
+}

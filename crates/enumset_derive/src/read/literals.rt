@@ -1,0 +1,77 @@
+//! The numbers that literals of integers write.
+
+use crate::tokens::is_digit;
+use enumset_derive_plan::{Number, Reason};
+
+/// The number that a literal writes, or that a minus sign before it makes of it.
+pub(super) fn number_of(literal: &str, is_negative: bool) -> Result<Number, Reason> {
+    let (radix, digits) = radix_of(literal);
+    let mut value = Some(0u128);
+    let mut exponent = None;
+    let mut has_digit = false;
+    for (at, character) in digits.char_indices() {
+        match character.to_digit(16) {
+            Some(digit) if digit < radix => {
+                exponent = exponent_with(value, exponent, radix, digit);
+                value = value_with(value, radix, digit);
+                has_digit = true;
+            }
+            _ if character == '_' => {}
+            _ if is_integer_type(digits.get(at..).unwrap_or("")) => break,
+            _ => return Err(Reason::NotALiteral),
+        }
+    }
+    match (value, exponent) {
+        _ if !has_digit => Err(Reason::NotALiteral),
+        (Some(0), _) => Ok(Number::Small(0)),
+        (Some(number), _) if is_negative => Ok(Number::Negative(number)),
+        (Some(number), _) => Ok(Number::Small(number)),
+        (None, Some(exponent)) if !is_negative => Ok(Number::PowerOfTwo(exponent)),
+        _ => Err(Reason::LiteralTooLarge),
+    }
+}
+
+/// The base of a literal, and what stands after its prefix. Of a text that begins with no digit, that is nothing.
+fn radix_of(literal: &str) -> (u32, &str) {
+    let mut characters = literal.chars();
+    let first = characters.next().unwrap_or(' ');
+    match (first, characters.next()) {
+        ('0', Some('x')) => (16, characters.as_str()),
+        ('0', Some('o')) => (8, characters.as_str()),
+        ('0', Some('b')) => (2, characters.as_str()),
+        _ if is_digit(first) => (10, literal),
+        _ => (10, ""),
+    }
+}
+
+/// The number of some digits and one more, unless it is past 2^128 - 1.
+fn value_with(value: Option<u128>, radix: u32, digit: u32) -> Option<u128> {
+    value?
+        .checked_mul(u128::from(radix))?
+        .checked_add(u128::from(digit))
+}
+
+/// Which power of two the number of some digits and one more is, if it is one; unless the base is decimal, or the power is
+/// past 2^32 - 1.
+fn exponent_with(
+    value: Option<u128>,
+    exponent: Option<u32>,
+    radix: u32,
+    digit: u32,
+) -> Option<u32> {
+    match (value, digit) {
+        (Some(0), 1 | 2 | 4 | 8) => Some(digit.trailing_zeros()),
+        (Some(0), _) => None,
+        (_, 0) if radix != 10 => exponent?.checked_add(radix.trailing_zeros()),
+        _ => None,
+    }
+}
+
+/// Whether a text is the name of an integer type.
+fn is_integer_type(text: &str) -> bool {
+    let width = text
+        .strip_prefix('u')
+        .or(text.strip_prefix('i'))
+        .unwrap_or("");
+    matches!(width, "8" | "16" | "32" | "64" | "128" | "size")
+}

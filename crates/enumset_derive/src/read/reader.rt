@@ -1,0 +1,115 @@
+//! A reader at a token of a source text.
+
+use crate::source::Source;
+use crate::tokens::{Kind, Token};
+use enumset_derive_plan::{DeriveError, Fault, Reason};
+use std::alloc::Global;
+
+/// A token that a reader goes on to.
+#[derive(Clone, Copy)]
+pub(super) enum Stop {
+    /// One that is neither a comment nor space.
+    NoBlank,
+    /// Such a one in no brackets.
+    Outside,
+    /// This mark in so many brackets.
+    Mark(char, usize),
+    /// The end of an item.
+    ItemEnd,
+    /// The end of a line, or what stands on it that is no comment, or documents what follows.
+    LineEnd,
+}
+
+impl Stop {
+    pub fn is_at(self, token: &Token) -> bool {
+        let is_found = match self {
+            Stop::NoBlank => !token.is_blank(),
+            Stop::Outside => !token.is_blank() && token.depth == 0,
+            Stop::Mark(mark, depth) => token.is_mark(mark) && token.depth == depth,
+            Stop::ItemEnd => token.depth == 0 && matches!(token.kind, Kind::Mark(';' | '}')),
+            Stop::LineEnd => match token.kind {
+                Kind::Space => token.text.contains('\n'),
+                Kind::Comment => false,
+                _ => true,
+            },
+        };
+        is_found || token.is_end()
+    }
+}
+
+/// A reader at a token of a source text.
+#[derive(Drop)]
+pub(super) struct Reader<'a, 'b> {
+    pub alloc: Global,
+    pub token: Token<'a>,
+    /// The tokens after that one.
+    pub rest: &'b [Token<'a>],
+    /// What has been read.
+    pub source: Source<'a>,
+}
+
+impl<'a, 'b> Reader<'a, 'b> {
+    ghost use Rattle.std.specs.Prelude.{◌<◌, ◌≤◌, OnOk};
+    ghost use Rattle.enumset_derive.specs.Reading.{left};
+
+    /// Goes on to the next token. It fails at the end of the text, and before a token from which on nothing can be read.
+    pub fn advance(&mut self) -> Result<(), DeriveError>
+        ensures { OnOk result (left self.new < left self.old) }
+    {
+        let [next, rest @ ..] = self.rest else {
+            return Err(self.wanted("an item"));
+        };
+        if let Kind::Fault(reason) = next.kind {
+            return Err(fault_at(next, reason));
+        }
+        self.token = *next;
+        self.rest = rest;
+        Ok(())
+    }
+
+    /// Goes on to the first token that is so, unless the reader is at one, or to the end of the text.
+    pub fn skip_to(&mut self, wanted: Stop) -> Result<(), DeriveError>
+        ensures { OnOk result (left self.new ≤ left self.old) }
+    {
+        while !wanted.is_at(&self.token) {
+            self.advance()?;
+        }
+        Ok(())
+    }
+
+    /// Goes on to the next token that is neither a comment nor space.
+    pub fn advance_past_blanks(&mut self) -> Result<(), DeriveError>
+        ensures { OnOk result (left self.new < left self.old) }
+    {
+        self.advance()?;
+        self.skip_to(Stop::NoBlank)
+    }
+
+    /// The tokens of this list, which the reader was before, up to its own.
+    pub fn passed(&self, rest: &'b [Token<'a>]) -> &'b [Token<'a>] {
+        rest.get(..rest.len().saturating_sub(self.rest.len()))
+            .unwrap_or(&[])
+    }
+
+    /// What stands in the text from a token on, up to the reader's and with it.
+    pub fn text_from(&self, begin: &Token) -> &'a str {
+        let end = self.token.begin.saturating_add(self.token.text.len());
+        self.source.text.get(begin.begin..end).unwrap_or("")
+    }
+
+    /// A fault where the reader is.
+    pub fn fault(&self, reason: Reason) -> DeriveError {
+        fault_at(&self.token, reason)
+    }
+
+    pub fn wanted(&self, wanted: &'static str) -> DeriveError {
+        self.fault(Reason::Wanted(wanted))
+    }
+}
+
+pub(super) fn fault_at(token: &Token, reason: Reason) -> DeriveError {
+    DeriveError::Fault(Fault {
+        place: token.place,
+        reason,
+    })
+}
