@@ -3,6 +3,7 @@ use Rattle.std.proofs.Common.{◌≡◌, ◌==◌, ℕ, ◌+◌, ◌<◌, ◌≤
 use Rattle.std.proofs.lemmas.List.{take_all, length-drop}
 use Rattle.std.specs.List.{slice_split, onto_first, position, position_or_len}
 use Rattle.std.specs.Str.Lines.{strip_carriage_return, lines_of_parts}
+use Rattle.std.proofs.lemmas.List.Sums.{count_by-le-length}
 use Rattle.std.proofs.lemmas.List.Splits.{slice_split_first, length-slice_split}
 use Rattle.std.proofs.lemmas.Bool.{ne_eqb}
 use Rattle.std.proofs.lemmas.Bool.Decides.{nat_tests}
@@ -45,24 +46,19 @@ lines_of-past s h l =
     ap lines_of_parts (slice_split-past p s (position-past (position_or_len p s) (length s) h))
     ∙ ap (λ b. cond b [] (s ∷ [])) (ne_eqb (length s) 0 (λ z. omega arith))
 
--- a text has no more lines than bytes
-one_or_none : (b : Bool) (x : List ℕ) → length (cond b [] (x ∷ [])) ≤ 1
-one_or_none true x = omega arith
-one_or_none false x = omega arith
+-- a text has at most one line more than bytes
+length-lines_of_parts-last : (b : Bool) (x : List ℕ) → length (cond b [] (x ∷ [])) ≤ 1
+length-lines_of_parts-last true x = omega arith
+length-lines_of_parts-last false x = omega arith
 
-length-lines_of_parts-onto : (x : ℕ) (parts : List (List ℕ)) → length (lines_of_parts (onto_first x parts)) ≤ length (lines_of_parts parts) + 1
-length-lines_of_parts-onto x [] = omega arith
-length-lines_of_parts-onto x (y ∷ []) = omega (arith, one_or_none (length (x ∷ y) == 0) (x ∷ y))
-length-lines_of_parts-onto x (y ∷ z ∷ more) = omega arith
+length-lines_of_parts : (parts : List (List ℕ)) → length (lines_of_parts parts) ≤ length parts
+length-lines_of_parts [] = omega arith
+length-lines_of_parts (x ∷ []) = length-lines_of_parts-last (length x == 0) x
+length-lines_of_parts (x ∷ y ∷ more) = omega (arith, length-lines_of_parts (y ∷ more))
 
-length-lines_of-cons : (x : ℕ) (xs : List ℕ) (b : Bool) → length (lines_of xs) ≤ length xs → length (lines_of_parts (cond b ([] ∷ slice_split (λ b. b == 10) xs) (onto_first x (slice_split (λ b. b == 10) xs)))) ≤ length xs + 1
-length-lines_of-cons x xs true h =
-    let parts : List (List ℕ) = slice_split (λ b. b == 10) xs in
-    rw (lines_of_parts-cons [] parts (omega (arith, length-slice_split (λ b. b == 10) xs))) (omega arith)
-length-lines_of-cons x xs false h = omega (arith, length-lines_of_parts-onto x (slice_split (λ b. b == 10) xs))
-
-pub lines_are_few : (s : List ℕ) → length (lines_of s) ≤ length s
-lines_are_few [] = omega arith
-lines_are_few (x ∷ xs) = omega (arith, length-lines_of-cons x xs (x == 10) (lines_are_few xs))
+pub lines_are_few : (s : List ℕ) → length (lines_of s) ≤ length s + 1
+lines_are_few s =
+    let feed : ℕ → Bool = λ b. b == 10 in
+    omega (arith, length-lines_of_parts (slice_split feed s), length-slice_split feed s, count_by-le-length feed s)
 
 pub ruleset line_steps = (lines_of-at, lines_of-past, take_rest)

@@ -2,9 +2,7 @@
 
 ghost use Rattle.std.specs.Prelude.{◌≡◌, ◌≢◌, ◌⊎◌, ◌+◌, ◌≤◌, [], length, take, IfOk, IfErr, IfSome, OnOk, OnErr, IsOk, IsOkAnd, vec_capacity};
 ghost use Rattle.std.specs.Io.KnownBytes.{Appends};
-ghost use Rattle.enumset_run.specs.Written.{AppendsFrontOf};
-ghost use Rattle.enumset_run.specs.Arguments.{type_of_arguments};
-ghost use Rattle.enumset_run.specs.Faults.{IsFaultOver};
+ghost use Rattle.enumset_run.specs.Faults.{type_of_arguments, IsFaultOver, AppendsFrontOf};
 ghost use Rattle.enumset_kinds.specs.Kinds.{answer_over};
 
 use crate::fault::ProgramFault;
@@ -91,7 +89,8 @@ pub(crate) fn answer_input<R: Read + Drop, W: Write>(
 {
     let input = read_input(room, reader)?;
     let output = serve_worked(alloc, kind, &input)?;
-    write_output(writer, &output)
+    write_output(writer, &output)?;
+    Ok(())
 }
 
 /// The bytes of a reader until its end, or until there is one too many, in an empty vector that has room for

@@ -21,14 +21,14 @@ impl<'a> Model for Lines<'a> {
 }
 
 impl<'a> Lines<'a> {
-    ghost use Rattle.std.specs.Prelude.{◌≤◌, length};
+    ghost use Rattle.std.specs.Prelude.{◌≤◌, ◌+◌, length};
     ghost use Rattle.enumset_commands.specs.Lines.{lines_of};
 
-    /// The lines of a text, which are no more than its bytes.
+    /// The lines of a text, of which there is at most one more than it has bytes.
     #[tactic(auto, using(crate::proofs::Lines::lines_are_few))]
     pub fn new(text: &'a [u8]) -> Lines<'a>
         ensures lines { result ≡ lines_of text.now }
-        ensures few { length result ≤ length text.now }
+        ensures few { length result ≤ length text.now + 1 }
     {
         Lines { rest: text }
     }
