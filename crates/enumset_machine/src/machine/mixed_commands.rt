@@ -19,8 +19,6 @@ use enumset_sets::{EnumSetType, EnumSetTypeWithRepr};
 use std::alloc::{AllocError, Global};
 
 impl<T: EnumSetTypeWithRepr> Run for MixedEnumSet<T> {
-    ghost use Rattle.enumset_machine.specs.Runs.{mixed_plan};
-
     type Command = MixedCommand;
 
     ghost plan = { mixed_plan };

@@ -186,6 +186,7 @@ impl<T: EnumSetTypeWithRepr> RunSet for MixedEnumSet<T> {
         MixedEnumSet::<T>::iter(self)
     }
 
+    #[tactic(auto, using(enumset_mixed::specs::Laws::Items::gave_first))]
     fn next(items: &mut MixedEnumSetIter<T>) -> Option<u32> {
         match items.next() {
             Some(value) => Some(bit_of(value)),

@@ -43,8 +43,7 @@ impl<S: RunSet> Runner<S> {
         }
     }
 
-    /// Carries out one command that every run has. A refused command changes nothing. Only a reply of words takes
-    /// memory.
+    /// Carries out one command that every run has. A refused command changes nothing. Only words take memory.
     pub(super) fn step(&mut self, alloc: Global, command: &Command) -> Result<Reply, AllocError>
         ensures succeeds { takes_memory (outcome_by S.rules plan self.old command.now).reply
             ≡ false → IsOk result }
