@@ -1,6 +1,5 @@
 -- States that reply alike are the same: `contains` tells each bit of a set, and `next` each item of a list.
 use Rattle.std.proofs.Common.{◌≡◌, ◌↔◌, ℕ, Bool, true, false, nat_lt, ◌<◌, List, [], ◌∷◌, map, if◌then◌else◌, length, refl, ap, sym, ◌∙◌, arith}
-use Rattle.std.proofs.lemmas.Bool.{false≢true}
 use Rattle.std.proofs.lemmas.Bool.Decides.{nat_tests}
 use Rattle.std.proofs.lemmas.List.{length-set, get_or-set_same, ext_get_or}
 use Rattle.enumset_repr.specs.BitSet.{BitSet, empty, contains, below}
@@ -94,10 +93,10 @@ truth_is : {a b : Bool} → Truth a ≡ Truth b → a ≡ b
 truth_is h = cc
 
 by_test : (v a b : Bool) → (a ≡ true → v ≡ true) → (b ≡ true → v ≡ true) → (v ≡ true → a ≡ b) → a ≡ b
-by_test true a b of_a of_b same = same refl
-by_test false true b of_a of_b same = absurd (false≢true (of_a refl))
-by_test false false true of_a of_b same = absurd (false≢true (of_b refl))
-by_test false false false of_a of_b same = refl
+by_test v true true of_a of_b same = refl
+by_test v false false of_a of_b same = refl
+by_test v true false of_a of_b same = same (of_a refl)
+by_test v false true of_a of_b same = same (of_b refl)
 
 contains_reply : (valid : BitSet) (s : State) (r q : ℕ) → contains valid q ≡ true → r < 4 → (outcome_by (valid_rules valid) plan s (Contains r q)).reply ≡ Truth (contains (set_at s r) q)
 unfolding plan
