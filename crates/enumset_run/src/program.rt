@@ -89,8 +89,7 @@ pub(crate) fn answer_input<R: Read + Drop, W: Write>(
 {
     let input = read_input(room, reader)?;
     let output = serve_worked(alloc, kind, &input)?;
-    write_output(writer, &output)?;
-    Ok(())
+    write_output(writer, &output)
 }
 
 /// The bytes of a reader until its end, or until there is one too many, in an empty vector that has room for
