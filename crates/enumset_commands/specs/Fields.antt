@@ -1,7 +1,6 @@
 -- The fields of a command, which are tokens, and the operands that they write.
 --     is_empty      whether a list of bytes is empty
---     is_number      whether a token is made of decimal digits
---     field, register, bit, width, value, count, word      the number that a field writes, if it fits
+--     value, field, register, count, bit, width, word      the number that a field writes, if it fits
 --     one, two, three      the numbers of exactly one field, two or three, if each of them is read so
 --     words_of      the numbers of words that tokens write, if each of them is one
 --     register_and_words      the numbers of a register and of any number of words
@@ -13,18 +12,21 @@ abbrev pub is_empty : List ℕ → Bool
 is_empty [] = true
 is_empty (b ∷ bs) = false
 
--- one decimal digit or more, and nothing else
-abbrev pub is_number : List ℕ → Bool
-is_number token = not (is_empty token) && all_ascii_digits token
+-- the number of one decimal digit or more and nothing else, if it has at most 128 bits
+abbrev pub value : List ℕ → Option ℕ
+value token =
+    if not (is_empty token) && all_ascii_digits token && nat_lt (digits_value 10 token) (2 ^ 128) then Some (digits_value 10 token) else None
 
--- the number that a token of decimal digits writes, if that has at most this many bits
+-- a value of at most so many bits
 abbrev pub field : ℕ → List ℕ → Option ℕ
-field bits token =
-    if is_number token && nat_lt (digits_value 10 token) (2 ^ bits) then Some (digits_value 10 token) else None
+field bits token = option_and_then (λ n. if nat_lt n (2 ^ bits) then Some n else None) (value token)
 
--- a register and a count are numbers of 8 bits, a bit and a width of 32, a word of 64, a value of 128
+-- a register and a count have 8 bits, a bit and a width 32, a word 64
 abbrev pub register : List ℕ → Option ℕ
 register token = field 8 token
+
+abbrev pub count : List ℕ → Option ℕ
+count token = field 8 token
 
 abbrev pub bit : List ℕ → Option ℕ
 bit token = field 32 token
@@ -32,34 +34,22 @@ bit token = field 32 token
 abbrev pub width : List ℕ → Option ℕ
 width token = field 32 token
 
-abbrev pub value : List ℕ → Option ℕ
-value token = field 128 token
-
-abbrev pub count : List ℕ → Option ℕ
-count token = field 8 token
-
 abbrev pub word : List ℕ → Option ℕ
 word token = field 64 token
 
 -- exactly so many fields, each of which is read in its own way
 abbrev pub one : (List ℕ → Option ℕ) → List (List ℕ) → Option ℕ
-one first [] = None
 one first (x ∷ []) = first x
-one first (x ∷ y ∷ more) = None
+one first other = None
 
 abbrev pub two : (List ℕ → Option ℕ) → (List ℕ → Option ℕ) → List (List ℕ) → Option (ℕ × ℕ)
-two first second [] = None
-two first second (x ∷ []) = None
 two first second (x ∷ y ∷ []) = option_and_then (λ a. option_map (λ b. (a, b)) (second y)) (first x)
-two first second (x ∷ y ∷ z ∷ more) = None
+two first second other = None
 
 abbrev pub three : (List ℕ → Option ℕ) → (List ℕ → Option ℕ) → (List ℕ → Option ℕ) → List (List ℕ) → Option (ℕ × ℕ × ℕ)
-three first second third [] = None
-three first second third (x ∷ []) = None
-three first second third (x ∷ y ∷ []) = None
 three first second third (x ∷ y ∷ z ∷ []) =
     option_and_then (λ a. option_and_then (λ b. option_map (λ c. (a, b, c)) (third z)) (second y)) (first x)
-three first second third (w ∷ x ∷ y ∷ z ∷ more) = None
+three first second third other = None
 
 abbrev pub words_of : List (List ℕ) → Option (List ℕ)
 words_of [] = Some []

@@ -1,6 +1,4 @@
-pub mod TextFaults
 pub mod Fields
 pub mod Verbs
 pub mod Lines
-pub mod MixedLines
 pub mod Texts

@@ -2,18 +2,22 @@
 --     lines_of      the lines: a line feed ends one, and a carriage return immediately before it is dropped
 --     tokens_of      the tokens of a line, which spaces separate
 --     command_of      the command that the tokens of a line write
+--     mixed_command_of      the command of mixed sets that they write
 --     before      a command before those of the lines after it, or the fault of a line that is not a command
 --     line_then, commands_from      the commands of a line and of those after it;  the commands of lines
 --     commands_of_text      the commands of an input, or the fault of its first line that is not a command, by what the tokens of a line write
-use Rattle.std.specs.Prelude.{◌==◌, ℕ, ◌+◌, not, List, [], ◌∷◌, filter, Option, Some, None, option_and_then, Result, Ok, Err}
+use Rattle.std.specs.Prelude.{◌==◌, ℕ, ◌+◌, not, List, [], ◌∷◌, filter, Option, Some, None, option_map, option_and_then, Result, Ok, Err}
 use Rattle.std.specs.List.{slice_split}
+use Rattle.std.specs.Option.{option_or}
 use Rattle.std.specs.Str.{byte}
 use Rattle.std.specs.Str.Lines as text
 use Rattle.enumset_commands.specs.declared.command.Command.{Command}
+use Rattle.enumset_commands.specs.declared.mixed_command.MixedCommand.{MixedCommand}
+use Rattle.enumset_commands.specs.declared.mixed_command.MixedCommand.TheVariants.{Common}
 use Rattle.enumset_commands.specs.declared.text_fault.TextFault.{TextFault}
 use Rattle.enumset_commands.specs.declared.text_fault.TextFault.TheVariants.{BadLine}
 use Rattle.enumset_commands.specs.Fields.{is_empty}
-use Rattle.enumset_commands.specs.Verbs.{verb_of}
+use Rattle.enumset_commands.specs.Verbs.{verb_of, own_verb_of}
 
 -- A line feed ends a line. A carriage return immediately before it is dropped, and a last line without a
 -- line feed counts unless it is empty. std's `lines` says just this.
@@ -28,6 +32,11 @@ tokens_of line = filter (λ token. not (is_empty token)) (slice_split (λ b. b =
 abbrev pub command_of : List (List ℕ) → Option Command
 command_of [] = None
 command_of (name ∷ fields) = option_and_then (λ verb. verb fields) (verb_of name)
+
+-- one of mixed sets alone, or one of every run
+abbrev pub mixed_command_of : List (List ℕ) → Option MixedCommand
+mixed_command_of [] = None
+mixed_command_of (name ∷ fields) = option_or (option_and_then (λ verb. verb fields) (own_verb_of name)) (option_map Common (command_of (name ∷ fields)))
 
 -- the command of line n, if it is one, before those of the lines after it
 abbrev pub before : {C : Type 0} → Option C → ℕ → Result (List C) TextFault → Result (List C) TextFault

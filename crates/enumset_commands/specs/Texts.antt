@@ -1,43 +1,41 @@
--- The texts of replies.
---     refusal_text, truth_text      the text of a refusal;  that of yes or no
+-- The texts of replies and of faults, and where a fault may come.
+--     refusal_text      the text of a refusal
 --     words_text      a space before each word, in decimal
---     order_text      the text of how two sets compare
 --     text_of      the text of a reply
 --     text      the texts of replies, each followed by one line feed
-use Rattle.std.specs.Prelude.{ℕ, Bool, true, false, List, ◌++◌, codes}
+--     fault_text      the text of a fault
+--     IsFaultOf      the fault may come in place of this answer
+--     IsReadAs      text that writes this, or nothing, is read as this: what it writes, nothing, or an error
+use Rattle.std.specs.Prelude.{◌≡◌, ℕ, true, false, List, ◌++◌, codes, Option, Some, None, Result, Ok, Err}
 use Rattle.std.specs.List.{flat_map}
+use Rattle.std.specs.Option.{IsSome}
 use Rattle.std.specs.Fmt.{decimal}
-use Rattle.std.specs.declared.cmp.Ordering.{Ordering}
 use Rattle.std.specs.declared.cmp.Ordering.TheVariants.{Less, Equal, Greater}
 use Rattle.enumset_commands.specs.declared.reply.Reply.{Reply}
 use Rattle.enumset_commands.specs.declared.reply.Reply.TheVariants.{Done, Truth, Count, Number, Words, Order, Bit, Unknown, Absent, Refused}
 use Rattle.enumset_commands.specs.declared.reply.Refusal.{Refusal}
 use Rattle.enumset_commands.specs.declared.reply.Refusal.TheVariants.{NoRegister, NotABit, NotAWidth}
+use Rattle.enumset_commands.specs.declared.text_fault.TextFault.{TextFault}
+use Rattle.enumset_commands.specs.declared.text_fault.TextFault.TheVariants.{TooLong, BadLine, OutOfMemory}
 
 abbrev pub refusal_text : Refusal → List ℕ
 refusal_text NoRegister = codes "K1 no register"
 refusal_text NotABit = codes "K2 not a bit"
 refusal_text NotAWidth = codes "K3 not a width"
 
-abbrev pub truth_text : Bool → List ℕ
-truth_text true = codes "true"
-truth_text false = codes "false"
-
 abbrev pub words_text : List ℕ → List ℕ
 words_text ws = flat_map (λ w. codes " " ++ decimal w) ws
 
-abbrev pub order_text : Ordering → List ℕ
-order_text Less = codes "less"
-order_text Equal = codes "equal"
-order_text Greater = codes "greater"
-
 abbrev pub text_of : Reply → List ℕ
 text_of Done = codes "ok"
-text_of (Truth b) = truth_text b
+text_of (Truth true) = codes "true"
+text_of (Truth false) = codes "false"
 text_of (Count n) = decimal n
 text_of (Number n) = decimal n
 text_of (Words ws) = codes "words" ++ words_text ws
-text_of (Order o) = order_text o
+text_of (Order Less) = codes "less"
+text_of (Order Equal) = codes "equal"
+text_of (Order Greater) = codes "greater"
 text_of (Bit b) = codes "bit " ++ decimal b
 text_of (Unknown b) = codes "unknown " ++ decimal b
 text_of Absent = codes "none"
@@ -45,3 +43,19 @@ text_of (Refused r) = refusal_text r
 
 abbrev pub text : List Reply → List ℕ
 text rs = flat_map (λ r. text_of r ++ codes "\n") rs
+
+abbrev pub fault_text : TextFault → List ℕ
+fault_text TooLong = codes "input too long"
+fault_text (BadLine n) = codes "line " ++ decimal n ++ codes ": not a command"
+fault_text OutOfMemory = codes "out of memory"
+
+-- an answer fails only if memory runs out; an input without an answer fails only by its own fault
+abbrev pub IsFaultOf : {A : Type 0} → Result A TextFault → TextFault → Type 0
+IsFaultOf (Ok value) fault = fault ≡ OutOfMemory
+IsFaultOf (Err own) fault = fault ≡ own
+
+-- text that writes nothing is read as nothing, even if memory runs out
+abbrev pub IsReadAs : {A E : Type 0} → Option A → Option (Result A E) → Type 0
+IsReadAs own None = own ≡ None
+IsReadAs own (Some (Ok value)) = own ≡ Some value
+IsReadAs own (Some (Err error)) = IsSome own

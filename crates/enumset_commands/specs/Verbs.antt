@@ -2,12 +2,15 @@
 --     of_one, of_two, of_three, of_words      the command that fields write, from its numbers, and from a register and words
 --     verbs      for each name of a command without words, the command that its fields write
 --     verb_of      for any name, the command that its fields write
+--     own_verb_of      for a name of a command that mixed sets alone have, the command that its fields write
 use Rattle.std.specs.Prelude.{ℕ, List, [], ◌∷◌, codes, Option, option_map}
 use Rattle.std.specs.Map.{lookup}
 use Rattle.std.specs.Str.{bytes_eq}
 use Rattle.enumset_commands.specs.Fields.{register, bit, width, value, count, one, two, three, register_and_words}
 use Rattle.enumset_commands.specs.declared.command.Command.{Command}
 use Rattle.enumset_commands.specs.declared.command.Command.TheVariants.{New, All, Clear, Len, IsEmpty, Next, NextBack, Left, Complement, InsertAll, RemoveAll, Disjoint, Superset, Subset, Equal, Compare, Iter, Union, Intersection, Difference, SymmetricDifference, Only, Insert, Remove, Contains, Number, NumberCut, FromNumber, FromNumberCut, Words, WordsCut, FromWords, FromWordsCut}
+use Rattle.enumset_commands.specs.declared.mixed_command.MixedCommand.{MixedCommand}
+use Rattle.enumset_commands.specs.declared.mixed_command.MixedCommand.TheVariants.{HasBit, InsertBit, RemoveBit, FullComplement, ValidLen, Unknown, AsEnumset, Truncate}
 
 abbrev pub of_one : {C : Type 0} → (ℕ → C) → (List ℕ → Option ℕ) → List (List ℕ) → Option C
 of_one command first fields = option_map command (one first fields)
@@ -62,4 +65,18 @@ verb_of name =
     (codes "from_words_cut", of_words FromWordsCut)
     ∷ (codes "from_words", of_words FromWords)
     ∷ verbs
+    )
+
+abbrev pub own_verb_of : List ℕ → Option (List (List ℕ) → Option MixedCommand)
+own_verb_of name =
+    lookup (bytes_eq name) (
+    (codes "has_bit", of_two HasBit register bit)
+    ∷ (codes "insert_bit", of_two InsertBit register bit)
+    ∷ (codes "remove_bit", of_two RemoveBit register bit)
+    ∷ (codes "full_complement", of_two FullComplement register register)
+    ∷ (codes "valid_len", of_one ValidLen register)
+    ∷ (codes "unknown", of_one Unknown register)
+    ∷ (codes "as_enumset", of_two AsEnumset register register)
+    ∷ (codes "truncate", of_two Truncate register register)
+    ∷ []
     )

@@ -17,7 +17,7 @@ pub enum TextFault {
 
 impl fmt::Display for TextFault {
     ghost use Rattle.std.specs.Prelude.{Some};
-    ghost use Rattle.enumset_commands.specs.TextFaults.{fault_text};
+    ghost use Rattle.enumset_commands.specs.Texts.{fault_text};
 
     ghost output = { λ fault. Some (fault_text fault) };
 

@@ -3,7 +3,7 @@
 ghost use Rattle.std.specs.Prelude.{◌≡◌, IfOk, IfErr, Ok};
 ghost use Rattle.std.specs.Str.{bytes_eq};
 ghost use Rattle.enumset_kinds.specs.Kinds.{worked_of, answer_over};
-ghost use Rattle.enumset_commands.specs.TextFaults.{IsFaultOf};
+ghost use Rattle.enumset_commands.specs.Texts.{IsFaultOf};
 
 use crate::nothing::serve_nothing;
 use crate::worked::Worked;

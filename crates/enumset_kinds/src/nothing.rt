@@ -1,8 +1,9 @@
 //! The worked type `nothing`.
 
-ghost use Rattle.std.specs.Prelude.{◌≡◌, IfOk, IfErr, Ok};
-ghost use Rattle.enumset_kinds.specs.Kinds.{nothing, answer_over};
-ghost use Rattle.enumset_commands.specs.TextFaults.{IsFaultOf};
+ghost use Rattle.std.specs.Prelude.{◌≡◌, [], Some, None, IfOk, IfErr, Ok, if◌then◌else◌};
+ghost use Rattle.enumset_repr.specs.BitSet.{from_list};
+ghost use Rattle.enumset_kinds.specs.Kinds.{answer_by_width};
+ghost use Rattle.enumset_commands.specs.Texts.{IsFaultOf};
 
 use enumset_commands::TextFault;
 use enumset_machine::{serve_mixed_text, serve_text};
@@ -13,9 +14,10 @@ use std::alloc::Global;
 ///
 /// Nothing can call a function that takes a value of that enum, so only what stands in here can name it.
 pub fn serve_nothing(alloc: Global, is_mixed: bool, input: &[u8]) -> Result<Vec<u8>, TextFault>
-    ensures answer { IfOk result (λ out. answer_over (nothing is_mixed) input.now ≡ Ok out.items) }
-    ensures fault { IfErr result (λ fault.
-        IsFaultOf (answer_over (nothing is_mixed) input.now) fault) }
+    ensures answer { IfOk result (λ out. answer_by_width (if is_mixed then Some 8 else None)
+        (from_list []) input.now ≡ Ok out.items) }
+    ensures fault { IfErr result (λ fault. IsFaultOf (answer_by_width
+        (if is_mixed then Some 8 else None) (from_list []) input.now) fault) }
 {
     #[derive(Clone, Copy, Debug, PartialEq, Eq, PartialOrd, Ord, Hash)]
     enum Nothing {}

@@ -4,7 +4,7 @@ use Rattle.std.specs.Result.{result_err}
 use Rattle.enumset_commands.specs.declared.reply.Reply.{Reply}
 use Rattle.enumset_commands.specs.declared.text_fault.TextFault.{TextFault}
 use Rattle.enumset_commands.specs.declared.text_fault.TextFault.TheVariants.{OutOfMemory}
-use Rattle.enumset_commands.specs.TextFaults.{IsFaultOf}
+use Rattle.enumset_commands.specs.Texts.{IsFaultOf}
 use Rattle.enumset_commands.specs.Lines.{before}
 use Rattle.enumset_commands.specs.Texts.{text, text_of}
 use Rattle.enumset_machine.specs.States.{State, start}

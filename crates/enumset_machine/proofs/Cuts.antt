@@ -1,6 +1,5 @@
 -- The numbers below a width.
-use Rattle.std.proofs.Common.{◌≡◌, ◌<◌, ℕ, true, ◌&&◌, ap, sym, ◌∙◌, arith}
-use Rattle.std.proofs.lemmas.Bool.Decides.{nat_tests}
+use Rattle.std.proofs.Common.{◌≡◌, ℕ, ◌&&◌, ap, sym, ◌∙◌}
 use Rattle.enumset_repr.specs.BitSet.{BitSet, contains, intersection, below, low}
 use Rattle.enumset_repr.specs.Laws.Members.{same_set, contains-low, contains-intersection, contains-below}
 
@@ -9,7 +8,3 @@ pub low_below : (s : BitSet) (n : ℕ) → low s n ≡ intersection s (below n)
 low_below s n =
     same_set (low s n) (intersection s (below n)) (λ q.
     contains-low s n q ∙ ap (λ b. contains s q && b) (sym (contains-below n q)) ∙ sym (contains-intersection s (below n) q))
-
--- a bit that a set may have is below the width
-pub allowed_within : (n b : ℕ) → contains (below n) b ≡ true → b < n
-allowed_within n b h = grind (arith, nat_tests, contains-below)

@@ -1,4 +1,3 @@
-pub mod Replies
 pub mod Answered
 pub mod Cuts
 pub mod OneTranscript

@@ -14,12 +14,9 @@ use Rattle.enumset_commands.specs.declared.mixed_command.MixedCommand.{MixedComm
 use Rattle.enumset_commands.specs.declared.mixed_command.MixedCommand.TheVariants.{Common, InsertBit, FullComplement}
 use Rattle.enumset_commands.specs.declared.reply.Reply.TheVariants.{Done, Absent}
 use Rattle.enumset_commands.specs.declared.reply.Refusal.{Refusal}
-use Rattle.enumset_commands.specs.declared.reply.Refusal.TheVariants.{NoRegister, NotABit, NotAWidth}
 use Rattle.enumset_machine.specs.States.{State, start, put_set}
-use Rattle.enumset_machine.specs.Plans.{Rules, width_rules, Names, Plan, names_registers, names_widths, refusal, outcome_unless, outcome_of, replies_by}
-use Rattle.enumset_machine.specs.Runs.{plan}
-use Rattle.enumset_machine.specs.MixedRuns.{mixed_plan, mixed_outcome, mixed_replies}
-use Rattle.enumset_machine.specs.Transcripts.{input_bits, mixed_input_bits, inverts_all_bits, is_within}
+use Rattle.enumset_machine.specs.Plans.{Rules, width_rules, Plan, refusal, outcome_unless, outcome_of, replies_by}
+use Rattle.enumset_machine.specs.Runs.{plan, mixed_plan, mixed_outcome, mixed_replies, inverts_all_bits, is_within}
 
 pub both : (a b : Bool) → (a && b) ≡ true → (a ≡ true) × (b ≡ true)
 both true true h = (refl, refl)
@@ -34,9 +31,9 @@ unless_same : (refused : Option Refusal) (a b : Rules) (s : State) (p : Plan) �
 unless_same (Some refused) a b s p reply after = refl
 unless_same None a b s p reply after = cc
 
-plan_same : (a b : Rules) (s : State) (p : Plan) → refusal a p.names ≡ refusal b p.names → p.reply a s ≡ p.reply b s → p.after a s ≡ p.after b s → outcome_of a s p ≡ outcome_of b s p
+plan_same : (a b : Rules) (s : State) (p : Plan) → refusal a p ≡ refusal b p → p.reply a s ≡ p.reply b s → p.after a s ≡ p.after b s → outcome_of a s p ≡ outcome_of b s p
 plan_same a b s p refused reply after =
-    ap (λ r. outcome_unless r a s p) refused ∙ unless_same (refusal b p.names) a b s p reply after
+    ap (λ r. outcome_unless r a s p) refused ∙ unless_same (refusal b p) a b s p reply after
 
 test_same : {X : Type 0} (a b : Bool) (x y : X) → a ≡ true → b ≡ true → (if a then x else y) ≡ (if b then x else y)
 test_same a b x y h k = rw (h, k) refl
@@ -45,7 +42,7 @@ cut_same : (s : BitSet) (one other : ℕ) → is_subset s (below one) ≡ true �
 cut_same s one other h k = intersection_within s (below one) h ∙ sym (intersection_within s (below other) k)
 
 -- a command of every run depends on the allowed bits only if it has a number or words
-command_same : (valid : BitSet) (one other : ℕ) (s : State) (c : Command) → is_subset (input_bits c) (below one) ≡ true → is_subset (input_bits c) (below other) ≡ true → outcome_of (width_rules valid one) s (plan c) ≡ outcome_of (width_rules valid other) s (plan c)
+command_same : (valid : BitSet) (one other : ℕ) (s : State) (c : Command) → is_subset (plan c).input (below one) ≡ true → is_subset (plan c).input (below other) ≡ true → outcome_of (width_rules valid one) s (plan c) ≡ outcome_of (width_rules valid other) s (plan c)
 unfolding plan
 command_same valid one other s (FromNumber r width value) h k =
     plan_same (width_rules valid one) (width_rules valid other) s (plan (FromNumber r width value)) refl (test_same _ _ Done Absent h k) (test_same _ _ (put_set s r (bits value)) s h k)
@@ -57,27 +54,22 @@ command_same valid one other s (FromWordsCut r ws) h k =
     plan_same (width_rules valid one) (width_rules valid other) s (plan (FromWordsCut r ws)) refl refl (ap (put_set s r) (cut_same (bits_of ws) one other h k))
 command_same valid one other s c h k = plan_same (width_rules valid one) (width_rules valid other) s (plan c) refl refl refl
 
--- of the commands of mixed sets alone, one names a bit that has to be allowed
-refused_by : Names → Bool → Option Refusal
-refused_by names allowed =
-    if not (names_registers names) then Some NoRegister else if not (names_widths names) then Some NotAWidth else if not (allowed && true) then Some NotABit else None
-
-insert_same : (valid : BitSet) (one other r bit : ℕ) → contains (below one) bit ≡ contains (below other) bit → refusal (width_rules valid one) (mixed_plan (InsertBit r bit)).names ≡ refusal (width_rules valid other) (mixed_plan (InsertBit r bit)).names
-unfolding mixed_plan refused_by
-insert_same valid one other r bit h = ap (refused_by (mixed_plan (InsertBit r bit)).names) h
+refused_same : (valid : BitSet) (one other r bit : ℕ) → contains (below one) bit ≡ true → contains (below other) bit ≡ true → refusal (width_rules valid one) (mixed_plan (InsertBit r bit)) ≡ refusal (width_rules valid other) (mixed_plan (InsertBit r bit))
+unfolding mixed_plan
+refused_same valid one other r bit h k = rw (h, k) refl
 
 mixed_same : (valid : BitSet) (one other : ℕ) (s : State) (c : MixedCommand) → is_within one c ≡ true → is_within other c ≡ true → mixed_outcome valid one s c ≡ mixed_outcome valid other s c
 unfolding mixed_outcome mixed_plan
 mixed_same valid one other s (Common c) h k = command_same valid one other s c h k
 mixed_same valid one other s (InsertBit r bit) h k =
-    plan_same (width_rules valid one) (width_rules valid other) s (mixed_plan (InsertBit r bit)) (insert_same valid one other r bit (bit_within bit one h ∙ sym (bit_within bit other k))) refl refl
+    plan_same (width_rules valid one) (width_rules valid other) s (mixed_plan (InsertBit r bit)) (refused_same valid one other r bit (bit_within bit one h) (bit_within bit other k)) refl refl
 mixed_same valid one other s (FullComplement to a) h k = absurd (cc)
 mixed_same valid one other s c h k = plan_same (width_rules valid one) (width_rules valid other) s (mixed_plan c) refl refl refl
 
 is_within-wider : (m n : ℕ) (c : MixedCommand) → m ≤ n → is_within m c ≡ true → is_within n c ≡ true
 is_within-wider m n c le within =
-    let parts = both (not (inverts_all_bits c)) (is_subset (mixed_input_bits c) (below m)) within in
-    let wider : is_subset (mixed_input_bits c) (below n) ≡ true = is_subset_wider (mixed_input_bits c) m n le parts.1 in
+    let parts = both (not (inverts_all_bits c)) (is_subset (mixed_plan c).input (below m)) within in
+    let wider : is_subset (mixed_plan c).input (below n) ≡ true = is_subset_wider (mixed_plan c).input m n le parts.1 in
     rw (parts.0, wider) refl
 
 -- a step with the same outcome goes on with the same state

@@ -12,11 +12,9 @@ use Rattle.enumset_commands.specs.declared.command.Command.TheVariants.{New, All
 use Rattle.enumset_commands.specs.declared.mixed_command.MixedCommand.{MixedCommand}
 use Rattle.enumset_commands.specs.declared.mixed_command.MixedCommand.TheVariants.{Common, InsertBit, RemoveBit, FullComplement, AsEnumset, Truncate}
 use Rattle.enumset_commands.specs.declared.reply.Refusal.TheVariants.{NoRegister, NotABit, NotAWidth}
-use Rattle.enumset_machine.specs.States.{State, start, set_at, list_at, put_set, put_list}
-use Rattle.enumset_machine.specs.Plans.{Rules, valid_rules, width_rules, Plan, names_registers, names_widths, names_bits, outcome_unless, outcome_of}
-use Rattle.enumset_machine.specs.Runs.{plan, outcome}
-use Rattle.enumset_machine.specs.MixedRuns.{mixed_plan, mixed_outcome}
-use Rattle.enumset_machine.specs.Alike.{IsStateOver}
+use Rattle.enumset_machine.specs.States.{State, start, set_at, list_at, put_set, put_list, IsStateOver}
+use Rattle.enumset_machine.specs.Plans.{Rules, valid_rules, width_rules, Plan, outcome_unless, outcome_of}
+use Rattle.enumset_machine.specs.Runs.{plan, outcome, mixed_plan, mixed_outcome}
 use Rattle.enumset_machine.proofs.OneTranscript.{both}
 
 -- the sets of registers, one of which is new
@@ -27,16 +25,16 @@ each_of_set v (s ∷ sets) zero (suc q) new each sub = each (suc q)
 each_of_set v (s ∷ sets) (suc r) zero new each sub = each zero
 each_of_set v (s ∷ sets) (suc r) (suc q) new each sub = each_of_set v sets r q new (λ p. each (suc p)) sub
 
-put_set-is_state : (v : BitSet) (s : State) (r : ℕ) (new : BitSet) → IsStateOver v s → is_subset new v ≡ true → IsStateOver v (put_set s r new)
-put_set-is_state v s r new of_s sub =
+in_register : (v : BitSet) (s : State) (r : ℕ) (new : BitSet) → IsStateOver v s → is_subset new v ≡ true → IsStateOver v (put_set s r new)
+in_register v s r new of_s sub =
     (length-set s.sets r new ∙ of_s.0, of_s.1, λ q. each_of_set v s.sets r q new of_s.2 sub)
 
-put_list-is_state : (v : BitSet) (s : State) (i : ℕ) (new : List ℕ) → IsStateOver v s → IsStateOver v (put_list s i new)
-put_list-is_state v s i new of_s = (of_s.0, length-set s.lists i new ∙ of_s.1, of_s.2)
+in_iterator : (v : BitSet) (s : State) (i : ℕ) (new : List ℕ) → IsStateOver v s → IsStateOver v (put_list s i new)
+in_iterator v s i new of_s = (of_s.0, length-set s.lists i new ∙ of_s.1, of_s.2)
 
-put_set_if : (v : BitSet) (s : State) (test : Bool) (r : ℕ) (new : BitSet) → IsStateOver v s → (test ≡ true → is_subset new v ≡ true) → IsStateOver v (if test then put_set s r new else s)
-put_set_if v s true r new of_s sub = put_set-is_state v s r new of_s (sub refl)
-put_set_if v s false r new of_s sub = of_s
+if_passes : (v : BitSet) (s : State) (test : Bool) (r : ℕ) (new : BitSet) → IsStateOver v s → (test ≡ true → is_subset new v ≡ true) → IsStateOver v (if test then put_set s r new else s)
+if_passes v s true r new of_s sub = in_register v s r new of_s (sub refl)
+if_passes v s false r new of_s sub = of_s
 
 -- the members that are in v too
 common-is_subset : (s v : BitSet) → is_subset (intersection s v) v ≡ true
@@ -52,70 +50,41 @@ tested_is_state v true false c rules s p of_s after = of_s
 tested_is_state v true true false rules s p of_s after = of_s
 tested_is_state v true true true rules s p of_s after = after refl
 
-outcome-is_state : (v : BitSet) (rules : Rules) (s : State) (p : Plan) → IsStateOver v s → (names_bits rules p.names ≡ true → IsStateOver v (p.after rules s)) → IsStateOver v (outcome_of rules s p).state
-outcome-is_state v rules s p of_s after =
-    tested_is_state v (names_registers p.names) (names_widths p.names) (names_bits rules p.names) rules s p of_s after
+outcome-is_state : (v : BitSet) (rules : Rules) (s : State) (p : Plan) → IsStateOver v s → (p.bits rules ≡ true → IsStateOver v (p.after rules s)) → IsStateOver v (outcome_of rules s p).state
+outcome-is_state v rules s p of_s after = tested_is_state v p.registers p.widths (p.bits rules) rules s p of_s after
 
--- the bit of a command
-named_bit : (in_bits : Bool) → ((in_bits && true) && true) ≡ true → in_bits ≡ true
-named_bit true h = refl
-named_bit false h = h
-
-allowed_bit : (in_bits : Bool) → (true && (in_bits && true)) ≡ true → in_bits ≡ true
-allowed_bit true h = refl
-allowed_bit false h = h
-
-command_after : (rules : Rules) (s : State) (c : Command) → is_subset rules.valid rules.allowed ≡ true → IsStateOver rules.allowed s → names_bits rules (plan c).names ≡ true → IsStateOver rules.allowed ((plan c).after rules s)
+command_after : (rules : Rules) (s : State) (c : Command) → is_subset rules.valid rules.allowed ≡ true → IsStateOver rules.allowed s → (plan c).bits rules ≡ true → IsStateOver rules.allowed ((plan c).after rules s)
 unfolding plan
-command_after rules s (New r) sub of_s h = put_set-is_state rules.allowed s r empty of_s (empty-is_subset rules.allowed)
-command_after rules s (All r) sub of_s h = put_set-is_state rules.allowed s r rules.valid of_s sub
-command_after rules s (Only r bit) sub of_s h =
-    put_set-is_state rules.allowed s r (only bit) of_s (insert-is_subset rules.allowed empty bit (empty-is_subset rules.allowed) (is_subset-contains rules.valid rules.allowed sub bit (named_bit (contains rules.valid bit) h)))
-command_after rules s (Insert r bit) sub of_s h =
-    put_set-is_state rules.allowed s r (insert (set_at s r) bit) of_s (insert-is_subset rules.allowed (set_at s r) bit (of_s.2 r) (is_subset-contains rules.valid rules.allowed sub bit (named_bit (contains rules.valid bit) h)))
-command_after rules s (Remove r bit) sub of_s h =
-    put_set-is_state rules.allowed s r (remove (set_at s r) bit) of_s (remove-is_subset rules.allowed (set_at s r) bit (of_s.2 r))
-command_after rules s (Clear r) sub of_s h = put_set-is_state rules.allowed s r empty of_s (empty-is_subset rules.allowed)
-command_after rules s (Union to a b) sub of_s h =
-    put_set-is_state rules.allowed s to (union (set_at s a) (set_at s b)) of_s (union-is_subset rules.allowed (set_at s a) (set_at s b) (of_s.2 a) (of_s.2 b))
-command_after rules s (Intersection to a b) sub of_s h =
-    put_set-is_state rules.allowed s to (intersection (set_at s a) (set_at s b)) of_s (intersection-is_subset rules.allowed (set_at s a) (set_at s b) (of_s.2 a))
-command_after rules s (Difference to a b) sub of_s h =
-    put_set-is_state rules.allowed s to (difference (set_at s a) (set_at s b)) of_s (difference-is_subset rules.allowed (set_at s a) (set_at s b) (of_s.2 a))
-command_after rules s (SymmetricDifference to a b) sub of_s h =
-    put_set-is_state rules.allowed s to (symmetric_difference (set_at s a) (set_at s b)) of_s (symmetric_difference-is_subset rules.allowed (set_at s a) (set_at s b) (of_s.2 a) (of_s.2 b))
-command_after rules s (Complement to a) sub of_s h =
-    put_set-is_state rules.allowed s to (difference rules.valid (set_at s a)) of_s (difference-is_subset rules.allowed rules.valid (set_at s a) sub)
-command_after rules s (InsertAll r a) sub of_s h =
-    put_set-is_state rules.allowed s r (union (set_at s r) (set_at s a)) of_s (union-is_subset rules.allowed (set_at s r) (set_at s a) (of_s.2 r) (of_s.2 a))
-command_after rules s (RemoveAll r a) sub of_s h =
-    put_set-is_state rules.allowed s r (difference (set_at s r) (set_at s a)) of_s (difference-is_subset rules.allowed (set_at s r) (set_at s a) (of_s.2 r))
-command_after rules s (FromNumber r width value) sub of_s h =
-    put_set_if rules.allowed s (is_subset (bits value) rules.allowed) r (bits value) of_s (λ within. within)
-command_after rules s (FromNumberCut r width value) sub of_s h =
-    put_set-is_state rules.allowed s r (intersection (bits value) rules.allowed) of_s (common-is_subset (bits value) rules.allowed)
-command_after rules s (FromWords r ws) sub of_s h =
-    put_set_if rules.allowed s (is_subset (bits_of ws) rules.allowed) r (bits_of ws) of_s (λ within. within)
-command_after rules s (FromWordsCut r ws) sub of_s h =
-    put_set-is_state rules.allowed s r (intersection (bits_of ws) rules.allowed) of_s (common-is_subset (bits_of ws) rules.allowed)
-command_after rules s (Iter i r) sub of_s h = put_list-is_state rules.allowed s i (ascending (set_at s r)) of_s
-command_after rules s (Next i) sub of_s h = put_list-is_state rules.allowed s i (without_first (list_at s i)) of_s
-command_after rules s (NextBack i) sub of_s h = put_list-is_state rules.allowed s i (without_last (list_at s i)) of_s
+command_after rules s (New r) sub of_s h = in_register _ s r _ of_s (empty-is_subset _)
+command_after rules s (All r) sub of_s h = in_register _ s r _ of_s sub
+command_after rules s (Only r bit) sub of_s h = in_register _ s r _ of_s (insert-is_subset _ empty bit (empty-is_subset _) (is_subset-contains rules.valid rules.allowed sub bit h))
+command_after rules s (Insert r bit) sub of_s h = in_register _ s r _ of_s (insert-is_subset _ _ bit (of_s.2 r) (is_subset-contains rules.valid rules.allowed sub bit h))
+command_after rules s (Remove r bit) sub of_s h = in_register _ s r _ of_s (remove-is_subset _ _ bit (of_s.2 r))
+command_after rules s (Clear r) sub of_s h = in_register _ s r _ of_s (empty-is_subset _)
+command_after rules s (Union to a b) sub of_s h = in_register _ s to _ of_s (union-is_subset _ _ _ (of_s.2 a) (of_s.2 b))
+command_after rules s (Intersection to a b) sub of_s h = in_register _ s to _ of_s (intersection-is_subset _ _ _ (of_s.2 a))
+command_after rules s (Difference to a b) sub of_s h = in_register _ s to _ of_s (difference-is_subset _ _ _ (of_s.2 a))
+command_after rules s (SymmetricDifference to a b) sub of_s h = in_register _ s to _ of_s (symmetric_difference-is_subset _ _ _ (of_s.2 a) (of_s.2 b))
+command_after rules s (Complement to a) sub of_s h = in_register _ s to _ of_s (difference-is_subset _ rules.valid _ sub)
+command_after rules s (InsertAll r a) sub of_s h = in_register _ s r _ of_s (union-is_subset _ _ _ (of_s.2 r) (of_s.2 a))
+command_after rules s (RemoveAll r a) sub of_s h = in_register _ s r _ of_s (difference-is_subset _ _ _ (of_s.2 r))
+command_after rules s (FromNumber r width value) sub of_s h = if_passes rules.allowed s (is_subset (bits value) rules.allowed) r (bits value) of_s (λ within. within)
+command_after rules s (FromNumberCut r width value) sub of_s h = in_register _ s r _ of_s (common-is_subset (bits value) rules.allowed)
+command_after rules s (FromWords r ws) sub of_s h = if_passes rules.allowed s (is_subset (bits_of ws) rules.allowed) r (bits_of ws) of_s (λ within. within)
+command_after rules s (FromWordsCut r ws) sub of_s h = in_register _ s r _ of_s (common-is_subset (bits_of ws) rules.allowed)
+command_after rules s (Iter i r) sub of_s h = in_iterator _ s i _ of_s
+command_after rules s (Next i) sub of_s h = in_iterator _ s i _ of_s
+command_after rules s (NextBack i) sub of_s h = in_iterator _ s i _ of_s
 command_after rules s c sub of_s h = of_s
 
-mixed_after : (rules : Rules) (s : State) (c : MixedCommand) → is_subset rules.valid rules.allowed ≡ true → IsStateOver rules.allowed s → names_bits rules (mixed_plan c).names ≡ true → IsStateOver rules.allowed ((mixed_plan c).after rules s)
+mixed_after : (rules : Rules) (s : State) (c : MixedCommand) → is_subset rules.valid rules.allowed ≡ true → IsStateOver rules.allowed s → (mixed_plan c).bits rules ≡ true → IsStateOver rules.allowed ((mixed_plan c).after rules s)
 unfolding mixed_plan
 mixed_after rules s (Common c) sub of_s h = command_after rules s c sub of_s h
-mixed_after rules s (InsertBit r bit) sub of_s h =
-    put_set-is_state rules.allowed s r (insert (set_at s r) bit) of_s (insert-is_subset rules.allowed (set_at s r) bit (of_s.2 r) (allowed_bit (contains rules.allowed bit) h))
-mixed_after rules s (RemoveBit r bit) sub of_s h =
-    put_set-is_state rules.allowed s r (remove (set_at s r) bit) of_s (remove-is_subset rules.allowed (set_at s r) bit (of_s.2 r))
-mixed_after rules s (FullComplement to a) sub of_s h =
-    put_set-is_state rules.allowed s to (difference rules.allowed (set_at s a)) of_s (difference-is_subset rules.allowed rules.allowed (set_at s a) (is_subset-itself rules.allowed))
-mixed_after rules s (AsEnumset to a) sub of_s h =
-    put_set_if rules.allowed s (is_subset (set_at s a) rules.valid) to (set_at s a) of_s (λ within. of_s.2 a)
-mixed_after rules s (Truncate to a) sub of_s h =
-    put_set-is_state rules.allowed s to (intersection (set_at s a) rules.valid) of_s (intersection-is_subset rules.allowed (set_at s a) rules.valid (of_s.2 a))
+mixed_after rules s (InsertBit r bit) sub of_s h = in_register _ s r _ of_s (insert-is_subset _ _ bit (of_s.2 r) h)
+mixed_after rules s (RemoveBit r bit) sub of_s h = in_register _ s r _ of_s (remove-is_subset _ _ bit (of_s.2 r))
+mixed_after rules s (FullComplement to a) sub of_s h = in_register _ s to _ of_s (difference-is_subset _ rules.allowed _ (is_subset-itself rules.allowed))
+mixed_after rules s (AsEnumset to a) sub of_s h = if_passes rules.allowed s (is_subset (set_at s a) rules.valid) to (set_at s a) of_s (λ within. of_s.2 a)
+mixed_after rules s (Truncate to a) sub of_s h = in_register _ s to _ of_s (intersection-is_subset _ _ rules.valid (of_s.2 a))
 mixed_after rules s c sub of_s h = of_s
 
 each_start : (v : BitSet) (r : ℕ) → is_subset (set_at start r) v ≡ true

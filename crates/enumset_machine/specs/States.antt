@@ -1,14 +1,15 @@
 -- The registers of a run.
 --     State      four sets, and for each of two iterators the list of what is left
 --     coded_state      the code that lets a state be a model's value
---     no_sets, no_lists, start      four empty sets;  two empty lists;  the state of these
+--     start      four empty sets and two empty lists
 --     set_at, list_at      the set in a register;  the list in an iterator register
 --     put_set, put_list      a state where a register has a new set, a new list
 --     is_set_register, is_iterator_register      whether there is such a register
-use Rattle.std.specs.Prelude.{ℕ, Bool, nat_lt, List, [], ◌∷◌, slice_set, refl}
+--     IsStateOver      there are four sets, each of these bits alone, and two lists
+use Rattle.std.specs.Prelude.{◌≡◌, ℕ, Bool, nat_lt, List, [], ◌∷◌, length, slice_set, IsTrue, refl}
 use Rattle.std.specs.List.{slice_index_or}
 use Rattle.std.specs.Coded.{Coded, code_by, coded×, coded_list, coded_ℕ}
-use Rattle.enumset_repr.specs.BitSet.{BitSet, coded_set, empty}
+use Rattle.enumset_repr.specs.BitSet.{BitSet, coded_set, empty, is_subset}
 
 -- the sets in the set registers, and what is left in each iterator register
 pub record State : Type 0 where
@@ -20,14 +21,8 @@ abbrev pub coded_state : Coded State
 coded_state =
     code_by (List BitSet × List (List ℕ)) (coded× (coded_list coded_set) (coded_list (coded_list coded_ℕ))) (λ s. (s.sets, s.lists)) (λ p. record { sets = p.0; lists = p.1 }) (λ _. refl)
 
-abbrev pub no_sets : List BitSet
-no_sets = empty ∷ empty ∷ empty ∷ empty ∷ []
-
-abbrev pub no_lists : List (List ℕ)
-no_lists = [] ∷ [] ∷ []
-
 abbrev pub start : State
-start = record { sets = no_sets; lists = no_lists }
+start = record { sets = empty ∷ empty ∷ empty ∷ empty ∷ []; lists = [] ∷ [] ∷ [] }
 
 abbrev pub set_at : State → ℕ → BitSet
 set_at s r = slice_index_or s.sets r empty
@@ -46,3 +41,7 @@ is_set_register r = nat_lt r 4
 
 abbrev pub is_iterator_register : ℕ → Bool
 is_iterator_register i = nat_lt i 2
+
+abbrev pub IsStateOver : BitSet → State → Type 0
+IsStateOver bits s =
+    (length s.sets ≡ 4) × (length s.lists ≡ 2) × ((r : ℕ) → IsTrue (is_subset (set_at s r) bits))

@@ -3,27 +3,21 @@
 ghost use Rattle.std.specs.Prelude.{◌≡◌, false, IfOk, IsOk, OnErr};
 ghost use Rattle.enumset_sets.specs.Elements.{valid_bits};
 
-mod bits;
 mod element_set;
-mod iterator_register;
 mod iterators;
 mod mixed_commands;
 pub mod mixed_machine;
-mod mixed_run_set;
 mod mixed_set;
 mod numbers;
-mod operands;
 mod registers;
+pub(crate) mod run;
 mod run_set;
-mod runner;
-mod sets;
-mod u128_from;
-mod words;
+pub(crate) mod runner;
 
-use crate::steps::Steps;
 use enumset_commands::{Command, Reply};
 use enumset_repr::EnumSetTypeRepr;
 use enumset_sets::{EnumSet, EnumSetType};
+use run::Run;
 use runner::Runner;
 use std::alloc::{AllocError, Global};
 use std::marker::Model;
@@ -78,20 +72,18 @@ impl<T: EnumSetType> Machine<T> {
     }
 }
 
-impl<T: EnumSetType> Steps for Machine<T> {
-    ghost use Rattle.enumset_machine.specs.Runs.{outcome};
+impl<T: EnumSetType> Run for EnumSet<T> {
+    ghost use Rattle.enumset_machine.specs.Runs.{plan};
 
     type Command = Command;
 
-    ghost view = { λ m. m };
+    ghost plan = { plan };
 
-    ghost outcome = { outcome (valid_bits T.elements) };
-
-    fn new() -> Machine<T> {
-        Machine::<T>::new()
-    }
-
-    fn step(&mut self, alloc: Global, command: &Command) -> Result<Reply, AllocError> {
-        Machine::<T>::step(self, alloc, command)
+    fn step(
+        runner: &mut Runner<EnumSet<T>>,
+        alloc: Global,
+        command: &Command,
+    ) -> Result<Reply, AllocError> {
+        runner.step(alloc, command)
     }
 }

@@ -2,21 +2,20 @@
 ghost use Rattle.std.specs.Prelude.{◌≡◌, ◌++◌, codes, IfOk, IfErr, Ok, OnOk};
 ghost use Rattle.std.specs.String.{string_bytes};
 ghost use Rattle.enumset_machine.specs.States.{start};
-ghost use Rattle.enumset_machine.specs.Plans.{replies_by};
+ghost use Rattle.enumset_machine.specs.Plans.{outcome_by, replies_by};
 ghost use Rattle.enumset_machine.specs.Answers.{answer_by, answer_to, mixed_answer_to, commands_of};
 ghost use Rattle.enumset_commands.specs.Lines.{commands_of_text};
-ghost use Rattle.enumset_commands.specs.TextFaults.{IsFaultOf};
-ghost use Rattle.enumset_commands.specs.Texts.{text_of};
+ghost use Rattle.enumset_commands.specs.Texts.{IsFaultOf, text_of};
 ghost use Rattle.enumset_sets.specs.Elements.{valid_bits};
 
-use crate::machine::Machine;
-use crate::machine::mixed_machine::MixedMachine;
-use crate::steps::Steps;
+use crate::machine::run::Run;
+use crate::machine::runner::Runner;
 use enumset_commands::grammar::lines::Lines;
 use enumset_commands::grammar::tokens::Tokens;
 use enumset_commands::{LineCommand, TextFault, write_reply};
+use enumset_mixed::MixedEnumSet;
 use enumset_repr::EnumSetTypeRepr;
-use enumset_sets::{EnumSetType, EnumSetTypeWithRepr};
+use enumset_sets::{EnumSet, EnumSetType, EnumSetTypeWithRepr};
 use std::alloc::{AllocError, Global};
 
 /// The most bytes that an input may have.
@@ -27,6 +26,7 @@ pub const INPUT_LIMIT: usize = 1_048_576;
 /// The errors are [`TextFault::TooLong`] for an input of more than [`INPUT_LIMIT`] bytes, else
 /// [`TextFault::BadLine`] for the first line that is not a command, and else
 /// [`TextFault::OutOfMemory`].
+#[tactic(auto, unfolding(crate::specs::Runs::outcome))]
 pub fn serve_text<T: EnumSetType>(alloc: Global, input: &[u8]) -> Result<Vec<u8>, TextFault>
     // The replies are those of finite sets of bit numbers.
     ensures answer { IfOk result (λ out.
@@ -35,12 +35,13 @@ pub fn serve_text<T: EnumSetType>(alloc: Global, input: &[u8]) -> Result<Vec<u8>
     ensures fault { IfErr result (λ fault.
         IsFaultOf (answer_to (valid_bits T.elements) input.now) fault) }
 {
-    serve_by_steps::<Machine<T>>(alloc, input)
+    serve_over::<EnumSet<T>>(alloc, input)
 }
 
 /// The text of the replies to the commands of mixed sets of an input.
 ///
 /// The errors are those of [`serve_text`].
+#[tactic(auto, unfolding(crate::specs::Runs::mixed_outcome))]
 pub fn serve_mixed_text<T: EnumSetTypeWithRepr>(
     alloc: Global,
     input: &[u8],
@@ -52,36 +53,36 @@ pub fn serve_mixed_text<T: EnumSetTypeWithRepr>(
     ensures fault { IfErr result (λ fault.
         IsFaultOf (mixed_answer_to (valid_bits T.elements) T.Repr.WIDTH input.now) fault) }
 {
-    serve_by_steps::<MixedMachine<T>>(alloc, input)
+    serve_over::<MixedEnumSet<T>>(alloc, input)
 }
 
 /// The text of the replies that a new machine gives to the commands of an input, whose length is tested first.
-fn serve_by_steps<M: Steps>(alloc: Global, input: &[u8]) -> Result<Vec<u8>, TextFault>
+fn serve_over<S: Run>(alloc: Global, input: &[u8]) -> Result<Vec<u8>, TextFault>
 where
-    M::Command: LineCommand,
-    ensures answer { IfOk result (λ out. answer_by (replies_by M.outcome start)
-        (commands_of M.Command.command_of input.now) ≡ Ok out.items) }
-    ensures fault { IfErr result (λ fault. IsFaultOf (answer_by (replies_by M.outcome start)
-        (commands_of M.Command.command_of input.now)) fault) }
+    S::Command: LineCommand,
+    ensures answer { IfOk result (λ out. answer_by (replies_by (outcome_by S.rules S.plan) start)
+        (commands_of S.Command.command_of input.now) ≡ Ok out.items) }
+    ensures fault { IfErr result (λ fault. IsFaultOf (answer_by (replies_by (outcome_by S.rules S.plan) start)
+        (commands_of S.Command.command_of input.now)) fault) }
 {
     if input.len() > INPUT_LIMIT {
         return Err(TextFault::TooLong);
     }
-    answer_lines::<M>(alloc, input)
+    answer_lines::<S>(alloc, input)
 }
 
 /// The same for an input of any length. Each command is read, carried out and answered before the next. If memory runs
 /// out, the remaining lines are still read, so an input with a line that is not a command is reported as such.
 #[tactic(auto, using(crate::proofs::Answered::line_steps))]
-fn answer_lines<M: Steps>(alloc: Global, input: &[u8]) -> Result<Vec<u8>, TextFault>
+fn answer_lines<S: Run>(alloc: Global, input: &[u8]) -> Result<Vec<u8>, TextFault>
 where
-    M::Command: LineCommand,
-    ensures answer { IfOk result (λ out. answer_by (replies_by M.outcome start)
-        (commands_of_text M.Command.command_of input.now) ≡ Ok out.items) }
-    ensures fault { IfErr result (λ fault. IsFaultOf (answer_by (replies_by M.outcome start)
-        (commands_of_text M.Command.command_of input.now)) fault) }
+    S::Command: LineCommand,
+    ensures answer { IfOk result (λ out. answer_by (replies_by (outcome_by S.rules S.plan) start)
+        (commands_of_text S.Command.command_of input.now) ≡ Ok out.items) }
+    ensures fault { IfErr result (λ fault. IsFaultOf (answer_by (replies_by (outcome_by S.rules S.plan) start)
+        (commands_of_text S.Command.command_of input.now)) fault) }
 {
-    let mut machine = M::new();
+    let mut runner = Runner::<S>::new();
     let mut text = String::new(alloc);
     let mut has_room = true;
     let mut number = 0u64;
@@ -89,10 +90,10 @@ where
         number += 1;
         let mut tokens = Tokens::new(line);
         if let Some(name) = tokens.next() {
-            let command = M::Command::read(alloc, name, tokens).ok_or(TextFault::BadLine(number))?;
+            let command = S::Command::read(alloc, name, tokens).ok_or(TextFault::BadLine(number))?;
             has_room = match command {
                 Ok(command) => has_room
-                    && answer_command(alloc, &mut machine, command, &mut text).is_ok(),
+                    && answer_command(alloc, &mut runner, command, &mut text).is_ok(),
                 Err(_) => false,
             };
         }
@@ -105,19 +106,19 @@ where
 }
 
 /// Carries out one command, and writes its reply in a line.
-fn answer_command<M: Steps>(
+fn answer_command<S: Run>(
     alloc: Global,
-    machine: &mut M,
-    command: M::Command,
+    runner: &mut Runner<S>,
+    command: S::Command,
     text: &mut String,
 ) -> Result<(), AllocError>
 where
-    M::Command: LineCommand,
+    S::Command: LineCommand,
     ensures state { OnOk result
-        (M.view machine.new ≡ (M.outcome (M.view machine.old) command).state) }
+        (runner.new ≡ (outcome_by S.rules S.plan runner.old command).state) }
     ensures text { OnOk result (string_bytes text.new ≡ string_bytes text.old
-        ++ text_of (M.outcome (M.view machine.old) command).reply ++ codes "\n") }
+        ++ text_of (outcome_by S.rules S.plan runner.old command).reply ++ codes "\n") }
 {
-    let reply = machine.step(alloc, &command)?;
+    let reply = S::step(runner, alloc, &command)?;
     write_reply(text, &reply)
 }

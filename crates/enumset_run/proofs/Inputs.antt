@@ -6,14 +6,11 @@ use Rattle.std.proofs.lemmas.List.{length-take, take_all}
 use Rattle.std.proofs.lemmas.Bool.Decides.{nat_tests}
 use Rattle.enumset_repr.specs.BitSet.{BitSet, from_list}
 use Rattle.enumset_machine.specs.Answers.{commands_of, answer_by, answer_to, mixed_answer_to}
-use Rattle.enumset_commands.specs.TextFaults.{IsFaultOf}
-use Rattle.enumset_run.specs.Written.{AppendsFrontOf}
-use Rattle.enumset_run.specs.Faults.{IsFaultOver}
+use Rattle.enumset_commands.specs.Texts.{IsFaultOf}
+use Rattle.enumset_run.specs.Faults.{IsFaultOver, AppendsFrontOf}
 use Rattle.enumset_kinds.specs.Kinds.{over, answer_by_width, answer_over}
-use Rattle.enumset_commands.specs.Lines.{command_of, commands_of_text}
-use Rattle.enumset_commands.specs.MixedLines.{mixed_command_of}
-use Rattle.enumset_machine.specs.Runs.{replies}
-use Rattle.enumset_machine.specs.MixedRuns.{mixed_replies}
+use Rattle.enumset_commands.specs.Lines.{command_of, commands_of_text, mixed_command_of}
+use Rattle.enumset_machine.specs.Runs.{replies, mixed_replies}
 use Rattle.enumset_kinds.specs.declared.worked.Worked.{Worked}
 use Rattle.enumset_machine.specs.declared.serve.TheConstants.{INPUT_LIMIT}
 use Rattle.enumset_run.specs.declared.program.TheConstants.{READ_LIMIT}
@@ -55,7 +52,7 @@ answer_by_width-take None valid bytes = answer_to-take valid bytes
 answer_by_width-take (Some width) valid bytes = mixed_answer_to-take valid width bytes
 
 answer_over-take : (kind : Worked) (bytes : List ℕ) → answer_over kind (take READ_LIMIT bytes) ≡ answer_over kind bytes
-answer_over-take kind bytes = answer_by_width-take (over kind).width (from_list (over kind).bits) bytes
+answer_over-take kind bytes = answer_by_width-take (over kind).1 (from_list (over kind).0) bytes
 
 same_answer : (kind : Worked) (bytes input : List ℕ) → input ≡ take READ_LIMIT bytes → answer_over kind input ≡ answer_over kind bytes
 same_answer kind bytes input read = ap (answer_over kind) read ∙ answer_over-take kind bytes

@@ -2,9 +2,7 @@
 
 ghost use Rattle.std.specs.Prelude.{◌≡◌, ◌≢◌, ◌⊎◌, ◌+◌, ◌≤◌, [], length, take, IfOk, IfErr, IfSome, OnOk, OnErr, IsOk, IsOkAnd, vec_capacity};
 ghost use Rattle.std.specs.Io.KnownBytes.{Appends};
-ghost use Rattle.enumset_run.specs.Written.{AppendsFrontOf};
-ghost use Rattle.enumset_run.specs.Arguments.{type_of_arguments};
-ghost use Rattle.enumset_run.specs.Faults.{IsFaultOver};
+ghost use Rattle.enumset_run.specs.Faults.{type_of_arguments, IsFaultOver, AppendsFrontOf};
 ghost use Rattle.enumset_kinds.specs.Kinds.{answer_over};
 
 use crate::fault::ProgramFault;

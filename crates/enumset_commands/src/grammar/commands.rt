@@ -6,13 +6,25 @@ ghost use Rattle.enumset_commands.specs.Lines.{command_of};
 ghost use Rattle.enumset_commands.specs.Verbs.{verbs};
 
 use super::line_command::LineCommand;
-use super::operands::{
-    one_register, register_and_bit, register_and_words, register_width_and_value, three_registers,
-    two_registers,
-};
+use super::operands::{one, three, two, with_bit, with_value, with_words};
 use super::tokens::Tokens;
 use crate::command::Command;
 use std::alloc::{AllocError, Global};
+
+/// The command of a name, by a table that has for each name its operands and its command.
+macro_rules! command_of_name {
+    ($name:ident, $fields:ident => $commands:ident: $($word:literal $operands:ident $command:ident { $($field:ident),+ };)+) => {
+        match $name {
+            $(_ if is($name, $word) => {
+                let ($($field),+) = $operands($fields)?;
+                Some($commands::$command { $($field),+ })
+            })+
+            _ => None,
+        }
+    };
+}
+
+pub(super) use command_of_name;
 
 impl LineCommand for Command {
     ghost command_of = { command_of };
@@ -22,7 +34,7 @@ impl LineCommand for Command {
         if !cuts && !is(name, "from_words") {
             return Some(Ok(without_words(name, fields)?));
         }
-        match register_and_words(alloc, fields)? {
+        match with_words(alloc, fields)? {
             Ok((r, words)) if cuts => Some(Ok(Command::FromWordsCut { r, words })),
             Ok((r, words)) => Some(Ok(Command::FromWords { r, words })),
             Err(error) => Some(Err(error)),
@@ -35,93 +47,38 @@ fn without_words(name: &[u8], fields: Tokens) -> Option<Command>
     ensures { result
         ≡ option_and_then (λ verb. verb fields.entry) (lookup (bytes_eq name.now) verbs) }
 {
-    match name {
-        _ if is(name, "new") => one_register(fields).map(|r| Command::New { r }),
-        _ if is(name, "all") => one_register(fields).map(|r| Command::All { r }),
-        _ if is(name, "only") => register_and_bit(fields).map(|(r, bit)| Command::Only { r, bit }),
-        _ if is(name, "insert") => register_and_bit(fields).map(|(r, bit)| Command::Insert {
-            r,
-            bit,
-        }),
-        _ if is(name, "remove") => register_and_bit(fields).map(|(r, bit)| Command::Remove {
-            r,
-            bit,
-        }),
-        _ if is(name, "contains") => register_and_bit(fields).map(|(r, bit)| Command::Contains {
-            r,
-            bit,
-        }),
-        _ if is(name, "clear") => one_register(fields).map(|r| Command::Clear { r }),
-        _ if is(name, "len") => one_register(fields).map(|r| Command::Len { r }),
-        _ if is(name, "empty") => one_register(fields).map(|r| Command::IsEmpty { r }),
-        _ if is(name, "union") => three_registers(fields).map(|(to, a, b)| Command::Union {
-            to,
-            a,
-            b,
-        }),
-        _ if is(name, "intersection") => three_registers(fields).map(|(
-            to,
-            a,
-            b,
-        )| Command::Intersection { to, a, b }),
-        _ if is(name, "difference") => three_registers(fields).map(|(
-            to,
-            a,
-            b,
-        )| Command::Difference { to, a, b }),
-        _ if is(name, "symmetric") => three_registers(fields).map(|(
-            to,
-            a,
-            b,
-        )| Command::SymmetricDifference { to, a, b }),
-        _ if is(name, "complement") => two_registers(fields).map(|(to, a)| Command::Complement {
-            to,
-            a,
-        }),
-        _ if is(name, "insert_all") => two_registers(fields).map(|(r, a)| Command::InsertAll {
-            r,
-            a,
-        }),
-        _ if is(name, "remove_all") => two_registers(fields).map(|(r, a)| Command::RemoveAll {
-            r,
-            a,
-        }),
-        _ if is(name, "disjoint") => two_registers(fields).map(|(a, b)| Command::Disjoint { a, b }),
-        _ if is(name, "superset") => two_registers(fields).map(|(a, b)| Command::Superset { a, b }),
-        _ if is(name, "subset") => two_registers(fields).map(|(a, b)| Command::Subset { a, b }),
-        _ if is(name, "equal") => two_registers(fields).map(|(a, b)| Command::Equal { a, b }),
-        _ if is(name, "compare") => two_registers(fields).map(|(a, b)| Command::Compare { a, b }),
-        _ if is(name, "number") => register_and_bit(fields).map(|(r, width)| Command::Number {
-            r,
-            width,
-        }),
-        _ if is(name, "number_cut") => register_and_bit(fields).map(|(
-            r,
-            width,
-        )| Command::NumberCut { r, width }),
-        _ if is(name, "from_number") => register_width_and_value(fields).map(|(
-            r,
-            width,
-            value,
-        )| Command::FromNumber { r, width, value }),
-        _ if is(name, "from_number_cut") => register_width_and_value(fields).map(|(
-            r,
-            width,
-            value,
-        )| Command::FromNumberCut { r, width, value }),
-        _ if is(name, "words") => two_registers(fields).map(|(r, count)| Command::Words {
-            r,
-            count,
-        }),
-        _ if is(name, "words_cut") => two_registers(fields).map(|(r, count)| Command::WordsCut {
-            r,
-            count,
-        }),
-        _ if is(name, "iter") => two_registers(fields).map(|(i, r)| Command::Iter { i, r }),
-        _ if is(name, "next") => one_register(fields).map(|i| Command::Next { i }),
-        _ if is(name, "next_back") => one_register(fields).map(|i| Command::NextBack { i }),
-        _ if is(name, "left") => one_register(fields).map(|i| Command::Left { i }),
-        _ => None,
+    command_of_name! { name, fields => Command:
+        "new" one New { r };
+        "all" one All { r };
+        "only" with_bit Only { r, bit };
+        "insert" with_bit Insert { r, bit };
+        "remove" with_bit Remove { r, bit };
+        "contains" with_bit Contains { r, bit };
+        "clear" one Clear { r };
+        "len" one Len { r };
+        "empty" one IsEmpty { r };
+        "union" three Union { to, a, b };
+        "intersection" three Intersection { to, a, b };
+        "difference" three Difference { to, a, b };
+        "symmetric" three SymmetricDifference { to, a, b };
+        "complement" two Complement { to, a };
+        "insert_all" two InsertAll { r, a };
+        "remove_all" two RemoveAll { r, a };
+        "disjoint" two Disjoint { a, b };
+        "superset" two Superset { a, b };
+        "subset" two Subset { a, b };
+        "equal" two Equal { a, b };
+        "compare" two Compare { a, b };
+        "number" with_bit Number { r, width };
+        "number_cut" with_bit NumberCut { r, width };
+        "from_number" with_value FromNumber { r, width, value };
+        "from_number_cut" with_value FromNumberCut { r, width, value };
+        "words" two Words { r, count };
+        "words_cut" two WordsCut { r, count };
+        "iter" two Iter { i, r };
+        "next" one Next { i };
+        "next_back" one NextBack { i };
+        "left" one Left { i };
     }
 }
 

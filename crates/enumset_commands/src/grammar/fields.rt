@@ -3,7 +3,6 @@ ghost use Rattle.std.specs.Prelude.{◌≡◌};
 ghost use Rattle.enumset_commands.specs.Fields.{register, bit, word, value};
 
 /// The number that a token of decimal digits writes, if it is a `u8`.
-#[tactic(auto, using(crate::proofs::Fields::limits))]
 pub(super) fn read_register(token: &[u8]) -> Option<u8>
     ensures { result ≡ register token.now }
 {
@@ -11,7 +10,6 @@ pub(super) fn read_register(token: &[u8]) -> Option<u8>
 }
 
 /// The number that a token of decimal digits writes, if it is a `u32`.
-#[tactic(auto, using(crate::proofs::Fields::limits))]
 pub(super) fn read_bit(token: &[u8]) -> Option<u32>
     ensures { result ≡ bit token.now }
 {
@@ -19,7 +17,6 @@ pub(super) fn read_bit(token: &[u8]) -> Option<u32>
 }
 
 /// The number that a token of decimal digits writes, if it is a `u64`.
-#[tactic(auto, using(crate::proofs::Fields::limits))]
 pub(super) fn read_word(token: &[u8]) -> Option<u64>
     ensures { result ≡ word token.now }
 {

@@ -1,7 +1,7 @@
 //! What a line of text can write.
 
 ghost use Rattle.std.specs.Prelude.{ℕ, List, Option, ◌∷◌};
-ghost use Rattle.enumset_commands.specs.TextFaults.{IsReadAs};
+ghost use Rattle.enumset_commands.specs.Texts.{IsReadAs};
 
 use super::tokens::Tokens;
 use std::alloc::{AllocError, Global};

@@ -1,10 +1,11 @@
 //! The command of mixed sets of a name over its operands.
-ghost use Rattle.std.specs.Prelude.{◌≡◌};
-ghost use Rattle.enumset_commands.specs.MixedLines.{mixed_command_of, own_command};
+ghost use Rattle.std.specs.Prelude.{◌≡◌, option_and_then};
+ghost use Rattle.enumset_commands.specs.Lines.{mixed_command_of};
+ghost use Rattle.enumset_commands.specs.Verbs.{own_verb_of};
 
-use super::commands::is;
+use super::commands::{command_of_name, is};
 use super::line_command::LineCommand;
-use super::operands::{one_register, register_and_bit, two_registers};
+use super::operands::{one, two, with_bit};
 use super::tokens::Tokens;
 use crate::command::Command;
 use crate::mixed_command::MixedCommand;
@@ -30,35 +31,16 @@ impl LineCommand for MixedCommand {
 
 /// The command that mixed sets alone have of this name.
 fn own_command(name: &[u8], fields: Tokens) -> Option<MixedCommand>
-    ensures { result ≡ own_command name.now fields.entry }
+    ensures { result ≡ option_and_then (λ verb. verb fields.entry) (own_verb_of name.now) }
 {
-    match name {
-        _ if is(name, "has_bit") => register_and_bit(fields).map(|(r, bit)| MixedCommand::HasBit {
-            r,
-            bit,
-        }),
-        _ if is(name, "insert_bit") => register_and_bit(fields).map(|(
-            r,
-            bit,
-        )| MixedCommand::InsertBit { r, bit }),
-        _ if is(name, "remove_bit") => register_and_bit(fields).map(|(
-            r,
-            bit,
-        )| MixedCommand::RemoveBit { r, bit }),
-        _ if is(name, "full_complement") => two_registers(fields).map(|(
-            to,
-            a,
-        )| MixedCommand::FullComplement { to, a }),
-        _ if is(name, "valid_len") => one_register(fields).map(|r| MixedCommand::ValidLen { r }),
-        _ if is(name, "unknown") => one_register(fields).map(|r| MixedCommand::Unknown { r }),
-        _ if is(name, "as_enumset") => two_registers(fields).map(|(to, a)| MixedCommand::AsEnumset {
-            to,
-            a,
-        }),
-        _ if is(name, "truncate") => two_registers(fields).map(|(to, a)| MixedCommand::Truncate {
-            to,
-            a,
-        }),
-        _ => None,
+    command_of_name! { name, fields => MixedCommand:
+        "has_bit" with_bit HasBit { r, bit };
+        "insert_bit" with_bit InsertBit { r, bit };
+        "remove_bit" with_bit RemoveBit { r, bit };
+        "full_complement" two FullComplement { to, a };
+        "valid_len" one ValidLen { r };
+        "unknown" one Unknown { r };
+        "as_enumset" two AsEnumset { to, a };
+        "truncate" two Truncate { to, a };
     }
 }

@@ -1,7 +1,7 @@
 //! The operands of a command: the fields after its name, each of which has to be there, and no other.
 ghost use Rattle.std.specs.Prelude.{◌≡◌};
 ghost use Rattle.enumset_commands.specs.Fields.{one, two, three, register, bit, width, value, register_and_words};
-ghost use Rattle.enumset_commands.specs.TextFaults.{IsReadAs};
+ghost use Rattle.enumset_commands.specs.Texts.{IsReadAs};
 
 use super::fields::{read_bit, read_register, read_value};
 use super::tokens::Tokens;
@@ -10,7 +10,7 @@ use crate::word_list::WordList;
 use std::alloc::{AllocError, Global};
 
 /// A register.
-pub(super) fn one_register(mut fields: Tokens) -> Option<u8>
+pub(super) fn one(mut fields: Tokens) -> Option<u8>
     ensures { result ≡ one register fields.entry }
 {
     let r = read_register(fields.next()?)?;
@@ -21,7 +21,7 @@ pub(super) fn one_register(mut fields: Tokens) -> Option<u8>
 }
 
 /// Two registers; or a register and a count, which is a number of 8 bits too.
-pub(super) fn two_registers(mut fields: Tokens) -> Option<(u8, u8)>
+pub(super) fn two(mut fields: Tokens) -> Option<(u8, u8)>
     ensures { result ≡ two register register fields.entry }
 {
     let a = read_register(fields.next()?)?;
@@ -33,7 +33,7 @@ pub(super) fn two_registers(mut fields: Tokens) -> Option<(u8, u8)>
 }
 
 /// Three registers.
-pub(super) fn three_registers(mut fields: Tokens) -> Option<(u8, u8, u8)>
+pub(super) fn three(mut fields: Tokens) -> Option<(u8, u8, u8)>
     ensures { result ≡ three register register register fields.entry }
 {
     let to = read_register(fields.next()?)?;
@@ -46,7 +46,7 @@ pub(super) fn three_registers(mut fields: Tokens) -> Option<(u8, u8, u8)>
 }
 
 /// A register and a bit; or a register and a width, which is a number of 32 bits too.
-pub(super) fn register_and_bit(mut fields: Tokens) -> Option<(u8, u32)>
+pub(super) fn with_bit(mut fields: Tokens) -> Option<(u8, u32)>
     ensures { result ≡ two register bit fields.entry }
 {
     let r = read_register(fields.next()?)?;
@@ -58,7 +58,7 @@ pub(super) fn register_and_bit(mut fields: Tokens) -> Option<(u8, u32)>
 }
 
 /// A register, a width and a value.
-pub(super) fn register_width_and_value(mut fields: Tokens) -> Option<(u8, u32, u128)>
+pub(super) fn with_value(mut fields: Tokens) -> Option<(u8, u32, u128)>
     ensures { result ≡ three register width value fields.entry }
 {
     let r = read_register(fields.next()?)?;
@@ -72,7 +72,7 @@ pub(super) fn register_width_and_value(mut fields: Tokens) -> Option<(u8, u32, u
 
 /// A register, and any number of words. The only error is out of memory; where some field is not what it has to be,
 /// there is `None`, even if memory runs out.
-pub(super) fn register_and_words(
+pub(super) fn with_words(
     alloc: Global,
     mut fields: Tokens,
 ) -> Option<Result<(u8, WordList), AllocError>>

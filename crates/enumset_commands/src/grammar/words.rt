@@ -1,6 +1,6 @@
 //! The words of a command.
 ghost use Rattle.enumset_commands.specs.Fields.{words_of};
-ghost use Rattle.enumset_commands.specs.TextFaults.{IsReadAs};
+ghost use Rattle.enumset_commands.specs.Texts.{IsReadAs};
 
 use super::fields::read_word;
 use super::tokens::Tokens;

@@ -5,7 +5,6 @@ ghost use Rattle.enumset_repr.specs.BitSet as set;
 ghost use Rattle.enumset_sets.specs.Elements.{valid_bits};
 
 use super::run_set::RunSet;
-use super::u128_from::{u128_from_u8, u128_from_u16, u128_from_u32, u128_from_u64};
 use enumset_commands::Reply;
 use enumset_repr::EnumSetTypeRepr;
 use enumset_sets::{EnumSet, EnumSetIter, EnumSetType};
@@ -62,8 +61,9 @@ impl<T: EnumSetType> RunSet for EnumSet<T> {
         EnumSet::<T>::contains(self, element_of(bit))
     }
 
-    fn clear(&mut self) {
-        EnumSet::<T>::clear(self);
+    fn clear(mut self) -> EnumSet<T> {
+        EnumSet::<T>::clear(&mut self);
+        self
     }
 
     fn len(&self) -> usize {
@@ -94,12 +94,14 @@ impl<T: EnumSetType> RunSet for EnumSet<T> {
         EnumSet::<T>::complement(self)
     }
 
-    fn insert_all(&mut self, other: EnumSet<T>) {
-        EnumSet::<T>::insert_all(self, other);
+    fn insert_all(mut self, other: EnumSet<T>) -> EnumSet<T> {
+        EnumSet::<T>::insert_all(&mut self, other);
+        self
     }
 
-    fn remove_all(&mut self, other: EnumSet<T>) {
-        EnumSet::<T>::remove_all(self, other);
+    fn remove_all(mut self, other: EnumSet<T>) -> EnumSet<T> {
+        EnumSet::<T>::remove_all(&mut self, other);
+        self
     }
 
     fn is_disjoint(&self, other: EnumSet<T>) -> bool {
@@ -124,10 +126,10 @@ impl<T: EnumSetType> RunSet for EnumSet<T> {
 
     fn number(&self, width: u32) -> Option<u128> {
         match width {
-            8 => u128_from_u8(EnumSet::<T>::try_as_u8(self)),
-            16 => u128_from_u16(EnumSet::<T>::try_as_u16(self)),
-            32 => u128_from_u32(EnumSet::<T>::try_as_u32(self)),
-            64 => u128_from_u64(EnumSet::<T>::try_as_u64(self)),
+            8 => Some(u128::from(EnumSet::<T>::try_as_u8(self)?)),
+            16 => Some(u128::from(EnumSet::<T>::try_as_u16(self)?)),
+            32 => Some(u128::from(EnumSet::<T>::try_as_u32(self)?)),
+            64 => Some(u128::from(EnumSet::<T>::try_as_u64(self)?)),
             _ => EnumSet::<T>::try_as_u128(self),
         }
     }

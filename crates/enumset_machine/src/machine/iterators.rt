@@ -1,35 +1,95 @@
-//! The commands on an iterator.
+//! The iterator registers of a run.
 
-ghost use Rattle.std.specs.Prelude.{◌≡◌, true};
-ghost use Rattle.enumset_commands.specs.declared.command.Command.TheVariants as on;
-ghost use Rattle.enumset_machine.specs.States.{is_set_register, is_iterator_register};
-ghost use Rattle.enumset_machine.specs.Plans.{step_reply};
-ghost use Rattle.enumset_machine.specs.Runs.{plan};
+ghost use Rattle.std.specs.Prelude.{◌≡◌, true, slice_set, slice_index_or, [], length};
+ghost use Rattle.enumset_repr.specs.Ends.{first, last, without_first, without_last};
+ghost use Rattle.enumset_machine.specs.States as model;
 
 use super::run_set::RunSet;
-use super::runner::Runner;
-use enumset_commands::Reply;
+use std::marker::Model;
 
-#[tactic(auto, unfolding(crate::specs::Runs::plan))]
-impl<S: RunSet> Runner<S> {
-    /// Puts an iterator over the members of a set into a register.
-    pub(super) fn iterate(&mut self, i: u8, r: u8) -> Reply
-        requires iterator { is_iterator_register i ≡ true }
-        requires register { is_set_register r ≡ true }
-        ensures reply { result ≡ (plan (on.Iter i r)).reply S.rules self.old }
-        ensures state { self.new ≡ (plan (on.Iter i r)).after S.rules self.old }
-    {
-        self.iterators.put(i, self.sets.get(r).items());
-        Reply::Done
-    }
+/// Whether there is an iterator register of this number. There are two.
+pub(super) fn is_iterator_register(i: u8) -> bool
+    ensures { result ≡ model.is_iterator_register i }
+{
+    i < 2
 }
 
-/// The reply to a step of an iterator.
-pub(super) fn step_reply<S: RunSet>(bit: Option<u32>) -> Reply
-    ensures { result ≡ step_reply S.rules bit }
-{
-    match bit {
-        Some(bit) => S::bit_reply(bit),
-        None => Reply::Absent,
+/// Registers 0 and 1 for iterators, at first without one. Contracts see the items left in each.
+#[derive(Drop)]
+pub(super) struct IteratorRegisters<S: RunSet> {
+    zero: Option<S::Items>,
+    one: Option<S::Items>,
+}
+
+impl<S: RunSet> Model for IteratorRegisters<S> {
+    ghost use Rattle.std.specs.Prelude.{ℕ, List, [], ◌∷◌, unwrap_or, option_map};
+    ghost use Rattle.std.specs.Coded.{coded_list, coded_ℕ};
+
+    ghost Value = { List (List ℕ) };
+
+    ghost coded = { coded_list (coded_list coded_ℕ) };
+
+    ghost view = { λ s. unwrap_or (option_map S.rest s.zero) []
+        ∷ unwrap_or (option_map S.rest s.one) [] ∷ [] };
+}
+
+impl<S: RunSet> IteratorRegisters<S> {
+    /// Two registers without an iterator.
+    pub(super) fn new() -> IteratorRegisters<S>
+        ensures { result ≡ model.start.lists }
+    {
+        IteratorRegisters {
+            zero: None,
+            one: None,
+        }
+    }
+
+    /// Puts an iterator into a register.
+    pub(super) fn put(&mut self, i: u8, items: S::Items)
+        requires { model.is_iterator_register i ≡ true }
+        ensures { self.new ≡ slice_set self.old i (S.rest items) }
+    {
+        match i {
+            0 => self.zero = Some(items),
+            _ => self.one = Some(items),
+        }
+    }
+
+    /// One step from the front of the iterator in a register.
+    pub(super) fn next(&mut self, i: u8) -> Option<u32>
+        requires { model.is_iterator_register i ≡ true }
+        ensures given { result ≡ first (slice_index_or self.old i []) }
+        ensures rest { self.new
+            ≡ slice_set self.old i (without_first (slice_index_or self.old i [])) }
+    {
+        match i {
+            0 => S::next(self.zero.as_mut()?),
+            _ => S::next(self.one.as_mut()?),
+        }
+    }
+
+    /// One step from the back of the iterator in a register.
+    pub(super) fn next_back(&mut self, i: u8) -> Option<u32>
+        requires { model.is_iterator_register i ≡ true }
+        ensures given { result ≡ last (slice_index_or self.old i []) }
+        ensures rest { self.new
+            ≡ slice_set self.old i (without_last (slice_index_or self.old i [])) }
+    {
+        match i {
+            0 => S::next_back(self.zero.as_mut()?),
+            _ => S::next_back(self.one.as_mut()?),
+        }
+    }
+
+    /// How many members are left in the iterator in a register.
+    pub(super) fn items_left(&self, i: u8) -> usize
+        requires { model.is_iterator_register i ≡ true }
+        ensures { result ≡ length (slice_index_or self.now i []) }
+    {
+        let items = if i == 0 { &self.zero } else { &self.one };
+        match *items {
+            Some(ref items) => S::items_left(items),
+            None => 0,
+        }
     }
 }

@@ -1,51 +1,53 @@
 //! The commands that mixed sets alone have.
 
-ghost use Rattle.std.specs.Prelude.{◌≡◌, ◌∷◌, [], true, false, IsOk, IfOk, OnErr};
+ghost use Rattle.std.specs.Prelude.{◌≡◌, ◌∷◌, [], true};
+ghost use Rattle.std.specs.List.{list_all};
+ghost use Rattle.enumset_repr.specs.BitSet.{contains, below};
+ghost use Rattle.enumset_sets.specs.Elements.{valid_bits};
 ghost use Rattle.enumset_commands.specs.declared.mixed_command.MixedCommand.TheVariants.{HasBit, InsertBit, RemoveBit, FullComplement, ValidLen, Unknown, AsEnumset, Truncate};
-ghost use Rattle.enumset_machine.specs.Plans.{names_registers, outcome_of, set_names, takes_memory};
-ghost use Rattle.enumset_machine.specs.MixedRuns.{mixed_plan};
+ghost use Rattle.enumset_machine.specs.States.{is_set_register};
+ghost use Rattle.enumset_machine.specs.Plans.{width_rules};
+ghost use Rattle.enumset_machine.specs.Runs.{mixed_plan, mixed_outcome};
 
-use super::mixed_run_set::MixedRunSet;
 use super::registers::is_set_register;
+use super::run::Run;
 use super::runner::Runner;
 use enumset_commands::{MixedCommand, Refusal, Reply};
+use enumset_mixed::{MixedEnumSet, convert_mixed};
+use enumset_repr::EnumSetTypeRepr;
+use enumset_sets::{EnumSetType, EnumSetTypeWithRepr};
 use std::alloc::{AllocError, Global};
 
-impl<S: MixedRunSet> Runner<S> {
-    /// Carries out one command of mixed sets. A refused command changes nothing. Only a reply of words takes memory.
-    #[tactic(auto, unfolding(crate::specs::MixedRuns::mixed_plan))]
-    pub(super) fn step_mixed(
-        &mut self,
+impl<T: EnumSetTypeWithRepr> Run for MixedEnumSet<T> {
+    type Command = MixedCommand;
+
+    ghost plan = { mixed_plan };
+
+    #[tactic(auto, unfolding(crate::specs::Runs::mixed_plan, crate::specs::Runs::mixed_outcome))]
+    fn step(
+        runner: &mut Runner<MixedEnumSet<T>>,
         alloc: Global,
         command: &MixedCommand,
-    ) -> Result<Reply, AllocError>
-        ensures succeeds { takes_memory
-            (outcome_of S.rules self.old (mixed_plan command.now)).reply ≡ false
-            → IsOk result }
-        ensures step { IfOk result (λ reply.
-            outcome_of S.rules self.old (mixed_plan command.now)
-            ≡ record { reply = reply; state = self.new }) }
-        ensures err { OnErr result (self.new ≡ self.old) }
-    {
+    ) -> Result<Reply, AllocError> {
         match *command {
-            MixedCommand::Common(ref command) => self.step(alloc, command),
-            MixedCommand::HasBit { r, bit } => Ok(self.has_bit(r, bit)),
-            MixedCommand::InsertBit { r, bit } => Ok(self.insert_bit(r, bit)),
-            MixedCommand::RemoveBit { r, bit } => Ok(self.remove_bit(r, bit)),
-            MixedCommand::FullComplement { to, a } => Ok(self.full_complement(to, a)),
-            MixedCommand::ValidLen { r } => Ok(self.valid_len(r)),
-            MixedCommand::Unknown { r } => Ok(self.has_unknown_bits(r)),
-            MixedCommand::AsEnumset { to, a } => Ok(self.as_enumset(to, a)),
-            MixedCommand::Truncate { to, a } => Ok(self.truncate(to, a)),
+            MixedCommand::Common(ref command) => runner.step(alloc, command),
+            MixedCommand::HasBit { r, bit } => Ok(runner.has_bit(r, bit)),
+            MixedCommand::InsertBit { r, bit } => Ok(runner.insert_bit(r, bit)),
+            MixedCommand::RemoveBit { r, bit } => Ok(runner.remove_bit(r, bit)),
+            MixedCommand::FullComplement { to, a } => Ok(runner.full_complement(to, a)),
+            MixedCommand::ValidLen { r } => Ok(runner.valid_len(r)),
+            MixedCommand::Unknown { r } => Ok(runner.has_unknown_bits(r)),
+            MixedCommand::AsEnumset { to, a } => Ok(runner.as_enumset(to, a)),
+            MixedCommand::Truncate { to, a } => Ok(runner.truncate(to, a)),
         }
     }
 }
 
 // Each call below carries out one command, or refuses it.
-#[tactic(auto, unfolding(crate::specs::MixedRuns::mixed_plan))]
-impl<S: MixedRunSet> Runner<S> {
+#[tactic(auto, unfolding(crate::specs::Runs::mixed_plan, crate::specs::Runs::mixed_outcome))]
+impl<T: EnumSetTypeWithRepr> Runner<MixedEnumSet<T>> {
     fn has_bit(&mut self, r: u8, bit: u32) -> Reply
-        ensures { outcome_of S.rules self.old (mixed_plan (HasBit r bit))
+        ensures { mixed_outcome (valid_bits T.elements) T.Repr.WIDTH self.old (HasBit r bit)
             ≡ record { reply = result; state = self.new } }
     {
         if !is_set_register(r) {
@@ -55,13 +57,13 @@ impl<S: MixedRunSet> Runner<S> {
     }
 
     fn insert_bit(&mut self, r: u8, bit: u32) -> Reply
-        ensures { outcome_of S.rules self.old (mixed_plan (InsertBit r bit))
+        ensures { mixed_outcome (valid_bits T.elements) T.Repr.WIDTH self.old (InsertBit r bit)
             ≡ record { reply = result; state = self.new } }
     {
         if !is_set_register(r) {
             return Reply::Refused(Refusal::NoRegister);
         }
-        if !S::is_bit_allowed(bit) {
+        if !is_bit_allowed::<T>(bit) {
             return Reply::Refused(Refusal::NotABit);
         }
         let mut set = self.sets.get(r);
@@ -71,7 +73,7 @@ impl<S: MixedRunSet> Runner<S> {
     }
 
     fn remove_bit(&mut self, r: u8, bit: u32) -> Reply
-        ensures { outcome_of S.rules self.old (mixed_plan (RemoveBit r bit))
+        ensures { mixed_outcome (valid_bits T.elements) T.Repr.WIDTH self.old (RemoveBit r bit)
             ≡ record { reply = result; state = self.new } }
     {
         if !is_set_register(r) {
@@ -84,7 +86,7 @@ impl<S: MixedRunSet> Runner<S> {
     }
 
     fn full_complement(&mut self, to: u8, a: u8) -> Reply
-        ensures { outcome_of S.rules self.old (mixed_plan (FullComplement to a))
+        ensures { mixed_outcome (valid_bits T.elements) T.Repr.WIDTH self.old (FullComplement to a)
             ≡ record { reply = result; state = self.new } }
     {
         if !are_set_registers(to, a) {
@@ -95,7 +97,7 @@ impl<S: MixedRunSet> Runner<S> {
     }
 
     fn valid_len(&mut self, r: u8) -> Reply
-        ensures { outcome_of S.rules self.old (mixed_plan (ValidLen r))
+        ensures { mixed_outcome (valid_bits T.elements) T.Repr.WIDTH self.old (ValidLen r)
             ≡ record { reply = result; state = self.new } }
     {
         if !is_set_register(r) {
@@ -105,7 +107,7 @@ impl<S: MixedRunSet> Runner<S> {
     }
 
     fn has_unknown_bits(&mut self, r: u8) -> Reply
-        ensures { outcome_of S.rules self.old (mixed_plan (Unknown r))
+        ensures { mixed_outcome (valid_bits T.elements) T.Repr.WIDTH self.old (Unknown r)
             ≡ record { reply = result; state = self.new } }
     {
         if !is_set_register(r) {
@@ -115,33 +117,40 @@ impl<S: MixedRunSet> Runner<S> {
     }
 
     fn as_enumset(&mut self, to: u8, a: u8) -> Reply
-        ensures { outcome_of S.rules self.old (mixed_plan (AsEnumset to a))
+        ensures { mixed_outcome (valid_bits T.elements) T.Repr.WIDTH self.old (AsEnumset to a)
             ≡ record { reply = result; state = self.new } }
     {
         if !are_set_registers(to, a) {
             return Reply::Refused(Refusal::NoRegister);
         }
-        match self.sets.get(a).through_elements() {
-            Some(set) => self.put(to, set),
+        match self.sets.get(a).try_as_enumset() {
+            Some(elements) => self.put(to, convert_mixed(elements)),
             None => Reply::Absent,
         }
     }
 
     fn truncate(&mut self, to: u8, a: u8) -> Reply
-        ensures { outcome_of S.rules self.old (mixed_plan (Truncate to a))
+        ensures { mixed_outcome (valid_bits T.elements) T.Repr.WIDTH self.old (Truncate to a)
             ≡ record { reply = result; state = self.new } }
     {
         if !are_set_registers(to, a) {
             return Reply::Refused(Refusal::NoRegister);
         }
-        let set = self.sets.get(a).through_elements_cut();
+        let set = convert_mixed(self.sets.get(a).as_enumset_truncate());
         self.put(to, set)
     }
 }
 
 /// Whether there are set registers of both numbers.
 fn are_set_registers(a: u8, b: u8) -> bool
-    ensures { result ≡ names_registers (set_names (a ∷ b ∷ [])) }
+    ensures { result ≡ list_all is_set_register (a ∷ b ∷ []) }
 {
     is_set_register(a) && is_set_register(b)
+}
+
+/// Whether a bit is below the width of the representation.
+fn is_bit_allowed<T: EnumSetTypeWithRepr>(bit: u32) -> bool
+    ensures { result ≡ contains (below T.Repr.WIDTH) bit }
+{
+    bit < T::Repr::WIDTH
 }

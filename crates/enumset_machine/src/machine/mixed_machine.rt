@@ -3,8 +3,8 @@
 ghost use Rattle.std.specs.Prelude.{◌≡◌, false, IfOk, IsOk, OnErr};
 ghost use Rattle.enumset_sets.specs.Elements.{valid_bits};
 
+use super::run::Run;
 use super::runner::Runner;
-use crate::steps::Steps;
 use enumset_commands::{MixedCommand, Reply};
 use enumset_mixed::MixedEnumSet;
 use enumset_repr::EnumSetTypeRepr;
@@ -33,7 +33,7 @@ impl<T: EnumSetTypeWithRepr> Model for MixedMachine<T> {
 impl<T: EnumSetTypeWithRepr> MixedMachine<T> {
     ghost use Rattle.enumset_machine.specs.States.{start};
     ghost use Rattle.enumset_machine.specs.Plans.{takes_memory};
-    ghost use Rattle.enumset_machine.specs.MixedRuns.{mixed_outcome};
+    ghost use Rattle.enumset_machine.specs.Runs.{mixed_outcome};
 
     /// A machine whose registers are empty.
     pub fn new() -> MixedMachine<T>
@@ -48,7 +48,7 @@ impl<T: EnumSetTypeWithRepr> MixedMachine<T> {
     ///
     /// Only a reply of words takes memory; with any other reply the call succeeds. If memory runs out, the machine is
     /// unchanged.
-    #[tactic(auto, unfolding(crate::specs::MixedRuns::mixed_outcome))]
+    #[tactic(auto, unfolding(crate::specs::Runs::mixed_outcome))]
     pub fn step(&mut self, alloc: Global, command: &MixedCommand) -> Result<Reply, AllocError>
         ensures succeeds { takes_memory
             (mixed_outcome (valid_bits T.elements) T.Repr.WIDTH self.old command.now).reply
@@ -58,24 +58,6 @@ impl<T: EnumSetTypeWithRepr> MixedMachine<T> {
             ≡ record { reply = reply; state = self.new }) }
         ensures err { OnErr result (self.new ≡ self.old) }
     {
-        self.runner.step_mixed(alloc, command)
-    }
-}
-
-impl<T: EnumSetTypeWithRepr> Steps for MixedMachine<T> {
-    ghost use Rattle.enumset_machine.specs.MixedRuns.{mixed_outcome};
-
-    type Command = MixedCommand;
-
-    ghost view = { λ m. m };
-
-    ghost outcome = { mixed_outcome (valid_bits T.elements) T.Repr.WIDTH };
-
-    fn new() -> MixedMachine<T> {
-        MixedMachine::<T>::new()
-    }
-
-    fn step(&mut self, alloc: Global, command: &MixedCommand) -> Result<Reply, AllocError> {
-        MixedMachine::<T>::step(self, alloc, command)
+        MixedEnumSet::<T>::step(&mut self.runner, alloc, command)
     }
 }

@@ -5,11 +5,9 @@ ghost use Rattle.enumset_mixed.specs.Mixed.{bit_with_validity};
 ghost use Rattle.enumset_sets.specs.Elements.{valid_bits};
 
 use super::element_set::element_of;
-use super::mixed_run_set::MixedRunSet;
 use super::run_set::RunSet;
-use super::u128_from::{u128_from_u8, u128_from_u16, u128_from_u32, u128_from_u64};
 use enumset_commands::Reply;
-use enumset_mixed::{MixedEnumSet, MixedEnumSetIter, MixedValue, convert_mixed};
+use enumset_mixed::{MixedEnumSet, MixedEnumSetIter, MixedValue};
 use enumset_repr::EnumSetTypeRepr;
 use enumset_sets::{EnumSetType, EnumSetTypeWithRepr};
 use std::cmp::Ordering;
@@ -61,8 +59,9 @@ impl<T: EnumSetTypeWithRepr> RunSet for MixedEnumSet<T> {
         MixedEnumSet::<T>::contains(self, element_of(bit))
     }
 
-    fn clear(&mut self) {
-        MixedEnumSet::<T>::clear(self);
+    fn clear(mut self) -> MixedEnumSet<T> {
+        MixedEnumSet::<T>::clear(&mut self);
+        self
     }
 
     fn len(&self) -> usize {
@@ -93,12 +92,14 @@ impl<T: EnumSetTypeWithRepr> RunSet for MixedEnumSet<T> {
         MixedEnumSet::<T>::complement(self)
     }
 
-    fn insert_all(&mut self, other: MixedEnumSet<T>) {
-        MixedEnumSet::<T>::insert_all(self, other);
+    fn insert_all(mut self, other: MixedEnumSet<T>) -> MixedEnumSet<T> {
+        MixedEnumSet::<T>::insert_all(&mut self, other);
+        self
     }
 
-    fn remove_all(&mut self, other: MixedEnumSet<T>) {
-        MixedEnumSet::<T>::remove_all(self, other);
+    fn remove_all(mut self, other: MixedEnumSet<T>) -> MixedEnumSet<T> {
+        MixedEnumSet::<T>::remove_all(&mut self, other);
+        self
     }
 
     fn is_disjoint(&self, other: MixedEnumSet<T>) -> bool {
@@ -124,10 +125,10 @@ impl<T: EnumSetTypeWithRepr> RunSet for MixedEnumSet<T> {
     fn number(&self, width: u32) -> Option<u128> {
         let repr = self.as_repr();
         match width {
-            8 => u128_from_u8(repr.try_to_u8()),
-            16 => u128_from_u16(repr.try_to_u16()),
-            32 => u128_from_u32(repr.try_to_u32()),
-            64 => u128_from_u64(repr.try_to_u64()),
+            8 => Some(u128::from(repr.try_to_u8()?)),
+            16 => Some(u128::from(repr.try_to_u16()?)),
+            32 => Some(u128::from(repr.try_to_u32()?)),
+            64 => Some(u128::from(repr.try_to_u64()?)),
             _ => repr.try_to_u128(),
         }
     }
@@ -185,6 +186,7 @@ impl<T: EnumSetTypeWithRepr> RunSet for MixedEnumSet<T> {
         MixedEnumSet::<T>::iter(self)
     }
 
+    #[tactic(auto, using(enumset_mixed::specs::Laws::Items::gave_first))]
     fn next(items: &mut MixedEnumSetIter<T>) -> Option<u32> {
         match items.next() {
             Some(value) => Some(bit_of(value)),
@@ -201,47 +203,6 @@ impl<T: EnumSetTypeWithRepr> RunSet for MixedEnumSet<T> {
 
     fn items_left(items: &MixedEnumSetIter<T>) -> usize {
         items.len()
-    }
-}
-
-impl<T: EnumSetTypeWithRepr> MixedRunSet for MixedEnumSet<T> {
-    fn is_bit_allowed(bit: u32) -> bool {
-        bit < T::Repr::WIDTH
-    }
-
-    fn has_bit(&self, bit: u32) -> bool {
-        MixedEnumSet::<T>::has_bit(self, bit)
-    }
-
-    fn insert_bit(&mut self, bit: u32) -> bool {
-        MixedEnumSet::<T>::insert_bit(self, bit)
-    }
-
-    fn remove_bit(&mut self, bit: u32) -> bool {
-        MixedEnumSet::<T>::remove_bit(self, bit)
-    }
-
-    fn full_complement(&self) -> MixedEnumSet<T> {
-        MixedEnumSet::<T>::full_complement(self)
-    }
-
-    fn valid_len(&self) -> usize {
-        MixedEnumSet::<T>::valid_len(self)
-    }
-
-    fn has_unknown_bits(&self) -> bool {
-        MixedEnumSet::<T>::has_unknown_bits(self)
-    }
-
-    fn through_elements(&self) -> Option<MixedEnumSet<T>> {
-        match self.try_as_enumset() {
-            Some(elements) => Some(convert_mixed(elements)),
-            None => None,
-        }
-    }
-
-    fn through_elements_cut(&self) -> MixedEnumSet<T> {
-        convert_mixed(self.as_enumset_truncate())
     }
 }
 

@@ -1,16 +1,21 @@
-//! The commands that turn sets into numbers, and numbers into sets, if they can.
+//! The commands that turn sets into numbers and words, and numbers and words into sets.
 
-ghost use Rattle.std.specs.Prelude.{◌≡◌, ◌<◌, ◌^◌, true};
+ghost use Rattle.std.specs.Prelude.{◌≡◌, ◌<◌, ◌*◌, ◌^◌, true, false, IsOk, IfOk};
 ghost use Rattle.enumset_repr.specs.Number.{number};
+ghost use Rattle.enumset_repr.specs.Words.{words};
 ghost use Rattle.enumset_commands.specs.declared.command.Command.TheVariants as on;
-ghost use Rattle.enumset_commands.specs.declared.reply.Reply.TheVariants.{Number};
+ghost use Rattle.enumset_commands.specs.declared.reply.Reply.TheVariants.{Number, Words};
 ghost use Rattle.enumset_machine.specs.States.{is_set_register};
-ghost use Rattle.enumset_machine.specs.Plans.{is_width, reply_if_below};
+ghost use Rattle.enumset_machine.specs.Plans.{is_width, takes_memory, reply_if_below};
 ghost use Rattle.enumset_machine.specs.Runs.{plan};
 
 use super::run_set::RunSet;
 use super::runner::Runner;
-use enumset_commands::Reply;
+use enumset_commands::{Reply, WordList};
+use std::alloc::{AllocError, Global};
+
+/// The most words that a reply may have.
+const MOST_WORDS: usize = u8::MAX as usize;
 
 #[tactic(auto, unfolding(crate::specs::Runs::plan))]
 impl<S: RunSet> Runner<S> {
@@ -27,6 +32,18 @@ impl<S: RunSet> Runner<S> {
             None => Reply::Absent,
         }
     }
+
+    /// Puts the bits of words into a register, if a set may have each of them.
+    pub(super) fn put_words(&mut self, r: u8, words: &WordList) -> Reply
+        requires { is_set_register r ≡ true }
+        ensures reply { result ≡ (plan (on.FromWords r words.now)).reply S.rules self.old }
+        ensures state { self.new ≡ (plan (on.FromWords r words.now)).after S.rules self.old }
+    {
+        match S::from_words(words.as_slice()) {
+            Some(set) => self.put(r, set),
+            None => Reply::Absent,
+        }
+    }
 }
 
 /// The number of a set, if each member is below a width.
@@ -38,4 +55,29 @@ pub(super) fn number_of<S: RunSet>(set: S, width: u32) -> Reply
         Some(number) => Reply::Number(number),
         None => Reply::Absent,
     }
+}
+
+/// The first `count` words of a set, if each member is in one of them. Only these take memory.
+pub(super) fn words_of<S: RunSet>(alloc: Global, set: S, count: u8) -> Result<Reply, AllocError>
+    ensures succeeds { takes_memory (reply_if_below (S.members set) (64 * count)
+        (Words (words (S.members set) count))) ≡ false → IsOk result }
+    ensures reply { IfOk result (λ reply. reply ≡ reply_if_below (S.members set) (64 * count)
+        (Words (words (S.members set) count))) }
+{
+    let mut room = [0u64; MOST_WORDS];
+    let words = &mut room[..usize::from(count)];
+    if set.words(words).is_none() {
+        return Ok(Reply::Absent);
+    }
+    Ok(Reply::Words(WordList::from(Vec::from_slice(alloc, words)?)))
+}
+
+/// The first `count` words of a set.
+pub(super) fn words_cut_of<S: RunSet>(alloc: Global, set: S, count: u8) -> Result<Reply, AllocError>
+    ensures { IfOk result (λ reply. reply ≡ Words (words (S.members set) count)) }
+{
+    let mut room = [0u64; MOST_WORDS];
+    let words = &mut room[..usize::from(count)];
+    set.words_cut(words);
+    Ok(Reply::Words(WordList::from(Vec::from_slice(alloc, words)?)))
 }

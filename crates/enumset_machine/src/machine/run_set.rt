@@ -64,9 +64,9 @@ pub(crate) trait RunSet: Copy {
         requires { set.contains rules.valid bit ≡ true }
         ensures { result ≡ set.contains (members self.now) bit };
 
-    /// Takes out all members.
-    fn clear(&mut self)
-        ensures { members self.new ≡ set.empty };
+    /// The same set without its members.
+    fn clear(self) -> Self
+        ensures { members result ≡ set.empty };
 
     /// How many members there are.
     fn len(&self) -> usize
@@ -96,13 +96,13 @@ pub(crate) trait RunSet: Copy {
     fn complement(&self) -> Self
         ensures { members result ≡ set.difference rules.valid (members self.now) };
 
-    /// Makes each member of the other a member of this.
-    fn insert_all(&mut self, other: Self)
-        ensures { members self.new ≡ set.union (members self.old) (members other) };
+    /// The set into which each member of the other is put.
+    fn insert_all(self, other: Self) -> Self
+        ensures { members result ≡ set.union (members self) (members other) };
 
-    /// Takes each member of the other out of this.
-    fn remove_all(&mut self, other: Self)
-        ensures { members self.new ≡ set.difference (members self.old) (members other) };
+    /// The set out of which each member of the other is taken.
+    fn remove_all(self, other: Self) -> Self
+        ensures { members result ≡ set.difference (members self) (members other) };
 
     /// Whether no element is a member of both.
     fn is_disjoint(&self, other: Self) -> bool

@@ -3,7 +3,7 @@ use Rattle.std.specs.Result.{result_err}
 use Rattle.std.specs.String.{string_bytes}
 use Rattle.enumset_commands.specs.Lines.{commands_from, commands_of_text}
 use Rattle.enumset_machine.specs.States.{start}
-use Rattle.enumset_machine.specs.Plans.{replies_by}
+use Rattle.enumset_machine.specs.Plans.{outcome_by, replies_by}
 use Rattle.enumset_machine.specs.Answers.{answer_by}
 use Rattle.enumset_machine.proofs.Answered.{answer_after}
 use Rattle.enumset_machine.proofs.serve.answer_lines.Given as goal
@@ -12,10 +12,10 @@ use Rattle.enumset_machine.proofs.serve.answer_lines.Given as goal
 -- what is left is that of the input.
 abbrev pub invariant-loop-line : goal.invariant-loop-line
 invariant-loop-line g l =
-    let command_of = g.M.Command.LineCommand.command_of in
-    let outcome = g.M.Steps.outcome in
+    let command_of = g.S.Command.LineCommand.command_of in
+    let outcome = outcome_by g.S.RunSet.rules g.S.Run.plan in
     record {
-      commands : l.has_room ≡ true → answer_after outcome (g.M.Steps.view l.machine) (string_bytes l.text) (commands_from command_of (l.number + 1) l.line-iterator) ≡ answer_by (replies_by outcome start) (commands_of_text command_of l.input);
+      commands : l.has_room ≡ true → answer_after outcome l.runner (string_bytes l.text) (commands_from command_of (l.number + 1) l.line-iterator) ≡ answer_by (replies_by outcome start) (commands_of_text command_of l.input);
       fault : result_err (commands_from command_of (l.number + 1) l.line-iterator) ≡ result_err (commands_of_text command_of l.input);
       counted : l.number + length l.line-iterator < 2 ^ 64;
     }

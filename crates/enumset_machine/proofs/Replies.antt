@@ -1,9 +1,0 @@
--- The replies after one more command.
-use Rattle.std.proofs.Common.{◌≡◌, ℕ, ◌+◌, ◌<◌, List, [], ◌∷◌, ◌++◌, length, get_or, drop, append_assoc, drop-cons, add-one, refl}
-use Rattle.enumset_commands.specs.declared.reply.Reply.{Reply}
-use Rattle.enumset_machine.specs.States.{State}
-use Rattle.enumset_machine.specs.Plans.{Outcome, replies_by}
-
-pub replies_by-next : {C : Type 0} (outcome : State → C → Outcome) (s t : State) (reply : Reply) (done : List Reply) (commands : List C) (i : ℕ) (command : C) → i < length commands → command ≡ get_or commands i command → outcome s command ≡ record { reply = reply; state = t } → (done ++ reply ∷ []) ++ replies_by outcome t (drop (i + 1) commands) ≡ done ++ replies_by outcome s (drop i commands)
-replies_by-next outcome s t reply done commands i command within here h =
-    rw (append_assoc done (reply ∷ []) (replies_by outcome t (drop (i + 1) commands)), add-one, drop-cons commands i command within, ← here, h) refl
