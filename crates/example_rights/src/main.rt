@@ -1,9 +1,9 @@
 //! Prints rights that are granted, and those that are missing.
-#![tactic(auto)]
+#![tactic(auto, using(enumset::specs::Laws::SetLaws::set_laws))]
 
 mod expressions;
-mod finding;
 mod granting;
+mod loops;
 mod missing;
 mod operators;
 mod proving;

@@ -6,7 +6,6 @@ ghost use Rattle.enumset_repr.specs.BitSet as set;
 use enumset::{EnumSet, EnumSetType};
 
 /// Grants a right that is not granted and revokes it again, which changes nothing.
-#[tactic(auto, using(enumset_repr::specs::Laws::Algebra::algebra))]
 pub fn grant_then_revoke<T: EnumSetType>(granted: &mut EnumSet<T>, right: T)
     requires { set.contains granted.old (T.elements.bit right) ≡ false }
     ensures { granted.new ≡ granted.old }
@@ -16,7 +15,6 @@ pub fn grant_then_revoke<T: EnumSetType>(granted: &mut EnumSet<T>, right: T)
 }
 
 /// Whether the granted set and its complement are disjoint: always.
-#[tactic(auto, using(enumset_repr::specs::Laws::Algebra::algebra))]
 pub fn is_apart_from_the_rest<T: EnumSetType>(granted: &EnumSet<T>) -> bool
     ensures { result ≡ true }
 {
@@ -24,7 +22,7 @@ pub fn is_apart_from_the_rest<T: EnumSetType>(granted: &EnumSet<T>) -> bool
 }
 
 /// A new set, into which the granted rights are inserted one by one.
-#[tactic(auto, using(enumset_repr::specs::Laws::Algebra::algebra))]
+#[tactic(auto, using(enumset_repr::specs::Laws::Loops::loops))]
 pub fn rebuilt<T: EnumSetType>(granted: &EnumSet<T>) -> EnumSet<T>
     ensures { result ≡ granted.now }
 {

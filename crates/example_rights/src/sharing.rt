@@ -23,7 +23,6 @@ pub fn shared_by_all<T: EnumSetType>(grants: &[EnumSet<T>]) -> EnumSet<T>
 }
 
 /// Whether all grants have a right.
-#[tactic(auto, using(enumset::specs::Laws::Folds::folds))]
 pub fn all_may<T: EnumSetType>(grants: &[EnumSet<T>], right: T) -> bool
     ensures { result ≡ list_all (λ granted. set.contains granted (T.elements.bit right)) grants.now }
 {
@@ -40,7 +39,6 @@ pub fn with_shared<T: EnumSetType>(one: &EnumSet<T>, other: &EnumSet<T>) -> Enum
 }
 
 /// The rights that two grants have in common, bit by bit.
-#[tactic(auto, using(enumset_repr::specs::Laws::Algebra::algebra))]
 pub fn shared_by_two<T: EnumSetType>(one: &EnumSet<T>, other: &EnumSet<T>) -> EnumSet<T>
     ensures { (bit : ℕ) → set.contains result bit
         ≡ (set.contains one.now bit && set.contains other.now bit) }

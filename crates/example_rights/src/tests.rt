@@ -3,8 +3,8 @@
 ghost use Rattle.std.specs.Prelude.{◌≡◌};
 
 use crate::expressions::{after_and_before, exchange, exchanged};
-use crate::finding::first_that;
 use crate::granting::{all_granted, grant};
+use crate::loops::{allowed, denied_count, first_denied, is_unhindered};
 use crate::proving::{grant_then_revoke, is_apart_from_the_rest, rebuilt};
 use crate::requests::may;
 use crate::rights::Right;
@@ -74,14 +74,14 @@ fn many_sets_share(rt: HostRuntime) {
 }
 
 #[test]
-fn the_first_is_found(rt: HostRuntime) {
+fn loops_agree(rt: HostRuntime) {
     let granted = Right::Write | Right::Share;
-    let (found, later) = first_that(&granted, |right| *right > Right::Read);
-    assert_eq!(rt; found, Some(Right::Write));
-    assert_eq!(rt; later.len(), 1);
-    let (missing, rest) = first_that(&granted, |right| *right > Right::Share);
-    assert_eq!(rt; missing, None);
-    assert_eq!(rt; rest.len(), 0);
+    let denied = Right::Read | Right::Share;
+    assert_eq!(rt; allowed(&granted, &denied).as_u8_truncated(), 2);
+    assert_eq!(rt; denied_count(&granted, &denied), 1);
+    assert_eq!(rt; first_denied(&granted, &denied), Some(Right::Share));
+    assert_eq!(rt; is_unhindered(&granted, &denied), false);
+    assert_eq!(rt; is_unhindered(&granted, &EnumSet::only(Right::Read)), true);
 }
 
 #[test]

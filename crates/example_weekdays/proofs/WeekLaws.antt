@@ -42,6 +42,3 @@ pub none_free : (days : BitSet) (from : ℕ) → from < 7 → is_subset days (be
     → ((q : ℕ) → q < 7 → wait from q < 7 → contains days q ≡ false) → days ≡ empty
 none_free days from f within none = same_set _ _ (λ q.
     let past = contains-past days 7 q within in let no = none q in let small = wait_small from q f in grind (arith, members))
-
-pub one_free : (days : BitSet) (day : ℕ) → contains days day ≡ true → days ≡ empty → true ≡ false
-one_free days day here none = let no = ap (λ s. contains s day) none in grind (arith, members)

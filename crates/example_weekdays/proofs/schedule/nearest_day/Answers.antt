@@ -1,10 +1,7 @@
 use Rattle.std.proofs.Common.{◌≡◌, true, refl, sym, ◌∙◌, ap, arith}
 use Rattle.enumset_repr.specs.BitSet.{is_subset, below}
-use Rattle.example_weekdays.proofs.WeekLaws.{bit_small, wait_next, found, passed, none_free, one_free}
+use Rattle.example_weekdays.proofs.WeekLaws.{bit_small, wait_next, found, passed, none_free}
 use Rattle.example_weekdays.proofs.schedule.nearest_day.Goals as goal
-
-pub returns-then-contains-clause-none : goal.returns-then-contains-clause-none
-returns-then-contains-clause-none c = (λ no. absurd (cc), one_free _ _ (sym c.contains.ensures ∙ c.if-contains.true))
 
 pub returns-then-contains-clause-nearest : goal.returns-then-contains-clause-nearest
 returns-then-contains-clause-nearest c =

@@ -1,0 +1,8 @@
+use Rattle.std.proofs.Common.{◌≡◌}
+use Rattle.std.specs.List.{find}
+use Rattle.enumset_repr.specs.BitSet.{contains, ascending}
+use Rattle.example_rights.proofs.loops.first_denied.Given as goal
+
+-- the first of those to come is the first of all
+abbrev pub invariant-loop-right : goal.invariant-loop-right
+invariant-loop-right g l = find (contains l.denied) l.right-iterator.items ≡ find (contains l.denied) (ascending l.granted)
