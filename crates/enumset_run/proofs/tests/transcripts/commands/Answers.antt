@@ -11,5 +11,5 @@ one_bit : (bit : ℕ) → nat_lt bit 128 ≡ true → is_subset (only bit) (belo
 one_bit bit h = insert-is_subset (below 128) empty bit no_bit (contains-below 128 bit ∙ h)
 
 pub returns : goal.returns
-unfolding plan, mixed_plan
+unfolding plan mixed_plan
 returns c = rw (no_bit, one_bit 63 refl, one_bit 64 refl) refl
