@@ -31,10 +31,13 @@ pub mixed_last_by : {A : Type 0} (item : A → ℕ × Bool) (valid : BitSet) (xs
 mixed_last_by item valid xs None ys step = last_by (λ x. (item x).0) xs None ys (none_left valid xs step.0, none_left valid ys step.1)
 mixed_last_by item valid xs (Some x) ys step = last_by (λ y. (item y).0) xs (Some x) ys (gave_last valid xs ys (item x) step)
 
--- a bound by whether one answer is an item holds by another that is so too
-pub bounds_by : {A B : Type 0} (asks span : ℕ) (r : Option A) (o : Option B) (new_asks new_span : ℕ) → is_some r ≡ is_some o → BoundsAsks asks span r new_asks new_span → BoundsAsks asks span o new_asks new_span
-bounds_by asks span r o new_asks new_span same bounds =
-    (bounds.0, subst (λ b. new_asks + new_span ≤ asks + span + (if b then 1 else 0)) same bounds.1)
+-- what a step from an end leaves, and how many asks it makes
+pub stepped : {A : Type 0} (e end : End) (xs ys : List ℕ) (r : Option A) (asks span new_asks new_span : ℕ) → e ≡ end → (is_some r ≡ is_some (answer end xs)) × (ys ≡ without_answer end xs) → BoundsAsks asks span r new_asks new_span
+    → (ys ≡ without_answer e xs) × BoundsAsks asks span (answer e xs) new_asks new_span
+stepped e end xs ys r asks span new_asks new_span is step bounds = (
+  step.1 ∙ ap (λ d. without_answer d xs) (sym is),
+  (bounds.0, subst (λ b. new_asks + new_span ≤ asks + span + (if b then 1 else 0)) (step.0 ∙ ap (λ d. is_some (answer d xs)) (sym is)) bounds.1),
+)
 
 -- ---- many steps
 

@@ -1,6 +1,6 @@
 -- What was written of a set is read as that set.
-use Rattle.std.proofs.Common.{◌≡◌, ℕ, ◌+◌, ◌*◌, ◌/◌, arith, true, if◌then◌else◌, None, Ok, Err, List, [], ◌∷◌, map, refl, ap, ◌∙◌}
-use Rattle.std.proofs.lemmas.Bool.{lt-ltb}
+use Rattle.std.proofs.Common.{◌≡◌, ℕ, ◌+◌, ◌*◌, ◌/◌, arith, true, None, Ok, Err, List, [], ◌∷◌, map, refl, ap, ◌∙◌}
+use Rattle.std.proofs.lemmas.Bool.{lt-ltb, cond-true}
 use Rattle.enumset_repr.specs.BitSet.{BitSet, is_subset, below}
 use Rattle.enumset_repr.specs.Number.{number, bits}
 use Rattle.enumset_repr.specs.Words.{words, bits_of}
@@ -14,59 +14,55 @@ use Rattle.enumset.specs.declared.set_json.unknown.Unknown.{Unknown}
 use Rattle.enumset.specs.declared.set_json.unknown.Unknown.TheVariants.{Drop, Refuse}
 use Rattle.enumset.specs.declared.set_json.fault.JsonFault.TheVariants.{OutOfRange, UnknownBits}
 
--- a set of valid bits is taken as it is
-pub accepted_within : (s valid : BitSet) (unknown : Unknown) → is_subset s valid ≡ true → accepted valid unknown s ≡ Ok s
+-- a set of valid bits is taken as it is, and so is one below the width
+accepted_within : (s valid : BitSet) (unknown : Unknown) → is_subset s valid ≡ true → accepted valid unknown s ≡ Ok s
 accepted_within s valid Drop within = ap Ok (intersection_within s valid within)
-accepted_within s valid Refuse within = ap (λ b. if b then Ok s else Err UnknownBits) within
+accepted_within s valid Refuse within = cond-true (is_subset s valid) (Ok s) (Err UnknownBits) within
 
-pub number_read : (s : BitSet) (k : ℕ) → is_subset s (below k) ≡ true → number_below k (number_value (number s)) ≡ Ok (number s)
-number_read s k fits = ap (λ b. if b then Ok (number s) else Err OutOfRange) (lt-ltb _ _ (number_fits s k fits))
+kept_within : (s : BitSet) (width : ℕ) (past : Unknown) → is_subset s (below width) ≡ true → kept_below width past s ≡ Ok s
+kept_within s width Drop within = ap Ok (low_within s width within)
+kept_within s width Refuse within = cond-true (is_subset s (below width)) (Ok s) (Err OutOfRange) within
 
-pub number_and_back : (s valid : BitSet) (k : ℕ) (unknown : Unknown) → is_subset s valid ≡ true → is_subset s (below k) ≡ true → set_of_number valid k unknown (number_value (number s)) ≡ Ok s
-number_and_back s valid k unknown within fits = ap (accepted_of bits valid unknown) (number_read s k fits) ∙ ap (accepted valid unknown) (bits-number s) ∙ accepted_within s valid unknown within
+-- ---- numbers
 
-pub mixed_number_and_back : (s : BitSet) (k : ℕ) → is_subset s (below k) ≡ true → mixed_set_of_number k (number_value (number s)) ≡ Ok s
-mixed_number_and_back s k fits = ap all_bits (number_read s k fits) ∙ ap Ok (bits-number s)
-
--- an array of numbers has a word at each place
-pub none_other : (ns : List ℕ) (place : ℕ) → first_other place (items_of (map number_value ns)) ≡ None
-none_other [] place = refl
-none_other (n ∷ ns) place = none_other ns (place + 1)
-
-pub words_read : (ns : List ℕ) → words_of (items_of (map number_value ns)) ≡ ns
-words_read [] = refl
-words_read (n ∷ ns) = ap (λ ms. n ∷ ms) (words_read ns)
-
-pub words_and_back : (s valid : BitSet) (n : ℕ) (unknown : Unknown) → is_subset s valid ≡ true → bits_of (words s n) ≡ s → set_of_words valid unknown (words_value (words s n)) ≡ Ok s
-words_and_back s valid n unknown within back =
-    ap (λ other. accepted_of bits_of valid unknown (words_unless other (items_of (map number_value (words s n))))) (none_other (words s n) 0)
-    ∙ ap (λ ns. accepted valid unknown (bits_of ns)) (words_read (words s n))
-    ∙ ap (accepted valid unknown) back
-    ∙ accepted_within s valid unknown within
-
--- ---- words, as a reader takes them
-
--- words that lose nothing of a set are read as the words that they are
-words_in_back : (s : BitSet) (n : ℕ) → words_in (words_value (words s n)) ≡ Ok (words s n)
-words_in_back s n =
-    ap (λ other. words_unless other (items_of (map number_value (words s n)))) (none_other (words s n) 0)
-    ∙ ap Ok (words_read (words s n))
-
-pub words_accepted : (s valid : BitSet) (n : ℕ) (unknown : Unknown) → bits_of (words s n) ≡ s → set_of_words valid unknown (words_value (words s n)) ≡ accepted valid unknown s
-words_accepted s valid n unknown back =
-    ap (accepted_of bits_of valid unknown) (words_in_back s n) ∙ ap (accepted valid unknown) back
+number_read : (s : BitSet) (k : ℕ) → is_subset s (below k) ≡ true → number_below k (number_value (number s)) ≡ Ok (number s)
+number_read s k fits = cond-true _ (Ok (number s)) (Err OutOfRange) (lt-ltb _ _ (number_fits s k fits))
 
 pub number_accepted : (s valid : BitSet) (k : ℕ) (unknown : Unknown) → is_subset s (below k) ≡ true → set_of_number valid k unknown (number_value (number s)) ≡ accepted valid unknown s
 number_accepted s valid k unknown fits =
     ap (accepted_of bits valid unknown) (number_read s k fits) ∙ ap (accepted valid unknown) (bits-number s)
 
-kept_within : (s : BitSet) (width : ℕ) (past : Unknown) → is_subset s (below width) ≡ true → kept_below width past s ≡ Ok s
-kept_within s width Drop within = ap Ok (low_within s width within)
-kept_within s width Refuse within = ap (λ b. if b then Ok s else Err OutOfRange) within
+pub number_and_back : (s valid : BitSet) (k : ℕ) (unknown : Unknown) → is_subset s valid ≡ true → is_subset s (below k) ≡ true → set_of_number valid k unknown (number_value (number s)) ≡ Ok s
+number_and_back s valid k unknown within fits = number_accepted s valid k unknown fits ∙ accepted_within s valid unknown within
+
+pub mixed_number_and_back : (s : BitSet) (k : ℕ) → is_subset s (below k) ≡ true → mixed_set_of_number k (number_value (number s)) ≡ Ok s
+mixed_number_and_back s k fits = ap all_bits (number_read s k fits) ∙ ap Ok (bits-number s)
+
+-- ---- words
+
+-- an array of numbers has a word at each place
+none_other : (ns : List ℕ) (place : ℕ) → first_other place (items_of (map number_value ns)) ≡ None
+none_other [] place = refl
+none_other (n ∷ ns) place = none_other ns (place + 1)
+
+words_back : (ns : List ℕ) → words_of (items_of (map number_value ns)) ≡ ns
+words_back [] = refl
+words_back (n ∷ ns) = ap (λ ms. n ∷ ms) (words_back ns)
+
+words_read : (s : BitSet) (n : ℕ) → words_in (words_value (words s n)) ≡ Ok (words s n)
+words_read s n = ap (λ other. words_unless other (items_of (map number_value (words s n)))) (none_other (words s n) 0) ∙ ap Ok (words_back (words s n))
+
+-- words that lose nothing of a set are read as the words that they are
+pub words_accepted : (s valid : BitSet) (n : ℕ) (unknown : Unknown) → bits_of (words s n) ≡ s → set_of_words valid unknown (words_value (words s n)) ≡ accepted valid unknown s
+words_accepted s valid n unknown back =
+    ap (accepted_of bits_of valid unknown) (words_read s n) ∙ ap (accepted valid unknown) back
+
+pub words_and_back : (s valid : BitSet) (n : ℕ) (unknown : Unknown) → is_subset s valid ≡ true → bits_of (words s n) ≡ s → set_of_words valid unknown (words_value (words s n)) ≡ Ok s
+words_and_back s valid n unknown within back = words_accepted s valid n unknown back ∙ accepted_within s valid unknown within
 
 pub words_kept : (s : BitSet) (width n : ℕ) (past : Unknown) → is_subset s (below width) ≡ true → bits_of (words s n) ≡ s → mixed_set_of_words width past (words_value (words s n)) ≡ Ok s
 words_kept s width n past within back =
-    ap (kept_of width past) (words_in_back s n) ∙ ap (kept_below width past) back ∙ kept_within s width past within
+    ap (kept_of width past) (words_read s n) ∙ ap (kept_below width past) back ∙ kept_within s width past within
 
 -- as many words as a representation of a width has lose nothing of a set below the width
 pub all_in_words : (s : BitSet) (n width : ℕ) → n ≡ (width + 63) / 64 → is_subset s (below width) ≡ true → bits_of (words s n) ≡ s

@@ -1,33 +1,127 @@
--- The words of JSON arrays.
-use Rattle.std.proofs.Common.{◌≡◌, ◌<◌, ◌≤◌, ℕ, suc, zero, ◌+◌, Bool, true, false, if◌then◌else◌, Some, List, [], ◌∷◌, map, drop, length, refl, ap, arith, slice_index, get_or, is_some, unwrap_or}
+-- The words of JSON arrays, read one by one into a set.
+use Rattle.std.proofs.Common.{◌≡◌, ◌<◌, ◌≤◌, ℕ, zero, suc, ◌+◌, ◌*◌, ◌^◌, Bool, true, ◌&&◌, if◌then◌else◌, inl, inr, Option, Some, is_some, unwrap_or, List, [], ◌∷◌, map, drop, get_or, length, refl, sym, ap, subst, ◌∙◌, arith, slice_index}
+use Rattle.std.proofs.lemmas.Bool.{cases_lt, and_parts, and_from, eqb-true, eq-eqb}
+use Rattle.std.proofs.lemmas.Bool.Decides.{nat_tests, same_from_decides}
+use Rattle.std.proofs.lemmas.List.{get_or_past}
+use Rattle.std.specs.Bool.{Decides}
+use Rattle.std.specs.Prelude.{◌==◌, nat_lt}
+use Rattle.enumset_repr.specs.BitSet.{BitSet, empty, contains, is_subset, below, low}
+use Rattle.enumset_repr.specs.Words.{word, with_word, bits_of}
+use Rattle.enumset_repr.specs.Laws.Members.{contains-low}
+use Rattle.enumset_repr.specs.Laws.Numbers.{same_number}
+use Rattle.enumset_repr.specs.Laws.Low.{low_within, low_narrow, is_subset_wider}
+use Rattle.enumset_repr.specs.Laws.Words.{contains-bits-word}
+use Rattle.enumset_repr.specs.Laws.WordLists.{word-bits_of, put_next, bits_of-within}
+use Rattle.enumset_repr.specs.Laws.Filled.{none_put, all_kept}
+use Rattle.serde_json.specs.Data.{Data, null, boolean, number, string, array, object, Items}
+use Rattle.serde_json.specs.Find.{as_array}
 use Rattle.serde_json.specs.View.{view, items_of, items_view}
 use Rattle.serde_json.specs.declared.value.Value.{Value}
-use Rattle.enumset.specs.Json.{word_of, words_of, first_other}
+use Rattle.enumset.specs.Json.{word_of, words_of, first_other, words_unless, words_in}
+use Rattle.enumset.proofs.NameLists.{left_at}
+
+words_in_array : (d : Data) (ds : Items) → as_array d ≡ Some ds → words_in d ≡ words_unless (first_other 0 ds) ds
+words_in_array (array es) ds is = let same : es ≡ ds = cc in ap (λ xs. words_unless (first_other 0 xs) xs) same
+words_in_array null ds is = absurd (cc)
+words_in_array (boolean b) ds is = absurd (cc)
+words_in_array (number n) ds is = absurd (cc)
+words_in_array (string s) ds is = absurd (cc)
+words_in_array (object ms) ds is = absurd (cc)
 
 pub length-words_of : (vs : List Value) → length (words_of (items_view vs)) ≡ length vs
 length-words_of [] = refl
 length-words_of (v ∷ vs) = ap suc (length-words_of vs)
 
--- the word of an element, where d is any other value
-pub words_of-at : (vs : List Value) (i : ℕ) (d : Value) → i < length vs → unwrap_or (word_of (view (get_or vs i d))) 0 ≡ slice_index (words_of (items_view vs)) i
+words_of-at : (vs : List Value) (i : ℕ) (d : Value) → i < length vs → unwrap_or (word_of (view (get_or vs i d))) 0 ≡ slice_index (words_of (items_view vs)) i
 words_of-at [] i d under = absurd (omega (arith, under))
 words_of-at (v ∷ vs) zero d under = refl
 words_of-at (v ∷ vs) (suc i) d under = words_of-at vs i d (omega (arith, under))
 
-pub words_of-past : (vs : List Value) (i : ℕ) → length vs ≤ i → 0 ≡ slice_index (words_of (items_view vs)) i
-words_of-past [] i past = refl
-words_of-past (v ∷ vs) zero past = absurd (omega (arith, past))
-words_of-past (v ∷ vs) (suc i) past = words_of-past vs i (omega (arith, past))
+-- the first element from a place on that is no word
+abbrev pub other_from : List Value → ℕ → Option ℕ
+other_from vs place = first_other place (items_of (map view (drop place vs)))
 
--- an element that is a word is passed over
-pub first_other-next : (vs : List Value) (place k next : ℕ) (d : Value) → next ≡ k + 1 → k < length vs → is_some (word_of (view (get_or vs k d))) ≡ true → first_other place (items_of (map view (drop k vs))) ≡ first_other (place + 1) (items_of (map view (drop next vs)))
-first_other-next [] place k next d is under one = absurd (omega (arith, under))
-first_other-next (v ∷ vs) place zero zero d is under one = absurd (omega (arith, is))
-first_other-next (v ∷ vs) place zero (suc zero) d is under one = ap (λ t. if t then first_other (place + 1) (items_view vs) else Some place) one
-first_other-next (v ∷ vs) place zero (suc (suc n)) d is under one = absurd (omega (arith, is))
-first_other-next (v ∷ vs) place (suc k) zero d is under one = absurd (omega (arith, is))
-first_other-next (v ∷ vs) place (suc k) (suc next) d is under one = first_other-next vs place k next d (omega (arith, is)) (omega (arith, under)) one
+module _ (vs : List Value) (place : ℕ) (v : Value) (o : Option ℕ) (under : place < length vs) (is : v ≡ get_or vs place v) (seen : o ≡ word_of (view v)) where
+  pub other_at : other_from vs place ≡ (if is_some o then other_from vs (place + 1) else Some place)
+  other_at =
+      ap (λ us. first_other place (items_of (map view us))) (left_at vs place v under is) ∙ ap (λ w. if is_some w then other_from vs (place + 1) else Some place) (sym seen)
 
-pub refuted : (b : Bool) → ((b ≡ true) → ⊥) → false ≡ b
-refuted true none = absurd (none refl)
-refuted false none = refl
+  pub word_here : (x : ℕ) → o ≡ Some x → x ≡ slice_index (words_of (items_view vs)) place
+  word_here x found = ap (λ w. unwrap_or w 0) (sym found ∙ seen) ∙ ap (λ u. unwrap_or (word_of (view u)) 0) is ∙ words_of-at vs place v under
+
+-- what an array is read as
+pub words_read : (d : Data) (vs : List Value) (found : Option ℕ) → as_array d ≡ Some (items_view vs) → other_from vs 0 ≡ found → words_in d ≡ words_unless found (items_view vs)
+words_read d vs found is other = words_in_array d (items_view vs) is ∙ ap (λ o. words_unless o (items_view vs)) other
+
+-- whether a set has the words of a list before a place
+abbrev pub Has : BitSet → List ℕ → ℕ → Type 0
+Has s ws place = (w : ℕ) → w < place → word s w ≡ slice_index ws w
+
+-- a set of the words before a place, and whether a width cuts none of them
+pub record AreRead (ws : List ℕ) (place width : ℕ) (s : BitSet) (is_whole : Bool) : Type 0 where
+  pub small : (w : ℕ) → w < place → slice_index ws w < 2 ^ 64
+  pub put : (t : BitSet) → Has t ws place → s ≡ low (low t (64 * place)) width
+  pub whole : (t : BitSet) → Has t ws place → Decides is_whole (Has (low t width) ws place)
+
+pub none_read : (ws : List ℕ) (width : ℕ) → AreRead ws 0 width empty true
+none_read ws width = record {
+  small = λ w under. absurd (omega (arith, under));
+  put = λ t has. sym (none_put t width);
+  whole = λ t has. (λ _ w under. absurd (omega (arith, under)), λ _. refl);
+}
+
+one_more : (P : ℕ → Type 0) (place : ℕ) → ((w : ℕ) → w < place → P w) → P place → (w : ℕ) → w < place + 1 → P w
+one_more P place before here w under = elim (cases_lt w place) [
+  | inl less ↦ before w less
+  | inr past ↦ subst P (omega (arith, under, past)) here
+]
+
+word-low : (s : BitSet) (width w : ℕ) → word (low (low s (64 * (w + 1))) width) w ≡ word (low s width) w
+word-low s width w = same_number _ _ (λ b.
+    contains-bits-word _ w b
+    ∙ ap (λ t. t && nat_lt b 64) (contains-low _ width (64 * w + b) ∙ ap (λ t. t && nat_lt (64 * w + b) width) (contains-low s (64 * (w + 1)) (64 * w + b)))
+    ∙ under (contains s (64 * w + b)) b
+    ∙ sym (contains-bits-word _ w b ∙ ap (λ t. t && nat_lt b 64) (contains-low s width (64 * w + b))))
+  where
+    under : (c : Bool) (b : ℕ) → (((c && nat_lt (64 * w + b) (64 * (w + 1))) && nat_lt (64 * w + b) width) && nat_lt b 64) ≡ ((c && nat_lt (64 * w + b) width) && nat_lt b 64)
+    under c b = grind (arith, nat_tests)
+
+module _ (ws : List ℕ) (place width : ℕ) (s : BitSet) (is_whole : Bool) (before : AreRead ws place width s is_whole) where
+  pub put_in : (x : ℕ) (r : BitSet) → x ≡ slice_index ws place → r ≡ with_word s width place x → (t : BitSet) → Has t ws (place + 1) → r ≡ low (low t (64 * (place + 1))) width
+  put_in x r is made t has =
+      made ∙ (λ j. with_word (before.put t (λ w under. has w (omega (arith, under))) j) width place ((is ∙ sym (has place (omega arith))) j)) ∙ put_next t width place
+
+  pub left_out : width ≤ 64 * place → (t : BitSet) → Has t ws (place + 1) → s ≡ low (low t (64 * (place + 1))) width
+  left_out past t has =
+      before.put t (λ w under. has w (omega (arith, under))) ∙ low_narrow t (64 * place) width past ∙ sym (low_narrow t (64 * (place + 1)) width (omega (arith, past)))
+
+  pub one_read : (x : ℕ) (r : BitSet) → x ≡ slice_index ws place → x < 2 ^ 64 → ((t : BitSet) → Has t ws (place + 1) → r ≡ low (low t (64 * (place + 1))) width)
+      → AreRead ws (place + 1) width r (is_whole && (word r place == x))
+  one_read x r is fits put = record {
+    small = one_more (λ w. slice_index ws w < 2 ^ 64) place before.small (subst (λ n. n < 2 ^ 64) is fits);
+    put = put;
+    whole = λ t has.
+        let rest = before.whole t (λ w under. has w (omega (arith, under))) in
+        let same : word r place ≡ word (low t width) place = ap (λ u. word u place) (put t has) ∙ word-low t width place in (
+          λ kept. one_more (λ w. word (low t width) w ≡ slice_index ws w) place (rest.0 (and_parts _ _ kept).0) (sym same ∙ eqb-true _ _ (and_parts _ _ kept).1 ∙ is),
+          λ kept. and_from _ _ (rest.1 (λ w under. kept w (omega (arith, under)))) (eq-eqb _ _ (same ∙ kept place (omega arith) ∙ sym is)),
+        );
+  }
+
+  pub all_read : length ws ≤ place → (s ≡ low (bits_of ws) width) × (is_whole ≡ is_subset (bits_of ws) (below width))
+  all_read past = (
+    before.put (bits_of ws) has ∙ ap (λ t. low t width) (low_within _ _ (is_subset_wider _ (64 * length ws) (64 * place) (omega (arith, past)) (bits_of-within ws fit))),
+    same_from_decides _ _ (before.whole (bits_of ws) has) (
+      λ within w under. ap (λ t. word t w) (low_within _ _ within) ∙ has w under,
+      λ kept. all_kept ws width fit (λ w under. kept w (omega (arith, under, past))),
+    ),
+  )
+    where
+      fit : (w : ℕ) → slice_index ws w < 2 ^ 64
+      fit w = elim (cases_lt w place) [
+        | inl under ↦ before.small w under
+        | inr from ↦ omega (arith, get_or_past ws w 0 (omega (arith, past, from)))
+      ]
+
+      has : (w : ℕ) → w < place → word (bits_of ws) w ≡ slice_index ws w
+      has w under = word-bits_of ws w fit

@@ -1,10 +1,7 @@
-mod Results
 mod AskedSteps
 mod NameLists
 mod NameLaws
-mod MapLaws
-mod OtherNames
-mod OneByOne
+mod NamesTaken
 mod NamesRead
 pub mod JsonNumbers
 pub mod JsonWords

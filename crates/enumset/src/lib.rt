@@ -14,5 +14,7 @@ mod names;
 pub mod set;
 pub mod set_json;
 
-pub use enumset_sets::{EnumSet, EnumSetIter, EnumSetType, EnumSetTypeWithRepr, variant_of};
+pub use enumset_sets::{
+    EnumSet, EnumSetIter, EnumSetType, EnumSetTypeWithRepr, variant_of, variants,
+};
 pub use names::EnumSetNames;

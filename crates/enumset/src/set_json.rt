@@ -3,7 +3,6 @@
 //!
 //! In Rust's `enumset` these are the forms that its `serde` feature writes and reads.
 
-mod elements;
 mod fault;
 mod known;
 mod lists;

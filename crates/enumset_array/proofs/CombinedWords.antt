@@ -1,10 +1,10 @@
 -- The words of an `ArrayRepr` made from those of others, word by word.
-use Rattle.std.proofs.Common.{◌≡◌, ◌<◌, ◌≤◌, ◌↔◌, ◌⊎◌, inl, inr, ℕ, ◌*◌, ◌+◌, ◌^◌, not, ◌&&◌, ◌-◌, List, ◌++◌, length, drop, refl, sym, ap, ◌∙◌, subst, arith, w64}
-use Rattle.std.specs.Prelude.{◌==◌, slice_index, IsTrue, nat_lt}
+use Rattle.std.proofs.Common.{◌≡◌, ◌<◌, ◌≤◌, ◌↔◌, ℕ, ◌*◌, ◌+◌, ◌^◌, false, ◌-◌, List, ◌++◌, length, drop, refl, sym, ap, ◌∙◌, subst, arith, w64}
+use Rattle.std.specs.Prelude.{◌==◌, slice_index, IsTrue}
 use Rattle.std.specs.List.{list_all}
 use Rattle.std.specs.Int.{bit_not}
 use Rattle.std.proofs.Math.Pow.{ones_sub-lt}
-use Rattle.std.proofs.lemmas.Bool.{cases_lt, lt-ltb, le-ltb}
+use Rattle.std.proofs.lemmas.Bool.Decides.{nat_tests}
 use Rattle.std.proofs.lemmas.List.{get_or_past, get_or_append_left, get_or-append_right, get_or-take, get_or-drop, length-append, length-take, length-drop}
 use Rattle.std.proofs.lemmas.Simd.{length-zip2, get_or-zip2}
 use Rattle.std.specs.Simd.Lanes.{zip2}
@@ -26,12 +26,11 @@ module _ (op : ℕ → ℕ → ℕ) (of_sets : BitSet → BitSet → BitSet) (on
   length-made = length-zip2 op a b (first.long ∙ sym second.long) ∙ first.long
 
   each : (k : ℕ) → slice_index (zip2 op a b) k ≡ op (slice_index a k) (slice_index b k)
-  each k = at (cases_lt k n)
-    where
-      at : (k < n) ⊎ (n ≤ k) → slice_index (zip2 op a b) k ≡ op (slice_index a k) (slice_index b k)
-      at (inl low) = get_or-zip2 op a b k 0 0 0 (omega (arith, low, first.long)) (omega (arith, low, second.long))
-      at (inr past) = let from : in_use n ≤ k = omega (arith, past, in_use-le n) in
-          get_or_past (zip2 op a b) k 0 (omega (arith, past, length-made)) ∙ sym (none_past k from)
+  each k =
+      let low = get_or-zip2 op a b k 0 0 0 in
+      let past = get_or_past (zip2 op a b) k 0 in
+      let none = none_past k in
+      grind (arith, first.long, second.long, length-made, in_use-le n)
 
   pub made_repr : IsArrayRepr n (zip2 op a b)
   made_repr = record {
@@ -80,21 +79,13 @@ module _ (n : ℕ) (a : List ℕ) (first : IsArrayRepr n a) where
   pub inverted_repr : IsArrayRepr n (inverted n a)
   inverted_repr = record {
     long = omega (arith, length-append front (drop (in_use n) a), length-front, length-drop (in_use n) a, first.long, in_use-le n);
-    fit = λ k. at k (cases_lt k (in_use n));
+    fit = λ k. let low = turned k in let past = none k in grind (arith, ones_sub-lt 64 (slice_index a k));
     past = empty_past n (inverted n a) none;
   }
-    where
-      at : (k : ℕ) → (k < in_use n) ⊎ (in_use n ≤ k) → slice_index (inverted n a) k < 2 ^ 64
-      at k (inl low) = subst (λ x. x < 2 ^ 64) (sym (turned k low)) (ones_sub-lt 64 (slice_index a k))
-      at k (inr past) = omega (arith, none k past)
 
   pub inverted_set : set_of n (inverted n a) ≡ difference (below (64 * in_use n)) (set_of n a)
   inverted_set = set_is n (inverted n a) _ inverted_repr (λ w q small.
-      at w q small (cases_lt w (in_use n)) ∙ ap (λ t. t && not (contains (set_of n a) (64 * w + q))) (sym (contains-below (64 * in_use n) (64 * w + q))) ∙ sym (contains-difference _ _ (64 * w + q)))
-    where
-      at : (w q : ℕ) → q < 64 → (w < in_use n) ⊎ (in_use n ≤ w) → contains (bits (slice_index (inverted n a) w)) q ≡ (nat_lt (64 * w + q) (64 * in_use n) && not (contains (set_of n a) (64 * w + q)))
-      at w q small (inl low) =
-          ap (λ x. contains (bits x) q) (turned w low) ∙ ap (λ s. contains s q) (bits-not 64 (slice_index a w) (first.fit w)) ∙ contains-difference _ _ q
-          ∙ (λ i. (contains-below 64 q ∙ lt-ltb q 64 small ∙ sym (lt-ltb (64 * w + q) (64 * in_use n) (omega (arith, low, small)))) i && not (sym (contains-set_of n a w q first small) i))
-      at w q small (inr past) =
-          contains-zero _ q (none w past) ∙ ap (λ t. t && not (contains (set_of n a) (64 * w + q))) (sym (le-ltb (64 * w + q) (64 * in_use n) (omega (arith, past))))
+      let low : w < in_use n → contains (bits (slice_index (inverted n a) w)) q ≡ contains (difference (below 64) (bits (slice_index a w))) q
+      = λ under. ap (λ x. contains (bits x) q) (turned w under) ∙ ap (λ s. contains s q) (bits-not 64 (slice_index a w) (first.fit w)) in
+      let past : in_use n ≤ w → contains (bits (slice_index (inverted n a) w)) q ≡ false = λ over. contains-zero _ q (none w over) in
+      grind (arith, nat_tests, contains-difference, contains-below, contains-set_of n a w q first small))

@@ -4,28 +4,23 @@ use Rattle.std.specs.Prelude.{slice_index, bit_xor}
 use Rattle.std.specs.declared.cmp.Ordering.{Ordering}
 use Rattle.std.specs.declared.cmp.Ordering.TheVariants.{Equal}
 use Rattle.std.specs.Ordering.{MatchOrdering, ordering_then, nat_cmp}
-use Rattle.std.specs.Cmp.{ranks, nat_cmp_is}
+use Rattle.std.specs.Cmp.{ranks, tied_itself}
 use Rattle.std.specs.Cmp.Lexicographic.{same_text}
 use Rattle.std.specs.Simd.Lanes.{zip2, chunk}
-use Rattle.std.proofs.Math.Seq.{drop-cons}
 use Rattle.std.proofs.lemmas.Bool.Decides.{nat_tests}
 use Rattle.std.proofs.lemmas.List.{take-append-drop, drop-drop}
 use Rattle.std.proofs.lemmas.Simd.{length-chunk}
 use Rattle.enumset_array.specs.Order.{highest_first}
-use Rattle.enumset_array.specs.Laws.Order.{highest_first-cons}
+use Rattle.enumset_array.specs.Laws.Order.{highest_first-cons, highest_first-total}
 use Rattle.enumset_array.proofs.WordLanes.{none_in, none_apart}
 
 -- ---- what decides
-
-same_compares : (a : List ℕ) → highest_first a a ≡ Equal
-same_compares [] = refl
-same_compares (x ∷ a) = highest_first-cons x x a a refl ∙ (λ i. ordering_then (same_compares a i) (sym (nat_cmp_is x x Equal refl) i))
 
 -- lists that are equal from their first place on
 pub all_equal : (a b : List ℕ) (i : ℕ) → i ≡ 0 → drop i a ≡ drop i b → Equal ≡ highest_first a b
 all_equal a b i none same =
     let whole : a ≡ b = ap (λ n. drop n a) (sym none) ∙ same ∙ ap (λ n. drop n b) none in
-    sym (ap (highest_first a) (sym whole) ∙ same_compares a)
+    sym (ap (highest_first a) (sym whole) ∙ tied_itself highest_first-total a)
 
 kept : (o p : Ordering) (u v : ℕ) → MatchOrdering o (u < v) (u ≡ v) (v < u) → u ≢ v → ordering_then o p ≡ o
 kept o p u v h apart = grind (arith, nat_tests, h, apart)
@@ -49,14 +44,6 @@ decided_at a b i end next long under apart same =
     sym (decided a b i long under apart (ap (λ n. drop n a) (sym e) ∙ same ∙ ap (λ n. drop n b) e))
 
 -- ---- lists that are equal from a place on
-
--- one word lower
-pub word_lower : (a b : List ℕ) (i end : ℕ) → end ≡ i + 1 → length a ≡ length b → i < length a → slice_index a i ≡ slice_index b i → drop end a ≡ drop end b → drop i a ≡ drop i b
-word_lower a b i end next long under here same =
-    let e : end ≡ suc i = next ∙ add-one i in
-    drop-cons a i 0 under
-    ∙ (λ k. here k ∷ (ap (λ n. drop n a) (sym e) ∙ same ∙ ap (λ n. drop n b) e) k)
-    ∙ sym (drop-cons b i 0 (omega (arith, long, under)))
 
 parted : (a : List ℕ) (i n end : ℕ) → end ≡ i + n → drop i a ≡ chunk i n a ++ drop end a
 parted a i n end next = sym (take-append-drop n (drop i a)) ∙ ap (λ l. chunk i n a ++ l) (drop-drop n i a ∙ ap (λ m. drop m a) (sym next))

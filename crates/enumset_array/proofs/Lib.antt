@@ -1,9 +1,7 @@
 pub mod WordLanes
 pub mod HighestApart
-pub mod Covers
 pub mod Walks
 pub mod CombinedWords
 pub mod ReplacedWord
 pub mod RowWords
-pub mod EndTakenOut
-pub mod BitTakenOut
+pub mod TakenOut

@@ -11,19 +11,18 @@ use Rattle.enumset_repr.specs.Number.{bits}
 use Rattle.enumset_repr.specs.Laws.Numbers.{len-bits}
 use Rattle.enumset_array.specs.ArrayWords.{in_use, words_in_use, IsArrayRepr}
 use Rattle.enumset_array.proofs.ReplacedWord.{set_repr}
-use Rattle.enumset_array.proofs.EndTakenOut.{taken_small, taken_first, taken_last}
+use Rattle.enumset_array.proofs.TakenOut.{first_fits, last_fits}
 
 -- ---- one word replaced
 
-module _ (n : ℕ) (ws : List ℕ) (i x : ℕ) (low : i < length (words_in_use n ws)) where
+module _ (n : ℕ) (ws us : List ℕ) (i x : ℕ) (same : words_in_use n ws ≡ us) (low : i < length us) where
   low_use : i < in_use n
-  low_use = omega (arith, low, length-take (in_use n) ws)
+  low_use = omega (arith, low, ap length same, length-take (in_use n) ws)
 
-  row_set : words_in_use n (set ws i x) ≡ set (words_in_use n ws) i x
-  row_set = take-set-lt (in_use n) ws i x low_use
-
-  pub row_others : words_in_use n (set ws i x) ≡ set (words_in_use n ws) i (slice_index (words_in_use n (set ws i x)) i)
-  row_others = row_set ∙ ap (set (words_in_use n ws) i) (sym (ap (λ xs. slice_index xs i) row_set ∙ get_or-set_same (words_in_use n ws) i x 0 low))
+  pub row_others : words_in_use n (set ws i x) ≡ set us i (slice_index (words_in_use n (set ws i x)) i)
+  row_others =
+      let row : words_in_use n (set ws i x) ≡ set us i x = take-set-lt (in_use n) ws i x low_use ∙ ap (λ l. set l i x) same in
+      row ∙ ap (set us i) (sym (ap (λ xs. slice_index xs i) row ∙ get_or-set_same us i x 0 low))
 
   pub row_repr : IsArrayRepr n ws → x < 2 ^ 64 → IsArrayRepr n (set ws i x)
   row_repr is_repr fits = set_repr n ws i x is_repr low_use fits
@@ -35,11 +34,11 @@ Gives joined x r y = MatchOption r ((x ≡ 0) × (y ≡ x)) (λ b. ascending (bi
 
 pub front_fits : (x y : ℕ) (r : Option ℕ) → x < 2 ^ 64 → Gives (λ b bs. b ∷ bs) x r y → y < 2 ^ 64
 front_fits x y None fits left = subst (λ m. m < 2 ^ 64) (sym left.1) fits
-front_fits x y (Some b) fits first = taken_small x y 64 b fits (taken_first _ _ b first)
+front_fits x y (Some b) fits first = first_fits x y 64 b fits first
 
 pub back_fits : (x y : ℕ) (r : Option ℕ) → x < 2 ^ 64 → Gives (λ b bs. bs ++ b ∷ []) x r y → y < 2 ^ 64
 back_fits x y None fits left = subst (λ m. m < 2 ^ 64) (sym left.1) fits
-back_fits x y (Some b) fits last = taken_small x y 64 b fits (taken_last _ _ b last)
+back_fits x y (Some b) fits last = last_fits x y 64 b fits last
 
 -- ---- the bits counted word by word
 

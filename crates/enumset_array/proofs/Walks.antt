@@ -1,6 +1,7 @@
 -- The laws of steps from either end of a list: no step, and one step more.
-use Rattle.std.proofs.Common.{◌≡◌, ◌<◌, ◌≤◌, ℕ, suc, ◌+◌, List, [], ◌∷◌, ◌++◌, Option, Some, None, length, take, get_or, add-one, take-suc, is_some, MatchOption, if◌then◌else◌, refl, sym, ap, ◌∙◌, subst, arith, length-append, append-nil, inl, inr, IfNone, Contains}
+use Rattle.std.proofs.Common.{◌≡◌, ◌<◌, ◌≤◌, ℕ, suc, ◌+◌, List, [], ◌∷◌, ◌++◌, Option, Some, None, length, take, get_or, is_some, MatchOption, if◌then◌else◌, refl, sym, ap, ◌∙◌, subst, arith, length-append, append-nil, inl, inr, IfNone, Contains}
 use Rattle.std.specs.Prelude.{filter_map}
+use Rattle.std.proofs.lemmas.List.{take_more}
 use Rattle.std.proofs.lemmas.List.Elements.{filter_map-append, Contains-push_cases}
 use Rattle.enumset_repr.specs.BitSet.{BitSet, remove, difference, from_list}
 use Rattle.enumset_repr.specs.Laws.Members.{members, same_set, contains-from_list}
@@ -61,10 +62,7 @@ difference-step s t u rs (Some b) e step =
 
 -- once an answer was None, the cursors have met
 pub none-push : (rs : List (Option ℕ)) (r : Option ℕ) (P Q : Type 0) → (Contains rs None → P) → (P → r ≡ None) → IfNone r Q → Contains (rs ++ r ∷ []) None → Q
-none-push rs r P Q before stays met has = elim (Contains-push_cases rs r None has) [
-  | inl earlier ↦ subst (λ o. IfNone o Q) (stays (before earlier)) met
-  | inr now ↦ subst (λ o. IfNone o Q) now met
-]
+none-push rs r P Q before stays met has = subst (λ o. IfNone o Q) (elim (Contains-push_cases rs r None has) [ inl earlier ↦ stays (before earlier) | inr now ↦ now ]) met
 
 -- ---- no step
 
@@ -85,14 +83,11 @@ none_in_no_answers rs e has = let short : length rs ≡ 0 = ap length e in absur
 
 -- ---- the next end of a list of ends
 
-one_more : (es : List End) (i : ℕ) → i < length es → take (i + 1) es ≡ take i es ++ get_or es i Front ∷ []
-one_more es i h = ap (λ n. take n es) (add-one i) ∙ take-suc es i Front h
-
 pub answers_next : (xs : List ℕ) (es : List End) (i : ℕ) (rs vs : List (Option ℕ)) (r : Option ℕ) (ys : List ℕ) → i < length es → rs ≡ answers xs (take i es) → ys ≡ without_answers xs (take i es)
     → r ≡ answer (get_or es i Front) ys → vs ≡ rs ++ r ∷ [] → vs ≡ answers xs (take (i + 1) es)
 answers_next xs es i rs vs r ys h items rest item pushed =
-    pushed ∙ (λ k. items k ++ (item ∙ ap (answer (get_or es i Front)) rest) k ∷ []) ∙ sym (answers-push xs (take i es) (get_or es i Front)) ∙ ap (answers xs) (sym (one_more es i h))
+    pushed ∙ (λ k. items k ++ (item ∙ ap (answer (get_or es i Front)) rest) k ∷ []) ∙ sym (answers-push xs (take i es) (get_or es i Front)) ∙ ap (answers xs) (sym (take_more es i Front h))
 
 pub rest_next : (xs : List ℕ) (es : List End) (i : ℕ) (ys zs : List ℕ) → i < length es → ys ≡ without_answers xs (take i es) → zs ≡ without_answer (get_or es i Front) ys → zs ≡ without_answers xs (take (i + 1) es)
 rest_next xs es i ys zs h rest step =
-    step ∙ ap (without_answer (get_or es i Front)) rest ∙ sym (without_answers-push xs (take i es) (get_or es i Front)) ∙ ap (without_answers xs) (sym (one_more es i h))
+    step ∙ ap (without_answer (get_or es i Front)) rest ∙ sym (without_answers-push xs (take i es) (get_or es i Front)) ∙ ap (without_answers xs) (sym (take_more es i Front h))

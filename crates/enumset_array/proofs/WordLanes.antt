@@ -1,76 +1,70 @@
 -- Loops over lists of words, four words at a time.
-use Rattle.std.proofs.Common.{◌≡◌, ◌≢◌, ◌<◌, ◌≤◌, ℕ, zero, suc, ◌+◌, ◌*◌, ◌/◌, Bool, true, false, ◌&&◌, List, [], ◌∷◌, length, take, drop, get_or, set, bit_and, bit_or, refl, sym, ap, ◌∙◌, arith, w64, map, add-one}
+use Rattle.std.proofs.Common.{◌≡◌, ◌≢◌, ◌<◌, ◌≤◌, inl, inr, ℕ, zero, suc, ◌+◌, ◌-◌, ◌*◌, ◌/◌, Bool, true, false, ◌&&◌, List, [], ◌∷◌, length, take, drop, get_or, set, length-set, bit_and, bit_or, refl, sym, ap, ◌∙◌, arith, w64, map}
 use Rattle.std.specs.Prelude.{◌==◌, nat_eq, slice_index, bit_xor}
 use Rattle.std.specs.Int.{bit_not}
-use Rattle.std.specs.Int.Bits.{or_zero_l}
+use Rattle.std.specs.Int.Bits.{or_zero_l, xor_zero_l, xor_zero_r}
 use Rattle.std.specs.List.{list_all}
 use Rattle.std.specs.Cmp.Lexicographic.{pointwise}
 use Rattle.std.specs.Simd.{first_chunks}
 use Rattle.std.specs.Simd.Lanes.{zip2, chunk, put_chunk, fold_l}
 use Rattle.std.proofs.Math.Bool.{and-true, and-false, and_assoc}
-use Rattle.std.proofs.Math.Seq.{take-add, take-suc}
-use Rattle.std.proofs.lemmas.Bool.{eqb-true}
-use Rattle.std.proofs.lemmas.Bool.Decides.{nat_tests, same_from_decides}
-use Rattle.std.proofs.lemmas.List.{take-append-drop, take_all, drop-drop}
-use Rattle.std.proofs.lemmas.List.Folds.{list_all-append}
-use Rattle.std.proofs.lemmas.Nat.{le_or_l, xor_comm}
-use Rattle.std.proofs.lemmas.Simd.{length-chunk}
-use lib.Bits.{xor_assoc, xor_self, xor_zero_r}
+use Rattle.std.proofs.Math.Seq.{take-add}
+use Rattle.std.proofs.lemmas.Bool.{cases_lt}
+use Rattle.std.proofs.lemmas.Bool.Decides.{nat_tests}
+use Rattle.std.proofs.lemmas.Grind.{same_number_lists}
+use Rattle.std.proofs.lemmas.List.{take-append-drop, take_all, drop-drop, get_or-set_same, get_or-set_other}
+use Rattle.std.proofs.lemmas.List.Folds.{list_all-append, list_all_more}
+use Rattle.std.proofs.lemmas.Nat.{le_or_l, le_or_r}
+use Rattle.std.proofs.lemmas.Simd.{length-chunk, length-zip2, length-put_chunk, get_or-chunk, get_or-zip2, get_or-put_chunk_below, get_or-put_chunk_at, get_or-put_chunk_above}
+use lib.Bits.{xor_assoc, xor_self}
 
 -- ---- a list whose first k words were combined with others
 
-pub part_made : (ℕ → ℕ → ℕ) → ℕ → List ℕ → List ℕ → List ℕ
-part_made op zero a b = a
-part_made op (suc k) [] b = []
-part_made op (suc k) (x ∷ a) [] = x ∷ a
-part_made op (suc k) (x ∷ a) (y ∷ b) = op x y ∷ part_made op k a b
+-- ws is the list a with its first i words replaced by the results for them and those of b
+pub record PartMade (op : ℕ → ℕ → ℕ) (a b : List ℕ) (i : ℕ) (ws : List ℕ) : Type 0 where
+  pub long : length ws ≡ length a
+  pub made : (k : ℕ) → k < i → slice_index ws k ≡ op (slice_index a k) (slice_index b k)
+  pub kept : (k : ℕ) → i ≤ k → slice_index ws k ≡ slice_index a k
 
-pub made_none : (op : ℕ → ℕ → ℕ) (a b : List ℕ) → part_made op 0 a b ≡ a
-unfolding part_made
-made_none op a b = refl
+module _ (op : ℕ → ℕ → ℕ) (a b : List ℕ) where
+  pub none_made : PartMade op a b 0 a
+  none_made = record { long = refl; made = λ k h. absurd (omega (arith, h)); kept = λ k h. refl }
 
-pub made_all : (op : ℕ → ℕ → ℕ) (a b : List ℕ) → length a ≡ length b → part_made op (length a) a b ≡ zip2 op a b
-unfolding part_made
-made_all op [] b e = refl
-made_all op (x ∷ a) [] e = absurd (omega (arith, e))
-made_all op (x ∷ a) (y ∷ b) e = ap (λ l. op x y ∷ l) (made_all op a b (omega (arith, e)))
+  pub all_made : (ws : List ℕ) (i : ℕ) → length a ≡ length b → length a ≤ i → PartMade op a b i ws → ws ≡ zip2 op a b
+  all_made ws i e all part = same_number_lists ws (zip2 op a b) (part.long ∙ sym (length-zip2 op a b e))
+      (λ k low. part.made k (omega (arith, low, part.long)) ∙ sym (get_or-zip2 op a b k 0 0 0 (omega (arith, low, part.long)) (omega (arith, low, part.long))))
 
-pub length-made : (op : ℕ → ℕ → ℕ) (k : ℕ) (a b : List ℕ) → length (part_made op k a b) ≡ length a
-unfolding part_made
-length-made op zero a b = refl
-length-made op (suc k) [] b = refl
-length-made op (suc k) (x ∷ a) [] = refl
-length-made op (suc k) (x ∷ a) (y ∷ b) = ap (λ n. suc n) (length-made op k a b)
+  -- n words more
+  pub lanes_made : (ws : List ℕ) (i n j : ℕ) → length a ≡ length b → j ≡ i + n → j ≤ length a → PartMade op a b i ws → PartMade op a b j (put_chunk i ws (zip2 op (chunk i n ws) (chunk i n b)))
+  lanes_made ws i n j e next within part =
+      let first : length (chunk i n ws) ≡ n = length-chunk i n ws (omega (arith, part.long)) in
+      let second : length (chunk i n b) ≡ n = length-chunk i n b (omega arith) in
+      let lanes = zip2 op (chunk i n ws) (chunk i n b) in
+      let four : length lanes ≡ n = length-zip2 op _ _ (first ∙ sym second) ∙ first in
+      record {
+        long = length-put_chunk i ws lanes ∙ part.long;
+        made = λ k h. elim (cases_lt k i) [
+          | inl low ↦ get_or-put_chunk_below i ws lanes k 0 low ∙ part.made k low
+          | inr from ↦
+              let place : i + (k - i) ≡ k = omega (arith, from) in
+              let small : k - i < n = omega (arith, from, h) in
+              ap (slice_index (put_chunk i ws lanes)) (sym place) ∙ get_or-put_chunk_at i ws lanes (k - i) 0 (omega (arith, small, four)) (omega (arith, four, part.long))
+              ∙ get_or-zip2 op _ _ (k - i) 0 0 0 (omega (arith, small, first)) (omega (arith, small, second))
+              ∙ (λ m. op ((get_or-chunk i n ws (k - i) 0 small ∙ ap (slice_index ws) place ∙ part.kept k from) m) ((get_or-chunk i n b (k - i) 0 small ∙ ap (slice_index b) place) m))
+        ];
+        kept = λ k h. get_or-put_chunk_above i ws lanes k 0 (omega (arith, h, four)) ∙ part.kept k (omega (arith, h));
+      }
 
--- one word more
-pub one_made : (op : ℕ → ℕ → ℕ) (i j : ℕ) (a b : List ℕ) → length a ≡ length b → j ≡ i + 1
-    → set (part_made op i a b) i (op (slice_index (part_made op i a b) i) (slice_index b i)) ≡ part_made op j a b
-unfolding part_made
-one_made op i zero a b e s = absurd (omega (arith, s))
-one_made op zero (suc j) [] b e s = refl
-one_made op zero (suc j) (x ∷ a) [] e s = absurd (omega (arith, e))
-one_made op zero (suc j) (x ∷ a) (y ∷ b) e s = let none : j ≡ 0 = omega (arith, s) in ap (λ k. op x y ∷ part_made op k a b) (sym none)
-one_made op (suc i) (suc j) [] b e s = refl
-one_made op (suc i) (suc j) (x ∷ a) [] e s = absurd (omega (arith, e))
-one_made op (suc i) (suc j) (x ∷ a) (y ∷ b) e s = ap (λ l. op x y ∷ l) (one_made op i j a b (omega (arith, e)) (omega (arith, s)))
-
-front_made : (op : ℕ → ℕ → ℕ) (n : ℕ) (a b : List ℕ) → length a ≡ length b → put_chunk 0 a (zip2 op (take n a) (take n b)) ≡ part_made op n a b
-unfolding part_made
-front_made op zero [] b e = refl
-front_made op zero (x ∷ a) b e = refl
-front_made op (suc n) [] b e = refl
-front_made op (suc n) (x ∷ a) [] e = absurd (omega (arith, e))
-front_made op (suc n) (x ∷ a) (y ∷ b) e = ap (λ l. op x y ∷ l) (front_made op n a b (omega (arith, e)))
-
--- n words more
-pub lanes_made : (op : ℕ → ℕ → ℕ) (i n j : ℕ) (a b : List ℕ) → length a ≡ length b → j ≡ i + n
-    → put_chunk i (part_made op i a b) (zip2 op (chunk i n (part_made op i a b)) (chunk i n b)) ≡ part_made op j a b
-unfolding part_made
-lanes_made op zero n j a b e s = let same : n ≡ j = omega (arith, s) in front_made op n a b e ∙ ap (λ k. part_made op k a b) same
-lanes_made op (suc i) n zero a b e s = absurd (omega (arith, s))
-lanes_made op (suc i) n (suc j) [] b e s = refl
-lanes_made op (suc i) n (suc j) (x ∷ a) [] e s = absurd (omega (arith, e))
-lanes_made op (suc i) n (suc j) (x ∷ a) (y ∷ b) e s = ap (λ l. op x y ∷ l) (lanes_made op i n j a b (omega (arith, e)) (omega (arith, s)))
+  -- one word more
+  pub one_made : (ws : List ℕ) (i : ℕ) → i < length a → PartMade op a b i ws → PartMade op a b (i + 1) (set ws i (op (slice_index ws i) (slice_index b i)))
+  one_made ws i low part =
+      let x = op (slice_index ws i) (slice_index b i) in
+      let here = get_or-set_same ws i x 0 (omega (arith, part.long)) in
+      record {
+        long = length-set ws i x ∙ part.long;
+        made = λ k h. let other = get_or-set_other ws i k x 0 in let before = part.made k in let kept = part.kept i (omega arith) in grind arith;
+        kept = λ k h. get_or-set_other ws i k x 0 (λ same. omega (arith, same, h)) ∙ part.kept k (omega (arith, h));
+      }
 
 -- `a & !b` on lanes
 pub turned_lanes : (a b : List ℕ) → zip2 bit_and a (map (bit_not w64) b) ≡ zip2 (λ x y. bit_and x (bit_not w64 y)) a b
@@ -78,7 +72,6 @@ turned_lanes [] b = refl
 turned_lanes (x ∷ a) [] = refl
 turned_lanes (x ∷ a) (y ∷ b) = ap (λ l. bit_and x (bit_not w64 y) ∷ l) (turned_lanes a b)
 
--- the first lanes alone
 -- an operation that uses the first lanes alone
 pub first_lanes : (op : ℕ → ℕ) (a b : List ℕ) → length a ≡ length b → map op a ≡ zip2 (λ x _. op x) a b
 first_lanes op [] b e = refl
@@ -130,8 +123,7 @@ abbrev pub none_in : List ℕ → Bool
 none_in ws = list_all (λ w. w == 0) ws
 
 pub or_none : (x y : ℕ) → (bit_or x y == 0) ≡ ((x == 0) && (y == 0))
-or_none zero y = ap (λ z. z == 0) (or_zero_l y)
-or_none (suc x) y = grind (arith, nat_tests, le_or_l (suc x) y)
+or_none x y = grind (arith, nat_tests, le_or_l x y, le_or_r x y, or_zero_l y)
 
 fold_none : (x : ℕ) (ws : List ℕ) → (fold_l bit_or x ws == 0) ≡ ((x == 0) && none_in ws)
 fold_none x [] = sym (and-true (x == 0))
@@ -140,14 +132,11 @@ fold_none x (w ∷ ws) = fold_none (bit_or x w) ws ∙ ap (λ t. t && none_in ws
 pub lanes_none : (ws : List ℕ) → (fold_l bit_or 0 ws == 0) ≡ none_in ws
 lanes_none ws = fold_none 0 ws
 
-shuffled : (p q r s : Bool) → ((p && q) && (r && s)) ≡ ((p && r) && (q && s))
-shuffled p q r s = grind (arith, nat_tests)
-
 zip_none : (a b : List ℕ) → length a ≡ length b → none_in (zip2 bit_or a b) ≡ (none_in a && none_in b)
 zip_none [] [] e = refl
 zip_none [] (y ∷ b) e = absurd (omega (arith, e))
 zip_none (x ∷ a) [] e = absurd (omega (arith, e))
-zip_none (x ∷ a) (y ∷ b) e = (λ i. or_none x y i && zip_none a b (omega (arith, e)) i) ∙ shuffled (x == 0) (y == 0) (none_in a) (none_in b)
+zip_none (x ∷ a) (y ∷ b) e = grind (arith, nat_tests, or_none x y, zip_none a b (omega (arith, e)))
 
 -- the test of the first j words, from that of the first i and that of the next n
 pub more_none : (ws : List ℕ) (i n j : ℕ) → j ≡ i + n → none_in (take j ws) ≡ (none_in (take i ws) && none_in (chunk i n ws))
@@ -166,19 +155,13 @@ joined_none ws lanes i j next long four before =
 -- one word more
 pub one_none : (ws : List ℕ) (any i j : ℕ) → j ≡ i + 1 → i < length ws → (any == 0) ≡ none_in (take i ws) → (bit_or any (slice_index ws i) == 0) ≡ none_in (take j ws)
 one_none ws any i j next low before =
-    or_none any (slice_index ws i) ∙ ap (λ t. t && (slice_index ws i == 0)) before
-    ∙ sym (ap (λ k. none_in (take k ws)) (next ∙ add-one i) ∙ ap none_in (take-suc ws i 0 low) ∙ list_all-append (λ w. w == 0) (take i ws) (slice_index ws i ∷ [])
-    ∙ ap (λ t. none_in (take i ws) && t) (and-true (slice_index ws i == 0)))
+    or_none any (slice_index ws i) ∙ ap (λ t. t && (slice_index ws i == 0)) before ∙ sym (ap (λ k. none_in (take k ws)) next ∙ list_all_more (λ w. w == 0) ws i 0 low)
 
 -- `^` yields 0 only for equal words
-same_of_none : (x y : ℕ) → bit_xor x y ≡ 0 → x ≡ y
-same_of_none x y none =
-    sym (xor_zero_r x) ∙ ap (bit_xor x) (sym (xor_self y)) ∙ sym (xor_assoc x y y) ∙ ap (λ z. bit_xor z y) none ∙ xor_comm 0 y ∙ xor_zero_r y
-
 xor_none : (x y : ℕ) → (bit_xor x y == 0) ≡ nat_eq x y
-xor_none x y = same_from_decides _ _
-    (λ h. same_of_none x y (eqb-true _ 0 h), λ e. ap (λ z. bit_xor z y == 0) e ∙ ap (λ z. z == 0) (xor_self y))
-    (λ h. eqb-true x y h, λ e. grind (arith, nat_tests, e))
+xor_none x y =
+    let same : bit_xor x y ≡ 0 → x ≡ y = λ none. sym (xor_zero_r x) ∙ ap (bit_xor x) (sym (xor_self y)) ∙ sym (xor_assoc x y y) ∙ ap (λ z. bit_xor z y) none ∙ xor_zero_l y in
+    grind (arith, nat_tests, xor_self y)
 
 pub none_apart : (a b : List ℕ) → length a ≡ length b → none_in (zip2 bit_xor a b) ≡ pointwise nat_eq a b
 none_apart [] [] e = refl
@@ -186,20 +169,23 @@ none_apart [] (y ∷ b) e = absurd (omega (arith, e))
 none_apart (x ∷ a) [] e = absurd (omega (arith, e))
 none_apart (x ∷ a) (y ∷ b) e = (λ i. xor_none x y i && none_apart a b (omega (arith, e)) i)
 
--- ---- blocks of words, where `any` is 0 exactly if all words of a block are
+-- ---- blocks of pairs of words, where `any` is 0 exactly if all results of a block are
 
--- one block more
-pub next_block : (ws : List ℕ) (i n j any : ℕ) → j ≡ i + n → none_in (take i ws) ≡ true → (any == 0) ≡ none_in (chunk i n ws) → any ≡ 0 → none_in (take j ws) ≡ true
-next_block ws i n j any next before here none = more_none ws i n j next ∙ (λ k. before k && (sym here ∙ ap (λ x. x == 0) none) k)
+module _ (op : ℕ → ℕ → ℕ) (a b : List ℕ) (i n any : ℕ) (here : (any == 0) ≡ none_in (zip2 op (chunk i n a) (chunk i n b))) where
+  -- the first i + n results
+  with_block : none_in (take (i + n) (zip2 op a b)) ≡ (none_in (take i (zip2 op a b)) && (any == 0))
+  with_block = more_none (zip2 op a b) i n (i + n) refl ∙ ap (λ t. none_in (take i (zip2 op a b)) && t) (ap none_in (chunk-zip2 op i n a b) ∙ sym here)
 
--- a block with a word that is not 0
-pub some_block : (ws : List ℕ) (i n any : ℕ) → (any == 0) ≡ none_in (chunk i n ws) → any ≢ 0 → none_in ws ≡ false
-some_block ws i n any here some =
-    let apart : (any == 0) ≡ false = grind (arith, nat_tests, some) in
-    split_none ws (i + n)
-    ∙ ap (λ t. t && none_in (drop (i + n) ws)) (more_none ws i n (i + n) refl ∙ ap (λ t. none_in (take i ws) && t) (sym here ∙ apart) ∙ and-false (none_in (take i ws)))
+  -- one block more
+  pub next_block : (j : ℕ) → j ≡ i + n → none_in (take i (zip2 op a b)) ≡ true → any ≡ 0 → none_in (take j (zip2 op a b)) ≡ true
+  next_block j next before none = ap (λ k. none_in (take k (zip2 op a b))) next ∙ with_block ∙ grind (arith, nat_tests, before)
 
--- the words after the last whole block
-pub last_block : (ws : List ℕ) (i n any : ℕ) → i + n ≡ length ws → none_in (take i ws) ≡ true → (any == 0) ≡ none_in (chunk i n ws) → (any == 0) ≡ none_in ws
-last_block ws i n any all before here =
-    here ∙ sym (ap none_in (sym (take_all (i + n) ws (omega (arith, all)))) ∙ more_none ws i n (i + n) refl ∙ ap (λ t. t && none_in (chunk i n ws)) before)
+  -- a block with a result that is not 0
+  pub some_block : any ≢ 0 → false ≡ none_in (zip2 op a b)
+  some_block some = let part = with_block in let whole = split_none (zip2 op a b) (i + n) in grind (arith, nat_tests)
+
+  -- the results after the last whole block
+  pub last_block : i + n ≡ length a → length a ≡ length b → none_in (take i (zip2 op a b)) ≡ true → (any == 0) ≡ none_in (zip2 op a b)
+  last_block all long before =
+      let whole : take (i + n) (zip2 op a b) ≡ zip2 op a b = take_all (i + n) (zip2 op a b) (omega (arith, all, length-zip2 op a b long)) in
+      sym (ap none_in (sym whole) ∙ with_block ∙ ap (λ t. t && (any == 0)) before)

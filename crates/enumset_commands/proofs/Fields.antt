@@ -1,11 +1,11 @@
 -- What a field writes, digit by digit.
-use Rattle.std.proofs.Common.{◌≡◌, ℕ, ◌+◌, ◌-◌, ◌*◌, ◌^◌, ◌<◌, ◌≤◌, true, false, ◌&&◌, nat_lt, List, [], ◌∷◌, length, get_or, drop, Option, Some, None, refl, drop-cons, add-one, arith, if◌then◌else◌}
+use Rattle.std.proofs.Common.{◌≡◌, ◌==◌, ℕ, ◌+◌, ◌-◌, ◌*◌, ◌^◌, ◌<◌, ◌≤◌, true, false, ◌&&◌, nat_lt, List, [], ◌∷◌, length, get_or, drop, Option, Some, None, refl, drop-cons, add-one, arith, if◌then◌else◌}
 use Rattle.std.specs.Str.{all_ascii_digits}
 use Rattle.std.specs.Str.Parse.{digits_value_after}
 use Rattle.std.specs.Char.{is_ascii_digit, digit_value}
 use Rattle.std.proofs.lemmas.List.{drop_all}
 use Rattle.std.proofs.lemmas.Bool.Decides.{nat_tests}
-use Rattle.enumset_commands.specs.Fields.{is_empty, value}
+use Rattle.enumset_commands.specs.Fields.{value}
 
 -- the value that digits write after those of n
 abbrev pub value_after : ℕ → List ℕ → Option ℕ
@@ -19,9 +19,8 @@ digits_value_after-ge (d ∷ ds) n = omega (arith, digits_value_after-ge ds (n *
 digit_value-digit : (c : ℕ) → is_ascii_digit c ≡ true → digit_value c ≡ c - 48
 digit_value-digit c h = grind (arith, nat_tests)
 
-pub value_after-start : (token : List ℕ) → 0 < length token → value_after 0 token ≡ value token
-value_after-start [] l = absurd (omega arith)
-value_after-start (d ∷ ds) l = refl
+pub value_after-start : (token : List ℕ) → (length token == 0) ≡ false → value_after 0 token ≡ value token
+value_after-start token full = rw full refl
 
 -- the byte at i, and those after it
 pub value_after-digit : (token : List ℕ) (n i : ℕ) → i < length token → is_ascii_digit (get_or token i 0) ≡ true → value_after n (drop i token) ≡ value_after (n * 10 + (get_or token i 0 - 48)) (drop (i + 1) token)

@@ -1,21 +1,16 @@
 -- The fields of a command, which are tokens, and the operands that they write.
---     is_empty      whether a list of bytes is empty
 --     value, field, register, count, bit, width, word      the number that a field writes, if it fits
 --     one, two, three      the numbers of exactly one field, two or three, if each of them is read so
 --     words_of      the numbers of words that tokens write, if each of them is one
 --     register_and_words      the numbers of a register and of any number of words
-use Rattle.std.specs.Prelude.{ℕ, ◌^◌, Bool, true, false, not, ◌&&◌, nat_lt, List, [], ◌∷◌, Option, Some, None, option_map, option_and_then, if◌then◌else◌}
+use Rattle.std.specs.Prelude.{ℕ, ◌^◌, ◌==◌, not, ◌&&◌, nat_lt, List, [], ◌∷◌, length, Option, Some, None, option_map, option_and_then, if◌then◌else◌}
 use Rattle.std.specs.Str.{all_ascii_digits}
 use Rattle.std.specs.Str.Parse.{digits_value}
-
-abbrev pub is_empty : List ℕ → Bool
-is_empty [] = true
-is_empty (b ∷ bs) = false
 
 -- the number of one decimal digit or more and nothing else, if it has at most 128 bits
 abbrev pub value : List ℕ → Option ℕ
 value token =
-    if not (is_empty token) && all_ascii_digits token && nat_lt (digits_value 10 token) (2 ^ 128) then Some (digits_value 10 token) else None
+    if not (length token == 0) && all_ascii_digits token && nat_lt (digits_value 10 token) (2 ^ 128) then Some (digits_value 10 token) else None
 
 -- a value of at most so many bits
 abbrev pub field : ℕ → List ℕ → Option ℕ

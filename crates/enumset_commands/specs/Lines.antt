@@ -1,32 +1,25 @@
 -- The commands that the lines of an input write.
---     lines_of      the lines: a line feed ends one, and a carriage return immediately before it is dropped
 --     tokens_of      the tokens of a line, which spaces separate
 --     command_of      the command that the tokens of a line write
 --     mixed_command_of      the command of mixed sets that they write
 --     before      a command before those of the lines after it, or the fault of a line that is not a command
 --     line_then, commands_from      the commands of a line and of those after it;  the commands of lines
 --     commands_of_text      the commands of an input, or the fault of its first line that is not a command, by what the tokens of a line write
-use Rattle.std.specs.Prelude.{◌==◌, ℕ, ◌+◌, not, List, [], ◌∷◌, filter, Option, Some, None, option_map, option_and_then, Result, Ok, Err}
+use Rattle.std.specs.Prelude.{◌==◌, ℕ, ◌+◌, not, List, [], ◌∷◌, length, filter, Option, Some, None, option_map, option_and_then, Result, Ok, Err}
 use Rattle.std.specs.List.{slice_split}
 use Rattle.std.specs.Option.{option_or}
 use Rattle.std.specs.Str.{byte}
-use Rattle.std.specs.Str.Lines as text
+use Rattle.std.specs.Str.Lines.{lines}
 use Rattle.enumset_commands.specs.declared.command.Command.{Command}
 use Rattle.enumset_commands.specs.declared.mixed_command.MixedCommand.{MixedCommand}
 use Rattle.enumset_commands.specs.declared.mixed_command.MixedCommand.TheVariants.{Common}
 use Rattle.enumset_commands.specs.declared.text_fault.TextFault.{TextFault}
 use Rattle.enumset_commands.specs.declared.text_fault.TextFault.TheVariants.{BadLine}
-use Rattle.enumset_commands.specs.Fields.{is_empty}
 use Rattle.enumset_commands.specs.Verbs.{verb_of, own_verb_of}
-
--- A line feed ends a line. A carriage return immediately before it is dropped, and a last line without a
--- line feed counts unless it is empty. std's `lines` says just this.
-abbrev pub lines_of : List ℕ → List (List ℕ)
-lines_of input = text.lines input
 
 -- the parts between spaces that are not empty
 abbrev pub tokens_of : List ℕ → List (List ℕ)
-tokens_of line = filter (λ token. not (is_empty token)) (slice_split (λ b. b == byte " ") line)
+tokens_of line = filter (λ token. not (length token == 0)) (slice_split (λ b. b == byte " ") line)
 
 -- the command that the tokens of a line write: its name says what the others are
 abbrev pub command_of : List (List ℕ) → Option Command
@@ -54,6 +47,7 @@ abbrev pub commands_from : {C : Type 0} → (List (List ℕ) → Option C) → �
 commands_from command n [] = Ok []
 commands_from command n (line ∷ more) = line_then command n (tokens_of line) (commands_from command (n + 1) more)
 
--- lines are counted from 1
+-- The lines are those of std's `lines`, and are counted from 1. A line feed ends a line, and a carriage return immediately
+-- before it is dropped. A last line without a line feed counts unless it is empty.
 abbrev pub commands_of_text : {C : Type 0} → (List (List ℕ) → Option C) → List ℕ → Result (List C) TextFault
-commands_of_text command input = commands_from command 1 (lines_of input)
+commands_of_text command input = commands_from command 1 (lines input)

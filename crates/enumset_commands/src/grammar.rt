@@ -6,5 +6,6 @@ pub mod line_command;
 pub mod lines;
 mod mixed_commands;
 mod operands;
+mod parts;
 pub mod tokens;
 mod words;

@@ -2,35 +2,40 @@
 
 use crate::fault::ProgramFault;
 use crate::tokens::is_digit;
-use std::env::{self, Args, Env};
+use std::env::{self, Env};
 use std::io::ErrorKind;
 
 /// The longest name has so many bytes.
 const NAME_LIMIT: usize = 256;
 
 /// What the program is asked for.
-#[derive(Drop)]
-pub struct Request {
-    pub crate_name: String,
-    pub module_name: String,
+#[derive(Clone, Copy)]
+pub struct Request<'a> {
+    pub crate_name: &'a str,
+    pub module_name: &'a str,
     /// The file that the module goes into, if not standard output.
-    pub file: Option<String>,
+    pub file: Option<&'a str>,
 }
 
-impl Request {
-    /// Reads the arguments: the names of the crate and of the module, and maybe `-o` and a file.
-    pub fn read<R: Env + AllocGlobal>(rt: &R) -> Result<Request, ProgramFault> {
-        let mut arguments = match env::args(rt) {
-            Ok(arguments) => arguments,
-            Err(error) if error.kind() == ErrorKind::OutOfMemory => {
-                return Err(ProgramFault::OUT_OF_MEMORY);
-            }
-            Err(_) => return Err(ProgramFault::NotAName),
+/// The arguments, with the name of the program.
+pub fn arguments<R: Env + AllocGlobal>(rt: &R) -> Result<Vec<String>, ProgramFault> {
+    match env::args(rt) {
+        Ok(arguments) => Ok(arguments.collect(rt.alloc())?),
+        Err(error) if error.kind() == ErrorKind::OutOfMemory => Err(ProgramFault::OUT_OF_MEMORY),
+        Err(_) => Err(ProgramFault::NotAName),
+    }
+}
+
+impl<'a> Request<'a> {
+    /// What the arguments ask for: the names of the crate and of the module, and maybe `-o` and a file.
+    pub fn of(arguments: &'a [String]) -> Result<Request<'a>, ProgramFault> {
+        let crate_name = name_of(arguments.get(1).map(String::as_str))?;
+        let module_name = name_of(arguments.get(2).map(String::as_str))?;
+        let file = match arguments {
+            [_, _, _] => None,
+            [_, _, _, flag, file] if flag.as_str() == "-o" => Some(file.as_str()),
+            _ => return Err(ProgramFault::Arguments),
         };
-        let _ = arguments.next();
-        let crate_name = name_of(arguments.next())?;
-        let module_name = name_of(arguments.next())?;
-        let file = file_of(&mut arguments)?;
         Ok(Request {
             crate_name,
             module_name,
@@ -39,36 +44,21 @@ impl Request {
     }
 }
 
-/// The name that an argument is.
-fn name_of(argument: Option<String>) -> Result<String, ProgramFault> {
-    let name = argument.ok_or(ProgramFault::Arguments)?;
-    if is_name(name.as_str()) {
-        Ok(name)
-    } else {
-        Err(ProgramFault::NotAName)
+/// The name that an argument is: a small letter or `_`, and then small letters, digits and `_`.
+fn name_of(argument: Option<&str>) -> Result<&str, ProgramFault> {
+    let Some(name) = argument else {
+        return Err(ProgramFault::Arguments);
+    };
+    if name.is_empty()
+        || name.len() > NAME_LIMIT
+        || name.starts_with(is_digit)
+        || !name.trim_start_matches(may_stand_in_name).is_empty()
+    {
+        return Err(ProgramFault::NotAName);
     }
-}
-
-/// Whether a text is a small letter or `_`, and then small letters, digits and `_`.
-fn is_name(text: &str) -> bool {
-    !text.is_empty()
-        && text.len() <= NAME_LIMIT
-        && !text.starts_with(is_digit)
-        && text.trim_start_matches(may_stand_in_name).is_empty()
+    Ok(name)
 }
 
 fn may_stand_in_name(character: char) -> bool {
-    character.is_ascii_lowercase() || is_digit(character) || character == '_'
-}
-
-/// The file that is asked for by the arguments after the names.
-fn file_of(arguments: &mut Args) -> Result<Option<String>, ProgramFault> {
-    let Some(flag) = arguments.next() else {
-        return Ok(None);
-    };
-    let file = arguments.next().ok_or(ProgramFault::Arguments)?;
-    if flag.as_str() != "-o" || arguments.next().is_some() {
-        return Err(ProgramFault::Arguments);
-    }
-    Ok(Some(file))
+    matches!(character, 'a'..='z' | '0'..='9' | '_')
 }

@@ -30,8 +30,7 @@ impl ProgramFault {
         match self {
             ProgramFault::Arguments | ProgramFault::NotAName => 2,
             ProgramFault::Source(DeriveError::OutOfMemory) => 3,
-            ProgramFault::Source(DeriveError::Fault(_)) => 1,
-            ProgramFault::Reading | ProgramFault::Writing | ProgramFault::File(_) => 1,
+            _ => 1,
         }
     }
 }

@@ -1,8 +1,9 @@
 //! What the program does: its arguments, its input and its output.
 
-use crate::arguments::Request;
+use crate::arguments::{Request, arguments};
 use crate::fault::ProgramFault;
 use crate::read::read_source;
+use crate::source::Source;
 use crate::tokens::tokens_of;
 use crate::write::module_text;
 use enumset_derive_plan::{DeriveError, Fault, Place, Reason};
@@ -16,12 +17,11 @@ use std::rt::Files;
 pub fn answer<R: Env + Files + Input + Print + Eprint + AllocGlobal>(
     rt: &R,
 ) -> Result<(), ProgramFault> {
-    let request = Request::read(rt)?;
+    let arguments = arguments(rt)?;
+    let request = Request::of(&arguments)?;
     let input = read_input(rt.alloc(), rt.reader())?;
-    let text = text_of(&input)?;
-    let tokens = tokens_of(rt.alloc(), text)?;
-    let source = read_source(rt.alloc(), text, &tokens)?;
-    let written = module_text(rt.alloc(), &request, &source)?;
+    let source = source_of(rt.alloc(), &input)?;
+    let written = module_text(rt.alloc(), request, &source)?;
     for left_out in &source.left_out {
         let (place, text) = *left_out;
         let _ = eprintln!(rt; "{place}: left out: {text} has no meaning here");
@@ -30,18 +30,18 @@ pub fn answer<R: Env + Files + Input + Print + Eprint + AllocGlobal>(
 }
 
 /// Writes a text to a file, or to standard output.
-fn write_module<R: Files + Print>(
+fn write_module<R: Files + Print + AllocGlobal>(
     rt: &R,
     text: &str,
-    file: Option<String>,
+    file: Option<&str>,
 ) -> Result<(), ProgramFault> {
     let Some(file) = file else {
         let written = io::writer(rt).write_all(text.as_bytes());
         return written.map_err(|_| ProgramFault::Writing);
     };
-    match fs::write(rt, file.as_str(), text) {
+    match fs::write(rt, file, text) {
         Ok(()) => Ok(()),
-        Err(_) => Err(ProgramFault::File(file)),
+        Err(_) => Err(ProgramFault::File(String::from_str(rt.alloc(), file)?)),
     }
 }
 
@@ -56,19 +56,31 @@ fn read_input<R: Read + Drop>(alloc: Global, reader: R) -> Result<Vec<u8>, Progr
     }
 }
 
+/// What a source has that is written in these bytes.
+fn source_of(alloc: Global, input: &[u8]) -> Result<Source<'_>, DeriveError> {
+    let text = text_of(input)?;
+    let tokens = tokens_of(alloc, text)?;
+    read_source(alloc, text, &tokens)
+}
+
 /// The text that bytes are, without a byte order mark, or the fault where they are no text.
 fn text_of(input: &[u8]) -> Result<&str, DeriveError> {
     let error = match str::from_utf8(input) {
-        Ok(text) => return Ok(text.strip_prefix('\u{FEFF}').unwrap_or(text)),
+        Ok(text) => return Ok(without_mark(text)),
         Err(error) => error,
     };
     let valid = input.get(..error.valid_up_to()).unwrap_or(b"");
     let mut place = Place::BEGIN;
-    for character in str::from_utf8(valid).unwrap_or("").chars() {
+    for character in without_mark(str::from_utf8(valid).unwrap_or("")).chars() {
         place = place.after(character);
     }
     Err(DeriveError::Fault(Fault {
         place,
         reason: Reason::NotUtf8,
     }))
+}
+
+/// A text without a byte order mark at its beginning.
+fn without_mark(text: &str) -> &str {
+    text.strip_prefix('\u{FEFF}').unwrap_or(text)
 }

@@ -5,8 +5,169 @@ mod attributes;
 mod draft;
 mod enums;
 mod imports;
-mod items;
 mod literals;
 mod reader;
 
-pub use items::read_source;
+use crate::source::{Item, Source};
+use crate::tokens::{Kind, Token};
+use draft::Draft;
+use enumset_derive_plan::{DeriveError, Place, Plan, Reason};
+use reader::{Reader, Stop};
+use std::alloc::Global;
+
+/// What a source text has of which these are the tokens: its enums that are to be element types, with their plans, what
+/// it imports of `enumset`, and the texts between them. Or the first fault, of reading or of planning.
+pub fn read_source<'a>(
+    alloc: Global,
+    text: &'a str,
+    tokens: &[Token<'a>],
+) -> Result<Source<'a>, DeriveError> {
+    let begin = Token {
+        kind: Kind::Space,
+        text: "",
+        begin: 0,
+        place: Place::BEGIN,
+        depth: 0,
+    };
+    let mut reader = Reader {
+        alloc,
+        token: begin,
+        rest: tokens,
+        source: Source::new(alloc, text),
+    };
+    match reader.read_items() {
+        Ok(()) => Ok(reader.source),
+        Err(error) => Err(error),
+    }
+}
+
+impl<'a> Reader<'a, '_> {
+    /// Reads the text.
+    fn read_items(&mut self) -> Result<(), DeriveError> {
+        let text = self.source.text;
+        self.advance()?;
+        self.read_head()?;
+        for _ in self.rest {
+            self.read_item()?;
+        }
+        self.source.pass_on(text.len(), text.len())?;
+        Ok(())
+    }
+
+    /// Reads the inner comments and attributes at the head of the text, with the space after them.
+    fn read_head(&mut self) -> Result<(), DeriveError> {
+        let mut end = 0;
+        for _ in self.rest {
+            let begin = self.token;
+            let is_of_head = match begin.kind {
+                Kind::Space => begin.begin == end
+                    && (end > self.source.begin || !self.source.items.is_empty()),
+                Kind::Comment => false,
+                Kind::InnerDoc => true,
+                Kind::Mark('#') if matches!(self.rest, [next, ..] if next.is_mark('!')) => {
+                    self.skip_inner_attribute()?;
+                    true
+                }
+                _ => break,
+            };
+            let is_without_std = self.text_from(&begin) == "#![no_std]";
+            self.advance()?;
+            if is_without_std {
+                self.leave_out(begin)?;
+            }
+            if is_of_head {
+                end = self.token.begin;
+            }
+        }
+        self.source.pass_on(end, end)?;
+        self.source.items.push(Item::HeadEnd)?;
+        Ok(())
+    }
+
+    /// Goes on to the end of an attribute `#![..]`.
+    fn skip_inner_attribute(&mut self) -> Result<(), DeriveError> {
+        self.advance()?;
+        self.advance()?;
+        self.skip_to(Stop::Outside)?;
+        if self.token.is_mark(']') {
+            Ok(())
+        } else {
+            Err(self.token.wanted("`[`"))
+        }
+    }
+
+    /// Reads an item, or a token between items. At the end of the text there is nothing to read.
+    fn read_item(&mut self) -> Result<(), DeriveError> {
+        match self.token.kind {
+            Kind::Space | Kind::Comment | Kind::InnerDoc | Kind::End => self.advance(),
+            Kind::OuterDoc | Kind::Mark('#') => self.read_with_attributes(),
+            _ if self.token.is("use") => self.read_use(),
+            _ => self.read_other(self.token),
+        }
+    }
+
+    /// Reads an item that begins with a comment or an attribute.
+    fn read_with_attributes(&mut self) -> Result<(), DeriveError> {
+        let begin = self.token;
+        let mut draft = Draft::new(self.alloc);
+        match self.read_draft(&mut draft)? {
+            Some(plan) => {
+                let end = self.token.begin;
+                self.source
+                    .push_enum(self.alloc, begin.begin, end, draft.declaration, plan)?;
+                Ok(())
+            }
+            None => self.read_other(begin),
+        }
+    }
+
+    /// Reads an item that begins with a comment or an attribute, with its plan if it is to be an element type, else up to its
+    /// keyword.
+    fn read_draft(&mut self, draft: &mut Draft<'a>) -> Result<Option<Plan>, DeriveError> {
+        let left_out = self.source.left_out.len();
+        self.read_attributes(draft)?;
+        if !draft.is_element_type {
+            self.source.left_out.truncate(left_out);
+            return Ok(None);
+        }
+        if let Some(fault) = draft.fault {
+            return Err(DeriveError::Fault(fault));
+        }
+        if self.token.is_end() {
+            return Err(self.token.wanted("an item"));
+        }
+        if !self.token.is("enum") {
+            return Err(self.token.fault(Reason::NotAnEnum));
+        }
+        Ok(Some(self.read_enum(draft)?))
+    }
+
+    /// Goes on past an item that is no enum, from its keyword on. One that has no meaning here is left out.
+    fn read_other(&mut self, begin: Token<'a>) -> Result<(), DeriveError> {
+        let is_crate = self.token.is("extern")
+            && matches!(self.rest, [_, second, ..] if second.is("crate"));
+        self.skip_item()?;
+        if is_crate {
+            self.leave_out(begin)?;
+        }
+        Ok(())
+    }
+
+    /// Goes on past an item that goes through, of which the reader is at a token.
+    fn skip_item(&mut self) -> Result<(), DeriveError> {
+        self.skip_to(Stop::ItemEnd)?;
+        self.advance()
+    }
+
+    /// Leaves out the text from a token to before the one where the reader is, and the space after it.
+    fn leave_out(&mut self, begin: Token<'a>) -> Result<(), DeriveError> {
+        let end = self.token.begin;
+        let text = self.source.text.get(begin.begin..end).unwrap_or("");
+        self.source.left_out.push((begin.place, text))?;
+        if matches!(self.token.kind, Kind::Space) {
+            self.advance()?;
+        }
+        self.source.pass_on(begin.begin, self.token.begin)?;
+        Ok(())
+    }
+}

@@ -1,5 +1,9 @@
 //! Why a text of enums has no module.
 
+ghost use Rattle.std.specs.Prelude.{◌≡◌};
+ghost use Rattle.enumset_derive_plan.specs.Variants.{fault_at};
+ghost use Rattle.enumset_derive_plan.specs.declared.fault.DeriveError.TheVariants as kind;
+
 use crate::place::Place;
 use std::alloc::{AllocError, AllocFailed};
 use std::fmt;
@@ -49,52 +53,28 @@ pub enum Reason {
     PastGreatest,
     ImpliedTooLarge,
     /// The bit is not below the width of the integer that `repr` names.
-    PastRepresentation(OutOfRange),
+    PastRepresentation { bit: u32, width: u32 },
     /// The bit is not below the width of the integer that `serialize_repr` names.
-    PastSerialized(OutOfRange),
+    PastSerialized { bit: u32, width: u32 },
     /// The variant has the bit of one before, there.
     BitTwice(Place),
     /// The variant has the discriminant of one before, there.
     DiscriminantTwice(Place),
 }
 
-/// A bit, and the width that it is not below.
-#[derive(Clone, Copy)]
-pub struct OutOfRange {
-    pub bit: u32,
-    pub width: u32,
+impl Reason {
+    /// The fault for this reason, at a place.
+    pub fn at(self, place: Place) -> Fault
+        ensures { result ≡ fault_at place self }
+    {
+        let reason = self;
+        Fault { place, reason }
+    }
 }
 
 impl fmt::Display for Fault {
     fn fmt<W: fmt::Write>(&self, f: &mut fmt::Formatter<W>) -> fmt::Result {
         write!(f, "{}: {}", self.place, self.reason)
-    }
-}
-
-impl fmt::Display for Reason {
-    fn fmt<W: fmt::Write>(&self, f: &mut fmt::Formatter<W>) -> fmt::Result {
-        match self {
-            Reason::Wanted(wanted) => write!(f, "wanted: {wanted}"),
-            Reason::OptionTwice(first) => write!(f, "this option was given at {first}"),
-            Reason::NameTwice(first) => write!(f, "this name was given at {first}"),
-            Reason::PastRepresentation(out) => {
-                write!(
-                    f,
-                    "`repr` is too small: bit {}, width {}",
-                    out.bit, out.width
-                )
-            }
-            Reason::PastSerialized(out) => {
-                write!(
-                    f,
-                    "`serialize_repr` is too small: bit {}, width {}",
-                    out.bit, out.width
-                )
-            }
-            Reason::BitTwice(first) => write!(f, "this bit was taken at {first}"),
-            Reason::DiscriminantTwice(first) => write!(f, "this discriminant was taken at {first}"),
-            _ => f.write_str(self.words()),
-        }
     }
 }
 
@@ -105,32 +85,44 @@ const REPRESENTATIONS: &str =
 const FORMS: &str =
     "`serialize_repr` is \"u8\", \"u16\", \"u32\", \"u64\", \"u128\", \"array\", \"list\" or \"map\"";
 
-impl Reason {
-    /// The text of a reason that has no more to say.
-    fn words(&self) -> &'static str {
-        match self {
+const LITERAL: &str = "a literal past 2^128 - 1 must be a power of two, and not decimal";
+
+impl fmt::Display for Reason {
+    fn fmt<W: fmt::Write>(&self, f: &mut fmt::Formatter<W>) -> fmt::Result {
+        f.write_str(match *self {
             Reason::NotUtf8 => "these bytes are no text in UTF-8",
             Reason::UnclosedComment => "this comment has no end",
             Reason::UnclosedQuote => "this quote has no end",
             Reason::UnclosedBracket => "this bracket has no end",
+            Reason::Wanted(wanted) => return write!(f, "wanted: {wanted}"),
             Reason::NotAnEnum => "`EnumSetType` is for enums alone",
             Reason::HasParameters => "the enum must have no parameters",
             Reason::HasFields => "a variant must have no fields",
             Reason::UnknownOption => "there is no such option",
             Reason::OldListOption => "`serialize_as_list` is written `serialize_repr = \"list\"`",
+            Reason::OptionTwice(first) => return write!(f, "this option was given at {first}"),
             Reason::UnknownMap => "`map` is \"lsb\", \"msb\", \"mask\" or \"compact\"",
             Reason::UnknownRepresentation => REPRESENTATIONS,
             Reason::UnknownSerialized => FORMS,
             Reason::NotALiteral => "a discriminant must be a literal of an integer",
-            Reason::LiteralTooLarge =>
-                "a literal past 2^128 - 1 must be a power of two, and not decimal",
+            Reason::LiteralTooLarge => LITERAL,
             Reason::IntegerMissing => "`map = \"msb\"` needs `repr` to be an integer",
             Reason::TooManyVariants => "an enum may have at most 256 variants",
+            Reason::NameTwice(first) => return write!(f, "this name was given at {first}"),
             Reason::NotAMask => "a mask must be a power of two",
             Reason::PastGreatest => "a bit must be from 0 to 4294967231",
             Reason::ImpliedTooLarge => "the implied discriminant is past 2^128 - 1",
-            _ => "",
-        }
+            Reason::PastRepresentation { bit, width } => {
+                return write!(f, "`repr` is too small: bit {bit}, width {width}");
+            }
+            Reason::PastSerialized { bit, width } => {
+                return write!(f, "`serialize_repr` is too small: bit {bit}, width {width}");
+            }
+            Reason::BitTwice(first) => return write!(f, "this bit was taken at {first}"),
+            Reason::DiscriminantTwice(first) => {
+                return write!(f, "this discriminant was taken at {first}");
+            }
+        })
     }
 }
 
@@ -153,10 +145,7 @@ impl fmt::Display for DeriveError {
 }
 
 impl From<Fault> for DeriveError {
-    ghost use Rattle.std.specs.Prelude.{◌≡◌};
-    ghost use Rattle.enumset_derive_plan.specs.declared.fault.DeriveError.TheVariants.{Fault};
-
-    ghost from_gives = { λ fault error. error ≡ Fault fault };
+    ghost from_gives = { λ fault error. error ≡ kind.Fault fault };
 
     fn from(fault: Fault) -> DeriveError {
         DeriveError::Fault(fault)
@@ -164,10 +153,7 @@ impl From<Fault> for DeriveError {
 }
 
 impl From<AllocError> for DeriveError {
-    ghost use Rattle.std.specs.Prelude.{◌≡◌};
-    ghost use Rattle.enumset_derive_plan.specs.declared.fault.DeriveError.TheVariants.{OutOfMemory};
-
-    ghost from_gives = { λ _ error. error ≡ OutOfMemory };
+    ghost from_gives = { λ _ error. error ≡ kind.OutOfMemory };
 
     fn from(_error: AllocError) -> DeriveError {
         DeriveError::OutOfMemory
@@ -175,10 +161,7 @@ impl From<AllocError> for DeriveError {
 }
 
 impl<T: Drop> From<AllocFailed<T>> for DeriveError {
-    ghost use Rattle.std.specs.Prelude.{◌≡◌};
-    ghost use Rattle.enumset_derive_plan.specs.declared.fault.DeriveError.TheVariants.{OutOfMemory};
-
-    ghost from_gives = { λ _ error. error ≡ OutOfMemory };
+    ghost from_gives = { λ _ error. error ≡ kind.OutOfMemory };
 
     fn from(_error: AllocFailed<T>) -> DeriveError {
         DeriveError::OutOfMemory

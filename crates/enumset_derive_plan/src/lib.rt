@@ -6,18 +6,14 @@
 
 pub mod declaration;
 pub mod fault;
-pub mod integer_type;
 pub mod number;
 pub mod options;
 pub mod place;
 pub mod plan;
-pub mod planning;
 
 pub use declaration::{Discriminant, EnumDeclaration, Variant};
-pub use fault::{DeriveError, Fault, OutOfRange, Reason};
-pub use integer_type::IntegerType;
+pub use fault::{DeriveError, Fault, Reason};
 pub use number::Number;
-pub use options::{Map, Options, Representation, Serialized};
+pub use options::{IntegerType, Map, Options, Representation, Serialized};
 pub use place::Place;
-pub use plan::{Plan, Store};
-pub use planning::plan_enum;
+pub use plan::{NamedVariant, Plan, Store, plan_enum};

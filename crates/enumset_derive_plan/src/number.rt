@@ -1,13 +1,13 @@
 //! The numbers of discriminants.
 
 ghost use Rattle.std.specs.Prelude.{◌≡◌};
-ghost use Rattle.enumset_derive_plan.specs.Numbers.{next_number, same_number};
+ghost use Rattle.enumset_derive_plan.specs.Numbers.{next_number};
 
 /// The number of a discriminant. Each number has one form: zero is `Small(0)`.
 ///
 /// A literal past 2^128 - 1 names a bit only if it is the mask of the bit, a power of two. So no other number past
 /// 2^128 - 1 is kept.
-#[derive(Clone, Copy)]
+#[derive(Clone, Copy, PartialEq, Eq)]
 pub enum Number {
     /// A number from 0 to 2^128 - 1.
     Small(u128),
@@ -30,18 +30,6 @@ impl Number {
             Number::PowerOfTwo(_) => None,
             Number::Negative(number) if number <= 1 => Some(Number::Small(0)),
             Number::Negative(number) => Some(Number::Negative(number - 1)),
-        }
-    }
-
-    /// Whether this is the same number as another.
-    pub fn is(self, other: Number) -> bool
-        ensures { result ≡ same_number self other }
-    {
-        match (self, other) {
-            (Number::Small(one), Number::Small(two)) => one == two,
-            (Number::PowerOfTwo(one), Number::PowerOfTwo(two)) => one == two,
-            (Number::Negative(one), Number::Negative(two)) => one == two,
-            _ => false,
         }
     }
 }

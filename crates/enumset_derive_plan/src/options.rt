@@ -1,15 +1,15 @@
 //! What an enum's `#[enumset(..)]` may ask for.
 
-use crate::integer_type::IntegerType;
+ghost use Rattle.std.specs.Prelude.{◌≡◌};
+ghost use Rattle.enumset_derive_plan.specs.Numbers.{width};
+
 use crate::place::Place;
 
-/// The options of an element type.
-#[derive(Clone, Copy)]
+/// The options of an element type. By default none is given.
+#[derive(Clone, Copy, Default)]
 pub struct Options<'a> {
-    /// Which bit a discriminant names: `map`, by default `Lsb`.
-    pub map: Map,
-    /// Where the value of `map` is, if it is given.
-    pub map_place: Place,
+    /// Which bit a discriminant names, by default `Lsb`: `map`, if it is given, and where its value is.
+    pub map: Option<(Map, Place)>,
     /// What keeps a set: `repr`, if it is given.
     pub representation: Option<Representation>,
     /// What a set is in JSON: `serialize_repr`, if it is given.
@@ -24,21 +24,6 @@ pub struct Options<'a> {
     pub has_display: bool,
     /// The name of the crate `enumset` in the code that is written: `crate_name`, if it is given.
     pub crate_name: Option<&'a str>,
-}
-
-impl Options<'_> {
-    /// No option.
-    pub const NONE: Options<'static> = Options {
-        map: Map::Lsb,
-        map_place: Place::BEGIN,
-        representation: None,
-        serialized: None,
-        denies_unknown: false,
-        leaves_out_operators: false,
-        leaves_out_supertraits: false,
-        has_display: false,
-        crate_name: None,
-    };
 }
 
 /// Which bit a discriminant names.
@@ -74,4 +59,23 @@ pub enum Serialized {
     List,
     /// A map from the elements' names to whether they are members: `map`.
     Map,
+}
+
+/// An unsigned integer type.
+#[derive(Clone, Copy)]
+pub enum IntegerType {
+    U8 = 8,
+    U16 = 16,
+    U32 = 32,
+    U64 = 64,
+    U128 = 128,
+}
+
+impl IntegerType {
+    /// How many bits the type has.
+    pub fn width(self) -> u32
+        ensures { result ≡ width self }
+    {
+        self as u32
+    }
 }

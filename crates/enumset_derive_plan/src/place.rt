@@ -23,16 +23,10 @@ impl Place {
 
     /// The place after a character that is there.
     pub fn after(self, character: char) -> Place {
-        if character == '\n' {
-            Place {
-                line: self.line.saturating_add(1),
-                column: 1,
-            }
-        } else {
-            Place {
-                line: self.line,
-                column: self.column.saturating_add(1),
-            }
-        }
+        let (line, column) = match character {
+            '\n' => (self.line.saturating_add(1), 1),
+            _ => (self.line, self.column.saturating_add(1)),
+        };
+        Place { line, column }
     }
 }

@@ -1,6 +1,7 @@
 //! Config texts, for the function that docs/JSON.md shows: what becomes of each.
 
 use crate::config::{ConfigFault, with_flag_in_list};
+use crate::expect::expect;
 use enumset_test_types::Wide;
 use std::alloc::{AllocError, Global};
 use std::test::Fail;
@@ -31,7 +32,7 @@ fn flags_in_lists(rt: HostRuntime) -> Result<(), Fail> {
         ),
     ] {
         let came = text_of(alloc, with_flag_in_list(alloc, config, Wide::P))?;
-        assert_eq!(rt; came.as_str(), wanted, "{config}");
+        expect(&rt, config, came.as_str(), wanted);
     }
     Ok(())
 }

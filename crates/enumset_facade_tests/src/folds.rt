@@ -1,4 +1,5 @@
 //! The functions of `folds`, each at a type: they compile to what their contracts say of every iterator.
+use crate::expect::expect;
 use enumset::folds::{
     extend_refs, extend_set_refs, extend_sets, from_refs, from_set_refs, from_sets,
     mixed_extend_enumset_refs, mixed_extend_enumsets, mixed_extend_refs, mixed_extend_set_refs,
@@ -18,7 +19,8 @@ fn sets_are_extended(rt: HostRuntime) {
     extend_refs(&mut extended[0], [Letters::C, Letters::A].iter());
     extend_sets(&mut extended[1], sets.iter().copied());
     extend_set_refs(&mut extended[2], sets.iter());
-    assert_eq!(rt; extended.map(|set| set.as_u8_truncated()), [69, 69, 69]);
+    let wanted = enum_set!(Letters::A | Letters::C | Letters::G);
+    expect(&rt, "extend", extended, [wanted; 3]);
 }
 
 #[test]
@@ -33,7 +35,12 @@ fn sets_are_folded(rt: HostRuntime) {
         sum_elements(elements.iter().copied()),
         sum_element_refs(elements.iter()),
     ];
-    assert_eq!(rt; folded.map(|set| set.as_u8_truncated()), [5; 6]);
+    expect(
+        &rt,
+        "from and sum",
+        folded,
+        [enum_set!(Letters::A | Letters::C); 6],
+    );
 }
 
 // Each extends the mixed set of bit 3.
@@ -47,7 +54,8 @@ fn mixed_sets_are_extended(rt: HostRuntime) {
     mixed_extend_set_refs(&mut extended[2], sets.iter());
     mixed_extend_enumsets(&mut extended[3], only_b.iter().copied());
     mixed_extend_enumset_refs(&mut extended[4], only_b.iter());
-    assert_eq!(rt; extended.map(|set| set.as_repr()), [13, 141, 141, 10, 10]);
+    let wanted = [13, 141, 141, 10, 10].map(MixedEnumSet::<Marks>::from_repr);
+    expect(&rt, "extend", extended, wanted);
 }
 
 #[test]
@@ -68,5 +76,6 @@ fn mixed_sets_are_folded(rt: HostRuntime) {
         mixed_sum_set_refs(sets.iter()),
     ];
     let numbers = [5, 5, 5, 5, 5, 5, 5, 133, 133, 133];
-    assert_eq!(rt; folded.map(|set| set.as_repr()), numbers);
+    let wanted = numbers.map(MixedEnumSet::<Marks>::from_repr);
+    expect(&rt, "from and sum", folded, wanted);
 }

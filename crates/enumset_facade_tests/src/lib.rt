@@ -11,6 +11,8 @@ mod configs;
 #[cfg(test)]
 mod each_law;
 #[cfg(test)]
+mod expect;
+#[cfg(test)]
 mod folds;
 #[cfg(test)]
 mod json;

@@ -8,7 +8,6 @@ use Rattle.enumset_repr.specs.Laws.Members.{same_set, is_subset-contains}
 use Rattle.enumset_commands.specs.declared.command.Command.{Command}
 use Rattle.enumset_commands.specs.declared.command.Command.TheVariants.{Contains, Next}
 use Rattle.enumset_commands.specs.declared.mixed_command.MixedCommand.TheVariants.{Common, HasBit}
-use Rattle.enumset_commands.specs.declared.reply.Reply.{Reply}
 use Rattle.enumset_commands.specs.declared.reply.Reply.TheVariants.{Truth, Bit, Unknown, Absent}
 use Rattle.enumset_machine.specs.States.{State, set_at, list_at, put_list, IsStateOver}
 use Rattle.enumset_machine.specs.Plans.{Rules, valid_rules, width_rules, Outcome, outcome_by, replies_by, step_reply, ReplyAlike}
@@ -63,12 +62,6 @@ same_list rules tell i register (a ∷ l) (b ∷ m) s t two_s two_t of_s of_t al
     ∙ ap (λ u. replies_by (outcome_by rules plan) u commands) left_t) in
     cc
 
-bit_tells : (a b : ℕ) → Bit a ≡ Bit b → a ≡ b
-bit_tells a b h = cc
-
-bit_some : (a : ℕ) → Bit a ≡ Absent → ⊥
-bit_some a h = absurd (cc)
-
 reply_of-tells : (v w : Bool) (a b : ℕ) → (if v then Bit a else Unknown a) ≡ (if w then Bit b else Unknown b) → a ≡ b
 reply_of-tells true true a b h = cc
 reply_of-tells true false a b h = absurd (cc)
@@ -93,10 +86,8 @@ truth_is : {a b : Bool} → Truth a ≡ Truth b → a ≡ b
 truth_is h = cc
 
 by_test : (v a b : Bool) → (a ≡ true → v ≡ true) → (b ≡ true → v ≡ true) → (v ≡ true → a ≡ b) → a ≡ b
-by_test v true true of_a of_b same = refl
-by_test v false false of_a of_b same = refl
-by_test v true false of_a of_b same = same (of_a refl)
-by_test v false true of_a of_b same = same (of_b refl)
+by_test true a b of_a of_b same = same refl
+by_test false a b of_a of_b same = grind arith
 
 contains_reply : (valid : BitSet) (s : State) (r q : ℕ) → contains valid q ≡ true → r < 4 → (outcome_by (valid_rules valid) plan s (Contains r q)).reply ≡ Truth (contains (set_at s r) q)
 unfolding plan
@@ -105,7 +96,7 @@ contains_reply valid s r q in_valid register = rw (in_valid, tested 4 r register
 alike_is_same : (valid : BitSet) (s t : State) → IsStateOver valid s → IsStateOver valid t → ReplyAlike (outcome valid) s t → s ≡ t
 unfolding outcome
 alike_is_same valid s t of_s of_t alike =
-    same_states (valid_rules valid) (record { bit = bit_tells; some = bit_some }) valid s t of_s of_t alike (λ r register.
+    same_states (valid_rules valid) (record { bit = λ a b. reply_of-tells true true a b; some = λ a. reply_of-some true a }) valid s t of_s of_t alike (λ r register.
     same_set (set_at s r) (set_at t r) (λ q.
     by_test (contains valid q) (contains (set_at s r) q) (contains (set_at t r) q) (is_subset-contains (set_at s r) valid (of_s.2 r) q) (is_subset-contains (set_at t r) valid (of_t.2 r) q) (λ in_valid.
     truth_is (sym (contains_reply valid s r q in_valid register)

@@ -1,7 +1,7 @@
 -- What a command names, replies and leaves: its plan. What comes of a plan.
 --     Rules      which bits the sets of a run may have, and how a step of an iterator replies
 --     valid_rules      the rules of a run whose sets have valid bits alone
---     bit_or_unknown, width_rules      the reply to a bit that need not be valid;  the rules of a run whose sets have bits below a width
+--     width_rules      the rules of a run whose sets have bits below a width
 --     is_width      whether a number is the width of one of the integers that sets go to and come from
 --     Plan      what a command names, replies and leaves
 --     query, change, assignment, assignment_where, assignment_if_allowed, assignment_cut, iterator_plan      plans, by what the command does
@@ -11,7 +11,7 @@
 --     takes_memory      whether a reply takes memory: it has words
 --     refusal      why a command is refused, if it is
 --     Outcome      a reply, and the state after it
---     outcome_unless, outcome_of, outcome_by      what comes of a plan, unless it is refused;  what comes of a plan;  of the plan of a command
+--     outcome_unless, outcome_by      what comes of a plan, unless it is refused;  what comes of the plan of a command
 --     replies_by      the replies to a list of commands, from the outcome of each
 --     ReplyAlike      two states give the same replies to every list of commands
 use Rattle.std.specs.Prelude.{◌≡◌, ℕ, ◌^◌, Bool, true, false, not, ◌&&◌, nat_lt, List, [], ◌∷◌, Option, Some, None, if◌then◌else◌}
@@ -32,11 +32,9 @@ pub record Rules : Type 0 where
 abbrev pub valid_rules : BitSet → Rules
 valid_rules valid = record { valid = valid; allowed = valid; bit_reply = λ bit. Bit bit }
 
-abbrev pub bit_or_unknown : BitSet → ℕ → Reply
-bit_or_unknown valid bit = if contains valid bit then Bit bit else Unknown bit
-
 abbrev pub width_rules : BitSet → ℕ → Rules
-width_rules valid width = record { valid = valid; allowed = below width; bit_reply = bit_or_unknown valid }
+width_rules valid width =
+    record { valid = valid; allowed = below width; bit_reply = λ bit. if contains valid bit then Bit bit else Unknown bit }
 
 abbrev pub is_width : ℕ → Bool
 is_width w = is_in w (8 ∷ 16 ∷ 32 ∷ 64 ∷ 128 ∷ [])
@@ -124,11 +122,8 @@ abbrev pub outcome_unless : Option Refusal → Rules → State → Plan → Outc
 outcome_unless (Some refused) rules s plan = record { reply = Refused refused; state = s }
 outcome_unless None rules s plan = record { reply = plan.reply rules s; state = plan.after rules s }
 
-abbrev pub outcome_of : Rules → State → Plan → Outcome
-outcome_of rules s plan = outcome_unless (refusal rules plan) rules s plan
-
 abbrev pub outcome_by : {C : Type 0} → Rules → (C → Plan) → State → C → Outcome
-outcome_by rules plan s c = outcome_of rules s (plan c)
+outcome_by rules plan s c = outcome_unless (refusal rules (plan c)) rules s (plan c)
 
 -- each command in turn, from a state
 abbrev pub replies_by : {C : Type 0} → (State → C → Outcome) → State → List C → List Reply

@@ -3,8 +3,7 @@
 --     outcome      what comes of a command, a refused one included
 --     replies      the replies to a list of commands, from the start
 --     mixed_plan, mixed_outcome, mixed_replies      the same of commands of mixed sets; a command of every run has the plan that it has there
---     inverts_all_bits      whether a command of mixed sets inverts every bit of the representation
---     is_within      whether a command does not, and names or has in a number or words only bits below a width
+--     is_within      whether a command names or has in a number or words only bits below a width, and is no full complement
 use Rattle.std.specs.Prelude.{ℕ, ◌*◌, Bool, true, false, not, ◌&&◌, List, [], ◌∷◌, length}
 use Rattle.enumset_repr.specs.BitSet as set
 use Rattle.enumset_repr.specs.BitSet.{BitSet}
@@ -91,9 +90,6 @@ abbrev pub mixed_replies : BitSet → ℕ → List MixedCommand → List Reply
 mixed_replies valid width cs = replies_by (mixed_outcome valid width) start cs
 
 -- a full complement has every other bit of the representation
-abbrev pub inverts_all_bits : MixedCommand → Bool
-inverts_all_bits (FullComplement to a) = true
-inverts_all_bits other = false
-
 abbrev pub is_within : ℕ → MixedCommand → Bool
-is_within width c = not (inverts_all_bits c) && set.is_subset (mixed_plan c).input (set.below width)
+is_within width (FullComplement to a) = false
+is_within width c = set.is_subset (mixed_plan c).input (set.below width)

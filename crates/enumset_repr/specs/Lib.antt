@@ -1,6 +1,7 @@
 pub mod BitSet
 pub mod Number
 pub mod Words
+pub mod Lawful
 pub mod Ends
 pub mod Asks
 pub mod Order

@@ -16,6 +16,7 @@ ghost use Rattle.enumset_repr.specs.Order.{compare};
 ///
 /// It does nothing at run time. A proof about a function that calls it knows these laws. They hold for `cmp` of every
 /// representation, and of every set over one.
+#[tactic(auto, using(crate::specs::Laws::Order::orders))]
 pub fn order()
     ensures total { IsTotalOrder compare }
     ensures same { (s t : BitSet) → (compare s t ≡ Equal ↔ s ≡ t) }

@@ -58,6 +58,38 @@ fn each_walk_gives_its_answers(rt: HostRuntime) -> Result<(), Fail> {
     Ok(())
 }
 
+// The first bits of a row of so many bits, as a hundred steps give them.
+fn first_bits(width: u32) -> [Option<u32>; 100] {
+    let mut bits = [None; 100];
+    for bit in 0..100 {
+        if bit < width {
+            bits[bit as usize] = Some(bit);
+        }
+    }
+    bits
+}
+
+// Rows of so many words with all bits. A step asks a word for its next bit, and the next word if there is none.
+#[test]
+fn rows_of_each_length_have_walks(rt: HostRuntime) -> Result<(), Fail> {
+    macro_rules! row {
+        ($words:expr) => {
+            ShownRow::new(ArrayRepr([u64::MAX; $words]))
+        };
+    }
+    let (alloc, ends, all) = (rt.alloc(), [End::Front; 100], first_bits(100));
+    walk_gives(&rt, alloc, row!(0), &ends, &first_bits(0), 0)?;
+    walk_gives(&rt, alloc, row!(1), &ends, &first_bits(64), 65)?;
+    walk_gives(&rt, alloc, row!(16), &ends, &all, 101)?;
+    walk_gives(&rt, alloc, row!(17), &ends, &all, 101)?;
+    walk_gives(&rt, alloc, row!(64), &ends, &all, 101)?;
+    walk_gives(&rt, alloc, row!(0), &[], &[], 0)?;
+    walk_gives(&rt, alloc, row!(1), &[], &[], 0)?;
+    walk_gives(&rt, alloc, row!(16), &[], &[], 0)?;
+    walk_gives(&rt, alloc, row!(17), &[], &[], 0)?;
+    Ok(walk_gives(&rt, alloc, row!(64), &[], &[], 0)?)
+}
+
 #[test]
 fn walks_of_fewer_ends_leave_the_rest(rt: HostRuntime) -> Result<(), Fail> {
     let mut row = ShownRow::new(ArrayRepr([6, 5]));

@@ -89,7 +89,8 @@ pub(crate) fn answer_input<R: Read + Drop, W: Write>(
 {
     let input = read_input(room, reader)?;
     let output = serve_worked(alloc, kind, &input)?;
-    write_output(writer, &output)
+    write_output(writer, &output)?;
+    Ok(())
 }
 
 /// The bytes of a reader until its end, or until there is one too many, in an empty vector that has room for

@@ -5,6 +5,5 @@ mod program;
 mod refused;
 mod surroundings;
 mod text_forms;
-mod text_limits;
 mod texts;
 mod transcripts;

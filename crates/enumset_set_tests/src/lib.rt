@@ -5,11 +5,11 @@
 #![tactic(auto)]
 
 #[cfg(test)]
-mod compare;
-#[cfg(test)]
 mod conversions;
 #[cfg(test)]
 mod each_type;
+#[cfg(test)]
+mod expect;
 #[cfg(test)]
 mod items;
 #[cfg(test)]

@@ -1,5 +1,6 @@
 //! Texts of many members, and texts that a writer does not take to their end.
 
+use crate::expect::expect;
 use crate::sets::two_of;
 use enumset_mixed::{MixedEnumSet, MixedValue};
 use enumset_sets::EnumSet;
@@ -21,7 +22,7 @@ fn texts_of_many_elements(rt: HostRuntime) -> Result<(), Fail> {
         let set = EnumSet::<Of256>::from_array_truncated(words);
         let text = format!(in alloc; "{set} {set:?}")?;
         let wanted = format!(in alloc; "{names} EnumSet({names})")?;
-        assert_eq!(rt; text.as_str(), wanted.as_str());
+        expect(&rt, "a text", text.as_str(), wanted.as_str());
     }
     Ok(())
 }
@@ -39,7 +40,7 @@ fn texts_of_many_unknown_bits(rt: HostRuntime) -> Result<(), Fail> {
     let all = MixedEnumSet::<PairNumber>::new().full_complement();
     let text = format!(in alloc; "{all} {all:?}")?;
     let wanted = format!(in alloc; "{members} MixedEnumSet({members})")?;
-    assert_eq!(rt; text.as_str(), wanted.as_str());
+    expect(&rt, "a text", text.as_str(), wanted.as_str());
     Ok(())
 }
 
@@ -77,11 +78,8 @@ fn a_refused_piece_ends_a_text(rt: HostRuntime) {
             writer,
             "{set} {set:?} {items:?} {mixed} {mixed:?} {members:?} {valid} {valid:?} {unknown} {unknown:?}"
         );
-        assert_eq!(rt;
-            writer.refused,
-            usize::from(written.is_err()),
-            "{left} pieces"
-        );
+        let refused = usize::from(written.is_err());
+        expect(&rt, "pieces", (left, writer.refused), (left, refused));
         is_whole = written.is_ok();
     }
     assert!(rt; is_whole);

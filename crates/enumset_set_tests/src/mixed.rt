@@ -1,6 +1,6 @@
 //! The calls of a mixed set and of its iterator that no command makes, and their texts.
 
-use crate::compare::same_lines;
+use crate::expect::{expect, same_lines};
 use enumset_mixed::{MixedEnumSet, MixedValue, convert_mixed};
 use enumset_repr::EnumSetTypeRepr;
 use enumset_sets::{EnumSet, EnumSetTypeWithRepr};
@@ -12,7 +12,8 @@ use std::test::Fail;
 #[test]
 fn sets_of_marks(rt: HostRuntime) {
     let set = MixedEnumSet::<Marks>::from_repr(9);
-    let only = MixedEnumSet::only(Marks::C);
+    let (only_c, other) = (EnumSet::only(Marks::C), EnumSet::only(Marks::A));
+    let mixed_c = MixedEnumSet::only(Marks::C);
     let sets = [
         MixedEnumSet::empty(),
         MixedEnumSet::default(),
@@ -20,28 +21,37 @@ fn sets_of_marks(rt: HostRuntime) {
         set.clone().unwrap(),
         MixedEnumSet::from_repr_truncated(9),
         set.symmetrical_difference(MixedEnumSet::from_repr(12)),
-        convert_mixed(EnumSet::only(Marks::C)),
+        convert_mixed(only_c),
         set.complement(),
         set.full_complement(),
     ];
-    let numbers = [0, 0, 9, 9, 1, 5, 4, 6, 246];
-    assert_eq!(rt; sets.map(|set| set.as_repr()), numbers);
-    assert_eq!(rt; [set.len(), set.valid_len()], [2, 1]);
-    assert_eq!(rt;
-        [set.try_as_enumset(), only.try_as_enumset()],
-        [None, Some(EnumSet::only(Marks::C))]
+    let wanted = [0, 0, 9, 9, 1, 5, 4, 6, 246].map(MixedEnumSet::from_repr);
+    expect(&rt, "calls that make sets", sets, wanted);
+    expect(&rt, "as_repr", set.complement().as_repr(), 6);
+    expect(
+        &rt,
+        "len and valid_len",
+        [set.len(), set.valid_len()],
+        [2, 1],
     );
-    if only.try_as_enumset().is_some() {
-        assert_eq!(rt; only.as_enumset(), EnumSet::only(Marks::C));
+    let tried = [set.try_as_enumset(), mixed_c.try_as_enumset()];
+    expect(&rt, "try_as_enumset", tried, [None, Some(only_c)]);
+    if mixed_c.try_as_enumset().is_some() {
+        expect(&rt, "as_enumset", mixed_c.as_enumset(), only_c);
     }
-    let is_c = [
-        only.eq_element(Marks::C),
-        only.eq_element(Marks::A),
-        only.eq_enumset(EnumSet::only(Marks::C)),
+    let equal = [
+        mixed_c.eq_element(Marks::C),
+        mixed_c.eq_element(Marks::A),
+        mixed_c.eq_enumset(only_c),
+        mixed_c.eq_enumset(other),
     ];
-    assert_eq!(rt; is_c, [true, false, true]);
-    assert_eq!(rt; MixedEnumSet::bit_index(Marks::C), 2);
-    assert_eq!(rt; MixedEnumSet::<Marks>::variant_count(), 3);
+    let wanted = [true, false, true, false];
+    expect(&rt, "eq_element and eq_enumset", equal, wanted);
+    let numbers = [
+        MixedEnumSet::bit_index(Marks::C),
+        MixedEnumSet::<Marks>::variant_count(),
+    ];
+    expect(&rt, "bit_index and variant_count", numbers, [2, 3]);
 }
 
 #[test]
@@ -53,9 +63,14 @@ fn bits_past_the_width(rt: HostRuntime) {
             set.has_bit(bit),
             set.remove_bit(bit),
         ];
-        assert_eq!(rt; answers, [false; 3], "{bit}");
+        expect(
+            &rt,
+            "a bit past the width",
+            (bit, answers),
+            (bit, [false; 3]),
+        );
     }
-    assert_eq!(rt; set.as_repr(), 1);
+    expect(&rt, "as_repr", set.as_repr(), 1);
 }
 
 // The items of a set from both ends in turn, with the number left before each step, and after the last.
@@ -85,7 +100,8 @@ fn unknown_bits_come_in_their_place(rt: HostRuntime) -> Result<(), Fail> {
         writeln!(text, "{item} {item:?}")?;
     }
     same_lines(&rt, &text, ITEMS);
-    assert!(rt; MixedValue::Valid(High::A) < MixedValue::Invalid(0));
+    let is_less = MixedValue::Valid(High::A) < MixedValue::Invalid(0);
+    expect(&rt, "<", is_less, true);
     Ok(())
 }
 

@@ -1,4 +1,5 @@
 //! The order of sets, and what they feed to a hasher, over an integer and over words.
+use crate::expect::expect;
 use enumset_mixed::{MixedEnumSet, MixedValue};
 use enumset_sets::{EnumSet, EnumSetType, raw};
 use enumset_worked::{High, Letters, Marks, PairNumber, PairWords, Wide};
@@ -20,16 +21,14 @@ fn sets_are_sorted(rt: HostRuntime) -> Result<(), Fail> {
     for set in &sets {
         write!(text, "{{{set}}} ")?;
     }
-    assert_eq!(rt;
-        text.as_str(),
-        "{} {P} {Q} {P | Q} {R} {P | R} {Q | R} {P | Q | R} "
-    );
+    let wanted = "{} {P} {Q} {P | Q} {R} {P | R} {Q | R} {P | Q | R} ";
+    expect(&rt, "sort", text.as_str(), wanted);
     let orders = [
         EnumSet::only(PairWords::A).cmp(&EnumSet::only(PairWords::B)),
         EnumSet::only(PairNumber::A).cmp(&EnumSet::only(PairNumber::B)),
         EnumSet::only(High::B).cmp(&EnumSet::only(High::A)),
     ];
-    assert_eq!(rt; orders, [Ordering::Less; 3]);
+    expect(&rt, "cmp", orders, [Ordering::Less; 3]);
     Ok(())
 }
 
@@ -61,28 +60,25 @@ fn bytes_fed<V: Hash>(value: &V) -> u64 {
     sum.finish()
 }
 
-// What two sets of one element feed, and what the values that represent them feed.
-fn fed<T: EnumSetType>(a: T, b: T) -> ([u64; 2], [u64; 2]) {
-    let (a, b) = (EnumSet::only(a), EnumSet::only(b));
-    (
-        [bytes_fed(&a), bytes_fed(&b)],
-        [bytes_fed(&raw::get(a)), bytes_fed(&raw::get(b))],
-    )
+// What a set of one element feeds, and what the value that represents it feeds.
+fn fed<T: EnumSetType>(element: T) -> [u64; 2] {
+    let set = EnumSet::only(element);
+    [bytes_fed(&set), bytes_fed(&raw::get(set))]
 }
 
 #[test]
 fn a_set_feeds_a_hasher_its_representation(rt: HostRuntime) {
-    let (letters, values) = fed(Letters::A, Letters::B);
-    assert_eq!(rt; letters, [1, 2]);
-    assert_eq!(rt; letters, values);
-    let (wide, values) = fed(Wide::P, Wide::R);
-    assert_eq!(rt; wide, values);
-    assert_ne!(rt; wide[0], wide[1]);
-    for number in [1, 9] {
-        let set = MixedEnumSet::<Marks>::from_repr(number);
-        assert_eq!(rt; bytes_fed(&set), u64::from(number));
-    }
+    let letters = [fed(Letters::A), fed(Letters::B)];
+    expect(&rt, "letters", letters, [[1, 1], [2, 2]]);
+    let [[p, in_p], [r, in_r]] = [fed(Wide::P), fed(Wide::R)];
+    expect(&rt, "wide", (p, r, p == r), (in_p, in_r, false));
     // the number of the variant, and then what it holds
-    let members = [MixedValue::Valid(Marks::C), MixedValue::Invalid(3)];
-    assert_eq!(rt; members.map(|member| bytes_fed(&member)), [2, 4]);
+    let (valid, unknown) = (MixedValue::Valid(Marks::C), MixedValue::<Marks>::Invalid(3));
+    let sums = [
+        bytes_fed(&MixedEnumSet::<Marks>::from_repr(1)),
+        bytes_fed(&MixedEnumSet::<Marks>::from_repr(9)),
+        bytes_fed(&valid),
+        bytes_fed(&unknown),
+    ];
+    expect(&rt, "mixed sets and their members", sums, [1, 9, 2, 4]);
 }

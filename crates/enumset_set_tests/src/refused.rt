@@ -3,6 +3,7 @@
 //! If its call is refused, a test checks that the same call succeeds once there is memory. Then it ends with the refusal.
 //! `scripts/refused-memory` refuses each allocation in turn, and knows how each test must end.
 
+use crate::expect::expect;
 use crate::sets::two_of;
 use enumset_mixed::MixedEnumSet;
 use enumset_sets::{EnumSet, EnumSetType};
@@ -34,12 +35,13 @@ fn vectors_of_words(rt: HostRuntime) -> Result<(), Fail> {
         .copied()
         .collect(rt.alloc())?;
     let mixed: MixedEnumSet<Letters> = collected.iter().collect(rt.alloc())?;
-    assert_eq!(rt; mixed.as_repr(), 5);
+    expect(&rt, "collect", mixed.as_repr(), 5);
     let (letters, in_letters) = words_of(&rt, rt.alloc(), &collected);
     let (sparse, in_sparse) = words_of(&rt, rt.alloc(), &two_of(Sparse::A, Sparse::D));
     let (wide, in_wide) = words_of(&rt, rt.alloc(), &two_of(Wide::P, Wide::R));
-    assert_eq!(rt; letters.as_slice(), [5].as_slice());
-    assert_eq!(rt; sparse.as_slice(), [1024, 9223372036854775808].as_slice());
-    assert_eq!(rt; wide.as_slice(), [8, 0, 4].as_slice());
+    expect(&rt, "to_vec", letters.as_slice(), &[5]);
+    let wanted = [1024, 9223372036854775808];
+    expect(&rt, "to_vec", sparse.as_slice(), &wanted);
+    expect(&rt, "to_vec", wide.as_slice(), &[8, 0, 4]);
     Ok(in_letters.and(in_sparse).and(in_wide)?)
 }

@@ -1,9 +1,8 @@
 //! Sets from a value that may have bits that are not valid, or that may have lost members at or past the width of its
 //! representation.
 
-ghost use Rattle.std.specs.Prelude.{◌≡◌, ◌↔◌, IsTrue, IsSome, IfSome};
+ghost use Rattle.std.specs.Prelude.{◌≡◌, ◌↔◌, IsTrue, IsSome, IfSome, MatchOption, None};
 ghost use Rattle.enumset_repr.specs.BitSet as set;
-ghost use Rattle.enumset_repr.specs.BitSet.{BitSet};
 ghost use Rattle.enumset_sets.specs.Elements.{valid_bits};
 
 use crate::element::EnumSetType;
@@ -43,15 +42,15 @@ pub(crate) fn validated<T: EnumSetType>(repr: T::Repr) -> Option<EnumSet<T>>
     }
 }
 
-// `taken` is the value of a set s if all members of s are below the width, else `None`. For each such s, the result is
-// s if all its members are valid, else `None`.
+// The set that a value represents, if there is a value and all its members are valid, else `None`. The valid bits are
+// below the width.
 pub(crate) fn validated_low<T: EnumSetType>(taken: Option<T::Repr>) -> Option<EnumSet<T>>
-    ensures { (s : BitSet) → (IsSome taken ↔ IsTrue (set.is_subset s (set.below T.Repr.WIDTH)))
-        → IfSome taken (λ repr. T.Repr.members repr ≡ s)
-        → (IsSome result ↔ IsTrue (set.is_subset s (valid_bits T.elements)))
-        × IfSome result (λ t. t ≡ s) }
+    ensures valid { MatchOption taken (result ≡ None) (λ repr.
+        (IsSome result ↔ IsTrue (set.is_subset (T.Repr.members repr) (valid_bits T.elements)))
+        × IfSome result (λ s. s ≡ T.Repr.members repr)) }
+    ensures within { IsTrue (set.is_subset (valid_bits T.elements) (set.below T.Repr.WIDTH)) }
 {
-    // If `taken` is `None`, s is not valid, since the valid bits are below the width.
+    // The contract of `valid_repr` alone says that the valid bits are below the width.
     let _all = valid_repr::<T>();
     validated(taken?)
 }

@@ -1,12 +1,12 @@
 //! Functions that tell a proof that a match over bits has an arm for each variant.
 //!
-//! The macro [`variant_of!`](crate::variant_of) calls them, and so may an `enum_from_u32` that is written by hand. They
-//! do nothing at run time, and have no counterpart in Rust's `enumset`.
+//! A match over at most 32 bits proves without them. They do nothing at run time, and have no counterpart in Rust's
+//! `enumset`.
 
-ghost use Rattle.std.specs.Prelude.{◌<◌, ◌≤◌, ◌++◌, IsTrue};
-ghost use Rattle.std.specs.List.{filter, range_with_len};
+ghost use Rattle.std.specs.Prelude.{◌<◌, ◌++◌, IsTrue};
+ghost use Rattle.std.specs.List.{range_with_len};
 ghost use Rattle.enumset_repr.specs.BitSet.{is_in};
-ghost use Rattle.enumset_sets.specs.Variants.{IsNoneOf, is_within};
+ghost use Rattle.enumset_sets.specs.Variants.{IsNoneOf};
 
 /// Tells the proof that a number among 0, 1, 2 and so on, `count` numbers in all, is below `count`.
 #[inline]
@@ -28,14 +28,4 @@ pub fn is_listed_later(bit: u32, first: &[u32], later: &[u32])
     requires listed { IsTrue (is_in bit (first.now ++ later.now)) }
     requires not_first { IsNoneOf bit first.now }
     ensures { IsTrue (is_in bit later.now) }
-{}
-
-/// Tells the proof that a number in a list that is `least`, `greatest` or between them cannot differ from all numbers of
-/// the list that are.
-#[inline]
-pub fn is_listed_within(bit: u32, least: u32, greatest: u32, bits: &[u32])
-    requires listed { IsTrue (is_in bit bits.now) }
-    requires least { least ≤ bit }
-    requires greatest { bit ≤ greatest }
-    ensures { IsNoneOf bit (filter (is_within least greatest) bits.now) → ⊥ }
 {}

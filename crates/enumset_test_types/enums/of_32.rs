@@ -4,7 +4,7 @@ use enumset::EnumSetType;
 
 /// A variant for each bit of a `u32`.
 #[derive(EnumSetType, Debug)]
-#[enumset(no_ops, crate_name = "enumset_sets")]
+#[enumset(no_ops, repr = "u32", serialize_repr = "u32")]
 pub enum Of32 {
     V0,
     V1,

@@ -3,8 +3,8 @@
 use enumset::EnumSetType;
 
 /// Thirty-three variants, on bits 0 to 32.
-#[derive(EnumSetType, Debug)]
-#[enumset(no_ops, crate_name = "enumset_sets")]
+#[derive(EnumSetType, Clone, Copy, PartialEq, Eq, Debug)]
+#[enumset(no_ops, no_super_impls, repr = "u64", serialize_repr = "u128")]
 pub enum Of33 {
     V0,
     V1,

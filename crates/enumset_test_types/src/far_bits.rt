@@ -1,7 +1,7 @@
 //! Enums of two variants, one in the first word and one in the last of more words than the other types have.
 
 use enumset_array::ArrayRepr;
-use enumset_sets::{EnumSetType, variant_of};
+use enumset_sets::EnumSetType;
 
 /// Two variants, on bits 3 and 300, in five words.
 #[derive(Clone, Copy, PartialEq, Eq, Debug)]
@@ -36,7 +36,11 @@ impl EnumSetType for In5Words {
     }
 
     fn enum_from_u32(val: u32) -> Self {
-        variant_of!(val, In5Words: 3 A 300 B)
+        match val {
+            3 => Self::A,
+            300 => Self::B,
+            _ => unreachable!(),
+        }
     }
 
     ghost lawful = { lawful_in_words the_type _ tt };
@@ -94,7 +98,11 @@ impl EnumSetType for In17Words {
     }
 
     fn enum_from_u32(val: u32) -> Self {
-        variant_of!(val, In17Words: 3 A 1087 B)
+        match val {
+            3 => Self::A,
+            1087 => Self::B,
+            _ => unreachable!(),
+        }
     }
 
     ghost lawful = { lawful_in_words the_type _ tt };

@@ -1,9 +1,7 @@
 //! An enum for each form that its sets have in JSON.
 
 use enumset::internal::ArrayRepr;
-use enumset::{
-    EnumSet, EnumSetNames, EnumSetType, EnumSetTypeWithRepr, names_of, set_json, variant_of,
-};
+use enumset::{EnumSet, EnumSetNames, EnumSetType, EnumSetTypeWithRepr, names_of, set_json};
 
 /// Rights whose sets are numbers.
 #[derive(Clone, Copy, PartialEq, Eq, Debug)]
@@ -38,7 +36,12 @@ impl EnumSetType for Numbered {
     }
 
     fn enum_from_u32(val: u32) -> Self {
-        variant_of!(val, Numbered: Read Write Share)
+        match val {
+            0 => Self::Read,
+            1 => Self::Write,
+            2 => Self::Share,
+            _ => unreachable!(),
+        }
     }
 
     ghost lawful = { lawful_in_place the_type (lawful_in_integer the_type _ tt) };
@@ -121,7 +124,11 @@ impl EnumSetType for InWords {
     }
 
     fn enum_from_u32(val: u32) -> Self {
-        variant_of!(val, InWords: 1 Low 200 High)
+        match val {
+            1 => Self::Low,
+            200 => Self::High,
+            _ => unreachable!(),
+        }
     }
 
     ghost lawful = { lawful_in_words the_type _ tt };
@@ -194,7 +201,11 @@ impl EnumSetType for Listed {
     }
 
     fn enum_from_u32(val: u32) -> Self {
-        variant_of!(val, Listed: Read Write)
+        match val {
+            0 => Self::Read,
+            1 => Self::Write,
+            _ => unreachable!(),
+        }
     }
 
     ghost lawful = { lawful_in_place the_type (lawful_in_integer the_type _ tt) };
@@ -285,7 +296,11 @@ impl EnumSetType for Mapped {
     }
 
     fn enum_from_u32(val: u32) -> Self {
-        variant_of!(val, Mapped: Read Write)
+        match val {
+            0 => Self::Read,
+            1 => Self::Write,
+            _ => unreachable!(),
+        }
     }
 
     ghost lawful = { lawful_in_place the_type (lawful_in_integer the_type _ tt) };

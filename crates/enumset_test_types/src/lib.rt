@@ -3,6 +3,9 @@
 //!
 //! Most modules are what `enumset_derive` writes from their files in `enums/`: change such a file, and call
 //! `scripts/written-types`. None of them needs a proof file.
+//!
+//! With those of `enumset_worked` they have each `repr` and each `serialize_repr`, `no_super_impls` (`of_33`), gaps, and
+//! operators or none.
 #![tactic(auto)]
 
 pub mod far_bits;

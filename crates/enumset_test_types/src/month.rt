@@ -1,6 +1,6 @@
 //! The twelve months over a `u16`.
 
-use enumset_sets::{EnumSetType, EnumSetTypeWithRepr, variant_of};
+use enumset_sets::{EnumSetType, EnumSetTypeWithRepr};
 
 /// A month of the year, on bits 0 to 11.
 #[derive(Clone, Copy, PartialEq, Eq, Debug, PartialOrd, Ord, Hash)]
@@ -44,10 +44,21 @@ impl EnumSetType for Month {
     }
 
     fn enum_from_u32(val: u32) -> Self {
-        variant_of!(
-            val, Month: January February March April May June July August September October November
-            December
-        )
+        match val {
+            0 => Self::January,
+            1 => Self::February,
+            2 => Self::March,
+            3 => Self::April,
+            4 => Self::May,
+            5 => Self::June,
+            6 => Self::July,
+            7 => Self::August,
+            8 => Self::September,
+            9 => Self::October,
+            10 => Self::November,
+            11 => Self::December,
+            _ => unreachable!(),
+        }
     }
 
     ghost lawful = { lawful_in_place the_type (lawful_in_integer the_type _ tt) };

@@ -1,9 +1,7 @@
 //! Element types whose values have names, and whose sets are lists of them.
 
 use enumset::internal::ArrayRepr;
-use enumset::{
-    EnumSet, EnumSetNames, EnumSetType, EnumSetTypeWithRepr, names_of, set_json, variant_of,
-};
+use enumset::{EnumSet, EnumSetNames, EnumSetType, EnumSetTypeWithRepr, names_of, set_json};
 
 /// Seven variants, on bits 0 to 6, in an integer.
 #[derive(Clone, Copy, PartialEq, Eq, Debug)]
@@ -42,7 +40,16 @@ impl EnumSetType for Letters {
     }
 
     fn enum_from_u32(val: u32) -> Self {
-        variant_of!(val, Letters: A B C D E F G)
+        match val {
+            0 => Self::A,
+            1 => Self::B,
+            2 => Self::C,
+            3 => Self::D,
+            4 => Self::E,
+            5 => Self::F,
+            6 => Self::G,
+            _ => unreachable!(),
+        }
     }
 
     ghost lawful = { lawful_in_place the_type (lawful_in_integer the_type _ tt) };
@@ -142,7 +149,18 @@ impl EnumSetType for LaterLetters {
     }
 
     fn enum_from_u32(val: u32) -> Self {
-        variant_of!(val, LaterLetters: 0 A 1 B 2 C 3 D 4 E 5 F 6 G 7 H 64 Aa)
+        match val {
+            0 => Self::A,
+            1 => Self::B,
+            2 => Self::C,
+            3 => Self::D,
+            4 => Self::E,
+            5 => Self::F,
+            6 => Self::G,
+            7 => Self::H,
+            64 => Self::Aa,
+            _ => unreachable!(),
+        }
     }
 
     ghost lawful = { lawful_in_words the_type _ tt };
@@ -237,7 +255,13 @@ impl EnumSetType for Sparse {
     }
 
     fn enum_from_u32(val: u32) -> Self {
-        variant_of!(val, Sparse: 10 A 20 B 30 C 127 D)
+        match val {
+            10 => Self::A,
+            20 => Self::B,
+            30 => Self::C,
+            127 => Self::D,
+            _ => unreachable!(),
+        }
     }
 
     ghost lawful = { lawful_in_integer the_type _ tt };

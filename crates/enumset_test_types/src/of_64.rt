@@ -1,6 +1,6 @@
 //! An enum of 64 variants over a `u64`.
 
-use enumset::{EnumSet, EnumSetType, EnumSetTypeWithRepr, set_json, variant_of};
+use enumset::{EnumSet, EnumSetType, EnumSetTypeWithRepr, set_json};
 
 /// A variant for each bit of a `u64`, which JSON has as a number.
 #[derive(Clone, Copy, PartialEq, Eq, Debug)]
@@ -96,11 +96,76 @@ impl EnumSetType for Of64 {
     }
 
     fn enum_from_u32(val: u32) -> Self {
-        variant_of!(
-            val, Of64: V0 V1 V2 V3 V4 V5 V6 V7 V8 V9 V10 V11 V12 V13 V14 V15 V16 V17 V18 V19 V20 V21
-            V22 V23 V24 V25 V26 V27 V28 V29 V30 V31 V32 V33 V34 V35 V36 V37 V38 V39 V40 V41 V42 V43
-            V44 V45 V46 V47 V48 V49 V50 V51 V52 V53 V54 V55 V56 V57 V58 V59 V60 V61 V62 V63
-        )
+        match val {
+            0 => Self::V0,
+            1 => Self::V1,
+            2 => Self::V2,
+            3 => Self::V3,
+            4 => Self::V4,
+            5 => Self::V5,
+            6 => Self::V6,
+            7 => Self::V7,
+            8 => Self::V8,
+            9 => Self::V9,
+            10 => Self::V10,
+            11 => Self::V11,
+            12 => Self::V12,
+            13 => Self::V13,
+            14 => Self::V14,
+            15 => Self::V15,
+            16 => Self::V16,
+            17 => Self::V17,
+            18 => Self::V18,
+            19 => Self::V19,
+            20 => Self::V20,
+            21 => Self::V21,
+            22 => Self::V22,
+            23 => Self::V23,
+            24 => Self::V24,
+            25 => Self::V25,
+            26 => Self::V26,
+            27 => Self::V27,
+            28 => Self::V28,
+            29 => Self::V29,
+            30 => Self::V30,
+            31 => Self::V31,
+            32 => Self::V32,
+            33 => Self::V33,
+            34 => Self::V34,
+            35 => Self::V35,
+            36 => Self::V36,
+            37 => Self::V37,
+            38 => Self::V38,
+            39 => Self::V39,
+            40 => Self::V40,
+            41 => Self::V41,
+            42 => Self::V42,
+            43 => Self::V43,
+            44 => Self::V44,
+            45 => Self::V45,
+            46 => Self::V46,
+            47 => Self::V47,
+            48 => Self::V48,
+            49 => Self::V49,
+            50 => Self::V50,
+            51 => Self::V51,
+            52 => Self::V52,
+            53 => Self::V53,
+            54 => Self::V54,
+            55 => Self::V55,
+            56 => Self::V56,
+            57 => Self::V57,
+            58 => Self::V58,
+            59 => Self::V59,
+            60 => Self::V60,
+            61 => Self::V61,
+            62 => Self::V62,
+            63 => Self::V63,
+            _ => {
+                enumset::variants::is_below(val, 64);
+                unreachable!()
+            }
+        }
     }
 
     ghost lawful = { lawful_in_place the_type (lawful_in_integer the_type _ tt) };

@@ -1,6 +1,6 @@
 //! An enum whose bits count from the highest.
 
-use enumset::{EnumSet, EnumSetType, EnumSetTypeWithRepr, set_json, variant_of};
+use enumset::{EnumSet, EnumSetType, EnumSetTypeWithRepr, set_json};
 
 /// Priorities, on bits 15, 14 and 13, so that a set's number is the larger the higher its highest priority.
 #[derive(Clone, Copy, PartialEq, Eq, Debug)]
@@ -40,7 +40,12 @@ impl EnumSetType for Priority {
     }
 
     fn enum_from_u32(val: u32) -> Self {
-        variant_of!(val, Priority: 15 Urgent 14 Normal 13 Low)
+        match val {
+            15 => Self::Urgent,
+            14 => Self::Normal,
+            13 => Self::Low,
+            _ => unreachable!(),
+        }
     }
 
     ghost lawful = { lawful_in_integer the_type _ tt };

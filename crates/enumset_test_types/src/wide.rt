@@ -1,7 +1,7 @@
 //! An element type whose values get their names by hand, beside this module.
 
+use enumset::EnumSetType;
 use enumset::internal::ArrayRepr;
-use enumset::{EnumSetType, variant_of};
 
 /// Three variants, on bits 3, 64 and 130, each in a word of its own.
 #[derive(Clone, Copy, PartialEq, Eq, Debug)]
@@ -37,7 +37,12 @@ impl EnumSetType for Wide {
     }
 
     fn enum_from_u32(val: u32) -> Self {
-        variant_of!(val, Wide: 3 P 64 Q 130 R)
+        match val {
+            3 => Self::P,
+            64 => Self::Q,
+            130 => Self::R,
+            _ => unreachable!(),
+        }
     }
 
     ghost lawful = { lawful_in_words the_type _ tt };

@@ -1,6 +1,6 @@
 //! The worked type `four`.
 
-use enumset_sets::{EnumSet, EnumSetType, EnumSetTypeWithRepr, variant_of};
+use enumset_sets::{EnumSet, EnumSetType, EnumSetTypeWithRepr};
 
 /// Four variants, on bits 0 to 3.
 #[derive(Clone, Copy, PartialEq, Eq, Debug, PartialOrd, Ord, Hash)]
@@ -40,7 +40,13 @@ impl EnumSetType for Four {
     }
 
     fn enum_from_u32(val: u32) -> Self {
-        variant_of!(val, Four: A B C D)
+        match val {
+            0 => Self::A,
+            1 => Self::B,
+            2 => Self::C,
+            3 => Self::D,
+            _ => unreachable!(),
+        }
     }
 
     ghost lawful = { lawful_in_place the_type (lawful_in_integer the_type _ tt) };

@@ -1,6 +1,6 @@
 //! The worked type `high`.
 
-use enumset_sets::{EnumSetType, EnumSetTypeWithRepr, variant_of};
+use enumset_sets::{EnumSetType, EnumSetTypeWithRepr};
 
 /// Three variants, on bits 7, 6 and 5: a discriminant counts down from the highest bit of the representation.
 #[derive(Clone, Copy, PartialEq, Eq, Debug, PartialOrd, Ord, Hash)]
@@ -43,7 +43,12 @@ impl EnumSetType for High {
     }
 
     fn enum_from_u32(val: u32) -> Self {
-        variant_of!(val, High: 7 A 6 B 5 C)
+        match val {
+            7 => Self::A,
+            6 => Self::B,
+            5 => Self::C,
+            _ => unreachable!(),
+        }
     }
 
     ghost lawful = { lawful_in_integer the_type _ tt };

@@ -1,6 +1,6 @@
 //! The worked type `letters`.
 
-use enumset_sets::{EnumSet, EnumSetType, EnumSetTypeWithRepr, variant_of};
+use enumset_sets::{EnumSet, EnumSetType, EnumSetTypeWithRepr};
 
 /// Seven variants, on bits 0 to 6.
 #[derive(Clone, Copy, PartialEq, Eq, Debug, PartialOrd, Ord, Hash)]
@@ -44,7 +44,16 @@ impl EnumSetType for Letters {
     }
 
     fn enum_from_u32(val: u32) -> Self {
-        variant_of!(val, Letters: A B C D E F G)
+        match val {
+            0 => Self::A,
+            1 => Self::B,
+            2 => Self::C,
+            3 => Self::D,
+            4 => Self::E,
+            5 => Self::F,
+            6 => Self::G,
+            _ => unreachable!(),
+        }
     }
 
     ghost lawful = { lawful_in_place the_type (lawful_in_integer the_type _ tt) };

@@ -1,6 +1,6 @@
 //! The worked type `marks`.
 
-use enumset_sets::{EnumSetType, EnumSetTypeWithRepr, variant_of};
+use enumset_sets::{EnumSetType, EnumSetTypeWithRepr};
 
 /// Three variants, on bits 0, 1 and 2.
 #[derive(Clone, Copy, PartialEq, Eq, Debug, PartialOrd, Ord, Hash)]
@@ -39,7 +39,12 @@ impl EnumSetType for Marks {
     }
 
     fn enum_from_u32(val: u32) -> Self {
-        variant_of!(val, Marks: A B C)
+        match val {
+            0 => Self::A,
+            1 => Self::B,
+            2 => Self::C,
+            _ => unreachable!(),
+        }
     }
 
     ghost lawful = { lawful_in_place the_type (lawful_in_integer the_type _ tt) };

@@ -1,6 +1,6 @@
 //! The worked type `masks`.
 
-use enumset_sets::{EnumSetType, EnumSetTypeWithRepr, variant_of};
+use enumset_sets::{EnumSetType, EnumSetTypeWithRepr};
 
 /// Three variants, on bits 0, 4 and 6: each discriminant is the mask of its bit.
 #[derive(Clone, Copy, PartialEq, Eq, Debug, PartialOrd, Ord, Hash)]
@@ -43,7 +43,12 @@ impl EnumSetType for Masks {
     }
 
     fn enum_from_u32(val: u32) -> Self {
-        variant_of!(val, Masks: 0 P 4 Q 6 R)
+        match val {
+            0 => Self::P,
+            4 => Self::Q,
+            6 => Self::R,
+            _ => unreachable!(),
+        }
     }
 
     ghost lawful = { lawful_in_integer the_type _ tt };

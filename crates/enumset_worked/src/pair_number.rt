@@ -1,6 +1,6 @@
 //! The worked type `pair-number`.
 
-use enumset_sets::{EnumSetType, EnumSetTypeWithRepr, variant_of};
+use enumset_sets::{EnumSetType, EnumSetTypeWithRepr};
 
 /// Two variants, on bits 0 and 64 of one integer: the bits of [`PairWords`](crate::pair_words::PairWords).
 #[derive(Clone, Copy, PartialEq, Eq, Debug, PartialOrd, Ord, Hash)]
@@ -38,7 +38,11 @@ impl EnumSetType for PairNumber {
     }
 
     fn enum_from_u32(val: u32) -> Self {
-        variant_of!(val, PairNumber: 0 A 64 B)
+        match val {
+            0 => Self::A,
+            64 => Self::B,
+            _ => unreachable!(),
+        }
     }
 
     ghost lawful = { lawful_in_integer the_type _ tt };

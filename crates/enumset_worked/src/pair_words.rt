@@ -1,7 +1,7 @@
 //! The worked type `pair-words`.
 
 use enumset_array::ArrayRepr;
-use enumset_sets::{EnumSetType, EnumSetTypeWithRepr, variant_of};
+use enumset_sets::{EnumSetType, EnumSetTypeWithRepr};
 
 /// Two variants, on bits 0 and 64, each in its own word: the bits of [`PairNumber`](crate::pair_number::PairNumber).
 #[derive(Clone, Copy, PartialEq, Eq, Debug, PartialOrd, Ord, Hash)]
@@ -39,7 +39,11 @@ impl EnumSetType for PairWords {
     }
 
     fn enum_from_u32(val: u32) -> Self {
-        variant_of!(val, PairWords: 0 A 64 B)
+        match val {
+            0 => Self::A,
+            64 => Self::B,
+            _ => unreachable!(),
+        }
     }
 
     ghost lawful = { lawful_in_words the_type _ tt };

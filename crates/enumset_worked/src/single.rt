@@ -1,6 +1,6 @@
 //! The worked type `single`.
 
-use enumset_sets::{EnumSetType, EnumSetTypeWithRepr, variant_of};
+use enumset_sets::{EnumSetType, EnumSetTypeWithRepr};
 
 /// One variant, on bit 0.
 #[derive(Clone, Copy, PartialEq, Eq, Debug, PartialOrd, Ord, Hash)]
@@ -37,7 +37,10 @@ impl EnumSetType for Single {
     }
 
     fn enum_from_u32(val: u32) -> Self {
-        variant_of!(val, Single: A)
+        match val {
+            0 => Self::A,
+            _ => unreachable!(),
+        }
     }
 
     ghost lawful = { lawful_in_place the_type (lawful_in_integer the_type _ tt) };

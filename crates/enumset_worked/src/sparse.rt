@@ -1,6 +1,6 @@
 //! The worked type `sparse`.
 
-use enumset_sets::{EnumSetType, EnumSetTypeWithRepr, variant_of};
+use enumset_sets::{EnumSetType, EnumSetTypeWithRepr};
 
 /// Four variants, on bits 10, 20, 30 and 127.
 #[derive(Clone, Copy, PartialEq, Eq, Debug, PartialOrd, Ord, Hash)]
@@ -40,7 +40,13 @@ impl EnumSetType for Sparse {
     }
 
     fn enum_from_u32(val: u32) -> Self {
-        variant_of!(val, Sparse: 10 A 20 B 30 C 127 D)
+        match val {
+            10 => Self::A,
+            20 => Self::B,
+            30 => Self::C,
+            127 => Self::D,
+            _ => unreachable!(),
+        }
     }
 
     ghost lawful = { lawful_in_integer the_type _ tt };

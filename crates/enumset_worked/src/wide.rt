@@ -1,7 +1,7 @@
 //! The worked type `wide`.
 
 use enumset_array::ArrayRepr;
-use enumset_sets::{EnumSetType, variant_of};
+use enumset_sets::EnumSetType;
 
 /// Three variants, on bits 3, 64 and 130, each in a word of its own.
 #[derive(Clone, Copy, PartialEq, Eq, Debug, PartialOrd, Ord, Hash)]
@@ -40,7 +40,12 @@ impl EnumSetType for Wide {
     }
 
     fn enum_from_u32(val: u32) -> Self {
-        variant_of!(val, Wide: 3 P 64 Q 130 R)
+        match val {
+            3 => Self::P,
+            64 => Self::Q,
+            130 => Self::R,
+            _ => unreachable!(),
+        }
     }
 
     ghost lawful = { lawful_in_words the_type _ tt };

@@ -6,9 +6,10 @@
 --     holds, Keeps      whether a rule holds of a state;  a transition after which a rule holds wherever it held before
 --     keeps_from      whether a transition keeps a rule in a step from one state
 --     first, second      the two flags of a rule
+--     keeps_from_least      whether a transition keeps a rule in the steps that are tried
 --     IsRefusal      what is missing, and what bars
 use Rattle.std.specs.Prelude.{◌≡◌, ℕ, Bool, true, not, cond, ◌&&◌, ◌||◌, List, [], ◌∷◌}
-use Rattle.enumset_repr.specs.BitSet.{BitSet, contains, union, intersection, difference, is_subset, is_disjoint}
+use Rattle.enumset_repr.specs.BitSet.{BitSet, contains, only, union, intersection, difference, is_subset, is_disjoint}
 use Rattle.enumset_sets.specs.Elements.{in_place}
 use Rattle.example_door.specs.contracts.flag.Flag.{the_type}
 use Rattle.example_door.specs.declared.flag.Flag.{Flag}
@@ -51,6 +52,14 @@ first (Implies one other) = one
 abbrev pub second : Rule → Flag
 second (NeverBoth one other) = other
 second (Implies one other) = other
+
+-- from what is required, with none, one or both of the rule's flags
+abbrev pub keeps_from_least : Rule → Transition → Bool
+keeps_from_least rule t =
+    let least = t.required in
+    let one = only (bit (first rule)) in
+    let other = only (bit (second rule)) in
+    keeps_from rule t least && keeps_from rule t (union least one) && keeps_from rule t (union least other) && keeps_from rule t (union (union least one) other)
 
 pub record IsRefusal (t : Transition) (s : BitSet) (refusal : Refusal) : Type 0 where
   pub missing : refusal.missing ≡ difference t.required s

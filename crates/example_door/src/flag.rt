@@ -1,6 +1,6 @@
 //! What may be true of a door.
 
-use enumset::{EnumSetType, EnumSetTypeWithRepr, variant_of};
+use enumset::{EnumSetType, EnumSetTypeWithRepr};
 
 /// A flag of a door with a magnetic lock.
 #[derive(Clone, Copy, PartialEq, Eq, Debug)]
@@ -40,7 +40,13 @@ impl EnumSetType for Flag {
     }
 
     fn enum_from_u32(val: u32) -> Self {
-        variant_of!(val, Flag: Open Locked Alarmed Powered)
+        match val {
+            0 => Self::Open,
+            1 => Self::Locked,
+            2 => Self::Alarmed,
+            3 => Self::Powered,
+            _ => unreachable!(),
+        }
     }
 
     ghost lawful = { lawful_in_place the_type (lawful_in_integer the_type _ tt) };

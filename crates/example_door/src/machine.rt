@@ -1,7 +1,7 @@
 //! Machines whose states are sets of flags.
 
 ghost use Rattle.std.specs.Prelude.{◌≡◌, ◌↔◌, true, IsTrue, IsOk, IfOk, IfErr, All};
-ghost use Rattle.example_door.specs.Machines.{transition, allows, after, after_all, holds, Keeps, keeps_from, IsRefusal};
+ghost use Rattle.example_door.specs.Machines.{transition, allows, after, after_all, holds, Keeps, keeps_from, keeps_from_least, first, second, IsRefusal};
 
 use crate::flag::Flag;
 use enumset::EnumSet;
@@ -84,18 +84,27 @@ impl Transition {
     /// Whether the transition keeps a rule: whether it holds after each step from a state where it holds.
     ///
     /// Only the two flags of the rule matter, so it tries the states with what is required and any of the two.
+    #[tactic(auto, using(crate::proofs::Kept::kept_iff))]
     pub fn keeps(&self, rule: Rule) -> bool
         ensures { IsTrue result ↔ Keeps rule self.now }
     {
-        let least = self.required;
         match rule {
             Rule::NeverBoth(one, other) | Rule::Implies(one, other) => {
-                self.keeps_from(rule, least)
-                    && self.keeps_from(rule, least | one)
-                    && self.keeps_from(rule, least | other)
-                    && self.keeps_from(rule, least | one | other)
+                self.keeps_from_least(rule, one, other)
             }
         }
+    }
+
+    // Whether the rule, of these two flags, is kept in the steps from what is required and any of the two.
+    fn keeps_from_least(&self, rule: Rule, one: Flag, other: Flag) -> bool
+        requires { (first rule ≡ one) × (second rule ≡ other) }
+        ensures { result ≡ keeps_from_least rule self.now }
+    {
+        let least = self.required;
+        self.keeps_from(rule, least)
+            && self.keeps_from(rule, least | one)
+            && self.keeps_from(rule, least | other)
+            && self.keeps_from(rule, least | one | other)
     }
 
     // Whether the rule is kept in a step from one state.

@@ -3,9 +3,15 @@
 --     closing      the end, or where parentheses are open `)`
 --     coming      the kinds that may come
 --     place_after, depth_after      what may come after a kind that may come;  how many parentheses are open then
-use Rattle.std.specs.Prelude.{ℕ, zero, suc, ◌+◌, ◌-◌, List, [], ◌∷◌}
+--     next_kinds      the set of the kinds that may come
+--     Reads, Refuses      what a reader becomes with a kind that may come;  the fault at one that may not
+use Rattle.std.specs.Prelude.{◌≡◌, ℕ, zero, suc, ◌+◌, true, false, List, [], ◌∷◌, map}
+use Rattle.enumset_repr.specs.BitSet.{BitSet, contains, from_list}
 use Rattle.example_expressions.specs.declared.kind.Kind.{Kind}
 use Rattle.example_expressions.specs.declared.kind.Kind.TheVariants.{Number, Open, Minus, Plus, Times, Divide, Close, End}
+use Rattle.example_expressions.specs.declared.parser.Reader.{Reader}
+use Rattle.example_expressions.specs.declared.parser.Unexpected.{Unexpected}
+use Rattle.example_expressions.specs.Grammar.{bit}
 
 pub data Place : Type 0 where
   Operand : Place
@@ -28,6 +34,17 @@ place_after End = Done
 place_after _ = Operand
 
 abbrev pub depth_after : Kind → ℕ → ℕ
-depth_after Open depth = depth + 1
-depth_after Close depth = depth - 1
+depth_after Open depth = suc depth
+depth_after Close (suc depth) = depth
 depth_after _ depth = depth
+
+abbrev pub next_kinds : Reader → BitSet
+next_kinds reader = from_list (map bit (coming (place_after reader.last) reader.depth))
+
+pub record Reads (before : Reader) (kind : Kind) (after : Reader) : Type 0 where
+  pub may_come : contains (next_kinds before) (bit kind) ≡ true
+  pub next : after ≡ record { place = before.place + 1; last = kind; depth = depth_after kind before.depth }
+
+pub record Refuses (before : Reader) (kind : Kind) (fault : Unexpected) : Type 0 where
+  pub may_not_come : contains (next_kinds before) (bit kind) ≡ false
+  pub is : fault ≡ record { place = before.place; found = kind; expected = next_kinds before }

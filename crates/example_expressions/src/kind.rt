@@ -1,6 +1,6 @@
 //! The kinds of tokens.
 
-use enumset::{EnumSetType, EnumSetTypeWithRepr, variant_of};
+use enumset::{EnumSetType, EnumSetTypeWithRepr};
 
 /// A kind of token.
 #[derive(Clone, Copy, PartialEq, Eq, Debug)]
@@ -41,7 +41,17 @@ impl EnumSetType for Kind {
     }
 
     fn enum_from_u32(val: u32) -> Self {
-        variant_of!(val, Kind: Number Open Minus Plus Times Divide Close End)
+        match val {
+            0 => Self::Number,
+            1 => Self::Open,
+            2 => Self::Minus,
+            3 => Self::Plus,
+            4 => Self::Times,
+            5 => Self::Divide,
+            6 => Self::Close,
+            7 => Self::End,
+            _ => unreachable!(),
+        }
     }
 
     ghost lawful = { lawful_in_place the_type (lawful_in_integer the_type _ tt) };

@@ -1,9 +1,9 @@
 //! Whether tokens are an expression, and what could have come where they are none.
 
-ghost use Rattle.std.specs.Prelude.{◌≡◌, map, OnOk, IfErr};
+ghost use Rattle.std.specs.Prelude.{◌≡◌, ◌≤◌, ◌<◌, ◌^◌, OnOk, IfErr};
 ghost use Rattle.enumset_repr.specs.BitSet as set;
 ghost use Rattle.example_expressions.specs.Grammar.{bit, kinds_of, IsExpression, IsFault};
-ghost use Rattle.example_expressions.specs.States.{coming, place_after};
+ghost use Rattle.example_expressions.specs.States.{next_kinds, Reads, Refuses};
 
 use crate::kind::Kind;
 use crate::token::Token;
@@ -25,41 +25,70 @@ pub fn check(tokens: &[Token]) -> Result<(), Unexpected>
     ensures accepted { OnOk result (IsExpression (kinds_of tokens.now)) }
     ensures refused { IfErr result (IsFault (kinds_of tokens.now)) }
 {
-    let mut depth = 0;
-    let mut expected = expected_after(Kind::Open, depth);
-    for place in 0..tokens.len() + 1 {
-        let found = match tokens.get(place) {
-            Some(token) => token.kind,
-            None => Kind::End,
-        };
-        if !expected.contains(found) {
+    let mut reader = Reader {
+        place: 0,
+        last: Kind::Open,
+        depth: 0,
+    };
+    for token in tokens {
+        reader.read(token.kind)?;
+    }
+    reader.read(Kind::End)
+}
+
+// How many tokens have been read, the last of them, and how many parentheses are open.
+#[derive(Clone, Copy)]
+struct Reader {
+    place: usize,
+    last: Kind,
+    depth: usize,
+}
+
+impl Reader {
+    // Reads a token, if it may come.
+    #[tactic(auto, using(crate::proofs::Reading::closes_open))]
+    fn read(&mut self, kind: Kind) -> Result<(), Unexpected>
+        requires place { self.old.place < 2 ^ 63 }
+        requires depth { self.old.depth ≤ self.old.place }
+        ensures read { OnOk result (Reads self.old kind self.new) }
+        ensures depth { OnOk result (self.new.depth ≤ self.new.place) }
+        ensures fault { IfErr result (Refuses self.old kind) }
+    {
+        let expected = self.expected();
+        if !expected.contains(kind) {
             return Err(Unexpected {
-                place,
-                found,
+                place: self.place,
+                found: kind,
                 expected,
             });
         }
-        match found {
-            Kind::Open => depth += 1,
-            Kind::Close => depth -= 1,
+        match kind {
+            Kind::Open => self.depth += 1,
+            Kind::Close => self.depth -= 1,
             _ => {}
         }
-        expected = expected_after(found, depth);
+        self.last = kind;
+        self.place += 1;
+        Ok(())
     }
-    Ok(())
-}
 
-// The kinds of tokens that may come after one, with so many parentheses open.
-fn expected_after(kind: Kind, depth: usize) -> EnumSet<Kind>
-    ensures { result ≡ set.from_list (map bit (coming (place_after kind) depth)) }
-{
-    match kind {
-        Kind::Number | Kind::Close => {
-            let end = if depth == 0 { Kind::End } else { Kind::Close };
-            EnumSet::from([Kind::Minus, Kind::Plus, Kind::Times, Kind::Divide, end])
+    // The kinds of tokens that may come.
+    #[tactic(auto, using(enumset_repr::specs::Laws::Firsts::written_out))]
+    fn expected(&self) -> EnumSet<Kind>
+        ensures { result ≡ next_kinds self.now }
+    {
+        match self.last {
+            Kind::Number | Kind::Close => {
+                let closing = if self.depth == 0 {
+                    Kind::End
+                } else {
+                    Kind::Close
+                };
+                EnumSet::from([Kind::Minus, Kind::Plus, Kind::Times, Kind::Divide, closing])
+            }
+            Kind::End => EnumSet::new(),
+            _ => EnumSet::from([Kind::Number, Kind::Open, Kind::Minus]),
         }
-        Kind::End => EnumSet::new(),
-        _ => EnumSet::from([Kind::Number, Kind::Open, Kind::Minus]),
     }
 }
 

@@ -1,5 +1,5 @@
 //! The flags of a frame that this version knows.
-use enumset::{EnumSetType, EnumSetTypeWithRepr, variant_of};
+use enumset::{EnumSetType, EnumSetTypeWithRepr};
 
 /// A flag of version 1. Bits 3 to 7 are reserved for later versions.
 #[derive(Clone, Copy, PartialEq, Eq, Debug)]
@@ -38,7 +38,12 @@ impl EnumSetType for Flag {
     }
 
     fn enum_from_u32(val: u32) -> Self {
-        variant_of!(val, Flag: Urgent WantsReceipt Relayed)
+        match val {
+            0 => Self::Urgent,
+            1 => Self::WantsReceipt,
+            2 => Self::Relayed,
+            _ => unreachable!(),
+        }
     }
 
     ghost lawful = { lawful_in_place the_type (lawful_in_integer the_type _ tt) };

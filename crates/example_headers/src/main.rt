@@ -2,7 +2,7 @@
 //!
 //! `example_headers` reads a frame a line from standard input, in hex, and writes the frame that is sent on. Standard
 //! error says what was understood.
-#![tactic(auto)]
+#![tactic(auto, using(enumset::specs::Laws::SetLaws::set_laws))]
 
 mod digits;
 mod flag;

@@ -1,5 +1,5 @@
 //! The flags of a frame that version 2 knows.
-use enumset::{EnumSetType, EnumSetTypeWithRepr, variant_of};
+use enumset::{EnumSetType, EnumSetTypeWithRepr};
 
 /// A flag of version 2: those of version 1, on their bits, and two more.
 #[derive(Clone, Copy, PartialEq, Eq, Debug)]
@@ -41,7 +41,14 @@ impl EnumSetType for NewerFlag {
     }
 
     fn enum_from_u32(val: u32) -> Self {
-        variant_of!(val, NewerFlag: 0 Urgent 1 WantsReceipt 2 Relayed 3 Encrypted 6 Traced)
+        match val {
+            0 => Self::Urgent,
+            1 => Self::WantsReceipt,
+            2 => Self::Relayed,
+            3 => Self::Encrypted,
+            6 => Self::Traced,
+            _ => unreachable!(),
+        }
     }
 
     ghost lawful = { lawful_in_integer the_type _ tt };

@@ -38,6 +38,7 @@ pub fn add_grant(grants: &mut Vec<Grant>, grant: Grant) -> Result<(), AllocError
 
 impl User {
     /// Gives the user a role. The user may not do less afterwards.
+    #[tactic(auto, using(crate::proofs::Allowed::on_roles))]
     pub fn assign(&mut self, role: Role)
         ensures roles { self.new
             ≡ record self.old { roles = set.insert self.old.roles (role_bit role) } }
@@ -48,6 +49,7 @@ impl User {
     }
 
     /// Takes a role from the user, who may not do more afterwards.
+    #[tactic(auto, using(crate::proofs::Allowed::on_roles))]
     pub fn revoke(&mut self, role: Role)
         ensures roles { self.new
             ≡ record self.old { roles = set.remove self.old.roles (role_bit role) } }
@@ -58,6 +60,7 @@ impl User {
     }
 
     /// Denies the user a right, whatever the roles grant. The user may not do more afterwards.
+    #[tactic(auto, using(enumset_repr::specs::Laws::Members::members))]
     pub fn deny(&mut self, right: Right)
         ensures denied { self.new
             ≡ record self.old { denied = set.insert self.old.denied (right_bit right) } }

@@ -1,7 +1,5 @@
 //! What may be done with a document.
-use enumset::{
-    EnumSet, EnumSetNames, EnumSetType, EnumSetTypeWithRepr, names_of, set_json, variant_of,
-};
+use enumset::{EnumSet, EnumSetNames, EnumSetType, EnumSetTypeWithRepr, names_of, set_json};
 
 /// A right.
 #[derive(Clone, Copy, PartialEq, Eq, Debug)]
@@ -37,7 +35,13 @@ impl EnumSetType for Right {
     }
 
     fn enum_from_u32(val: u32) -> Self {
-        variant_of!(val, Right: Read Write Share Delete)
+        match val {
+            0 => Self::Read,
+            1 => Self::Write,
+            2 => Self::Share,
+            3 => Self::Delete,
+            _ => unreachable!(),
+        }
     }
 
     ghost lawful = { lawful_in_place the_type (lawful_in_integer the_type _ tt) };

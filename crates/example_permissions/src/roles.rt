@@ -1,7 +1,5 @@
 //! What a user of documents may be.
-use enumset::{
-    EnumSet, EnumSetNames, EnumSetType, EnumSetTypeWithRepr, names_of, set_json, variant_of,
-};
+use enumset::{EnumSet, EnumSetNames, EnumSetType, EnumSetTypeWithRepr, names_of, set_json};
 
 /// A role.
 #[derive(Clone, Copy, PartialEq, Eq, Debug)]
@@ -36,7 +34,12 @@ impl EnumSetType for Role {
     }
 
     fn enum_from_u32(val: u32) -> Self {
-        variant_of!(val, Role: Reader Editor Owner)
+        match val {
+            0 => Self::Reader,
+            1 => Self::Editor,
+            2 => Self::Owner,
+            _ => unreachable!(),
+        }
     }
 
     ghost lawful = { lawful_in_place the_type (lawful_in_integer the_type _ tt) };

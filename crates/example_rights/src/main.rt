@@ -29,7 +29,7 @@ fn main(rt: HostRuntime) -> Result<(), io::Error> {
     granted.remove(Right::Share);
     println!(rt; "{}", granted.contains(Right::Write))?;
     println!(rt; "{granted:?}, not {:?}", !granted)?;
-    let number = granted.as_u8_truncated();
+    let number = granted.as_u8();
     let read = EnumSet::<Right>::from_u8_truncated(number);
     println!(rt; "{number} is {read:?}")
 }

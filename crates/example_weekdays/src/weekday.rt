@@ -1,7 +1,5 @@
 //! The days of the week.
-use enumset::{
-    EnumSet, EnumSetNames, EnumSetType, EnumSetTypeWithRepr, names_of, set_json, variant_of,
-};
+use enumset::{EnumSet, EnumSetNames, EnumSetType, EnumSetTypeWithRepr, names_of, set_json};
 
 /// A day of the week, on bits 0 to 6.
 #[derive(Clone, Copy, PartialEq, Eq, Debug)]
@@ -40,7 +38,16 @@ impl EnumSetType for Weekday {
     }
 
     fn enum_from_u32(val: u32) -> Self {
-        variant_of!(val, Weekday: Monday Tuesday Wednesday Thursday Friday Saturday Sunday)
+        match val {
+            0 => Self::Monday,
+            1 => Self::Tuesday,
+            2 => Self::Wednesday,
+            3 => Self::Thursday,
+            4 => Self::Friday,
+            5 => Self::Saturday,
+            6 => Self::Sunday,
+            _ => unreachable!(),
+        }
     }
 
     ghost lawful = { lawful_in_place the_type (lawful_in_integer the_type _ tt) };

@@ -8,11 +8,10 @@ ghost use Rattle.enumset.specs.Json.{number_value, mixed_set_of_number};
 ghost use Rattle.enumset.specs.Json.{words_value, mixed_set_of_words};
 ghost use Rattle.enumset.specs.declared.set_json.fault.JsonFault.TheVariants.{OutOfMemory};
 
-use super::elements::words_in;
 use super::fault::JsonFault;
 use super::unknown::Unknown;
 use super::whole::number_below;
-use super::words::{has_all_words, set_of_low_words, words_of};
+use super::words::{read_words, words_of};
 use enumset_mixed::MixedEnumSet;
 use enumset_repr::EnumSetTypeRepr;
 use enumset_sets::{EnumSetType, EnumSetTypeWithRepr};
@@ -75,16 +74,9 @@ pub fn mixed_from_words<T: EnumSetTypeWithRepr>(
 ) -> Result<MixedEnumSet<T>, JsonFault>
     ensures { result ≡ mixed_set_of_words T.Repr.WIDTH past (view value.now) }
 {
-    let items = words_in(value)?;
-    let repr: T::Repr = set_of_low_words(items);
+    let (repr, is_whole): (T::Repr, bool) = read_words(value)?;
     match past {
-        Unknown::Drop => Ok(MixedEnumSet::from_repr(repr)),
-        Unknown::Refuse => {
-            if has_all_words(&repr, items) {
-                Ok(MixedEnumSet::from_repr(repr))
-            } else {
-                Err(JsonFault::OutOfRange)
-            }
-        }
+        Unknown::Refuse if !is_whole => Err(JsonFault::OutOfRange),
+        _ => Ok(MixedEnumSet::from_repr(repr)),
     }
 }

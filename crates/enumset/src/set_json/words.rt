@@ -1,15 +1,13 @@
 //! Sets as JSON arrays of words.
 
-ghost use Rattle.std.specs.Prelude.{◌≡◌, ◌<◌, ◌^◌, ℕ, IfOk, IfErr, IsOk};
-ghost use Rattle.std.specs.List.{slice_index};
+ghost use Rattle.std.specs.Prelude.{◌≡◌, ℕ, List, Ok, Err, IfOk, IfErr, IsOk};
 ghost use Rattle.enumset_repr.specs.BitSet.{low, is_subset, below};
 ghost use Rattle.enumset_repr.specs.Words.{words, bits_of};
-ghost use Rattle.serde_json.specs.View.{view, items_view};
-ghost use Rattle.enumset.specs.Json.{words_value, words_of, set_of_words};
+ghost use Rattle.serde_json.specs.View.{view};
+ghost use Rattle.enumset.specs.Json.{words_value, words_in, set_of_words};
 ghost use Rattle.enumset.specs.declared.set_json.fault.JsonFault.TheVariants.{OutOfMemory};
 ghost use Rattle.enumset_sets.specs.Elements.{valid_bits};
 
-use super::elements::{word_at, words_in};
 use super::fault::JsonFault;
 use super::unknown::Unknown;
 use enumset_repr::EnumSetTypeRepr;
@@ -52,13 +50,12 @@ pub(super) fn words_of<R: EnumSetTypeRepr>(alloc: Global, repr: &R) -> Result<Va
 pub fn from_words<T: EnumSetType>(value: &Value, unknown: Unknown) -> Result<EnumSet<T>, JsonFault>
     ensures { result ≡ set_of_words (valid_bits T.elements) unknown (view value.now) }
 {
-    let items = words_in(value)?;
-    let repr: T::Repr = set_of_low_words(items);
+    let (repr, is_whole): (T::Repr, bool) = read_words(value)?;
     let all = representation::valid_repr::<T>();
     match unknown {
         Unknown::Drop => Ok(raw::new(repr & all)),
         Unknown::Refuse => {
-            if are_valid::<T>(&repr, items) {
+            if is_whole && repr.is_subset_of(&all) {
                 Ok(raw::new(repr))
             } else {
                 Err(JsonFault::UnknownBits)
@@ -67,40 +64,24 @@ pub fn from_words<T: EnumSetType>(value: &Value, unknown: Unknown) -> Result<Enu
     }
 }
 
-// The set of the bits of the elements' words below the representation's width.
-pub(super) fn set_of_low_words<R: EnumSetTypeRepr>(items: &[Value]) -> R
-    requires small { (i : ℕ) → slice_index (words_of (items_view items.now)) i < 2 ^ 64 }
-    ensures { R.members result ≡ low (bits_of (words_of (items_view items.now))) R.WIDTH }
+// The set of the bits of an array's words below the representation's width, and whether these are all their bits.
+pub(super) fn read_words<R: EnumSetTypeRepr>(value: &Value) -> Result<(R, bool), JsonFault>
+    ensures read { IfOk result (λ read. (ws : List ℕ)
+        × (words_in (view value.now) ≡ Ok ws)
+        × (R.members read.0 ≡ low (bits_of ws) R.WIDTH)
+        × (read.1 ≡ is_subset (bits_of ws) (below R.WIDTH))) }
+    ensures fault { IfErr result (λ fault. words_in (view value.now) ≡ Err fault) }
 {
+    let items = value.as_array().ok_or(JsonFault::NotAnArray)?;
     let mut repr = R::EMPTY;
-    for i in 0..items.len().min(R::PREFERRED_ARRAY_LEN) {
-        repr.put_word(i, word_at(items, i));
-    }
-    repr
-}
-
-// Whether no bit of the elements' words was left out of the set of those below the width.
-pub(super) fn has_all_words<R: EnumSetTypeRepr>(repr: &R, items: &[Value]) -> bool
-    requires small { (i : ℕ) → slice_index (words_of (items_view items.now)) i < 2 ^ 64 }
-    requires low { R.members repr.now ≡ low (bits_of (words_of (items_view items.now))) R.WIDTH }
-    ensures { result ≡ is_subset (bits_of (words_of (items_view items.now))) (below R.WIDTH) }
-{
-    for i in 0..items.len() {
-        if word_or_zero(repr, i) != word_at(items, i) {
-            return false;
+    let mut is_whole = true;
+    for (place, item) in items.iter().enumerate() {
+        let word = item.as_u64().ok_or(JsonFault::NotAWord(place))?;
+        if place < R::PREFERRED_ARRAY_LEN {
+            repr.put_word(place, word);
         }
+        // Bits at or past the width are not kept.
+        is_whole &= word_or_zero(&repr, place) == word;
     }
-    true
-}
-
-// Whether each bit of the elements' words is valid.
-fn are_valid<T: EnumSetType>(repr: &T::Repr, items: &[Value]) -> bool
-    requires small { (i : ℕ) → slice_index (words_of (items_view items.now)) i < 2 ^ 64 }
-    requires low { T.Repr.members repr.now
-        ≡ low (bits_of (words_of (items_view items.now))) T.Repr.WIDTH }
-    ensures { result
-        ≡ is_subset (bits_of (words_of (items_view items.now))) (valid_bits T.elements) }
-{
-    let all = representation::valid_repr::<T>();
-    has_all_words(repr, items) && repr.is_subset_of(&all)
+    Ok((repr, is_whole))
 }

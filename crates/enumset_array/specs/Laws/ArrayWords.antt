@@ -10,11 +10,11 @@
 --     equal      lists of words are equal exactly if their sets are
 --     same_words-IsEquivalence, same_words-IsPartialEquivalence      having the same words is an equivalence
 --     width_words      there are as many words as the width needs
-use Rattle.std.proofs.Common.{◌≡◌, ◌<◌, ◌≤◌, ◌⊎◌, inl, inr, ℕ, ◌+◌, ◌-◌, ◌*◌, ◌/◌, ◌^◌, true, List, length, take, drop, sym, ap, ◌∙◌, subst, arith, ◌↔◌, lit<}
+use Rattle.std.proofs.lemmas.Bool.{and_parts, and_from, eqb-true}
+use Rattle.std.proofs.Common.{zero, suc, [], ◌∷◌, refl, ◌≡◌, ◌<◌, ◌≤◌, ℕ, ◌+◌, ◌-◌, ◌*◌, ◌/◌, ◌^◌, true, List, length, drop, sym, ap, ◌∙◌, subst, arith, ◌↔◌, lit<}
 use Rattle.std.specs.Prelude.{◌==◌, IsTrue, nat_eq, slice_index, replicate}
 use Rattle.std.specs.List.{list_all}
 use Rattle.std.specs.Cmp.Lexicographic.{pointwise, same_text}
-use Rattle.std.proofs.lemmas.Bool.{cases_lt}
 use Rattle.std.proofs.lemmas.Cmp.{nat_list_eq_equiv}
 use Rattle.std.specs.Cmp.{IsEquivalence, IsPartialEquivalence}
 use Rattle.std.proofs.lemmas.List.{get_or-take, get_or-drop, get_or_past, length-take, length-replicate, drop-replicate}
@@ -24,23 +24,39 @@ use Rattle.enumset_repr.specs.Words.{word, words}
 use Rattle.enumset_repr.specs.Laws.Members.{same_set, contains-empty}
 use Rattle.enumset_array.specs.ArrayWords.{in_use, words_in_use, set_of, is_empty_past, IsArrayRepr}
 use Rattle.enumset_repr.specs.Laws.WordLists.{bits_of-within, contains-bits_of, by_word, contains-zero, word-bits_of, words-bits_of, word-empty}
-use Rattle.enumset_array.specs.Laws.Zeros.{each_zero, all_zero, none_at, all_none}
+
+-- ---- lists of zeros
+
+each_zero : (ws : List ℕ) (i : ℕ) → list_all (λ w. w == 0) ws ≡ true → slice_index ws i ≡ 0
+each_zero [] i all = refl
+each_zero (w ∷ ws) zero all = eqb-true w 0 (and_parts (w == 0) _ all).0
+each_zero (w ∷ ws) (suc i) all = each_zero ws i (and_parts (w == 0) _ all).1
+
+all_zero : (ws : List ℕ) → ((i : ℕ) → slice_index ws i ≡ 0) → list_all (λ w. w == 0) ws ≡ true
+all_zero [] none = refl
+all_zero (w ∷ ws) none = and_from (w == 0) _ (subst (λ x. (x == 0) ≡ true) (sym (none 0)) refl) (all_zero ws (λ i. none (suc i)))
+
+none_at : (n i : ℕ) → slice_index (replicate n 0) i ≡ 0
+none_at zero i = refl
+none_at (suc n) zero = refl
+none_at (suc n) (suc i) = none_at n i
+
+all_none : (n : ℕ) → list_all (λ w. w == 0) (replicate n 0) ≡ true
+all_none n = all_zero (replicate n 0) (none_at n)
+
+-- ---- the words in use
 
 pub past_is : (n : ℕ) (ws : List ℕ) (w : ℕ) → IsTrue (is_empty_past n ws) → in_use n ≤ w → slice_index ws w ≡ 0
 past_is n ws w past from =
     let place : w ≡ in_use n + (w - in_use n) = omega (arith, from) in
     ap (slice_index ws) place ∙ sym (get_or-drop (in_use n) ws (w - in_use n) 0) ∙ each_zero (drop (in_use n) ws) (w - in_use n) past
 
--- past its first k words the list of these has none
-past_taken : (k : ℕ) (ws : List ℕ) (w : ℕ) → k ≤ w → slice_index (take k ws) w ≡ 0
-past_taken k ws w h = get_or_past (take k ws) w 0 (omega (arith, h, length-take k ws))
-
 pub used_is : (n : ℕ) (ws : List ℕ) (w : ℕ) → IsTrue (is_empty_past n ws) → slice_index (words_in_use n ws) w ≡ slice_index ws w
-used_is n ws w past = at (cases_lt w (in_use n))
-  where
-    at : (w < in_use n) ⊎ (in_use n ≤ w) → slice_index (words_in_use n ws) w ≡ slice_index ws w
-    at (inl low) = get_or-take (in_use n) ws w 0 low
-    at (inr from) = past_taken (in_use n) ws w from ∙ sym (past_is n ws w past from)
+used_is n ws w past =
+    let low = get_or-take (in_use n) ws w 0 in
+    let none = past_is n ws w past in
+    let gone = get_or_past (words_in_use n ws) w 0 in
+    grind (arith, length-take (in_use n) ws)
 
 pub empty_past : (n : ℕ) (ws : List ℕ) → ((w : ℕ) → in_use n ≤ w → slice_index ws w ≡ 0) → IsTrue (is_empty_past n ws)
 empty_past n ws none = all_zero (drop (in_use n) ws) (λ i. get_or-drop (in_use n) ws i 0 ∙ none (in_use n + i) (omega arith))

@@ -2,11 +2,10 @@
 --     value, AllFit      the number;  each word has 64 bits
 --     number_is      the number of the words of an `ArrayRepr` is that of their set
 --     len-bits_of      the members of the set are counted word by word
-use Rattle.std.proofs.Common.{◌≡◌, ◌<◌, ◌≤◌, ◌⊎◌, inl, inr, ℕ, suc, ◌+◌, ◌-◌, ◌*◌, ◌^◌, ◌||◌, List, [], ◌∷◌, sym, ap, ◌∙◌, arith, refl}
+use Rattle.std.proofs.Common.{◌≡◌, ◌<◌, ℕ, suc, ◌+◌, ◌-◌, ◌*◌, ◌^◌, List, [], ◌∷◌, sym, ap, ◌∙◌, arith, refl}
 use Rattle.std.specs.Int.RustNames.{count_ones}
-use Rattle.std.specs.Prelude.{◌==◌, slice_index, sum_by}
-use Rattle.std.proofs.Math.Bool.{or-false}
-use Rattle.std.proofs.lemmas.Bool.{cases_lt}
+use Rattle.std.specs.Prelude.{slice_index, sum_by}
+use Rattle.std.proofs.lemmas.Bool.Decides.{nat_tests}
 use Rattle.std.proofs.lemmas.List.Sums.{sum_by-cons}
 use Rattle.std.proofs.lemmas.Nat.{ones_cat}
 use Rattle.std.proofs.lemmas.Nat.Bits.{bit_at_cat_low, bit_at_cat_high}
@@ -15,7 +14,8 @@ use Rattle.enumset_repr.specs.Number.{bits, number}
 use Rattle.enumset_repr.specs.Words.{bits_of, upward_shift}
 use Rattle.enumset_repr.specs.Laws.Members.{same_set, contains-union}
 use Rattle.enumset_repr.specs.Laws.Numbers.{bits-zero, contains-bits, number-bits, len-bits}
-use Rattle.enumset_repr.specs.Laws.WordLists.{contains-bits_of, contains-bits_above, contains-raised_from, contains-raised_lower}
+use Rattle.enumset_repr.specs.Laws.WordLists.{contains-bits_of, contains-bits_above}
+use Rattle.enumset_repr.specs.Laws.Words.{contains-upward_shift}
 use Rattle.enumset_array.specs.ArrayWords.{set_of, IsArrayRepr}
 use Rattle.enumset_array.specs.Laws.ArrayWords.{set_is}
 
@@ -29,16 +29,13 @@ AllFit ws = (i : ℕ) → slice_index ws i < 2 ^ 64
 bits_of-value : (ws : List ℕ) → AllFit ws → bits_of ws ≡ bits (value ws)
 unfolding bits_of
 bits_of-value [] fit = sym bits-zero
-bits_of-value (n ∷ ns) fit = same_set _ _ (λ q. contains-union (bits n) (upward_shift (bits_of ns) 64) q ∙ by (bits_of-value ns (λ i. fit (suc i))) q (cases_lt q 64))
-  where
-    by : bits_of ns ≡ bits (value ns) → (q : ℕ) → (q < 64) ⊎ (64 ≤ q) → (contains (bits n) q || contains (upward_shift (bits_of ns) 64) q) ≡ contains (bits (value ns * 2 ^ 64 + n)) q
-    by higher q (inl under) =
-        ap (λ b. contains (bits n) q || b) (contains-raised_lower (bits_of ns) 64 q under) ∙ or-false _
-        ∙ contains-bits n q ∙ ap (λ d. d == 1) (sym (bit_at_cat_low (value ns) 64 n q under)) ∙ sym (contains-bits _ q)
-    by higher q (inr from) =
-        (λ i. contains-bits_above n 64 q (fit 0) from i || contains-raised_from (bits_of ns) 64 q from i)
-        ∙ ap (λ s. contains s (q - 64)) higher ∙ contains-bits (value ns) (q - 64)
-        ∙ ap (λ d. d == 1) (sym (bit_at_cat_high (value ns) 64 n q (fit 0) from)) ∙ sym (contains-bits _ q)
+bits_of-value (n ∷ ns) fit = same_set _ _ (λ q.
+    let low = bit_at_cat_low (value ns) 64 n q in
+    let high = bit_at_cat_high (value ns) 64 n q (fit 0) in
+    let above = contains-bits_above n 64 q (fit 0) in
+    let later = ap (λ s. contains s (q - 64)) (bits_of-value ns (λ i. fit (suc i))) in
+    contains-union (bits n) (upward_shift (bits_of ns) 64) q
+    ∙ grind (arith, nat_tests, contains-bits n q, contains-upward_shift (bits_of ns) 64 q, contains-bits (value ns) (q - 64), contains-bits (value ns * 2 ^ 64 + n) q))
 
 pub number_is : (n : ℕ) (ws : List ℕ) → IsArrayRepr n ws → number (set_of n ws) ≡ value ws
 number_is n ws is_repr = ap number (set_is n ws (bits_of ws) is_repr (λ w b small. sym (contains-bits_of ws w b is_repr.fit small)) ∙ bits_of-value ws is_repr.fit) ∙ number-bits (value ws)

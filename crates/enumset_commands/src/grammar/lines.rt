@@ -1,8 +1,8 @@
 //! The lines of a text.
-ghost use Rattle.std.specs.Prelude.{◌≡◌, ◌==◌};
-ghost use Rattle.std.specs.List.{position};
+ghost use Rattle.std.specs.Prelude.{◌≡◌};
 ghost use Rattle.std.specs.Str.Lines.{strip_carriage_return};
 
+use super::parts::split_once;
 use std::marker::Model;
 
 /// The remaining lines of a text, each without the line feed that ends it.
@@ -13,21 +13,21 @@ pub struct Lines<'a> {
 
 impl<'a> Model for Lines<'a> {
     ghost use Rattle.std.specs.Prelude.{List, ℕ};
-    ghost use Rattle.enumset_commands.specs.Lines.{lines_of};
+    ghost use Rattle.std.specs.Str.Lines.{lines};
 
     ghost Value = { List (List ℕ) };
 
-    ghost view = { λ lines. lines_of lines.rest.now };
+    ghost view = { λ left. lines left.rest.now };
 }
 
 impl<'a> Lines<'a> {
     ghost use Rattle.std.specs.Prelude.{◌≤◌, length};
-    ghost use Rattle.enumset_commands.specs.Lines.{lines_of};
+    ghost use Rattle.std.specs.Str.Lines.{lines};
 
     /// The lines of a text, which are no more than its bytes.
     #[tactic(auto, using(crate::proofs::Lines::lines_are_few))]
     pub fn new(text: &'a [u8]) -> Lines<'a>
-        ensures lines { result ≡ lines_of text.now }
+        ensures lines { result ≡ lines text.now }
         ensures few { length result ≤ length text.now }
     {
         Lines { rest: text }
@@ -45,10 +45,9 @@ impl<'a> Iterator for Lines<'a> {
 
     #[tactic(auto, using(crate::proofs::Lines::line_steps))]
     fn next(&mut self) -> Option<&'a [u8]> {
-        match line_end(self.rest) {
-            Some(end) => {
-                let line = &self.rest[..end];
-                self.rest = &self.rest[end + 1..];
+        match split_once(self.rest, b'\n') {
+            Some((line, rest)) => {
+                self.rest = rest;
                 Some(without_carriage_return(line))
             }
             None if self.rest.is_empty() => None,
@@ -59,13 +58,6 @@ impl<'a> Iterator for Lines<'a> {
             }
         }
     }
-}
-
-/// The index of the first line feed.
-fn line_end(text: &[u8]) -> Option<usize>
-    ensures { result ≡ position (λ b. b == 10) text.now }
-{
-    text.iter().position(|byte| *byte == b'\n')
 }
 
 /// A line without the carriage return at its end, if there is one.

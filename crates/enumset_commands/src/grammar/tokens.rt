@@ -1,7 +1,7 @@
 //! The tokens of a line.
-ghost use Rattle.std.specs.Prelude.{◌≡◌, ◌==◌, not};
-ghost use Rattle.std.specs.List.{position};
+ghost use Rattle.std.specs.Prelude.{◌≡◌};
 
+use super::parts::split_once;
 use std::marker::Model;
 
 /// The remaining tokens of a line.
@@ -48,32 +48,14 @@ impl<'a> Iterator for Tokens<'a> {
 
     #[tactic(auto, using(crate::proofs::Tokens::token_steps))]
     fn next(&mut self) -> Option<&'a [u8]> {
-        let start = token_start(self.rest)?;
-        let line = &self.rest[start..];
-        match token_end(line) {
-            Some(end) => {
-                // the space ends the token, and starts no other
-                self.rest = &line[end + 1..];
-                Some(&line[..end])
-            }
-            None => {
-                self.rest = &[];
-                Some(line)
+        while let Some((token, rest)) = split_once(self.rest, b' ') {
+            self.rest = rest;
+            if !token.is_empty() {
+                return Some(token);
             }
         }
+        let last = self.rest;
+        self.rest = &[];
+        (!last.is_empty()).then_some(last)
     }
-}
-
-/// The index of the first byte that is not a space.
-fn token_start(line: &[u8]) -> Option<usize>
-    ensures { result ≡ position (λ b. not (b == 32)) line.now }
-{
-    line.iter().position(|byte| *byte != b' ')
-}
-
-/// The index of the first space.
-fn token_end(line: &[u8]) -> Option<usize>
-    ensures { result ≡ position (λ b. b == 32) line.now }
-{
-    line.iter().position(|byte| *byte == b' ')
 }

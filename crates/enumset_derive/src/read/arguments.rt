@@ -1,13 +1,19 @@
 //! What stands in `#[derive(..)]` and `#[enumset(..)]`.
 
 use super::draft::Draft;
-use super::reader::fault_at;
+use super::reader::Attribute;
 use crate::tokens::{Kind, Token};
-use enumset_derive_plan::{
-    DeriveError, Fault, IntegerType, Map, Place, Reason, Representation, Serialized,
-};
-use std::alloc::Global;
+use enumset_derive_plan::{DeriveError, IntegerType, Map, Reason, Representation, Serialized};
 use std::mem;
+
+/// An option that has a value.
+#[derive(Clone, Copy)]
+enum Valued {
+    Map,
+    Representation,
+    Serialized,
+    CrateName,
+}
 
 /// What may come next after the name of such an attribute.
 #[derive(Clone, Copy)]
@@ -18,194 +24,148 @@ enum Next {
     Argument,
     /// One more name of a path.
     Name,
-    /// `=`.
-    Equals,
-    /// A text in quotes.
-    Value,
+    /// `=`, after the name of this option.
+    Equals(Valued),
+    /// The value of this option, a text in quotes.
+    Value(Valued),
     /// `,` or `)`.
     Separator,
     /// The `]` that ends the attribute.
     End,
 }
 
-/// The fault where the attribute does not end after its arguments: the bracket there, else the one that it began with.
-fn unclosed(token: &Token, begin: Place) -> DeriveError {
-    let place = match token.kind {
-        Kind::Mark('(' | '[' | '{') => token.place,
-        _ => begin,
-    };
-    DeriveError::Fault(Fault {
-        place,
-        reason: Reason::UnclosedBracket,
-    })
-}
-
 impl<'a> Draft<'a> {
-    /// Takes the names that are derived: the tokens after `derive` in an attribute that begins there.
-    pub(super) fn take_derives(
+    /// Takes the arguments of a derive or of options.
+    pub(super) fn take_arguments(
         &mut self,
-        alloc: Global,
-        begin: Place,
-        tokens: &[Token<'a>],
+        attribute: &Attribute<'a, '_>,
     ) -> Result<(), DeriveError> {
+        let is_derive = attribute.name == "derive";
         let mut next = Next::Arguments;
-        let mut path = String::new(alloc);
-        for token in tokens {
+        for token in attribute.arguments {
+            if token.is_blank() {
+                continue;
+            }
             next = match (next, token.kind) {
                 (Next::Arguments, Kind::Mark('(')) => Next::Argument,
-                (Next::Arguments, _) => return Err(wanted(token, "`(`")),
+                (Next::Arguments, _) => return Err(token.wanted("`(`")),
                 (Next::Argument, Kind::Mark(')')) => Next::End,
-                (Next::Argument | Next::Separator, Kind::Mark(':')) => {
-                    path.push_str("::")?;
-                    Next::Name
-                }
-                (Next::Argument | Next::Name, _) if token.is_name() => {
-                    path.push_str(token.text)?;
-                    Next::Separator
-                }
-                (Next::Separator, kind) => {
-                    self.derive(mem::replace(&mut path, String::new(alloc)))?;
-                    match kind {
-                        Kind::Mark(',') => Next::Argument,
-                        Kind::Mark(')') => Next::End,
-                        _ => return Err(wanted(token, "`,` or `)`")),
-                    }
-                }
                 (Next::End, Kind::Mark(']')) => Next::End,
-                (Next::End, _) => return Err(unclosed(token, begin)),
-                _ => return Err(wanted(token, "a path, or `)`")),
+                (Next::End, Kind::Mark('(' | '[' | '{')) => {
+                    return Err(token.fault(Reason::UnclosedBracket));
+                }
+                (Next::End, _) => return Err(attribute.bracket.fault(Reason::UnclosedBracket)),
+                _ if is_derive => self.take_derive(next, token)?,
+                _ => self.take_option(next, token)?,
             };
         }
         Ok(())
     }
 
-    /// Takes the path of a name that is derived.
-    fn derive(&mut self, path: String) -> Result<(), DeriveError> {
-        if path.as_str() == "EnumSetType" || path.ends_with("::EnumSetType") {
-            self.is_element_type = true;
-        } else {
-            self.derives.push(path)?;
-        }
-        Ok(())
+    /// Takes a token of the names that are derived.
+    fn take_derive(&mut self, next: Next, token: &Token<'a>) -> Result<Next, DeriveError> {
+        let following = match next {
+            Next::Argument | Next::Separator if token.is_mark(':') => Next::Name,
+            Next::Argument | Next::Name if token.is_name() => Next::Separator,
+            Next::Separator => {
+                let path = mem::replace(&mut self.path, String::new(self.alloc));
+                if path.as_str() == "EnumSetType" || path.ends_with("::EnumSetType") {
+                    self.is_element_type = true;
+                } else {
+                    self.declaration.derives.push(path)?;
+                }
+                return after_argument(token);
+            }
+            _ => return Err(token.wanted("a path, or `)`")),
+        };
+        self.path.push_str(token.text)?;
+        Ok(following)
     }
 
-    /// Takes the options: the tokens after `enumset` in an attribute that begins there.
-    pub(super) fn take_options(
-        &mut self,
-        begin: Place,
-        tokens: &[Token<'a>],
-    ) -> Result<(), DeriveError> {
-        let mut next = Next::Arguments;
-        let mut name = "";
-        for token in tokens {
-            next = match (next, token.kind) {
-                (Next::Arguments, Kind::Mark('(')) => Next::Argument,
-                (Next::Arguments, _) => return Err(wanted(token, "`(`")),
-                (Next::Argument, Kind::Mark(')')) => Next::End,
-                (Next::Argument, Kind::Word) => {
-                    name = token.text;
-                    self.take_name(token)?
-                }
-                (Next::Argument, _) => return Err(wanted(token, "a name of an option, or `)`")),
-                (Next::Equals, Kind::Mark('=')) => Next::Value,
-                (Next::Value, Kind::Quoted) => {
-                    self.take_value(name, token)?;
-                    Next::Separator
-                }
-                (Next::Separator, Kind::Mark(',')) => Next::Argument,
-                (Next::Separator, Kind::Mark(')')) => Next::End,
-                (Next::Separator, _) => return Err(wanted(token, "`,` or `)`")),
-                (Next::End, Kind::Mark(']')) => Next::End,
-                (Next::End, _) => return Err(unclosed(token, begin)),
-                _ => return Err(wanted(token, "`=` and a text in quotes")),
-            };
+    /// Takes a token of the options.
+    fn take_option(&mut self, next: Next, token: &Token<'a>) -> Result<Next, DeriveError> {
+        match (next, token.kind) {
+            (Next::Argument, Kind::Word) => self.take_name(token),
+            (Next::Argument, _) => Err(token.wanted("a name of an option, or `)`")),
+            (Next::Equals(option), Kind::Mark('=')) => Ok(Next::Value(option)),
+            (Next::Value(option), Kind::Quoted) => self.take_value(option, token),
+            (Next::Separator, _) => after_argument(token),
+            _ => Err(token.wanted("`=` and a text in quotes")),
         }
-        Ok(())
     }
 
     /// Takes the name of an option.
     fn take_name(&mut self, token: &Token<'a>) -> Result<Next, DeriveError> {
         for (name, place) in &self.given {
             if *name == token.text {
-                return Err(fault_at(token, Reason::OptionTwice(*place)));
+                return Err(token.fault(Reason::OptionTwice(*place)));
             }
         }
-        let options = &mut self.options;
-        let next = match token.text {
-            "map" | "repr" | "serialize_repr" | "crate_name" => Next::Equals,
-            "serialize_deny_unknown" => {
-                options.denies_unknown = true;
-                Next::Separator
-            }
-            "no_ops" => {
-                options.leaves_out_operators = true;
-                Next::Separator
-            }
-            "no_super_impls" => {
-                options.leaves_out_supertraits = true;
-                Next::Separator
-            }
-            "display" => {
-                options.has_display = true;
-                Next::Separator
-            }
-            "serialize_as_list" => return Err(fault_at(token, Reason::OldListOption)),
-            _ => return Err(fault_at(token, Reason::UnknownOption)),
-        };
+        let options = &mut self.declaration.options;
+        let mut next = Next::Separator;
+        match token.text {
+            "map" => next = Next::Equals(Valued::Map),
+            "repr" => next = Next::Equals(Valued::Representation),
+            "serialize_repr" => next = Next::Equals(Valued::Serialized),
+            "crate_name" => next = Next::Equals(Valued::CrateName),
+            "serialize_deny_unknown" => options.denies_unknown = true,
+            "no_ops" => options.leaves_out_operators = true,
+            "no_super_impls" => options.leaves_out_supertraits = true,
+            "display" => options.has_display = true,
+            "serialize_as_list" => return Err(token.fault(Reason::OldListOption)),
+            _ => return Err(token.fault(Reason::UnknownOption)),
+        }
         self.given.push((token.text, token.place))?;
         Ok(next)
     }
 
-    /// Takes the value of the option of this name.
-    fn take_value(&mut self, name: &str, token: &Token<'a>) -> Result<(), DeriveError> {
+    /// Takes the value of an option.
+    fn take_value(&mut self, option: Valued, token: &Token<'a>) -> Result<Next, DeriveError> {
         let text = token.text.strip_prefix('"').unwrap_or("");
         let Some(value) = text.strip_suffix('"') else {
-            return Err(wanted(token, "`=` and a text in quotes"));
+            return Err(token.wanted("`=` and a text in quotes"));
         };
-        let options = &mut self.options;
-        let (is_known, unknown) = match name {
-            "map" => {
-                let map = map_named(value);
-                options.map = map.unwrap_or(Map::Lsb);
-                options.map_place = token.place;
-                (map.is_some(), Reason::UnknownMap)
+        let options = &mut self.declaration.options;
+        match option {
+            Valued::Map => {
+                let map = match value {
+                    "lsb" => Map::Lsb,
+                    "msb" => Map::Msb,
+                    "mask" => Map::Mask,
+                    "compact" => Map::Compact,
+                    _ => return Err(token.fault(Reason::UnknownMap)),
+                };
+                options.map = Some((map, token.place));
             }
-            "repr" => {
-                options.representation = representation_named(value);
-                (
-                    options.representation.is_some(),
-                    Reason::UnknownRepresentation,
-                )
+            Valued::Representation => {
+                options.representation = match (value, integer_named(value)) {
+                    ("array", _) => Some(Representation::Words),
+                    (_, Some(integer)) => Some(Representation::Integer(integer)),
+                    _ => return Err(token.fault(Reason::UnknownRepresentation)),
+                };
             }
-            "serialize_repr" => {
-                options.serialized = serialized_named(value);
-                (options.serialized.is_some(), Reason::UnknownSerialized)
+            Valued::Serialized => {
+                options.serialized = match (value, integer_named(value)) {
+                    ("array", _) => Some(Serialized::Words),
+                    ("list", _) => Some(Serialized::List),
+                    ("map", _) => Some(Serialized::Map),
+                    (_, Some(integer)) => Some(Serialized::Integer(integer)),
+                    _ => return Err(token.fault(Reason::UnknownSerialized)),
+                };
             }
-            _ => {
-                options.crate_name = Some(value);
-                (true, Reason::UnknownOption)
-            }
-        };
-        if is_known {
-            Ok(())
-        } else {
-            Err(fault_at(token, unknown))
+            Valued::CrateName => options.crate_name = Some(value),
         }
+        Ok(Next::Separator)
     }
 }
 
-fn wanted(token: &Token, wanted: &'static str) -> DeriveError {
-    fault_at(token, Reason::Wanted(wanted))
-}
-
-fn map_named(value: &str) -> Option<Map> {
-    Some(match value {
-        "lsb" => Map::Lsb,
-        "msb" => Map::Msb,
-        "mask" => Map::Mask,
-        "compact" => Map::Compact,
-        _ => return None,
-    })
+/// What may come next after an argument and this token.
+fn after_argument(token: &Token) -> Result<Next, DeriveError> {
+    match token.kind {
+        Kind::Mark(',') => Ok(Next::Argument),
+        Kind::Mark(')') => Ok(Next::End),
+        _ => Err(token.wanted("`,` or `)`")),
+    }
 }
 
 fn integer_named(value: &str) -> Option<IntegerType> {
@@ -217,20 +177,4 @@ fn integer_named(value: &str) -> Option<IntegerType> {
         "u128" => IntegerType::U128,
         _ => return None,
     })
-}
-
-fn representation_named(value: &str) -> Option<Representation> {
-    match value {
-        "array" => Some(Representation::Words),
-        _ => integer_named(value).map(Representation::Integer),
-    }
-}
-
-fn serialized_named(value: &str) -> Option<Serialized> {
-    match value {
-        "array" => Some(Serialized::Words),
-        "list" => Some(Serialized::List),
-        "map" => Some(Serialized::Map),
-        _ => integer_named(value).map(Serialized::Integer),
-    }
 }

@@ -1,23 +1,21 @@
-//! What is known of an item before its keyword.
+//! What is known of an item.
 
-use crate::tokens::Token;
-use enumset_derive_plan::{DeriveError, Fault, Options, Place};
+use super::reader::Attribute;
+use enumset_derive_plan::{DeriveError, EnumDeclaration, Fault, Options, Place};
 use std::alloc::{AllocError, Global};
 
-/// What is known of an item from its comments and attributes.
+/// What is known of an item.
 #[derive(Drop)]
 pub(super) struct Draft<'a> {
-    /// The comments and the attributes before its first derive, and those after it.
-    pub attributes: Vec<&'a str>,
-    pub later_attributes: Vec<&'a str>,
+    pub alloc: Global,
+    pub declaration: EnumDeclaration<'a>,
     /// Whether something is derived.
-    pub has_derive: bool,
+    has_derive: bool,
+    /// As much of a path as is read of a name that is derived.
+    pub path: String,
     /// Whether `EnumSetType` is derived.
     pub is_element_type: bool,
-    /// The other names that are derived.
-    pub derives: Vec<String>,
-    pub options: Options<'a>,
-    /// The names of the options that are given, and where.
+    /// The names of the options that are given, and where, in their order.
     pub given: Vec<(&'a str, Place)>,
     /// The first fault of its derives and options.
     pub fault: Option<Fault>,
@@ -25,73 +23,66 @@ pub(super) struct Draft<'a> {
 
 impl<'a> Draft<'a> {
     pub fn new(alloc: Global) -> Draft<'a> {
-        Draft {
+        let declaration = EnumDeclaration {
             attributes: Vec::new(alloc),
             later_attributes: Vec::new(alloc),
-            has_derive: false,
-            is_element_type: false,
             derives: Vec::new(alloc),
-            options: Options::NONE,
+            visibility: ("", ""),
+            name: "",
+            variants: Vec::new(alloc),
+            last_comments: Vec::new(alloc),
+            options: Options::default(),
+        };
+        Draft {
+            alloc,
+            declaration,
+            has_derive: false,
+            path: String::new(alloc),
+            is_element_type: false,
             given: Vec::new(alloc),
             fault: None,
         }
     }
 
-    /// Adds a comment or an attribute.
+    /// Adds a comment or an attribute before the keyword.
     pub fn push(&mut self, text: &'a str) -> Result<(), AllocError> {
         if self.has_derive {
-            self.later_attributes.push(text)?;
+            self.declaration.later_attributes.push(text)?;
         } else {
-            self.attributes.push(text)?;
+            self.declaration.attributes.push(text)?;
         }
         Ok(())
     }
 
-    /// Takes the attribute with this text and these tokens from its `[` on, without blanks. Tells whether it has a meaning
-    /// here.
-    pub fn take(
-        &mut self,
-        alloc: Global,
-        text: &'a str,
-        tokens: &[Token<'a>],
-    ) -> Result<bool, DeriveError> {
-        let [bracket, name, arguments @ ..] = tokens else {
-            return Ok(true);
-        };
-        let read = match name.text {
-            "derive" => {
-                self.has_derive = true;
-                self.take_derives(alloc, bracket.place, arguments)
+    /// Takes an attribute before the keyword. Tells whether it has a meaning here.
+    pub fn take(&mut self, attribute: &Attribute<'a, '_>) -> Result<bool, DeriveError> {
+        match attribute.name {
+            "derive" => self.has_derive = true,
+            "enumset" => {}
+            name if !self.gives_meaning(name) => return Ok(false),
+            _ => {
+                self.push(attribute.text)?;
+                return Ok(true);
             }
-            "enumset" => self.take_options(bracket.place, arguments),
-            _ if !has_meaning(name.text, &self.derives) => return Ok(false),
-            _ => Ok(self.push(text)?),
-        };
-        match read {
-            Err(DeriveError::Fault(fault)) => {
-                self.fault = self.fault.or(Some(fault));
-                Ok(true)
+        }
+        match self.take_arguments(attribute) {
+            Ok(()) => {}
+            Err(DeriveError::Fault(fault)) => self.fault = self.fault.or(Some(fault)),
+            Err(error) => return Err(error),
+        }
+        Ok(true)
+    }
+
+    /// Whether an attribute of this name has a meaning, on the enum as it is known or on a variant of it.
+    pub fn gives_meaning(&self, attribute: &str) -> bool {
+        if attribute != "serde" {
+            return !matches!(attribute, "repr" | "cfg_attr" | "rustfmt");
+        }
+        for name in &self.declaration.derives {
+            if name.ends_with("Serialize") || name.ends_with("Deserialize") {
+                return true;
             }
-            Err(error) => Err(error),
-            Ok(()) => Ok(true),
         }
+        false
     }
-}
-
-/// Whether an attribute of this name may stand on an enum that derives these names, or on a variant of it.
-pub(super) fn has_meaning(attribute: &str, derives: &[String]) -> bool {
-    match attribute {
-        "repr" | "cfg_attr" | "rustfmt" => false,
-        "serde" => is_for_serde(derives),
-        _ => true,
-    }
-}
-
-fn is_for_serde(derives: &[String]) -> bool {
-    for name in derives {
-        if name.ends_with("Serialize") || name.ends_with("Deserialize") {
-            return true;
-        }
-    }
-    false
 }

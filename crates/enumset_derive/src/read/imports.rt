@@ -9,39 +9,29 @@ use std::collections::BTreeSet;
 use std::mem;
 
 impl<'a> Reader<'a, '_> {
-    ghost use Rattle.std.specs.Prelude.{◌<◌, ◌≤◌, OnOk};
-    ghost use Rattle.enumset_derive.specs.Reading.{left};
-
     /// Reads what a line `use enumset::..;` imports. Another item that begins with `use`, or one without an end, goes
     /// through.
-    pub(super) fn read_use(&mut self) -> Result<(), DeriveError>
-        ensures { OnOk result (left self.new < left self.old) }
-    {
+    pub(super) fn read_use(&mut self) -> Result<(), DeriveError> {
         let begin = self.token.begin;
         self.advance_past_blanks()?;
-        if self.token.is("enumset") {
-            self.advance_past_blanks()?;
-            if self.token.is_mark(':') {
-                return self.read_imports(begin);
-            }
+        if !self.token.is("enumset") {
+            return self.skip_item();
         }
-        if !self.token.is_end() {
-            self.skip_item()?;
+        self.advance_past_blanks()?;
+        if !self.token.is_mark(':') {
+            return self.skip_item();
         }
-        Ok(())
-    }
-
-    /// Reads what stands after `use enumset::`, in a line that begins there.
-    fn read_imports(&mut self, begin: usize) -> Result<(), DeriveError>
-        ensures { OnOk result (left self.new ≤ left self.old) }
-    {
         let rest = self.rest;
         self.skip_to(Stop::Mark(';', 0))?;
-        if !self.token.is_end() {
-            let tokens = self.passed(rest);
-            insert_names(self.alloc, &mut self.source.imports, tokens)?;
-            self.advance()?;
-            self.source.pass_on(begin, self.token.begin)?;
+        if self.token.is_end() {
+            return Ok(());
+        }
+        let tokens = self.passed(rest);
+        insert_names(self.alloc, &mut self.source.imports, tokens)?;
+        self.advance()?;
+        self.source.pass_on(begin, self.token.begin)?;
+        if !self.source.has_imports {
+            self.source.has_imports = true;
             self.source.items.push(Item::Imports)?;
         }
         Ok(())

@@ -2,7 +2,7 @@
 
 use crate::source::Source;
 use crate::tokens::{Kind, Token};
-use enumset_derive_plan::{DeriveError, Fault, Reason};
+use enumset_derive_plan::{DeriveError, Place};
 use std::alloc::Global;
 
 /// A token that a reader goes on to.
@@ -37,7 +37,22 @@ impl Stop {
     }
 }
 
+/// An attribute of an item or a variant.
+#[derive(Clone, Copy)]
+pub(super) struct Attribute<'a, 'b> {
+    /// As it is written, and where.
+    pub text: &'a str,
+    pub place: Place,
+    /// Its `[`.
+    pub bracket: Token<'a>,
+    pub name: &'a str,
+    /// The tokens after the name, with the `]`.
+    pub arguments: &'b [Token<'a>],
+}
+
 /// A reader at a token of a source text.
+///
+/// It reads in loops over the tokens that are left, since each turn goes on by one at least.
 #[derive(Drop)]
 pub(super) struct Reader<'a, 'b> {
     pub alloc: Global,
@@ -49,18 +64,13 @@ pub(super) struct Reader<'a, 'b> {
 }
 
 impl<'a, 'b> Reader<'a, 'b> {
-    ghost use Rattle.std.specs.Prelude.{◌<◌, ◌≤◌, OnOk};
-    ghost use Rattle.enumset_derive.specs.Reading.{left};
-
-    /// Goes on to the next token. It fails at the end of the text, and before a token from which on nothing can be read.
-    pub fn advance(&mut self) -> Result<(), DeriveError>
-        ensures { OnOk result (left self.new < left self.old) }
-    {
+    /// Goes on to the next token, if there is one. It fails before a token from which on nothing can be read.
+    pub fn advance(&mut self) -> Result<(), DeriveError> {
         let [next, rest @ ..] = self.rest else {
-            return Err(self.wanted("an item"));
+            return Ok(());
         };
         if let Kind::Fault(reason) = next.kind {
-            return Err(fault_at(next, reason));
+            return Err(next.fault(reason));
         }
         self.token = *next;
         self.rest = rest;
@@ -68,21 +78,60 @@ impl<'a, 'b> Reader<'a, 'b> {
     }
 
     /// Goes on to the first token that is so, unless the reader is at one, or to the end of the text.
-    pub fn skip_to(&mut self, wanted: Stop) -> Result<(), DeriveError>
-        ensures { OnOk result (left self.new ≤ left self.old) }
-    {
-        while !wanted.is_at(&self.token) {
+    pub fn skip_to(&mut self, wanted: Stop) -> Result<(), DeriveError> {
+        for _ in self.rest {
+            if wanted.is_at(&self.token) {
+                return Ok(());
+            }
             self.advance()?;
         }
         Ok(())
     }
 
     /// Goes on to the next token that is neither a comment nor space.
-    pub fn advance_past_blanks(&mut self) -> Result<(), DeriveError>
-        ensures { OnOk result (left self.new < left self.old) }
-    {
+    pub fn advance_past_blanks(&mut self) -> Result<(), DeriveError> {
         self.advance()?;
         self.skip_to(Stop::NoBlank)
+    }
+
+    /// Goes on to the next token that is so, and adds the comments before it to a list.
+    pub fn advance_past_comments(
+        &mut self,
+        wanted: Stop,
+        comments: &mut Vec<&'a str>,
+    ) -> Result<(), DeriveError> {
+        self.advance()?;
+        for _ in self.rest {
+            if wanted.is_at(&self.token) {
+                return Ok(());
+            }
+            if self.token.is_comment() {
+                comments.push(self.token.text)?;
+            }
+            self.advance()?;
+        }
+        Ok(())
+    }
+
+    /// Reads an attribute, up to the `]` that ends it.
+    pub fn read_attribute(&mut self) -> Result<Attribute<'a, 'b>, DeriveError> {
+        let begin = self.token;
+        self.advance_past_blanks()?;
+        let bracket = self.token;
+        if !bracket.is_mark('[') {
+            return Err(bracket.wanted("`[`"));
+        }
+        self.advance_past_blanks()?;
+        let name = self.token.text;
+        let rest = self.rest;
+        self.skip_to(Stop::Mark(']', begin.depth))?;
+        Ok(Attribute {
+            text: self.text_from(&begin),
+            place: begin.place,
+            bracket,
+            name,
+            arguments: self.passed(rest),
+        })
     }
 
     /// The tokens of this list, which the reader was before, up to its own.
@@ -96,20 +145,4 @@ impl<'a, 'b> Reader<'a, 'b> {
         let end = self.token.begin.saturating_add(self.token.text.len());
         self.source.text.get(begin.begin..end).unwrap_or("")
     }
-
-    /// A fault where the reader is.
-    pub fn fault(&self, reason: Reason) -> DeriveError {
-        fault_at(&self.token, reason)
-    }
-
-    pub fn wanted(&self, wanted: &'static str) -> DeriveError {
-        self.fault(Reason::Wanted(wanted))
-    }
-}
-
-pub(super) fn fault_at(token: &Token, reason: Reason) -> DeriveError {
-    DeriveError::Fault(Fault {
-        place: token.place,
-        reason,
-    })
 }

@@ -1,4 +1,4 @@
-//! Texts and characters in quotes, lifetimes, and words that begin as they may.
+//! Texts and characters in quotes, and lifetimes.
 
 use super::{Kind, after, before, is_word};
 use enumset_derive_plan::Reason;
@@ -18,11 +18,11 @@ pub fn after_quote(text: &str) -> (Kind, &str) {
 /// What a token is that begins with `'`, and the text after it: a character or a lifetime.
 pub fn after_tick(text: &str) -> (Kind, &str) {
     let mut characters = text.chars();
-    let first = characters.next();
-    if first.is_some_and(is_word) && !characters.as_str().starts_with('\'') {
+    let first = characters.next().unwrap_or(' ');
+    if is_word(first) && !characters.as_str().starts_with('\'') {
         return (Kind::Other, text.trim_start_matches(is_word));
     }
-    if first == Some('\\') {
+    if first == '\\' {
         let _ = characters.next();
     }
     match characters.as_str().split_once('\'') {
@@ -31,24 +31,9 @@ pub fn after_tick(text: &str) -> (Kind, &str) {
     }
 }
 
-/// What a token is that begins with `b`, `c` or `r`, and the text after it: a word, a raw name, or a text in quotes.
-pub fn after_prefix(text: &str) -> (Kind, &str) {
-    let bytes = text.strip_prefix('b').or(text.strip_prefix('c'));
-    let rest = bytes.unwrap_or(text);
-    if let Some(raw) = rest.strip_prefix('r') {
-        return after_raw_prefix(raw);
-    }
-    if let Some(quoted) = rest.strip_prefix('"') {
-        return after_quote(quoted);
-    }
-    match rest.strip_prefix('\'') {
-        Some(quoted) => after_tick(quoted),
-        None => (Kind::Word, rest.trim_start_matches(is_word)),
-    }
-}
-
-/// What a token is that begins with `r`, `br` or `cr`, and the text after it. It may be a raw text or a raw name.
-fn after_raw_prefix(text: &str) -> (Kind, &str) {
+/// What a token is that begins with `r`, `br` or `cr` before this text, and the text after it. The text begins with a quote
+/// or with `#`, so it is a raw text or a raw name.
+pub fn after_raw_prefix(text: &str) -> (Kind, &str) {
     let rest = text.trim_start_matches('#');
     let hashes = before(text, rest);
     if let Some(quoted) = rest.strip_prefix('"') {
@@ -59,7 +44,7 @@ fn after_raw_prefix(text: &str) -> (Kind, &str) {
         }
         return (Kind::Fault(Reason::UnclosedQuote), "");
     }
-    if hashes.is_empty() || rest.starts_with(is_word) {
+    if rest.starts_with(is_word) {
         (Kind::Word, rest.trim_start_matches(is_word))
     } else {
         (Kind::Other, rest)

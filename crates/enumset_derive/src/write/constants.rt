@@ -1,77 +1,56 @@
 //! The constants of an element type.
 
-use super::Text;
 use super::layout::{LIST_START, wrapped};
-use super::parts::Parts;
+use super::writer::Writer;
 use enumset_derive_plan::{Plan, Store};
-use std::alloc::{AllocError, Global};
+use std::alloc::AllocError;
 
-/// Sets the type that keeps a set, and the constants.
-pub(super) fn set_constants(parts: &mut Parts, plan: &Plan) -> Result<(), AllocError> {
-    let alloc = parts.alloc;
+/// Defines the type that keeps a set, and the constants.
+pub(super) fn define_constants(writer: &mut Writer, plan: &Plan) -> Result<(), AllocError> {
+    let alloc = writer.alloc;
     match &plan.store {
         Store::Integer(integer, number) => {
-            parts.define("LAW", "lawful_in_integer")?;
-            parts.set("SIZE", integer.width().to_string(alloc)?)?;
-            parts.define("REPR", "u@SIZE@")?;
-            parts.set("BITS", number.to_string(alloc)?)?;
-            parts.define("ALL_BITS", "@BITS@")?;
+            writer.define("LAW", "lawful_in_integer");
+            writer.set("SIZE", integer.width().to_string(alloc));
+            writer.define("REPR", "u@SIZE@");
+            writer.set("BITS", number.to_string(alloc));
+            writer.define("ALL_BITS", "@BITS@");
         }
         Store::Words(words) => {
-            parts.define("LAW", "lawful_in_words")?;
-            parts.set("SIZE", words.len().to_string(alloc)?)?;
-            parts.define("REPR", "ArrayRepr<@SIZE@>")?;
-            parts.set("BITS", list(alloc, words)?)?;
-            set_array(parts, words)?;
+            writer.define("LAW", "lawful_in_words");
+            writer.set("SIZE", words.len().to_string(alloc));
+            writer.define("REPR", "ArrayRepr<@SIZE@>");
+            define_words(writer, words)?;
         }
     }
-    parts.set("WIDTH", plan.bit_width.to_string(alloc)?)?;
-    parts.set("COUNT", plan.variant_count.to_string(alloc)?)
+    writer.set("WIDTH", plan.bit_width.to_string(alloc));
+    writer.set("COUNT", plan.variants.len().to_string(alloc));
+    Ok(())
 }
 
-/// Words as a list in a clause.
-fn list(alloc: Global, numbers: &[u64]) -> Text {
-    let mut words = numbers_with(alloc, numbers, " ∷")?;
-    words.push(String::from_str(alloc, "[]")?)?;
-    wrapped(alloc, LIST_START, 77, &words)
-}
-
-/// Sets the value of a representation of these words, on one line if it fits, or on filled lines, or with a line for each
-/// word if one has more than ten digits.
-fn set_array(parts: &mut Parts, numbers: &[u64]) -> Result<(), AllocError> {
-    let alloc = parts.alloc;
-    let line = numbers_with(alloc, numbers, "")?.join(alloc, ", ")?;
-    if line.len().saturating_add(parts.part("REPR").len()) < 64 {
-        parts.set("LINE", line)?;
-        return parts.define("ALL_BITS", "ArrayRepr([@LINE@])");
+/// Defines the words of all bits as a list in a clause, and as a value: on one line if it fits, or on filled lines, or with
+/// a line for each word if one has more than ten digits.
+fn define_words(writer: &mut Writer, words: &[u64]) -> Result<(), AllocError> {
+    let alloc = writer.alloc;
+    let mut items = Vec::new(alloc);
+    let mut rooms = [92, 92];
+    for word in words {
+        items.push(("", *word))?;
+        if *word >= 10_000_000_000 {
+            rooms = [0, 0];
+        }
     }
-    let words = numbers_with(alloc, numbers, ",")?;
-    let lines = if are_long(numbers) {
-        words.join(alloc, LIST_START)?
+    writer.set_list("BITS", 77, "@BIT@ ∷", &items);
+    writer.set_lines("WORDS", "@BIT@,", &items);
+    let numbers = writer.part("WORDS");
+    let line = wrapped(alloc, "", [usize::MAX, 0], numbers)?;
+    let lines = wrapped(alloc, LIST_START, rooms, numbers);
+    if line.len().saturating_add(writer.part("REPR").len()) < 65 {
+        writer.define("LINE", line.strip_suffix(',').unwrap_or(""));
+        writer.define("ALL_BITS", "ArrayRepr([@LINE@])");
     } else {
-        wrapped(alloc, LIST_START, 92, &words)?
-    };
-    parts.set("LINES", lines)?;
-    parts.define("ALL_BITS", "ArrayRepr([\n        @LINES@\n    ])")
-}
-
-/// Each number with a mark after it.
-fn numbers_with(alloc: Global, numbers: &[u64], mark: &str) -> Result<Vec<String>, AllocError> {
-    let mut words = Vec::new(alloc);
-    for number in numbers {
-        let mut word = number.to_string(alloc)?;
-        word.push_str(mark)?;
-        words.push(word)?;
+        writer.set("LINES", lines);
+        writer.define("ALL_BITS", "ArrayRepr([\n        @LINES@\n    ])");
     }
-    Ok(words)
-}
-
-/// Whether a number has more than ten digits.
-fn are_long(numbers: &[u64]) -> bool {
-    for number in numbers {
-        if *number >= 10_000_000_000 {
-            return true;
-        }
-    }
-    false
+    Ok(())
 }

@@ -1,185 +1,152 @@
 //! What makes an enum an element type.
 
-use super::constants::set_constants;
+use super::constants::define_constants;
 use super::enums::are_kept;
 use super::json::write_json;
+use super::layout::wrapped;
 use super::operators::write_operators;
-use super::parts::Parts;
 use super::templates::*;
-use super::words::{arms, list, macro_call};
-use crate::arguments::Request;
-use enumset_derive_plan::{EnumDeclaration, Number, Plan, Serialized, Store};
-use std::alloc::{AllocError, Global};
+use super::writer::Writer;
+use crate::source::{are_named, are_places, is_in_table, is_narrow};
+use enumset_derive_plan::{EnumDeclaration, Number, Plan, Store};
+use std::alloc::AllocError;
 
-/// Whether sets are written in JSON by the names of their elements.
-pub(super) fn are_named(declaration: &EnumDeclaration) -> bool {
-    matches!(
-        declaration.options.serialized,
-        Some(Serialized::List | Serialized::Map)
-    )
-}
-
-/// Whether the representation has at most 128 bits.
-pub(super) fn is_narrow(plan: &Plan) -> bool {
-    match &plan.store {
-        Store::Integer(_, _) => true,
-        Store::Words(words) => words.len() <= 2,
-    }
-}
-
-/// Whether each bit is its variant's number, as `as` gives it, and whether it is its place.
-fn are_cast(declaration: &EnumDeclaration, plan: &Plan) -> (bool, bool) {
-    let mut are_numbers = true;
-    let mut are_places = true;
-    for (place, bit) in plan.bits.iter().enumerate() {
-        are_places = are_places && *bit as usize == place;
-        let number = plan.discriminants.get(place).copied();
-        are_numbers = are_numbers
-            && number
-                .unwrap_or(Number::Small(0))
-                .is(Number::Small(u128::from(*bit)));
-    }
-    let is_cast = if are_kept(&declaration.variants) {
-        are_numbers
-    } else {
-        are_places
-    };
-    (is_cast, is_cast && are_places)
-}
+/// The name of each variant, with its bit.
+type Elements<'a> = &'a [(&'a str, u64)];
 
 /// Writes what makes an enum an element type.
 pub(super) fn write_element_type(
-    alloc: Global,
-    request: &Request,
-    out: &mut String,
+    writer: &mut Writer,
     declaration: &EnumDeclaration,
     plan: &Plan,
 ) -> Result<(), AllocError> {
-    let options = &declaration.options;
-    let mut parts = Parts::new(alloc);
-    parts.define("NAME", declaration.name)?;
-    parts.define("CRATE", request.crate_name.as_str())?;
-    parts.define("MODULE", request.module_name.as_str())?;
-    set_constants(&mut parts, plan)?;
-    write_bits(&mut parts, out, declaration, plan)?;
-    if is_narrow(plan) {
-        parts.write(out, WITH_REPR)?;
+    let mut elements = Vec::new(writer.alloc);
+    for (variant, named) in declaration.variants.iter().zip(plan.variants.iter()) {
+        elements.push((variant.name, u64::from(named.bit)))?;
     }
-    if are_named(declaration) {
-        let names = list(alloc, 80, "codes \"@VARIANT@\" ∷", declaration, plan)?;
-        parts.set("NAMES", names)?;
-        let call = macro_call(
-            alloc,
-            ["names_of", ""],
-            [82, 88],
-            "@VARIANT@",
-            declaration,
-            plan,
-        )?;
-        parts.set("NAMES_OF", call)?;
-        parts.write(out, NAMES)?;
+    let options = &declaration.options;
+    writer.define("NAME", declaration.name);
+    define_constants(writer, plan)?;
+    define_bits(writer, &elements, declaration, plan);
+    writer.write(ELEMENT_TYPE);
+    if is_narrow(plan) {
+        writer.write(WITH_REPR);
+    }
+    if are_named(options) {
+        writer.set_list("NAMES", 80, "codes \"@NAME@\" ∷", &elements);
+        writer.set_lines("WORDS", "@NAME@", &elements);
+        define_call(writer, "NAMES_OF", ["names_of", ""], [82, 88]);
+        writer.write(NAMES);
     }
     if options.has_display {
-        write_display(&mut parts, out, declaration, plan)?;
+        write_display(writer, &elements);
     }
     if !options.leaves_out_operators {
-        write_operators(&mut parts, out)?;
+        write_operators(writer);
     }
-    write_json(&mut parts, out, declaration, plan)
-}
-
-/// Writes the implementation of the element type.
-fn write_bits(
-    parts: &mut Parts,
-    out: &mut String,
-    declaration: &EnumDeclaration,
-    plan: &Plan,
-) -> Result<(), AllocError> {
-    let alloc = parts.alloc;
-    let has_values = declaration.options.has_display;
-    let (is_cast, is_in_place) = are_cast(declaration, plan);
-    let in_words = matches!(plan.store, Store::Words(_));
-    let bit_of_value = match is_cast {
-        true if declaration.variants.is_empty() => String::from_str(
-            alloc,
-            "        match self {}\n",
-        )?,
-        true => String::from_str(alloc, "        self as u32\n")?,
-        false => arms(alloc, "Self::@VARIANT@ => @BIT@,", declaration, plan)?,
-    };
-    parts.set("BIT_OF_VALUE", bit_of_value)?;
-    let pattern = if is_in_place {
-        "@VARIANT@"
-    } else {
-        "@BIT@ @VARIANT@"
-    };
-    let value_of_bit = macro_call(
-        alloc,
-        ["variant_of", "val, "],
-        [75, 83],
-        pattern,
-        declaration,
-        plan,
-    )?;
-    parts.set("VALUE_OF_BIT", value_of_bit)?;
-    if is_in_place {
-        parts.define("ELEMENTS", "in_place the_type")?;
-        parts.define("LAWFUL", "lawful_in_place the_type (@LAW@ the_type _ tt)")?;
-    } else {
-        parts.set(
-            "ELEMENT_BITS",
-            list(alloc, 59, "@BIT@ ∷", declaration, plan)?,
-        )?;
-        parts.define("ELEMENTS", "with_bits the_type (@ELEMENT_BITS@)")?;
-        parts.define("LAWFUL", "@LAW@ the_type _ tt")?;
-    }
-    if has_values {
-        parts.set(
-            "VALUES",
-            list(alloc, 79, "variant.@VARIANT@ ∷", declaration, plan)?,
-        )?;
-    }
-    for template in [
-        BEGIN,
-        if is_in_place && !in_words && !has_values {
-            ""
-        } else {
-            LISTS_USE
-        },
-        if is_in_place { PLACES_USE } else { BITS_USE },
-        TYPE_USE,
-        if has_values { VALUES_USE } else { "" },
-        ELEMENTS,
-        if has_values { VALUES } else { "" },
-        CONSTANTS,
-    ] {
-        parts.write(out, template)?;
-    }
+    write_json(writer, declaration, plan);
     Ok(())
 }
 
-/// Writes the `Display` by the names of the variants.
-fn write_display(
-    parts: &mut Parts,
-    out: &mut String,
+/// Whether each bit is its variant's number, as `as` gives it.
+fn are_cast(declaration: &EnumDeclaration, plan: &Plan) -> bool {
+    if !are_kept(&declaration.variants) {
+        return are_places(plan);
+    }
+    for named in &plan.variants {
+        if named.number != Number::Small(u128::from(named.bit)) {
+            return false;
+        }
+    }
+    true
+}
+
+/// Defines the bits of the elements, the conversions, and the proof of the laws.
+fn define_bits(
+    writer: &mut Writer,
+    elements: Elements,
     declaration: &EnumDeclaration,
     plan: &Plan,
-) -> Result<(), AllocError> {
-    let alloc = parts.alloc;
-    parts.set(
-        "SHOWN_NAMES",
-        list(alloc, 90, "codes \"@VARIANT@\" ∷", declaration, plan)?,
-    )?;
-    let shown_by = if declaration.variants.is_empty() {
-        String::from_str(alloc, "        match *self {}\n")?
+) {
+    let has_values = declaration.options.has_display;
+    let is_cast = are_cast(declaration, plan);
+    let in_place = is_cast && are_places(plan);
+    let is_short = in_place && !has_values && matches!(plan.store, Store::Integer(_, _));
+    writer.define("LISTS_USE", if is_short { "" } else { LISTS_USE });
+    writer.set_list("VALUE_LIST", 79, "variant.@NAME@ ∷", elements);
+    writer.define("VALUES_USE", if has_values { VALUES_USE } else { "" });
+    writer.define("VALUES", if has_values { VALUES } else { "" });
+    writer.set_lines("ARMS", "            Self::@NAME@ => @BIT@,", elements);
+    let bit_of_value = if !is_cast {
+        "        match self {\n@ARMS@        }\n"
+    } else if elements.is_empty() {
+        "        match self {}\n"
     } else {
-        arms(
-            alloc,
-            "Self::@VARIANT@ => f.write_str(\"@VARIANT@\"),",
-            declaration,
-            plan,
-        )?
+        "        self as u32\n"
     };
-    parts.set("SHOWN_BY", shown_by)?;
-    parts.write(out, DISPLAY)
+    writer.define("BIT_OF_VALUE", bit_of_value);
+    if in_place {
+        writer.define("LAWS_USE", PLACES_USE);
+        writer.define("ELEMENTS", "in_place the_type");
+        writer.define("LAWFUL", "lawful_in_place the_type (@LAW@ the_type _ tt)");
+    } else {
+        writer.define("LAWS_USE", BITS_USE);
+        writer.set_list("ELEMENT_BITS", 59, "@BIT@ ∷", elements);
+        writer.define("ELEMENTS", "with_bits the_type (@ELEMENT_BITS@)");
+        writer.define("LAWFUL", "@LAW@ the_type _ tt");
+    }
+    define_value_of_bit(writer, elements, plan);
+}
+
+/// Defines the conversion of a bit to its variant: a match over the bits, or the call of the macro that makes a table.
+fn define_value_of_bit(writer: &mut Writer, elements: Elements, plan: &Plan) {
+    if is_in_table(plan) {
+        writer.set_lines("WORDS", "@BIT@ @NAME@", elements);
+        define_call(writer, "VALUE_OF_BIT", ["variant_of", "val, "], [75, 83]);
+    } else {
+        writer.set_lines("ARMS", "            @BIT@ => Self::@NAME@,", elements);
+        let is_long = elements.len() > 32;
+        writer.define(
+            "LAST_ARM",
+            if is_long {
+                LAST_OF_MANY
+            } else {
+                "unreachable!(),"
+            },
+        );
+        writer.define("VALUE_OF_BIT", MATCH);
+    }
+}
+
+/// Defines a call of a macro with the enum's name and the words, after what the call begins with. `rooms` is how many
+/// columns are left on its line, and on a line of its own.
+fn define_call(writer: &mut Writer, name: &'static str, begin: [&str; 2], rooms: [usize; 2]) {
+    let [macro_name, first] = begin;
+    let [short, long] = rooms;
+    writer.define("MACRO", macro_name);
+    writer.define("FIRST", first);
+    writer.define("WORDS", "@NAME@:\n@WORDS@");
+    let words = writer.part("WORDS");
+    let is_short = words.len() <= short;
+    let room = if is_short { short } else { long };
+    let words = wrapped(writer.alloc, "\n            ", [room, 88], words);
+    writer.set("WORDS", words);
+    writer.define(name, if is_short { SHORT_CALL } else { LONG_CALL });
+}
+
+/// Writes the `Display` by the names of the variants.
+fn write_display(writer: &mut Writer, elements: Elements) {
+    writer.set_list("SHOWN_NAMES", 90, "codes \"@NAME@\" ∷", elements);
+    writer.set_lines(
+        "ARMS",
+        "            Self::@NAME@ => f.write_str(\"@NAME@\"),",
+        elements,
+    );
+    let shown_by = if elements.is_empty() {
+        "        match *self {}\n"
+    } else {
+        "        match self {\n@ARMS@        }\n"
+    };
+    writer.define("SHOWN_BY", shown_by);
+    writer.write(DISPLAY);
 }

@@ -1,8 +1,8 @@
 //! The enum itself.
 
-use super::layout::write_lines;
+use super::writer::Writer;
 use enumset_derive_plan::{EnumDeclaration, Number, Variant};
-use std::alloc::{AllocError, Global};
+use std::alloc::AllocError;
 
 /// Why an enum has no discriminants.
 const DROPPED: &str =
@@ -11,16 +11,13 @@ const DROPPED: &str =
 /// Whether Rattle takes all discriminants that are given.
 pub(super) fn are_kept(variants: &[Variant]) -> bool {
     for variant in variants {
-        let is_kept = match variant.discriminant {
-            None => true,
-            Some(discriminant) => match discriminant.number {
-                Number::Small(number) => number < 1 << 63,
-                Number::PowerOfTwo(_) => false,
-                Number::Negative(number) => number <= 1 << 63,
-            },
+        let Some(discriminant) = variant.discriminant else {
+            continue;
         };
-        if !is_kept {
-            return false;
+        match discriminant.number {
+            Number::Small(number) if number < 1 << 63 => {}
+            Number::Negative(number) if number <= 1 << 63 => {}
+            _ => return false,
         }
     }
     true
@@ -28,45 +25,39 @@ pub(super) fn are_kept(variants: &[Variant]) -> bool {
 
 /// Writes the enum.
 pub(super) fn write_enum(
-    alloc: Global,
-    out: &mut String,
+    writer: &mut Writer,
     declaration: &EnumDeclaration,
 ) -> Result<(), AllocError> {
     let has_discriminants = are_kept(&declaration.variants);
-    write_lines(out, "", &declaration.attributes)?;
+    writer.push_each("", &declaration.attributes, "\n");
     if !has_discriminants {
-        out.push_str(DROPPED)?;
+        writer.push(DROPPED);
     }
-    write_derives(alloc, out, declaration)?;
-    write_lines(out, "", &declaration.later_attributes)?;
+    write_derives(writer, declaration)?;
+    writer.push_each("", &declaration.later_attributes, "\n");
     let (visibility, restriction) = declaration.visibility;
-    let gap = if visibility.is_empty() { "" } else { " " };
     let is_empty = declaration.variants.is_empty() && declaration.last_comments.is_empty();
-    let begin = if is_empty { " {" } else { " {\n" };
-    for text in [
-        visibility,
-        restriction,
-        gap,
-        "enum ",
-        declaration.name,
-        begin,
-    ] {
-        out.push_str(text)?;
-    }
+    writer.push(visibility);
+    writer.push(restriction);
+    writer.push(if visibility.is_empty() {
+        "enum "
+    } else {
+        " enum "
+    });
+    writer.push(declaration.name);
+    writer.push(if is_empty { " {" } else { " {\n" });
     for variant in &declaration.variants {
-        write_variant(alloc, out, variant, has_discriminants)?;
+        write_variant(writer, variant, has_discriminants);
     }
-    write_lines(out, "    ", &declaration.last_comments)?;
-    out.push_str("}\n\n")
+    writer.push_each("    ", &declaration.last_comments, "\n");
+    writer.push("}\n\n");
+    Ok(())
 }
 
 /// Writes the attribute with the derives, on a line or on a line each: those that an element type needs, unless the author
 /// writes them, and those of the source.
-fn write_derives(
-    alloc: Global,
-    out: &mut String,
-    declaration: &EnumDeclaration,
-) -> Result<(), AllocError> {
+fn write_derives(writer: &mut Writer, declaration: &EnumDeclaration) -> Result<(), AllocError> {
+    let alloc = writer.alloc;
     let mut derives = Vec::new(alloc);
     if !declaration.options.leaves_out_supertraits {
         for name in ["Clone", "Copy", "PartialEq", "Eq"] {
@@ -76,39 +67,26 @@ fn write_derives(
     for path in &declaration.derives {
         derives.push(path.as_str())?;
     }
-    let line = derives.join(alloc, ", ")?;
-    let lines = derives.join(alloc, ",\n    ")?;
-    let texts = match line.len() {
-        0 => ["", "", ""],
-        1..90 => ["#[derive(", line.as_str(), ")]\n"],
-        _ => ["#[derive(\n    ", lines.as_str(), ",\n)]\n"],
-    };
-    for text in texts {
-        out.push_str(text)?;
-    }
+    writer.set("DERIVES", derives.join(alloc, ", "));
+    writer.set("DERIVE_LINES", derives.join(alloc, ",\n    "));
+    writer.write(match writer.part("DERIVES").len() {
+        0 => "",
+        1..90 => "#[derive(@DERIVES@)]\n",
+        _ => "#[derive(\n    @DERIVE_LINES@,\n)]\n",
+    });
     Ok(())
 }
 
 /// Writes a variant, with its discriminant where the enum has discriminants.
-fn write_variant(
-    alloc: Global,
-    out: &mut String,
-    variant: &Variant,
-    has_discriminants: bool,
-) -> Result<(), AllocError> {
-    write_lines(out, "    ", &variant.attributes)?;
+fn write_variant(writer: &mut Writer, variant: &Variant, has_discriminants: bool) {
+    writer.push_each("    ", &variant.attributes, "\n");
     let (begin, sign, literal) = match &variant.discriminant {
         Some(discriminant) if has_discriminants => {
             (" = ", discriminant.sign, discriminant.literal)
         }
         _ => ("", "", ""),
     };
-    for text in ["    ", variant.name, begin, sign, literal, ","] {
-        out.push_str(text)?;
-    }
-    for comment in &variant.comments {
-        out.push(' ')?;
-        out.push_str(comment)?;
-    }
-    out.push('\n')
+    writer.push_each("", &["    ", variant.name, begin, sign, literal, ","], "");
+    writer.push_each(" ", &variant.comments, "");
+    writer.push("\n");
 }

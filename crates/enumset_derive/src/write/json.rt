@@ -1,10 +1,8 @@
 //! The calls that write the sets of an element type in JSON and read them.
 
-use super::Text;
-use super::parts::Parts;
 use super::templates::JSON;
+use super::writer::Writer;
 use enumset_derive_plan::{EnumDeclaration, IntegerType, Plan, Serialized, Store};
-use std::alloc::AllocError;
 
 /// What is written where sets have a form in JSON. `@JSON_SIZE@` stands for the bits of its numbers, or for its words.
 #[derive(Clone, Copy)]
@@ -83,62 +81,49 @@ const LIST: Form = Form {
     argument: "",
 };
 
-const MAP_DOC: &str =
-    "object with the name of each of the set's members and `true`. The only fault is
-    /// [`set_json::JsonFault::OutOfMemory`].";
+const MAP: Form = Form {
+    name: "map",
+    doc: "object with the name of each of the set's members and `true`. The only fault is
+    /// [`set_json::JsonFault::OutOfMemory`].",
+    ..LIST
+};
 
 /// The form that an enum asks for, and how many bits its numbers have, or how many words. A value in JSON holds no
 /// number of 128 bits: such a set is a number if its bits are below 64, else words.
-fn form_of(serialized: Serialized, plan: &Plan) -> (Form, usize) {
+fn form_of(serialized: Serialized, plan: &Plan) -> (&'static Form, usize) {
     let words = match &plan.store {
         Store::Integer(IntegerType::U128, _) => 2,
         Store::Integer(_, _) => 1,
         Store::Words(words) => words.len(),
     };
     match serialized {
-        Serialized::Integer(IntegerType::U128) if plan.bit_width <= 64 => (NUMBER, 64),
-        Serialized::Integer(IntegerType::U128) | Serialized::Words => (WORDS, words),
-        Serialized::Integer(integer) => (NUMBER, integer.width() as usize),
-        Serialized::List => (LIST, 0),
-        Serialized::Map => {
-            let map = Form {
-                name: "map",
-                doc: MAP_DOC,
-                ..LIST
-            };
-            (map, 0)
-        }
+        Serialized::Integer(IntegerType::U128) if plan.bit_width <= 64 => (&NUMBER, 64),
+        Serialized::Integer(IntegerType::U128) | Serialized::Words => (&WORDS, words),
+        Serialized::Integer(integer) => (&NUMBER, integer.width() as usize),
+        Serialized::List => (&LIST, 0),
+        Serialized::Map => (&MAP, 0),
     }
 }
 
 /// Writes the calls, if a form is asked for.
-pub(super) fn write_json(
-    parts: &mut Parts,
-    out: &mut String,
-    declaration: &EnumDeclaration,
-    plan: &Plan,
-) -> Result<(), AllocError> {
+pub(super) fn write_json(writer: &mut Writer, declaration: &EnumDeclaration, plan: &Plan) {
     let options = &declaration.options;
     let Some(serialized) = options.serialized else {
-        return Ok(());
+        return;
     };
     let (form, size) = form_of(serialized, plan);
     let (unknown, unknown_doc) = match options.denies_unknown {
         true => ("Refuse", form.denies),
         false => ("Drop", form.leaves_out),
     };
-    parts.set("JSON_SIZE", size.to_string(parts.alloc)?)?;
-    for (name, template) in [
-        ("FORM", form.name),
-        ("UNKNOWN", unknown),
-        ("UNKNOWN_DOC", unknown_doc),
-        ("JSON_USES", form.uses),
-        ("JSON_DOC", form.doc),
-        ("JSON_PROMISE", form.promise),
-        ("JSON_READ_BY", form.read_by),
-        ("JSON_ARGUMENT", form.argument),
-    ] {
-        parts.define(name, template)?;
-    }
-    parts.write(out, JSON)
+    writer.set("JSON_SIZE", size.to_string(writer.alloc));
+    writer.define("FORM", form.name);
+    writer.define("UNKNOWN", unknown);
+    writer.define("UNKNOWN_DOC", unknown_doc);
+    writer.define("JSON_USES", form.uses);
+    writer.define("JSON_DOC", form.doc);
+    writer.define("JSON_PROMISE", form.promise);
+    writer.define("JSON_READ_BY", form.read_by);
+    writer.define("JSON_ARGUMENT", form.argument);
+    writer.write(JSON);
 }

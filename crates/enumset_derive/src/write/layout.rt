@@ -1,18 +1,57 @@
-//! Layout in lines of at most 100 columns.
+//! Lists of words, and their layout in lines of at most 100 columns.
 
 use super::Text;
-use std::alloc::{AllocError, Global};
-use std::convert::AsStr;
+use super::writer::Writer;
+use std::alloc::Global;
 
 /// How a new line of a list in an `impl` begins.
 pub(super) const LIST_START: &str = "\n        ";
 
-/// Words with spaces between them. `room` is how many columns are left on the line. Where the next word would pass the
-/// last column, a new line begins, by the text `start`.
-pub(super) fn wrapped(alloc: Global, start: &str, room: usize, words: &[String]) -> Text {
+impl Writer {
+    /// Adds a part: what a pattern becomes for each item, a line each.
+    pub fn set_lines(&mut self, name: &'static str, pattern: &str, items: &[(&str, u64)]) {
+        self.set(name, lines(self.alloc, pattern, items));
+    }
+
+    /// Adds a part: the list, in a clause, of what a pattern becomes for each item. `room` is how many columns are left on
+    /// its first line.
+    pub fn set_list(
+        &mut self,
+        name: &'static str,
+        room: usize,
+        pattern: &str,
+        items: &[(&str, u64)],
+    ) {
+        self.set_lines("WORDS", pattern, items);
+        self.define("WORDS", "@WORDS@[]");
+        let list = wrapped(self.alloc, LIST_START, [room, 92], self.part("WORDS"));
+        self.set(name, list);
+    }
+}
+
+/// What a pattern becomes for each item, a line each: `@NAME@` stands for its text, `@BIT@` for its number.
+fn lines(alloc: Global, pattern: &str, items: &[(&str, u64)]) -> Text {
+    let mut lines = String::new(alloc);
+    for (name, number) in items {
+        let number = number.to_string(alloc)?;
+        for piece in pattern.split('@') {
+            lines.push_str(match piece {
+                "NAME" => name,
+                "BIT" => number.as_str(),
+                _ => piece,
+            })?;
+        }
+        lines.push('\n')?;
+    }
+    Ok(lines)
+}
+
+/// The lines of a text as words with spaces between them. Where the next word would pass the last column, a new line
+/// begins, by the text `start`. `rooms` is how many columns are left on the first line, and on the others after `start`.
+pub(super) fn wrapped(alloc: Global, start: &str, rooms: [usize; 2], words: &str) -> Text {
+    let [mut room, room_of_line] = rooms;
     let mut out = String::new(alloc);
-    let mut room = room;
-    for word in words {
+    for word in words.lines() {
         let length = word.len();
         if out.is_empty() {
             room = room.saturating_sub(length);
@@ -21,23 +60,9 @@ pub(super) fn wrapped(alloc: Global, start: &str, room: usize, words: &[String])
             room = room - 1 - length;
         } else {
             out.push_str(start)?;
-            room = 101usize.saturating_sub(start.len()).saturating_sub(length);
+            room = room_of_line.saturating_sub(length);
         }
-        out.push_str(word.as_str())?;
+        out.push_str(word)?;
     }
     Ok(out)
-}
-
-/// Texts on a line each, after the indent.
-pub(super) fn write_lines<S: AsStr>(
-    out: &mut String,
-    indent: &str,
-    texts: &[S],
-) -> Result<(), AllocError> {
-    for text in texts {
-        out.push_str(indent)?;
-        out.push_str(text.as_str())?;
-        out.push('\n')?;
-    }
-    Ok(())
 }

@@ -1,8 +1,7 @@
 //! The operators on elements.
 
-use super::parts::Parts;
 use super::templates::{COMPLEMENT, OPERATOR};
-use std::alloc::AllocError;
+use super::writer::Writer;
 
 /// Of each operator with two operands its trait, its function, the operation on sets, as the model names it, the same in
 /// words, and its sign.
@@ -20,16 +19,14 @@ const OPERATORS: [[&str; 5]; 4] = [
 ];
 
 /// Writes the five operators.
-pub(super) fn write_operators(parts: &mut Parts, out: &mut String) -> Result<(), AllocError> {
-    let count = parts.parts.len();
+pub(super) fn write_operators(writer: &mut Writer) {
     for [trait_name, function, operation, in_words, sign] in OPERATORS {
-        parts.define("TRAIT", trait_name)?;
-        parts.define("FUNCTION", function)?;
-        parts.define("OPERATION", operation)?;
-        parts.define("IN_WORDS", in_words)?;
-        parts.define("SIGN", sign)?;
-        parts.write(out, OPERATOR)?;
-        parts.parts.truncate(count);
+        writer.define("TRAIT", trait_name);
+        writer.define("FUNCTION", function);
+        writer.define("OPERATION", operation);
+        writer.define("IN_WORDS", in_words);
+        writer.define("SIGN", sign);
+        writer.write(OPERATOR);
     }
-    parts.write(out, COMPLEMENT)
+    writer.write(COMPLEMENT);
 }

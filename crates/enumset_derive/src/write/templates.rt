@@ -1,34 +1,14 @@
 //! The texts that a module is made of. A name in capitals between two `@` stands for a part of them.
 
-/// The implementation of an element type, up to what it imports of the laws.
-pub(super) const BEGIN: &str = "impl EnumSetType for @NAME@ {\n";
-
-pub(super) const LISTS_USE: &str = "    ghost use Rattle.std.specs.Prelude.{◌∷◌, []};\n";
-
-pub(super) const PLACES_USE: &str =
-    "    ghost use Rattle.enumset_sets.specs.Laws.Elements.{in_place, @LAW@, lawful_in_place};\n";
-
-pub(super) const BITS_USE: &str =
-    "    ghost use Rattle.enumset_sets.specs.Laws.Elements.{with_bits, @LAW@};\n";
-
-pub(super) const TYPE_USE: &str =
-    "    ghost use Rattle.@CRATE@.specs.contracts.@MODULE@.@NAME@.{the_type};\n";
-
-pub(super) const VALUES_USE: &str =
-    "    ghost use Rattle.@CRATE@.specs.declared.@MODULE@.@NAME@.TheVariants as variant;\n";
-
-pub(super) const ELEMENTS: &str = "
+/// The implementation of an element type.
+pub(super) const ELEMENT_TYPE: &str = "impl EnumSetType for @NAME@ {
+@LISTS_USE@@LAWS_USE@    ghost use Rattle.@CRATE@.specs.contracts.@MODULE@.@NAME@.{the_type};
+@VALUES_USE@
     type Repr = @REPR@;
 
     ghost elements = { @ELEMENTS@ };
 
-";
-
-pub(super) const VALUES: &str = "    ghost values = { @VALUES@ };
-
-";
-
-pub(super) const CONSTANTS: &str = "    ghost ALL_BITS = { @BITS@ };
+@VALUES@    ghost ALL_BITS = { @BITS@ };
 
     const ALL_BITS: @REPR@ = @ALL_BITS@;
 
@@ -49,6 +29,35 @@ pub(super) const CONSTANTS: &str = "    ghost ALL_BITS = { @BITS@ };
 
     ghost lawful = { @LAWFUL@ };
 }";
+
+pub(super) const LISTS_USE: &str = "    ghost use Rattle.std.specs.Prelude.{◌∷◌, []};\n";
+
+pub(super) const PLACES_USE: &str =
+    "    ghost use Rattle.enumset_sets.specs.Laws.Elements.{in_place, @LAW@, lawful_in_place};\n";
+
+pub(super) const BITS_USE: &str =
+    "    ghost use Rattle.enumset_sets.specs.Laws.Elements.{with_bits, @LAW@};\n";
+
+pub(super) const VALUES_USE: &str =
+    "    ghost use Rattle.@CRATE@.specs.declared.@MODULE@.@NAME@.TheVariants as variant;\n";
+
+pub(super) const VALUES: &str = "    ghost values = { @VALUE_LIST@ };\n\n";
+
+/// The match from a bit to its variant.
+pub(super) const MATCH: &str = "        match val {
+@ARMS@            _ => @LAST_ARM@
+        }";
+
+/// Its last arm if there are more bits than a proof takes in by itself.
+pub(super) const LAST_OF_MANY: &str = "{
+                @FACADE@::variants::is_below(val, @COUNT@);
+                unreachable!()
+            }";
+
+/// The call of a macro, on one line or on lines of its own.
+pub(super) const SHORT_CALL: &str = "        @MACRO@!(@FIRST@@WORDS@)";
+
+pub(super) const LONG_CALL: &str = "        @MACRO@!(\n            @FIRST@@WORDS@\n        )";
 
 pub(super) const WITH_REPR: &str = "
 

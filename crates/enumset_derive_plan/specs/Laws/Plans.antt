@@ -6,7 +6,7 @@ use denote.Enum.Declared.{Declared, rowss}
 use denote.Enum.Bare.{Bare}
 use Rattle.enumset_repr.specs.Number.{is_distinct}
 use Rattle.enumset_repr.specs.Words.{lists_words}
-use Rattle.enumset_sets.specs.Laws.Elements.{one_past_all, once_known, or_else, IsLawful, IsLawfulNumber, IsLawfulWords, BitCountShouldBe}
+use Rattle.enumset_repr.specs.Lawful.{one_past_all, once_known, or_else, IsLawful, IsLawfulNumber, IsLawfulWords, BitCountShouldBe}
 use Rattle.enumset_derive_plan.specs.Plans.{without_fields}
 
 pub variants_of : (n : ℕ) → length (rowss (replicate n [])) ≡ n

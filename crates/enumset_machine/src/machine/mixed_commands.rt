@@ -1,15 +1,13 @@
 //! The commands that mixed sets alone have.
 
-ghost use Rattle.std.specs.Prelude.{◌≡◌, ◌∷◌, [], true};
-ghost use Rattle.std.specs.List.{list_all};
+ghost use Rattle.std.specs.Prelude.{◌≡◌, true};
 ghost use Rattle.enumset_repr.specs.BitSet.{contains, below};
 ghost use Rattle.enumset_sets.specs.Elements.{valid_bits};
 ghost use Rattle.enumset_commands.specs.declared.mixed_command.MixedCommand.TheVariants.{HasBit, InsertBit, RemoveBit, FullComplement, ValidLen, Unknown, AsEnumset, Truncate};
-ghost use Rattle.enumset_machine.specs.States.{is_set_register};
 ghost use Rattle.enumset_machine.specs.Plans.{width_rules};
 ghost use Rattle.enumset_machine.specs.Runs.{mixed_plan, mixed_outcome};
 
-use super::registers::is_set_register;
+use super::registers::{are_set_registers, is_set_register};
 use super::run::Run;
 use super::runner::Runner;
 use enumset_commands::{MixedCommand, Refusal, Reply};
@@ -68,8 +66,7 @@ impl<T: EnumSetTypeWithRepr> Runner<MixedEnumSet<T>> {
         }
         let mut set = self.sets.get(r);
         let was_absent = set.insert_bit(bit);
-        self.sets.put(r, set);
-        Reply::Truth(was_absent)
+        self.replace(r, set, was_absent)
     }
 
     fn remove_bit(&mut self, r: u8, bit: u32) -> Reply
@@ -81,8 +78,7 @@ impl<T: EnumSetTypeWithRepr> Runner<MixedEnumSet<T>> {
         }
         let mut set = self.sets.get(r);
         let was_present = set.remove_bit(bit);
-        self.sets.put(r, set);
-        Reply::Truth(was_present)
+        self.replace(r, set, was_present)
     }
 
     fn full_complement(&mut self, to: u8, a: u8) -> Reply
@@ -139,13 +135,6 @@ impl<T: EnumSetTypeWithRepr> Runner<MixedEnumSet<T>> {
         let set = convert_mixed(self.sets.get(a).as_enumset_truncate());
         self.put(to, set)
     }
-}
-
-/// Whether there are set registers of both numbers.
-fn are_set_registers(a: u8, b: u8) -> bool
-    ensures { result ≡ list_all is_set_register (a ∷ b ∷ []) }
-{
-    is_set_register(a) && is_set_register(b)
 }
 
 /// Whether a bit is below the width of the representation.

@@ -1,6 +1,7 @@
 //! The set registers of a run.
 
-ghost use Rattle.std.specs.Prelude.{◌≡◌, true, slice_set, slice_index_or};
+ghost use Rattle.std.specs.Prelude.{◌≡◌, ◌∷◌, [], true, slice_set, slice_index_or};
+ghost use Rattle.std.specs.List.{list_all};
 ghost use Rattle.enumset_repr.specs.BitSet.{empty};
 ghost use Rattle.enumset_machine.specs.States as model;
 
@@ -12,6 +13,13 @@ pub(super) fn is_set_register(r: u8) -> bool
     ensures { result ≡ model.is_set_register r }
 {
     r < 4
+}
+
+/// Whether there are set registers of both numbers.
+pub(super) fn are_set_registers(a: u8, b: u8) -> bool
+    ensures { result ≡ list_all model.is_set_register (a ∷ b ∷ []) }
+{
+    is_set_register(a) && is_set_register(b)
 }
 
 /// Four sets, in registers 0 to 3.

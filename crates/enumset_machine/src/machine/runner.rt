@@ -1,14 +1,15 @@
 //! A run over sets of any kind: its registers, and its step.
 
-ghost use Rattle.std.specs.Prelude.{◌≡◌, ◌^◌, nat_lt, true, false, IsOk, IfOk, OnOk, OnErr};
+ghost use Rattle.std.specs.Prelude.{◌≡◌, ◌^◌, ◌&&◌, nat_lt, true, false, IsOk, IfOk, OnOk, OnErr};
 ghost use Rattle.enumset_commands.specs.declared.reply.Reply.TheVariants.{Done, Truth};
-ghost use Rattle.enumset_machine.specs.States.{start, is_set_register, is_iterator_register, put_set, put_list};
+ghost use Rattle.enumset_machine.specs.States.{start, is_set_register, is_iterator_register, set_at, put_set, put_list};
+ghost use Rattle.enumset_repr.specs.BitSet.{ascending};
 ghost use Rattle.enumset_machine.specs.Plans.{outcome_by, is_width, step_reply, takes_memory};
 ghost use Rattle.enumset_machine.specs.Runs.{plan};
 
 use super::iterators::{IteratorRegisters, is_iterator_register};
 use super::numbers::{number_of, words_cut_of, words_of};
-use super::registers::{Registers, is_set_register};
+use super::registers::{Registers, are_set_registers, is_set_register};
 use super::run_set::RunSet;
 use enumset_commands::Command::{self, *};
 use enumset_commands::{Refusal, Reply};
@@ -32,6 +33,24 @@ impl<S: RunSet> Model for Runner<S> {
     ghost view = { λ m. record { sets = m.sets; lists = m.iterators } };
 }
 
+/// Puts into a register what a call gives of the sets in others. The set is made first, since a runner cannot be borrowed
+/// for the change while its registers are read.
+macro_rules! put {
+    ($runner:ident, $to:ident, $call:ident of $a:ident $(, $b:ident)*) => {{
+        let set = $runner.sets.get($a).$call($($runner.sets.get($b)),*);
+        $runner.put($to, set)
+    }};
+}
+
+/// Changes the set in a register by a call on a bit, and replies what the call says.
+macro_rules! change {
+    ($runner:ident, $r:ident, $call:ident, $bit:ident) => {{
+        let mut set = $runner.sets.get($r);
+        let truth = set.$call($bit);
+        $runner.replace($r, set, truth)
+    }};
+}
+
 impl<S: RunSet> Runner<S> {
     /// A run whose registers are empty.
     pub(crate) fn new() -> Runner<S>
@@ -51,14 +70,14 @@ impl<S: RunSet> Runner<S> {
             ≡ record { reply = reply; state = self.new }) }
         ensures err { OnErr result (self.new ≡ self.old) }
     {
-        let named = named_by::<S>(command);
-        if !named.registers {
+        let (registers, widths, bits) = named_by::<S>(command);
+        if !registers {
             return Ok(Reply::Refused(Refusal::NoRegister));
         }
-        if !named.widths {
+        if !widths {
             return Ok(Reply::Refused(Refusal::NotAWidth));
         }
-        if !named.bits {
+        if !bits {
             return Ok(Reply::Refused(Refusal::NotABit));
         }
         self.carry_out(alloc, command)
@@ -81,51 +100,19 @@ impl<S: RunSet> Runner<S> {
             New { r } => self.put(r, S::new()),
             All { r } => self.put(r, S::all()),
             Only { r, bit } => self.put(r, S::only(bit)),
-            Insert { r, bit } => {
-                let mut set = self.sets.get(r);
-                let was_absent = set.insert(bit);
-                self.replace(r, set, was_absent)
-            }
-            Remove { r, bit } => {
-                let mut set = self.sets.get(r);
-                let was_present = set.remove(bit);
-                self.replace(r, set, was_present)
-            }
+            Insert { r, bit } => change!(self, r, insert, bit),
+            Remove { r, bit } => change!(self, r, remove, bit),
             Contains { r, bit } => Reply::Truth(self.sets.get(r).contains(bit)),
-            Clear { r } => {
-                let set = self.sets.get(r).clear();
-                self.put(r, set)
-            }
+            Clear { r } => put!(self, r, clear of r),
             Len { r } => Reply::Count(self.sets.get(r).len() as u64),
             IsEmpty { r } => Reply::Truth(self.sets.get(r).is_empty()),
-            Union { to, a, b } => {
-                let set = self.sets.get(a).union(self.sets.get(b));
-                self.put(to, set)
-            }
-            Intersection { to, a, b } => {
-                let set = self.sets.get(a).intersection(self.sets.get(b));
-                self.put(to, set)
-            }
-            Difference { to, a, b } => {
-                let set = self.sets.get(a).difference(self.sets.get(b));
-                self.put(to, set)
-            }
-            SymmetricDifference { to, a, b } => {
-                let set = self.sets.get(a).symmetric_difference(self.sets.get(b));
-                self.put(to, set)
-            }
-            Complement { to, a } => {
-                let set = self.sets.get(a).complement();
-                self.put(to, set)
-            }
-            InsertAll { r, a } => {
-                let set = self.sets.get(r).insert_all(self.sets.get(a));
-                self.put(r, set)
-            }
-            RemoveAll { r, a } => {
-                let set = self.sets.get(r).remove_all(self.sets.get(a));
-                self.put(r, set)
-            }
+            Union { to, a, b } => put!(self, to, union of a, b),
+            Intersection { to, a, b } => put!(self, to, intersection of a, b),
+            Difference { to, a, b } => put!(self, to, difference of a, b),
+            SymmetricDifference { to, a, b } => put!(self, to, symmetric_difference of a, b),
+            Complement { to, a } => put!(self, to, complement of a),
+            InsertAll { r, a } => put!(self, r, insert_all of r, a),
+            RemoveAll { r, a } => put!(self, r, remove_all of r, a),
             Disjoint { a, b } => Reply::Truth(self.sets.get(a).is_disjoint(self.sets.get(b))),
             Superset { a, b } => Reply::Truth(self.sets.get(a).is_superset(self.sets.get(b))),
             Subset { a, b } => Reply::Truth(self.sets.get(a).is_subset(self.sets.get(b))),
@@ -139,10 +126,7 @@ impl<S: RunSet> Runner<S> {
             WordsCut { r, count } => words_cut_of(alloc, self.sets.get(r), count)?,
             FromWords { r, ref words } => self.put_words(r, words),
             FromWordsCut { r, ref words } => self.put(r, S::from_words_cut(words.as_slice())),
-            Iter { i, r } => {
-                let items = self.sets.get(r).items();
-                self.iterate(i, items)
-            }
+            Iter { i, r } => self.iterate(i, r),
             Next { i } => step_reply::<S>(self.iterators.next(i)),
             NextBack { i } => step_reply::<S>(self.iterators.next_back(i)),
             Left { i } => Reply::Count(self.iterators.items_left(i) as u64),
@@ -150,7 +134,7 @@ impl<S: RunSet> Runner<S> {
     }
 
     /// Puts a changed set into its register, with the reply to the change.
-    fn replace(&mut self, r: u8, set: S, truth: bool) -> Reply
+    pub(super) fn replace(&mut self, r: u8, set: S, truth: bool) -> Reply
         requires { is_set_register r ≡ true }
         ensures reply { result ≡ Truth truth }
         ensures state { self.new ≡ put_set self.old r (S.members set) }
@@ -159,12 +143,14 @@ impl<S: RunSet> Runner<S> {
         Reply::Truth(truth)
     }
 
-    /// Puts an iterator into a register.
-    fn iterate(&mut self, i: u8, items: S::Items) -> Reply
-        requires { is_iterator_register i ≡ true }
+    /// Puts an iterator over the members of a set into a register.
+    fn iterate(&mut self, i: u8, r: u8) -> Reply
+        requires iterator { is_iterator_register i ≡ true }
+        requires set { is_set_register r ≡ true }
         ensures reply { result ≡ Done }
-        ensures state { self.new ≡ put_list self.old i (S.rest items) }
+        ensures state { self.new ≡ put_list self.old i (ascending (set_at self.old r)) }
     {
+        let items = self.sets.get(r).items();
         self.iterators.put(i, items);
         Reply::Done
     }
@@ -190,25 +176,15 @@ fn step_reply<S: RunSet>(bit: Option<u32>) -> Reply
     }
 }
 
-/// Whether what a command names is there.
-#[derive(Clone, Copy)]
-struct Named {
-    /// Whether the registers exist.
-    registers: bool,
-    /// Whether the width, if there is one, exists, and the value, if there is one, fits it.
-    widths: bool,
-    /// Whether the bit, if there is one, is valid.
-    bits: bool,
-}
-
-/// Whether what a command names is there.
+/// Whether the registers exist that a command names; whether its width exists, and its value fits that; and whether its
+/// bit is valid. What it does not name is no reason to refuse it.
 #[tactic(auto, unfolding(crate::specs::Runs::plan))]
-fn named_by<S: RunSet>(command: &Command) -> Named
-    ensures registers { result.registers ≡ (plan command.now).registers }
-    ensures widths { result.widths ≡ (plan command.now).widths }
-    ensures bits { result.bits ≡ (plan command.now).bits S.rules }
+fn named_by<S: RunSet>(command: &Command) -> (bool, bool, bool)
+    ensures registers { result.0 ≡ (plan command.now).registers }
+    ensures widths { result.1 ≡ (plan command.now).widths }
+    ensures bits { result.2 ≡ (plan command.now).bits S.rules }
 {
-    let (registers, widths, bits) = match *command {
+    match *command {
         New { r }
         | All { r }
         | Clear { r }
@@ -225,14 +201,11 @@ fn named_by<S: RunSet>(command: &Command) -> Named
         | Superset { a, b }
         | Subset { a, b }
         | Equal { a, b }
-        | Compare { a, b } => (is_set_register(a) && is_set_register(b), true, true),
-        Union { to, a, b }
+        | Compare { a, b } => (are_set_registers(a, b), true, true),
+        SymmetricDifference { to, a, b }
         | Intersection { to, a, b }
         | Difference { to, a, b }
-        | SymmetricDifference { to, a, b } => {
-            let are_registers = is_set_register(to) && is_set_register(a) && is_set_register(b);
-            (are_registers, true, true)
-        }
+        | Union { to, a, b } => (is_set_register(to) && are_set_registers(a, b), true, true),
         Only { r, bit } | Insert { r, bit } | Remove { r, bit } | Contains { r, bit } => {
             (is_set_register(r), true, S::is_bit_valid(bit))
         }
@@ -240,19 +213,10 @@ fn named_by<S: RunSet>(command: &Command) -> Named
             (is_set_register(r), is_width(width), true)
         }
         FromNumber { r, width, value } | FromNumberCut { r, width, value } => {
-            (
-                is_set_register(r),
-                is_width(width) && fits(width, value),
-                true,
-            )
+            (is_set_register(r), fits(width, value), true)
         }
         Iter { i, r } => (is_iterator_register(i) && is_set_register(r), true, true),
         Next { i } | NextBack { i } | Left { i } => (is_iterator_register(i), true, true),
-    };
-    Named {
-        registers,
-        widths,
-        bits,
     }
 }
 
@@ -263,16 +227,15 @@ fn is_width(width: u32) -> bool
     matches!(width, 8 | 16 | 32 | 64 | 128)
 }
 
-/// Whether a number is below 2 to the power of a width.
+/// Whether there is such a width, and a number is below 2 to the power of it.
 fn fits(width: u32, value: u128) -> bool
-    requires { is_width width ≡ true }
-    ensures { result ≡ nat_lt value (2 ^ width) }
+    ensures { result ≡ (is_width width && nat_lt value (2 ^ width)) }
 {
     match width {
         8 => u8::try_from(value).is_ok(),
         16 => u16::try_from(value).is_ok(),
         32 => u32::try_from(value).is_ok(),
         64 => u64::try_from(value).is_ok(),
-        _ => true,
+        _ => width == 128,
     }
 }

@@ -7,10 +7,10 @@
 --     from_list_.., insert_each_..      a set built from a list of its members
 -- The ruleset `algebra` has those that a tactic can apply by itself. A crate above cites it by
 -- `#[tactic(auto, using(enumset_repr::specs::Laws::Algebra::algebra))]`.
-use Rattle.std.proofs.Common.{◌≡◌, ℕ, true, false, cond, List, [], ◌∷◌, refl, sym, ap, ◌∙◌, arith, ◌↔◌}
+use Rattle.std.proofs.Common.{◌≡◌, ℕ, true, false, cond, List, [], ◌∷◌, refl, sym, ◌∙◌, arith, ◌↔◌}
 use Rattle.std.proofs.lemmas.Bool.Decides.{nat_tests, same_from_decides}
 use Rattle.enumset_repr.specs.BitSet.{BitSet, contains, ascending, empty, insert, only, remove, from_list, insert_each, union, intersection, difference, symmetric_difference, is_subset, is_disjoint}
-use Rattle.enumset_repr.specs.Laws.Members.{members, subsets, same_set, contains-ascending, contains-from_list, contains-insert_each, contains-is_subset, is_subset-contains, contains-is_disjoint, is_disjoint-contains, is_same_iff, is_subset_iff, is_disjoint_iff}
+use Rattle.enumset_repr.specs.Laws.Members.{members, subsets, same_set, contains-ascending, contains-from_list, contains-insert_each, contains-is_subset, is_subset-contains, contains-is_disjoint, is_disjoint-contains, is_subset_iff, is_disjoint_iff}
 
 -- ---- union
 
@@ -61,9 +61,6 @@ empty_intersection s = same_set _ _ (λ q. grind (arith, members))
 pub intersection_union : (s t : BitSet) → intersection s (union s t) ≡ s
 intersection_union s t = same_set _ _ (λ q. grind (arith, members))
 
-pub intersection_over_union : (s t u : BitSet) → intersection s (union t u) ≡ union (intersection s t) (intersection s u)
-intersection_over_union s t u = same_set _ _ (λ q. grind (arith, members))
-
 pub ruleset on_intersections = (intersection_comm, intersection_self, intersection_empty, empty_intersection, intersection_union)
 
 -- ---- difference
@@ -83,10 +80,6 @@ difference_union v s t = same_set _ _ (λ q. grind (arith, members))
 
 pub difference_intersection : (v s t : BitSet) → difference v (intersection s t) ≡ union (difference v s) (difference v t)
 difference_intersection v s t = same_set _ _ (λ q. grind (arith, members))
-
--- what is in s and not in t is what is in s and in the complement of t
-pub intersection_rest : (v s t : BitSet) → is_subset s v ≡ true → intersection s (difference v t) ≡ difference s t
-intersection_rest v s t within = same_set _ _ (λ q. let each = is_subset-contains s v within q in grind (arith, members))
 
 -- adding the members of t and removing them again leaves what was not in t before
 pub union_difference : (s t : BitSet) → difference (union s t) t ≡ difference s t
@@ -162,12 +155,6 @@ union_only s b = same_set _ _ (λ q. grind (arith, members))
 pub difference_only : (s : BitSet) (b : ℕ) → difference s (only b) ≡ remove s b
 difference_only s b = same_set _ _ (λ q. grind (arith, members))
 
-pub intersection_only_iff : (s : BitSet) (b : ℕ) → (intersection s (only b) ≡ empty) ↔ (contains s b ≡ false)
-intersection_only_iff s b = (
-  λ none. let here = ap (λ t. contains t b) none in grind (arith, members, nat_tests),
-  λ none. same_set _ _ (λ q. grind (arith, members, nat_tests)),
-)
-
 pub insert_union : (s t : BitSet) (b : ℕ) → union (insert s b) t ≡ insert (union s t) b
 insert_union s t b = same_set _ _ (λ q. grind (arith, members))
 
@@ -183,10 +170,7 @@ insert_removed s b = same_set _ _ (λ q. grind (arith, members, nat_tests))
 
 -- the number is a member afterwards exactly if it was none before
 pub toggled : (s : BitSet) (b : ℕ) → symmetric_difference s (only b) ≡ cond (contains s b) (remove s b) (insert s b)
-toggled s b = same_set _ _ (λ q. elim (contains s b) as (λ t. contains s b ≡ t → contains (symmetric_difference s (only b)) q ≡ contains (cond t (remove s b) (insert s b)) q) [
-  | true ↦ λ one. grind (arith, members, nat_tests)
-  | false ↦ λ none. grind (arith, members, nat_tests)
-] refl)
+toggled s b = same_set _ _ (λ q. grind (arith, members, nat_tests))
 
 pub difference_inserted : (s t : BitSet) (b : ℕ) → contains t b ≡ false → difference (insert s b) t ≡ insert (difference s t) b
 difference_inserted s t b none = same_set _ _ (λ q. grind (arith, members, nat_tests))
@@ -304,11 +288,6 @@ from_list_ascending s = same_set _ _ (λ q. contains-from_list (ascending s) q �
 pub insert_each_ascending : (s : BitSet) → insert_each empty (ascending s) ≡ s
 unfolding union
 insert_each_ascending s = empty_union s
-
--- a set with the members of another inserted one by one
-pub insert_each_union : (s t : BitSet) → insert_each s (ascending t) ≡ union s t
-unfolding union
-insert_each_union s t = refl
 
 -- a step of a loop that inserts the numbers of a list in turn: it inserts the first and leaves the others
 pub insert_each_insert : (s : BitSet) (b : ℕ) (bs : List ℕ) → insert_each (insert s b) bs ≡ insert_each s (b ∷ bs)

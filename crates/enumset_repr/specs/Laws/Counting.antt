@@ -16,43 +16,35 @@ use Rattle.std.proofs.lemmas.List.Sums.{length-filter}
 use Rattle.enumset_repr.specs.BitSet.{BitSet, is_in, contains, ascending, len, empty, insert, remove, union, intersection, difference, is_subset}
 use Rattle.enumset_repr.specs.Laws.Members.{contains-empty, contains-ascending, contains-intersection, contains-difference}
 use Rattle.enumset_repr.specs.Laws.Algebra.{intersection_comm, intersection_union, intersection_within, union_comm, union_difference}
-use Rattle.enumset_repr.specs.Laws.Ascending.{AscendsFrom, ascending-ascends, ascending_is, len-ascending, len-below, len-empty, len-insert, len-remove, empty_of_len}
-
-ascends_lower : (j k : ℕ) (xs : List ℕ) → k ≤ j → AscendsFrom j xs → AscendsFrom k xs
-ascends_lower j k [] less a = tt
-ascends_lower j k (x ∷ xs) less a = (omega (arith, a.0), a.1)
+use Rattle.enumset_repr.specs.Laws.Ascending.{AscendsFrom, ascends_lower, ascending-ascends, ascending_is, len-ascending, len-below, len-empty, len-insert, len-remove, empty_of_len}
 
 module _ (p : ℕ → Bool) where
   ascends-filter : (k : ℕ) (xs : List ℕ) → AscendsFrom k xs → AscendsFrom k (filter p xs)
   ascends-filter k [] a = tt
   ascends-filter k (x ∷ xs) a = elim (p x) as (λ b. AscendsFrom k (cond b (x ∷ filter p xs) (filter p xs))) [
     | true ↦ (a.0, ascends-filter (suc x) xs a.1)
-    | false ↦ ascends_lower (suc x) k (filter p xs) (omega (arith, a.0)) (ascends-filter (suc x) xs a.1)
+    | false ↦ ascends_lower k (suc x) (filter p xs) (omega (arith, a.0)) (ascends-filter (suc x) xs a.1)
   ]
 
   is_in-filter : (q : ℕ) (xs : List ℕ) → is_in q (filter p xs) ≡ (is_in q xs && p q)
   is_in-filter q [] = refl
-  is_in-filter q (x ∷ xs) = let rest = is_in-filter q xs in grind (arith, nat_tests)
+  is_in-filter q (x ∷ xs) = grind (arith, nat_tests, is_in-filter q xs)
 
 pub ascending-intersection : (s t : BitSet) → ascending (intersection s t) ≡ filter (contains t) (ascending s)
 ascending-intersection s t = ascending_is (intersection s t) (filter (contains t) (ascending s))
     (ascends-filter (contains t) 0 (ascending s) (ascending-ascends s))
-    (λ q. contains-intersection s t q ∙ ap (λ b. b && contains t q) (contains-ascending s q) ∙ sym (is_in-filter (contains t) q (ascending s)))
+    (λ q. grind (arith, contains-intersection s t q, contains-ascending s q, is_in-filter (contains t) q (ascending s)))
 
 pub ascending-difference : (s t : BitSet) → ascending (difference s t) ≡ filter (λ b. not (contains t b)) (ascending s)
 ascending-difference s t = ascending_is (difference s t) (filter (λ b. not (contains t b)) (ascending s))
     (ascends-filter (λ b. not (contains t b)) 0 (ascending s) (ascending-ascends s))
-    (λ q. contains-difference s t q ∙ ap (λ b. b && not (contains t q)) (contains-ascending s q) ∙ sym (is_in-filter (λ b. not (contains t b)) q (ascending s)))
-
-not_not : (b : Bool) → b ≡ not (not b)
-not_not true = refl
-not_not false = refl
+    (λ q. grind (arith, contains-difference s t q, contains-ascending s q, is_in-filter (λ b. not (contains t b)) q (ascending s)))
 
 pub len-parts : (s t : BitSet) → len (difference s t) + len (intersection s t) ≡ len s
 len-parts s t =
     let out = len-ascending (difference s t) ∙ ap length (ascending-difference s t) in
     let inside = len-ascending (intersection s t) ∙ ap length (ascending-intersection s t) in
-    let both = length-filter_both (λ b. not (contains t b)) (contains t) (λ x. not_not (contains t x)) (ascending s) in
+    let both = length-filter_both (λ b. not (contains t b)) (contains t) (λ x. grind (arith, nat_tests)) (ascending s) in
     omega (arith, out, inside, both, len-ascending s)
 
 pub len-intersection : (s t : BitSet) → len (intersection s t) ≤ len s

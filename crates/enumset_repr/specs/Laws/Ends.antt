@@ -6,12 +6,13 @@
 --     trailing-least, leading-greatest      what `trailing_zeros` and `leading_zeros` count, at each number of bits
 --     clear-least, least-positive      `n & (n - 1)`;  a number with a least member is not 0
 --     at_the_ends      the ends of a set, for a tactic's `using`
-use Rattle.std.proofs.Common.{◌≡◌, ◌<◌, ◌≤◌, ℕ, suc, zero, ◌+◌, ◌-◌, ◌^◌, true, false, List, [], ◌∷◌, ◌++◌, Some, None, refl, sym, ap, subst, ◌∙◌, arith, true≢false, inl, inr, length, length-append}
+use Rattle.std.proofs.Common.{◌≡◌, ◌<◌, ◌≤◌, ℕ, suc, zero, ◌+◌, ◌-◌, ◌^◌, true, false, List, [], ◌∷◌, ◌++◌, Some, None, refl, sym, ap, subst, ◌∙◌, arith, true≢false, length, length-append}
 use Rattle.std.specs.Prelude.{◌==◌, MatchOption, IfSome, IsSome, is_some}
 use Rattle.std.specs.Int.RustNames.{bit_and}
 use Rattle.std.specs.Int.Count.{count_trailing_zeros, count_leading_zeros, trailing_of_zero, leading_of_zero}
 use Rattle.std.specs.List.{slice_get, last_or}
-use Rattle.std.proofs.lemmas.Bool.{or_cases, eqb-true, eq-eqb, or_left, or_right, false_from_ne_true}
+use Rattle.std.proofs.lemmas.Bool.{eq-eqb, or_left, or_right, false_from_ne_true}
+use Rattle.std.proofs.lemmas.Bool.Decides.{nat_tests}
 use Rattle.enumset_repr.specs.BitSet.{is_in, BitSet, contains, ascending, empty, remove}
 use Rattle.enumset_repr.specs.Ends.{last, least, greatest}
 use Rattle.enumset_repr.specs.Laws.Steps.{last-push}
@@ -22,27 +23,16 @@ use Rattle.enumset_repr.specs.Laws.Numbers.{lt_pow, bits-zero, bits-within, bits
 
 -- ---- the ends of an ascending list
 
-same_item : (a b : ℕ) → Some a ≡ Some b → a ≡ b
-same_item a b e = cc
-
-no_item : (a : ℕ) → None ≡ Some a → ⊥
-no_item a e = cc
-
 last_or-is_in : (x : ℕ) (xs : List ℕ) (m : ℕ) → last_or (Some x) xs ≡ Some m → is_in m (x ∷ xs) ≡ true
-last_or-is_in x [] m last = or_left (m == x) false (ap (λ k. k == x) (sym (same_item x m last)) ∙ eq-eqb x x refl)
+last_or-is_in x [] m last = grind (arith, nat_tests)
 last_or-is_in x (y ∷ ys) m last = or_right (m == x) _ (last_or-is_in y ys m last)
 
 last_or-from : (k x : ℕ) (xs : List ℕ) (m q : ℕ) → AscendsFrom k (x ∷ xs) → last_or (Some x) xs ≡ Some m → is_in q (x ∷ xs) ≡ true → q ≤ m
-last_or-from k x [] m q ascends last one = elim (or_cases (q == x) false one) [
-  | inl here ↦ omega (arith, eqb-true q x here, same_item x m last)
-  | inr never ↦ absurd (true≢false (sym never))
-]
-last_or-from k x (y ∷ ys) m q ascends last one = elim (or_cases (q == x) _ one) [
-  | inl here ↦
-      let above : y ≤ m = last_or-from (suc x) y ys m y ascends.1 last (or_left (y == y) _ (eq-eqb y y refl)) in
-      omega (arith, eqb-true q x here, ascends.1.0, above)
-  | inr later ↦ last_or-from (suc x) y ys m q ascends.1 last later
-]
+last_or-from k x [] m q ascends last one = grind (arith, nat_tests)
+last_or-from k x (y ∷ ys) m q ascends last one =
+    let above = last_or-from (suc x) y ys m y ascends.1 last in
+    let later = last_or-from (suc x) y ys m q ascends.1 last in
+    grind (arith, nat_tests, ascends.1.0)
 
 -- ---- the least
 
@@ -56,22 +46,21 @@ least-empty = ap (λ xs. slice_get xs 0) ascending-empty
 
 -- the form of a list that has a first item
 first_item : (xs : List ℕ) (m : ℕ) → slice_get xs 0 ≡ Some m → (ys : List ℕ) × (xs ≡ m ∷ ys)
-first_item [] m first = absurd (no_item m first)
-first_item (x ∷ xs) m first = (xs, ap (λ y. y ∷ xs) (same_item x m first))
+first_item [] m first = absurd (cc)
+first_item (x ∷ xs) m first = let same : x ≡ m = cc in (xs, ap (λ y. y ∷ xs) same)
 
 -- a list without a first item is empty
 no_first : (xs : List ℕ) → slice_get xs 0 ≡ None → xs ≡ []
 no_first [] none = refl
-no_first (x ∷ xs) none = absurd (no_item x (sym none))
+no_first (x ∷ xs) none = absurd (cc)
 
 pub least_facts : (s : BitSet) (m : ℕ) → least s ≡ Some m → (contains s m ≡ true) × ((q : ℕ) → q < m → contains s q ≡ false)
 unfolding least
 least_facts s m first =
     let parts = first_item (ascending s) m first in
-    let ascends : AscendsFrom 0 (m ∷ parts.0) = subst (AscendsFrom 0) parts.1 (ascending-ascends s) in
-    let above : AscendsFrom m (m ∷ parts.0) = (omega arith, ascends.1) in (
+    let ascends : AscendsFrom 0 (m ∷ parts.0) = subst (AscendsFrom 0) parts.1 (ascending-ascends s) in (
       contains-ascending s m ∙ ap (is_in m) parts.1 ∙ or_left (m == m) _ (eq-eqb m m refl),
-      λ q under. contains-ascending s q ∙ ap (is_in q) parts.1 ∙ is_in-below m q (m ∷ parts.0) above under,
+      λ q under. contains-ascending s q ∙ ap (is_in q) parts.1 ∙ is_in-below m q (m ∷ parts.0) (omega arith, ascends.1) under,
     )
 
 -- the least member comes first
@@ -93,7 +82,7 @@ unfolding greatest
 greatest-empty = ap (last_or None) ascending-empty
 
 last_facts : (k : ℕ) (xs : List ℕ) (m : ℕ) → AscendsFrom k xs → last_or None xs ≡ Some m → (is_in m xs ≡ true) × ((q : ℕ) → is_in q xs ≡ true → q ≤ m)
-last_facts k [] m ascends last = absurd (no_item m last)
+last_facts k [] m ascends last = absurd (cc)
 last_facts k (x ∷ xs) m ascends last = (last_or-is_in x xs m last, λ q one. last_or-from k x xs m q ascends last one)
 
 pub greatest_facts : (s : BitSet) (m : ℕ) → greatest s ≡ Some m → (contains s m ≡ true) × ((q : ℕ) → m < q → contains s q ≡ false)
@@ -112,13 +101,10 @@ ascending-greatest s m last = let facts = greatest_facts s m last in ascending-l
 pub fewer-greatest : (s : BitSet) (m : ℕ) → greatest s ≡ Some m → length (ascending (remove s m)) < length (ascending s)
 fewer-greatest s m last = omega (arith, ap length (ascending-greatest s m last), length-append (ascending (remove s m)) (m ∷ []))
 
-some_last : (x : ℕ) (xs : List ℕ) → last_or (Some x) xs ≡ None → ⊥
-some_last x [] none = no_item x (sym none)
-some_last x (y ∷ ys) none = some_last y ys none
-
 no_last : (xs : List ℕ) → last_or None xs ≡ None → xs ≡ []
 no_last [] none = refl
-no_last (x ∷ xs) none = absurd (some_last x xs none)
+no_last (x ∷ []) none = cc
+no_last (x ∷ y ∷ ys) none = let later = no_last (y ∷ ys) none in cc
 
 pub ascending-no_greatest : (s : BitSet) → greatest s ≡ None → ascending s ≡ []
 unfolding greatest

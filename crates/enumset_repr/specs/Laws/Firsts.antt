@@ -7,16 +7,16 @@
 --     ascending_empty_iff      a set has no first member exactly if it is empty
 --     insert_sorted, ascending-insert      the list of a set with a number inserted
 -- The rulesets `firsts` and `written_out` have those that a tactic can apply by itself.
-use Rattle.std.proofs.Common.{◌≡◌, ◌≤◌, ℕ, suc, Bool, true, false, cond, ◌||◌, List, [], ◌∷◌, ◌++◌, length, Some, refl, sym, ap, subst, ◌∙◌, arith, ◌↔◌}
+use Rattle.std.proofs.Common.{◌≡◌, ◌≤◌, ℕ, suc, Bool, true, false, cond, ◌||◌, List, [], ◌∷◌, ◌++◌, Some, refl, sym, ap, subst, ◌∙◌, arith, ◌↔◌}
 use Rattle.std.specs.Prelude.{◌==◌, nat_lt}
 use Rattle.std.proofs.lemmas.Bool.Decides.{nat_tests}
 use Rattle.enumset_repr.specs.BitSet.{BitSet, is_in, contains, ascending, empty, insert, remove, from_list}
-use Rattle.enumset_repr.specs.Ends.{first, last, least, greatest}
+use Rattle.enumset_repr.specs.Ends.{first, last, without_first, without_last, least, greatest}
 use Rattle.enumset_repr.specs.Laws.Members.{contains-ascending, contains-insert}
 use Rattle.enumset_repr.specs.Laws.Algebra.{union_only}
-use Rattle.enumset_repr.specs.Laws.Ascending.{AscendsFrom, ascending-ascends, ascending_is, ascending-empty, empty_of_ascending, is_in-from, is_in-below}
+use Rattle.enumset_repr.specs.Laws.Ascending.{AscendsFrom, ascending-ascends, ascending_is, ascending-empty, empty_of_ascending, is_in-from}
 use Rattle.enumset_repr.specs.Laws.Ends.{ascending-least, ascending-greatest, least_facts, greatest_facts}
-use Rattle.enumset_repr.specs.Laws.Steps.{last-push}
+use Rattle.enumset_repr.specs.Laws.Steps.{last-push, without_last-push}
 
 pub ascending_empty_iff : (s : BitSet) → (ascending s ≡ []) ↔ (s ≡ empty)
 ascending_empty_iff s = (empty_of_ascending s, λ e. ap ascending e ∙ ascending-empty)
@@ -35,11 +35,8 @@ first-least s m xs q is one =
     let ascends : AscendsFrom 0 (m ∷ xs) = subst (AscendsFrom 0) is (ascending-ascends s) in
     is_in-from m q (m ∷ xs) (omega arith, ascends.1) (sym (contains-ascending s q ∙ ap (is_in q) is) ∙ one)
 
-same_rest : (m : ℕ) (xs ys : List ℕ) → m ∷ xs ≡ m ∷ ys → xs ≡ ys
-same_rest m xs ys e = cc
-
 pub first-rest : (s : BitSet) (m : ℕ) (xs : List ℕ) → ascending s ≡ m ∷ xs → xs ≡ ascending (remove s m)
-first-rest s m xs is = same_rest m _ _ (sym is ∙ ascending-least s m (first-is_least s m xs is))
+first-rest s m xs is = ap without_first (sym is ∙ ascending-least s m (first-is_least s m xs is))
 
 -- ---- the last
 
@@ -51,21 +48,10 @@ pub last-member : (s : BitSet) (m : ℕ) (xs : List ℕ) → ascending s ≡ xs 
 last-member s m xs is = (greatest_facts s m (last-is_greatest s m xs is)).0
 
 pub last-greatest : (s : BitSet) (m : ℕ) (xs : List ℕ) (q : ℕ) → ascending s ≡ xs ++ m ∷ [] → contains s q ≡ true → q ≤ m
-last-greatest s m xs q is one = below (nat_lt m q) refl where
-  below : (b : Bool) → nat_lt m q ≡ b → q ≤ m
-  below true over = let none = (greatest_facts s m (last-is_greatest s m xs is)).1 q in grind (arith, nat_tests)
-  below false not = grind (arith, nat_tests)
-
-same_front : (m : ℕ) (xs ys : List ℕ) → xs ++ m ∷ [] ≡ ys ++ m ∷ [] → xs ≡ ys
-same_front m [] [] e = refl
-same_front m [] (y ∷ []) e = absurd (omega (arith, ap length e))
-same_front m [] (y ∷ z ∷ ys) e = absurd (omega (arith, ap length e))
-same_front m (x ∷ []) [] e = absurd (omega (arith, ap length e))
-same_front m (x ∷ z ∷ xs) [] e = absurd (omega (arith, ap length e))
-same_front m (x ∷ xs) (y ∷ ys) e = let here : x ≡ y = cc in let rest = same_front m xs ys (cc) in cc
+last-greatest s m xs q is one = let none = (greatest_facts s m (last-is_greatest s m xs is)).1 q in grind (arith, nat_tests)
 
 pub last-rest : (s : BitSet) (m : ℕ) (xs : List ℕ) → ascending s ≡ xs ++ m ∷ [] → xs ≡ ascending (remove s m)
-last-rest s m xs is = same_front m _ _ (sym is ∙ ascending-greatest s m (last-is_greatest s m xs is))
+last-rest s m xs is = sym (without_last-push xs m) ∙ ap without_last (sym is ∙ ascending-greatest s m (last-is_greatest s m xs is)) ∙ without_last-push _ m
 
 pub ruleset firsts = (ascending_empty_iff, first-is_least, first-member, first-least, first-rest, last-is_greatest, last-member, last-greatest, last-rest)
 
@@ -78,18 +64,16 @@ insert_sorted b (x ∷ xs) = cond (nat_lt b x) (b ∷ x ∷ xs) (cond (b == x) (
 
 ascends-insert : (k b : ℕ) (xs : List ℕ) → k ≤ b → AscendsFrom k xs → AscendsFrom k (insert_sorted b xs)
 ascends-insert k b [] within a = (within, tt)
-ascends-insert k b (x ∷ xs) within a = let later = ascends-insert (suc x) b xs in
-    elim (nat_lt b x) as (λ t. nat_lt b x ≡ t → AscendsFrom k (cond t (b ∷ x ∷ xs) (cond (b == x) (x ∷ xs) (x ∷ insert_sorted b xs)))) [
-      | true ↦ λ less. (within, (grind (arith, nat_tests), a.1))
-      | false ↦ λ not. elim (b == x) as (λ t. (b == x) ≡ t → AscendsFrom k (cond t (x ∷ xs) (x ∷ insert_sorted b xs))) [
-        | true ↦ λ same. a
-        | false ↦ λ other. (a.0, later (grind (arith, nat_tests)) a.1)
-      ] refl
-    ] refl
+ascends-insert k b (x ∷ xs) within a = at (nat_lt b x) (b == x) (ascends-insert (suc x) b xs) refl refl where
+  at : (less same : Bool) → (suc x ≤ b → AscendsFrom (suc x) xs → AscendsFrom (suc x) (insert_sorted b xs)) → nat_lt b x ≡ less → (b == x) ≡ same
+      → AscendsFrom k (cond less (b ∷ x ∷ xs) (cond same (x ∷ xs) (x ∷ insert_sorted b xs)))
+  at true same later less other = (within, (grind (arith, nat_tests), a.1))
+  at false true later _ _ = a
+  at false false later less other = (a.0, later (grind (arith, nat_tests)) a.1)
 
 is_in-insert : (q b : ℕ) (xs : List ℕ) → is_in q (insert_sorted b xs) ≡ ((q == b) || is_in q xs)
 is_in-insert q b [] = refl
-is_in-insert q b (x ∷ xs) = let rest = is_in-insert q b xs in grind (arith, nat_tests)
+is_in-insert q b (x ∷ xs) = grind (arith, nat_tests, is_in-insert q b xs)
 
 pub ascending-insert : (s : BitSet) (b : ℕ) → ascending (insert s b) ≡ insert_sorted b (ascending s)
 ascending-insert s b = ascending_is (insert s b) (insert_sorted b (ascending s))

@@ -5,7 +5,7 @@
 --     on_integers      what the calls of an integer need, and those of a representation in its lowest bits, for a
 --         tactic's `using`
 -- In premises, `m ≡ 2 ^ low_zeros 128 m` says that m is a power of two. It computes at a written-out number.
-use Rattle.std.proofs.Common.{◌≡◌, ◌<◌, ◌≤◌, ℕ, suc, ◌+◌, ◌*◌, ◌/◌, ◌%◌, ◌^◌, ◌-◌, sym, ap, ◌∙◌, arith, Bool, true, false, not, refl}
+use Rattle.std.proofs.Common.{◌≡◌, ◌<◌, ◌≤◌, ℕ, suc, ◌+◌, ◌*◌, ◌/◌, ◌%◌, ◌^◌, ◌-◌, sym, ap, ◌∙◌, arith, true, not, refl}
 use Rattle.std.specs.Prelude.{◌==◌, IsTrue}
 use Rattle.std.specs.Ordering.{nat_cmp}
 use Rattle.std.specs.Int.{bit_not, Width, w128}
@@ -61,10 +61,8 @@ pub word-whole : (n i : ℕ) → n < 2 ^ 64 → i < 1 → word (bits n) i ≡ n
 word-whole n i fits first =
     let place : i ≡ 0 = omega (arith, first) in
     let one : n / 1 ≡ n = omega arith in
-    ap (word (bits n)) place ∙ word-bits n 0 ∙ ap (λ m. m % 2 ^ 64) one ∙ below_itself
-  where
-    below_itself : n % 2 ^ 64 ≡ n
-    below_itself = omega (arith, fits)
+    let whole : n % 2 ^ 64 ≡ n = omega (arith, fits) in
+    ap (word (bits n)) place ∙ word-bits n 0 ∙ ap (λ m. m % 2 ^ 64) one ∙ whole
 
 -- `x & MAX` at a width of at most 64 bits
 pub with_word-narrow : (width n i x : ℕ) → width ≤ 64 → is_subset (bits n) (below width) ≡ true → i < 1 → with_word (bits n) width i x ≡ bits (bit_and x (2 ^ width - 1))
@@ -97,13 +95,9 @@ pub ruleset words_wide = (word-shifted, with_word-wide)
 pub bits_one : (k m : ℕ) → m ≡ 2 ^ low_zeros 128 m → k < low_zeros 128 m → bits (1 * 2 ^ k % m) ≡ only k
 bits_one k m e within = ap (λ j. bits (1 * 2 ^ k % j)) e ∙ bits-one (low_zeros 128 m) k within
 
-not_not : (b : Bool) → not (not b) ≡ b
-not_not true = refl
-not_not false = refl
-
 -- `n & (1 << k) != 0`
 pub tests_bit : (n k m : ℕ) → m ≡ 2 ^ low_zeros 128 m → k < low_zeros 128 m → (bit_and n (1 * 2 ^ k % m) == 0) ≡ not (contains (bits n) k)
-tests_bit n k m e within = ap (λ j. bit_and n (1 * 2 ^ k % j) == 0) e ∙ sym (ap not (bits-test (low_zeros 128 m) n k within) ∙ not_not _)
+tests_bit n k m e within = ap (λ j. bit_and n (1 * 2 ^ k % j) == 0) e ∙ grind (arith, nat_tests, bits-test (low_zeros 128 m) n k within)
 
 -- `a & !b`
 pub and_not : (a b m : ℕ) → suc m ≡ 2 ^ low_zeros 128 (suc m) → a ≤ m → b ≤ m → bits (bit_and a (m - b)) ≡ difference (bits a) (bits b)

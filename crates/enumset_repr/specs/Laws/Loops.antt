@@ -1,23 +1,16 @@
 -- The steps of a loop over a set's iterator, whose list of numbers still to come loses its first.
---     from_list-more, find-more, list_any-more, list_all-more      the set of such a list, and tests of it
+--     find-more, list_any-more, list_all-more      tests of such a list
 --     is_subset-list, is_disjoint-list      a subset and disjoint sets as tests of a list
 -- The ruleset `loops` has what the invariant of such a loop needs.
 use Rattle.std.proofs.Common.{◌≡◌, ℕ, Bool, true, false, cond, not, ◌&&◌, ◌||◌, List, [], ◌∷◌, Some, refl, arith}
 use Rattle.std.specs.List.{list_any, list_all, find}
 use Rattle.std.proofs.lemmas.Bool.Decides.{nat_tests}
 use Rattle.std.proofs.lemmas.List.Sums.{sum_by-cons}
-use Rattle.enumset_repr.specs.BitSet.{BitSet, contains, ascending, empty, insert, from_list, intersection, difference, is_subset, is_disjoint}
+use Rattle.enumset_repr.specs.BitSet.{BitSet, contains, ascending, insert, intersection, difference, is_subset, is_disjoint}
 use Rattle.enumset_repr.specs.Laws.Members.{members, same_set}
 use Rattle.enumset_repr.specs.Laws.Algebra.{on_unions, on_differences, on_intersections, on_lists, insert_union, union_insert, insert_inside, difference_inserted}
 use Rattle.enumset_repr.specs.Laws.Counting.{len-kept, len-left}
-
-pub from_list-none : from_list [] ≡ empty
-unfolding from_list
-from_list-none = refl
-
-pub from_list-more : (b : ℕ) (bs : List ℕ) → from_list (b ∷ bs) ≡ insert (from_list bs) b
-unfolding from_list
-from_list-more b bs = refl
+use Rattle.enumset_repr.specs.Laws.Firsts.{from_list-none, from_list-more}
 
 pub find-more : (p : ℕ → Bool) (b : ℕ) (bs : List ℕ) → find p (b ∷ bs) ≡ cond (p b) (Some b) (find p bs)
 find-more p b bs = refl
@@ -34,7 +27,7 @@ is_subset-list s t = refl
 
 not_all : (p : ℕ → Bool) (xs : List ℕ) → list_all (λ b. not (p b)) xs ≡ not (list_any p xs)
 not_all p [] = refl
-not_all p (x ∷ xs) = let rest = not_all p xs in grind (arith, nat_tests)
+not_all p (x ∷ xs) = grind (arith, nat_tests, not_all p xs)
 
 pub is_disjoint-list : (s t : BitSet) → is_disjoint s t ≡ not (list_any (contains t) (ascending s))
 unfolding is_disjoint

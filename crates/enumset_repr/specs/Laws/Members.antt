@@ -6,34 +6,18 @@
 --         intersection
 --     ..-is_subset      operations on subsets of one set give subsets of it;  the ruleset `subsets` has them all
 --     member_below, contains-past      members of sets of numbers below a bound
---     or_swap, none_of, list_all-each      laws of tests
-use Rattle.std.proofs.Common.{◌≡◌, ◌<◌, ◌≤◌, ℕ, suc, zero, Bool, true, false, cond, not, ◌&&◌, ◌||◌, List, [], ◌∷◌, Option, Some, None, refl, sym, ap, subst, true≢false, ◌∙◌, arith, inl, inr}
+--     list_all-each      a test that passes each number of a list
+use Rattle.std.proofs.Common.{◌≡◌, ◌<◌, ◌≤◌, ℕ, suc, zero, Bool, true, false, cond, not, ◌&&◌, ◌||◌, List, [], ◌∷◌, Option, Some, None, refl, sym, ap, subst, true≢false, ◌∙◌, arith}
 use Rattle.std.specs.Prelude.{◌==◌, nat_lt, is_some, ◌↔◌}
 use Rattle.std.specs.List.{list_any, list_all}
 use Rattle.std.specs.Ordering.{nat_cmp}
 use Rattle.std.specs.Cmp.{nat_cmp_total, unsigned_tied}
 use Rattle.std.specs.FinMap as map
 use Rattle.std.proofs.Math.Bool.{or-false}
-use Rattle.std.proofs.lemmas.Bool.{or_cases, ltb-true, and_parts, and_from, or_left, or_right, not-true, not-false, false_from_ne_true, eqb-true, eq-eqb}
+use Rattle.std.proofs.lemmas.Bool.{ltb-true, and_parts, and_from, or_left, or_right, not-true, false_from_ne_true, eq-eqb}
 use Rattle.std.proofs.lemmas.Bool.Decides.{nat_tests, same_from_decides}
 use Rattle.std.specs.declared.cmp.Ordering.TheVariants.{Equal}
 use Rattle.enumset_repr.specs.BitSet.{BitSet, contains, ascending, empty, insert, remove, retain, from_list, insert_each, union, intersection, difference, symmetric_difference, is_subset, is_disjoint, is_same, below, low}
-
--- ---- tests and options
-
-found_or : (b : Bool) (x : Option (Unit {0})) → is_some (cond b (Some tt) x) ≡ (b || is_some x)
-found_or true x = refl
-found_or false x = refl
-
-lost_or : (b : Bool) (x : Option (Unit {0})) → is_some (cond b None x) ≡ (not b && is_some x)
-lost_or true x = refl
-lost_or false x = refl
-
-kept_if : (b : Bool) (x : Option (Unit {0})) → is_some (cond b x None) ≡ (is_some x && b)
-kept_if true None = refl
-kept_if true (Some u) = refl
-kept_if false None = refl
-kept_if false (Some u) = refl
 
 marked : Bool → Option (Unit {0})
 marked b = cond b (Some tt) None
@@ -43,11 +27,6 @@ unfolding marked
 mark_of None = refl
 mark_of (Some u) = refl
 
-pub or_swap : (a b c : Bool) → (a || (b || c)) ≡ (b || (a || c))
-or_swap true true c = refl
-or_swap true false c = refl
-or_swap false b c = refl
-
 -- ---- membership
 
 pub contains-empty : (q : ℕ) → contains empty q ≡ false
@@ -56,18 +35,18 @@ contains-empty q = ap is_some (map.get-empty nat_cmp q)
 
 pub contains-insert : (s : BitSet) (b q : ℕ) → contains (insert s b) q ≡ ((q == b) || contains s q)
 unfolding contains insert
-contains-insert s b q = ap is_some (map.get-insert nat_cmp_total s b tt q) ∙ found_or _ _ ∙ ap (λ t. t || is_some (map.get s q)) (unsigned_tied q b)
+contains-insert s b q = ap is_some (map.get-insert nat_cmp_total s b tt q) ∙ grind (arith, nat_tests, unsigned_tied q b)
 
 pub contains-remove : (s : BitSet) (b q : ℕ) → contains (remove s b) q ≡ (not (q == b) && contains s q)
 unfolding contains remove
-contains-remove s b q = ap is_some (map.get-remove nat_cmp_total s b q) ∙ lost_or _ _ ∙ ap (λ t. not t && is_some (map.get s q)) (unsigned_tied q b)
+contains-remove s b q = ap is_some (map.get-remove nat_cmp_total s b q) ∙ grind (arith, nat_tests, unsigned_tied q b)
 
 alike : (p : ℕ → Bool) (q x : ℕ) → nat_cmp q x ≡ Equal → p x ≡ p q
 alike p q x e = ap p (sym (map.nat_cmp-IsAntisymmetric q x e))
 
 pub contains-retain : (s : BitSet) (p : ℕ → Bool) (q : ℕ) → contains (retain s p) q ≡ (contains s q && p q)
 unfolding contains retain
-contains-retain s p q = ap is_some (map.get-retain_keys s p q (alike p q)) ∙ kept_if (p q) (map.get s q)
+contains-retain s p q = ap is_some (map.get-retain_keys s p q (alike p q)) ∙ grind (arith, nat_tests)
 
 pub contains-ascending : (s : BitSet) (q : ℕ) → contains s q ≡ list_any (λ b. q == b) (ascending s)
 unfolding contains ascending
@@ -75,8 +54,8 @@ contains-ascending s q = map.contains_key-keys s q ∙ ap (λ (f : ℕ → Bool)
 
 pub contains-insert_each : (s : BitSet) (bs : List ℕ) (q : ℕ) → contains (insert_each s bs) q ≡ (contains s q || list_any (λ b. q == b) bs)
 unfolding insert_each
-contains-insert_each s [] q = sym (or-false _)
-contains-insert_each s (b ∷ bs) q = contains-insert _ b q ∙ ap (λ t. (q == b) || t) (contains-insert_each s bs q) ∙ or_swap (q == b) (contains s q) _
+contains-insert_each s [] q = grind (arith, nat_tests)
+contains-insert_each s (b ∷ bs) q = contains-insert _ b q ∙ grind (arith, nat_tests, contains-insert_each s bs q)
 
 pub contains-from_list : (bs : List ℕ) (q : ℕ) → contains (from_list bs) q ≡ list_any (λ b. q == b) bs
 unfolding from_list
@@ -99,17 +78,17 @@ pub contains-symmetric_difference : (s t : BitSet) (q : ℕ) → contains (symme
 unfolding symmetric_difference
 contains-symmetric_difference s t q = contains-union _ _ q ∙ ap (λ b. b || contains (difference t s) q) (contains-difference s t q) ∙ ap (λ b. (contains s q && not (contains t q)) || b) (contains-difference t s q)
 
-one_more_below : (n q : ℕ) → ((q == n) || nat_lt q n) ≡ nat_lt q (suc n)
-one_more_below n q = grind (arith, nat_tests)
-
 pub contains-below : (n q : ℕ) → contains (below n) q ≡ nat_lt q n
 unfolding below
 contains-below zero q = contains-empty q ∙ grind (arith, nat_tests)
-contains-below (suc n) q = contains-insert _ n q ∙ ap (λ t. (q == n) || t) (contains-below n q) ∙ one_more_below n q
+contains-below (suc n) q = contains-insert _ n q ∙ ap (λ t. (q == n) || t) (contains-below n q) ∙ grind (arith, nat_tests)
 
 pub contains-low : (s : BitSet) (n q : ℕ) → contains (low s n) q ≡ (contains s q && nat_lt q n)
 unfolding low
 contains-low s n q = contains-retain s (λ b. nat_lt b n) q
+
+-- What a proof by members needs: `same_set _ _ (λ q. grind (arith, members))`.
+pub ruleset members = (contains-empty, contains-insert, contains-remove, contains-retain, contains-union, contains-intersection, contains-difference, contains-symmetric_difference, contains-below, contains-low)
 
 -- ---- sets with the same members are equal, and a subset by its members
 
@@ -119,21 +98,12 @@ same_set s t is = map.same_map nat_cmp_total map.nat_cmp-IsAntisymmetric s t (λ
 
 list_all-any : (p : ℕ → Bool) (bs : List ℕ) (q : ℕ) → list_all p bs ≡ true → list_any (λ b. q == b) bs ≡ true → p q ≡ true
 list_all-any p [] q all any = absurd (true≢false (sym any))
-list_all-any p (b ∷ bs) q all any =
-    elim (or_cases (q == b) _ any) [
-      | inl here ↦ ap p (eqb-true q b here) ∙ (and_parts (p b) _ all).0
-      | inr later ↦ list_all-any p bs q (and_parts (p b) _ all).1 later
-    ]
+list_all-any p (b ∷ bs) q all any = let later = list_all-any p bs q in grind (arith, nat_tests, later)
 
 pub list_all-each : (p : ℕ → Bool) (bs : List ℕ) → ((q : ℕ) → list_any (λ b. q == b) bs ≡ true → p q ≡ true) → list_all p bs ≡ true
 list_all-each p [] each = refl
 list_all-each p (b ∷ bs) each =
     and_from (p b) _ (each b (or_left (b == b) _ (eq-eqb b b refl))) (list_all-each p bs (λ q one. each q (or_right (q == b) _ one)))
-
--- a conjunction is false if its second part is false wherever the first is true
-pub none_of : (a b : Bool) → (a ≡ true → b ≡ false) → (a && b) ≡ false
-none_of true b h = h refl
-none_of false b h = refl
 
 pub is_subset-contains : (s t : BitSet) → is_subset s t ≡ true → (q : ℕ) → contains s q ≡ true → contains t q ≡ true
 unfolding is_subset
@@ -157,15 +127,15 @@ contains-is_disjoint s t each = list_all-each (λ b. not (contains t b)) (ascend
 -- two sets are disjoint exactly if their intersection is empty
 pub is_disjoint_iff : (s t : BitSet) → (is_disjoint s t ≡ true) ↔ (intersection s t ≡ empty)
 is_disjoint_iff s t = (
-  λ apart. same_set _ _ (λ q. contains-intersection s t q ∙ none_of (contains s q) _ (is_disjoint-contains s t apart q) ∙ sym (contains-empty q)),
-  λ none. contains-is_disjoint s t (λ q in_s. sym (ap (λ b. b && contains t q) in_s) ∙ sym (contains-intersection s t q) ∙ ap (λ u. contains u q) none ∙ contains-empty q),
+  λ apart. same_set _ _ (λ q. let each = is_disjoint-contains s t apart q in grind (arith, members)),
+  λ none. contains-is_disjoint s t (λ q in_s. let here = ap (λ u. contains u q) none in grind (arith, members)),
 )
 
 -- s is a subset of t exactly if nothing of s is outside t
 pub is_subset_iff : (s t : BitSet) → (is_subset s t ≡ true) ↔ (difference s t ≡ empty)
 is_subset_iff s t = (
-  λ sub. same_set _ _ (λ q. contains-difference s t q ∙ none_of (contains s q) _ (λ in_s. ap not (is_subset-contains s t sub q in_s)) ∙ sym (contains-empty q)),
-  λ none. contains-is_subset s t (λ q in_s. not-false _ (sym (ap (λ b. b && not (contains t q)) in_s) ∙ sym (contains-difference s t q) ∙ ap (λ u. contains u q) none ∙ contains-empty q)),
+  λ sub. same_set _ _ (λ q. let each = is_subset-contains s t sub q in grind (arith, members)),
+  λ none. contains-is_subset s t (λ q in_s. let here = ap (λ u. contains u q) none in grind (arith, members)),
 )
 
 -- sets are equal exactly if they have the same members
@@ -180,32 +150,25 @@ is_same_iff s t = (
 
 module _ (v : BitSet) where
   pub empty-is_subset : is_subset empty v ≡ true
-  empty-is_subset = contains-is_subset empty v (λ q h. absurd (true≢false (sym h ∙ contains-empty q)))
+  empty-is_subset = contains-is_subset empty v (λ q one. grind (arith, members))
 
   pub insert-is_subset : (s : BitSet) (b : ℕ) → is_subset s v ≡ true → contains v b ≡ true → is_subset (insert s b) v ≡ true
-  insert-is_subset s b sub in_v = contains-is_subset _ v (λ q h. elim (or_cases _ _ (sym (contains-insert s b q) ∙ h)) [
-    | inl here ↦ ap (contains v) (eqb-true q b here) ∙ in_v
-    | inr there ↦ is_subset-contains s v sub q there
-  ])
+  insert-is_subset s b sub in_v = contains-is_subset _ v (λ q one. let each = is_subset-contains s v sub q in grind (arith, members, nat_tests))
 
   pub remove-is_subset : (s : BitSet) (b : ℕ) → is_subset s v ≡ true → is_subset (remove s b) v ≡ true
-  remove-is_subset s b sub = contains-is_subset _ v (λ q h. is_subset-contains s v sub q (and_parts _ _ (sym (contains-remove s b q) ∙ h)).1)
+  remove-is_subset s b sub = contains-is_subset _ v (λ q one. let each = is_subset-contains s v sub q in grind (arith, members))
 
   pub union-is_subset : (s t : BitSet) → is_subset s v ≡ true → is_subset t v ≡ true → is_subset (union s t) v ≡ true
-  union-is_subset s t sub also = contains-is_subset _ v (λ q h. elim (or_cases _ _ (sym (contains-union s t q) ∙ h)) [
-    | inl here ↦ is_subset-contains s v sub q here
-    | inr there ↦ is_subset-contains t v also q there
-  ])
+  union-is_subset s t sub also = contains-is_subset _ v (λ q one. let each = is_subset-contains s v sub q in let more = is_subset-contains t v also q in grind (arith, members))
 
   pub intersection-is_subset : (s t : BitSet) → is_subset s v ≡ true → is_subset (intersection s t) v ≡ true
-  intersection-is_subset s t sub = contains-is_subset _ v (λ q h. is_subset-contains s v sub q (and_parts _ _ (sym (contains-intersection s t q) ∙ h)).0)
+  intersection-is_subset s t sub = contains-is_subset _ v (λ q one. let each = is_subset-contains s v sub q in grind (arith, members))
 
   pub difference-is_subset : (s t : BitSet) → is_subset s v ≡ true → is_subset (difference s t) v ≡ true
-  difference-is_subset s t sub = contains-is_subset _ v (λ q h. is_subset-contains s v sub q (and_parts _ _ (sym (contains-difference s t q) ∙ h)).0)
+  difference-is_subset s t sub = contains-is_subset _ v (λ q one. let each = is_subset-contains s v sub q in grind (arith, members))
 
   pub symmetric_difference-is_subset : (s t : BitSet) → is_subset s v ≡ true → is_subset t v ≡ true → is_subset (symmetric_difference s t) v ≡ true
-  unfolding symmetric_difference
-  symmetric_difference-is_subset s t sub also = union-is_subset _ _ (difference-is_subset s t sub) (difference-is_subset t s also)
+  symmetric_difference-is_subset s t sub also = contains-is_subset _ v (λ q one. let each = is_subset-contains s v sub q in let more = is_subset-contains t v also q in grind (arith, members))
 
 -- a member of a set of numbers below n is below n
 pub member_below : (s : BitSet) (n b : ℕ) → is_subset s (below n) ≡ true → contains s b ≡ true → b < n
@@ -214,9 +177,6 @@ member_below s n b sub in_s = ltb-true b n (sym (contains-below n b) ∙ is_subs
 -- a number at or past a bound of the members is not a member
 pub contains-past : (s : BitSet) (n b : ℕ) → is_subset s (below n) ≡ true → n ≤ b → contains s b ≡ false
 contains-past s n b sub past = false_from_ne_true (contains s b) (λ in_s. omega (arith, past, member_below s n b sub in_s))
-
--- What a proof by members needs: `same_set _ _ (λ q. grind (arith, members))`.
-pub ruleset members = (contains-empty, contains-insert, contains-remove, contains-retain, contains-union, contains-intersection, contains-difference, contains-symmetric_difference, contains-below, contains-low)
 
 -- What stays within the valid bits: `#[tactic(auto, using(enumset_repr::specs::Laws::Members::subsets))]`.
 pub ruleset subsets = (is_subset-itself, empty-is_subset, insert-is_subset, remove-is_subset, union-is_subset, intersection-is_subset, difference-is_subset, symmetric_difference-is_subset)

@@ -5,14 +5,13 @@
 --     compare-subset      a proper subset is less
 --     compare-turned      for two subsets of one set, their complements in that set compare the other way round
 --     same-compare, compare-partial      what else `PartialOrd` and `Ord` require
-use Rattle.std.proofs.Common.{◌≡◌, ◌≢◌, ◌<◌, ℕ, suc, ◌+◌, ◌*◌, ◌/◌, ◌%◌, ◌^◌, Bool, true, false, cond, not, ◌&&◌, ◌||◌, Option, Some, None, refl, sym, ap, subst, ◌∙◌, arith, true≢false, suc-mul}
-use Rattle.std.specs.Prelude.{◌==◌, ◌↔◌}
+use Rattle.std.proofs.Common.{◌≡◌, ◌≢◌, ◌<◌, ℕ, suc, ◌+◌, ◌*◌, ◌/◌, ◌%◌, ◌^◌, true, false, cond, not, Option, Some, None, refl, sym, ap, subst, ◌∙◌, arith, true≢false, suc-mul}
+use Rattle.std.specs.Prelude.{◌↔◌}
 use Rattle.std.specs.declared.cmp.Ordering.{Ordering}
 use Rattle.std.specs.declared.cmp.Ordering.TheVariants.{Less, Equal, Greater}
 use Rattle.std.specs.Ordering.{MatchOrdering, is_eq, nat_cmp}
 use Rattle.std.specs.Cmp.{IsTotalOrder, IsPartialOrder, strict, one_rank, ranks, below_irrefl, below_chain, partial_order_from_agreeing_total, Equal-is, tied_itself}
 use Rattle.std.specs.Bool.{one_answer}
-use Rattle.std.proofs.lemmas.Bool.{eqb-true}
 use Rattle.std.proofs.lemmas.Bool.Decides.{nat_tests}
 use Rattle.std.proofs.lemmas.Nat.{pow_pos, shr-shr, shr_split, mod_below}
 use Rattle.std.proofs.lemmas.Nat.Bits.{bit_at-lt}
@@ -20,50 +19,35 @@ use Rattle.enumset_repr.specs.BitSet.{BitSet, contains, symmetric_difference, di
 use Rattle.enumset_repr.specs.Ends.{greatest}
 use Rattle.enumset_repr.specs.Number.{number, bits}
 use Rattle.enumset_repr.specs.Order.{deciding_number, by_holder, compare}
-use Rattle.enumset_repr.specs.Laws.Members.{same_set, contains-empty, contains-symmetric_difference, contains-difference, is_subset-contains, is_same_iff}
+use Rattle.enumset_repr.specs.Laws.Members.{members, same_set, contains-symmetric_difference, contains-difference, is_subset-contains, is_same_iff}
 use Rattle.enumset_repr.specs.Laws.Ends.{greatest_facts, ascending-no_greatest}
 use Rattle.enumset_repr.specs.Laws.Ascending.{empty_of_ascending}
 use Rattle.enumset_repr.specs.Laws.Numbers.{contains-bits, contains-bits-shifted, bits-number, number-bits, same_number}
 
 -- ---- by the bits of a number
 
-clear_digit : (d : ℕ) → d < 2 → (d == 1) ≡ false → d ≡ 0
-clear_digit d small clear = grind (arith, nat_tests)
-
 -- of two numbers that agree above bit m, the one without that bit is less than the one with it
 lesser : (n k m : ℕ) → contains (bits n) m ≡ false → contains (bits k) m ≡ true → ((q : ℕ) → m < q → contains (bits n) q ≡ contains (bits k) q) → n < k
 lesser n k m absent present alike =
     let upper : n / 2 ^ (m + 1) ≡ k / 2 ^ (m + 1) = same_number _ _ (λ b. contains-bits-shifted n (m + 1) b ∙ alike (m + 1 + b) (omega arith) ∙ sym (contains-bits-shifted k (m + 1) b)) in
     let halved : n / 2 ^ m / 2 ≡ k / 2 ^ m / 2 = shr-shr n m 1 ∙ upper ∙ sym (shr-shr k m 1) in
-    let clear : n / 2 ^ m % 2 ≡ 0 = clear_digit _ (bit_at-lt n m) (sym (contains-bits n m) ∙ absent) in
-    let one : k / 2 ^ m % 2 ≡ 1 = eqb-true _ 1 (sym (contains-bits k m) ∙ present) in
+    let clear : n / 2 ^ m % 2 ≡ 0 = grind (arith, nat_tests, bit_at-lt n m, contains-bits n m) in
+    let one : k / 2 ^ m % 2 ≡ 1 = grind (arith, nat_tests, contains-bits k m) in
     let next : k / 2 ^ m ≡ suc (n / 2 ^ m) = omega (arith, halved, clear, one) in
     let more : k / 2 ^ m * 2 ^ m ≡ n / 2 ^ m * 2 ^ m + 2 ^ m = ap (λ q. q * 2 ^ m) next ∙ omega (arith, suc-mul (n / 2 ^ m) (2 ^ m)) in
     omega (arith, more, shr_split n m, shr_split k m, mod_below n (2 ^ m) (pow_pos m))
 
 -- ---- by the members of two sets
 
-agrees : (a b : Bool) → ((a && not b) || (b && not a)) ≡ false → a ≡ b
-agrees true true none = refl
-agrees true false none = none
-agrees false true none = sym none
-agrees false false none = refl
-
-differs : (a b : Bool) → ((a && not b) || (b && not a)) ≡ true → b ≡ not a
-differs true true one = sym one
-differs true false one = refl
-differs false true one = refl
-differs false false one = absurd (true≢false (sym one))
-
 -- the number that decides between two sets is in exactly one of them
 differs_at : (s t : BitSet) (m : ℕ) → deciding_number s t ≡ Some m → contains t m ≡ not (contains s m)
-differs_at s t m some = differs _ _ (sym (contains-symmetric_difference s t m) ∙ (greatest_facts _ m some).0)
+differs_at s t m some = let held = (greatest_facts _ m some).0 in grind (arith, nat_tests, contains-symmetric_difference s t m)
 
 agrees_above : (s t : BitSet) (m : ℕ) → deciding_number s t ≡ Some m → (q : ℕ) → m < q → contains s q ≡ contains t q
-agrees_above s t m some q over = agrees _ _ (sym (contains-symmetric_difference s t q) ∙ (greatest_facts _ m some).1 q over)
+agrees_above s t m some q over = let none = (greatest_facts _ m some).1 q over in grind (arith, nat_tests, contains-symmetric_difference s t q)
 
 same_of_none : (s t : BitSet) → deciding_number s t ≡ None → s ≡ t
-same_of_none s t none = same_set s t (λ q. agrees _ _ (sym (contains-symmetric_difference s t q) ∙ ap (λ u. contains u q) (empty_of_ascending _ (ascending-no_greatest _ none)) ∙ contains-empty q))
+same_of_none s t none = same_set s t (λ q. let lost = ap (λ u. contains u q) (empty_of_ascending _ (ascending-no_greatest _ none)) in grind (arith, members, nat_tests))
 
 -- of two sets that agree above m, the one without m has the lesser number
 lesser_set : (s t : BitSet) (m : ℕ) → contains s m ≡ false → contains t m ≡ true → ((q : ℕ) → m < q → contains s q ≡ contains t q) → number s < number t
@@ -131,32 +115,13 @@ unfolding compare
 compare-subset s t = subset_by s t (deciding_number s t) refl
 
 -- for two subsets of u: their complements in u differ exactly where they do
-lacks_at : (a b c : Bool) → (a ≡ true → c ≡ true) → (b ≡ true → c ≡ true) → (((c && not a) && not (c && not b)) || ((c && not b) && not (c && not a))) ≡ ((b && not a) || (a && not b))
-lacks_at true true true p q = refl
-lacks_at true false true p q = refl
-lacks_at false true true p q = refl
-lacks_at false false true p q = refl
-lacks_at true b false p q = absurd (true≢false (sym (p refl)))
-lacks_at false true false p q = absurd (true≢false (sym (q refl)))
-lacks_at false false false p q = refl
-
 lacks : (u s t : BitSet) → is_subset s u ≡ true → is_subset t u ≡ true → symmetric_difference (difference u s) (difference u t) ≡ symmetric_difference t s
-lacks u s t sub also = same_set _ _
-    (λ q. contains-symmetric_difference _ _ q
-    ∙ (λ i. (contains-difference u s q i && not (contains-difference u t q i)) || (contains-difference u t q i && not (contains-difference u s q i)))
-    ∙ lacks_at _ _ _ (is_subset-contains s u sub q) (is_subset-contains t u also q) ∙ sym (contains-symmetric_difference t s q))
-
--- a number in exactly one of two subsets of u is in the complement of the one that lacks it
-held_at : (a b c : Bool) → (a ≡ true → c ≡ true) → (b ≡ true → c ≡ true) → a ≡ not b → (c && not a) ≡ b
-held_at true true c p q apart = absurd (true≢false apart)
-held_at true false c p q apart = ap (λ d. d && false) (p refl)
-held_at false true c p q apart = ap (λ d. d && true) (q refl)
-held_at false false c p q apart = absurd (true≢false (sym apart))
+lacks u s t sub also = same_set _ _ (λ q. let each = is_subset-contains s u sub q in let more = is_subset-contains t u also q in grind (arith, members))
 
 turned_by : (u s t : BitSet) (o : Option ℕ) → deciding_number t s ≡ o → is_subset s u ≡ true → is_subset t u ≡ true → by_holder (difference u s) o ≡ by_holder t o
 turned_by u s t None none sub also = refl
 turned_by u s t (Some m) some sub also =
-    ap (λ b. cond b Greater Less) (contains-difference u s m ∙ held_at _ _ _ (is_subset-contains s u sub m) (is_subset-contains t u also m) (differs_at t s m some))
+    let each = is_subset-contains s u sub m in let more = is_subset-contains t u also m in let apart = differs_at t s m some in grind (arith, nat_tests, contains-difference u s m)
 
 -- for two subsets of u, their complements in u compare the other way round
 pub compare-turned : (u s t : BitSet) → is_subset s u ≡ true → is_subset t u ≡ true → compare (difference u s) (difference u t) ≡ compare t s
@@ -170,3 +135,5 @@ same-compare s t = one_answer (is_same s t) (is_eq (compare s t)) (λ tie. (comp
 
 pub compare-partial : IsPartialOrder is_same (λ s t. Some (compare s t))
 compare-partial = partial_order_from_agreeing_total compare compare-total (λ s t. refl) same-compare
+
+pub ruleset orders = (compare-total, compare-same, compare-subset, compare-turned, compare-number)

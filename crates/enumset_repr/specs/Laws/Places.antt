@@ -8,7 +8,7 @@
 use Rattle.std.proofs.Common.{◌≡◌, ◌<◌, ℕ, suc, zero, Bool, true, false, cond, List, [], ◌∷◌, Option, Some, None, length, refl, sym, ap, ◌∙◌, arith, true≢false, ◌↔◌}
 use Rattle.std.specs.Prelude.{◌==◌, SomeIndex, slice_index, MatchOption}
 use Rattle.std.specs.List.{slice_index_or, find}
-use Rattle.std.proofs.lemmas.Bool.{false_from_ne_true, not-true, and_parts, or_left, or_right, eq-eqb, eqb-true}
+use Rattle.std.proofs.lemmas.Bool.{false_from_ne_true, not-true, and_parts, or_left, or_right, eq-eqb}
 use Rattle.std.proofs.lemmas.Bool.Decides.{nat_tests}
 use Rattle.enumset_repr.specs.BitSet.{BitSet, is_in, contains, ascending, intersection, difference, is_subset, is_disjoint}
 use Rattle.enumset_repr.specs.Laws.Members.{contains-ascending, contains-intersection, contains-difference, is_subset-contains, is_disjoint-contains, is_disjoint_iff}
@@ -23,10 +23,7 @@ place_in q (x ∷ xs) = cond (q == x) 0 (suc (place_in q xs))
 
 placed : (q d : ℕ) (xs : List ℕ) → is_in q xs ≡ true → (place_in q xs < length xs) × (slice_index_or xs (place_in q xs) d ≡ q)
 placed q d [] one = absurd (true≢false (sym one))
-placed q d (x ∷ xs) one = elim (q == x) as (λ t. (q == x) ≡ t → (cond t 0 (suc (place_in q xs)) < suc (length xs)) × (slice_index_or (x ∷ xs) (cond t 0 (suc (place_in q xs))) d ≡ q)) [
-  | true ↦ λ here. (omega arith, sym (eqb-true q x here))
-  | false ↦ λ other. let later = placed q d xs (grind (arith, nat_tests)) in (omega (arith, later.0), later.1)
-] refl
+placed q d (x ∷ xs) one = let later = placed q d xs in grind (arith, nat_tests)
 
 unfoldable pub place : BitSet → ℕ → ℕ
 place s q = place_in q (ascending s)

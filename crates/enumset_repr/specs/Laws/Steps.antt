@@ -1,12 +1,11 @@
 -- A step from an end of a list, which yields an item and leaves the others.
 --     last-push, without_last-push      the last item of a list with one item pushed, and the list without it
---     gives_first, gives_last      a step yields `first` of a list and leaves `without_first`;  or `last` and
---         `without_last`
+--     gives_last      a step from the end yields `last` of a list and leaves `without_last`
 use Rattle.std.proofs.Common.{◌≡◌, ℕ, ◌-◌, List, [], ◌∷◌, ◌++◌, length, take, length-append, refl, sym, ap, ◌∙◌, arith}
 use Rattle.std.specs.Prelude.{Option, Some, None, MatchOption}
 use Rattle.std.specs.List.{last_or}
 use Rattle.std.proofs.Math.Seq.{take-append_seam}
-use Rattle.enumset_repr.specs.Ends.{first, last, without_first, without_last}
+use Rattle.enumset_repr.specs.Ends.{last, without_last}
 
 last_or-push : (o : Option ℕ) (xs : List ℕ) (x : ℕ) → last_or o (xs ++ x ∷ []) ≡ Some x
 last_or-push o [] x = refl
@@ -20,10 +19,6 @@ one_less xs x = omega (arith, length-append xs (x ∷ []))
 
 pub without_last-push : (xs : List ℕ) (x : ℕ) → without_last (xs ++ x ∷ []) ≡ xs
 without_last-push xs x = ap (λ n. take n (xs ++ x ∷ [])) (one_less xs x) ∙ take-append_seam xs (x ∷ [])
-
-pub gives_first : (xs : List ℕ) (r : Option ℕ) (ys : List ℕ) → MatchOption r ((xs ≡ []) × (ys ≡ [])) (λ x. xs ≡ x ∷ ys) → (r ≡ first xs) × (ys ≡ without_first xs)
-gives_first xs None ys step = (sym (ap first step.0), step.1 ∙ sym (ap without_first step.0))
-gives_first xs (Some x) ys step = (sym (ap first step), sym (ap without_first step))
 
 pub gives_last : (xs : List ℕ) (r : Option ℕ) (ys : List ℕ) → MatchOption r ((xs ≡ []) × (ys ≡ [])) (λ x. xs ≡ ys ++ x ∷ []) → (r ≡ last xs) × (ys ≡ without_last xs)
 gives_last xs None ys step = (sym (ap last step.0), step.1 ∙ sym (ap without_last step.0))

@@ -1,7 +1,6 @@
 -- Lists of words of 64 bits: the set of a list, and the words of a set.
 --     contains-bits_of      64 w + b is a member exactly if b is a bit of the word at place w
 --     by_word      a fact about a number, by its word and its bit in the word
---     same_place      numbers with the same word and the same bit in the word are equal
 --     contains-zero      the word 0 has no bit
 --     word-bits_of, words-bits_of      the words of the set of a list are the list's
 --     word-empty      each word of the empty set is 0
@@ -15,11 +14,10 @@
 --     number-word      the number of the members below 64, by the one word
 --     bits_of-halves, number-words      a number of 128 bits, and its two words
 --     low-same_words      a set is below a width if a cut there leaves each word as it is
-use Rattle.std.proofs.Common.{◌≡◌, ◌<◌, ◌≤◌, ◌⊎◌, inl, inr, ℕ, suc, zero, ◌+◌, ◌-◌, ◌*◌, ◌/◌, ◌%◌, ◌^◌, Bool, true, false, ◌&&◌, ◌||◌, not, List, [], ◌∷◌, ◌++◌, length, refl, sym, ap, ◌∙◌, subst, arith, mod-lt, true≢false}
-use Rattle.std.proofs.Math.Bool.{or-false, and-true, and-false}
+use Rattle.std.proofs.Common.{◌≡◌, ◌<◌, ◌≤◌, ◌⊎◌, inl, inr, ℕ, suc, zero, ◌+◌, ◌-◌, ◌*◌, ◌/◌, ◌%◌, ◌^◌, true, false, ◌&&◌, List, [], ◌∷◌, ◌++◌, length, refl, sym, ap, ◌∙◌, subst, arith, mod-lt}
 use Rattle.std.proofs.Math.Nat.{div-add-mod}
-use Rattle.std.specs.Prelude.{◌==◌, nat_lt, nat_le, slice_index, sum_by, filter}
-use Rattle.std.proofs.lemmas.Bool.{cases_lt, lt-ltb, le-ltb}
+use Rattle.std.specs.Prelude.{nat_lt, nat_le, slice_index, sum_by, filter}
+use Rattle.std.proofs.lemmas.Bool.{cases_lt}
 use Rattle.std.proofs.lemmas.Bool.Decides.{nat_tests}
 use Rattle.std.proofs.lemmas.Grind.{same_number_lists}
 use Rattle.std.proofs.lemmas.List.{get_or_past}
@@ -29,7 +27,7 @@ use Rattle.enumset_repr.specs.Number.{bits, number}
 use Rattle.enumset_repr.specs.Words.{word, words, bits_of, is_in_word, with_word, upward_shift}
 use Rattle.enumset_repr.specs.Laws.Ascending.{ascending-empty}
 use Rattle.enumset_repr.specs.Laws.Members.{same_set, contains-empty, contains-union, contains-below, contains-low, contains-is_subset, contains-past}
-use Rattle.enumset_repr.specs.Laws.Numbers.{number-bits, bits-zero, bits-within, number-within}
+use Rattle.enumset_repr.specs.Laws.Numbers.{same_number, number-bits, bits-zero, bits-within, number-within}
 use Rattle.enumset_repr.specs.Laws.Words.{contains-upward_shift, contains-bits-word, contains-with_word, word-bits}
 use Rattle.enumset_repr.specs.Laws.Low.{within_from_low, low_within}
 
@@ -39,16 +37,6 @@ use Rattle.enumset_repr.specs.Laws.Low.{within_from_low, low_within}
 pub contains-bits_above : (n k b : ℕ) → n < 2 ^ k → k ≤ b → contains (bits n) b ≡ false
 contains-bits_above n k b small past = contains-past (bits n) k b (bits-within n k small) past
 
-pub contains-raised_from : (s : BitSet) (k q : ℕ) → k ≤ q → contains (upward_shift s k) q ≡ contains s (q - k)
-contains-raised_from s k q h =
-    let reached : nat_le k q ≡ true = grind (arith, nat_tests, h) in
-    contains-upward_shift s k q ∙ ap (λ t. t && contains s (q - k)) reached
-
-pub contains-raised_lower : (s : BitSet) (k q : ℕ) → q < k → contains (upward_shift s k) q ≡ false
-contains-raised_lower s k q h =
-    let under : nat_le k q ≡ false = grind (arith, nat_tests, h) in
-    contains-upward_shift s k q ∙ ap (λ t. t && contains s (q - k)) under
-
 -- ---- the set of a list of words
 
 -- the bits of the word at place w, each 64 w + b
@@ -57,16 +45,13 @@ unfolding bits_of
 contains-bits_of [] w b fit small = contains-empty _ ∙ sym (ap (λ s. contains s b) bits-zero ∙ contains-empty b)
 contains-bits_of (n ∷ ns) zero b fit small =
     let here : 64 * zero + b ≡ b = omega arith in
-    ap (contains (bits_of (n ∷ ns))) here ∙ contains-union (bits n) (upward_shift (bits_of ns) 64) b
-    ∙ ap (λ t. contains (bits n) b || t) (contains-raised_lower (bits_of ns) 64 b small) ∙ or-false _
+    ap (contains (bits_of (n ∷ ns))) here ∙ contains-union (bits n) (upward_shift (bits_of ns) 64) b ∙ grind (arith, nat_tests, contains-upward_shift (bits_of ns) 64 b)
 contains-bits_of (n ∷ ns) (suc w) b fit small =
     let q : ℕ = 64 * suc w + b in
     let lower : q - 64 ≡ 64 * w + b = omega arith in
-    let from : 64 ≤ q = omega arith in
-    contains-union (bits n) (upward_shift (bits_of ns) 64) q
-    ∙ (λ i. contains-bits_above n 64 q (fit zero) from i || contains-raised_from (bits_of ns) 64 q from i)
-    ∙ ap (contains (bits_of ns)) lower
-    ∙ contains-bits_of ns w b (λ i. fit (suc i)) small
+    let here = ap (contains (bits_of ns)) lower ∙ contains-bits_of ns w b (λ i. fit (suc i)) small in
+    let none = contains-bits_above n 64 q (fit zero) (omega arith) in
+    contains-union (bits n) (upward_shift (bits_of ns) 64) q ∙ grind (arith, nat_tests, contains-upward_shift (bits_of ns) 64 q)
 
 pub at_word : (q : ℕ) → 64 * (q / 64) + q % 64 ≡ q
 at_word q = div-add-mod q 64
@@ -81,26 +66,14 @@ by_word P each q = subst P (at_word q) (each (q / 64) (q % 64) (in_word q))
 pub contains-zero : (n b : ℕ) → n ≡ 0 → contains (bits n) b ≡ false
 contains-zero n b zero_word = ap (λ m. contains (bits m) b) zero_word ∙ ap (λ s. contains s b) bits-zero ∙ contains-empty b
 
-pub same_place : (i b w r : ℕ) → b < 64 → r < 64 → ((64 * w + r) == (64 * i + b)) ≡ ((w == i) && (r == b))
-same_place i b w r h k = grind (arith, nat_tests)
-
 -- ---- its words
 
 -- a word below 2 ^ 64 is determined by its bits below 64
 same_word : (x y : ℕ) → x < 2 ^ 64 → ((b : ℕ) → contains (bits y) b ≡ (contains (bits x) b && nat_lt b 64)) → y ≡ x
-same_word x y small each =
-    sym (number-bits y) ∙ ap number (same_set (bits y) (bits x) (λ b. each b ∙ at b (cases_lt b 64))) ∙ number-bits x
-  where
-    at : (b : ℕ) → (b < 64) ⊎ (64 ≤ b) → (contains (bits x) b && nat_lt b 64) ≡ contains (bits x) b
-    at b (inl low) = ap (λ t. contains (bits x) b && t) (lt-ltb b 64 low) ∙ and-true (contains (bits x) b)
-    at b (inr past) = ap (λ t. t && nat_lt b 64) (contains-bits_above x 64 b small past) ∙ sym (contains-bits_above x 64 b small past)
+same_word x y small each = same_number y x (λ b. let above = contains-bits_above x 64 b small in each b ∙ grind (arith, nat_tests))
 
 pub word-bits_of : (ws : List ℕ) (w : ℕ) → ((i : ℕ) → slice_index ws i < 2 ^ 64) → word (bits_of ws) w ≡ slice_index ws w
-word-bits_of ws w fit = same_word (slice_index ws w) (word (bits_of ws) w) (fit w) (λ b. contains-bits-word (bits_of ws) w b ∙ at b (cases_lt b 64))
-  where
-    at : (b : ℕ) → (b < 64) ⊎ (64 ≤ b) → (contains (bits_of ws) (64 * w + b) && nat_lt b 64) ≡ (contains (bits (slice_index ws w)) b && nat_lt b 64)
-    at b (inl low) = ap (λ t. t && nat_lt b 64) (contains-bits_of ws w b fit low)
-    at b (inr past) = ap (λ t. contains (bits_of ws) (64 * w + b) && t) (le-ltb b 64 past) ∙ and-false _ ∙ sym (ap (λ t. contains (bits (slice_index ws w)) b && t) (le-ltb b 64 past) ∙ and-false _)
+word-bits_of ws w fit = same_word (slice_index ws w) (word (bits_of ws) w) (fit w) (λ b. let here = contains-bits_of ws w b fit in contains-bits-word (bits_of ws) w b ∙ grind (arith, nat_tests))
 
 -- the first list may lack zeros at the end of the second
 pub words-bits_of : (us ws : List ℕ) → ((i : ℕ) → slice_index us i < 2 ^ 64) → ((i : ℕ) → slice_index us i ≡ slice_index ws i) → words (bits_of us) (length ws) ≡ ws
@@ -139,10 +112,7 @@ slice_index-words_past s n i past = get_or_past (words s n) i 0 (omega (arith, p
 
 -- a word is a number of 64 bits
 pub word-small : (s : BitSet) (w : ℕ) → word s w < 2 ^ 64
-word-small s w = subst (λ n. n < 2 ^ 64) (number-bits (word s w)) (number-within (bits (word s w)) 64 (contains-is_subset _ _ (λ b one. contains-below 64 b ∙ under b one)))
-  where
-    under : (b : ℕ) → contains (bits (word s w)) b ≡ true → nat_lt b 64 ≡ true
-    under b one = let cut = contains-bits-word s w b in grind (arith, cut, one)
+word-small s w = subst (λ n. n < 2 ^ 64) (number-bits (word s w)) (number-within (bits (word s w)) 64 (contains-is_subset _ _ (λ b one. let cut = contains-bits-word s w b in grind (arith, contains-below 64 b))))
 
 words_fit : (s : BitSet) (n i : ℕ) → slice_index (words s n) i < 2 ^ 64
 words_fit s n i = elim (cases_lt i n) [
@@ -155,26 +125,19 @@ bits_of-words s n = same_set _ _ (by_word (λ q. contains (bits_of (words s n)) 
     contains-bits_of (words s n) w b (words_fit s n) small ∙ at w b small (cases_lt w n) ∙ sym (contains-low s (64 * n) (64 * w + b))))
   where
     at : (w b : ℕ) → b < 64 → (w < n) ⊎ (n ≤ w) → contains (bits (slice_index (words s n) w)) b ≡ (contains s (64 * w + b) && nat_lt (64 * w + b) (64 * n))
-    at w b small (inl under) =
-        let inside : nat_lt (64 * w + b) (64 * n) ≡ true = lt-ltb _ _ (omega (arith, under, small)) in
-        ap (λ x. contains (bits x) b) (slice_index-words s n w under) ∙ contains-bits-word s w b ∙ (λ i. contains s (64 * w + b) && (lt-ltb b 64 small ∙ sym inside) i)
-    at w b small (inr past) =
-        let outside : nat_lt (64 * w + b) (64 * n) ≡ false = le-ltb _ _ (omega (arith, past)) in
-        contains-zero _ b (slice_index-words_past s n w past) ∙ sym (ap (λ t. contains s (64 * w + b) && t) outside ∙ and-false _)
+    at w b small (inl under) = ap (λ x. contains (bits x) b) (slice_index-words s n w under) ∙ contains-bits-word s w b ∙ grind (arith, nat_tests)
+    at w b small (inr past) = contains-zero _ b (slice_index-words_past s n w past) ∙ grind (arith, nat_tests)
 
 -- ---- the words past a width
 
 pub word-past : (s : BitSet) (n w : ℕ) → is_subset s (below n) ≡ true → n ≤ 64 * w → word s w ≡ 0
-word-past s n w within past = same_word 0 (word s w) (omega arith) (λ b. contains-bits-word s w b ∙ ap (λ t. t && nat_lt b 64)
-    (contains-past s n (64 * w + b) within (omega (arith, past)) ∙ sym (contains-zero 0 b refl)))
+word-past s n w within past = same_word 0 (word s w) (omega arith) (λ b.
+    let none = contains-past s n (64 * w + b) within (omega (arith, past)) in contains-bits-word s w b ∙ grind (arith, contains-zero 0 b refl))
 
 pub within_words : (s : BitSet) (n : ℕ) → ((w : ℕ) → n ≤ w → word s w ≡ 0) → is_subset s (below (64 * n)) ≡ true
-within_words s n none = contains-is_subset _ _ (by_word (λ q. contains s q ≡ true → contains (below (64 * n)) q ≡ true) (λ w b small one. contains-below _ _ ∙ at w b small one (cases_lt w n)))
-  where
-    at : (w b : ℕ) → b < 64 → contains s (64 * w + b) ≡ true → (w < n) ⊎ (n ≤ w) → nat_lt (64 * w + b) (64 * n) ≡ true
-    at w b small one (inl under) = lt-ltb _ _ (omega (arith, under, small))
-    at w b small one (inr past) = absurd (true≢false (
-        sym one ∙ sym (and-true _) ∙ ap (λ t. contains s (64 * w + b) && t) (sym (lt-ltb b 64 small)) ∙ sym (contains-bits-word s w b) ∙ contains-zero _ b (none w past)))
+within_words s n none = contains-is_subset _ _ (by_word (λ q. contains s q ≡ true → contains (below (64 * n)) q ≡ true) (λ w b small one.
+    let past = λ (from : n ≤ w). contains-zero (word s w) b (none w from) in
+    contains-below (64 * n) (64 * w + b) ∙ grind (arith, nat_tests, contains-bits-word s w b)))
 
 pub bits_of-within : (ws : List ℕ) → ((i : ℕ) → slice_index ws i < 2 ^ 64) → is_subset (bits_of ws) (below (64 * length ws)) ≡ true
 bits_of-within ws fit = within_words (bits_of ws) (length ws) (λ w past. word-bits_of ws w fit ∙ get_or_past ws w 0 past)
@@ -183,40 +146,19 @@ bits_of-within ws fit = within_words (bits_of ws) (length ws) (λ w past. word-b
 
 -- the bits of a word of a set, shifted to their places in the set
 word_there : (s : BitSet) (i q : ℕ) → (nat_le (64 * i) q && contains (bits (word s i)) (q - 64 * i)) ≡ (contains s q && is_in_word i q)
-word_there s i q = elim (cases_lt q (64 * i)) [
-  | inl under ↦ let none : nat_le (64 * i) q ≡ false = grind (arith, nat_tests, under) in
-      ap (λ t. t && contains (bits (word s i)) (q - 64 * i)) none ∙ sym (ap (λ t. contains s q && (t && nat_lt q (64 * i + 64))) none ∙ and-false _)
-  | inr from ↦ let all : nat_le (64 * i) q ≡ true = grind (arith, nat_tests, from) in
-      let place : 64 * i + (q - 64 * i) ≡ q = omega (arith, from) in
-      let short : nat_lt (q - 64 * i) 64 ≡ nat_lt q (64 * i + 64) = grind (arith, nat_tests, from) in
-      ap (λ t. t && contains (bits (word s i)) (q - 64 * i)) all ∙ contains-bits-word s i (q - 64 * i)
-      ∙ (λ j. contains s (place j) && short j) ∙ sym (ap (λ t. contains s q && (t && nat_lt q (64 * i + 64))) all)
-]
-
-one_more : (width i q : ℕ) (c : Bool) → ((((c && nat_lt q (64 * i)) && nat_lt q width) && not (is_in_word i q)) || ((c && is_in_word i q) && nat_lt q width)) ≡ ((c && nat_lt q (64 * (i + 1))) && nat_lt q width)
-one_more width i q c = grind (arith, nat_tests)
+word_there s i q =
+    let place = λ (from : 64 * i ≤ q). let e : 64 * i + (q - 64 * i) ≡ q = omega (arith, from) in ap (contains s) e in
+    grind (arith, nat_tests, contains-bits-word s i (q - 64 * i))
 
 pub put_next : (s : BitSet) (width i : ℕ) → with_word (low (low s (64 * i)) width) width i (word s i) ≡ low (low s (64 * (i + 1))) width
-put_next s width i = same_set _ _ (λ q.
-    contains-with_word (low (low s (64 * i)) width) width i (word s i) q
-    ∙ (λ j. (low_twice (64 * i) q j && not (is_in_word i q)) || (word_there s i q j && nat_lt q width))
-    ∙ one_more width i q (contains s q) ∙ sym (low_twice (64 * (i + 1)) q))
-  where
-    low_twice : (n q : ℕ) → contains (low (low s n) width) q ≡ ((contains s q && nat_lt q n) && nat_lt q width)
-    low_twice n q = contains-low (low s n) width q ∙ ap (λ t. t && nat_lt q width) (contains-low s n q)
+put_next s width i = same_set _ _ (λ q. grind (arith, nat_tests, contains-low, contains-with_word, word_there s i q))
 
 -- a set is below a width if a cut there leaves each of its words as it is
 pub low-same_words : (s : BitSet) (width n : ℕ) → is_subset s (below (64 * n)) ≡ true → ((w : ℕ) → w < n → word (low s width) w ≡ word s w) → is_subset s (below width) ≡ true
-low-same_words s width n within same = within_from_low s width (same_set _ _ (by_word (λ q. contains (low s width) q ≡ contains s q) (λ w b small. at w b small (cases_lt w n))))
-  where
-    by_bit : (t : BitSet) (w b : ℕ) → b < 64 → contains t (64 * w + b) ≡ contains (bits (word t w)) b
-    by_bit t w b small = sym (contains-bits-word t w b ∙ ap (λ u. contains t (64 * w + b) && u) (lt-ltb b 64 small) ∙ and-true _)
-
-    at : (w b : ℕ) → b < 64 → (w < n) ⊎ (n ≤ w) → contains (low s width) (64 * w + b) ≡ contains s (64 * w + b)
-    at w b small (inl under) = by_bit (low s width) w b small ∙ ap (λ x. contains (bits x) b) (same w under) ∙ sym (by_bit s w b small)
-    at w b small (inr past) =
-        let none : contains s (64 * w + b) ≡ false = contains-past s (64 * n) (64 * w + b) within (omega (arith, past)) in
-        contains-low s width (64 * w + b) ∙ ap (λ t. t && nat_lt (64 * w + b) width) none ∙ sym none
+low-same_words s width n within same = within_from_low s width (same_set _ _ (by_word (λ q. contains (low s width) q ≡ contains s q) (λ w b small.
+    let here = λ (under : w < n). ap (λ x. contains (bits x) b) (same w under) in
+    let past = contains-past s (64 * n) (64 * w + b) within in
+    grind (arith, nat_tests, contains-bits-word (low s width) w b, contains-bits-word s w b, contains-low s width (64 * w + b)))))
 
 -- ---- one word, and two
 

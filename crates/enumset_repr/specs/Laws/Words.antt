@@ -4,32 +4,26 @@
 --     word-bits      a word of a number's set
 --     bits-shifted_up      the set of `n << k`
 --     bits-put_low, bits-put_word      the set of a number after one of its words was replaced
-use Rattle.std.proofs.Common.{◌≡◌, ◌<◌, ◌≤◌, ℕ, suc, ◌+◌, ◌-◌, ◌*◌, ◌/◌, ◌%◌, ◌^◌, Bool, true, false, not, ◌&&◌, ◌||◌, List, [], ◌∷◌, refl, sym, ap, ◌∙◌, arith, inl, inr, ◌⊎◌, map, cond}
-use Rattle.std.specs.Prelude.{◌==◌, nat_lt, nat_le, sum_by, filter}
+use Rattle.std.proofs.Common.{◌≡◌, ◌<◌, ◌≤◌, ℕ, suc, ◌+◌, ◌-◌, ◌*◌, ◌/◌, ◌%◌, ◌^◌, Bool, true, false, not, ◌&&◌, ◌||◌, List, [], ◌∷◌, refl, sym, ap, ◌∙◌, arith, map, cond}
+use Rattle.std.specs.Prelude.{nat_lt, nat_le, sum_by, filter}
 use Rattle.std.specs.Int.{bit_at}
 use Rattle.std.specs.Int.RustNames.{bit_and, bit_or}
-use Rattle.std.proofs.Math.Bool.{and-false, and-or_distrib_left, and-or_distrib_right}
-use Rattle.std.proofs.lemmas.Bool.{cases_lt}
 use Rattle.std.proofs.lemmas.Bool.Decides.{nat_tests}
 use Rattle.std.proofs.lemmas.List.Sums.{sum_by-cons}
 use Rattle.std.proofs.lemmas.Nat.{pow_pos, mod_below}
 use Rattle.std.proofs.lemmas.Nat.Bits.{bit_at_cat_low, bit_at_cat_high, bit_at-zero}
-use Rattle.enumset_repr.specs.BitSet.{is_in, BitSet, contains, ascending, from_list, union, difference, is_subset, below, low}
+use Rattle.enumset_repr.specs.BitSet.{is_in, BitSet, contains, ascending, from_list, union, is_subset, below, low}
 use Rattle.enumset_repr.specs.Number.{number, bits}
 use Rattle.enumset_repr.specs.Words.{is_in_word, word, upward_shift, with_word}
-use Rattle.enumset_repr.specs.Laws.Members.{same_set, contains-ascending, contains-retain, contains-from_list, contains-union, contains-difference, contains-low, contains-below, none_of, member_below}
-use Rattle.enumset_repr.specs.Laws.Ascending.{AscendsFrom, ascending-ascends, ascending_is}
+use Rattle.enumset_repr.specs.Laws.Members.{same_set, contains-ascending, contains-retain, contains-from_list, contains-union, contains-difference, contains-low, contains-below, member_below}
+use Rattle.enumset_repr.specs.Laws.Ascending.{AscendsFrom, ascends_lower, ascending-ascends, ascending_is}
 use Rattle.enumset_repr.specs.Laws.Numbers.{contains-bits, bits-number, same_number, bits_full, bits-within, bits-low, bits-or, bits-and_not, contains-bits-shifted}
 
 -- ---- a set shifted upward
 
-raised_test : (k q b : ℕ) → (q == k + b) ≡ (nat_le k q && (q - k == b))
-raised_test k q b = grind (arith, nat_tests)
-
 is_in-upward_shift : (k q : ℕ) (bs : List ℕ) → is_in q (map (λ b. k + b) bs) ≡ (nat_le k q && is_in (q - k) bs)
-is_in-upward_shift k q [] = sym (and-false (nat_le k q))
-is_in-upward_shift k q (b ∷ bs) =
-    (λ i. raised_test k q b i || is_in-upward_shift k q bs i) ∙ sym (and-or_distrib_left (nat_le k q) (q - k == b) (is_in (q - k) bs))
+is_in-upward_shift k q [] = grind (arith, nat_tests)
+is_in-upward_shift k q (b ∷ bs) = grind (arith, nat_tests, is_in-upward_shift k q bs)
 
 pub contains-upward_shift : (s : BitSet) (k q : ℕ) → contains (upward_shift s k) q ≡ (nat_le k q && contains s (q - k))
 unfolding upward_shift
@@ -47,37 +41,18 @@ contains-with_word s width w n q =
 cut : ℕ → List ℕ → List ℕ
 cut w xs = map (λ b. b - 64 * w) (filter (is_in_word w) xs)
 
-ascends_lower : (j k : ℕ) (xs : List ℕ) → j ≤ k → AscendsFrom k xs → AscendsFrom j xs
-ascends_lower j k [] less ascends = tt
-ascends_lower j k (x ∷ xs) less ascends = (omega (arith, ascends.0), ascends.1)
-
-in_word_from : (w b : ℕ) → is_in_word w b ≡ true → 64 * w ≤ b
-in_word_from w b one = grind (arith, nat_tests)
-
 cut-ascends : (w k : ℕ) (xs : List ℕ) → AscendsFrom k xs → AscendsFrom (k - 64 * w) (cut w xs)
 unfolding cut
 cut-ascends w k [] ascends = tt
-cut-ascends w k (x ∷ xs) ascends =
-    let rest : AscendsFrom (suc x - 64 * w) (cut w xs) = cut-ascends w (suc x) xs ascends.1 in
-    elim (is_in_word w x) as (λ t. is_in_word w x ≡ t → AscendsFrom (k - 64 * w) (map (λ b. b - 64 * w) (cond t (x ∷ filter (is_in_word w) xs) (filter (is_in_word w) xs)))) [
-      | true ↦ λ e. (omega (arith, ascends.0), ascends_lower (suc (x - 64 * w)) (suc x - 64 * w) _ (omega (arith, in_word_from w x e)) rest)
-      | false ↦ λ e. ascends_lower (k - 64 * w) (suc x - 64 * w) _ (omega (arith, ascends.0)) rest
-    ] refl
-
-cut_yes : (w q x : ℕ) → is_in_word w x ≡ true → (q == x - 64 * w) ≡ ((64 * w + q == x) && nat_lt q 64)
-cut_yes w q x one = grind (arith, nat_tests)
-
-cut_no : (w q x : ℕ) → is_in_word w x ≡ false → ((64 * w + q == x) && nat_lt q 64) ≡ false
-cut_no w q x none = grind (arith, nat_tests)
+cut-ascends w k (x ∷ xs) ascends = at (is_in_word w x) refl (cut-ascends w (suc x) xs ascends.1) where
+  at : (one : Bool) → is_in_word w x ≡ one → AscendsFrom (suc x - 64 * w) (cut w xs) → AscendsFrom (k - 64 * w) (map (λ b. b - 64 * w) (cond one (x ∷ filter (is_in_word w) xs) (filter (is_in_word w) xs)))
+  at true here rest = let from : 64 * w ≤ x = grind (arith, nat_tests) in (omega (arith, ascends.0), ascends_lower _ _ _ (omega (arith, from)) rest)
+  at false out rest = ascends_lower _ _ _ (omega (arith, ascends.0)) rest
 
 is_in-cut : (w q : ℕ) (xs : List ℕ) → is_in q (cut w xs) ≡ (is_in (64 * w + q) xs && nat_lt q 64)
 unfolding cut
 is_in-cut w q [] = refl
-is_in-cut w q (x ∷ xs) =
-    elim (is_in_word w x) as (λ t. is_in_word w x ≡ t → is_in q (map (λ b. b - 64 * w) (cond t (x ∷ filter (is_in_word w) xs) (filter (is_in_word w) xs))) ≡ (is_in (64 * w + q) (x ∷ xs) && nat_lt q 64)) [
-      | true ↦ λ e. (λ i. cut_yes w q x e i || is_in-cut w q xs i) ∙ sym (and-or_distrib_right (64 * w + q == x) (is_in (64 * w + q) xs) (nat_lt q 64))
-      | false ↦ λ e. is_in-cut w q xs ∙ ap (λ t. t || (is_in (64 * w + q) xs && nat_lt q 64)) (sym (cut_no w q x e)) ∙ sym (and-or_distrib_right (64 * w + q == x) (is_in (64 * w + q) xs) (nat_lt q 64))
-    ] refl
+is_in-cut w q (x ∷ xs) = grind (arith, nat_tests, is_in-cut w q xs)
 
 sum_by-map : (f g : ℕ → ℕ) (xs : List ℕ) → sum_by f (map g xs) ≡ sum_by (λ x. f (g x)) xs
 sum_by-map f g [] = refl
@@ -104,60 +79,31 @@ word-bits n w = same_number _ _ (λ q.
 
 -- `n << k` at a width: the bits of n shifted upward, without those that pass the width
 pub bits-shifted_up : (width n k : ℕ) → bits (n * 2 ^ k % 2 ^ width) ≡ low (upward_shift (bits n) k) width
-bits-shifted_up width n k = bits-low (n * 2 ^ k) width ∙ ap (λ s. low s width) (same_set _ _ (λ q. by q (cases_lt q k) ∙ sym (contains-upward_shift (bits n) k q)))
-  where
-    by : (q : ℕ) → (q < k) ⊎ (k ≤ q) → contains (bits (n * 2 ^ k)) q ≡ (nat_le k q && contains (bits n) (q - k))
-    by q (inl under) =
-        let cat : n * 2 ^ k ≡ n * 2 ^ k + 0 = omega arith in
-        let before : nat_le k q ≡ false = grind (arith, nat_tests, under) in
-        contains-bits (n * 2 ^ k) q ∙ ap (λ m. bit_at m q == 1) cat ∙ ap (λ d. d == 1) (bit_at_cat_low n k 0 q under ∙ bit_at-zero q)
-        ∙ ap (λ t. t && contains (bits n) (q - k)) (sym before)
-    by q (inr over) =
-        let cat : n * 2 ^ k ≡ n * 2 ^ k + 0 = omega arith in
-        let from : nat_le k q ≡ true = grind (arith, nat_tests, over) in
-        contains-bits (n * 2 ^ k) q ∙ ap (λ m. bit_at m q == 1) cat ∙ ap (λ d. d == 1) (bit_at_cat_high n k 0 q (pow_pos k) over)
-        ∙ sym (contains-bits n (q - k)) ∙ ap (λ t. t && contains (bits n) (q - k)) (sym from)
+bits-shifted_up width n k = bits-low (n * 2 ^ k) width ∙ ap (λ s. low s width) (same_set _ _ (λ q.
+    let under = bit_at_cat_low n k 0 q in
+    let over = bit_at_cat_high n k 0 q (pow_pos k) in
+    let whole : bit_at (n * 2 ^ k) q ≡ bit_at (n * 2 ^ k + 0) q = ap (λ m. bit_at m q) (omega arith) in
+    grind (arith, nat_tests, bit_at-zero q, contains-bits (n * 2 ^ k) q, contains-bits n (q - k), contains-upward_shift (bits n) k q)))
 
 contains-ones : (q : ℕ) → contains (bits 18446744073709551615) q ≡ nat_lt q 64
 contains-ones q = ap (λ s. contains s q) (bits_full 64) ∙ contains-below 64 q
-
--- a bit below the width is in the mask of a word exactly if it is in the word
-mask_test : (i q width : ℕ) → q < width → ((nat_le (64 * i) q && nat_lt (q - 64 * i) 64) && nat_lt q width) ≡ is_in_word i q
-mask_test i q width within = grind (arith, nat_tests)
 
 contains-mask : (width i q : ℕ) → contains (bits (18446744073709551615 * 2 ^ (64 * i) % 2 ^ width)) q ≡ ((nat_le (64 * i) q && nat_lt (q - 64 * i) 64) && nat_lt q width)
 contains-mask width i q =
     ap (λ s. contains s q) (bits-shifted_up width 18446744073709551615 (64 * i)) ∙ contains-low _ width q
     ∙ ap (λ t. t && nat_lt q width) (contains-upward_shift _ (64 * i) q ∙ ap (λ t. nat_le (64 * i) q && t) (contains-ones (q - 64 * i)))
 
-kept_outside : (c m o : Bool) → (c ≡ true → m ≡ o) → (c && not m) ≡ (c && not o)
-kept_outside true m o same = ap not (same refl)
-kept_outside false m o same = refl
-
 -- any word, at any width: `n & !(u64::MAX << k) | x << k`, where k is 64 times the place
 pub bits-put_word : (w n x i : ℕ) → n < 2 ^ w → bits (bit_or (bit_and n (2 ^ w - 1 - (18446744073709551615 * 2 ^ (64 * i) % 2 ^ w))) (x * 2 ^ (64 * i) % 2 ^ w)) ≡ with_word (bits n) w i x
 bits-put_word w n x i fits =
     bits-or _ _
     ∙ (λ j. union (bits-and_not w n (18446744073709551615 * 2 ^ (64 * i) % 2 ^ w) fits (mod_below _ (2 ^ w) (pow_pos w)) j) (bits-shifted_up w x (64 * i) j))
-    ∙ same_set _ _ (λ q. contains-union _ _ q ∙ (λ j. outside q j || placed q j) ∙ sym (contains-with_word (bits n) w i x q))
-  where
-    outside : (q : ℕ) → contains (difference (bits n) (bits (18446744073709551615 * 2 ^ (64 * i) % 2 ^ w))) q ≡ (contains (bits n) q && not (is_in_word i q))
-    outside q = contains-difference (bits n) _ q ∙ kept_outside (contains (bits n) q) _ _ (λ one.
-        contains-mask w i q ∙ mask_test i q w (member_below (bits n) w q (bits-within n w fits) one))
-
-    placed : (q : ℕ) → contains (low (upward_shift (bits x) (64 * i)) w) q ≡ ((nat_le (64 * i) q && contains (bits x) (q - 64 * i)) && nat_lt q w)
-    placed q = contains-low _ w q ∙ ap (λ t. t && nat_lt q w) (contains-upward_shift (bits x) (64 * i) q)
+    ∙ same_set _ _ (λ q.
+    let within = member_below (bits n) w q (bits-within n w fits) in
+    contains-union _ _ q ∙ grind (arith, nat_tests, contains-difference (bits n) (bits (18446744073709551615 * 2 ^ (64 * i) % 2 ^ w)) q, contains-mask w i q, contains-low (upward_shift (bits x) (64 * i)) w q, contains-upward_shift (bits x) (64 * i) q, contains-with_word (bits n) w i x q))
 
 -- the lowest word, at a width of at most 64 bits
 pub bits-put_low : (width n x : ℕ) → width ≤ 64 → is_subset (bits n) (below width) ≡ true → bits (x % 2 ^ width) ≡ with_word (bits n) width 0 x
-bits-put_low width n x narrow within = bits-low x width ∙ same_set _ _ (λ q. contains-low (bits x) width q ∙ lowest q ∙ sym (contains-with_word (bits n) width 0 x q))
-  where
-    all_low : (q : ℕ) → q < width → not (is_in_word 0 q) ≡ false
-    all_low q under = grind (arith, nat_tests, narrow, under)
-
-    lowest : (q : ℕ) → (contains (bits x) q && nat_lt q width) ≡ ((contains (bits n) q && not (is_in_word 0 q)) || ((nat_le (64 * 0) q && contains (bits x) (q - 64 * 0)) && nat_lt q width))
-    lowest q =
-        let from : nat_le 0 q ≡ true = grind (arith, nat_tests) in
-        let same : q - 0 ≡ q = omega arith in
-        let none : (contains (bits n) q && not (is_in_word 0 q)) ≡ false = none_of (contains (bits n) q) _ (λ one. all_low q (member_below (bits n) width q within one)) in
-        (λ j. (sym from j && contains (bits x) (sym same j)) && nat_lt q width) ∙ ap (λ t. t || ((nat_le 0 q && contains (bits x) (q - 0)) && nat_lt q width)) (sym none)
+bits-put_low width n x narrow within = bits-low x width ∙ same_set _ _ (λ q.
+    let under = member_below (bits n) width q within in
+    contains-low (bits x) width q ∙ grind (arith, nat_tests) ∙ sym (contains-with_word (bits n) width 0 x q))

@@ -8,10 +8,9 @@ use super::surroundings::text_of;
 use enumset_commands::{Command, MixedCommand, Reply, TextFault};
 use enumset_kinds::kinds::serve_worked;
 use enumset_kinds::worked::Worked;
-use enumset_machine::{Machine, MixedMachine, run, run_mixed, serve_mixed_text, serve_text};
+use enumset_machine::{Machine, MixedMachine, run, run_mixed};
 use enumset_worked::{Letters, Marks};
-use std::alloc::{AllocError, Global};
-use std::process::Abort;
+use std::alloc::AllocError;
 use std::test::Fail;
 
 // Whether a reply is these words.
@@ -88,53 +87,25 @@ fn mixed_runs(rt: HostRuntime) -> Result<(), Fail> {
     Ok(ended?)
 }
 
-// The text of an answer, and the refusal that came before it, where the only fault that comes is out of memory.
-fn text_and_refusal<F: Fn() -> Result<Vec<u8>, TextFault>>(
-    rt: &impl Abort,
-    serve: F,
-) -> (Vec<u8>, Result<(), AllocError>)
-    requires { F.IsAlwaysCallable serve }
-{
-    match serve() {
-        Ok(text) => (text, Ok(())),
-        Err(fault) => {
-            assert_eq!(rt; fault, TextFault::OutOfMemory);
-            (serve().expect(rt, "refused once more"), Err(AllocError))
-        }
-    }
-}
-
 const INPUT: &[u8] = b"from_words 0 5\nwords 0 2\n";
 
 const OUTPUT: &str = "ok\nwords 5 0\n";
 
 #[test]
 fn texts(rt: HostRuntime) -> Result<(), Fail> {
-    let (text, ended) = text_and_refusal(&rt, || serve_text::<Letters>(rt.alloc(), INPUT));
-    assert_eq!(rt; text_of(&text), OUTPUT);
-    Ok(ended?)
-}
-
-#[test]
-fn mixed_texts(rt: HostRuntime) -> Result<(), Fail> {
-    let (text, ended) = text_and_refusal(&rt, || serve_mixed_text::<Marks>(rt.alloc(), INPUT));
-    assert_eq!(rt; text_of(&text), OUTPUT);
-    Ok(ended?)
-}
-
-#[test]
-fn worked_texts(rt: HostRuntime) -> Result<(), Fail> {
-    let (text, ended) = text_and_refusal(&rt, || serve_worked(rt.alloc(), Worked::Letters, INPUT));
-    assert_eq!(rt; text_of(&text), OUTPUT);
-    Ok(ended?)
-}
-
-#[test]
-fn mixed_worked_texts(rt: HostRuntime) -> Result<(), Fail> {
-    let kind = Worked::MixedMarks;
-    let (text, ended) = text_and_refusal(&rt, || serve_worked(rt.alloc(), kind, INPUT));
-    assert_eq!(rt; text_of(&text), OUTPUT);
-    Ok(ended?)
+    for kind in [Worked::Letters, Worked::MixedMarks] {
+        let (text, ended) = match serve_worked(rt.alloc(), kind, INPUT) {
+            Ok(text) => (text, Ok(())),
+            Err(fault) => {
+                assert_eq!(rt; fault, TextFault::OutOfMemory);
+                let again = serve_worked(rt.alloc(), kind, INPUT);
+                (again.expect(&rt, "refused once more"), Err(AllocError))
+            }
+        };
+        assert_eq!(rt; text_of(&text), OUTPUT);
+        ended?;
+    }
+    Ok(())
 }
 
 // The input's own fault is answered, and no refusal in its place. The long input takes the first allocation.

@@ -1,20 +1,17 @@
--- The laws of an enum without fields as an element type, from one test of its bits and its constants.
---     IsLawful, IsLawfulNumber, IsLawfulWords      the test, over any representation, an integer or words; if it fails,
---         it is a fault, whose name says what to mend
---     BitCountShouldBe, NamesABitTwice, BitWidthShouldBe, VariantCountShouldBe      the faults
---     AllBitsShouldBe, AllBitsShouldBeWords      the faults of ALL_BITS, over an integer and over words
+-- The laws of an enum without fields as an element type, from one test of its bits and its constants (`Lawful` of
+-- `enumset_repr`).
 --     lawful_in, lawful_in_integer, lawful_in_words      the laws, over any representation, an integer or words
 --     lawful_in_place      the laws where each bit is its variant's place, from those of the same bits as a list
---     one_past_all, or_else      one past the greatest number of a list;  a fault if a test fails, else what comes next
 --     derived_eq      what a derived `==` of such an enum returns
 -- An element type imports the makers of its elements from here too.
-use Rattle.std.proofs.Common.{◌≡◌, ◌<◌, ◌≤◌, ℕ, suc, zero, ◌+◌, ◌^◌, Bool, true, false, cond, eqb, List, Some, sym, ap, ◌∙◌, length, get_or, max, sum_by, arith, true≢false, inl, inr}
+use Rattle.std.proofs.Common.{◌≡◌, ◌<◌, ◌≤◌, ℕ, suc, zero, ◌^◌, Bool, true, false, eqb, List, Some, sym, ap, ◌∙◌, length, get_or, max, sum_by, arith, true≢false}
 use Rattle.std.specs.Prelude.{◌==◌}
 use denote.Struct.Field.{Field}
 use denote.Enum.Declared.{Declared, rowss, tag_of}
 use denote.Enum.Enum.{tag_below}
 use denote.Enum.Bare.{Bare, tag_one, sameb, same_true, true_same}
-use Rattle.std.proofs.lemmas.Bool.{or_cases, cases_lt, and_parts, and_from, or_left, or_right, not-true, eqb-true, eq-eqb}
+use Rattle.std.proofs.lemmas.Bool.Decides.{nat_tests}
+use Rattle.std.proofs.lemmas.Bool.{and_parts, and_from, or_left, or_right, eqb-true, eq-eqb}
 use Rattle.std.specs.List.{last_or}
 use Rattle.std.proofs.lemmas.List.FromFn.{get_or-range_with_len}
 use Rattle.enumset_repr.specs.BitSet.{BitSet, is_in, contains, from_list, ascending, len, is_subset}
@@ -24,14 +21,10 @@ use Rattle.enumset_repr.specs.Laws.Members.{contains-from_list, contains-ascendi
 use Rattle.enumset_repr.specs.Laws.Ascending.{len-empty, len-insert, ascending-ascends, AscendsFrom}
 use Rattle.enumset_repr.specs.Words.{bits_of, in_first_word, in_later_words, lists_words}
 use Rattle.enumset_repr.specs.Laws.Listed.{bits_listed, words_listed}
+use Rattle.enumset_repr.specs.Lawful.{one_past_all, or_else, once_known, IsLawful, IsLawfulNumber, IsLawfulWords}
 use Rattle.std.specs.Prelude.{[], ◌∷◌, refl}
 pub use Rattle.enumset_sets.specs.Elements.{with_bits, in_order, in_place}
 use Rattle.enumset_sets.specs.Elements.{one_past, one_past_greatest, IsElementType, AreBitsOf}
-
--- one past the greatest number of a list
-abbrev pub one_past_all : List ℕ → ℕ
-one_past_all [] = 0
-one_past_all (b ∷ bs) = max (suc b) (one_past_all bs)
 
 -- ---- lists of numbers
 
@@ -40,39 +33,28 @@ is_in-get_or [] i small = absurd (omega (arith, small))
 is_in-get_or (b ∷ bs) zero small = or_left _ _ (eq-eqb b b refl)
 is_in-get_or (b ∷ bs) (suc i) small = or_right (get_or bs i 0 == b) _ (is_in-get_or bs i (omega (arith, small)))
 
-apart_from_all : (b : ℕ) (bs : List ℕ) (i : ℕ) → is_in b bs ≡ false → i < length bs → b ≡ get_or bs i 0 → ⊥
-apart_from_all b bs i out small same = true≢false (sym (ap (λ x. is_in x bs) same ∙ is_in-get_or bs i small) ∙ out)
-
 distinct_places : (bs : List ℕ) → is_distinct bs ≡ true → (i j : ℕ) → i < length bs → j < length bs → get_or bs i 0 ≡ get_or bs j 0 → i ≡ j
 distinct_places [] apart i j p q same = absurd (omega (arith, p))
 distinct_places (b ∷ bs) apart zero zero p q same = refl
-distinct_places (b ∷ bs) apart zero (suc j) p q same = absurd (apart_from_all b bs j (not-true _ (and_parts _ _ apart).0) (omega (arith, q)) same)
-distinct_places (b ∷ bs) apart (suc i) zero p q same = absurd (apart_from_all b bs i (not-true _ (and_parts _ _ apart).0) (omega (arith, p)) (sym same))
+distinct_places (b ∷ bs) apart zero (suc j) p q same = let there = is_in-get_or bs j (omega (arith, q)) in absurd (grind (arith, nat_tests, same, apart))
+distinct_places (b ∷ bs) apart (suc i) zero p q same = let there = is_in-get_or bs i (omega (arith, p)) in absurd (grind (arith, nat_tests, same, apart))
 distinct_places (b ∷ bs) apart (suc i) (suc j) p q same = ap suc (distinct_places bs (and_parts _ _ apart).1 i j (omega (arith, p)) (omega (arith, q)) same)
 
 len-from_list : (bs : List ℕ) → is_distinct bs ≡ true → len (from_list bs) ≡ length bs
 unfolding from_list
 len-from_list [] apart = len-empty
-len-from_list (b ∷ bs) apart =
-    let absent : contains (from_list bs) b ≡ false = contains-from_list bs b ∙ not-true _ (and_parts _ _ apart).0 in
-    len-insert (from_list bs) b ∙ ap (λ t. cond t (len (from_list bs)) (len (from_list bs) + 1)) absent ∙ omega (arith, len-from_list bs (and_parts _ _ apart).1)
+len-from_list (b ∷ bs) apart = grind (arith, nat_tests, contains-from_list bs b, len-insert (from_list bs) b, len-from_list bs)
 
 -- ---- one past the greatest
 
 is_in-one_past : (q : ℕ) (bs : List ℕ) → is_in q bs ≡ true → q < one_past_all bs
 is_in-one_past q [] one = absurd (true≢false (sym one))
-is_in-one_past q (b ∷ bs) one = elim (or_cases (q == b) _ one) [
-  | inl here ↦ omega (arith, eqb-true q b here)
-  | inr later ↦ omega (arith, is_in-one_past q bs later)
-]
+is_in-one_past q (b ∷ bs) one = let later = is_in-one_past q bs in grind (arith, nat_tests)
 
 -- the greatest number of a list is in it
 one_past_is_in : (bs : List ℕ) (n : ℕ) → one_past_all bs ≡ suc n → is_in n bs ≡ true
 one_past_is_in [] n e = absurd (omega (arith, e))
-one_past_is_in (b ∷ bs) n e = elim (cases_lt (suc b) (one_past_all bs)) [
-  | inl less ↦ or_right (n == b) _ (one_past_is_in bs n (omega (arith, e, less)))
-  | inr most ↦ or_left (n == b) _ (let same : n ≡ b = omega (arith, e, most) in ap (λ x. x == b) same ∙ eq-eqb b b refl)
-]
+one_past_is_in (b ∷ bs) n e = let later = one_past_is_in bs n in grind (arith, nat_tests, e)
 
 -- lists with the same numbers have the same greatest number
 same_reach : (xs bs : List ℕ) → ((q : ℕ) → is_in q xs ≡ is_in q bs) → one_past_all xs ≤ one_past_all bs
@@ -127,56 +109,7 @@ of_one-same (Fs ∷ Gs ∷ Fss) i j p q = refl
 derived_eq-same : (D : Declared) (v w : D.D) → derived_eq D v w ≡ sameb D v w
 derived_eq-same D v w = of_one-same D.parts (tag_of D v) (tag_of D w) (tag_below (rowss D.parts) (D.to v)) (tag_below (rowss D.parts) (D.to w))
 
--- ---- the test
-
--- What an element type may get wrong. These types have no values. Where a value of one is wanted, its name says what to
--- mend.
-pub data BitCountShouldBe (variants : ℕ) : Type 0 where
-
-pub data NamesABitTwice : Type 0 where
-
-pub data BitWidthShouldBe (width : ℕ) : Type 0 where
-
-pub data VariantCountShouldBe (count : ℕ) : Type 0 where
-
-pub data AllBitsShouldBe (number : ℕ) : Type 0 where
-
-pub data AllBitsShouldBeWords (words : List ℕ) : Type 0 where
-
--- the fault if the test fails, else what comes next
-abbrev pub or_else : Bool → Type 0 → Type 0 → Type 0
-or_else true fault next = next
-or_else false fault next = fault
-
--- What comes next, once a number is known. It makes the checker find both numbers before it computes any of the test:
--- half computed, the test of a thousand words takes more memory than a check has.
-abbrev pub once_known : ℕ → Type 0 → Type 0
-once_known zero next = next
-once_known (suc n) next = next
-
--- an enum without fields; one bit for each variant, and no two the same; a test of ALL_BITS; the width and the count
-abbrev pub IsLawful : (D : Declared) → List ℕ → Bool → Type 0 → ℕ → ℕ → Type 0
-IsLawful D bs valid fault width count =
-    once_known width (once_known count
-    (or_else (length bs == length (rowss D.parts)) (BitCountShouldBe (length (rowss D.parts)))
-    (or_else (is_distinct bs) NamesABitTwice
-    (or_else valid fault
-    (or_else (one_past_all bs == width) (BitWidthShouldBe (one_past_all bs))
-    (or_else (length bs == count) (VariantCountShouldBe (length bs)) (Bare D.parts)))))))
-
--- the same over an integer: ALL_BITS is the number of the bits
-abbrev pub IsLawfulNumber : (D : Declared) → List ℕ → ℕ → ℕ → ℕ → Type 0
-IsLawfulNumber D bs n width count =
-    IsLawful D bs (sum_by (λ b. 2 ^ b) bs == n) (AllBitsShouldBe (sum_by (λ b. 2 ^ b) bs)) width count
-
--- as many words as ns has, with the bits that a list names
-abbrev pub words_naming : List ℕ → List ℕ → List ℕ
-words_naming bs [] = []
-words_naming bs (n ∷ ns) = sum_by (λ b. 2 ^ b) (in_first_word bs) ∷ words_naming (in_later_words bs) ns
-
--- the same over words: the words of ALL_BITS have the bits of the list and no other
-abbrev pub IsLawfulWords : (D : Declared) → List ℕ → List ℕ → ℕ → ℕ → Type 0
-IsLawfulWords D bs ns width count = IsLawful D bs (lists_words bs ns) (AllBitsShouldBeWords (words_naming bs ns)) width count
+-- ---- the laws
 
 passed : (test : Bool) (fault next : Type 0) → (fault → ⊥) → or_else test fault next → (test ≡ true) × next
 passed true fault next none h = (refl, h)

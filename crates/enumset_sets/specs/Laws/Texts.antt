@@ -3,13 +3,12 @@
 --     writes_at      what was written for values is the text of their bits
 --     Tells      the first text is not known, or it is the second
 --     text_at-tells      the text of a bit is that of its value, if the value is listed
-use Rattle.std.proofs.Common.{◌≡◌, ℕ, Bool, true, false, cond, List, [], ◌∷◌, ◌++◌, length, map, Option, Some, None, Ok, refl, sym, ap, subst, ◌∙◌, ◌⊎◌, inl, inr, codes, arith}
+use Rattle.std.proofs.Common.{◌≡◌, ℕ, Bool, false, List, [], ◌∷◌, ◌++◌, length, map, Option, Some, None, Ok, refl, sym, ap, subst, ◌∙◌, ◌⊎◌, inl, inr, codes, arith}
 use Rattle.std.proofs.lemmas.Bool.Decides.{nat_tests}
 use Rattle.std.specs.Prelude.{◌==◌}
 use Rattle.std.specs.Fmt.{option_append, DisplaysOnOk}
 use Rattle.std.specs.declared.fmt.Formatter.{Formatter}
 use Rattle.std.proofs.Output.{displays_on_IsOk_append, then_text_assoc}
-use Rattle.std.proofs.lemmas.Bool.{eqb-true}
 use Rattle.std.proofs.lemmas.List.{map-append, length-map}
 use Rattle.std.specs.Option.{option_and_then}
 use Rattle.enumset_sets.specs.Texts.{value_of, text_at, separator, joined_text}
@@ -78,20 +77,10 @@ module _ {T I : Type 0} (text : T → Option (List ℕ)) (bit : T → I) (at : I
       by (inl none) = subst (λ o. DisplaysOnOk took f (Ok tt) o g) (sym none) tt
       by (inr same) = subst (λ o. DisplaysOnOk took f (Ok tt) o g) (sym same) wrote
 
-no_value : {T : Type 0} (w : T) → None ≡ Some w → ⊥
-no_value w e = cc
-
-same_value : {T : Type 0} (v w : T) → Some v ≡ Some w → v ≡ w
-same_value v w e = cc
-
 module _ {T : Type 0} (bit : T → ℕ) where
-  found_at : (v : T) (b : ℕ) (later : Option T) (w : T) (test : Bool) → (bit v == b) ≡ test → (later ≡ Some w → bit w ≡ b) → cond test (Some v) later ≡ Some w → bit w ≡ b
-  found_at v b later w true here more found = ap bit (sym (same_value v w found)) ∙ eqb-true (bit v) b here
-  found_at v b later w false other more found = more found
-
   value_of-bit : (vs : List T) (b : ℕ) (w : T) → value_of bit vs b ≡ Some w → bit w ≡ b
-  value_of-bit [] b w found = absurd (no_value w found)
-  value_of-bit (v ∷ vs) b w found = found_at v b (value_of bit vs b) w (bit v == b) refl (value_of-bit vs b w) found
+  value_of-bit [] b w found = absurd (cc)
+  value_of-bit (v ∷ vs) b w found = let later = value_of-bit vs b w in grind (arith, nat_tests)
 
   -- the text of the bit of a value is that of the value, since no other value has the bit
   pub text_at-tells : ((v w : T) → bit v ≡ bit w → v ≡ w) → (values : List T) (text : T → Option (List ℕ)) (v : T) → Tells (text_at bit values text (bit v)) (text v)

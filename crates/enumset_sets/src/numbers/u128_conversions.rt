@@ -49,6 +49,7 @@ impl<T: EnumSetType> EnumSet<T> {
     }
 
     /// The set of a number, if every bit of it is valid, else `None`.
+    #[tactic(auto, using(enumset_repr::specs::Laws::Algebra::is_subset_trans))]
     pub fn try_from_u128(value: u128) -> Option<EnumSet<T>>
         ensures valid { IsSome result
             ↔ IsTrue (set.is_subset (bits value) (valid_bits T.elements)) }

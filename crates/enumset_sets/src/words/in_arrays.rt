@@ -46,6 +46,7 @@ impl<T: EnumSetType> EnumSet<T> {
     }
 
     /// The set of words, if every bit of them is valid, else `None`.
+    #[tactic(auto, using(enumset_repr::specs::Laws::Algebra::is_subset_trans))]
     pub fn try_from_array<const O: usize>(array: [u64; O]) -> Option<EnumSet<T>>
         ensures valid { IsSome result
             ↔ IsTrue (set.is_subset (bits_of array.entry) (valid_bits T.elements)) }

@@ -51,6 +51,7 @@ impl<T: EnumSetType> EnumSet<T> {
     }
 
     /// The set of words, if every bit of them is valid, else `None`.
+    #[tactic(auto, using(enumset_repr::specs::Laws::Algebra::is_subset_trans))]
     pub fn try_from_slice(slice: &[u64]) -> Option<EnumSet<T>>
         ensures valid { IsSome result
             ↔ IsTrue (set.is_subset (bits_of slice.now) (valid_bits T.elements)) }

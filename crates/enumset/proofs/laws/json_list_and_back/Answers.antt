@@ -1,4 +1,5 @@
-use Rattle.enumset.proofs.NameLaws.{IsNaming-passes, list_back}
+use Rattle.enumset.proofs.NameLaws.{IsNaming-passes}
+use Rattle.enumset.proofs.NamesTaken.{list_back}
 use Rattle.enumset.proofs.laws.json_list_and_back.Goals as goal
 
 pub returns : goal.returns

@@ -1,5 +1,5 @@
-use Rattle.enumset.proofs.MapLaws.{map_back}
 use Rattle.enumset.proofs.NameLaws.{IsNaming-passes}
+use Rattle.enumset.proofs.NamesTaken.{map_back}
 use Rattle.enumset.proofs.laws.json_map_and_back.Goals as goal
 
 pub returns : goal.returns

@@ -11,6 +11,6 @@ returns g c =
     let b = g.T.EnumSetType.elements.bit c.args.element in
     let are = IsNaming-passes bs names g.met.T.EnumSetNames.named in
     record {
-      back = name_back bs names b are.as_many are.distinct (sym (contains-is_in bs _ b lawful.valid) ∙ lawful.bit_is_valid c.args.element);
-      only = λ is. name_alone bs names b c.args.text.now lawful.distinct is;
+      back = name_back bs names b are (sym (contains-is_in bs _ b lawful.valid) ∙ lawful.bit_is_valid c.args.element);
+      only = λ is. (name_alone bs names b c.args.text.now lawful.distinct is).1;
     }

@@ -1,4 +1,4 @@
-use Rattle.std.proofs.Common.{◌≡◌, ◌<◌, ◌≤◌, ◌+◌, ◌*◌, ◌/◌, List, [], ◌∷◌, ◌++◌, ℕ, length, take, bit_or, sym, ap, ◌∙◌, arith}
+use Rattle.std.proofs.Common.{◌≡◌, ◌<◌, ◌+◌, ◌*◌, ◌/◌, List, [], ◌∷◌, ◌++◌, ℕ, length, take, bit_or, sym, ap, ◌∙◌, arith}
 use Rattle.std.proofs.lemmas.List.{take_all, get_or-drop, length_push}
 use Rattle.std.proofs.lemmas.Simd.{length-zip2, get_or-zip2}
 use Rattle.std.proofs.lemmas.Slice.Zip.{zip_turn, zip_end}
@@ -15,14 +15,10 @@ loop-chunk-preserved g c =
     let second = chunk_here _ _ _ _ c.as_chunks-2.ensures.front c.as_chunks-2.ensures.front_len turn.1 (turn.3 []) in
     let answers : List ℕ = zip2 op c.args.words.now c.args.others.now in
     let k : ℕ = length c.loop-chunk.yielded in
-    let more : length (c.loop-chunk.yielded ++ (c.in-Some.chunk, c.in-Some.other) ∷ []) ≡ k + 1 = length_push c.loop-chunk.yielded _ in
-    let long : length answers ≡ length c.args.words.now = length-zip2 op c.args.words.now c.args.others.now c.requires in
-    let four : c.on_lanes-lanes.result ≡ chunk (4 * k) 4 answers =
-    c.on_lanes-lanes.ensures ∙ (λ i. zip2 op (first.0 i) (second.0 i)) ∙ sym (chunk-zip2 op (4 * k) 4 c.args.words.now c.args.others.now) in
-    let within : 4 * (k + 1) ≤ length answers = omega (arith, long, turn.0, c.as_chunks.ensures.front_len) in
-    ap (λ ws. none_in (zip2 bit_or c.loop-chunk.lanes ws)) four
-    ∙ joined_none answers c.loop-chunk.lanes (4 * k) (4 * (k + 1)) (omega arith) within c.loop-chunk.auto.lanes.0 c.loop-chunk.invariant
-    ∙ sym (ap (λ n. none_in (take (4 * n) answers)) more)
+    let more = length_push c.loop-chunk.yielded (c.in-Some.chunk, c.in-Some.other) in
+    let long = length-zip2 op c.args.words.now c.args.others.now c.requires in
+    ap (λ ws. none_in (zip2 bit_or c.loop-chunk.lanes ws)) (c.on_lanes-lanes.ensures ∙ (λ i. zip2 op (first.0 i) (second.0 i)) ∙ sym (chunk-zip2 op (4 * k) 4 c.args.words.now c.args.others.now))
+    ∙ joined_none answers c.loop-chunk.lanes (4 * k) (4 * length (c.loop-chunk.yielded ++ (c.in-Some.chunk, c.in-Some.other) ∷ [])) (omega (arith, more)) (omega (arith, more, long, turn.0, c.as_chunks.ensures.front_len)) c.loop-chunk.auto.lanes.0 c.loop-chunk.invariant
 
 pub loop-word-init : goal.loop-word-init
 loop-word-init g c =
@@ -37,16 +33,15 @@ loop-word-preserved g c =
     let answers : List ℕ = zip2 op c.args.words.now c.args.others.now in
     let k : ℕ = length c.loop-word.yielded in
     let i : ℕ = length c.args.words.now / 4 * 4 + k in
-    let more : length (c.loop-word.yielded ++ (c.in-Some-2.word, c.in-Some-2.other_word) ∷ []) ≡ k + 1 = length_push c.loop-word.yielded _ in
-    let long : length answers ≡ length c.args.words.now = length-zip2 op c.args.words.now c.args.others.now c.requires in
+    let more = length_push c.loop-word.yielded (c.in-Some-2.word, c.in-Some-2.other_word) in
+    let long = length-zip2 op c.args.words.now c.args.others.now c.requires in
     let low : i < length c.args.words.now = omega (arith, turn.0, c.as_chunks.ensures.back_len) in
     let first : c.in-Some-2.word.now ≡ slice_index c.args.words.now i = turn.2 0 ∙ ap (λ ws. slice_index ws k) c.as_chunks.ensures.back ∙ get_or-drop (length c.args.words.now / 4 * 4) c.args.words.now k 0 in
     let second : c.in-Some-2.other_word.now ≡ slice_index c.args.others.now i =
     turn.3 0 ∙ ap (λ ws. slice_index ws k) c.as_chunks-2.ensures.back ∙ get_or-drop (length c.args.others.now / 4 * 4) c.args.others.now k 0
     ∙ ap (λ n. slice_index c.args.others.now (n / 4 * 4 + k)) (sym c.requires) in
     ap (λ w. bit_or c.loop-word.any w == 0) (c.on_words-any.ensures ∙ (λ j. op (first j) (second j)) ∙ sym (get_or-zip2 op c.args.words.now c.args.others.now i 0 0 0 low (omega (arith, low, c.requires))))
-    ∙ one_none answers c.loop-word.any i (length c.args.words.now / 4 * 4 + (k + 1)) (omega arith) (omega (arith, long, low)) c.loop-word.invariant
-    ∙ sym (ap (λ n. none_in (take (length c.args.words.now / 4 * 4 + n) answers)) more)
+    ∙ one_none answers c.loop-word.any i (length c.args.words.now / 4 * 4 + length (c.loop-word.yielded ++ (c.in-Some-2.word, c.in-Some-2.other_word) ∷ [])) (omega (arith, more)) (omega (arith, long, low)) c.loop-word.invariant
 
 pub returns : goal.returns
 returns g c =

@@ -1,7 +1,7 @@
 use Rattle.std.proofs.Common.{◌≡◌, ◌+◌, ◌*◌, ◌/◌, [], ◌∙◌, length, get_or, refl, sym, ap, arith, rules}
 use Rattle.std.specs.Int.RustNames.{count_ones}
 use Rattle.std.specs.Prelude.{slice_index}
-use Rattle.std.proofs.lemmas.List.{take_all, get_or-drop}
+use Rattle.std.proofs.lemmas.List.{get_or-drop}
 use Rattle.enumset_array.proofs.RowWords.{bits_in, one_more, four_ones, four_more}
 use Rattle.enumset_array.proofs.WordLanes.{chunk_here}
 use Rattle.enumset_array.proofs.lanes.ones_of.Goals as goal
@@ -25,6 +25,3 @@ loop-word-preserved c =
       counted = (λ j. c.loop-word.invariant.counted j + ap count_ones here j) ∙ sym (one_more c.args.words.now i (length c.args.words.now / 4 * 4 + (c.loop-word.word-index + 1)) (omega arith) (omega (arith, c.as_chunks.ensures.back_len)));
       small = search rules;
     }
-
-pub returns : goal.returns
-returns c = c.loop-word.invariant.counted ∙ ap bits_in (take_all _ c.args.words.now (omega (arith, c.as_chunks.ensures.back_len)))

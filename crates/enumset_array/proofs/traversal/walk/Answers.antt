@@ -1,11 +1,15 @@
-use Rattle.std.proofs.Common.{◌≡◌, ◌+◌, ◌≤◌, Contains, length, is_some, if◌then◌else◌, None, take, refl, sym, ap, ◌∙◌, subst, arith}
+use Rattle.std.proofs.lemmas.List.{get_or_past}
+use Rattle.enumset_array.specs.Cursors.{Covers}
+use Rattle.std.proofs.Common.{ℕ, List, ◌≡◌, ◌+◌, ◌≤◌, Contains, length, is_some, if◌then◌else◌, None, take, refl, sym, ap, ◌∙◌, subst, arith}
 use Rattle.std.proofs.lemmas.Grind.{common_steps}
 use Rattle.enumset_repr.specs.BitSet.{difference, from_list}
 use Rattle.enumset_array.specs.Walks.{items_among}
 use Rattle.enumset_repr.specs.Words.{bits_of}
-use Rattle.enumset_array.proofs.Covers.{covers_all}
 use Rattle.enumset_array.proofs.Walks.{length-items_among, length-items_among-push, length-answers, difference-none, difference-step, none-push, no_answers, all_left, none_given, none_in_no_answers, answers_next, rest_next}
 use Rattle.enumset_array.proofs.traversal.walk.Goals as goal
+
+covers_all : (ws : List ℕ) → Covers ws (record { front = 0; back = length ws })
+covers_all ws = record { within = omega arith; before = λ i h. absurd (omega (arith, h)); past = λ i h. get_or_past ws i 0 h }
 
 pub loop-end-init : goal.loop-end-init
 loop-end-init g c = record {

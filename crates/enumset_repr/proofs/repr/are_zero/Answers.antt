@@ -1,10 +1,7 @@
-use Rattle.std.proofs.Common.{refl, arith}
+use Rattle.std.proofs.Common.{arith}
 use Rattle.enumset_repr.specs.Words.{word}
-use Rattle.enumset_repr.proofs.ZeroWords.{none_yet, one_more}
+use Rattle.enumset_repr.proofs.ZeroWords.{one_more}
 use Rattle.enumset_repr.proofs.repr.are_zero.Goals as goal
-
-pub loop-i-init : goal.loop-i-init
-loop-i-init g c = (omega arith, omega (arith, c.requires.ordered), none_yet (word (g.R.EnumSetTypeRepr.members c.args.repr.now)) c.args.from 0 refl)
 
 pub loop-i-preserved : goal.loop-i-preserved
 loop-i-preserved g c = (

@@ -1,8 +1,6 @@
-use Rattle.example_headers.proofs.FlagLaws.{known_replaced, reserved_kept}
+use Rattle.std.proofs.Common.{arith}
+use Rattle.enumset_repr.specs.Laws.Members.{members, same_set, is_subset-contains}
 use Rattle.example_headers.proofs.flags.replace_known.Goals as goal
 
 pub returns-clause-known : goal.returns-clause-known
-returns-clause-known c = rw (c.bitor.ensures, c.sub.ensures, c.all.ensures) (known_replaced _ c.args.flags c.args.decided c.members_are_valid.ensures.valid)
-
-pub returns-clause-reserved : goal.returns-clause-reserved
-returns-clause-reserved c = rw (c.bitor.ensures, c.sub.ensures, c.all.ensures) (reserved_kept _ c.args.flags c.args.decided c.members_are_valid.ensures.valid)
+returns-clause-known c = same_set _ _ (λ q. let inside = is_subset-contains _ _ c.members_are_valid.ensures.valid q in grind (arith, members))

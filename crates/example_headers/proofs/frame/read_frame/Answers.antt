@@ -1,10 +1,14 @@
-use Rattle.std.proofs.Common.{arith}
+use Rattle.std.proofs.Common.{ap, ◌∙◌, arith}
 use Rattle.std.proofs.lemmas.Grind.{common_steps}
-use Rattle.example_headers.proofs.FrameLaws.{read_is_written, written_is_read}
+use Rattle.enumset_repr.specs.Number.{bits}
+use Rattle.enumset_repr.specs.Laws.Numbers.{bits-number, number-bits}
+use Rattle.example_headers.proofs.FrameLaws.{split}
 use Rattle.example_headers.proofs.frame.read_frame.Goals as goal
 
 pub returns-clause-written : goal.returns-clause-written
-returns-clause-written c = read_is_written c.args.bytes.now _ c.in-len2-up.len_at_least c.from_repr.ensures (grind (arith, common_steps))
+returns-clause-written c =
+    let parts = split c.args.bytes.now c.in-len2-up.len_at_least in grind (arith, common_steps, number-bits)
 
 pub returns-clause-back : goal.returns-clause-back
-returns-clause-back c = written_is_read c.args.bytes.now _ c.in-len2-up.len_at_least c.from_repr.ensures
+returns-clause-back c = λ flags body same.
+    let parts = split c.args.bytes.now c.in-len2-up.len_at_least in let back = bits-number flags in (c.from_repr.ensures ∙ ap bits (cc) ∙ back, cc)

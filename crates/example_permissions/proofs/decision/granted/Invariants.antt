@@ -1,8 +1,8 @@
-use Rattle.std.proofs.Common.{◌≡◌, ℕ, take}
+use Rattle.std.proofs.Common.{◌≡◌, ℕ, ◌||◌, drop}
 use Rattle.enumset_repr.specs.BitSet.{contains}
 use Rattle.example_permissions.specs.Policy.{is_granted}
 use Rattle.example_permissions.proofs.decision.granted.Given as goal
 
--- the rights so far are those of the grants so far
+-- the rights so far, with those of the grants to come
 abbrev pub invariant-loop-grant : goal.invariant-loop-grant
-invariant-loop-grant l = (q : ℕ) → contains l.rights q ≡ is_granted (take l.grant-index l.grants) l.roles q
+invariant-loop-grant l = (q : ℕ) → (contains l.rights q || is_granted (drop l.grant-index l.grants) l.roles q) ≡ is_granted l.grants l.roles q

@@ -1,20 +1,26 @@
-use Rattle.std.proofs.Common.{◌≡◌, true, refl, sym, ◌∙◌, ap, arith}
-use Rattle.enumset_repr.specs.BitSet.{is_subset, below}
-use Rattle.example_weekdays.proofs.WeekLaws.{bit_small, wait_next, found, passed, none_free}
+use Rattle.std.proofs.Common.{refl, sym, ◌∙◌, arith}
+use Rattle.enumset_repr.specs.Laws.Members.{members, same_set, member_below}
+use Rattle.example_weekdays.specs.Week.{bit}
+use Rattle.example_weekdays.proofs.WeekLaws.{bit_small, wait_next, wait_small, wait_tells}
 use Rattle.example_weekdays.proofs.schedule.nearest_day.Goals as goal
 
 pub returns-then-contains-clause-nearest : goal.returns-then-contains-clause-nearest
 returns-then-contains-clause-nearest c =
-    let within : is_subset c.args.days (below 7) ≡ true = ap (is_subset c.args.days) (sym c.bits_below.ensures.list) ∙ c.members_are_valid.ensures.valid in
-    found _ _ _ _ within (c.loop.invariant.far c.loop-test.true) c.loop.invariant.none (sym c.contains.ensures ∙ c.if-contains.true)
+    (sym c.contains.ensures ∙ c.if-contains.true, λ q one. let far = c.loop.invariant.far c.loop-test.true in let none = c.loop.invariant.none q one in omega arith)
 
 pub loop-preserved : goal.loop-preserved
-loop-preserved c = record {
-  far = λ more. rw c.following-day.ensures (wait_next _ _ _ (bit_small _) (bit_small _) (c.loop.invariant.far c.loop-test.true) more);
-  none = passed _ _ _ _ (bit_small _) (bit_small _) (c.loop.invariant.far c.loop-test.true) c.loop.invariant.none (sym c.contains.ensures ∙ c.if-contains.false);
-}
+loop-preserved c =
+    let far = c.loop.invariant.far c.loop-test.true in record {
+      far = λ more. rw c.following-day.ensures (wait_next _ _ _ (bit_small _) (bit_small _) far more);
+      none = λ q one.
+          let inside = member_below c.args.days 7 q (rw (← c.bits_below.ensures.list) c.members_are_valid.ensures.valid) one in
+          let same = wait_tells (bit c.args.from) q (bit c.loop.day) (bit_small _) inside (bit_small _) in let near = c.loop.invariant.none q one in grind arith;
+    }
 
 pub returns-clause-none : goal.returns-clause-none
-returns-clause-none c =
-    let within : is_subset c.args.days (below 7) ≡ true = ap (is_subset c.args.days) (sym c.bits_below.ensures.list) ∙ c.members_are_valid.ensures.valid in
-    (λ _. none_free _ _ (bit_small c.args.from) within (λ q small near. c.loop.invariant.none q small (omega arith)), λ _. refl)
+returns-clause-none c = (
+  λ _. same_set _ _ (λ q.
+      let inside = member_below c.args.days 7 q (rw (← c.bits_below.ensures.list) c.members_are_valid.ensures.valid) in
+      let small = wait_small (bit c.args.from) q (bit_small _) in let none = c.loop.invariant.none q in grind (arith, members)),
+  λ _. refl,
+)

@@ -1,4 +1,4 @@
-use Rattle.std.proofs.Common.{◌≡◌, ℕ, ◌<◌, false}
+use Rattle.std.proofs.Common.{◌≡◌, ℕ, ◌<◌, ◌≤◌, true}
 use Rattle.enumset_repr.specs.BitSet as set
 use Rattle.example_weekdays.specs.Week.{bit, wait}
 use Rattle.example_weekdays.proofs.schedule.nearest_day.Given as goal
@@ -7,5 +7,5 @@ use Rattle.example_weekdays.proofs.schedule.nearest_day.Given as goal
 abbrev pub invariant-loop : goal.invariant-loop
 invariant-loop l = record {
   far : l.counter < 7 → wait (bit l.fn.from) (bit l.day) ≡ l.counter;
-  none : (q : ℕ) → q < 7 → wait (bit l.fn.from) q < l.counter → set.contains l.days q ≡ false;
+  none : (q : ℕ) → set.contains l.days q ≡ true → l.counter ≤ wait (bit l.fn.from) q;
 }

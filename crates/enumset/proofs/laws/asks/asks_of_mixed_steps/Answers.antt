@@ -1,5 +1,4 @@
-use Rattle.std.proofs.Common.{◌≡◌, length, ap, ◌∙◌, arith}
-use Rattle.enumset_repr.specs.BitSet.{ascending}
+use Rattle.std.proofs.Common.{length, ap, ◌∙◌, arith}
 use Rattle.enumset_array.specs.Walks.{answers, without_answers, items_among}
 use Rattle.enumset.proofs.AskedSteps.{few_answers}
 use Rattle.enumset.proofs.laws.asks.asks_of_mixed_steps.Goals as goal
@@ -10,9 +9,7 @@ returns-clause-items g c =
 
 pub returns-clause-yielded : goal.returns-clause-yielded
 returns-clause-yielded g c =
-    let same : length (items_among (answers c.iter-iter.result.items c.args.ends.now)) ≡ length (items_among (answers (ascending c.args.set.now) c.args.ends.now)) =
-    ap (λ xs. length (items_among (answers xs c.args.ends.now))) c.iter-iter.ensures.ascending in
-    omega (arith, c.take_mixed_steps.ensures.asks, c.iter-iter.ensures.asks, c.iter-iter.ensures.span, same)
+    omega (arith, c.take_mixed_steps.ensures.asks, c.iter-iter.ensures.asks, c.iter-iter.ensures.span, ap (λ xs. length (items_among (answers xs c.args.ends.now))) c.iter-iter.ensures.ascending)
 
 pub returns-clause-asks : goal.returns-clause-asks
 returns-clause-asks g c =

@@ -1,4 +1,4 @@
-use Rattle.std.proofs.Common.{◌≤◌, length, sym, ◌∙◌, arith}
+use Rattle.std.proofs.Common.{sym, ◌∙◌, arith}
 use Rattle.enumset.proofs.AskedSteps.{left_next, asks_next, left_last}
 use Rattle.enumset.proofs.laws.asks.take_steps.Goals as goal
 
@@ -10,8 +10,7 @@ loop-end-preserved g c = record {
 
 pub returns-clause-items : goal.returns-clause-items
 returns-clause-items g c =
-    let done : length c.args.ends.now ≤ c.loop-end.end-index = omega (arith, c.loop-end-test.false) in
-    sym (left_last c.args.ends.now c.loop-end.end-index c.loop-end.iter.items done) ∙ c.loop-end.invariant.items
+    sym (left_last c.args.ends.now c.loop-end.end-index c.loop-end.iter.items (omega (arith, c.loop-end-test.false))) ∙ c.loop-end.invariant.items
 
 pub returns-clause-asks : goal.returns-clause-asks
 returns-clause-asks g c = omega (arith, c.loop-end.invariant.asks)

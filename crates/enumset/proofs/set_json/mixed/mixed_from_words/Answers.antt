@@ -1,14 +1,16 @@
-use Rattle.std.proofs.Common.{Ok, refl, sym, ap, ◌∙◌}
+use Rattle.std.proofs.Common.{◌≡◌, true, Ok, sym, ap, ◌∙◌}
+use Rattle.enumset_repr.specs.BitSet.{is_subset, below}
+use Rattle.enumset_repr.specs.Words.{bits_of}
 use Rattle.enumset_repr.specs.Laws.Low.{low_within}
+use Rattle.enumset.proofs.set_json.mixed.mixed_from_words.Goals.{in_default-via-in-Refuse+else-not-is_whole, in_default-via-in_default}
 use Rattle.enumset.proofs.set_json.mixed.mixed_from_words.Goals as goal
 
-pub returns-in-Drop : goal.returns-in-Drop
-returns-in-Drop g c = rw (c.in-Drop.is, c.in_ok-items.ensures.words) (ap Ok (c.from_repr.ensures ∙ c.set_of_low_words-repr.ensures))
-
-pub returns-then-has_all_words : goal.returns-then-has_all_words
-returns-then-has_all_words g c =
-    rw (c.in-Refuse.is, c.in_ok-items.ensures.words, ← c.has_all_words.ensures, c.if-has_all_words.true)
-    (ap Ok (c.from_repr-then-has_all_words.ensures ∙ c.set_of_low_words-repr.ensures ∙ low_within _ _ (sym c.has_all_words.ensures ∙ c.if-has_all_words.true)))
-
-pub returns-else-has_all_words : goal.returns-else-has_all_words
-returns-else-has_all_words g c = rw (c.in-Refuse.is, c.in_ok-items.ensures.words, ← c.has_all_words.ensures, c.if-has_all_words.false) refl
+pub returns-in_default : goal.returns-in_default
+returns-in_default g c =
+    let read = c.in_ok-repr.ensures.read in
+    elim c.in_default.branch [
+      | in_default-via-in-Refuse+else-not-is_whole w ↦
+          let within : is_subset (bits_of read.0) (below g.T.Repr.EnumSetTypeRepr.WIDTH) ≡ true = sym read.3 ∙ w.if-not-is_whole.false in
+          rw (w.in-Refuse.is, read.1, within) (ap Ok (c.from_repr.ensures ∙ read.2 ∙ low_within _ _ within))
+      | in_default-via-in_default w ↦ rw (w.in_default.is, read.1) (ap Ok (c.from_repr.ensures ∙ read.2))
+    ]

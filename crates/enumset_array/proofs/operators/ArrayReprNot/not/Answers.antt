@@ -1,12 +1,7 @@
 use Rattle.std.proofs.Common.{rules}
 use Rattle.enumset_array.specs.ArrayWords.{IsArrayRepr}
-use Rattle.enumset_array.proofs.CombinedWords.{inverted_repr, inverted_set}
+use Rattle.enumset_array.proofs.CombinedWords.{inverted_set}
 use Rattle.enumset_array.proofs.operators.ArrayReprNot.not.Goals as goal
-
-pub invariant_of-result : goal.invariant_of-result
-invariant_of-result g c =
-    let first : IsArrayRepr g.row.N c.self.inside.0 = record { long = search rules; fit = search rules; past = c.self.invariant } in
-    rw c.combine.ensures (inverted_repr _ _ first).past
 
 pub returns : goal.returns
 returns g c =

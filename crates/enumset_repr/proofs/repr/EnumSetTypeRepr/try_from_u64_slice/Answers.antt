@@ -1,10 +1,8 @@
-use Rattle.std.proofs.Common.{refl, sym, ap, ◌∙◌, arith, true≢false, inl, inr, slice_index}
-use Rattle.std.proofs.lemmas.Bool.{cases_lt}
+use Rattle.std.proofs.Common.{refl, sym, ap, ◌∙◌, arith, true≢false}
 use Rattle.enumset_repr.specs.Words.{word}
 use Rattle.enumset_repr.specs.Laws.Low.{low_within}
 use Rattle.enumset_repr.specs.Laws.WordLists.{word-bits_of}
 use Rattle.enumset_repr.specs.Laws.Filled.{all_kept}
-use Rattle.enumset_repr.proofs.Slices.{same_at}
 use Rattle.enumset_repr.proofs.repr.EnumSetTypeRepr.try_from_u64_slice.Goals as goal
 
 pub returns-then-word_or_zero-v-clause-fits : goal.returns-then-word_or_zero-v-clause-fits
@@ -13,12 +11,6 @@ returns-then-word_or_zero-v-clause-fits g c = (
   λ within. absurd (c.if-word_or_zero-v.true (
       c.word_or_zero.ensures ∙ ap (λ s. word s c.loop-i.i) (c.from_u64_slice-repr.ensures ∙ low_within _ _ within) ∙ word-bits_of c.args.v.now c.loop-i.i (λ k. (c.type_inv.v k).fits))),
 )
-
-pub loop-i-preserved : goal.loop-i-preserved
-loop-i-preserved g c = λ w under. elim (cases_lt w c.loop-i.i) [
-  | inl before ↦ c.loop-i.invariant w before
-  | inr from ↦ same_at (word (g.Self.EnumSetTypeRepr.members c.from_u64_slice-repr.result)) (slice_index c.args.v.now) c.loop-i.i w (omega (arith, under, from)) (sym c.word_or_zero.ensures ∙ c.if-word_or_zero-v.false)
-]
 
 pub returns-clause-fits : goal.returns-clause-fits
 returns-clause-fits g c = (

@@ -9,9 +9,6 @@ returns-else-bit-WIDTH-clause-valid g c =
     le-ltb _ _ c.if-bit-WIDTH.false
     ∙ sym (contains-past _ _ _ c.valid_repr-all.ensures.within (omega (arith, c.if-bit-WIDTH.false, c.WIDTH.ensures)))
 
-pub returns-else-bit-WIDTH-clause-past : goal.returns-else-bit-WIDTH-clause-past
-returns-else-bit-WIDTH-clause-past g c past = le-ltb _ _ c.if-bit-WIDTH.false
-
 pub returns-else-bit-WIDTH-clause-of_a_variant : goal.returns-else-bit-WIDTH-clause-of_a_variant
 returns-else-bit-WIDTH-clause-of_a_variant g c =
     returns-else-bit-WIDTH-clause-valid g c ∙ contains-is_in _ _ _ refl
@@ -19,10 +16,3 @@ returns-else-bit-WIDTH-clause-of_a_variant g c =
 pub returns-then-bit-WIDTH-clause-of_a_variant : goal.returns-then-bit-WIDTH-clause-of_a_variant
 returns-then-bit-WIDTH-clause-of_a_variant g c =
     rw (c.has_bit.ensures, c.valid_repr-all.ensures.members) (contains-is_in _ _ _ refl)
-
-pub returns-then-bit-WIDTH-clause-valid : goal.returns-then-bit-WIDTH-clause-valid
-returns-then-bit-WIDTH-clause-valid g c = rw (c.has_bit.ensures, c.valid_repr-all.ensures.members) refl
-
-pub returns-then-bit-WIDTH-clause-past : goal.returns-then-bit-WIDTH-clause-past
-returns-then-bit-WIDTH-clause-past g c past =
-    absurd (omega (arith, past, c.if-bit-WIDTH.true, c.WIDTH.ensures))

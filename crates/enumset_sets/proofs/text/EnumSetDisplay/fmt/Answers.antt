@@ -1,4 +1,4 @@
-use Rattle.std.proofs.Common.{◌≡◌, ◌==◌, ◌+◌, ℕ, false, ap, ◌∙◌, arith}
+use Rattle.std.proofs.Common.{ap, ◌∙◌, arith}
 use Rattle.std.proofs.lemmas.List.{length_push}
 use Rattle.std.proofs.lemmas.Bool.Decides.{nat_tests}
 use Rattle.std.proofs.lemmas.Iterator.Consumers.{YieldsList-end}
@@ -6,14 +6,10 @@ use Rattle.enumset_sets.specs.Laws.Iterators.{of_bits}
 use Rattle.enumset_sets.specs.Laws.Texts.{writes_one_more, writes_at, text_at-tells}
 use Rattle.enumset_sets.proofs.text.EnumSetDisplay.fmt.Goals as goal
 
--- a list with an item pushed is not empty
-not_empty : (n m : ℕ) → m ≡ n + 1 → false ≡ (m == 0)
-not_empty n m is = grind (arith, nat_tests)
-
 pub loop-element-preserved : goal.loop-element-preserved
 loop-element-preserved g c =
-    record {
-      first = not_empty _ _ (length_push c.loop-element.yielded c.in-Some.element);
+    let longer = length_push c.loop-element.yielded c.in-Some.element in record {
+      first = grind (arith, nat_tests, longer);
       written = writes_one_more g.T.Display.output g.W.Write.write_str_gives c.loop-element.yielded c.in-Some.element _ _ _ _ _ c.loop-element.invariant.first c.loop-element.invariant.written c.in_ok-write_separator.ensures c.in_ok-fmt.ensures.writes;
     }
 

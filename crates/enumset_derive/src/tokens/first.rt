@@ -1,0 +1,71 @@
+//! The first token of a text.
+
+use super::quotes::{after_quote, after_raw_prefix, after_tick};
+use super::{Kind, after, before, is_space, is_word};
+use enumset_derive_plan::Reason;
+
+/// What the first token of a text is, and the text after it.
+pub fn first_token(first: char, text: &str) -> (Kind, &str) {
+    let rest = text.strip_prefix(first).unwrap_or("");
+    match first {
+        ' ' | '\t' | '\n' | '\r' => (Kind::Space, rest.trim_start_matches(is_space)),
+        '/' if rest.starts_with('/') => (comment_kind(text), rest.trim_start_matches(is_on_line)),
+        '/' if rest.starts_with('*') => block_comment(text),
+        '"' => after_quote(rest),
+        '\'' => after_tick(rest),
+        ':' => match rest.strip_prefix(':') {
+            Some(rest) => (Kind::Mark(':'), rest),
+            None => (Kind::Other, rest),
+        },
+        _ if is_word(first) => word(text),
+        _ => (Kind::Mark(first), rest),
+    }
+}
+
+fn is_on_line(character: char) -> bool {
+    character != '\n'
+}
+
+/// What the comment is that a text begins with.
+fn comment_kind(text: &str) -> Kind {
+    match text.as_bytes() {
+        [_, _, b'!', ..] => Kind::InnerDoc,
+        [_, b'/', b'/', b'/', ..] | [_, b'*', b'*', b'*' | b'/', ..] => Kind::Comment,
+        [_, b'/', b'/', ..] | [_, b'*', b'*', ..] => Kind::OuterDoc,
+        _ => Kind::Comment,
+    }
+}
+
+/// What the block comment is that a text begins with, and the text after it. Block comments may stand in it.
+fn block_comment(text: &str) -> (Kind, &str) {
+    let mut depth = 0usize;
+    let mut last = ' ';
+    for (at, character) in text.char_indices() {
+        match (last, character) {
+            ('/', '*') => depth = depth.saturating_add(1),
+            ('*', '/') => depth = depth.saturating_sub(1),
+            _ => {
+                last = character;
+                continue;
+            }
+        }
+        last = ' ';
+        if depth == 0 {
+            return (comment_kind(text), after(text, at));
+        }
+    }
+    (Kind::Fault(Reason::UnclosedComment), "")
+}
+
+/// What a token is that begins as a word, and the text after it: a word, a raw name, or a text in quotes.
+fn word(text: &str) -> (Kind, &str) {
+    let rest = text.trim_start_matches(is_word);
+    let next = rest.chars().next();
+    let after_next = after(rest, 0);
+    match (before(text, rest), next) {
+        ("r" | "br" | "cr", Some('#' | '"')) => after_raw_prefix(rest),
+        ("b" | "c", Some('"')) => after_quote(after_next),
+        ("b" | "c", Some('\'')) => after_tick(after_next),
+        _ => (Kind::Word, rest),
+    }
+}

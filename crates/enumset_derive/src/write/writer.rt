@@ -1,0 +1,92 @@
+//! The text of a module, and the parts that it is made of.
+
+use super::Text;
+use std::alloc::{AllocError, Global};
+use std::collections::BTreeMap;
+use std::convert::AsStr;
+
+/// A text that grows, and the parts that go into it. If memory runs out, the text that the writer ends with is an error.
+#[derive(Drop)]
+pub(super) struct Writer {
+    pub alloc: Global,
+    parts: BTreeMap<&'static str, String>,
+    text: String,
+    has_failed: bool,
+}
+
+impl Writer {
+    pub fn new(alloc: Global) -> Writer {
+        Writer {
+            alloc,
+            parts: BTreeMap::new(alloc),
+            text: String::new(alloc),
+            has_failed: false,
+        }
+    }
+
+    /// Adds a part, in the place of an earlier one of its name.
+    pub fn set(&mut self, name: &'static str, text: Text) {
+        let is_set = match text {
+            Ok(text) => self.parts.insert(name, text).is_ok(),
+            Err(_) => false,
+        };
+        self.has_failed = self.has_failed || !is_set;
+    }
+
+    /// Adds a part: what a template becomes.
+    pub fn define(&mut self, name: &'static str, template: &str) {
+        let text = self.expanded(template);
+        self.set(name, text);
+    }
+
+    /// The part of this name.
+    pub fn part(&self, name: &str) -> &str {
+        match self.parts.get(name) {
+            Some(text) => text.as_str(),
+            None => "",
+        }
+    }
+
+    /// A template with the part of each name between two `@`.
+    fn expanded(&self, template: &str) -> Text {
+        let mut text = String::new(self.alloc);
+        let mut is_name = false;
+        for piece in template.split('@') {
+            text.push_str(if is_name { self.part(piece) } else { piece })?;
+            is_name = !is_name;
+        }
+        Ok(text)
+    }
+
+    /// Writes a template.
+    pub fn write(&mut self, template: &str) {
+        match self.expanded(template) {
+            Ok(text) => self.push(text.as_str()),
+            Err(_) => self.has_failed = true,
+        }
+    }
+
+    /// Writes a text as it is.
+    pub fn push(&mut self, text: &str) {
+        let is_written = self.text.push_str(text).is_ok();
+        self.has_failed = self.has_failed || !is_written;
+    }
+
+    /// Writes texts as they are, each with what comes before it and after it.
+    pub fn push_each<S: AsStr>(&mut self, before: &str, texts: &[S], after: &str) {
+        for text in texts {
+            self.push(before);
+            self.push(text.as_str());
+            self.push(after);
+        }
+    }
+
+    /// The text that was written.
+    pub fn finish(self) -> Text {
+        if self.has_failed {
+            Err(AllocError)
+        } else {
+            Ok(self.text)
+        }
+    }
+}

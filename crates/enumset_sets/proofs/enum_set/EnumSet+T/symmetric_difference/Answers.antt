@@ -1,5 +1,0 @@
-use Rattle.enumset_repr.specs.Laws.Members.{symmetric_difference-is_subset}
-use Rattle.enumset_sets.proofs.enum_set.EnumSet+T.symmetric_difference.Goals as goal
-
-pub of_repr-requires : goal.of_repr-requires
-of_repr-requires g c = rw (g.met.T.Repr.EnumSetTypeRepr.operators.bitxor _ _ _ c.bitxor.ensures) (symmetric_difference-is_subset _ _ _ c.self.invariant.valid_only c.other.invariant.valid_only)
