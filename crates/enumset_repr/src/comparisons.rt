@@ -15,7 +15,7 @@ pub fn are_same<R: EnumSetTypeRepr>(a: &R, b: &R) -> bool
     // The laws of `==` and of the order are about values alone.
     a.learn_is_value();
     b.learn_is_value();
-    *a == *b
+    a.eq(b)
 }
 
 /// How the two sets compare: the greater is the one that has the greatest number that is in exactly one of them. Rust's

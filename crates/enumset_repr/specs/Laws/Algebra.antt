@@ -7,7 +7,7 @@
 --     from_list_.., insert_each_..      a set built from a list of its members
 -- The ruleset `algebra` has those that a tactic can apply by itself. A crate above cites it by
 -- `#[tactic(auto, using(enumset_repr::specs::Laws::Algebra::algebra))]`.
-use Rattle.std.proofs.Common.{◌≡◌, ℕ, true, false, cond, List, [], ◌∷◌, refl, sym, ◌∙◌, arith, ◌↔◌}
+use Rattle.std.proofs.Common.{◌≡◌, ℕ, true, false, cond, List, [], ◌∷◌, refl, sym, ap, ◌∙◌, arith, ◌↔◌}
 use Rattle.std.proofs.lemmas.Bool.Decides.{nat_tests, same_from_decides}
 use Rattle.enumset_repr.specs.BitSet.{BitSet, contains, ascending, empty, insert, only, remove, from_list, insert_each, union, intersection, difference, symmetric_difference, is_subset, is_disjoint}
 use Rattle.enumset_repr.specs.Laws.Members.{members, subsets, same_set, contains-ascending, contains-from_list, contains-insert_each, contains-is_subset, is_subset-contains, contains-is_disjoint, is_disjoint-contains, is_subset_iff, is_disjoint_iff}
@@ -60,6 +60,9 @@ empty_intersection s = same_set _ _ (λ q. grind (arith, members))
 
 pub intersection_union : (s t : BitSet) → intersection s (union s t) ≡ s
 intersection_union s t = same_set _ _ (λ q. grind (arith, members))
+
+pub intersection_over_union : (s t u : BitSet) → intersection s (union t u) ≡ union (intersection s t) (intersection s u)
+intersection_over_union s t u = same_set _ _ (λ q. grind (arith, members))
 
 pub ruleset on_intersections = (intersection_comm, intersection_self, intersection_empty, empty_intersection, intersection_union)
 
@@ -154,6 +157,12 @@ union_only s b = same_set _ _ (λ q. grind (arith, members))
 
 pub difference_only : (s : BitSet) (b : ℕ) → difference s (only b) ≡ remove s b
 difference_only s b = same_set _ _ (λ q. grind (arith, members))
+
+pub intersection_only_iff : (s : BitSet) (b : ℕ) → (intersection s (only b) ≡ empty) ↔ (contains s b ≡ false)
+intersection_only_iff s b = (
+  λ none. let here = ap (λ t. contains t b) none in grind (arith, members, nat_tests),
+  λ none. same_set _ _ (λ q. grind (arith, members, nat_tests)),
+)
 
 pub insert_union : (s t : BitSet) (b : ℕ) → union (insert s b) t ≡ insert (union s t) b
 insert_union s t b = same_set _ _ (λ q. grind (arith, members))
@@ -289,6 +298,11 @@ pub insert_each_ascending : (s : BitSet) → insert_each empty (ascending s) ≡
 unfolding union
 insert_each_ascending s = empty_union s
 
+-- a set with the members of another inserted one by one
+pub insert_each_union : (s t : BitSet) → insert_each s (ascending t) ≡ union s t
+unfolding union
+insert_each_union s t = refl
+
 -- a step of a loop that inserts the numbers of a list in turn: it inserts the first and leaves the others
 pub insert_each_insert : (s : BitSet) (b : ℕ) (bs : List ℕ) → insert_each (insert s b) bs ≡ insert_each s (b ∷ bs)
 insert_each_insert s b bs = same_set _ _ (λ q. grind (arith, members, contains-insert_each))
@@ -297,7 +311,7 @@ pub insert_each_none : (s : BitSet) → insert_each s [] ≡ s
 unfolding insert_each
 insert_each_none s = refl
 
-pub ruleset on_lists = (from_list_ascending, insert_each_ascending, insert_each_insert, insert_each_none)
+pub ruleset on_lists = (from_list_ascending, insert_each_ascending, insert_each_union, insert_each_insert, insert_each_none)
 
 -- What a proof about code over sets needs: the laws of `contains`, of subsets, and those of this file that do more than
 -- reorder or regroup.
