@@ -1,11 +1,12 @@
 -- The commands that the lines of an input write.
 --     tokens_of      the tokens of a line, which spaces separate
+--     without_words      the command without words that fields write after a name
 --     command_of      the command that the tokens of a line write
 --     mixed_command_of      the command of mixed sets that they write
 --     before      a command before those of the lines after it, or the fault of a line that is not a command
 --     line_then, commands_from      the commands of a line and of those after it;  the commands of lines
 --     commands_of_text      the commands of an input, or the fault of its first line that is not a command, by what the tokens of a line write
-use Rattle.std.specs.Prelude.{◌==◌, ℕ, ◌+◌, not, List, [], ◌∷◌, length, filter, Option, Some, None, option_map, option_and_then, Result, Ok, Err}
+use Rattle.std.specs.Prelude.{◌==◌, ℕ, ◌+◌, not, List, [], ◌∷◌, length, filter, Option, Some, None, option_map, Result, Ok, Err}
 use Rattle.std.specs.List.{slice_split}
 use Rattle.std.specs.Option.{option_or}
 use Rattle.std.specs.Str.{byte}
@@ -15,21 +16,27 @@ use Rattle.enumset_commands.specs.declared.mixed_command.MixedCommand.{MixedComm
 use Rattle.enumset_commands.specs.declared.mixed_command.MixedCommand.TheVariants.{Common}
 use Rattle.enumset_commands.specs.declared.text_fault.TextFault.{TextFault}
 use Rattle.enumset_commands.specs.declared.text_fault.TextFault.TheVariants.{BadLine}
-use Rattle.enumset_commands.specs.Verbs.{verb_of, own_verb_of}
+use Rattle.enumset_commands.specs.Verbs.{assignments, queries, changes, word_verbs, own_verbs, written}
 
 -- the parts between spaces that are not empty
 abbrev pub tokens_of : List ℕ → List (List ℕ)
 tokens_of line = filter (λ token. not (length token == 0)) (slice_split (λ b. b == byte " ") line)
 
+-- one that takes no words
+abbrev pub without_words : List ℕ → List (List ℕ) → Option Command
+without_words name fields =
+    option_or (written assignments name fields) (option_or (written queries name fields) (written changes name fields))
+
 -- the command that the tokens of a line write: its name says what the others are
 abbrev pub command_of : List (List ℕ) → Option Command
 command_of [] = None
-command_of (name ∷ fields) = option_and_then (λ verb. verb fields) (verb_of name)
+command_of (name ∷ fields) =
+    option_or (without_words name fields) (written word_verbs name fields)
 
 -- one of mixed sets alone, or one of every run
 abbrev pub mixed_command_of : List (List ℕ) → Option MixedCommand
 mixed_command_of [] = None
-mixed_command_of (name ∷ fields) = option_or (option_and_then (λ verb. verb fields) (own_verb_of name)) (option_map Common (command_of (name ∷ fields)))
+mixed_command_of (name ∷ fields) = option_or (written own_verbs name fields) (option_map Common (command_of (name ∷ fields)))
 
 -- the command of line n, if it is one, before those of the lines after it
 abbrev pub before : {C : Type 0} → Option C → ℕ → Result (List C) TextFault → Result (List C) TextFault

@@ -1,9 +1,9 @@
 -- The commands by their names.
 --     of_one, of_two, of_three, of_words      the command that fields write, from its numbers, and from a register and words
---     verbs      for each name of a command without words, the command that its fields write
---     verb_of      for any name, the command that its fields write
---     own_verb_of      for a name of a command that mixed sets alone have, the command that its fields write
-use Rattle.std.specs.Prelude.{ℕ, List, [], ◌∷◌, codes, Option, option_map}
+--     assignments, queries, changes, word_verbs      for each name of a command that replies `ok`, of one that changes nothing, of one that changes and tells, and of one that takes words: the command that its fields write
+--     own_verbs      for each name of a command that mixed sets alone have, the command that its fields write
+--     written      the command that fields write after a name, by a table of names
+use Rattle.std.specs.Prelude.{ℕ, List, [], ◌∷◌, codes, Option, option_map, option_and_then}
 use Rattle.std.specs.Map.{lookup}
 use Rattle.std.specs.Str.{bytes_eq}
 use Rattle.enumset_commands.specs.Fields.{register, bit, width, value, count, one, two, three, register_and_words}
@@ -24,17 +24,13 @@ of_three command first second third fields = option_map (λ p. command p.0 p.1 p
 abbrev pub of_words : (ℕ → List ℕ → Command) → List (List ℕ) → Option Command
 of_words command fields = option_map (λ p. command p.0 p.1) (register_and_words fields)
 
-abbrev pub verbs : List (List ℕ × (List (List ℕ) → Option Command))
-verbs =
+-- these reply `ok`
+abbrev pub assignments : List (List ℕ × (List (List ℕ) → Option Command))
+assignments =
     (codes "new", of_one New register)
     ∷ (codes "all", of_one All register)
     ∷ (codes "only", of_two Only register bit)
-    ∷ (codes "insert", of_two Insert register bit)
-    ∷ (codes "remove", of_two Remove register bit)
-    ∷ (codes "contains", of_two Contains register bit)
     ∷ (codes "clear", of_one Clear register)
-    ∷ (codes "len", of_one Len register)
-    ∷ (codes "empty", of_one IsEmpty register)
     ∷ (codes "union", of_three Union register register register)
     ∷ (codes "intersection", of_three Intersection register register register)
     ∷ (codes "difference", of_three Difference register register register)
@@ -42,6 +38,16 @@ verbs =
     ∷ (codes "complement", of_two Complement register register)
     ∷ (codes "insert_all", of_two InsertAll register register)
     ∷ (codes "remove_all", of_two RemoveAll register register)
+    ∷ (codes "from_number_cut", of_three FromNumberCut register width value)
+    ∷ (codes "iter", of_two Iter register register)
+    ∷ []
+
+-- these change nothing
+abbrev pub queries : List (List ℕ × (List (List ℕ) → Option Command))
+queries =
+    (codes "contains", of_two Contains register bit)
+    ∷ (codes "len", of_one Len register)
+    ∷ (codes "empty", of_one IsEmpty register)
     ∷ (codes "disjoint", of_two Disjoint register register)
     ∷ (codes "superset", of_two Superset register register)
     ∷ (codes "subset", of_two Subset register register)
@@ -49,27 +55,31 @@ verbs =
     ∷ (codes "compare", of_two Compare register register)
     ∷ (codes "number", of_two Number register width)
     ∷ (codes "number_cut", of_two NumberCut register width)
-    ∷ (codes "from_number", of_three FromNumber register width value)
-    ∷ (codes "from_number_cut", of_three FromNumberCut register width value)
     ∷ (codes "words", of_two Words register count)
     ∷ (codes "words_cut", of_two WordsCut register count)
-    ∷ (codes "iter", of_two Iter register register)
-    ∷ (codes "next", of_one Next register)
-    ∷ (codes "next_back", of_one NextBack register)
     ∷ (codes "left", of_one Left register)
     ∷ []
 
-abbrev pub verb_of : List ℕ → Option (List (List ℕ) → Option Command)
-verb_of name =
-    lookup (bytes_eq name) (
-    (codes "from_words_cut", of_words FromWordsCut)
-    ∷ (codes "from_words", of_words FromWords)
-    ∷ verbs
-    )
+-- these change a register, or may, and tell something
+abbrev pub changes : List (List ℕ × (List (List ℕ) → Option Command))
+changes =
+    (codes "insert", of_two Insert register bit)
+    ∷ (codes "remove", of_two Remove register bit)
+    ∷ (codes "from_number", of_three FromNumber register width value)
+    ∷ (codes "next", of_one Next register)
+    ∷ (codes "next_back", of_one NextBack register)
+    ∷ []
 
-abbrev pub own_verb_of : List ℕ → Option (List (List ℕ) → Option MixedCommand)
-own_verb_of name =
-    lookup (bytes_eq name) (
+-- these take words
+abbrev pub word_verbs : List (List ℕ × (List (List ℕ) → Option Command))
+word_verbs =
+    (codes "from_words", of_words FromWords)
+    ∷ (codes "from_words_cut", of_words FromWordsCut)
+    ∷ []
+
+-- these are of mixed sets alone
+abbrev pub own_verbs : List (List ℕ × (List (List ℕ) → Option MixedCommand))
+own_verbs =
     (codes "has_bit", of_two HasBit register bit)
     ∷ (codes "insert_bit", of_two InsertBit register bit)
     ∷ (codes "remove_bit", of_two RemoveBit register bit)
@@ -79,4 +89,6 @@ own_verb_of name =
     ∷ (codes "as_enumset", of_two AsEnumset register register)
     ∷ (codes "truncate", of_two Truncate register register)
     ∷ []
-    )
+
+abbrev pub written : {C : Type 0} → List (List ℕ × (List (List ℕ) → Option C)) → List ℕ → List (List ℕ) → Option C
+written verbs name fields = option_and_then (λ verb. verb fields) (lookup (bytes_eq name) verbs)

@@ -1,9 +1,8 @@
 //! The command of a name over its operands.
-ghost use Rattle.std.specs.Prelude.{◌≡◌, option_and_then};
-ghost use Rattle.std.specs.Map.{lookup};
+ghost use Rattle.std.specs.Prelude.{◌≡◌};
 ghost use Rattle.std.specs.Str.{bytes_eq};
-ghost use Rattle.enumset_commands.specs.Lines.{command_of};
-ghost use Rattle.enumset_commands.specs.Verbs.{verbs};
+ghost use Rattle.enumset_commands.specs.Lines.{command_of, without_words};
+ghost use Rattle.enumset_commands.specs.Verbs.{assignments, queries, changes, written};
 
 use super::line_command::LineCommand;
 use super::operands::{one, three, two, with_bit, with_value, with_words};
@@ -30,9 +29,12 @@ impl LineCommand for Command {
     ghost command_of = { command_of };
 
     fn read(alloc: Global, name: &[u8], fields: Tokens) -> Option<Result<Command, AllocError>> {
+        if let Some(command) = without_words(name, fields.same()) {
+            return Some(Ok(command));
+        }
         let cuts = is(name, "from_words_cut");
         if !cuts && !is(name, "from_words") {
-            return Some(Ok(without_words(name, fields)?));
+            return None;
         }
         match with_words(alloc, fields)? {
             Ok((r, words)) if cuts => Some(Ok(Command::FromWordsCut { r, words })),
@@ -44,19 +46,22 @@ impl LineCommand for Command {
 
 /// The command of a name that takes no words.
 fn without_words(name: &[u8], fields: Tokens) -> Option<Command>
-    ensures { result
-        ≡ option_and_then (λ verb. verb fields.entry) (lookup (bytes_eq name.now) verbs) }
+    ensures { result ≡ without_words name.now fields.entry }
+{
+    assignment(name, fields.same())
+        .or(query(name, fields.same()))
+        .or(change(name, fields))
+}
+
+/// The command of a name whose reply is `ok`.
+fn assignment(name: &[u8], fields: Tokens) -> Option<Command>
+    ensures { result ≡ written assignments name.now fields.entry }
 {
     command_of_name! { name, fields => Command:
         "new" one New { r };
         "all" one All { r };
         "only" with_bit Only { r, bit };
-        "insert" with_bit Insert { r, bit };
-        "remove" with_bit Remove { r, bit };
-        "contains" with_bit Contains { r, bit };
         "clear" one Clear { r };
-        "len" one Len { r };
-        "empty" one IsEmpty { r };
         "union" three Union { to, a, b };
         "intersection" three Intersection { to, a, b };
         "difference" three Difference { to, a, b };
@@ -64,6 +69,19 @@ fn without_words(name: &[u8], fields: Tokens) -> Option<Command>
         "complement" two Complement { to, a };
         "insert_all" two InsertAll { r, a };
         "remove_all" two RemoveAll { r, a };
+        "from_number_cut" with_value FromNumberCut { r, width, value };
+        "iter" two Iter { i, r };
+    }
+}
+
+/// The command of a name that changes nothing.
+fn query(name: &[u8], fields: Tokens) -> Option<Command>
+    ensures { result ≡ written queries name.now fields.entry }
+{
+    command_of_name! { name, fields => Command:
+        "contains" with_bit Contains { r, bit };
+        "len" one Len { r };
+        "empty" one IsEmpty { r };
         "disjoint" two Disjoint { a, b };
         "superset" two Superset { a, b };
         "subset" two Subset { a, b };
@@ -71,14 +89,22 @@ fn without_words(name: &[u8], fields: Tokens) -> Option<Command>
         "compare" two Compare { a, b };
         "number" with_bit Number { r, width };
         "number_cut" with_bit NumberCut { r, width };
-        "from_number" with_value FromNumber { r, width, value };
-        "from_number_cut" with_value FromNumberCut { r, width, value };
         "words" two Words { r, count };
         "words_cut" two WordsCut { r, count };
-        "iter" two Iter { i, r };
+        "left" one Left { i };
+    }
+}
+
+/// The command of a name that changes a register, or may, and tells something.
+fn change(name: &[u8], fields: Tokens) -> Option<Command>
+    ensures { result ≡ written changes name.now fields.entry }
+{
+    command_of_name! { name, fields => Command:
+        "insert" with_bit Insert { r, bit };
+        "remove" with_bit Remove { r, bit };
+        "from_number" with_value FromNumber { r, width, value };
         "next" one Next { i };
         "next_back" one NextBack { i };
-        "left" one Left { i };
     }
 }
 

@@ -1,7 +1,7 @@
 //! The command of mixed sets of a name over its operands.
-ghost use Rattle.std.specs.Prelude.{◌≡◌, option_and_then};
+ghost use Rattle.std.specs.Prelude.{◌≡◌};
 ghost use Rattle.enumset_commands.specs.Lines.{mixed_command_of};
-ghost use Rattle.enumset_commands.specs.Verbs.{own_verb_of};
+ghost use Rattle.enumset_commands.specs.Verbs.{own_verbs, written};
 
 use super::commands::{command_of_name, is};
 use super::line_command::LineCommand;
@@ -31,7 +31,7 @@ impl LineCommand for MixedCommand {
 
 /// The command that mixed sets alone have of this name.
 fn own_command(name: &[u8], fields: Tokens) -> Option<MixedCommand>
-    ensures { result ≡ option_and_then (λ verb. verb fields.entry) (own_verb_of name.now) }
+    ensures { result ≡ written own_verbs name.now fields.entry }
 {
     command_of_name! { name, fields => MixedCommand:
         "has_bit" with_bit HasBit { r, bit };
