@@ -6,19 +6,11 @@
 #![tactic(auto)]
 
 #[cfg(test)]
-mod each_bit;
-#[cfg(test)]
-mod each_repr;
-#[cfg(test)]
-mod each_word;
+mod each_call;
 #[cfg(test)]
 mod expect;
 #[cfg(test)]
-mod numbers;
-#[cfg(test)]
 mod refused;
-#[cfg(test)]
-mod slices;
 #[cfg(test)]
 mod texts;
 #[cfg(test)]

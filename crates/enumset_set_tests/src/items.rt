@@ -22,7 +22,10 @@ fn sets_are_made_of_items(rt: HostRuntime) -> Result<(), Fail> {
     for letter in extended {
         write!(text, "{letter} ")?;
     }
-    expect(&rt, "into_iter", text.as_str(), "A B C ");
+    for letter in extended.iter().rev() {
+        write!(text, "{letter} ")?;
+    }
+    expect(&rt, "into_iter and rev", text.as_str(), "A B C C B A ");
     Ok(())
 }
 

@@ -69,14 +69,13 @@ fn a_refused_piece_ends_a_text(rt: HostRuntime) {
         two_of(Letters::A, Letters::C),
         MixedEnumSet::<Marks>::from_repr(13),
     );
-    let (items, members) = (set.iter(), mixed.iter());
-    let (valid, unknown) = (MixedValue::Valid(Marks::A), MixedValue::<Marks>::Invalid(3));
+    let unknown = MixedValue::<Marks>::Invalid(3);
     let mut is_whole = false;
     for left in 0..100 {
         let mut writer = Pieces { left, refused: 0 };
         let written = write!(
             writer,
-            "{set} {set:?} {items:?} {mixed} {mixed:?} {members:?} {valid} {valid:?} {unknown} {unknown:?}"
+            "{set} {set:?} {mixed} {mixed:?} {unknown} {unknown:?}"
         );
         let refused = usize::from(written.is_err());
         expect(&rt, "pieces", (left, writer.refused), (left, refused));

@@ -1,0 +1,34 @@
+//! What sets feed to a hasher, over an integer and over words.
+use crate::expect::expect;
+use enumset_mixed::{MixedEnumSet, MixedValue};
+use enumset_sets::{EnumSet, EnumSetType, raw};
+use enumset_worked::{Letters, Marks, Wide};
+use std::hash::{DefaultHasher, Hash, Hasher};
+
+fn hash_of<V: Hash>(value: &V) -> u64 {
+    let mut hasher = DefaultHasher::new();
+    value.hash(&mut hasher);
+    hasher.finish()
+}
+
+// The hash of a set of one element, and of the value that represents it.
+fn hashes<T: EnumSetType>(element: T) -> [u64; 2] {
+    let set = EnumSet::only(element);
+    [hash_of(&set), hash_of(&raw::get(set))]
+}
+
+#[test]
+fn a_set_feeds_a_hasher_its_representation(rt: HostRuntime) {
+    let [a, in_a] = hashes(Letters::A);
+    let [[p, in_p], [r, in_r]] = [hashes(Wide::P), hashes(Wide::R)];
+    expect(&rt, "hash", [a, p, r], [in_a, in_p, in_r]);
+    let (set, other) = (MixedEnumSet::<Marks>::from_repr(1), MixedEnumSet::from_repr(9));
+    let (valid, unknown) = (MixedValue::Valid(Marks::C), MixedValue::<Marks>::Invalid(2));
+    let are_equal = [
+        p == r,
+        a == hash_of(&EnumSet::only(Letters::B)),
+        hash_of(&set) == hash_of(&other),
+        hash_of(&valid) == hash_of(&unknown),
+    ];
+    expect(&rt, "hashes", are_equal, [false; 4]);
+}
