@@ -6,7 +6,7 @@ use crate::read::read_source;
 use crate::source::Source;
 use crate::tokens::tokens_of;
 use crate::write::module_text;
-use enumset_derive_plan::{DeriveError, Fault, Place, Reason};
+use enumset_derive_plan::{DeriveError, Place, Reason};
 use std::alloc::Global;
 use std::env::Env;
 use std::fs;
@@ -74,10 +74,8 @@ fn text_of(input: &[u8]) -> Result<&str, DeriveError> {
     for character in without_mark(str::from_utf8(valid).unwrap_or("")).chars() {
         place = place.after(character);
     }
-    Err(DeriveError::Fault(Fault {
-        place,
-        reason: Reason::NotUtf8,
-    }))
+    let reason = Reason::Text("these bytes are no text in UTF-8");
+    Err(DeriveError::Fault(reason.at(place)))
 }
 
 /// A text without a byte order mark at its beginning.

@@ -11,7 +11,7 @@ mod reader;
 use crate::source::{Item, Source};
 use crate::tokens::{Kind, Token};
 use draft::Draft;
-use enumset_derive_plan::{DeriveError, Place, Plan, Reason};
+use enumset_derive_plan::{DeriveError, Place};
 use reader::{Reader, Stop};
 use std::alloc::Global;
 
@@ -92,7 +92,7 @@ impl<'a> Reader<'a, '_> {
         if self.token.is_mark(']') {
             Ok(())
         } else {
-            Err(self.token.wanted("`[`"))
+            Err(self.token.fault("wanted: `[`"))
         }
     }
 
@@ -109,37 +109,18 @@ impl<'a> Reader<'a, '_> {
     /// Reads an item that begins with a comment or an attribute.
     fn read_with_attributes(&mut self) -> Result<(), DeriveError> {
         let begin = self.token;
-        let mut draft = Draft::new(self.alloc);
-        match self.read_draft(&mut draft)? {
-            Some(plan) => {
-                let end = self.token.begin;
-                self.source
-                    .push_enum(self.alloc, begin.begin, end, draft.declaration, plan)?;
-                Ok(())
-            }
-            None => self.read_other(begin),
-        }
-    }
-
-    /// Reads an item that begins with a comment or an attribute, with its plan if it is to be an element type, else up to its
-    /// keyword.
-    fn read_draft(&mut self, draft: &mut Draft<'a>) -> Result<Option<Plan>, DeriveError> {
         let left_out = self.source.left_out.len();
-        self.read_attributes(draft)?;
+        let mut draft = Draft::new(self.alloc);
+        self.read_attributes(&mut draft)?;
         if !draft.is_element_type {
             self.source.left_out.truncate(left_out);
-            return Ok(None);
+            return self.read_other(begin);
         }
-        if let Some(fault) = draft.fault {
-            return Err(DeriveError::Fault(fault));
-        }
-        if self.token.is_end() {
-            return Err(self.token.wanted("an item"));
-        }
-        if !self.token.is("enum") {
-            return Err(self.token.fault(Reason::NotAnEnum));
-        }
-        Ok(Some(self.read_enum(draft)?))
+        let plan = self.read_enum(&mut draft)?;
+        let end = self.token.begin;
+        self.source
+            .push_enum(begin.begin, end, draft.declaration, plan)?;
+        Ok(())
     }
 
     /// Goes on past an item that is no enum, from its keyword on. One that has no meaning here is left out.

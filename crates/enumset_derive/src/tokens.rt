@@ -4,7 +4,7 @@ mod first;
 mod lexer;
 mod quotes;
 
-use enumset_derive_plan::{DeriveError, Fault, Place, Reason};
+use enumset_derive_plan::{DeriveError, Place, Reason};
 pub use lexer::tokens_of;
 
 /// What a token is.
@@ -28,9 +28,13 @@ pub enum Kind {
     Other,
     /// The end of the text.
     End,
-    /// Nothing can be read from here on: a comment, a quote or a bracket that begins at the place has no end.
-    Fault(Reason),
+    /// Nothing can be read from here on: a comment, a quote or a bracket that begins at the place has no end, as this
+    /// says.
+    Fault(&'static str),
 }
+
+/// What is wrong where a bracket has no end, or another end.
+pub const UNCLOSED_BRACKET: &str = "this bracket has no end";
 
 /// A token of a source text.
 #[derive(Clone, Copy)]
@@ -56,16 +60,8 @@ impl<'a> Token<'a> {
     }
 
     /// The fault that is here.
-    pub fn fault(&self, reason: Reason) -> DeriveError {
-        DeriveError::Fault(Fault {
-            place: self.place,
-            reason,
-        })
-    }
-
-    /// The fault that something else is wanted here.
-    pub fn wanted(&self, wanted: &'static str) -> DeriveError {
-        self.fault(Reason::Wanted(wanted))
+    pub fn fault(&self, text: &'static str) -> DeriveError {
+        DeriveError::Fault(Reason::Text(text).at(self.place))
     }
 
     pub fn is_end(&self) -> bool {

@@ -32,7 +32,7 @@ pub fn module_text(alloc: Global, request: Request, source: &Source) -> Text {
     for item in &source.items {
         match item {
             Item::Other(text) => writer.push(text),
-            Item::HeadEnd if source.has_imports || source.imports.is_empty() => {}
+            Item::HeadEnd if source.has_imports || !source.has_enums => {}
             Item::HeadEnd => writer.write("@IMPORTS@\n\n"),
             Item::Imports => writer.write("@IMPORTS@"),
             Item::Enum(declaration, plan) => {

@@ -39,7 +39,7 @@ has_taken b n m = (b == m.bit) || same_number n m.number
 abbrev pub taken_at : ℕ → NamedVariant → Reason
 taken_at b m = if b == m.bit then BitTwice m.place else DiscriminantTwice m.place
 
-abbrev pub bit_among : Options → List NamedVariant → Number → Result ℕ Reason
+unfoldable pub bit_among : Options → List NamedVariant → Number → Result ℕ Reason
 bit_among o named n =
     and_then (bit_of (option_map_or (λ m. m.0) o.map Lsb) (bit_limit o.representation) (length named) n) (λ b.
     if nat_le (bit_limit o.representation) b then Err (PastRepresentation b (bit_limit o.representation))

@@ -18,30 +18,10 @@ pub struct Fault {
 /// What is wrong. What `Display` writes of each says more.
 #[derive(Clone, Copy)]
 pub enum Reason {
-    // of reading
-    NotUtf8,
-    UnclosedComment,
-    UnclosedQuote,
-    /// A bracket has no end, or another end.
-    UnclosedBracket,
-    /// This is wanted at the place.
-    Wanted(&'static str),
-    /// `EnumSetType` is derived on something other than an enum.
-    NotAnEnum,
-    HasParameters,
-    HasFields,
-    UnknownOption,
-    /// The option is `serialize_as_list`, the older name of a form in JSON.
-    OldListOption,
+    /// A fault of reading, in words.
+    Text(&'static str),
     /// The option was given before, there.
     OptionTwice(Place),
-    UnknownMap,
-    UnknownRepresentation,
-    UnknownSerialized,
-    /// The discriminant is no literal of an integer.
-    NotALiteral,
-    /// The literal is past 2^128 - 1, and is no power of two in hexadecimal, octal or binary digits.
-    LiteralTooLarge,
     // of planning
     IntegerMissing,
     /// The enum has more than 256 variants. The place is that of variant 257.
@@ -78,34 +58,11 @@ impl fmt::Display for Fault {
     }
 }
 
-const REPRESENTATIONS: &str =
-    "`repr` is \"u8\", \"u16\", \"u32\", \"u64\", \"u128\" or \"array\"; over another \
-    representation write the element type by hand, as in docs/ELEMENT-TYPES.md";
-
-const FORMS: &str =
-    "`serialize_repr` is \"u8\", \"u16\", \"u32\", \"u64\", \"u128\", \"array\", \"list\" or \"map\"";
-
-const LITERAL: &str = "a literal past 2^128 - 1 must be a power of two, and not decimal";
-
 impl fmt::Display for Reason {
     fn fmt<W: fmt::Write>(&self, f: &mut fmt::Formatter<W>) -> fmt::Result {
         f.write_str(match *self {
-            Reason::NotUtf8 => "these bytes are no text in UTF-8",
-            Reason::UnclosedComment => "this comment has no end",
-            Reason::UnclosedQuote => "this quote has no end",
-            Reason::UnclosedBracket => "this bracket has no end",
-            Reason::Wanted(wanted) => return write!(f, "wanted: {wanted}"),
-            Reason::NotAnEnum => "`EnumSetType` is for enums alone",
-            Reason::HasParameters => "the enum must have no parameters",
-            Reason::HasFields => "a variant must have no fields",
-            Reason::UnknownOption => "there is no such option",
-            Reason::OldListOption => "`serialize_as_list` is written `serialize_repr = \"list\"`",
+            Reason::Text(text) => text,
             Reason::OptionTwice(first) => return write!(f, "this option was given at {first}"),
-            Reason::UnknownMap => "`map` is \"lsb\", \"msb\", \"mask\" or \"compact\"",
-            Reason::UnknownRepresentation => REPRESENTATIONS,
-            Reason::UnknownSerialized => FORMS,
-            Reason::NotALiteral => "a discriminant must be a literal of an integer",
-            Reason::LiteralTooLarge => LITERAL,
             Reason::IntegerMissing => "`map = \"msb\"` needs `repr` to be an integer",
             Reason::TooManyVariants => "an enum may have at most 256 variants",
             Reason::NameTwice(first) => return write!(f, "this name was given at {first}"),

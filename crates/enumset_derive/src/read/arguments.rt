@@ -2,22 +2,24 @@
 
 use super::draft::Draft;
 use super::reader::Attribute;
-use crate::tokens::{Kind, Token};
+use crate::tokens::{Kind, Token, UNCLOSED_BRACKET};
 use enumset_derive_plan::{DeriveError, IntegerType, Map, Reason, Representation, Serialized};
 use std::mem;
 
-/// An option that has a value.
-#[derive(Clone, Copy)]
-enum Valued {
-    Map,
-    Representation,
-    Serialized,
-    CrateName,
-}
+const NO_VALUE: &str = "wanted: `=` and a text in quotes";
+
+const MAPS: &str = "`map` is \"lsb\", \"msb\", \"mask\" or \"compact\"";
+
+const REPRESENTATIONS: &str =
+    "`repr` is \"u8\", \"u16\", \"u32\", \"u64\", \"u128\" or \"array\"; over another \
+    representation write the element type by hand, as in docs/ELEMENT-TYPES.md";
+
+const FORMS: &str =
+    "`serialize_repr` is \"u8\", \"u16\", \"u32\", \"u64\", \"u128\", \"array\", \"list\" or \"map\"";
 
 /// What may come next after the name of such an attribute.
 #[derive(Clone, Copy)]
-enum Next {
+enum Next<'a> {
     /// `(`.
     Arguments,
     /// A name, or `)`.
@@ -25,9 +27,9 @@ enum Next {
     /// One more name of a path.
     Name,
     /// `=`, after the name of this option.
-    Equals(Valued),
+    Equals(&'a str),
     /// The value of this option, a text in quotes.
-    Value(Valued),
+    Value(&'a str),
     /// `,` or `)`.
     Separator,
     /// The `]` that ends the attribute.
@@ -48,13 +50,13 @@ impl<'a> Draft<'a> {
             }
             next = match (next, token.kind) {
                 (Next::Arguments, Kind::Mark('(')) => Next::Argument,
-                (Next::Arguments, _) => return Err(token.wanted("`(`")),
+                (Next::Arguments, _) => return Err(token.fault("wanted: `(`")),
                 (Next::Argument, Kind::Mark(')')) => Next::End,
                 (Next::End, Kind::Mark(']')) => Next::End,
                 (Next::End, Kind::Mark('(' | '[' | '{')) => {
-                    return Err(token.fault(Reason::UnclosedBracket));
+                    return Err(token.fault(UNCLOSED_BRACKET));
                 }
-                (Next::End, _) => return Err(attribute.bracket.fault(Reason::UnclosedBracket)),
+                (Next::End, _) => return Err(attribute.bracket.fault(UNCLOSED_BRACKET)),
                 _ if is_derive => self.take_derive(next, token)?,
                 _ => self.take_option(next, token)?,
             };
@@ -63,7 +65,7 @@ impl<'a> Draft<'a> {
     }
 
     /// Takes a token of the names that are derived.
-    fn take_derive(&mut self, next: Next, token: &Token<'a>) -> Result<Next, DeriveError> {
+    fn take_derive(&mut self, next: Next<'a>, token: &Token<'a>) -> Result<Next<'a>, DeriveError> {
         let following = match next {
             Next::Argument | Next::Separator if token.is_mark(':') => Next::Name,
             Next::Argument | Next::Name if token.is_name() => Next::Separator,
@@ -76,105 +78,117 @@ impl<'a> Draft<'a> {
                 }
                 return after_argument(token);
             }
-            _ => return Err(token.wanted("a path, or `)`")),
+            _ => return Err(token.fault("wanted: a path, or `)`")),
         };
         self.path.push_str(token.text)?;
         Ok(following)
     }
 
     /// Takes a token of the options.
-    fn take_option(&mut self, next: Next, token: &Token<'a>) -> Result<Next, DeriveError> {
+    fn take_option(&mut self, next: Next<'a>, token: &Token<'a>) -> Result<Next<'a>, DeriveError> {
         match (next, token.kind) {
             (Next::Argument, Kind::Word) => self.take_name(token),
-            (Next::Argument, _) => Err(token.wanted("a name of an option, or `)`")),
+            (Next::Argument, _) => Err(token.fault("wanted: a name of an option, or `)`")),
             (Next::Equals(option), Kind::Mark('=')) => Ok(Next::Value(option)),
             (Next::Value(option), Kind::Quoted) => self.take_value(option, token),
             (Next::Separator, _) => after_argument(token),
-            _ => Err(token.wanted("`=` and a text in quotes")),
+            _ => Err(token.fault(NO_VALUE)),
         }
     }
 
     /// Takes the name of an option.
-    fn take_name(&mut self, token: &Token<'a>) -> Result<Next, DeriveError> {
-        for (name, place) in &self.given {
-            if *name == token.text {
-                return Err(token.fault(Reason::OptionTwice(*place)));
-            }
+    fn take_name(&mut self, token: &Token<'a>) -> Result<Next<'a>, DeriveError> {
+        let earlier = self.given.iter().find(|given| given.0 == token.text);
+        if let Some((_, place)) = earlier {
+            return Err(Reason::OptionTwice(*place).at(token.place).into());
         }
         let options = &mut self.declaration.options;
         let mut next = Next::Separator;
         match token.text {
-            "map" => next = Next::Equals(Valued::Map),
-            "repr" => next = Next::Equals(Valued::Representation),
-            "serialize_repr" => next = Next::Equals(Valued::Serialized),
-            "crate_name" => next = Next::Equals(Valued::CrateName),
+            "map" | "repr" | "serialize_repr" | "crate_name" => next = Next::Equals(token.text),
             "serialize_deny_unknown" => options.denies_unknown = true,
             "no_ops" => options.leaves_out_operators = true,
             "no_super_impls" => options.leaves_out_supertraits = true,
             "display" => options.has_display = true,
-            "serialize_as_list" => return Err(token.fault(Reason::OldListOption)),
-            _ => return Err(token.fault(Reason::UnknownOption)),
+            "serialize_as_list" => {
+                return Err(token.fault(
+                    "`serialize_as_list` is written `serialize_repr = \"list\"`",
+                ));
+            }
+            _ => return Err(token.fault("there is no such option")),
         }
         self.given.push((token.text, token.place))?;
         Ok(next)
     }
 
     /// Takes the value of an option.
-    fn take_value(&mut self, option: Valued, token: &Token<'a>) -> Result<Next, DeriveError> {
-        let text = token.text.strip_prefix('"').unwrap_or("");
-        let Some(value) = text.strip_suffix('"') else {
-            return Err(token.wanted("`=` and a text in quotes"));
+    fn take_value(&mut self, option: &str, token: &Token<'a>) -> Result<Next<'a>, DeriveError> {
+        let quoted = token.text.strip_prefix('"').unwrap_or("");
+        let Some(value) = quoted.strip_suffix('"') else {
+            return Err(token.fault(NO_VALUE));
         };
         let options = &mut self.declaration.options;
         match option {
-            Valued::Map => {
-                let map = match value {
-                    "lsb" => Map::Lsb,
-                    "msb" => Map::Msb,
-                    "mask" => Map::Mask,
-                    "compact" => Map::Compact,
-                    _ => return Err(token.fault(Reason::UnknownMap)),
-                };
-                options.map = Some((map, token.place));
-            }
-            Valued::Representation => {
-                options.representation = match (value, integer_named(value)) {
-                    ("array", _) => Some(Representation::Words),
-                    (_, Some(integer)) => Some(Representation::Integer(integer)),
-                    _ => return Err(token.fault(Reason::UnknownRepresentation)),
-                };
-            }
-            Valued::Serialized => {
-                options.serialized = match (value, integer_named(value)) {
-                    ("array", _) => Some(Serialized::Words),
-                    ("list", _) => Some(Serialized::List),
-                    ("map", _) => Some(Serialized::Map),
-                    (_, Some(integer)) => Some(Serialized::Integer(integer)),
-                    _ => return Err(token.fault(Reason::UnknownSerialized)),
-                };
-            }
-            Valued::CrateName => options.crate_name = Some(value),
+            "map" => match map_named(value) {
+                Some(map) => options.map = Some((map, token.place)),
+                None => return Err(token.fault(MAPS)),
+            },
+            "repr" => match representation_named(value) {
+                None => return Err(token.fault(REPRESENTATIONS)),
+                representation => options.representation = representation,
+            },
+            "serialize_repr" => match form_named(value) {
+                None => return Err(token.fault(FORMS)),
+                form => options.serialized = form,
+            },
+            _ => options.crate_name = Some(value),
         }
         Ok(Next::Separator)
     }
 }
 
 /// What may come next after an argument and this token.
-fn after_argument(token: &Token) -> Result<Next, DeriveError> {
+fn after_argument<'a>(token: &Token) -> Result<Next<'a>, DeriveError> {
     match token.kind {
         Kind::Mark(',') => Ok(Next::Argument),
         Kind::Mark(')') => Ok(Next::End),
-        _ => Err(token.wanted("`,` or `)`")),
+        _ => Err(token.fault("wanted: `,` or `)`")),
+    }
+}
+
+fn map_named(value: &str) -> Option<Map> {
+    match value {
+        "lsb" => Some(Map::Lsb),
+        "msb" => Some(Map::Msb),
+        "mask" => Some(Map::Mask),
+        "compact" => Some(Map::Compact),
+        _ => None,
+    }
+}
+
+fn representation_named(value: &str) -> Option<Representation> {
+    match value {
+        "array" => Some(Representation::Words),
+        _ => integer_named(value).map(Representation::Integer),
+    }
+}
+
+fn form_named(value: &str) -> Option<Serialized> {
+    match value {
+        "array" => Some(Serialized::Words),
+        "list" => Some(Serialized::List),
+        "map" => Some(Serialized::Map),
+        _ => integer_named(value).map(Serialized::Integer),
     }
 }
 
 fn integer_named(value: &str) -> Option<IntegerType> {
-    Some(match value {
-        "u8" => IntegerType::U8,
-        "u16" => IntegerType::U16,
-        "u32" => IntegerType::U32,
-        "u64" => IntegerType::U64,
-        "u128" => IntegerType::U128,
-        _ => return None,
-    })
+    match value {
+        "u8" => Some(IntegerType::U8),
+        "u16" => Some(IntegerType::U16),
+        "u32" => Some(IntegerType::U32),
+        "u64" => Some(IntegerType::U64),
+        "u128" => Some(IntegerType::U128),
+        _ => None,
+    }
 }

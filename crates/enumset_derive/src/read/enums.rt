@@ -1,34 +1,50 @@
 //! An enum from its keyword on.
 
 use super::draft::Draft;
-use super::literals::number_of;
+use super::literals::{NOT_A_LITERAL, number_of};
 use super::reader::{Reader, Stop};
 use crate::tokens::Kind;
 use enumset_derive_plan::{
-    DeriveError, Discriminant, EnumDeclaration, Fault, Plan, Reason, Variant, plan_enum,
+    DeriveError, Discriminant, EnumDeclaration, Plan, Reason, Variant, plan_enum,
 };
 use std::mem;
 
 impl<'a> Reader<'a, '_> {
-    /// Reads an enum, and plans it before the token after it is looked at, so that the first fault of the text is found.
+    /// Reads an enum from its keyword on, and plans it before the token after it is looked at, so that the first fault of
+    /// the text is found.
     pub(super) fn read_enum(&mut self, draft: &mut Draft<'a>) -> Result<Plan, DeriveError> {
-        self.advance_past_blanks()?;
-        if !self.token.is_name() {
-            return Err(self.token.wanted("a name of an enum"));
+        if let Some(fault) = draft.fault {
+            return Err(DeriveError::Fault(fault));
         }
-        draft.declaration.name = self.token.text;
-        self.advance_past_blanks()?;
+        draft.declaration.name = self.read_name()?;
         if self.token.is_mark('<') || self.token.is("where") {
-            return Err(self.token.fault(Reason::HasParameters));
+            return Err(self.token.fault("the enum must have no parameters"));
         }
         if !self.token.is_mark('{') {
-            return Err(self.token.wanted("`{`"));
+            return Err(self.token.fault("wanted: `{`"));
         }
         self.advance()?;
         self.read_variants(draft)?;
         let plan = plan_enum(self.alloc, &draft.declaration)?;
         self.advance()?;
         Ok(plan)
+    }
+
+    /// Reads the keyword and the name of an enum.
+    fn read_name(&mut self) -> Result<&'a str, DeriveError> {
+        if self.token.is_end() {
+            return Err(self.token.fault("wanted: an item"));
+        }
+        if !self.token.is("enum") {
+            return Err(self.token.fault("`EnumSetType` is for enums alone"));
+        }
+        self.advance_past_blanks()?;
+        let name = self.token;
+        if !name.is_name() {
+            return Err(name.fault("wanted: a name of an enum"));
+        }
+        self.advance_past_blanks()?;
+        Ok(name.text)
     }
 
     /// Reads the variants of an enum, up to the `}` after them, and the comments after the last one.
@@ -80,7 +96,7 @@ impl<'a> Reader<'a, '_> {
     /// Reads a variant from its name on, up to what stands after the `,` and the comments on its line.
     fn read_from_name(&mut self, variant: &mut Variant<'a>) -> Result<(), DeriveError> {
         if !self.token.is_name() {
-            return Err(self.token.wanted("a name of a variant, or `}`"));
+            return Err(self.token.fault("wanted: a name of a variant, or `}`"));
         }
         self.advance_past_comments(Stop::NoBlank, &mut variant.comments)?;
         if self.token.is_mark('=') {
@@ -96,12 +112,9 @@ impl<'a> Reader<'a, '_> {
     /// The fault where neither `,` nor `}` comes after a variant. A literal with anything else after it is no literal.
     fn after_variant(&self, discriminant: Option<Discriminant>) -> DeriveError {
         match (discriminant, self.token.kind) {
-            (Some(discriminant), _) => DeriveError::Fault(Fault {
-                place: discriminant.place,
-                reason: Reason::NotALiteral,
-            }),
-            (None, Kind::Mark('(' | '{')) => self.token.fault(Reason::HasFields),
-            _ => self.token.wanted("`,` or `}`"),
+            (Some(given), _) => DeriveError::Fault(Reason::Text(NOT_A_LITERAL).at(given.place)),
+            (None, Kind::Mark('(' | '{')) => self.token.fault("a variant must have no fields"),
+            _ => self.token.fault("wanted: `,` or `}`"),
         }
     }
 
@@ -121,7 +134,7 @@ impl<'a> Reader<'a, '_> {
                 literal,
                 number,
             }),
-            Err(reason) => return Err(begin.fault(reason)),
+            Err(text) => return Err(begin.fault(text)),
         }
         self.advance_past_comments(Stop::NoBlank, &mut variant.comments)
     }

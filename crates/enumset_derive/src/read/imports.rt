@@ -5,7 +5,6 @@ use crate::source::Item;
 use crate::tokens::{Kind, Token};
 use enumset_derive_plan::DeriveError;
 use std::alloc::{AllocError, Global};
-use std::collections::BTreeSet;
 use std::mem;
 
 impl<'a> Reader<'a, '_> {
@@ -27,7 +26,7 @@ impl<'a> Reader<'a, '_> {
             return Ok(());
         }
         let tokens = self.passed(rest);
-        insert_names(self.alloc, &mut self.source.imports, tokens)?;
+        push_names(self.alloc, &mut self.source.imports, tokens)?;
         self.advance()?;
         self.source.pass_on(begin, self.token.begin)?;
         if !self.source.has_imports {
@@ -38,12 +37,8 @@ impl<'a> Reader<'a, '_> {
     }
 }
 
-/// Inserts what is imported by these tokens after `use enumset::`, with the `;` at their end.
-fn insert_names(
-    alloc: Global,
-    names: &mut BTreeSet<String>,
-    tokens: &[Token],
-) -> Result<(), AllocError> {
+/// Adds what is imported by these tokens after `use enumset::`, with the `;` at their end.
+fn push_names(alloc: Global, names: &mut Vec<String>, tokens: &[Token]) -> Result<(), AllocError> {
     let mut name = String::new(alloc);
     let mut has_gap = false;
     let mut is_grouped = false;
@@ -55,7 +50,7 @@ fn insert_names(
             _ => false,
         };
         if is_end && !name.is_empty() {
-            names.insert(mem::replace(&mut name, String::new(alloc)))?;
+            names.push(mem::replace(&mut name, String::new(alloc)))?;
         }
         if token.is_mark('{') && token.depth == 1 && !is_grouped && name.is_empty() {
             is_grouped = true;

@@ -1,10 +1,14 @@
 //! The numbers that literals of integers write.
 
 use crate::tokens::is_digit;
-use enumset_derive_plan::{Number, Reason};
+use enumset_derive_plan::Number;
+
+pub(super) const NOT_A_LITERAL: &str = "a discriminant must be a literal of an integer";
+
+const TOO_LARGE: &str = "a literal past 2^128 - 1 must be a power of two, and not decimal";
 
 /// The number that a literal writes, or that a minus sign before it makes of it.
-pub(super) fn number_of(literal: &str, is_negative: bool) -> Result<Number, Reason> {
+pub(super) fn number_of(literal: &str, is_negative: bool) -> Result<Number, &'static str> {
     let (radix, digits) = radix_of(literal);
     let mut value = Some(0u128);
     let mut exponent = None;
@@ -18,16 +22,16 @@ pub(super) fn number_of(literal: &str, is_negative: bool) -> Result<Number, Reas
             }
             _ if character == '_' => {}
             _ if is_integer_type(digits.get(at..).unwrap_or("")) => break,
-            _ => return Err(Reason::NotALiteral),
+            _ => return Err(NOT_A_LITERAL),
         }
     }
     match (value, exponent) {
-        _ if !has_digit => Err(Reason::NotALiteral),
+        _ if !has_digit => Err(NOT_A_LITERAL),
         (Some(0), _) => Ok(Number::Small(0)),
         (Some(number), _) if is_negative => Ok(Number::Negative(number)),
         (Some(number), _) => Ok(Number::Small(number)),
         (None, Some(exponent)) if !is_negative => Ok(Number::PowerOfTwo(exponent)),
-        _ => Err(Reason::LiteralTooLarge),
+        _ => Err(TOO_LARGE),
     }
 }
 

@@ -119,7 +119,7 @@ impl<'a, 'b> Reader<'a, 'b> {
         self.advance_past_blanks()?;
         let bracket = self.token;
         if !bracket.is_mark('[') {
-            return Err(bracket.wanted("`[`"));
+            return Err(bracket.fault("wanted: `[`"));
         }
         self.advance_past_blanks()?;
         let name = self.token.text;

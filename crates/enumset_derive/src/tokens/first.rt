@@ -2,7 +2,6 @@
 
 use super::quotes::{after_quote, after_raw_prefix, after_tick};
 use super::{Kind, after, before, is_space, is_word};
-use enumset_derive_plan::Reason;
 
 /// What the first token of a text is, and the text after it.
 pub fn first_token(first: char, text: &str) -> (Kind, &str) {
@@ -54,7 +53,7 @@ fn block_comment(text: &str) -> (Kind, &str) {
             return (comment_kind(text), after(text, at));
         }
     }
-    (Kind::Fault(Reason::UnclosedComment), "")
+    (Kind::Fault("this comment has no end"), "")
 }
 
 /// What a token is that begins as a word, and the text after it: a word, a raw name, or a text in quotes.

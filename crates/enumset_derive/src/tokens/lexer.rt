@@ -1,8 +1,8 @@
 //! The tokens of a text, with the brackets that each is in.
 
 use super::first::first_token;
-use super::{Kind, Token, before};
-use enumset_derive_plan::{Place, Reason};
+use super::{Kind, Token, UNCLOSED_BRACKET, before};
+use enumset_derive_plan::Place;
 use std::alloc::{AllocError, Global};
 
 /// The tokens of a text, with its end.
@@ -64,7 +64,7 @@ impl<'a> Lexer<'a> {
             _ => {}
         }
         let (kind, place) = match unclosed {
-            Some((_, place)) => (Kind::Fault(Reason::UnclosedBracket), place),
+            Some((_, place)) => (Kind::Fault(UNCLOSED_BRACKET), place),
             None => (kind, place),
         };
         self.tokens.push(Token {

@@ -1,7 +1,9 @@
 //! Texts and characters in quotes, and lifetimes.
 
 use super::{Kind, after, before, is_word};
-use enumset_derive_plan::Reason;
+
+/// What a text or a character in quotes is that has no end.
+const UNCLOSED: (Kind, &str) = (Kind::Fault("this quote has no end"), "");
 
 /// What a token is that begins with `"`, and the text after it.
 pub fn after_quote(text: &str) -> (Kind, &str) {
@@ -12,7 +14,7 @@ pub fn after_quote(text: &str) -> (Kind, &str) {
         }
         is_escaped = character == '\\' && !is_escaped;
     }
-    (Kind::Fault(Reason::UnclosedQuote), "")
+    UNCLOSED
 }
 
 /// What a token is that begins with `'`, and the text after it: a character or a lifetime.
@@ -27,7 +29,7 @@ pub fn after_tick(text: &str) -> (Kind, &str) {
     }
     match characters.as_str().split_once('\'') {
         Some((_, rest)) => (Kind::Quoted, rest),
-        None => (Kind::Fault(Reason::UnclosedQuote), ""),
+        None => UNCLOSED,
     }
 }
 
@@ -42,7 +44,7 @@ pub fn after_raw_prefix(text: &str) -> (Kind, &str) {
                 return (Kind::Quoted, rest);
             }
         }
-        return (Kind::Fault(Reason::UnclosedQuote), "");
+        return UNCLOSED;
     }
     if rest.starts_with(is_word) {
         (Kind::Word, rest.trim_start_matches(is_word))

@@ -5,27 +5,32 @@ use super::writer::Writer;
 use enumset_derive_plan::{Plan, Store};
 use std::alloc::AllocError;
 
+const IN_INTEGER: [(&str, &str); 3] = [
+    ("LAW", "lawful_in_integer"),
+    ("REPR", "u@SIZE@"),
+    ("ALL_BITS", "@BITS@"),
+];
+
+const IN_WORDS: [(&str, &str); 2] = [("LAW", "lawful_in_words"), ("REPR", "ArrayRepr<@SIZE@>")];
+
 /// Defines the type that keeps a set, and the constants.
 pub(super) fn define_constants(writer: &mut Writer, plan: &Plan) -> Result<(), AllocError> {
     let alloc = writer.alloc;
-    match &plan.store {
-        Store::Integer(integer, number) => {
-            writer.define("LAW", "lawful_in_integer");
-            writer.set("SIZE", integer.width().to_string(alloc));
-            writer.define("REPR", "u@SIZE@");
-            writer.set("BITS", number.to_string(alloc));
-            writer.define("ALL_BITS", "@BITS@");
-        }
-        Store::Words(words) => {
-            writer.define("LAW", "lawful_in_words");
-            writer.set("SIZE", words.len().to_string(alloc));
-            writer.define("REPR", "ArrayRepr<@SIZE@>");
-            define_words(writer, words)?;
-        }
-    }
     writer.set("WIDTH", plan.bit_width.to_string(alloc));
     writer.set("COUNT", plan.variants.len().to_string(alloc));
-    Ok(())
+    match &plan.store {
+        Store::Integer(integer, number) => {
+            writer.set("SIZE", integer.width().to_string(alloc));
+            writer.set("BITS", number.to_string(alloc));
+            writer.define_all(&IN_INTEGER);
+            Ok(())
+        }
+        Store::Words(words) => {
+            writer.set("SIZE", words.len().to_string(alloc));
+            writer.define_all(&IN_WORDS);
+            define_words(writer, words)
+        }
+    }
 }
 
 /// Defines the words of all bits as a list in a clause, and as a value: on one line if it fits, or on filled lines, or with

@@ -7,12 +7,24 @@ use super::layout::wrapped;
 use super::operators::write_operators;
 use super::templates::*;
 use super::writer::Writer;
-use crate::source::{are_named, are_places, is_in_table, is_narrow};
-use enumset_derive_plan::{EnumDeclaration, Number, Plan, Store};
+use enumset_derive_plan::{EnumDeclaration, Number, Options, Plan, Serialized, Store};
 use std::alloc::AllocError;
 
 /// The name of each variant, with its bit.
 type Elements<'a> = &'a [(&'a str, u64)];
+
+/// What stands where each bit is its variant's place, and where it is not.
+const IN_PLACE: [(&str, &str); 3] = [
+    ("LAWS_USE", PLACES_USE),
+    ("ELEMENTS", "in_place the_type"),
+    ("LAWFUL", "lawful_in_place the_type (@LAW@ the_type _ tt)"),
+];
+
+const WITH_BITS: [(&str, &str); 3] = [
+    ("LAWS_USE", BITS_USE),
+    ("ELEMENTS", "with_bits the_type (@ELEMENT_BITS@)"),
+    ("LAWFUL", "@LAW@ the_type _ tt"),
+];
 
 /// Writes what makes an enum an element type.
 pub(super) fn write_element_type(
@@ -35,7 +47,7 @@ pub(super) fn write_element_type(
     if are_named(options) {
         writer.set_list("NAMES", 80, "codes \"@NAME@\" ∷", &elements);
         writer.set_lines("WORDS", "@NAME@", &elements);
-        define_call(writer, "NAMES_OF", ["names_of", ""], [82, 88]);
+        define_call(writer, "names_of!(", "");
         writer.write(NAMES);
     }
     if options.has_display {
@@ -44,8 +56,33 @@ pub(super) fn write_element_type(
     if !options.leaves_out_operators {
         write_operators(writer);
     }
-    write_json(writer, declaration, plan);
+    write_json(writer, options, plan);
     Ok(())
+}
+
+/// Whether sets are written in JSON by the names of their elements.
+pub(super) fn are_named(options: &Options) -> bool {
+    matches!(options.serialized, Some(Serialized::List | Serialized::Map))
+}
+
+/// Whether the representation has at most 128 bits.
+pub(super) fn is_narrow(plan: &Plan) -> bool {
+    match &plan.store {
+        Store::Integer(_, _) => true,
+        Store::Words(words) => words.len() <= 2,
+    }
+}
+
+/// Whether a bit becomes its variant by a load from a table: there are more than sixteen, and they are not the variants'
+/// places.
+pub(super) fn is_in_table(plan: &Plan) -> bool {
+    plan.variants.len() > 16 && !are_places(plan)
+}
+
+/// Whether each bit is its variant's place.
+fn are_places(plan: &Plan) -> bool {
+    let mut variants = plan.variants.iter().enumerate();
+    variants.all(|(place, named)| named.bit as usize == place)
 }
 
 /// Whether each bit is its variant's number, as `as` gives it.
@@ -53,12 +90,8 @@ fn are_cast(declaration: &EnumDeclaration, plan: &Plan) -> bool {
     if !are_kept(&declaration.variants) {
         return are_places(plan);
     }
-    for named in &plan.variants {
-        if named.number != Number::Small(u128::from(named.bit)) {
-            return false;
-        }
-    }
-    true
+    let mut variants = plan.variants.iter();
+    variants.all(|named| named.number == Number::Small(u128::from(named.bit)))
 }
 
 /// Defines the bits of the elements, the conversions, and the proof of the laws.
@@ -72,66 +105,54 @@ fn define_bits(
     let is_cast = are_cast(declaration, plan);
     let in_place = is_cast && are_places(plan);
     let is_short = in_place && !has_values && matches!(plan.store, Store::Integer(_, _));
-    writer.define("LISTS_USE", if is_short { "" } else { LISTS_USE });
     writer.set_list("VALUE_LIST", 79, "variant.@NAME@ ∷", elements);
-    writer.define("VALUES_USE", if has_values { VALUES_USE } else { "" });
-    writer.define("VALUES", if has_values { VALUES } else { "" });
+    writer.set_list("ELEMENT_BITS", 59, "@BIT@ ∷", elements);
     writer.set_lines("ARMS", "            Self::@NAME@ => @BIT@,", elements);
-    let bit_of_value = if !is_cast {
-        "        match self {\n@ARMS@        }\n"
-    } else if elements.is_empty() {
-        "        match self {}\n"
-    } else {
-        "        self as u32\n"
+    let bit_of_value = match (is_cast, elements.is_empty()) {
+        (false, _) => "        match self {\n@ARMS@        }\n",
+        (true, true) => "        match self {}\n",
+        (true, false) => "        self as u32\n",
     };
-    writer.define("BIT_OF_VALUE", bit_of_value);
-    if in_place {
-        writer.define("LAWS_USE", PLACES_USE);
-        writer.define("ELEMENTS", "in_place the_type");
-        writer.define("LAWFUL", "lawful_in_place the_type (@LAW@ the_type _ tt)");
-    } else {
-        writer.define("LAWS_USE", BITS_USE);
-        writer.set_list("ELEMENT_BITS", 59, "@BIT@ ∷", elements);
-        writer.define("ELEMENTS", "with_bits the_type (@ELEMENT_BITS@)");
-        writer.define("LAWFUL", "@LAW@ the_type _ tt");
-    }
+    writer.define_all(&[
+        ("LISTS_USE", if is_short { "" } else { LISTS_USE }),
+        ("VALUES_USE", if has_values { VALUES_USE } else { "" }),
+        ("VALUES", if has_values { VALUES } else { "" }),
+        ("BIT_OF_VALUE", bit_of_value),
+    ]);
+    writer.define_all(if in_place { &IN_PLACE } else { &WITH_BITS });
     define_value_of_bit(writer, elements, plan);
 }
 
-/// Defines the conversion of a bit to its variant: a match over the bits, or the call of the macro that makes a table.
+/// Defines the body that converts a bit to its variant: a match over the bits, or the call of the macro that makes a table.
 fn define_value_of_bit(writer: &mut Writer, elements: Elements, plan: &Plan) {
     if is_in_table(plan) {
         writer.set_lines("WORDS", "@BIT@ @NAME@", elements);
-        define_call(writer, "VALUE_OF_BIT", ["variant_of", "val, "], [75, 83]);
+        define_call(writer, "variant_of!(", "val, ");
     } else {
         writer.set_lines("ARMS", "            @BIT@ => Self::@NAME@,", elements);
         let is_long = elements.len() > 32;
-        writer.define(
-            "LAST_ARM",
-            if is_long {
-                LAST_OF_MANY
-            } else {
-                "unreachable!(),"
-            },
-        );
-        writer.define("VALUE_OF_BIT", MATCH);
+        let last_arm = if is_long {
+            LAST_OF_MANY
+        } else {
+            "unreachable!(),"
+        };
+        writer.define("LAST_ARM", last_arm);
+        writer.define("BODY", MATCH);
     }
 }
 
-/// Defines a call of a macro with the enum's name and the words, after what the call begins with. `rooms` is how many
-/// columns are left on its line, and on a line of its own.
-fn define_call(writer: &mut Writer, name: &'static str, begin: [&str; 2], rooms: [usize; 2]) {
-    let [macro_name, first] = begin;
-    let [short, long] = rooms;
-    writer.define("MACRO", macro_name);
+/// Defines a body: the call of a macro with the enum's name and the words, after what the call begins with. It is on one
+/// line if it fits, else on lines of its own.
+fn define_call(writer: &mut Writer, macro_name: &'static str, first: &str) {
     writer.define("FIRST", first);
-    writer.define("WORDS", "@NAME@:\n@WORDS@");
+    writer.define("WORDS", "@FIRST@@NAME@:\n@WORDS@");
     let words = writer.part("WORDS");
-    let is_short = words.len() <= short;
-    let room = if is_short { short } else { long };
+    let is_short = words.len().saturating_add(macro_name.len()) <= 92;
+    let room = if is_short { 92 } else { 88 };
     let words = wrapped(writer.alloc, "\n            ", [room, 88], words);
+    writer.define("MACRO", macro_name);
     writer.set("WORDS", words);
-    writer.define(name, if is_short { SHORT_CALL } else { LONG_CALL });
+    writer.define("BODY", if is_short { SHORT_CALL } else { LONG_CALL });
 }
 
 /// Writes the `Display` by the names of the variants.

@@ -8,9 +8,10 @@ use std::alloc::Global;
 pub(super) const LIST_START: &str = "\n        ";
 
 impl Writer {
-    /// Adds a part: what a pattern becomes for each item, a line each.
+    /// Adds a part: what a pattern becomes for each item, a line each. `@NAME@` stands for its text, `@BIT@` for its number.
     pub fn set_lines(&mut self, name: &'static str, pattern: &str, items: &[(&str, u64)]) {
-        self.set(name, lines(self.alloc, pattern, items));
+        let lines = lines(self.alloc, pattern, items);
+        self.set(name, lines);
     }
 
     /// Adds a part: the list, in a clause, of what a pattern becomes for each item. `room` is how many columns are left on

@@ -3,8 +3,10 @@
 use super::templates::{COMPLEMENT, OPERATOR};
 use super::writer::Writer;
 
-/// Of each operator with two operands its trait, its function, the operation on sets, as the model names it, the same in
-/// words, and its sign.
+/// What a template of an operator says of it.
+const PARTS: [&str; 5] = ["TRAIT", "FUNCTION", "OPERATION", "IN_WORDS", "SIGN"];
+
+/// These parts of each operator with two operands.
 const OPERATORS: [[&str; 5]; 4] = [
     ["BitAnd", "bitand", "intersection", "intersection", "&"],
     ["BitOr", "bitor", "union", "union", "|"],
@@ -20,12 +22,10 @@ const OPERATORS: [[&str; 5]; 4] = [
 
 /// Writes the five operators.
 pub(super) fn write_operators(writer: &mut Writer) {
-    for [trait_name, function, operation, in_words, sign] in OPERATORS {
-        writer.define("TRAIT", trait_name);
-        writer.define("FUNCTION", function);
-        writer.define("OPERATION", operation);
-        writer.define("IN_WORDS", in_words);
-        writer.define("SIGN", sign);
+    for operator in OPERATORS {
+        for (part, text) in PARTS.iter().zip(operator.iter()) {
+            writer.define(part, text);
+        }
         writer.write(OPERATOR);
     }
     writer.write(COMPLEMENT);

@@ -24,7 +24,7 @@ pub(super) const ELEMENT_TYPE: &str = "impl EnumSetType for @NAME@ {
 @BIT_OF_VALUE@    }
 
     fn enum_from_u32(val: u32) -> Self {
-@VALUE_OF_BIT@
+@BODY@
     }
 
     ghost lawful = { @LAWFUL@ };
@@ -55,9 +55,9 @@ pub(super) const LAST_OF_MANY: &str = "{
             }";
 
 /// The call of a macro, on one line or on lines of its own.
-pub(super) const SHORT_CALL: &str = "        @MACRO@!(@FIRST@@WORDS@)";
+pub(super) const SHORT_CALL: &str = "        @MACRO@@WORDS@)";
 
-pub(super) const LONG_CALL: &str = "        @MACRO@!(\n            @FIRST@@WORDS@\n        )";
+pub(super) const LONG_CALL: &str = "        @MACRO@\n            @WORDS@\n        )";
 
 pub(super) const WITH_REPR: &str = "
 
@@ -75,7 +75,7 @@ impl EnumSetNames for @NAME@ {
     ghost names = { @NAMES@ };
 
     fn names() -> &'static [(Self, &'static str)] {
-@NAMES_OF@
+@BODY@
     }
 
     ghost named = { tt };
@@ -148,35 +148,5 @@ impl std::ops::Not for @NAME@ {
 
     fn not(self) -> EnumSet<Self> {
         !EnumSet::only(self)
-    }
-}";
-
-/// The calls that write sets in JSON and read them. They name `Result` by its path, since the module may have another.
-pub(super) const JSON: &str = "
-
-impl @NAME@ {
-@JSON_USES@    ghost use Rattle.enumset.specs.declared.set_json.unknown.Unknown.TheVariants as unknown;
-
-    /// The @JSON_DOC@
-    pub fn to_json(
-        alloc: std::alloc::Global,
-        set: &EnumSet<Self>,
-    ) -> std::result::Result<serde_json::Value, set_json::JsonFault>
-@JSON_PROMISE@
-    {
-        set_json::to_@FORM@(alloc, set@JSON_ARGUMENT@)
-    }
-
-    /// The set that `to_json` writes so. @UNKNOWN_DOC@
-    ///
-    /// The faults are those of [`set_json::from_@FORM@`], in their order. It takes no memory.
-    pub fn from_json(
-        value: &serde_json::Value,
-    ) -> std::result::Result<EnumSet<Self>, set_json::JsonFault>
-        ensures { result ≡ set_of_@FORM@
-            @JSON_READ_BY@
-            unknown.@UNKNOWN@ (view value.now) }
-    {
-        set_json::from_@FORM@(value@JSON_ARGUMENT@, set_json::Unknown::@UNKNOWN@)
     }
 }";

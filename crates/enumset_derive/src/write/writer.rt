@@ -39,6 +39,13 @@ impl Writer {
         self.set(name, text);
     }
 
+    /// Adds parts, one after another.
+    pub fn define_all(&mut self, parts: &[(&'static str, &str)]) {
+        for (name, template) in parts {
+            self.define(name, template);
+        }
+    }
+
     /// The part of this name.
     pub fn part(&self, name: &str) -> &str {
         match self.parts.get(name) {

@@ -51,14 +51,14 @@ fn kind_of(asked: Option<Representation>, width: u32) -> Representation
     ensures kind { result ≡ kind_of asked width }
     ensures room { width ≤ bit_limit (Some result) }
 {
-    match (asked, width) {
-        (Some(representation), _) => representation,
-        (None, 0..=8) => Representation::Integer(IntegerType::U8),
-        (None, 9..=16) => Representation::Integer(IntegerType::U16),
-        (None, 17..=32) => Representation::Integer(IntegerType::U32),
-        (None, 33..=64) => Representation::Integer(IntegerType::U64),
-        (None, 65..=128) => Representation::Integer(IntegerType::U128),
-        (None, _) => Representation::Words,
+    match asked {
+        Some(representation) => representation,
+        None if width <= 8 => Representation::Integer(IntegerType::U8),
+        None if width <= 16 => Representation::Integer(IntegerType::U16),
+        None if width <= 32 => Representation::Integer(IntegerType::U32),
+        None if width <= 64 => Representation::Integer(IntegerType::U64),
+        None if width <= 128 => Representation::Integer(IntegerType::U128),
+        None => Representation::Words,
     }
 }
 

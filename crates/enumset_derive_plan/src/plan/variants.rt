@@ -88,7 +88,7 @@ fn place_of_name(variants: &[Variant], variant: &Variant) -> Option<Place>
 }
 
 /// The bit of one more variant with this discriminant, or what is wrong with it.
-#[tactic(auto, using(crate::proofs::Named::not_taken))]
+#[tactic(auto, using(crate::proofs::Named::not_taken), unfolding(crate::specs::Variants::bit_among))]
 fn bit_among(options: &Options, named: &[NamedVariant], number: Number) -> Result<u32, Reason>
     requires { length named.now < 256 }
     ensures bit { result ≡ bit_among options.now named.now number }
