@@ -5,20 +5,6 @@ use enumset_array::ArrayRepr;
 use enumset_repr::{EnumSetTypeRepr, PrimitiveIter};
 use std::test::Fail;
 
-// {0, 1, 65}, of which the second word becomes {64, 66}. Bit 8 is dropped.
-#[test]
-fn words_of_integers(rt: HostRuntime) {
-    let mut wide: u128 = 36893488147419103235;
-    expect(&rt, "u128", "word", [wide.word(0), wide.word(1)], [3, 2]);
-    wide.put_word(1, 5);
-    expect(&rt, "u128", "put_word", wide, 92233720368547758083);
-    let mut narrow: u8 = 1;
-    narrow.put_word(0, 384);
-    expect(&rt, "u8", "put_word", narrow, 128);
-    expect(&rt, "u8", "try_from_u16", u8::try_from_u16(257), None);
-    assert!(rt; usize::BITS == 64);
-}
-
 /// No contract can state the value of `LEN`, since generic constants have none in proofs.
 #[test]
 fn words_in_use(rt: HostRuntime) {
