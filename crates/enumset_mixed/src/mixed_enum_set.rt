@@ -9,6 +9,7 @@ use crate::conversions::convert_mixed;
 use crate::mixed_enum_set_iter::MixedEnumSetIter;
 use enumset_repr::{EnumSetTypeRepr, are_same};
 use enumset_sets::representation::valid_repr;
+use enumset_sets::text::write_separator;
 use enumset_sets::{EnumSet, EnumSetType, EnumSetTypeWithRepr};
 use std::alloc::AllocError;
 use std::fmt;
@@ -100,9 +101,7 @@ impl<T: EnumSetTypeWithRepr + fmt::Debug> fmt::Debug for MixedEnumSet<T> {
         f.write_str("MixedEnumSet(")?;
         let mut is_first = true;
         for member in self.iter() {
-            if !is_first {
-                f.write_str(" | ")?;
-            }
+            write_separator(is_first, f)?;
             is_first = false;
             member.fmt(f)?;
         }

@@ -8,6 +8,7 @@ ghost use Rattle.enumset_sets.specs.Elements.{one_past_greatest, valid_bits};
 use crate::element::EnumSetType;
 use crate::enum_set_iter::EnumSetIter;
 use crate::representation::valid_repr;
+use crate::text::write_separator;
 use enumset_repr::{EnumSetTypeRepr, are_same};
 use std::alloc::AllocError;
 use std::fmt;
@@ -133,9 +134,7 @@ impl<T: EnumSetType + fmt::Debug> fmt::Debug for EnumSet<T> {
         f.write_str("EnumSet(")?;
         let mut is_first = true;
         for element in self.iter() {
-            if !is_first {
-                f.write_str(" | ")?;
-            }
+            write_separator(is_first, f)?;
             is_first = false;
             element.fmt(f)?;
         }

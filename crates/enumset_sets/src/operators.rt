@@ -67,7 +67,6 @@ impl<T: EnumSetType> Sub for EnumSet<T> {
 }
 
 /// `a &= b`: a becomes `a & b`.
-#[tactic(auto, using(enumset_repr::specs::Laws::Members::subsets))]
 impl<T: EnumSetType> BitAndAssign for EnumSet<T> {
     ghost bitand_assign_gives = { λ a b r. r ≡ set.intersection a b };
 
@@ -86,7 +85,6 @@ impl<T: EnumSetType> BitOrAssign for EnumSet<T> {
 }
 
 /// `a ^= b`: a becomes `a ^ b`.
-#[tactic(auto, using(enumset_repr::specs::Laws::Members::subsets))]
 impl<T: EnumSetType> BitXorAssign for EnumSet<T> {
     ghost bitxor_assign_gives = { λ a b r. r ≡ set.symmetric_difference a b };
 

@@ -4,7 +4,7 @@
 --     lawful_in_place      the laws where each bit is its variant's place, from those of the same bits as a list
 --     derived_eq      what a derived `==` of such an enum returns
 -- An element type imports the makers of its elements from here too.
-use Rattle.std.proofs.Common.{◌≡◌, ◌<◌, ◌≤◌, ℕ, suc, zero, ◌^◌, Bool, true, false, eqb, List, Some, sym, ap, ◌∙◌, length, get_or, max, sum_by, arith, true≢false}
+use Rattle.std.proofs.Common.{◌≡◌, ◌<◌, ◌≤◌, ℕ, suc, zero, ◌^◌, Bool, true, false, eqb, List, Some, sym, ap, ◌∙◌, length, get_or, sum_by, arith, true≢false}
 use Rattle.std.specs.Prelude.{◌==◌}
 use denote.Struct.Field.{Field}
 use denote.Enum.Declared.{Declared, rowss, tag_of}
@@ -19,7 +19,7 @@ use Rattle.enumset_repr.specs.Number.{bits, is_distinct}
 use Rattle.enumset_repr.specs.Ends.{last, greatest}
 use Rattle.enumset_repr.specs.Laws.Members.{contains-from_list, contains-ascending, list_all-each, is_subset-contains}
 use Rattle.enumset_repr.specs.Laws.Ascending.{len-empty, len-insert, ascending-ascends, AscendsFrom}
-use Rattle.enumset_repr.specs.Words.{bits_of, in_first_word, in_later_words, lists_words}
+use Rattle.enumset_repr.specs.Words.{bits_of, lists_words}
 use Rattle.enumset_repr.specs.Laws.Listed.{bits_listed, words_listed}
 use Rattle.enumset_repr.specs.Lawful.{one_past_all, or_else, once_known, IsLawful, IsLawfulNumber, IsLawfulWords}
 use Rattle.std.specs.Prelude.{[], ◌∷◌, refl}

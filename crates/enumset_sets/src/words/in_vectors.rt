@@ -1,6 +1,6 @@
 //! Sets to vectors of words.
 
-ghost use Rattle.std.specs.Prelude.{◌≡◌, IfOk};
+ghost use Rattle.std.specs.Prelude.{◌≡◌, IsOk, IfOk};
 ghost use Rattle.enumset_repr.specs.Words.{words};
 
 use crate::element::EnumSetType;
@@ -9,13 +9,15 @@ use enumset_repr::EnumSetTypeRepr;
 use std::alloc::{AllocError, Global};
 
 impl<T: EnumSetType> EnumSet<T> {
-    /// The words of the set, as many as its representation has. Memory for them is allocated once. If that fails, the
-    /// call returns `AllocError`: the contract says what is in the words, not when there is memory. Rust's call takes
-    /// no allocator.
+    /// The words of the set, as many as its representation has. Memory for them is allocated once, and none where it has
+    /// no word. If that fails, the call returns `AllocError`: the contract says what is in the words, not when there is
+    /// memory. Rust's call takes no allocator.
     pub fn to_vec(&self, alloc: Global) -> Result<Vec<u64>, AllocError>
-        ensures { IfOk result (λ v. v.items ≡ words self.now T.Repr.PREFERRED_ARRAY_LEN) }
+        ensures succeeds { T.Repr.PREFERRED_ARRAY_LEN ≡ 0 → IsOk result }
+        ensures words { IfOk result (λ v. v.items ≡ words self.now T.Repr.PREFERRED_ARRAY_LEN) }
     {
-        let mut all = vec![in alloc; 0; T::Repr::PREFERRED_ARRAY_LEN]?;
+        let mut all = Vec::with_capacity(alloc, T::Repr::PREFERRED_ARRAY_LEN)?;
+        all.resize(T::Repr::PREFERRED_ARRAY_LEN, 0)?;
         self.copy_into_slice_truncated(&mut all);
         Ok(all)
     }
