@@ -21,7 +21,7 @@ const NAME_LIMIT: usize = 64;
 const READ_LIMIT: usize = INPUT_LIMIT + 1;
 
 /// The room for an input. What is left of it lets the end be seen without more room.
-const ROOM: usize = READ_LIMIT + 1;
+pub(crate) const ROOM: usize = READ_LIMIT + 1;
 
 /// Tests the argument, reads the input, and writes the answer once.
 ///

@@ -1,9 +1,7 @@
 //! Tests of the program and of its parts together.
 
 mod long_lists;
+mod paced;
 mod program;
 mod refused;
-mod surroundings;
-mod text_forms;
-mod texts;
 mod transcripts;

@@ -4,7 +4,6 @@
 //! answer, and ends with the refusal. `scripts/refused-memory` refuses each allocation in turn, and says how each test
 //! has to end.
 
-use super::surroundings::text_of;
 use enumset_commands::{Command, MixedCommand, Reply, TextFault};
 use enumset_kinds::kinds::serve_worked;
 use enumset_kinds::worked::Worked;
@@ -89,7 +88,7 @@ fn mixed_runs(rt: HostRuntime) -> Result<(), Fail> {
 
 const INPUT: &[u8] = b"from_words 0 5\nwords 0 2\n";
 
-const OUTPUT: &str = "ok\nwords 5 0\n";
+const OUTPUT: &[u8] = b"ok\nwords 5 0\n";
 
 #[test]
 fn texts(rt: HostRuntime) -> Result<(), Fail> {
@@ -97,12 +96,12 @@ fn texts(rt: HostRuntime) -> Result<(), Fail> {
         let (text, ended) = match serve_worked(rt.alloc(), kind, INPUT) {
             Ok(text) => (text, Ok(())),
             Err(fault) => {
-                assert_eq!(rt; fault, TextFault::OutOfMemory);
+                assert!(rt; fault == TextFault::OutOfMemory);
                 let again = serve_worked(rt.alloc(), kind, INPUT);
                 (again.expect(&rt, "refused once more"), Err(AllocError))
             }
         };
-        assert_eq!(rt; text_of(&text), OUTPUT);
+        assert!(rt; text.as_slice() == OUTPUT);
         ended?;
     }
     Ok(())
@@ -114,14 +113,12 @@ fn faults_of_the_input(rt: HostRuntime) -> Result<(), Fail> {
     let too_long = vec![in rt.alloc(); b'\n'; 1_048_577]?;
     let lines = b"from_words 0 5\nwords 0 2\nlen\n".as_slice();
     for kind in [Worked::Letters, Worked::MixedMarks] {
-        let faults = [
-            serve_worked(rt.alloc(), kind, lines).err(),
-            serve_worked(rt.alloc(), kind, &too_long).err(),
-        ];
-        assert_eq!(rt;
-            faults,
-            [Some(TextFault::BadLine(3)), Some(TextFault::TooLong)]
-        );
+        for (input, wanted) in [
+            (lines, TextFault::BadLine(3)),
+            (too_long.as_slice(), TextFault::TooLong),
+        ] {
+            assert!(rt; serve_worked(rt.alloc(), kind, input).err() == Some(wanted));
+        }
     }
     Ok(())
 }
