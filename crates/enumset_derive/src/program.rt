@@ -70,10 +70,8 @@ fn text_of(input: &[u8]) -> Result<&str, DeriveError> {
         Err(error) => error,
     };
     let valid = input.get(..error.valid_up_to()).unwrap_or(b"");
-    let mut place = Place::BEGIN;
-    for character in without_mark(str::from_utf8(valid).unwrap_or("")).chars() {
-        place = place.after(character);
-    }
+    let before = without_mark(str::from_utf8(valid).unwrap_or(""));
+    let place = before.chars().fold(Place::BEGIN, Place::after);
     let reason = Reason::Text("these bytes are no text in UTF-8");
     Err(DeriveError::Fault(reason.at(place)))
 }

@@ -33,12 +33,11 @@ pub fn read_source<'a>(
         alloc,
         token: begin,
         rest: tokens,
+        comments: Vec::new(alloc),
         source: Source::new(alloc, text),
     };
-    match reader.read_items() {
-        Ok(()) => Ok(reader.source),
-        Err(error) => Err(error),
-    }
+    reader.read_items()?;
+    Ok(reader.source)
 }
 
 impl<'a> Reader<'a, '_> {

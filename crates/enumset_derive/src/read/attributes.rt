@@ -1,7 +1,7 @@
 //! What stands before an enum: comments, attributes and its visibility.
 
 use super::draft::Draft;
-use super::reader::{Reader, Stop};
+use super::reader::{Attribute, Reader, Stop};
 use crate::tokens::Kind;
 use enumset_derive_plan::DeriveError;
 
@@ -14,9 +14,7 @@ impl<'a> Reader<'a, '_> {
                 Kind::Mark('#') => {
                     let attribute = self.read_attribute()?;
                     if !draft.take(&attribute)? {
-                        self.source
-                            .left_out
-                            .push((attribute.place, attribute.text))?;
+                        self.leave_out_attribute(&attribute)?;
                     }
                 }
                 _ if self.token.is_comment() => draft.push(self.token.text)?,
@@ -25,6 +23,15 @@ impl<'a> Reader<'a, '_> {
             self.advance()?;
         }
         draft.declaration.visibility = self.read_visibility()?;
+        Ok(())
+    }
+
+    /// Leaves out an attribute that has no meaning here.
+    pub(super) fn leave_out_attribute(
+        &mut self,
+        it: &Attribute<'a, '_>,
+    ) -> Result<(), DeriveError> {
+        self.source.left_out.push((it.place, it.text))?;
         Ok(())
     }
 

@@ -3,7 +3,7 @@
 use super::draft::Draft;
 use super::literals::{NOT_A_LITERAL, number_of};
 use super::reader::{Reader, Stop};
-use crate::tokens::Kind;
+use crate::tokens::{Kind, Token};
 use enumset_derive_plan::{
     DeriveError, Discriminant, EnumDeclaration, Plan, Reason, Variant, plan_enum,
 };
@@ -59,9 +59,7 @@ impl<'a> Reader<'a, '_> {
                     if draft.gives_meaning(attribute.name) {
                         draft.declaration.last_comments.push(attribute.text)?;
                     } else {
-                        self.source
-                            .left_out
-                            .push((attribute.place, attribute.text))?;
+                        self.leave_out_attribute(&attribute)?;
                     }
                 }
                 Kind::Space => {}
@@ -79,34 +77,35 @@ impl<'a> Reader<'a, '_> {
         Ok(())
     }
 
-    /// Reads a variant. The comments and attributes before it were taken for the last ones.
+    /// Reads a variant, up to what stands after the `,` and the comments on its line. The comments and attributes before it
+    /// were taken for the last ones.
     fn read_variant(&mut self, declaration: &mut EnumDeclaration<'a>) -> Result<(), DeriveError> {
-        let mut variant = Variant {
-            place: self.token.place,
-            attributes: mem::replace(&mut declaration.last_comments, Vec::new(self.alloc)),
-            name: self.token.text,
-            discriminant: None,
-            comments: Vec::new(self.alloc),
-        };
-        self.read_from_name(&mut variant)?;
-        declaration.variants.push(variant)?;
-        Ok(())
-    }
-
-    /// Reads a variant from its name on, up to what stands after the `,` and the comments on its line.
-    fn read_from_name(&mut self, variant: &mut Variant<'a>) -> Result<(), DeriveError> {
+        let Token { place, text, .. } = self.token;
         if !self.token.is_name() {
             return Err(self.token.fault("wanted: a name of a variant, or `}`"));
         }
-        self.advance_past_comments(Stop::NoBlank, &mut variant.comments)?;
-        if self.token.is_mark('=') {
-            self.read_discriminant(variant)?;
-        }
+        self.comments.clear();
+        self.advance_past_blanks()?;
+        let discriminant = match self.token.kind {
+            Kind::Mark('=') => Some(self.read_discriminant()?),
+            _ => None,
+        };
         match self.token.kind {
-            Kind::Mark('}') => Ok(()),
-            Kind::Mark(',') => self.advance_past_comments(Stop::LineEnd, &mut variant.comments),
-            _ => Err(self.after_variant(variant.discriminant)),
+            Kind::Mark('}') => {}
+            Kind::Mark(',') => {
+                self.advance()?;
+                self.skip_to(Stop::LineEnd)?;
+            }
+            _ => return Err(self.after_variant(discriminant)),
         }
+        declaration.variants.push(Variant {
+            place,
+            attributes: mem::replace(&mut declaration.last_comments, Vec::new(self.alloc)),
+            name: text,
+            discriminant,
+            comments: mem::replace(&mut self.comments, Vec::new(self.alloc)),
+        })?;
+        Ok(())
     }
 
     /// The fault where neither `,` nor `}` comes after a variant. A literal with anything else after it is no literal.
@@ -118,24 +117,26 @@ impl<'a> Reader<'a, '_> {
         }
     }
 
-    /// Reads `=` and a discriminant, and the comments among its tokens and after it.
-    fn read_discriminant(&mut self, variant: &mut Variant<'a>) -> Result<(), DeriveError> {
-        self.advance_past_comments(Stop::NoBlank, &mut variant.comments)?;
+    /// Reads `=` and a discriminant, up to what stands after it.
+    fn read_discriminant(&mut self) -> Result<Discriminant<'a>, DeriveError> {
+        self.advance_past_blanks()?;
         let begin = self.token;
         let is_negative = begin.is_mark('-');
         if is_negative {
-            self.advance_past_comments(Stop::NoBlank, &mut variant.comments)?;
+            self.advance_past_blanks()?;
         }
         let literal = self.token.text;
         match number_of(literal, is_negative) {
-            Ok(number) => variant.discriminant = Some(Discriminant {
-                place: begin.place,
-                sign: if is_negative { "-" } else { "" },
-                literal,
-                number,
-            }),
-            Err(text) => return Err(begin.fault(text)),
+            Ok(number) => {
+                self.advance_past_blanks()?;
+                Ok(Discriminant {
+                    place: begin.place,
+                    sign: if is_negative { "-" } else { "" },
+                    literal,
+                    number,
+                })
+            }
+            Err(text) => Err(begin.fault(text)),
         }
-        self.advance_past_comments(Stop::NoBlank, &mut variant.comments)
     }
 }

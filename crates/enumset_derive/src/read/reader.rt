@@ -59,6 +59,8 @@ pub(super) struct Reader<'a, 'b> {
     pub token: Token<'a>,
     /// The tokens after that one.
     pub rest: &'b [Token<'a>],
+    /// The comments that it went past in search of a token, as long as they are wanted.
+    pub comments: Vec<&'a str>,
     /// What has been read.
     pub source: Source<'a>,
 }
@@ -77,11 +79,15 @@ impl<'a, 'b> Reader<'a, 'b> {
         Ok(())
     }
 
-    /// Goes on to the first token that is so, unless the reader is at one, or to the end of the text.
+    /// Goes on to the first token that is so, unless the reader is at one, or to the end of the text. It keeps the comments
+    /// before it.
     pub fn skip_to(&mut self, wanted: Stop) -> Result<(), DeriveError> {
         for _ in self.rest {
             if wanted.is_at(&self.token) {
                 return Ok(());
+            }
+            if self.token.is_comment() {
+                self.comments.push(self.token.text)?;
             }
             self.advance()?;
         }
@@ -92,25 +98,6 @@ impl<'a, 'b> Reader<'a, 'b> {
     pub fn advance_past_blanks(&mut self) -> Result<(), DeriveError> {
         self.advance()?;
         self.skip_to(Stop::NoBlank)
-    }
-
-    /// Goes on to the next token that is so, and adds the comments before it to a list.
-    pub fn advance_past_comments(
-        &mut self,
-        wanted: Stop,
-        comments: &mut Vec<&'a str>,
-    ) -> Result<(), DeriveError> {
-        self.advance()?;
-        for _ in self.rest {
-            if wanted.is_at(&self.token) {
-                return Ok(());
-            }
-            if self.token.is_comment() {
-                comments.push(self.token.text)?;
-            }
-            self.advance()?;
-        }
-        Ok(())
     }
 
     /// Reads an attribute, up to the `]` that ends it.

@@ -11,10 +11,8 @@ pub fn tokens_of(alloc: Global, text: &str) -> Result<Vec<Token<'_>>, AllocError
         tokens: Vec::new(alloc),
         open: Vec::new(alloc),
     };
-    match lexer.read(text) {
-        Ok(()) => Ok(lexer.tokens),
-        Err(error) => Err(error),
-    }
+    lexer.read(text)?;
+    Ok(lexer.tokens)
 }
 
 /// The tokens that have been read of a text.

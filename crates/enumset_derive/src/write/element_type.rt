@@ -13,19 +13,6 @@ use std::alloc::AllocError;
 /// The name of each variant, with its bit.
 type Elements<'a> = &'a [(&'a str, u64)];
 
-/// What stands where each bit is its variant's place, and where it is not.
-const IN_PLACE: [(&str, &str); 3] = [
-    ("LAWS_USE", PLACES_USE),
-    ("ELEMENTS", "in_place the_type"),
-    ("LAWFUL", "lawful_in_place the_type (@LAW@ the_type _ tt)"),
-];
-
-const WITH_BITS: [(&str, &str); 3] = [
-    ("LAWS_USE", BITS_USE),
-    ("ELEMENTS", "with_bits the_type (@ELEMENT_BITS@)"),
-    ("LAWFUL", "@LAW@ the_type _ tt"),
-];
-
 /// Writes what makes an enum an element type.
 pub(super) fn write_element_type(
     writer: &mut Writer,
@@ -116,7 +103,14 @@ fn define_bits(
     writer.define_all(&[
         ("LISTS_USE", if is_short { "" } else { LISTS_USE }),
         ("VALUES_USE", if has_values { VALUES_USE } else { "" }),
-        ("VALUES", if has_values { VALUES } else { "" }),
+        (
+            "VALUES",
+            if has_values {
+                "    ghost values = { @VALUE_LIST@ };\n\n"
+            } else {
+                ""
+            },
+        ),
         ("BIT_OF_VALUE", bit_of_value),
     ]);
     writer.define_all(if in_place { &IN_PLACE } else { &WITH_BITS });

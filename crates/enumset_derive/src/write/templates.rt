@@ -2,7 +2,8 @@
 
 /// The implementation of an element type.
 pub(super) const ELEMENT_TYPE: &str = "impl EnumSetType for @NAME@ {
-@LISTS_USE@@LAWS_USE@    ghost use Rattle.@CRATE@.specs.contracts.@MODULE@.@NAME@.{the_type};
+@LISTS_USE@    ghost use Rattle.enumset_sets.specs.Laws.Elements.{@LAWS@};
+    ghost use Rattle.@CRATE@.specs.contracts.@MODULE@.@NAME@.{the_type};
 @VALUES_USE@
     type Repr = @REPR@;
 
@@ -32,16 +33,21 @@ pub(super) const ELEMENT_TYPE: &str = "impl EnumSetType for @NAME@ {
 
 pub(super) const LISTS_USE: &str = "    ghost use Rattle.std.specs.Prelude.{◌∷◌, []};\n";
 
-pub(super) const PLACES_USE: &str =
-    "    ghost use Rattle.enumset_sets.specs.Laws.Elements.{in_place, @LAW@, lawful_in_place};\n";
-
-pub(super) const BITS_USE: &str =
-    "    ghost use Rattle.enumset_sets.specs.Laws.Elements.{with_bits, @LAW@};\n";
-
 pub(super) const VALUES_USE: &str =
     "    ghost use Rattle.@CRATE@.specs.declared.@MODULE@.@NAME@.TheVariants as variant;\n";
 
-pub(super) const VALUES: &str = "    ghost values = { @VALUE_LIST@ };\n\n";
+/// What is written if each bit is its variant's place, and if not.
+pub(super) const IN_PLACE: [(&str, &str); 3] = [
+    ("LAWS", "in_place, @LAW@, lawful_in_place"),
+    ("ELEMENTS", "in_place the_type"),
+    ("LAWFUL", "lawful_in_place the_type (@LAW@ the_type _ tt)"),
+];
+
+pub(super) const WITH_BITS: [(&str, &str); 3] = [
+    ("LAWS", "with_bits, @LAW@"),
+    ("ELEMENTS", "with_bits the_type (@ELEMENT_BITS@)"),
+    ("LAWFUL", "@LAW@ the_type _ tt"),
+];
 
 /// The match from a bit to its variant.
 pub(super) const MATCH: &str = "        match val {
@@ -148,5 +154,35 @@ impl std::ops::Not for @NAME@ {
 
     fn not(self) -> EnumSet<Self> {
         !EnumSet::only(self)
+    }
+}";
+
+/// The calls that write sets in JSON and read them. They name `Result` by its path, since the module may have another.
+pub(super) const JSON: &str = "
+
+impl @NAME@ {
+@JSON_USES@    ghost use Rattle.enumset.specs.declared.set_json.unknown.Unknown.TheVariants as unknown;
+
+    /// The @JSON_DOC@
+    pub fn to_json(
+        alloc: std::alloc::Global,
+        set: &EnumSet<Self>,
+    ) -> std::result::Result<serde_json::Value, set_json::JsonFault>
+@JSON_PROMISE@
+    {
+        set_json::to_@FORM@(alloc, set@JSON_ARGUMENT@)
+    }
+
+    /// The set that `to_json` writes so. @UNKNOWN_DOC@
+    ///
+    /// The faults are those of [`set_json::from_@FORM@`], in their order. It takes no memory.
+    pub fn from_json(
+        value: &serde_json::Value,
+    ) -> std::result::Result<EnumSet<Self>, set_json::JsonFault>
+        ensures { result ≡ set_of_@FORM@
+            @JSON_READ_BY@
+            unknown.@UNKNOWN@ (view value.now) }
+    {
+        set_json::from_@FORM@(value@JSON_ARGUMENT@, set_json::Unknown::@UNKNOWN@)
     }
 }";
