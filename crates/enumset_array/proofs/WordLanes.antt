@@ -78,11 +78,6 @@ first_lanes op [] b e = refl
 first_lanes op (x ∷ a) [] e = absurd (omega (arith, e))
 first_lanes op (x ∷ a) (y ∷ b) e = ap (λ l. op x ∷ l) (first_lanes op a b (omega (arith, e)))
 
-pub first_alone : (a b : List ℕ) → length a ≡ length b → a ≡ zip2 (λ x _. x) a b
-first_alone [] b e = refl
-first_alone (x ∷ a) [] e = absurd (omega (arith, e))
-first_alone (x ∷ a) (y ∷ b) e = ap (λ l. x ∷ l) (first_alone a b (omega (arith, e)))
-
 -- ---- parts of a list of results
 
 none_zipped : (op : ℕ → ℕ → ℕ) (a : List ℕ) → zip2 op a [] ≡ []
@@ -147,15 +142,17 @@ pub split_none : (ws : List ℕ) (n : ℕ) → none_in ws ≡ (none_in (take n w
 split_none ws n = ap none_in (sym (take-append-drop n ws)) ∙ list_all-append (λ w. w == 0) (take n ws) (drop n ws)
 
 -- four words more, as lanes
-pub joined_none : (ws lanes : List ℕ) (i j : ℕ) → j ≡ i + 4 → j ≤ length ws → length lanes ≡ 4 → none_in lanes ≡ none_in (take i ws)
-    → none_in (zip2 bit_or lanes (chunk i 4 ws)) ≡ none_in (take j ws)
-joined_none ws lanes i j next long four before =
-    zip_none lanes (chunk i 4 ws) (four ∙ sym (length-chunk i 4 ws (omega (arith, next, long)))) ∙ ap (λ t. t && none_in (chunk i 4 ws)) before ∙ sym (more_none ws i 4 j next)
+pub joined_none : (ws lanes more : List ℕ) (i j : ℕ) → more ≡ chunk i 4 ws → j ≡ i + 4 → j ≤ length ws → length lanes ≡ 4 → none_in lanes ≡ none_in (take i ws)
+    → none_in (zip2 bit_or lanes more) ≡ none_in (take j ws)
+joined_none ws lanes more i j is next long four before =
+    ap (λ m. none_in (zip2 bit_or lanes m)) is
+    ∙ zip_none lanes (chunk i 4 ws) (four ∙ sym (length-chunk i 4 ws (omega (arith, next, long)))) ∙ ap (λ t. t && none_in (chunk i 4 ws)) before ∙ sym (more_none ws i 4 j next)
 
 -- one word more
-pub one_none : (ws : List ℕ) (any i j : ℕ) → j ≡ i + 1 → i < length ws → (any == 0) ≡ none_in (take i ws) → (bit_or any (slice_index ws i) == 0) ≡ none_in (take j ws)
-one_none ws any i j next low before =
-    or_none any (slice_index ws i) ∙ ap (λ t. t && (slice_index ws i == 0)) before ∙ sym (ap (λ k. none_in (take k ws)) next ∙ list_all_more (λ w. w == 0) ws i 0 low)
+pub one_none : (ws : List ℕ) (any w i j : ℕ) → w ≡ slice_index ws i → j ≡ i + 1 → i < length ws → (any == 0) ≡ none_in (take i ws) → (bit_or any w == 0) ≡ none_in (take j ws)
+one_none ws any w i j is next low before =
+    ap (λ v. bit_or any v == 0) is
+    ∙ or_none any (slice_index ws i) ∙ ap (λ t. t && (slice_index ws i == 0)) before ∙ sym (ap (λ k. none_in (take k ws)) next ∙ list_all_more (λ w. w == 0) ws i 0 low)
 
 -- `^` yields 0 only for equal words
 xor_none : (x y : ℕ) → (bit_xor x y == 0) ≡ nat_eq x y

@@ -12,7 +12,7 @@ ghost use Rattle.enumset_array.specs.Laws.Order.{compare_is};
 ghost use Rattle.enumset_array.specs.Laws.ArrayWords.{set_of_none, within, inverse, width_words, equal};
 
 use crate::array_iter::ArrayIter;
-use crate::lanes::{And, AndNot, First, Or, Xor, are_none, ones_of};
+use crate::lanes::{And, AndNot, Or, Xor, are_none, ones_of};
 use crate::set_operation::{change_by, yields_none};
 use enumset_repr::EnumSetTypeRepr;
 use std::marker::Model;
@@ -112,7 +112,8 @@ impl<const N: usize> EnumSetTypeRepr for ArrayRepr<N> {
     }
 
     fn is_empty(&self) -> bool {
-        yields_none::<First, N>(self, self)
+        // A set has its own members in common with itself.
+        yields_none::<And, N>(self, self)
     }
 
     fn count_ones(&self) -> u32 {

@@ -39,9 +39,6 @@ pub(crate) struct AndNot;
 /// `!a`, whatever b is.
 pub(crate) struct Inverse;
 
-/// `a`, whatever b is.
-pub(crate) struct First;
-
 impl WordOperation for And {
     ghost of_two = { bit_and };
 
@@ -99,18 +96,6 @@ impl WordOperation for Inverse {
 
     fn on_lanes(a: u64x4, _b: u64x4) -> u64x4 {
         !a
-    }
-}
-
-impl WordOperation for First {
-    ghost of_two = { λ a _. a };
-
-    fn on_words(a: u64, _b: u64) -> u64 {
-        a
-    }
-
-    fn on_lanes(a: u64x4, _b: u64x4) -> u64x4 {
-        a
     }
 }
 

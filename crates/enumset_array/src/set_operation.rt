@@ -5,10 +5,10 @@ ghost use Rattle.enumset_repr.specs.BitSet as set;
 ghost use Rattle.enumset_repr.specs.BitSet.{BitSet};
 ghost use Rattle.enumset_array.specs.ArrayWords.{set_of, IsArrayRepr};
 ghost use Rattle.enumset_array.specs.Operations.{IsOnBits};
-ghost use Rattle.enumset_array.specs.Laws.Operations.{on_and, on_or, on_xor, on_and_not, on_first};
+ghost use Rattle.enumset_array.specs.Laws.Operations.{on_and, on_or, on_xor, on_and_not};
 
 use crate::array_repr::ArrayRepr;
-use crate::lanes::{And, AndNot, First, Or, WordOperation, Xor, are_none, combine};
+use crate::lanes::{And, AndNot, Or, WordOperation, Xor, are_none, combine};
 
 /// An operation on two words that is one on the sets of their bits.
 pub(crate) trait SetOperation: WordOperation {
@@ -41,12 +41,6 @@ impl SetOperation for AndNot {
     ghost of_sets = { set.difference };
 
     ghost on_bits = { on_and_not };
-}
-
-impl SetOperation for First {
-    ghost of_sets = { λ s _. s };
-
-    ghost on_bits = { on_first };
 }
 
 /// Replaces a value by the result for it and another.

@@ -58,7 +58,6 @@ impl<T: EnumSetTypeWithRepr> IntoIterator for MixedEnumSet<T> {
 impl<T: EnumSetTypeWithRepr> Extend<T> for MixedEnumSet<T> {
     ghost extend_gives = { λ s ts r. r ≡ set.union s (set.from_list (map T.elements.bit ts)) };
 
-    #[tactic(auto, using(enumset_sets::specs::Laws::Folds::folds))]
     fn extend<U: IntoIterator<Item = T>>(&mut self, iter: U) -> Result<(), AllocError>
         requires { IsFiniteIterable U.into_iter_gives U.IntoIter.can_next
             U.IntoIter.remaining iter }
@@ -81,7 +80,6 @@ impl<T: EnumSetTypeWithRepr> FromIterator<T> for MixedEnumSet<T> {
 
     ghost from_iter_gives = { λ ts r. r ≡ set.from_list (map T.elements.bit ts) };
 
-    #[tactic(auto, using(enumset_sets::specs::Laws::Folds::folds))]
     fn from_iter<U: IntoIterator<Item = T>>(
         alloc: Global,
         iter: U,
@@ -102,7 +100,6 @@ impl<T: EnumSetTypeWithRepr> FromIterator<T> for MixedEnumSet<T> {
 impl<T: EnumSetTypeWithRepr> Sum<MixedEnumSet<T>> for MixedEnumSet<T> {
     ghost sum_gives = { λ sets r. r ≡ union_all sets };
 
-    #[tactic(auto, using(enumset_sets::specs::Laws::Folds::folds))]
     fn sum<I: Iterator<Item = MixedEnumSet<T>> + Drop>(iter: I) -> MixedEnumSet<T> {
         let mut all = MixedEnumSet::new();
         for set in iter {

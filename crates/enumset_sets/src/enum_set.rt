@@ -142,17 +142,6 @@ impl<T: EnumSetType + fmt::Debug> fmt::Debug for EnumSet<T> {
     }
 }
 
-// The bit of a value, which is below the width of the representation.
-fn bit_of_value<T: EnumSetType>(value: T) -> u32
-    ensures bit { result ≡ T.elements.bit value }
-    ensures valid { IsTrue (set.contains (valid_bits T.elements) result) }
-    ensures within { result < T.Repr.WIDTH }
-{
-    // The contract of `valid_repr` alone says that the valid bits are below the width.
-    let _all = valid_repr::<T>();
-    value.enum_into_u32()
-}
-
 #[tactic(auto, using(enumset_repr::specs::Laws::Members::subsets))]
 impl<T: EnumSetType> EnumSet<T> {
     // The set that a value represents.
@@ -194,7 +183,7 @@ impl<T: EnumSetType> EnumSet<T> {
         ensures { result ≡ set.only (T.elements.bit t) }
     {
         let mut repr = T::Repr::EMPTY;
-        repr.add_bit(bit_of_value(t));
+        repr.add_bit(Self::bit_index(t));
         Self::of_repr(repr)
     }
 
@@ -218,7 +207,9 @@ impl<T: EnumSetType> EnumSet<T> {
         ensures valid { IsTrue (set.contains (valid_bits T.elements) result) }
         ensures within { result < T.Repr.WIDTH }
     {
-        bit_of_value(t)
+        // The contract of `valid_repr` alone says that the valid bits are below the width.
+        let _all = valid_repr::<T>();
+        t.enum_into_u32()
     }
 
     /// Whether a bit is valid: whether a variant has it. No bit at or past the width of the representation is valid. In
@@ -265,7 +256,7 @@ impl<T: EnumSetType> EnumSet<T> {
     pub fn contains(&self, value: T) -> bool
         ensures { result ≡ set.contains self.now (T.elements.bit value) }
     {
-        self.repr.has_bit(bit_of_value(value))
+        self.repr.has_bit(Self::bit_index(value))
     }
 
     /// Adds an element, and returns whether it was absent.
@@ -273,7 +264,7 @@ impl<T: EnumSetType> EnumSet<T> {
         ensures inserted { self.new ≡ set.insert self.old (T.elements.bit value) }
         ensures was_absent { result ≡ not (set.contains self.old (T.elements.bit value)) }
     {
-        let bit = bit_of_value(value);
+        let bit = Self::bit_index(value);
         let is_absent = !self.repr.has_bit(bit);
         self.repr.add_bit(bit);
         is_absent
@@ -284,7 +275,7 @@ impl<T: EnumSetType> EnumSet<T> {
         ensures removed { self.new ≡ set.remove self.old (T.elements.bit value) }
         ensures was_present { result ≡ set.contains self.old (T.elements.bit value) }
     {
-        let bit = bit_of_value(value);
+        let bit = Self::bit_index(value);
         let is_present = self.repr.has_bit(bit);
         self.repr.remove_bit(bit);
         is_present

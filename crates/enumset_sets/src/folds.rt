@@ -38,7 +38,6 @@ impl<T: EnumSetType> IntoIterator for EnumSet<T> {
 impl<T: EnumSetType> Extend<T> for EnumSet<T> {
     ghost extend_gives = { λ s ts r. r ≡ set.union s (set.from_list (map T.elements.bit ts)) };
 
-    #[tactic(auto, using(crate::specs::Laws::Folds::folds))]
     fn extend<U: IntoIterator<Item = T>>(&mut self, iter: U) -> Result<(), AllocError>
         requires { IsFiniteIterable U.into_iter_gives U.IntoIter.can_next
             U.IntoIter.remaining iter }
@@ -61,7 +60,6 @@ impl<T: EnumSetType> FromIterator<T> for EnumSet<T> {
 
     ghost from_iter_gives = { λ ts r. r ≡ set.from_list (map T.elements.bit ts) };
 
-    #[tactic(auto, using(crate::specs::Laws::Folds::folds))]
     fn from_iter<U: IntoIterator<Item = T>>(
         _alloc: Global,
         iter: U,
@@ -83,7 +81,6 @@ impl<T: EnumSetType> FromIterator<T> for EnumSet<T> {
 impl<T: EnumSetType> Sum<EnumSet<T>> for EnumSet<T> {
     ghost sum_gives = { λ sets r. r ≡ union_all sets };
 
-    #[tactic(auto, using(crate::specs::Laws::Folds::folds))]
     fn sum<I: Iterator<Item = EnumSet<T>> + Drop>(iter: I) -> EnumSet<T> {
         let mut all = EnumSet::new();
         for set in iter {
@@ -103,7 +100,6 @@ impl<T: EnumSetType, const N: usize> From<[T; N]> for EnumSet<T> {
 }
 
 // The set of the elements of a slice.
-#[tactic(auto, using(crate::specs::Laws::Folds::folds))]
 fn of_slice<T: EnumSetType>(values: &[T]) -> EnumSet<T>
     ensures { result ≡ set.from_list (map T.elements.bit values.now) }
 {

@@ -86,7 +86,6 @@ pub fn mixed_from_set_refs<
 }
 
 /// The members of any of the sets. It stands for Rust's `Sum<&MixedEnumSet<T>>`.
-#[tactic(auto, using(enumset_sets::specs::Laws::Folds::folds))]
 pub fn mixed_sum_set_refs<
     'a,
     T: EnumSetTypeWithRepr + 'a,

@@ -77,7 +77,6 @@ pub fn from_set_refs<'a, T: EnumSetType + 'a, I: Iterator<Item = &'a EnumSet<T>>
 }
 
 /// The members of any of the sets. It stands for Rust's `Sum<&EnumSet<T>>`.
-#[tactic(auto, using(enumset_sets::specs::Laws::Folds::folds))]
 pub fn sum_set_refs<'a, T: EnumSetType + 'a, I: Iterator<Item = &'a EnumSet<T>> + Drop>(
     items: I,
 ) -> EnumSet<T>
@@ -104,7 +103,6 @@ pub fn sum_elements<T: EnumSetType, I: Iterator<Item = T> + Drop>(items: I) -> E
 }
 
 /// The set of the elements. It stands for Rust's `Sum<&T>`.
-#[tactic(auto, using(enumset_sets::specs::Laws::Folds::folds))]
 pub fn sum_element_refs<'a, T: EnumSetType + 'a, I: Iterator<Item = &'a T> + Drop>(
     items: I,
 ) -> EnumSet<T>

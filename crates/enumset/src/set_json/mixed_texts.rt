@@ -35,7 +35,6 @@ pub fn mixed_to_number_text<T: EnumSetTypeWithRepr>(
 }
 
 /// The text of the value that [`mixed_to_words`] writes. The only fault is [`JsonFault::OutOfMemory`].
-#[tactic(auto, using(crate::proofs::WrittenValues::words_no_float, crate::proofs::WrittenValues::words_shallow))]
 pub fn mixed_to_words_text<T: EnumSetTypeWithRepr>(
     alloc: Global,
     set: &MixedEnumSet<T>,

@@ -44,7 +44,6 @@ pub fn to_number_text<T: EnumSetType>(
 }
 
 /// The text of the value that [`to_words`] writes. The only fault is [`JsonFault::OutOfMemory`].
-#[tactic(auto, using(crate::proofs::WrittenValues::words_no_float, crate::proofs::WrittenValues::words_shallow))]
 pub fn to_words_text<T: EnumSetType>(alloc: Global, set: &EnumSet<T>) -> Result<String, JsonFault>
     ensures text { IfOk result (λ text. string_bytes text
         ≡ compact_text (words_value (words set.now T.Repr.PREFERRED_ARRAY_LEN))) }
@@ -56,7 +55,6 @@ pub fn to_words_text<T: EnumSetType>(alloc: Global, set: &EnumSet<T>) -> Result<
 }
 
 /// The text of the value that [`to_list`] writes. The only fault is [`JsonFault::OutOfMemory`].
-#[tactic(auto, using(crate::proofs::WrittenValues::list_no_float, crate::proofs::WrittenValues::list_shallow))]
 pub fn to_list_text<T: EnumSetNames>(alloc: Global, set: &EnumSet<T>) -> Result<String, JsonFault>
     ensures text { IfOk result (λ text. string_bytes text
         ≡ compact_text (list_value (names_of T.elements T.names) set.now)) }
@@ -68,7 +66,6 @@ pub fn to_list_text<T: EnumSetNames>(alloc: Global, set: &EnumSet<T>) -> Result<
 }
 
 /// The text of the value that [`to_map`] writes. The only fault is [`JsonFault::OutOfMemory`].
-#[tactic(auto, using(crate::proofs::WrittenValues::map_no_float, crate::proofs::WrittenValues::map_shallow))]
 pub fn to_map_text<T: EnumSetNames>(alloc: Global, set: &EnumSet<T>) -> Result<String, JsonFault>
     ensures text { IfOk result (λ text. string_bytes text
         ≡ compact_text (map_value (names_of T.elements T.names) set.now)) }

@@ -1,5 +1,5 @@
 -- The operations on words that are operations on sets.
---     on_and, on_or, on_xor, on_and_not, on_first      `&`, `|`, `^`, `& !` and the first word alone
+--     on_and, on_or, on_xor, on_and_not      `&`, `|`, `^` and `& !`
 use Rattle.std.proofs.Common.{not, ◌&&◌, ◌||◌, bit_and, bit_or, refl, w64}
 use Rattle.std.specs.Prelude.{bit_xor}
 use Rattle.std.specs.Int.{bit_not}
@@ -22,6 +22,3 @@ on_xor = record { none = refl; fits = xor_lt 64; same = λ x y _ _. bits-xor x y
 
 pub on_and_not : IsOnBits (λ x y. bit_and x (bit_not w64 y)) difference
 on_and_not = record { none = refl; fits = λ x y p _. and_lt 64 x (bit_not w64 y) p (ones_sub-lt 64 y); same = bits-and_not 64; test = λ p q. p && not q; member = contains-difference }
-
-pub on_first : IsOnBits (λ x _. x) (λ s _. s)
-on_first = record { none = refl; fits = λ x y p _. p; same = λ x y _ _. refl; test = λ p _. p; member = λ s t q. refl }

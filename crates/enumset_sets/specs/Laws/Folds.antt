@@ -3,6 +3,7 @@
 --     union_all_none, union_all_more, union_all_mapped      the members of any set of a list
 --     union_none      extending a set by nothing
 --     all_of_extended      extending the empty set
+--     extended_more      extending a set by one item more
 -- The ruleset `folds` has the first six, and the union with the empty set and with a set that has one number more.
 use Rattle.std.proofs.Common.{◌≡◌, ◌<◌, ◌+◌, ℕ, List, [], ◌∷◌, ◌++◌, length, take, get_or, map, refl, sym, ap, ◌∙◌}
 use Rattle.std.proofs.lemmas.List.{take_more}
@@ -53,5 +54,10 @@ union_none s = ap (union s) from_list_none ∙ union_empty s
 -- the empty set extended by a set
 pub all_of_extended : (s t r : BitSet) → s ≡ empty → r ≡ union s t → r ≡ t
 all_of_extended s t r is_empty is = is ∙ ap (λ u. union u t) is_empty ∙ empty_union t
+
+-- a set extended by one item more
+pub extended_more : {A : Type 0} (f : A → ℕ) (s t u : BitSet) (xs : List A) (x : A) → t ≡ union s (from_list (map f xs)) → u ≡ insert t (f x) → u ≡ union s (from_list (map f (xs ++ x ∷ [])))
+extended_more f s t u xs x before now =
+    now ∙ ap (λ t. insert t (f x)) before ∙ sym (union_insert s (from_list (map f xs)) (f x)) ∙ ap (union s) (sym (from_list_more f xs x))
 
 pub ruleset folds = (from_list_none, from_list_more, from_list_taken, union_all_none, union_all_more, union_all_mapped, union_empty, union_insert)

@@ -17,8 +17,7 @@ loop-chunk-preserved g c =
     let k : ℕ = length c.loop-chunk.yielded in
     let more = length_push c.loop-chunk.yielded (c.in-Some.chunk, c.in-Some.other) in
     let long = length-zip2 op c.args.words.now c.args.others.now c.requires in
-    ap (λ ws. none_in (zip2 bit_or c.loop-chunk.lanes ws)) (c.on_lanes-lanes.ensures ∙ (λ i. zip2 op (first.0 i) (second.0 i)) ∙ sym (chunk-zip2 op (4 * k) 4 c.args.words.now c.args.others.now))
-    ∙ joined_none answers c.loop-chunk.lanes (4 * k) (4 * length (c.loop-chunk.yielded ++ (c.in-Some.chunk, c.in-Some.other) ∷ [])) (omega (arith, more)) (omega (arith, more, long, turn.0, c.as_chunks.ensures.front_len)) c.loop-chunk.auto.lanes.0 c.loop-chunk.invariant
+    joined_none answers c.loop-chunk.lanes _ (4 * k) _ (c.on_lanes-lanes.ensures ∙ (λ i. zip2 op (first.0 i) (second.0 i)) ∙ sym (chunk-zip2 op (4 * k) 4 c.args.words.now c.args.others.now)) (omega (arith, more)) (omega (arith, more, long, turn.0, c.as_chunks.ensures.front_len)) c.loop-chunk.auto.lanes.0 c.loop-chunk.invariant
 
 pub loop-word-init : goal.loop-word-init
 loop-word-init g c =
@@ -40,8 +39,7 @@ loop-word-preserved g c =
     let second : c.in-Some-2.other_word.now ≡ slice_index c.args.others.now i =
     turn.3 0 ∙ ap (λ ws. slice_index ws k) c.as_chunks-2.ensures.back ∙ get_or-drop (length c.args.others.now / 4 * 4) c.args.others.now k 0
     ∙ ap (λ n. slice_index c.args.others.now (n / 4 * 4 + k)) (sym c.requires) in
-    ap (λ w. bit_or c.loop-word.any w == 0) (c.on_words-any.ensures ∙ (λ j. op (first j) (second j)) ∙ sym (get_or-zip2 op c.args.words.now c.args.others.now i 0 0 0 low (omega (arith, low, c.requires))))
-    ∙ one_none answers c.loop-word.any i (length c.args.words.now / 4 * 4 + length (c.loop-word.yielded ++ (c.in-Some-2.word, c.in-Some-2.other_word) ∷ [])) (omega (arith, more)) (omega (arith, long, low)) c.loop-word.invariant
+    one_none answers c.loop-word.any _ i _ (c.on_words-any.ensures ∙ (λ j. op (first j) (second j)) ∙ sym (get_or-zip2 op c.args.words.now c.args.others.now i 0 0 0 low (omega (arith, low, c.requires)))) (omega (arith, more)) (omega (arith, long, low)) c.loop-word.invariant
 
 pub returns : goal.returns
 returns g c =
