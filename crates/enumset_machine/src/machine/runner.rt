@@ -1,10 +1,10 @@
 //! A run over sets of any kind: its registers, and its step.
 
-ghost use Rattle.std.specs.Prelude.{◌≡◌, ◌^◌, ◌&&◌, nat_lt, true, false, IsOk, IfOk, OnOk, OnErr};
+ghost use Rattle.std.specs.Prelude.{◌≡◌, ◌^◌, ◌&&◌, nat_lt, Some, None, if◌then◌else◌, true, false, IsOk, IfOk, OnOk, OnErr};
 ghost use Rattle.enumset_commands.specs.declared.reply.Reply.TheVariants.{Done, Truth};
 ghost use Rattle.enumset_machine.specs.States.{start, is_set_register, is_iterator_register, set_at, put_set, put_list};
 ghost use Rattle.enumset_repr.specs.BitSet.{ascending};
-ghost use Rattle.enumset_machine.specs.Plans.{outcome_by, is_width, step_reply, takes_memory};
+ghost use Rattle.enumset_machine.specs.Plans.{outcome_by, is_width, refusal, step_reply, takes_memory};
 ghost use Rattle.enumset_machine.specs.Runs.{plan};
 
 use super::iterators::{IteratorRegisters, is_iterator_register};
@@ -70,17 +70,10 @@ impl<S: RunSet> Runner<S> {
             ≡ record { reply = reply; state = self.new }) }
         ensures err { OnErr result (self.new ≡ self.old) }
     {
-        let (registers, widths, bits) = named_by::<S>(command);
-        if !registers {
-            return Ok(Reply::Refused(Refusal::NoRegister));
+        match refusal::<S>(command) {
+            Some(refusal) => Ok(Reply::Refused(refusal)),
+            None => self.carry_out(alloc, command),
         }
-        if !widths {
-            return Ok(Reply::Refused(Refusal::NotAWidth));
-        }
-        if !bits {
-            return Ok(Reply::Refused(Refusal::NotABit));
-        }
-        self.carry_out(alloc, command)
     }
 
     /// Carries out a command that is not refused.
@@ -176,13 +169,10 @@ fn step_reply<S: RunSet>(bit: Option<u32>) -> Reply
     }
 }
 
-/// Whether the registers exist that a command names; whether its width exists, and its value fits that; and whether its
-/// bit is valid. What it does not name is no reason to refuse it.
+/// Why a command is refused, if it is.
 #[tactic(auto, unfolding(crate::specs::Runs::plan))]
-fn named_by<S: RunSet>(command: &Command) -> (bool, bool, bool)
-    ensures registers { result.0 ≡ (plan command.now).registers }
-    ensures widths { result.1 ≡ (plan command.now).widths }
-    ensures bits { result.2 ≡ (plan command.now).bits S.rules }
+fn refusal<S: RunSet>(command: &Command) -> Option<Refusal>
+    ensures { result ≡ refusal S.rules (plan command.now) }
 {
     match *command {
         New { r }
@@ -193,7 +183,7 @@ fn named_by<S: RunSet>(command: &Command) -> (bool, bool, bool)
         | Words { r, .. }
         | WordsCut { r, .. }
         | FromWords { r, .. }
-        | FromWordsCut { r, .. } => (is_set_register(r), true, true),
+        | FromWordsCut { r, .. } => unless(is_set_register(r), Refusal::NoRegister),
         Complement { to: a, a: b }
         | InsertAll { r: a, a: b }
         | RemoveAll { r: a, a: b }
@@ -201,23 +191,33 @@ fn named_by<S: RunSet>(command: &Command) -> (bool, bool, bool)
         | Superset { a, b }
         | Subset { a, b }
         | Equal { a, b }
-        | Compare { a, b } => (are_set_registers(a, b), true, true),
+        | Compare { a, b } => unless(are_set_registers(a, b), Refusal::NoRegister),
         SymmetricDifference { to, a, b }
         | Intersection { to, a, b }
         | Difference { to, a, b }
-        | Union { to, a, b } => (is_set_register(to) && are_set_registers(a, b), true, true),
+        | Union { to, a, b } => unless(is_set_register(to) && are_set_registers(a, b), Refusal::NoRegister),
         Only { r, bit } | Insert { r, bit } | Remove { r, bit } | Contains { r, bit } => {
-            (is_set_register(r), true, S::is_bit_valid(bit))
+            unless(is_set_register(r), Refusal::NoRegister)
+                .or(unless(S::is_bit_valid(bit), Refusal::NotABit))
         }
         Number { r, width } | NumberCut { r, width } => {
-            (is_set_register(r), is_width(width), true)
+            unless(is_set_register(r), Refusal::NoRegister)
+                .or(unless(is_width(width), Refusal::NotAWidth))
         }
         FromNumber { r, width, value } | FromNumberCut { r, width, value } => {
-            (is_set_register(r), fits(width, value), true)
+            unless(is_set_register(r), Refusal::NoRegister)
+                .or(unless(fits(width, value), Refusal::NotAWidth))
         }
-        Iter { i, r } => (is_iterator_register(i) && is_set_register(r), true, true),
-        Next { i } | NextBack { i } | Left { i } => (is_iterator_register(i), true, true),
+        Iter { i, r } => unless(is_iterator_register(i) && is_set_register(r), Refusal::NoRegister),
+        Next { i } | NextBack { i } | Left { i } => unless(is_iterator_register(i), Refusal::NoRegister),
     }
+}
+
+/// This refusal, unless there is no reason for it.
+fn unless(holds: bool, refusal: Refusal) -> Option<Refusal>
+    ensures { result ≡ (if holds then None else Some refusal) }
+{
+    (!holds).then_some(refusal)
 }
 
 /// Whether a number is the width of one of the integers that sets go to and come from.
