@@ -22,7 +22,10 @@ fn a_set_feeds_a_hasher_its_representation(rt: HostRuntime) {
     let [a, in_a] = hashes(Letters::A);
     let [[p, in_p], [r, in_r]] = [hashes(Wide::P), hashes(Wide::R)];
     expect(&rt, "hash", [a, p, r], [in_a, in_p, in_r]);
-    let (set, other) = (MixedEnumSet::<Marks>::from_repr(1), MixedEnumSet::from_repr(9));
+    let (set, other) = (
+        MixedEnumSet::<Marks>::from_repr(1),
+        MixedEnumSet::from_repr(9),
+    );
     let (valid, unknown) = (MixedValue::Valid(Marks::C), MixedValue::<Marks>::Invalid(2));
     let are_equal = [
         p == r,
