@@ -4,7 +4,7 @@ use enumset::set::MixedEnumSet;
 use enumset::set_json::{JsonWidth, Unknown};
 use enumset::{EnumSet, laws};
 use enumset_test_types::{LaterLetters, Letters};
-use enumset_worked::Wide;
+use enumset_worked::Marks;
 
 #[test]
 fn of_sets_and_elements(_rt: HostRuntime) {
@@ -14,7 +14,7 @@ fn of_sets_and_elements(_rt: HostRuntime) {
     laws::fold_of_sets();
     laws::fold_of_elements::<Letters>();
     laws::valid_bits_listed::<Letters>();
-    laws::valid_before_invalid::<Wide>();
+    laws::valid_before_invalid::<Marks>();
     laws::cut_number_and_back(&letters, 2);
     laws::words_and_back(&letters, 1);
     laws::cut_words_and_back(&letters, 1);

@@ -1,5 +1,5 @@
 //! Tests of the crate `enumset`: macros, folds, steps and JSON, at the worked types and at types whose values have names;
-//! of types whose sets have a form in JSON of their own; and of users' code over it, with its proofs.
+//! and of users' code over it, with its proofs. What strings of JSON are read and written as is in `scripts/random-json`.
 //!
 //! They are in a crate of their own so that they are proved beside the tests of sets.
 #![tactic(auto)]
@@ -13,19 +13,15 @@ mod each_law;
 #[cfg(test)]
 mod expect;
 #[cfg(test)]
+mod faults;
+#[cfg(test)]
 mod folds;
 #[cfg(test)]
-mod json;
+mod forms;
 #[cfg(test)]
 mod macros;
 #[cfg(test)]
-mod mixed_json;
-#[cfg(test)]
 mod no_variant;
-#[cfg(test)]
-mod older_readers;
-#[cfg(test)]
-mod paths;
 #[cfg(test)]
 mod reading_newer;
 #[cfg(test)]
@@ -33,6 +29,6 @@ mod refused;
 #[cfg(test)]
 mod sending_json;
 #[cfg(test)]
-mod serialized_sets;
+mod sent;
 #[cfg(test)]
 mod steps;

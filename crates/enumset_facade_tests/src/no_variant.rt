@@ -1,7 +1,9 @@
-//! Sets of an enum without variants.
+//! Sets of an enum without variants, over no word.
 
-use crate::json::{Form, read, write};
-use enumset::set_json::{JsonFault, JsonWidth, Unknown};
+use crate::expect::expect;
+use crate::forms::{Form, read, write};
+use enumset::internal::ArrayRepr;
+use enumset::set_json::JsonFault;
 use enumset::{EnumSet, EnumSetNames, EnumSetType, names_of, variant_of};
 use std::alloc::Global;
 use std::fmt;
@@ -13,22 +15,14 @@ fn expect_nothing<T: EnumSetNames + fmt::Debug>(
     rt: &impl Abort,
     alloc: Global,
 ) -> Result<(), Fail> {
-    let (none, all) = (EnumSet::<T>::new(), EnumSet::<T>::all());
-    assert_eq!(rt; EnumSet::<T>::bit_width(), 0);
-    assert!(rt; all.is_empty() && none.complement().is_empty());
-    assert!(rt; none.iter().next().is_none());
-    let mut text = format!(in alloc; "{all:?}")?;
-    for form in [
-        Form::Number(JsonWidth::U8),
-        Form::Words,
-        Form::List,
-        Form::Map,
-    ] {
+    let all = EnumSet::<T>::all();
+    let mut text = format!(in alloc; "{all:?} {}", all.to_vec(alloc)?.len())?;
+    for form in [Form::Number, Form::Words, Form::List, Form::Map] {
         write!(text, " {}", write(alloc, form, &all)?)?;
     }
-    assert_eq!(rt; text.as_str(), "EnumSet() 0 [0] [] {}");
-    let unknown = read::<T>(alloc, Form::Map, "{\"A\":false}", Unknown::Refuse);
-    assert_eq!(rt; unknown, Err(JsonFault::UnknownName(0)));
+    expect(rt, "texts", text.as_str(), "EnumSet() 0 0 [] [] {}");
+    let unknown = read::<T>(alloc, Form::Map, "{\"A\":false}");
+    expect(rt, "read", unknown, Err(JsonFault::UnknownName(0)));
     Ok(())
 }
 
@@ -39,16 +33,16 @@ fn no_variant_is_enough(rt: HostRuntime) -> Result<(), Fail> {
 
     impl EnumSetType for Nothing {
         ghost use Rattle.std.specs.Prelude.{[]};
-        ghost use Rattle.enumset_sets.specs.Laws.Elements.{with_bits, lawful_in_integer};
+        ghost use Rattle.enumset_sets.specs.Laws.Elements.{with_bits, lawful_in_words};
         ghost use Rattle.enumset_facade_tests.specs.contracts.no_variant.fn.no_variant_is_enough.Nothing.{the_type};
 
-        type Repr = u8;
+        type Repr = ArrayRepr<0>;
 
         ghost elements = { with_bits the_type [] };
 
-        ghost ALL_BITS = { 0 };
+        ghost ALL_BITS = { [] };
 
-        const ALL_BITS: u8 = 0;
+        const ALL_BITS: ArrayRepr<0> = ArrayRepr([]);
 
         ghost BIT_WIDTH = { 0 };
 
@@ -66,7 +60,7 @@ fn no_variant_is_enough(rt: HostRuntime) -> Result<(), Fail> {
             variant_of!(val, Nothing:)
         }
 
-        ghost lawful = { lawful_in_integer the_type _ tt };
+        ghost lawful = { lawful_in_words the_type _ tt };
     }
 
     impl EnumSetNames for Nothing {

@@ -19,14 +19,17 @@ fn hashes<T: EnumSetType>(element: T) -> [u64; 2] {
 
 #[test]
 fn a_set_feeds_a_hasher_its_representation(rt: HostRuntime) {
-    let [a, in_a] = hashes(Letters::A);
-    let [[p, in_p], [r, in_r]] = [hashes(Wide::P), hashes(Wide::R)];
-    expect(&rt, "hash", [a, p, r], [in_a, in_p, in_r]);
-    let (set, other) = (MixedEnumSet::<Marks>::from_repr(1), MixedEnumSet::from_repr(9));
+    let ([a, in_a], [b, in_b]) = (hashes(Letters::A), hashes(Letters::B));
+    let ([p, in_p], [r, in_r]) = (hashes(Wide::P), hashes(Wide::R));
+    expect(&rt, "hash", [a, b, p, r], [in_a, in_b, in_p, in_r]);
+    let (set, other) = (
+        MixedEnumSet::<Marks>::from_repr(1),
+        MixedEnumSet::<Marks>::from_repr(9),
+    );
     let (valid, unknown) = (MixedValue::Valid(Marks::C), MixedValue::<Marks>::Invalid(2));
     let are_equal = [
         p == r,
-        a == hash_of(&EnumSet::only(Letters::B)),
+        a == b,
         hash_of(&set) == hash_of(&other),
         hash_of(&valid) == hash_of(&unknown),
     ];

@@ -1,7 +1,7 @@
-//! Tests of sets and mixed sets at the worked types: calls that no command makes, texts, sizes, and each type by itself.
+//! Tests of sets and mixed sets at the worked types: calls that no command makes, texts, hashes and sizes.
 //!
 //! They are in a crate of their own so that the crates that they test are proved once. They name no call of the crate
-//! `enumset`, so they are proved beside it.
+//! `enumset`.
 #![tactic(auto)]
 
 #[cfg(test)]
@@ -9,9 +9,9 @@ mod by_hand;
 #[cfg(test)]
 mod conversions;
 #[cfg(test)]
-mod each_type;
-#[cfg(test)]
 mod expect;
+#[cfg(test)]
+mod hashes;
 #[cfg(test)]
 mod items;
 #[cfg(test)]
@@ -21,10 +21,10 @@ mod mixed;
 #[cfg(test)]
 mod operators;
 #[cfg(test)]
-mod order;
-#[cfg(test)]
 mod refused;
 #[cfg(test)]
 mod sets;
 #[cfg(test)]
 mod sizes;
+#[cfg(test)]
+mod texts;

@@ -41,18 +41,27 @@ fn sets_of_marks(rt: HostRuntime) {
 
 #[test]
 fn texts_of_marks(rt: HostRuntime) -> Result<(), Fail> {
-    let (none, set) = (MixedEnumSet::<Marks>::new(), MixedEnumSet::<Marks>::from_repr(9));
+    let (none, set) = (
+        MixedEnumSet::<Marks>::new(),
+        MixedEnumSet::<Marks>::from_repr(9),
+    );
     let mut iter = set.iter();
     let text = format!(in rt.alloc(); "<{none}> <{set}> {set:?} {iter:?}")?;
     let wanted = "<> <A | [3]> MixedEnumSet(A | [3]) MixedEnumSetIter { iter: PrimitiveIter(9) }";
     expect(&rt, "{} and {:?}", text.as_str(), wanted);
-    let (letter, unknown) = (MixedValue::Valid(Letters::G), MixedValue::<Letters>::Invalid(7));
+    let (letter, unknown) = (
+        MixedValue::Valid(Letters::G),
+        MixedValue::<Letters>::Invalid(7),
+    );
     let text = format!(in rt.alloc(); "{letter} {letter:?} {unknown} {unknown:?}")?;
     expect(&rt, "members", text.as_str(), "G G [7] [7]");
     let same = iter.clone().unwrap();
     let (left, hint) = (same.len(), iter.size_hint());
     let (back, front) = (iter.next_back(), iter.next());
-    let wanted = (Some(MixedValue::Invalid(3)), Some(MixedValue::Valid(Marks::A)));
+    let wanted = (
+        Some(MixedValue::Invalid(3)),
+        Some(MixedValue::Valid(Marks::A)),
+    );
     expect(&rt, "next_back and next", (back, front), wanted);
     expect(&rt, "len and size_hint", (left, hint), (2, (2, Some(2))));
     Ok(())

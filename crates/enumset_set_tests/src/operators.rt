@@ -4,7 +4,7 @@ use crate::expect::expect;
 use crate::sets::two_of;
 use enumset_mixed::MixedEnumSet;
 use enumset_sets::EnumSet;
-use enumset_worked::{Four, Letters, Marks};
+use enumset_worked::{Letters, Marks};
 
 // The results of `&`, `|`, `^`, `-` and `!`, and the first operand after `&=`, `|=`, `^=` and `-=`. The first operand is
 // a set, the second a set or an element.
@@ -57,7 +57,6 @@ fn mixed_sets_have_operators(rt: HostRuntime) {
     let sets = results!(nine, two_of(Marks::A, Marks::B));
     let wanted = [1, 11, 10, 8, 6, 1, 11, 10, 8].map(MixedEnumSet::from_repr);
     expect(&rt, "9 and {A, B}", sets, wanted);
-    expect(&rt, "9 - 1", nine - marks(1), marks(8));
 }
 
 #[test]
@@ -65,21 +64,4 @@ fn elements_have_operators(rt: HostRuntime) {
     let sets = sets_of_elements!(Letters::A, Letters::B);
     let wanted = [0, 3, 3, 1, 126, 1, 3, 2, 0].map(EnumSet::from_u8_truncated);
     expect(&rt, "A and B", sets, wanted);
-    let sets = sets_of_elements!(Four::A, Four::B);
-    let wanted = [0, 3, 3, 1, 14, 1, 3, 2, 0].map(EnumSet::from_u8_truncated);
-    expect(&rt, "A and B of four", sets, wanted);
-}
-
-#[test]
-fn operators_stand_in_expressions(rt: HostRuntime) {
-    let (ab, bc) = (Letters::A | Letters::B, Letters::B | Letters::C);
-    let sets = [
-        ab & EnumSet::only(Letters::C),
-        ab ^ bc,
-        (ab | bc) - EnumSet::only(Letters::B),
-        (ab | Letters::C) - Letters::B,
-        Letters::A | (Letters::C | Letters::G),
-    ];
-    let wanted = [0, 5, 5, 5, 69].map(EnumSet::from_u8_truncated);
-    expect(&rt, "expressions", sets, wanted);
 }

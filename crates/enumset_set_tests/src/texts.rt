@@ -12,7 +12,11 @@ fn write_texts<T: EnumSetType + fmt::Debug + fmt::Display>(
     text: &mut String,
     element: T,
 ) -> Result<(), AllocError> {
-    let (none, one, all) = (EnumSet::<T>::new(), EnumSet::only(element), EnumSet::<T>::all());
+    let (none, one, all) = (
+        EnumSet::<T>::new(),
+        EnumSet::only(element),
+        EnumSet::<T>::all(),
+    );
     writeln!(text, "<{none}> {none:?} {one} {all} {all:?}")
 }
 

@@ -1,14 +1,6 @@
-//! Enums of two variants, one in the first word and one in the last of more words than the other types have.
+//! An enum of two variants, one in the first word and one in the last of more words than the other types have.
 
 use enumset::EnumSetType;
-
-/// Two variants, on bits 3 and 300, in five words.
-#[derive(EnumSetType, Debug)]
-#[enumset(no_ops, crate_name = "enumset_sets")]
-pub enum In5Words {
-    A = 3,
-    B = 300,
-}
 
 /// Two variants, on bits 3 and 1087, in seventeen words.
 #[derive(EnumSetType, Debug)]

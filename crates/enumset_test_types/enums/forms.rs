@@ -1,4 +1,4 @@
-//! An enum for each form that its sets have in JSON.
+//! Enums whose sets are numbers, and words, in JSON.
 
 use enumset::EnumSetType;
 
@@ -17,20 +17,4 @@ pub enum Numbered {
 pub enum InWords {
     Low = 1,
     High = 200,
-}
-
-/// Rights whose sets are lists of their names.
-#[derive(EnumSetType, Debug)]
-#[enumset(no_ops, serialize_repr = "list")]
-pub enum Listed {
-    Read,
-    Write,
-}
-
-/// Rights whose sets are maps from their names. Unknown names are a fault.
-#[derive(EnumSetType, Debug)]
-#[enumset(no_ops, serialize_repr = "map", serialize_deny_unknown)]
-pub enum Mapped {
-    Read,
-    Write,
 }

@@ -1,4 +1,4 @@
-//! Element types whose values have names, and whose sets are lists of them.
+//! Element types whose values have names, and whose sets are lists of them, or maps from them.
 
 use enumset::EnumSetType;
 
@@ -15,9 +15,9 @@ pub enum Letters {
     G,
 }
 
-/// The letters with two more, `H` on bit 7 and `Aa` on bit 64, in words.
+/// The letters with two more, `H` on bit 7 and `Aa` on bit 64, in words. Unknown names are a fault.
 #[derive(EnumSetType, Debug)]
-#[enumset(no_ops, repr = "array", serialize_repr = "list")]
+#[enumset(no_ops, repr = "array", serialize_repr = "map", serialize_deny_unknown)]
 pub enum LaterLetters {
     A,
     B,

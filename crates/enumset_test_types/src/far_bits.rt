@@ -1,50 +1,7 @@
-//! Enums of two variants, one in the first word and one in the last of more words than the other types have.
+//! An enum of two variants, one in the first word and one in the last of more words than the other types have.
 
 use enumset_array::ArrayRepr;
 use enumset_sets::EnumSetType;
-
-/// Two variants, on bits 3 and 300, in five words.
-#[derive(Clone, Copy, PartialEq, Eq, Debug)]
-pub enum In5Words {
-    A = 3,
-    B = 300,
-}
-
-impl EnumSetType for In5Words {
-    ghost use Rattle.std.specs.Prelude.{◌∷◌, []};
-    ghost use Rattle.enumset_sets.specs.Laws.Elements.{with_bits, lawful_in_words};
-    ghost use Rattle.enumset_test_types.specs.contracts.far_bits.In5Words.{the_type};
-
-    type Repr = ArrayRepr<5>;
-
-    ghost elements = { with_bits the_type (3 ∷ 300 ∷ []) };
-
-    ghost ALL_BITS = { 8 ∷ 0 ∷ 0 ∷ 0 ∷ 17592186044416 ∷ [] };
-
-    const ALL_BITS: ArrayRepr<5> = ArrayRepr([8, 0, 0, 0, 17592186044416]);
-
-    ghost BIT_WIDTH = { 301 };
-
-    const BIT_WIDTH: u32 = 301;
-
-    ghost VARIANT_COUNT = { 2 };
-
-    const VARIANT_COUNT: u32 = 2;
-
-    fn enum_into_u32(self) -> u32 {
-        self as u32
-    }
-
-    fn enum_from_u32(val: u32) -> Self {
-        match val {
-            3 => Self::A,
-            300 => Self::B,
-            _ => unreachable!(),
-        }
-    }
-
-    ghost lawful = { lawful_in_words the_type _ tt };
-}
 
 /// Two variants, on bits 3 and 1087, in seventeen words.
 #[derive(Clone, Copy, PartialEq, Eq, Debug)]

@@ -1,5 +1,5 @@
-//! Element types for tests: of 12 to 256 variants, of which an enum may have no more, over many words, and with a form
-//! in JSON.
+//! Element types for tests: of up to 256 variants, of which an enum may have no more, at each integer, over many words,
+//! and with a form in JSON.
 //!
 //! Most modules are what `enumset_derive` writes from their files in `enums/`: change such a file, and call
 //! `scripts/written-types`. None of them needs a proof file.
@@ -11,12 +11,9 @@
 pub mod far_bits;
 pub mod forms;
 pub mod gaps_in_u128;
-pub mod gaps_in_words;
-pub mod month;
+pub mod integers;
 pub mod named;
-pub mod of_128;
 pub mod of_256;
-pub mod of_32;
 pub mod of_33;
 pub mod of_64;
 pub mod of_64_names;
@@ -24,16 +21,13 @@ pub mod priority;
 pub mod wide;
 pub mod wide_names;
 
-pub use far_bits::{In5Words, In17Words};
-pub use forms::{InWords, Listed, Mapped, Numbered};
+pub use far_bits::In17Words;
+pub use forms::{InWords, Numbered};
 pub use gaps_in_u128::GapsInU128;
-pub use gaps_in_words::GapsInWords;
-pub use month::Month;
+pub use integers::{In16, In32, In64};
 pub use named::{LaterLetters, Letters, Sparse};
-pub use of_32::Of32;
 pub use of_33::Of33;
 pub use of_64::Of64;
-pub use of_128::Of128;
 pub use of_256::Of256;
 pub use priority::Priority;
 pub use wide::Wide;

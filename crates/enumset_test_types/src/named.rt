@@ -1,4 +1,4 @@
-//! Element types whose values have names, and whose sets are lists of them.
+//! Element types whose values have names, and whose sets are lists of them, or maps from them.
 
 use enumset::internal::ArrayRepr;
 use enumset::{EnumSet, EnumSetNames, EnumSetType, EnumSetTypeWithRepr, names_of, set_json};
@@ -109,7 +109,7 @@ impl Letters {
     }
 }
 
-/// The letters with two more, `H` on bit 7 and `Aa` on bit 64, in words.
+/// The letters with two more, `H` on bit 7 and `Aa` on bit 64, in words. Unknown names are a fault.
 #[derive(Clone, Copy, PartialEq, Eq, Debug)]
 pub enum LaterLetters {
     A,
@@ -189,34 +189,34 @@ impl LaterLetters {
     ghost use Rattle.std.specs.Prelude.{◌≡◌, IfOk, IfErr};
     ghost use Rattle.serde_json.specs.View.{view};
     ghost use Rattle.enumset.specs.Names.{names_of};
-    ghost use Rattle.enumset.specs.JsonNames.{list_value, set_of_list};
+    ghost use Rattle.enumset.specs.JsonNames.{map_value, set_of_map};
     ghost use Rattle.enumset.specs.declared.set_json.fault.JsonFault.TheVariants.{OutOfMemory};
     ghost use Rattle.enumset.specs.declared.set_json.unknown.Unknown.TheVariants as unknown;
 
-    /// The array of the names of the set's members, in ascending order of their bits. The only fault is
+    /// The object with the name of each of the set's members and `true`. The only fault is
     /// [`set_json::JsonFault::OutOfMemory`].
     pub fn to_json(
         alloc: std::alloc::Global,
         set: &EnumSet<Self>,
     ) -> std::result::Result<serde_json::Value, set_json::JsonFault>
-        ensures value { IfOk result (λ value. view value ≡ list_value
+        ensures value { IfOk result (λ value. view value ≡ map_value
             (names_of ⟦<LaterLetters as EnumSetType>⟧.elements ⟦<LaterLetters as EnumSetNames>⟧.names) set.now) }
         ensures fault { IfErr result (λ fault. fault ≡ OutOfMemory) }
     {
-        set_json::to_list(alloc, set)
+        set_json::to_map(alloc, set)
     }
 
-    /// The set that `to_json` writes so. Names that no variant has are left out.
+    /// The set that `to_json` writes so. A name that no variant has is a fault.
     ///
-    /// The faults are those of [`set_json::from_list`], in their order. It takes no memory.
+    /// The faults are those of [`set_json::from_map`], in their order. It takes no memory.
     pub fn from_json(
         value: &serde_json::Value,
     ) -> std::result::Result<EnumSet<Self>, set_json::JsonFault>
-        ensures { result ≡ set_of_list
+        ensures { result ≡ set_of_map
             (names_of ⟦<LaterLetters as EnumSetType>⟧.elements ⟦<LaterLetters as EnumSetNames>⟧.names)
-            unknown.Drop (view value.now) }
+            unknown.Refuse (view value.now) }
     {
-        set_json::from_list(value, set_json::Unknown::Drop)
+        set_json::from_map(value, set_json::Unknown::Refuse)
     }
 }
 

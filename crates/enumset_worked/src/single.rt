@@ -3,7 +3,7 @@
 use enumset_sets::{EnumSetType, EnumSetTypeWithRepr};
 
 /// One variant, on bit 0.
-#[derive(Clone, Copy, PartialEq, Eq, Debug, PartialOrd, Ord, Hash)]
+#[derive(Clone, Copy, PartialEq, Eq, Debug)]
 pub enum Single {
     A,
 }
@@ -50,22 +50,4 @@ impl EnumSetTypeWithRepr for Single {
     ghost use Rattle.std.proofs.Common.{rules};
 
     ghost narrow = { Prim.search rules };
-}
-
-/// The name of the variant.
-impl std::fmt::Display for Single {
-    ghost use Rattle.std.specs.Prelude.{Some, ◌∷◌, [], codes};
-    ghost use Rattle.std.specs.List.{slice_index_or};
-    ghost use denote.Enum.Declared.{tag_of};
-    ghost use Rattle.enumset_worked.specs.contracts.single.Single.{the_type};
-
-    ghost output = { λ v. Some (slice_index_or
-        (codes "A" ∷ [])
-        (tag_of the_type v) []) };
-
-    fn fmt<W: std::fmt::Write>(&self, f: &mut std::fmt::Formatter<W>) -> std::fmt::Result {
-        match self {
-            Self::A => f.write_str("A"),
-        }
-    }
 }

@@ -1,0 +1,27 @@
+//! Sets that are sent and read again, at a type.
+
+use crate::expect::expect;
+use crate::reading_newer::read_by_older;
+use crate::sending_json::{sent_as_list_text, sent_as_number, sent_as_words, sent_with_unknown};
+use enumset::EnumSet;
+use enumset::set::MixedEnumSet;
+use enumset::set_json::{JsonWidth, Unknown};
+use enumset_test_types::{LaterLetters, Letters};
+use std::test::Fail;
+
+#[test]
+fn flags_are_sent(rt: HostRuntime) -> Result<(), Fail> {
+    let (alloc, flags) = (rt.alloc(), EnumSet::from([Letters::A, Letters::G]));
+    let read = [
+        sent_as_number(alloc, &flags, JsonWidth::U8, Unknown::Refuse)?,
+        sent_as_words(alloc, &flags, Unknown::Refuse)?,
+        sent_as_list_text(alloc, &flags, Unknown::Refuse)?,
+    ];
+    expect(&rt, "sent", read, [flags; 3]);
+    let mixed = MixedEnumSet::<Letters>::from_repr(129);
+    expect(&rt, "mixed", sent_with_unknown(alloc, &mixed)?, mixed);
+    let later = EnumSet::from([LaterLetters::B, LaterLetters::H, LaterLetters::Aa]);
+    let read: EnumSet<Letters> = read_by_older(alloc, &later)?;
+    expect(&rt, "older", read, EnumSet::only(Letters::B));
+    Ok(())
+}

@@ -1,0 +1,27 @@
+//! Enums of two variants, on the lowest and the highest bit of an integer.
+
+use enumset::EnumSetType;
+
+/// Two variants, on bits 0 and 15 of a `u16`.
+#[derive(EnumSetType, Debug)]
+#[enumset(no_ops, repr = "u16", display)]
+pub enum In16 {
+    A,
+    B = 15,
+}
+
+/// Two variants, on bits 0 and 31 of a `u32`.
+#[derive(EnumSetType, Debug)]
+#[enumset(no_ops, repr = "u32", display, serialize_repr = "u32")]
+pub enum In32 {
+    A,
+    B = 31,
+}
+
+/// Two variants, on bits 0 and 63 of a `u64`.
+#[derive(EnumSetType, Debug)]
+#[enumset(no_ops, repr = "u64", display)]
+pub enum In64 {
+    A,
+    B = 63,
+}
