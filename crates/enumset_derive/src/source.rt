@@ -15,6 +15,8 @@ pub struct Source<'a> {
     /// What it imports of the crate `enumset`, each as it is written after `enumset::`.
     pub imports: Vec<String>,
     pub has_imports: bool,
+    /// The name of that crate.
+    pub facade: &'a str,
     pub has_enums: bool,
     /// What has no meaning in Rattle, in its order: as it is written, and where it is.
     pub left_out: Vec<(Place, &'a str)>,
@@ -42,6 +44,7 @@ impl<'a> Source<'a> {
             items: Vec::new(alloc),
             imports: Vec::new(alloc),
             has_imports: false,
+            facade: "enumset",
             has_enums: false,
             left_out: Vec::new(alloc),
         }
@@ -73,6 +76,7 @@ impl<'a> Source<'a> {
         }
         self.pass_on(begin, end)?;
         self.has_enums = true;
+        self.facade = declaration.options.crate_name.unwrap_or(self.facade);
         self.items.push(Item::Enum(declaration, plan))?;
         Ok(())
     }

@@ -19,17 +19,17 @@ const FORMS: &str =
 
 /// What may come next after the name of such an attribute.
 #[derive(Clone, Copy)]
-enum Next<'a> {
+enum Next {
     /// `(`.
     Arguments,
     /// A name, or `)`.
     Argument,
     /// One more name of a path.
     Name,
-    /// `=`, after the name of this option.
-    Equals(&'a str),
-    /// The value of this option, a text in quotes.
-    Value(&'a str),
+    /// `=`, after the name of an option.
+    Equals,
+    /// The value of that option, a text in quotes.
+    Value,
     /// `,` or `)`.
     Separator,
     /// The `]` that ends the attribute.
@@ -65,7 +65,7 @@ impl<'a> Draft<'a> {
     }
 
     /// Takes a token of the names that are derived.
-    fn take_derive(&mut self, next: Next<'a>, token: &Token<'a>) -> Result<Next<'a>, DeriveError> {
+    fn take_derive(&mut self, next: Next, token: &Token<'a>) -> Result<Next, DeriveError> {
         let following = match next {
             Next::Argument | Next::Separator if token.is_mark(':') => Next::Name,
             Next::Argument | Next::Name if token.is_name() => Next::Separator,
@@ -85,27 +85,28 @@ impl<'a> Draft<'a> {
     }
 
     /// Takes a token of the options.
-    fn take_option(&mut self, next: Next<'a>, token: &Token<'a>) -> Result<Next<'a>, DeriveError> {
+    fn take_option(&mut self, next: Next, token: &Token<'a>) -> Result<Next, DeriveError> {
         match (next, token.kind) {
             (Next::Argument, Kind::Word) => self.take_name(token),
             (Next::Argument, _) => Err(token.fault("wanted: a name of an option, or `)`")),
-            (Next::Equals(option), Kind::Mark('=')) => Ok(Next::Value(option)),
-            (Next::Value(option), Kind::Quoted) => self.take_value(option, token),
+            (Next::Equals, Kind::Mark('=')) => Ok(Next::Value),
+            (Next::Value, Kind::Quoted) => self.take_value(token),
             (Next::Separator, _) => after_argument(token),
             _ => Err(token.fault(NO_VALUE)),
         }
     }
 
     /// Takes the name of an option.
-    fn take_name(&mut self, token: &Token<'a>) -> Result<Next<'a>, DeriveError> {
+    fn take_name(&mut self, token: &Token<'a>) -> Result<Next, DeriveError> {
         let earlier = self.given.iter().find(|given| given.0 == token.text);
         if let Some((_, place)) = earlier {
             return Err(Reason::OptionTwice(*place).at(token.place).into());
         }
+        self.option = token.text;
         let options = &mut self.declaration.options;
         let mut next = Next::Separator;
         match token.text {
-            "map" | "repr" | "serialize_repr" | "crate_name" => next = Next::Equals(token.text),
+            "map" | "repr" | "serialize_repr" | "crate_name" => next = Next::Equals,
             "serialize_deny_unknown" => options.denies_unknown = true,
             "no_ops" => options.leaves_out_operators = true,
             "no_super_impls" => options.leaves_out_supertraits = true,
@@ -122,13 +123,13 @@ impl<'a> Draft<'a> {
     }
 
     /// Takes the value of an option.
-    fn take_value(&mut self, option: &str, token: &Token<'a>) -> Result<Next<'a>, DeriveError> {
+    fn take_value(&mut self, token: &Token<'a>) -> Result<Next, DeriveError> {
         let quoted = token.text.strip_prefix('"').unwrap_or("");
         let Some(value) = quoted.strip_suffix('"') else {
             return Err(token.fault(NO_VALUE));
         };
         let options = &mut self.declaration.options;
-        match option {
+        match self.option {
             "map" => match map_named(value) {
                 Some(map) => options.map = Some((map, token.place)),
                 None => return Err(token.fault(MAPS)),
@@ -148,7 +149,7 @@ impl<'a> Draft<'a> {
 }
 
 /// What may come next after an argument and this token.
-fn after_argument<'a>(token: &Token) -> Result<Next<'a>, DeriveError> {
+fn after_argument(token: &Token) -> Result<Next, DeriveError> {
     match token.kind {
         Kind::Mark(',') => Ok(Next::Argument),
         Kind::Mark(')') => Ok(Next::End),

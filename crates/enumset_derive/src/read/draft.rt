@@ -15,6 +15,8 @@ pub(super) struct Draft<'a> {
     pub path: String,
     /// Whether `EnumSetType` is derived.
     pub is_element_type: bool,
+    /// The option of which the name was read last.
+    pub option: &'a str,
     /// The names of the options that are given, and where, in their order.
     pub given: Vec<(&'a str, Place)>,
     /// The first fault of its derives and options.
@@ -39,6 +41,7 @@ impl<'a> Draft<'a> {
             has_derive: false,
             path: String::new(alloc),
             is_element_type: false,
+            option: "",
             given: Vec::new(alloc),
             fault: None,
         }

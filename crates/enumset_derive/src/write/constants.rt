@@ -27,6 +27,7 @@ pub(super) fn define_constants(writer: &mut Writer, plan: &Plan) -> Result<(), A
         }
         Store::Words(words) => {
             writer.set("SIZE", words.len().to_string(alloc));
+            writer.import("internal::ArrayRepr");
             writer.define_all(&IN_WORDS);
             define_words(writer, words)
         }

@@ -27,15 +27,14 @@ pub(super) fn write_element_type(
     writer.define("NAME", declaration.name);
     define_constants(writer, plan)?;
     define_bits(writer, &elements, declaration, plan);
+    writer.import("EnumSetType");
     writer.write(ELEMENT_TYPE);
     if is_narrow(plan) {
+        writer.import("EnumSetTypeWithRepr");
         writer.write(WITH_REPR);
     }
     if are_named(options) {
-        writer.set_list("NAMES", 80, "codes \"@NAME@\" ∷", &elements);
-        writer.set_lines("WORDS", "@NAME@", &elements);
-        define_call(writer, "names_of!(", "");
-        writer.write(NAMES);
+        write_names(writer, &elements);
     }
     if options.has_display {
         write_display(writer, &elements);
@@ -53,7 +52,7 @@ pub(super) fn are_named(options: &Options) -> bool {
 }
 
 /// Whether the representation has at most 128 bits.
-pub(super) fn is_narrow(plan: &Plan) -> bool {
+fn is_narrow(plan: &Plan) -> bool {
     match &plan.store {
         Store::Integer(_, _) => true,
         Store::Words(words) => words.len() <= 2,
@@ -62,7 +61,7 @@ pub(super) fn is_narrow(plan: &Plan) -> bool {
 
 /// Whether a bit becomes its variant by a load from a table: there are more than sixteen, and they are not the variants'
 /// places.
-pub(super) fn is_in_table(plan: &Plan) -> bool {
+fn is_in_table(plan: &Plan) -> bool {
     plan.variants.len() > 16 && !are_places(plan)
 }
 
@@ -120,6 +119,7 @@ fn define_bits(
 /// Defines the body that converts a bit to its variant: a match over the bits, or the call of the macro that makes a table.
 fn define_value_of_bit(writer: &mut Writer, elements: Elements, plan: &Plan) {
     if is_in_table(plan) {
+        writer.import("variant_of");
         writer.set_lines("WORDS", "@BIT@ @NAME@", elements);
         define_call(writer, "variant_of!(", "val, ");
     } else {
@@ -147,6 +147,16 @@ fn define_call(writer: &mut Writer, macro_name: &'static str, first: &str) {
     writer.define("MACRO", macro_name);
     writer.set("WORDS", words);
     writer.define("BODY", if is_short { SHORT_CALL } else { LONG_CALL });
+}
+
+/// Writes the names of the variants.
+fn write_names(writer: &mut Writer, elements: Elements) {
+    writer.import("EnumSetNames");
+    writer.import("names_of");
+    writer.set_list("NAMES", 80, "codes \"@NAME@\" ∷", elements);
+    writer.set_lines("WORDS", "@NAME@", elements);
+    define_call(writer, "names_of!(", "");
+    writer.write(NAMES);
 }
 
 /// Writes the `Display` by the names of the variants.

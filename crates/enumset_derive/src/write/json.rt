@@ -102,6 +102,8 @@ pub(super) fn write_json(writer: &mut Writer, options: &Options, plan: &Plan) {
     let Some(serialized) = options.serialized else {
         return;
     };
+    writer.import("EnumSet");
+    writer.import("set_json");
     let (form, size) = form_of(serialized, plan);
     let (unknown, unknown_doc) = match (options.denies_unknown, are_named(options)) {
         (true, true) => ("Refuse", "A name that no variant has is a fault."),
