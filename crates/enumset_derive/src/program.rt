@@ -1,6 +1,6 @@
 //! What the program does: its arguments, its input and its output.
 
-use crate::arguments::{Request, arguments};
+use crate::arguments::{arguments, request_of};
 use crate::fault::ProgramFault;
 use crate::read::read_source;
 use crate::source::Source;
@@ -18,15 +18,19 @@ pub fn answer<R: Env + Files + Input + Print + Eprint + AllocGlobal>(
     rt: &R,
 ) -> Result<(), ProgramFault> {
     let arguments = arguments(rt)?;
-    let request = Request::of(&arguments)?;
+    let (crate_name, module_name, file) = request_of(&arguments)?;
     let input = read_input(rt.alloc(), rt.reader())?;
     let source = source_of(rt.alloc(), &input)?;
-    let written = module_text(rt.alloc(), request, &source)?;
-    for left_out in &source.left_out {
-        let (place, text) = *left_out;
+    let module = module_text(rt.alloc(), crate_name, module_name, &source)?;
+    report(rt, &source);
+    write_module(rt, module.as_str(), file)
+}
+
+/// Says on standard error what has no meaning in Rattle, and whether there is no enum.
+fn report<R: Eprint>(rt: &R, source: &Source) {
+    for (place, text) in &source.left_out {
         let _ = eprintln!(rt; "{place}: left out: {text} has no meaning here");
     }
-    write_module(rt, written.as_str(), request.file)
 }
 
 /// Writes a text to a file, or to standard output.

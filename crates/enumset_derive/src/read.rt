@@ -111,6 +111,7 @@ impl<'a> Reader<'a, '_> {
         let left_out = self.source.left_out.len();
         let mut draft = Draft::new(self.alloc);
         self.read_attributes(&mut draft)?;
+        draft.declaration.visibility = self.read_visibility()?;
         if !draft.is_element_type {
             self.source.left_out.truncate(left_out);
             return self.read_other(begin);

@@ -10,7 +10,6 @@ mod operators;
 mod templates;
 mod writer;
 
-use crate::arguments::Request;
 use crate::source::{Item, Source};
 use element_type::write_element_type;
 use enums::write_enum;
@@ -24,11 +23,11 @@ type Text = Result<String, AllocError>;
 /// The text of the module that a source stands for. The only error is that memory ran out.
 ///
 /// The imports stand where the first of the source stand, or after its head.
-pub fn module_text(alloc: Global, request: Request, source: &Source) -> Text {
+pub fn module_text(alloc: Global, crate_name: &str, module_name: &str, source: &Source) -> Text {
     let mut writer = Writer::new(alloc);
     writer.define_all(&[
-        ("CRATE", request.crate_name),
-        ("MODULE", request.module_name),
+        ("CRATE", crate_name),
+        ("MODULE", module_name),
         ("FACADE", source.facade),
     ]);
     for name in &source.imports {

@@ -1,42 +1,38 @@
-//! What stands before an enum: comments, attributes and its visibility.
+//! What stands before an enum or a variant: comments, attributes and a visibility.
 
 use super::draft::Draft;
-use super::reader::{Attribute, Reader, Stop};
+use super::reader::{Reader, Stop};
 use crate::tokens::Kind;
 use enumset_derive_plan::DeriveError;
 
 impl<'a> Reader<'a, '_> {
-    /// Reads comments, attributes and a visibility.
-    pub(super) fn read_attributes(&mut self, draft: &mut Draft<'a>) -> Result<(), DeriveError> {
+    /// Reads comments and attributes. Tells whether there is an attribute.
+    pub(super) fn read_attributes(&mut self, draft: &mut Draft<'a>) -> Result<bool, DeriveError> {
+        let mut has_attribute = false;
         for _ in self.rest {
             match self.token.kind {
                 Kind::Space => {}
                 Kind::Mark('#') => {
+                    has_attribute = true;
                     let attribute = self.read_attribute()?;
                     if !draft.take(&attribute)? {
-                        self.leave_out_attribute(&attribute)?;
+                        let left_out = (attribute.place, attribute.text);
+                        self.source.left_out.push(left_out)?;
                     }
                 }
-                _ if self.token.is_comment() => draft.push(self.token.text)?,
+                _ if self.token.is_comment() => draft
+                    .declaration
+                    .last_comments
+                    .push(self.token.text)?,
                 _ => break,
             }
             self.advance()?;
         }
-        draft.declaration.visibility = self.read_visibility()?;
-        Ok(())
-    }
-
-    /// Leaves out an attribute that has no meaning here.
-    pub(super) fn leave_out_attribute(
-        &mut self,
-        it: &Attribute<'a, '_>,
-    ) -> Result<(), DeriveError> {
-        self.source.left_out.push((it.place, it.text))?;
-        Ok(())
+        Ok(has_attribute)
     }
 
     /// Reads a visibility, as `pub` or `pub(crate)`, if there is one: its keyword, and what stands after that.
-    fn read_visibility(&mut self) -> Result<(&'a str, &'a str), DeriveError> {
+    pub(super) fn read_visibility(&mut self) -> Result<(&'a str, &'a str), DeriveError> {
         if !self.token.is("pub") {
             return Ok(("", ""));
         }

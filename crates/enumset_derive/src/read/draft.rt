@@ -2,7 +2,8 @@
 
 use super::reader::Attribute;
 use enumset_derive_plan::{DeriveError, EnumDeclaration, Fault, Options, Place};
-use std::alloc::{AllocError, Global};
+use std::alloc::Global;
+use std::mem;
 
 /// What is known of an item.
 #[derive(Drop)]
@@ -47,24 +48,25 @@ impl<'a> Draft<'a> {
         }
     }
 
-    /// Adds a comment or an attribute before the keyword.
-    pub fn push(&mut self, text: &'a str) -> Result<(), AllocError> {
-        if self.has_derive {
-            self.declaration.later_attributes.push(text)?;
-        } else {
-            self.declaration.attributes.push(text)?;
-        }
-        Ok(())
+    /// The comments and attributes that were read since the last ones were asked for.
+    pub fn comments(&mut self) -> Vec<&'a str> {
+        mem::replace(&mut self.declaration.last_comments, Vec::new(self.alloc))
     }
 
-    /// Takes an attribute before the keyword. Tells whether it has a meaning here.
+    /// Takes an attribute of the enum, before its name, or of a variant. Tells whether it has a meaning here.
     pub fn take(&mut self, attribute: &Attribute<'a, '_>) -> Result<bool, DeriveError> {
+        let is_of_enum = self.declaration.name.is_empty();
         match attribute.name {
-            "derive" => self.has_derive = true,
-            "enumset" => {}
+            "enumset" if is_of_enum => {}
+            "derive" if is_of_enum => {
+                if !self.has_derive {
+                    self.declaration.attributes = self.comments();
+                }
+                self.has_derive = true;
+            }
             name if !self.gives_meaning(name) => return Ok(false),
             _ => {
-                self.push(attribute.text)?;
+                self.declaration.last_comments.push(attribute.text)?;
                 return Ok(true);
             }
         }
@@ -77,15 +79,11 @@ impl<'a> Draft<'a> {
     }
 
     /// Whether an attribute of this name has a meaning, on the enum as it is known or on a variant of it.
-    pub fn gives_meaning(&self, attribute: &str) -> bool {
-        if attribute != "serde" {
-            return !matches!(attribute, "repr" | "cfg_attr" | "rustfmt");
+    fn gives_meaning(&self, attribute: &str) -> bool {
+        let is_serde = |path: &String| path.ends_with("Serialize") || path.ends_with("Deserialize");
+        match attribute {
+            "serde" => self.declaration.derives.iter().any(is_serde),
+            _ => !matches!(attribute, "repr" | "cfg_attr" | "rustfmt"),
         }
-        for name in &self.declaration.derives {
-            if name.ends_with("Serialize") || name.ends_with("Deserialize") {
-                return true;
-            }
-        }
-        false
     }
 }
