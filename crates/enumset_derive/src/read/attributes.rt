@@ -14,21 +14,42 @@ impl<'a> Reader<'a, '_> {
                 Kind::Space => {}
                 Kind::Mark('#') => {
                     has_attribute = true;
-                    let attribute = self.read_attribute()?;
-                    if !draft.take(&attribute)? {
-                        let left_out = (attribute.place, attribute.text);
-                        self.source.left_out.push(left_out)?;
-                    }
+                    self.read_attribute(draft)?;
                 }
-                _ if self.token.is_comment() => draft
-                    .declaration
-                    .last_comments
-                    .push(self.token.text)?,
+                _ if self.token.is_comment() => draft.push(self.token.text)?,
                 _ => break,
             }
             self.advance()?;
         }
         Ok(has_attribute)
+    }
+
+    /// Reads an attribute, up to the `]` that ends it. A fault of derives or options counts once it is known that the item is
+    /// to be an element type.
+    fn read_attribute(&mut self, draft: &mut Draft<'a>) -> Result<(), DeriveError> {
+        let begin = self.token;
+        self.advance_past_blanks()?;
+        let bracket = self.token;
+        if !bracket.is_mark('[') {
+            return Err(bracket.fault("wanted: `[`"));
+        }
+        self.advance_past_blanks()?;
+        let name = self.token.text;
+        let is_taken = draft.begin_attribute(name);
+        if is_taken {
+            match self.read_arguments(draft, &bracket) {
+                Err(DeriveError::Fault(fault)) => draft.fault = draft.fault.or(Some(fault)),
+                read => read?,
+            }
+        }
+        self.skip_to(Stop::Mark(']', begin.depth))?;
+        let text = self.text_from(&begin);
+        if !draft.gives_meaning(name) {
+            self.source.left_out.push((begin.place, text))?;
+        } else if !is_taken {
+            draft.push(text)?;
+        }
+        Ok(())
     }
 
     /// Reads a visibility, as `pub` or `pub(crate)`, if there is one: its keyword, and what stands after that.

@@ -2,7 +2,7 @@
 
 use crate::source::Source;
 use crate::tokens::{Kind, Token};
-use enumset_derive_plan::{DeriveError, Place};
+use enumset_derive_plan::DeriveError;
 use std::alloc::Global;
 
 /// A token that a reader goes on to.
@@ -35,19 +35,6 @@ impl Stop {
         };
         is_found || token.is_end()
     }
-}
-
-/// An attribute of an item or a variant.
-#[derive(Clone, Copy)]
-pub(super) struct Attribute<'a, 'b> {
-    /// As it is written, and where.
-    pub text: &'a str,
-    pub place: Place,
-    /// Its `[`.
-    pub bracket: Token<'a>,
-    pub name: &'a str,
-    /// The tokens after the name, with the `]`.
-    pub arguments: &'b [Token<'a>],
 }
 
 /// A reader at a token of a source text.
@@ -98,27 +85,6 @@ impl<'a, 'b> Reader<'a, 'b> {
     pub fn advance_past_blanks(&mut self) -> Result<(), DeriveError> {
         self.advance()?;
         self.skip_to(Stop::NoBlank)
-    }
-
-    /// Reads an attribute, up to the `]` that ends it.
-    pub fn read_attribute(&mut self) -> Result<Attribute<'a, 'b>, DeriveError> {
-        let begin = self.token;
-        self.advance_past_blanks()?;
-        let bracket = self.token;
-        if !bracket.is_mark('[') {
-            return Err(bracket.fault("wanted: `[`"));
-        }
-        self.advance_past_blanks()?;
-        let name = self.token.text;
-        let rest = self.rest;
-        self.skip_to(Stop::Mark(']', begin.depth))?;
-        Ok(Attribute {
-            text: self.text_from(&begin),
-            place: begin.place,
-            bracket,
-            name,
-            arguments: self.passed(rest),
-        })
     }
 
     /// The tokens of this list, which the reader was before, up to its own.
