@@ -29,30 +29,33 @@ pub fn read_source<'a>(
         place: Place::BEGIN,
         depth: 0,
     };
+    let source = Source {
+        text,
+        begin: 0,
+        items: Vec::new(alloc),
+        imports: Vec::new(alloc),
+        has_imports: false,
+        facade: "enumset",
+        has_enums: false,
+        left_out: Vec::new(alloc),
+    };
     let mut reader = Reader {
         alloc,
         token: begin,
         rest: tokens,
         comments: Vec::new(alloc),
-        source: Source::new(alloc, text),
+        source,
     };
-    reader.read_items()?;
+    reader.advance()?;
+    reader.read_head()?;
+    for _ in tokens {
+        reader.read_item()?;
+    }
+    reader.source.pass_on(text.len(), text.len())?;
     Ok(reader.source)
 }
 
 impl<'a> Reader<'a, '_> {
-    /// Reads the text.
-    fn read_items(&mut self) -> Result<(), DeriveError> {
-        let text = self.source.text;
-        self.advance()?;
-        self.read_head()?;
-        for _ in self.rest {
-            self.read_item()?;
-        }
-        self.source.pass_on(text.len(), text.len())?;
-        Ok(())
-    }
-
     /// Reads the inner comments and attributes at the head of the text, with the space after them.
     fn read_head(&mut self) -> Result<(), DeriveError> {
         let mut end = 0;

@@ -2,7 +2,7 @@
 
 use crate::tokens::is_space;
 use enumset_derive_plan::{EnumDeclaration, Place, Plan};
-use std::alloc::{AllocError, Global};
+use std::alloc::AllocError;
 
 /// What a source text has.
 #[derive(Drop)]
@@ -36,20 +36,6 @@ pub enum Item<'a> {
 }
 
 impl<'a> Source<'a> {
-    /// A text of which nothing has been read.
-    pub fn new(alloc: Global, text: &'a str) -> Source<'a> {
-        Source {
-            text,
-            begin: 0,
-            items: Vec::new(alloc),
-            imports: Vec::new(alloc),
-            has_imports: false,
-            facade: "enumset",
-            has_enums: false,
-            left_out: Vec::new(alloc),
-        }
-    }
-
     /// Adds the text up to an index to the items. What is read goes on at another.
     pub fn pass_on(&mut self, end: usize, next: usize) -> Result<(), AllocError> {
         let text = self.text.get(self.begin..end).unwrap_or("");

@@ -99,19 +99,9 @@ fn define_bits(
         (true, true) => "        match self {}\n",
         (true, false) => "        self as u32\n",
     };
-    writer.define_all(&[
-        ("LISTS_USE", if is_short { "" } else { LISTS_USE }),
-        ("VALUES_USE", if has_values { VALUES_USE } else { "" }),
-        (
-            "VALUES",
-            if has_values {
-                "    ghost values = { @VALUE_LIST@ };\n\n"
-            } else {
-                ""
-            },
-        ),
-        ("BIT_OF_VALUE", bit_of_value),
-    ]);
+    writer.define("BIT_OF_VALUE", bit_of_value);
+    writer.define("LISTS_USE", if is_short { "" } else { LISTS_USE });
+    writer.define_all(if has_values { &VALUES } else { &NO_VALUES });
     writer.define_all(if in_place { &IN_PLACE } else { &WITH_BITS });
     define_value_of_bit(writer, elements, plan);
 }
