@@ -8,17 +8,22 @@ use std::io::ErrorKind;
 /// The longest name has so many bytes.
 const NAME_LIMIT: usize = 256;
 
+const NOT_A_NAME: ProgramFault = ProgramFault::Arguments("an argument is no name");
+
+const WRONG: ProgramFault = ProgramFault::Arguments(
+    "two arguments: the names of the crate and of the module; and for a file in place of standard output, -o FILE",
+);
+
 /// The arguments, with the name of the program.
 pub fn arguments<R: Env + AllocGlobal>(rt: &R) -> Result<Vec<String>, ProgramFault> {
     let arguments = env::args(rt).map_err(|error| match error.kind() {
         ErrorKind::OutOfMemory => ProgramFault::OUT_OF_MEMORY,
-        _ => ProgramFault::NotAName,
+        _ => NOT_A_NAME,
     })?;
     Ok(arguments.collect(rt.alloc())?)
 }
 
-/// What the arguments ask for: the names of the crate and of the module, and the file that the module goes into, if not
-/// standard output.
+/// The names of the crate and of the module, and the file that the module goes into, if not standard output.
 pub fn request_of(arguments: &[String]) -> Result<(&str, &str, Option<&str>), ProgramFault> {
     let crate_name = name_of(arguments.get(1))?;
     let module_name = name_of(arguments.get(2))?;
@@ -27,20 +32,20 @@ pub fn request_of(arguments: &[String]) -> Result<(&str, &str, Option<&str>), Pr
         (Some(flag), Some(file)) if flag.as_str() == "-o" && arguments.len() == 5 => Some(
             file.as_str(),
         ),
-        _ => return Err(ProgramFault::Arguments),
+        _ => return Err(WRONG),
     };
     Ok((crate_name, module_name, file))
 }
 
 /// The name that an argument is: a small letter or `_`, and then small letters, digits and `_`.
 fn name_of(argument: Option<&String>) -> Result<&str, ProgramFault> {
-    let name = argument.ok_or(ProgramFault::Arguments)?.as_str();
+    let name = argument.ok_or(WRONG)?.as_str();
     if name.is_empty()
         || name.len() > NAME_LIMIT
         || name.starts_with(is_digit)
         || !name.trim_start_matches(may_stand_in_name).is_empty()
     {
-        return Err(ProgramFault::NotAName);
+        return Err(NOT_A_NAME);
     }
     Ok(name)
 }

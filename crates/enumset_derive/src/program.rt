@@ -41,7 +41,7 @@ fn write_module<R: Files + Print + AllocGlobal>(
 ) -> Result<(), ProgramFault> {
     let Some(file) = file else {
         let written = io::writer(rt).write_all(text.as_bytes());
-        return written.map_err(|_| ProgramFault::Writing);
+        return written.map_err(|_| ProgramFault::Stream("writing failed"));
     };
     match fs::write(rt, file, text) {
         Ok(()) => Ok(()),
@@ -56,7 +56,7 @@ fn read_input<R: Read + Drop>(alloc: Global, reader: R) -> Result<Vec<u8>, Progr
     match reader.read_to_end(&mut input) {
         Ok(_) => Ok(input),
         Err(error) if error.kind() == ErrorKind::OutOfMemory => Err(ProgramFault::OUT_OF_MEMORY),
-        Err(_) => Err(ProgramFault::Reading),
+        Err(_) => Err(ProgramFault::Stream("reading failed")),
     }
 }
 

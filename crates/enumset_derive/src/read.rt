@@ -15,8 +15,7 @@ use enumset_derive_plan::{DeriveError, Place};
 use reader::{Reader, Stop};
 use std::alloc::Global;
 
-/// What a source text has of which these are the tokens: its enums that are to be element types, with their plans, what
-/// it imports of `enumset`, and the texts between them. Or the first fault, of reading or of planning.
+/// What a source text has of which these are the tokens, or the first fault, of reading or of planning.
 pub fn read_source<'a>(
     alloc: Global,
     text: &'a str,
@@ -114,7 +113,7 @@ impl<'a> Reader<'a, '_> {
         let left_out = self.source.left_out.len();
         let mut draft = Draft::new(self.alloc);
         self.read_attributes(&mut draft)?;
-        draft.declaration.visibility = self.read_visibility()?;
+        self.read_visibility(&mut draft)?;
         if !draft.is_element_type {
             self.source.left_out.truncate(left_out);
             return self.read_other(begin);

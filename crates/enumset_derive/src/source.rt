@@ -46,8 +46,7 @@ impl<'a> Source<'a> {
         Ok(())
     }
 
-    /// Adds an enum that begins at an index and ends at another. If only space without an empty line is between it and the
-    /// imports or an enum, an empty line stands there instead.
+    /// Adds an enum between two indices. An empty line goes between it and the imports or an enum if only space is there.
     pub fn push_enum(
         &mut self,
         begin: usize,

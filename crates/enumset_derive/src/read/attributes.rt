@@ -24,8 +24,7 @@ impl<'a> Reader<'a, '_> {
         Ok(has_attribute)
     }
 
-    /// Reads an attribute, up to the `]` that ends it. A fault of derives or options counts once it is known that the item is
-    /// to be an element type.
+    /// Reads an attribute, up to the `]` that ends it. A fault of derives or options counts for an element type alone.
     fn read_attribute(&mut self, draft: &mut Draft<'a>) -> Result<(), DeriveError> {
         let begin = self.token;
         self.advance_past_blanks()?;
@@ -52,19 +51,20 @@ impl<'a> Reader<'a, '_> {
         Ok(())
     }
 
-    /// Reads a visibility, as `pub` or `pub(crate)`, if there is one: its keyword, and what stands after that.
-    pub(super) fn read_visibility(&mut self) -> Result<(&'a str, &'a str), DeriveError> {
+    /// Reads a visibility, as `pub` or `pub(crate)`, if there is one.
+    pub(super) fn read_visibility(&mut self, draft: &mut Draft<'a>) -> Result<(), DeriveError> {
         if !self.token.is("pub") {
-            return Ok(("", ""));
+            return Ok(());
         }
         self.advance_past_blanks()?;
-        if !self.token.is_mark('(') {
-            return Ok(("pub", ""));
+        let mut restriction = "";
+        if self.token.is_mark('(') {
+            let begin = self.token;
+            self.skip_to(Stop::Mark(')', 0))?;
+            restriction = self.text_from(&begin);
+            self.advance_past_blanks()?;
         }
-        let begin = self.token;
-        self.skip_to(Stop::Mark(')', 0))?;
-        let restriction = self.text_from(&begin);
-        self.advance_past_blanks()?;
-        Ok(("pub", restriction))
+        draft.declaration.visibility = ("pub", restriction);
+        Ok(())
     }
 }

@@ -8,8 +8,7 @@ use enumset_derive_plan::{DeriveError, Discriminant, Plan, Reason, Variant, plan
 use std::mem;
 
 impl<'a> Reader<'a, '_> {
-    /// Reads an enum from its keyword on, and plans it before the token after it is looked at, so that the first fault of
-    /// the text is found.
+    /// Reads an enum from its keyword on, and plans it before the token after it is looked at: the first fault counts.
     pub(super) fn read_enum(&mut self, draft: &mut Draft<'a>) -> Result<Plan, DeriveError> {
         if let Some(fault) = draft.fault {
             return Err(DeriveError::Fault(fault));

@@ -37,9 +37,7 @@ impl Stop {
     }
 }
 
-/// A reader at a token of a source text.
-///
-/// It reads in loops over the tokens that are left, since each turn goes on by one at least.
+/// A reader at a token of a source text. Its loops are over the tokens that are left: each turn goes on by one at least.
 #[derive(Drop)]
 pub(super) struct Reader<'a, 'b> {
     pub alloc: Global,
@@ -66,8 +64,7 @@ impl<'a, 'b> Reader<'a, 'b> {
         Ok(())
     }
 
-    /// Goes on to the first token that is so, unless the reader is at one, or to the end of the text. It keeps the comments
-    /// before it.
+    /// Goes on to the first token that is so, unless the reader is at one, or to the end. It keeps the comments before it.
     pub fn skip_to(&mut self, wanted: Stop) -> Result<(), DeriveError> {
         for _ in self.rest {
             if wanted.is_at(&self.token) {

@@ -35,8 +35,7 @@ struct Lexer<'a> {
 }
 
 impl<'a> Lexer<'a> {
-    /// Adds a token, which may begin or end a bracket. It is a fault if it ends the text or another bracket in a bracket. An
-    /// end without a beginning is no fault.
+    /// Adds a token, which may begin or end a bracket. It is a fault if it ends the text or another bracket in a bracket.
     fn push(
         &mut self,
         kind: Kind,

@@ -3,15 +3,12 @@
 use super::constants::define_constants;
 use super::enums::are_kept;
 use super::json::write_json;
-use super::layout::wrapped;
+use super::layout::{Elements, wrapped};
 use super::operators::write_operators;
 use super::templates::*;
 use super::writer::Writer;
 use enumset_derive_plan::{EnumDeclaration, Number, Options, Plan, Serialized, Store};
 use std::alloc::AllocError;
-
-/// The name of each variant, with its bit.
-type Elements<'a> = &'a [(&'a str, u64)];
 
 /// Writes what makes an enum an element type.
 pub(super) fn write_element_type(
@@ -59,8 +56,7 @@ fn is_narrow(plan: &Plan) -> bool {
     }
 }
 
-/// Whether a bit becomes its variant by a load from a table: there are more than sixteen, and they are not the variants'
-/// places.
+/// Whether a bit becomes its variant by a load from a table: there are more than sixteen, and they are not the places.
 fn is_in_table(plan: &Plan) -> bool {
     plan.variants.len() > 16 && !are_places(plan)
 }
@@ -81,14 +77,9 @@ fn are_cast(declaration: &EnumDeclaration, plan: &Plan) -> bool {
 }
 
 /// Defines the bits of the elements, the conversions, and the proof of the laws.
-fn define_bits(
-    writer: &mut Writer,
-    elements: Elements,
-    declaration: &EnumDeclaration,
-    plan: &Plan,
-) {
-    let has_values = declaration.options.has_display;
-    let is_cast = are_cast(declaration, plan);
+fn define_bits(writer: &mut Writer, elements: Elements, item: &EnumDeclaration, plan: &Plan) {
+    let has_values = item.options.has_display;
+    let is_cast = are_cast(item, plan);
     let in_place = is_cast && are_places(plan);
     let is_short = in_place && !has_values && matches!(plan.store, Store::Integer(_, _));
     writer.set_list("VALUE_LIST", 79, "variant.@NAME@ ∷", elements);
@@ -125,8 +116,7 @@ fn define_value_of_bit(writer: &mut Writer, elements: Elements, plan: &Plan) {
     }
 }
 
-/// Defines a body: the call of a macro with the enum's name and the words, after what the call begins with. It is on one
-/// line if it fits, else on lines of its own.
+/// Defines a body: the call of a macro with the enum's name and the words, on one line if it fits.
 fn define_call(writer: &mut Writer, macro_name: &'static str, first: &str) {
     writer.define("FIRST", first);
     writer.define("WORDS", "@FIRST@@NAME@:\n@WORDS@");

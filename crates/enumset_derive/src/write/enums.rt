@@ -36,8 +36,7 @@ pub(super) fn write_enum(writer: &mut Writer, declaration: &EnumDeclaration) {
     writer.push("}\n\n");
 }
 
-/// Writes the attribute with the derives, on a line or on a line each: those that an element type needs, unless the author
-/// writes them, and those of the source.
+/// Writes the derives, on a line or on a line each: those that an element type needs, and those of the source.
 fn write_derives(writer: &mut Writer, declaration: &EnumDeclaration) {
     writer.define_all(&[("DERIVES", ""), ("LINES", ""), ("COMMA", "")]);
     if !declaration.options.leaves_out_supertraits {

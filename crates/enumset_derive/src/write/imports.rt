@@ -5,8 +5,7 @@ use super::writer::Writer;
 use crate::tokens::is_space;
 use std::alloc::AllocError;
 
-/// Defines the imports of a module, in order, each once. A path, or a name that is renamed, has a line of its own. The
-/// plain names are on one line, or on several, or are all names. A single one stands where its path does.
+/// Defines the imports of a module, in order, each once. Paths and renamed names have lines of their own.
 pub(super) fn define_imports(writer: &mut Writer, facade: &str) -> Result<(), AllocError> {
     let alloc = writer.alloc;
     let mut uses = Vec::new(alloc);
