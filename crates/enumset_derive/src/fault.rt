@@ -13,8 +13,8 @@ pub enum ProgramFault {
     Source(DeriveError),
     /// Standard input or standard output failed, as this says.
     Stream(&'static str),
-    /// The file of this name could not be written.
-    File(String),
+    /// The file of this name could not be written, as this says.
+    File(String, &'static str),
 }
 
 impl ProgramFault {
@@ -36,7 +36,7 @@ impl fmt::Display for ProgramFault {
         match self {
             ProgramFault::Arguments(text) | ProgramFault::Stream(text) => f.write_str(text),
             ProgramFault::Source(error) => write!(f, "{error}"),
-            ProgramFault::File(file) => write!(f, "{file}: writing failed"),
+            ProgramFault::File(file, why) => write!(f, "{file}: {why}"),
         }
     }
 }

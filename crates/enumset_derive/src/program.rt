@@ -26,10 +26,13 @@ pub fn answer<R: Env + Files + Input + Print + Eprint + AllocGlobal>(
     write_module(rt, module.as_str(), file)
 }
 
-/// Says on standard error what has no meaning in Rattle, and whether there is no enum.
+/// Says on standard error what is left out, and that there is no element type.
 fn report<R: Eprint>(rt: &R, source: &Source) {
     for (place, text) in &source.left_out {
         let _ = eprintln!(rt; "{place}: left out: {text} has no meaning here");
+    }
+    if !source.has_enums {
+        let _ = eprintln!(rt; "no enum derives EnumSetType");
     }
 }
 
@@ -43,10 +46,13 @@ fn write_module<R: Files + Print + AllocGlobal>(
         let written = io::writer(rt).write_all(text.as_bytes());
         return written.map_err(|_| ProgramFault::Stream("writing failed"));
     };
-    match fs::write(rt, file, text) {
-        Ok(()) => Ok(()),
-        Err(_) => Err(ProgramFault::File(String::from_str(rt.alloc(), file)?)),
-    }
+    let why = match fs::write(rt, file, text) {
+        Ok(()) => return Ok(()),
+        Err(error) if error.kind() == ErrorKind::NotFound => "there is no such folder",
+        Err(_) => "writing failed",
+    };
+    let file = String::from_str(rt.alloc(), file)?;
+    Err(ProgramFault::File(file, why))
 }
 
 /// The bytes of a reader until its end.
