@@ -25,21 +25,23 @@ pub fn arguments<R: Env + AllocGlobal>(rt: &R) -> Result<Vec<String>, ProgramFau
 
 /// The names of the crate and of the module, and the file that the module goes into, if not standard output.
 pub fn request_of(arguments: &[String]) -> Result<(&str, &str, Option<&str>), ProgramFault> {
-    let crate_name = name_of(arguments.get(1))?;
-    let module_name = name_of(arguments.get(2))?;
-    let file = match (arguments.get(3), arguments.get(4)) {
-        (None, _) => None,
-        (Some(flag), Some(file)) if flag.as_str() == "-o" && arguments.len() == 5 => Some(
-            file.as_str(),
-        ),
-        _ => return Err(WRONG),
-    };
-    Ok((crate_name, module_name, file))
+    let crate_name = name_of(arguments, 1)?;
+    let module_name = name_of(arguments, 2)?;
+    Ok((crate_name, module_name, file_of(arguments)?))
+}
+
+/// The file after `-o`, if there is one.
+fn file_of(arguments: &[String]) -> Result<Option<&str>, ProgramFault> {
+    match arguments {
+        [_, _, _] => Ok(None),
+        [_, _, _, flag, file] if flag.as_str() == "-o" => Ok(Some(file.as_str())),
+        _ => Err(WRONG),
+    }
 }
 
 /// The name that an argument is: a small letter or `_`, and then small letters, digits and `_`.
-fn name_of(argument: Option<&String>) -> Result<&str, ProgramFault> {
-    let name = argument.ok_or(WRONG)?.as_str();
+fn name_of(arguments: &[String], at: usize) -> Result<&str, ProgramFault> {
+    let name = arguments.get(at).ok_or(WRONG)?.as_str();
     if name.is_empty()
         || name.len() > NAME_LIMIT
         || name.starts_with(is_digit)
