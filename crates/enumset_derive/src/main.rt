@@ -1,8 +1,7 @@
 //! Writes the module of Rattle for a source of enums.
 //!
-//! `enumset_derive CRATE MODULE` reads the source from standard input and prints the module. The names are those of the
-//! crate and of the module in it that the text is for. With `-o FILE` after them the module goes into that file, once
-//! the source had no fault.
+//! `enumset_derive CRATE MODULE` reads the source from standard input and prints the module of this name in this crate.
+//! With `-o FILE` after them the module goes into that file, once the source had no fault.
 #![tactic(auto)]
 
 mod arguments;

@@ -1,6 +1,6 @@
 //! What the program does: its arguments, its input and its output.
 
-use crate::arguments::{Request, arguments};
+use crate::arguments::{arguments, request_of};
 use crate::fault::ProgramFault;
 use crate::read::read_source;
 use crate::source::Source;
@@ -18,15 +18,22 @@ pub fn answer<R: Env + Files + Input + Print + Eprint + AllocGlobal>(
     rt: &R,
 ) -> Result<(), ProgramFault> {
     let arguments = arguments(rt)?;
-    let request = Request::of(&arguments)?;
+    let (crate_name, module_name, file) = request_of(&arguments)?;
     let input = read_input(rt.alloc(), rt.reader())?;
     let source = source_of(rt.alloc(), &input)?;
-    let written = module_text(rt.alloc(), request, &source)?;
-    for left_out in &source.left_out {
-        let (place, text) = *left_out;
+    let module = module_text(rt.alloc(), crate_name, module_name, &source)?;
+    report(rt, &source);
+    write_module(rt, module.as_str(), file)
+}
+
+/// Says on standard error what is left out, and that there is no element type.
+fn report<R: Eprint>(rt: &R, source: &Source) {
+    for (place, text) in &source.left_out {
         let _ = eprintln!(rt; "{place}: left out: {text} has no meaning here");
     }
-    write_module(rt, written.as_str(), request.file)
+    if !source.has_enums {
+        let _ = eprintln!(rt; "no enum derives EnumSetType");
+    }
 }
 
 /// Writes a text to a file, or to standard output.
@@ -37,12 +44,15 @@ fn write_module<R: Files + Print + AllocGlobal>(
 ) -> Result<(), ProgramFault> {
     let Some(file) = file else {
         let written = io::writer(rt).write_all(text.as_bytes());
-        return written.map_err(|_| ProgramFault::Writing);
+        return written.map_err(|_| ProgramFault::Stream("writing failed"));
     };
-    match fs::write(rt, file, text) {
-        Ok(()) => Ok(()),
-        Err(_) => Err(ProgramFault::File(String::from_str(rt.alloc(), file)?)),
-    }
+    let why = match fs::write(rt, file, text) {
+        Ok(()) => return Ok(()),
+        Err(error) if error.kind() == ErrorKind::NotFound => "there is no such folder",
+        Err(_) => "writing failed",
+    };
+    let file = String::from_str(rt.alloc(), file)?;
+    Err(ProgramFault::File(file, why))
 }
 
 /// The bytes of a reader until its end.
@@ -52,7 +62,7 @@ fn read_input<R: Read + Drop>(alloc: Global, reader: R) -> Result<Vec<u8>, Progr
     match reader.read_to_end(&mut input) {
         Ok(_) => Ok(input),
         Err(error) if error.kind() == ErrorKind::OutOfMemory => Err(ProgramFault::OUT_OF_MEMORY),
-        Err(_) => Err(ProgramFault::Reading),
+        Err(_) => Err(ProgramFault::Stream("reading failed")),
     }
 }
 

@@ -15,8 +15,7 @@ use enumset_derive_plan::{DeriveError, Place};
 use reader::{Reader, Stop};
 use std::alloc::Global;
 
-/// What a source text has of which these are the tokens: its enums that are to be element types, with their plans, what
-/// it imports of `enumset`, and the texts between them. Or the first fault, of reading or of planning.
+/// What a source text has of which these are the tokens, or the first fault, of reading or of planning.
 pub fn read_source<'a>(
     alloc: Global,
     text: &'a str,
@@ -29,30 +28,33 @@ pub fn read_source<'a>(
         place: Place::BEGIN,
         depth: 0,
     };
+    let source = Source {
+        text,
+        begin: 0,
+        items: Vec::new(alloc),
+        imports: Vec::new(alloc),
+        has_imports: false,
+        facade: "enumset",
+        has_enums: false,
+        left_out: Vec::new(alloc),
+    };
     let mut reader = Reader {
         alloc,
         token: begin,
         rest: tokens,
         comments: Vec::new(alloc),
-        source: Source::new(alloc, text),
+        source,
     };
-    reader.read_items()?;
+    reader.advance()?;
+    reader.read_head()?;
+    for _ in tokens {
+        reader.read_item()?;
+    }
+    reader.source.pass_on(text.len(), text.len())?;
     Ok(reader.source)
 }
 
 impl<'a> Reader<'a, '_> {
-    /// Reads the text.
-    fn read_items(&mut self) -> Result<(), DeriveError> {
-        let text = self.source.text;
-        self.advance()?;
-        self.read_head()?;
-        for _ in self.rest {
-            self.read_item()?;
-        }
-        self.source.pass_on(text.len(), text.len())?;
-        Ok(())
-    }
-
     /// Reads the inner comments and attributes at the head of the text, with the space after them.
     fn read_head(&mut self) -> Result<(), DeriveError> {
         let mut end = 0;
@@ -111,6 +113,7 @@ impl<'a> Reader<'a, '_> {
         let left_out = self.source.left_out.len();
         let mut draft = Draft::new(self.alloc);
         self.read_attributes(&mut draft)?;
+        self.read_visibility(&mut draft)?;
         if !draft.is_element_type {
             self.source.left_out.truncate(left_out);
             return self.read_other(begin);

@@ -2,7 +2,7 @@
 
 use crate::tokens::is_space;
 use enumset_derive_plan::{EnumDeclaration, Place, Plan};
-use std::alloc::{AllocError, Global};
+use std::alloc::AllocError;
 
 /// What a source text has.
 #[derive(Drop)]
@@ -15,6 +15,8 @@ pub struct Source<'a> {
     /// What it imports of the crate `enumset`, each as it is written after `enumset::`.
     pub imports: Vec<String>,
     pub has_imports: bool,
+    /// The name of that crate.
+    pub facade: &'a str,
     pub has_enums: bool,
     /// What has no meaning in Rattle, in its order: as it is written, and where it is.
     pub left_out: Vec<(Place, &'a str)>,
@@ -34,19 +36,6 @@ pub enum Item<'a> {
 }
 
 impl<'a> Source<'a> {
-    /// A text of which nothing has been read.
-    pub fn new(alloc: Global, text: &'a str) -> Source<'a> {
-        Source {
-            text,
-            begin: 0,
-            items: Vec::new(alloc),
-            imports: Vec::new(alloc),
-            has_imports: false,
-            has_enums: false,
-            left_out: Vec::new(alloc),
-        }
-    }
-
     /// Adds the text up to an index to the items. What is read goes on at another.
     pub fn pass_on(&mut self, end: usize, next: usize) -> Result<(), AllocError> {
         let text = self.text.get(self.begin..end).unwrap_or("");
@@ -57,8 +46,7 @@ impl<'a> Source<'a> {
         Ok(())
     }
 
-    /// Adds an enum that begins at an index and ends at another. If only space without an empty line is between it and the
-    /// imports or an enum, an empty line stands there instead.
+    /// Adds an enum between two indices. An empty line goes between it and the imports or an enum if only space is there.
     pub fn push_enum(
         &mut self,
         begin: usize,
@@ -73,6 +61,7 @@ impl<'a> Source<'a> {
         }
         self.pass_on(begin, end)?;
         self.has_enums = true;
+        self.facade = declaration.options.crate_name.unwrap_or(self.facade);
         self.items.push(Item::Enum(declaration, plan))?;
         Ok(())
     }

@@ -28,8 +28,7 @@ pub enum Kind {
     Other,
     /// The end of the text.
     End,
-    /// Nothing can be read from here on: a comment, a quote or a bracket that begins at the place has no end, as this
-    /// says.
+    /// Nothing can be read from here on: what begins at the place has no end, as this says.
     Fault(&'static str),
 }
 

@@ -10,7 +10,6 @@ mod operators;
 mod templates;
 mod writer;
 
-use crate::arguments::Request;
 use crate::source::{Item, Source};
 use element_type::write_element_type;
 use enums::write_enum;
@@ -24,22 +23,41 @@ type Text = Result<String, AllocError>;
 /// The text of the module that a source stands for. The only error is that memory ran out.
 ///
 /// The imports stand where the first of the source stand, or after its head.
-pub fn module_text(alloc: Global, request: Request, source: &Source) -> Text {
+pub fn module_text(alloc: Global, crate_name: &str, module_name: &str, source: &Source) -> Text {
     let mut writer = Writer::new(alloc);
-    writer.define("CRATE", request.crate_name);
-    writer.define("MODULE", request.module_name);
-    define_imports(&mut writer, source)?;
+    writer.define_all(&[
+        ("CRATE", crate_name),
+        ("MODULE", module_name),
+        ("FACADE", source.facade),
+    ]);
+    for name in &source.imports {
+        writer.import(name.as_str());
+    }
     for item in &source.items {
-        match item {
-            Item::Other(text) => writer.push(text),
-            Item::HeadEnd if source.has_imports || !source.has_enums => {}
-            Item::HeadEnd => writer.write("@IMPORTS@\n\n"),
-            Item::Imports => writer.write("@IMPORTS@"),
-            Item::Enum(declaration, plan) => {
-                write_enum(&mut writer, declaration)?;
-                write_element_type(&mut writer, declaration, plan)?;
-            }
+        write_item(&mut writer, source, item)?;
+    }
+    writer.cut("BODY");
+    if source.has_imports || source.has_enums {
+        define_imports(&mut writer, source.facade)?;
+    }
+    writer.write("@HEAD@@IMPORTS@@BODY@");
+    writer.finish()
+}
+
+/// Writes an item.
+fn write_item(writer: &mut Writer, source: &Source, item: &Item) -> Result<(), AllocError> {
+    match item {
+        Item::Other(text) => writer.push(text),
+        Item::HeadEnd if source.has_imports || !source.has_enums => {}
+        Item::HeadEnd => {
+            writer.cut("HEAD");
+            writer.push("\n\n");
+        }
+        Item::Imports => writer.cut("HEAD"),
+        Item::Enum(declaration, plan) => {
+            write_enum(writer, declaration);
+            write_element_type(writer, declaration, plan)?;
         }
     }
-    writer.finish()
+    Ok(())
 }

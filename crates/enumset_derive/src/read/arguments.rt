@@ -1,10 +1,9 @@
 //! What stands in `#[derive(..)]` and `#[enumset(..)]`.
 
 use super::draft::Draft;
-use super::reader::Attribute;
+use super::reader::Reader;
 use crate::tokens::{Kind, Token, UNCLOSED_BRACKET};
 use enumset_derive_plan::{DeriveError, IntegerType, Map, Reason, Representation, Serialized};
-use std::mem;
 
 const NO_VALUE: &str = "wanted: `=` and a text in quotes";
 
@@ -17,118 +16,105 @@ const REPRESENTATIONS: &str =
 const FORMS: &str =
     "`serialize_repr` is \"u8\", \"u16\", \"u32\", \"u64\", \"u128\", \"array\", \"list\" or \"map\"";
 
-/// What may come next after the name of such an attribute.
-#[derive(Clone, Copy)]
-enum Next<'a> {
-    /// `(`.
-    Arguments,
-    /// A name, or `)`.
-    Argument,
-    /// One more name of a path.
-    Name,
-    /// `=`, after the name of this option.
-    Equals(&'a str),
-    /// The value of this option, a text in quotes.
-    Value(&'a str),
-    /// `,` or `)`.
-    Separator,
-    /// The `]` that ends the attribute.
-    End,
-}
-
-impl<'a> Draft<'a> {
-    /// Takes the arguments of a derive or of options.
-    pub(super) fn take_arguments(
+impl<'a> Reader<'a, '_> {
+    /// Reads the arguments of a derive or of options, from the name of that attribute on. The attribute has this bracket.
+    pub(super) fn read_arguments(
         &mut self,
-        attribute: &Attribute<'a, '_>,
+        draft: &mut Draft<'a>,
+        bracket: &Token,
     ) -> Result<(), DeriveError> {
-        let is_derive = attribute.name == "derive";
-        let mut next = Next::Arguments;
-        for token in attribute.arguments {
-            if token.is_blank() {
-                continue;
+        let is_derive = self.token.is("derive");
+        self.advance_past_blanks()?;
+        if !self.token.is_mark('(') {
+            return Err(self.token.fault("wanted: `(`"));
+        }
+        for _ in self.rest {
+            self.advance_past_blanks()?;
+            match self.token.kind {
+                Kind::Mark(')') => break,
+                _ if is_derive => self.read_path(draft)?,
+                _ => self.read_option(draft)?,
             }
-            next = match (next, token.kind) {
-                (Next::Arguments, Kind::Mark('(')) => Next::Argument,
-                (Next::Arguments, _) => return Err(token.fault("wanted: `(`")),
-                (Next::Argument, Kind::Mark(')')) => Next::End,
-                (Next::End, Kind::Mark(']')) => Next::End,
-                (Next::End, Kind::Mark('(' | '[' | '{')) => {
-                    return Err(token.fault(UNCLOSED_BRACKET));
-                }
-                (Next::End, _) => return Err(attribute.bracket.fault(UNCLOSED_BRACKET)),
-                _ if is_derive => self.take_derive(next, token)?,
-                _ => self.take_option(next, token)?,
-            };
+            match self.token.kind {
+                Kind::Mark(',') => {}
+                Kind::Mark(')') => break,
+                _ => return Err(self.token.fault("wanted: `,` or `)`")),
+            }
+        }
+        self.advance_past_blanks()?;
+        match self.token.kind {
+            Kind::Mark(']') => Ok(()),
+            Kind::Mark('(' | '[' | '{') => Err(self.token.fault(UNCLOSED_BRACKET)),
+            _ => Err(bracket.fault(UNCLOSED_BRACKET)),
+        }
+    }
+
+    /// Reads a path that is derived.
+    fn read_path(&mut self, draft: &mut Draft<'a>) -> Result<(), DeriveError> {
+        let mut path = String::new(self.alloc);
+        let mut wants_name = false;
+        for _ in self.rest {
+            match self.token.kind {
+                Kind::Mark(':') if !wants_name => wants_name = true,
+                _ if self.token.is_name() && (wants_name || path.is_empty()) => wants_name = false,
+                _ => break,
+            }
+            path.push_str(self.token.text)?;
+            self.advance_past_blanks()?;
+        }
+        if wants_name || path.is_empty() {
+            return Err(self.token.fault("wanted: a path, or `)`"));
+        }
+        if path.as_str() == "EnumSetType" || path.ends_with("::EnumSetType") {
+            draft.is_element_type = true;
+        } else {
+            draft.declaration.derives.push(path)?;
         }
         Ok(())
     }
 
-    /// Takes a token of the names that are derived.
-    fn take_derive(&mut self, next: Next<'a>, token: &Token<'a>) -> Result<Next<'a>, DeriveError> {
-        let following = match next {
-            Next::Argument | Next::Separator if token.is_mark(':') => Next::Name,
-            Next::Argument | Next::Name if token.is_name() => Next::Separator,
-            Next::Separator => {
-                let path = mem::replace(&mut self.path, String::new(self.alloc));
-                if path.as_str() == "EnumSetType" || path.ends_with("::EnumSetType") {
-                    self.is_element_type = true;
-                } else {
-                    self.declaration.derives.push(path)?;
-                }
-                return after_argument(token);
-            }
-            _ => return Err(token.fault("wanted: a path, or `)`")),
-        };
-        self.path.push_str(token.text)?;
-        Ok(following)
-    }
-
-    /// Takes a token of the options.
-    fn take_option(&mut self, next: Next<'a>, token: &Token<'a>) -> Result<Next<'a>, DeriveError> {
-        match (next, token.kind) {
-            (Next::Argument, Kind::Word) => self.take_name(token),
-            (Next::Argument, _) => Err(token.fault("wanted: a name of an option, or `)`")),
-            (Next::Equals(option), Kind::Mark('=')) => Ok(Next::Value(option)),
-            (Next::Value(option), Kind::Quoted) => self.take_value(option, token),
-            (Next::Separator, _) => after_argument(token),
-            _ => Err(token.fault(NO_VALUE)),
+    /// Reads an option.
+    fn read_option(&mut self, draft: &mut Draft<'a>) -> Result<(), DeriveError> {
+        let name = self.token;
+        if !matches!(name.kind, Kind::Word) {
+            return Err(name.fault("wanted: a name of an option, or `)`"));
         }
-    }
-
-    /// Takes the name of an option.
-    fn take_name(&mut self, token: &Token<'a>) -> Result<Next<'a>, DeriveError> {
-        let earlier = self.given.iter().find(|given| given.0 == token.text);
+        let earlier = draft.given.iter().find(|given| given.0 == name.text);
         if let Some((_, place)) = earlier {
-            return Err(Reason::OptionTwice(*place).at(token.place).into());
+            return Err(Reason::OptionTwice(*place).at(name.place).into());
         }
-        let options = &mut self.declaration.options;
-        let mut next = Next::Separator;
-        match token.text {
-            "map" | "repr" | "serialize_repr" | "crate_name" => next = Next::Equals(token.text),
+        let options = &mut draft.declaration.options;
+        match name.text {
+            "map" | "repr" | "serialize_repr" | "crate_name" => self.read_value(draft, name)?,
             "serialize_deny_unknown" => options.denies_unknown = true,
             "no_ops" => options.leaves_out_operators = true,
             "no_super_impls" => options.leaves_out_supertraits = true,
             "display" => options.has_display = true,
             "serialize_as_list" => {
-                return Err(token.fault(
+                return Err(name.fault(
                     "`serialize_as_list` is written `serialize_repr = \"list\"`",
                 ));
             }
-            _ => return Err(token.fault("there is no such option")),
+            _ => return Err(name.fault("there is no such option")),
         }
-        self.given.push((token.text, token.place))?;
-        Ok(next)
+        draft.given.push((name.text, name.place))?;
+        self.advance_past_blanks()
     }
 
-    /// Takes the value of an option.
-    fn take_value(&mut self, option: &str, token: &Token<'a>) -> Result<Next<'a>, DeriveError> {
+    /// Reads the value of an option, up to its text.
+    fn read_value(&mut self, draft: &mut Draft<'a>, name: Token<'a>) -> Result<(), DeriveError> {
+        self.advance_past_blanks()?;
+        if !self.token.is_mark('=') {
+            return Err(self.token.fault(NO_VALUE));
+        }
+        self.advance_past_blanks()?;
+        let token = self.token;
         let quoted = token.text.strip_prefix('"').unwrap_or("");
         let Some(value) = quoted.strip_suffix('"') else {
             return Err(token.fault(NO_VALUE));
         };
-        let options = &mut self.declaration.options;
-        match option {
+        let options = &mut draft.declaration.options;
+        match name.text {
             "map" => match map_named(value) {
                 Some(map) => options.map = Some((map, token.place)),
                 None => return Err(token.fault(MAPS)),
@@ -143,16 +129,7 @@ impl<'a> Draft<'a> {
             },
             _ => options.crate_name = Some(value),
         }
-        Ok(Next::Separator)
-    }
-}
-
-/// What may come next after an argument and this token.
-fn after_argument<'a>(token: &Token) -> Result<Next<'a>, DeriveError> {
-    match token.kind {
-        Kind::Mark(',') => Ok(Next::Argument),
-        Kind::Mark(')') => Ok(Next::End),
-        _ => Err(token.fault("wanted: `,` or `)`")),
+        Ok(())
     }
 }
 

@@ -1,53 +1,70 @@
-//! What stands before an enum: comments, attributes and its visibility.
+//! What stands before an enum or a variant: comments, attributes and a visibility.
 
 use super::draft::Draft;
-use super::reader::{Attribute, Reader, Stop};
+use super::reader::{Reader, Stop};
 use crate::tokens::Kind;
 use enumset_derive_plan::DeriveError;
 
 impl<'a> Reader<'a, '_> {
-    /// Reads comments, attributes and a visibility.
-    pub(super) fn read_attributes(&mut self, draft: &mut Draft<'a>) -> Result<(), DeriveError> {
+    /// Reads comments and attributes. Tells whether there is an attribute.
+    pub(super) fn read_attributes(&mut self, draft: &mut Draft<'a>) -> Result<bool, DeriveError> {
+        let mut has_attribute = false;
         for _ in self.rest {
             match self.token.kind {
                 Kind::Space => {}
                 Kind::Mark('#') => {
-                    let attribute = self.read_attribute()?;
-                    if !draft.take(&attribute)? {
-                        self.leave_out_attribute(&attribute)?;
-                    }
+                    has_attribute = true;
+                    self.read_attribute(draft)?;
                 }
                 _ if self.token.is_comment() => draft.push(self.token.text)?,
                 _ => break,
             }
             self.advance()?;
         }
-        draft.declaration.visibility = self.read_visibility()?;
-        Ok(())
+        Ok(has_attribute)
     }
 
-    /// Leaves out an attribute that has no meaning here.
-    pub(super) fn leave_out_attribute(
-        &mut self,
-        it: &Attribute<'a, '_>,
-    ) -> Result<(), DeriveError> {
-        self.source.left_out.push((it.place, it.text))?;
-        Ok(())
-    }
-
-    /// Reads a visibility, as `pub` or `pub(crate)`, if there is one: its keyword, and what stands after that.
-    fn read_visibility(&mut self) -> Result<(&'a str, &'a str), DeriveError> {
-        if !self.token.is("pub") {
-            return Ok(("", ""));
-        }
-        self.advance_past_blanks()?;
-        if !self.token.is_mark('(') {
-            return Ok(("pub", ""));
-        }
+    /// Reads an attribute, up to the `]` that ends it. A fault of derives or options counts for an element type alone.
+    fn read_attribute(&mut self, draft: &mut Draft<'a>) -> Result<(), DeriveError> {
         let begin = self.token;
-        self.skip_to(Stop::Mark(')', 0))?;
-        let restriction = self.text_from(&begin);
         self.advance_past_blanks()?;
-        Ok(("pub", restriction))
+        let bracket = self.token;
+        if !bracket.is_mark('[') {
+            return Err(bracket.fault("wanted: `[`"));
+        }
+        self.advance_past_blanks()?;
+        let name = self.token.text;
+        let is_taken = draft.begin_attribute(name);
+        if is_taken {
+            match self.read_arguments(draft, &bracket) {
+                Err(DeriveError::Fault(fault)) => draft.fault = draft.fault.or(Some(fault)),
+                read => read?,
+            }
+        }
+        self.skip_to(Stop::Mark(']', begin.depth))?;
+        let text = self.text_from(&begin);
+        if !draft.gives_meaning(name) {
+            self.source.left_out.push((begin.place, text))?;
+        } else if !is_taken {
+            draft.push(text)?;
+        }
+        Ok(())
+    }
+
+    /// Reads a visibility, as `pub` or `pub(crate)`, if there is one.
+    pub(super) fn read_visibility(&mut self, draft: &mut Draft<'a>) -> Result<(), DeriveError> {
+        if !self.token.is("pub") {
+            return Ok(());
+        }
+        self.advance_past_blanks()?;
+        let mut restriction = "";
+        if self.token.is_mark('(') {
+            let begin = self.token;
+            self.skip_to(Stop::Mark(')', 0))?;
+            restriction = self.text_from(&begin);
+            self.advance_past_blanks()?;
+        }
+        draft.declaration.visibility = ("pub", restriction);
+        Ok(())
     }
 }

@@ -1,18 +1,16 @@
 //! What is known of an item.
 
-use super::reader::Attribute;
 use enumset_derive_plan::{DeriveError, EnumDeclaration, Fault, Options, Place};
-use std::alloc::{AllocError, Global};
+use std::alloc::Global;
+use std::mem;
 
-/// What is known of an item.
+/// What is known of an item. The comments and attributes that were read last are the last comments of its declaration.
 #[derive(Drop)]
 pub(super) struct Draft<'a> {
-    pub alloc: Global,
+    alloc: Global,
     pub declaration: EnumDeclaration<'a>,
     /// Whether something is derived.
     has_derive: bool,
-    /// As much of a path as is read of a name that is derived.
-    pub path: String,
     /// Whether `EnumSetType` is derived.
     pub is_element_type: bool,
     /// The names of the options that are given, and where, in their order.
@@ -37,52 +35,40 @@ impl<'a> Draft<'a> {
             alloc,
             declaration,
             has_derive: false,
-            path: String::new(alloc),
             is_element_type: false,
             given: Vec::new(alloc),
             fault: None,
         }
     }
 
-    /// Adds a comment or an attribute before the keyword.
-    pub fn push(&mut self, text: &'a str) -> Result<(), AllocError> {
-        if self.has_derive {
-            self.declaration.later_attributes.push(text)?;
-        } else {
-            self.declaration.attributes.push(text)?;
-        }
+    /// Adds a comment or an attribute.
+    pub fn push(&mut self, text: &'a str) -> Result<(), DeriveError> {
+        self.declaration.last_comments.push(text)?;
         Ok(())
     }
 
-    /// Takes an attribute before the keyword. Tells whether it has a meaning here.
-    pub fn take(&mut self, attribute: &Attribute<'a, '_>) -> Result<bool, DeriveError> {
-        match attribute.name {
-            "derive" => self.has_derive = true,
-            "enumset" => {}
-            name if !self.gives_meaning(name) => return Ok(false),
-            _ => {
-                self.push(attribute.text)?;
-                return Ok(true);
-            }
+    /// Takes the comments and attributes that were read last.
+    pub fn comments(&mut self) -> Vec<&'a str> {
+        mem::replace(&mut self.declaration.last_comments, Vec::new(self.alloc))
+    }
+
+    /// Whether an attribute of this name is a derive or has options, of the enum.
+    pub fn begin_attribute(&mut self, name: &str) -> bool {
+        let is_derive = name == "derive";
+        let is_taken = self.declaration.name.is_empty() && (is_derive || name == "enumset");
+        if is_taken && is_derive && !self.has_derive {
+            self.declaration.attributes = self.comments();
+            self.has_derive = true;
         }
-        match self.take_arguments(attribute) {
-            Ok(()) => {}
-            Err(DeriveError::Fault(fault)) => self.fault = self.fault.or(Some(fault)),
-            Err(error) => return Err(error),
-        }
-        Ok(true)
+        is_taken
     }
 
     /// Whether an attribute of this name has a meaning, on the enum as it is known or on a variant of it.
     pub fn gives_meaning(&self, attribute: &str) -> bool {
-        if attribute != "serde" {
-            return !matches!(attribute, "repr" | "cfg_attr" | "rustfmt");
+        let is_serde = |path: &String| path.ends_with("Serialize") || path.ends_with("Deserialize");
+        match attribute {
+            "serde" => self.declaration.derives.iter().any(is_serde),
+            _ => !matches!(attribute, "repr" | "cfg_attr" | "rustfmt"),
         }
-        for name in &self.declaration.derives {
-            if name.ends_with("Serialize") || name.ends_with("Deserialize") {
-                return true;
-            }
-        }
-        false
     }
 }

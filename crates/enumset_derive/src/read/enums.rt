@@ -4,18 +4,16 @@ use super::draft::Draft;
 use super::literals::{NOT_A_LITERAL, number_of};
 use super::reader::{Reader, Stop};
 use crate::tokens::{Kind, Token};
-use enumset_derive_plan::{
-    DeriveError, Discriminant, EnumDeclaration, Plan, Reason, Variant, plan_enum,
-};
+use enumset_derive_plan::{DeriveError, Discriminant, Plan, Reason, Variant, plan_enum};
 use std::mem;
 
 impl<'a> Reader<'a, '_> {
-    /// Reads an enum from its keyword on, and plans it before the token after it is looked at, so that the first fault of
-    /// the text is found.
+    /// Reads an enum from its keyword on, and plans it before the token after it is looked at: the first fault counts.
     pub(super) fn read_enum(&mut self, draft: &mut Draft<'a>) -> Result<Plan, DeriveError> {
         if let Some(fault) = draft.fault {
             return Err(DeriveError::Fault(fault));
         }
+        draft.declaration.later_attributes = draft.comments();
         draft.declaration.name = self.read_name()?;
         if self.token.is_mark('<') || self.token.is("where") {
             return Err(self.token.fault("the enum must have no parameters"));
@@ -49,37 +47,18 @@ impl<'a> Reader<'a, '_> {
 
     /// Reads the variants of an enum, up to the `}` after them, and the comments after the last one.
     fn read_variants(&mut self, draft: &mut Draft<'a>) -> Result<(), DeriveError> {
-        let mut has_attribute = false;
         for _ in self.rest {
-            match self.token.kind {
-                Kind::Mark('}') if !has_attribute => break,
-                Kind::Mark('#') => {
-                    let attribute = self.read_attribute()?;
-                    has_attribute = true;
-                    if draft.gives_meaning(attribute.name) {
-                        draft.declaration.last_comments.push(attribute.text)?;
-                    } else {
-                        self.leave_out_attribute(&attribute)?;
-                    }
-                }
-                Kind::Space => {}
-                _ if self.token.is_comment() => {
-                    draft.declaration.last_comments.push(self.token.text)?;
-                }
-                _ => {
-                    self.read_variant(&mut draft.declaration)?;
-                    has_attribute = false;
-                    continue;
-                }
+            let has_attribute = self.read_attributes(draft)?;
+            if self.token.is_mark('}') && !has_attribute {
+                break;
             }
-            self.advance()?;
+            self.read_variant(draft)?;
         }
         Ok(())
     }
 
-    /// Reads a variant, up to what stands after the `,` and the comments on its line. The comments and attributes before it
-    /// were taken for the last ones.
-    fn read_variant(&mut self, declaration: &mut EnumDeclaration<'a>) -> Result<(), DeriveError> {
+    /// Reads a variant, up to what stands after the `,` and the comments on its line.
+    fn read_variant(&mut self, draft: &mut Draft<'a>) -> Result<(), DeriveError> {
         let Token { place, text, .. } = self.token;
         if !self.token.is_name() {
             return Err(self.token.fault("wanted: a name of a variant, or `}`"));
@@ -98,13 +77,14 @@ impl<'a> Reader<'a, '_> {
             }
             _ => return Err(self.after_variant(discriminant)),
         }
-        declaration.variants.push(Variant {
+        let variant = Variant {
             place,
-            attributes: mem::replace(&mut declaration.last_comments, Vec::new(self.alloc)),
+            attributes: draft.comments(),
             name: text,
             discriminant,
             comments: mem::replace(&mut self.comments, Vec::new(self.alloc)),
-        })?;
+        };
+        draft.declaration.variants.push(variant)?;
         Ok(())
     }
 

@@ -8,8 +8,7 @@ use std::alloc::{AllocError, Global};
 use std::mem;
 
 impl<'a> Reader<'a, '_> {
-    /// Reads what a line `use enumset::..;` imports. Another item that begins with `use`, or one without an end, goes
-    /// through.
+    /// Reads what a line `use enumset::..;` imports. Other items that begin with `use` go through.
     pub(super) fn read_use(&mut self) -> Result<(), DeriveError> {
         let begin = self.token.begin;
         self.advance_past_blanks()?;

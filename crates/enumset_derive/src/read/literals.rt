@@ -16,7 +16,7 @@ pub(super) fn number_of(literal: &str, is_negative: bool) -> Result<Number, &'st
     for (at, character) in digits.char_indices() {
         match character.to_digit(16) {
             Some(digit) if digit < radix => {
-                exponent = exponent_with(value, exponent, radix, digit);
+                exponent = power_with(value, exponent, radix, digit);
                 value = value_with(value, radix, digit);
                 has_digit = true;
             }
@@ -55,14 +55,8 @@ fn value_with(value: Option<u128>, radix: u32, digit: u32) -> Option<u128> {
         .checked_add(u128::from(digit))
 }
 
-/// Which power of two the number of some digits and one more is, if it is one; unless the base is decimal, or the power is
-/// past 2^32 - 1.
-fn exponent_with(
-    value: Option<u128>,
-    exponent: Option<u32>,
-    radix: u32,
-    digit: u32,
-) -> Option<u32> {
+/// Which power of two, up to 2^32 - 1, the number of some digits and one more is, unless the base is decimal.
+fn power_with(value: Option<u128>, exponent: Option<u32>, radix: u32, digit: u32) -> Option<u32> {
     match (value, digit) {
         (Some(0), 1 | 2 | 4 | 8) => Some(digit.trailing_zeros()),
         (Some(0), _) => None,

@@ -2,7 +2,7 @@
 
 use crate::source::Source;
 use crate::tokens::{Kind, Token};
-use enumset_derive_plan::{DeriveError, Place};
+use enumset_derive_plan::DeriveError;
 use std::alloc::Global;
 
 /// A token that a reader goes on to.
@@ -37,22 +37,7 @@ impl Stop {
     }
 }
 
-/// An attribute of an item or a variant.
-#[derive(Clone, Copy)]
-pub(super) struct Attribute<'a, 'b> {
-    /// As it is written, and where.
-    pub text: &'a str,
-    pub place: Place,
-    /// Its `[`.
-    pub bracket: Token<'a>,
-    pub name: &'a str,
-    /// The tokens after the name, with the `]`.
-    pub arguments: &'b [Token<'a>],
-}
-
-/// A reader at a token of a source text.
-///
-/// It reads in loops over the tokens that are left, since each turn goes on by one at least.
+/// A reader at a token of a source text. Its loops are over the tokens that are left: each turn goes on by one at least.
 #[derive(Drop)]
 pub(super) struct Reader<'a, 'b> {
     pub alloc: Global,
@@ -79,8 +64,7 @@ impl<'a, 'b> Reader<'a, 'b> {
         Ok(())
     }
 
-    /// Goes on to the first token that is so, unless the reader is at one, or to the end of the text. It keeps the comments
-    /// before it.
+    /// Goes on to the first token that is so, unless the reader is at one, or to the end. It keeps the comments before it.
     pub fn skip_to(&mut self, wanted: Stop) -> Result<(), DeriveError> {
         for _ in self.rest {
             if wanted.is_at(&self.token) {
@@ -98,27 +82,6 @@ impl<'a, 'b> Reader<'a, 'b> {
     pub fn advance_past_blanks(&mut self) -> Result<(), DeriveError> {
         self.advance()?;
         self.skip_to(Stop::NoBlank)
-    }
-
-    /// Reads an attribute, up to the `]` that ends it.
-    pub fn read_attribute(&mut self) -> Result<Attribute<'a, 'b>, DeriveError> {
-        let begin = self.token;
-        self.advance_past_blanks()?;
-        let bracket = self.token;
-        if !bracket.is_mark('[') {
-            return Err(bracket.fault("wanted: `[`"));
-        }
-        self.advance_past_blanks()?;
-        let name = self.token.text;
-        let rest = self.rest;
-        self.skip_to(Stop::Mark(']', begin.depth))?;
-        Ok(Attribute {
-            text: self.text_from(&begin),
-            place: begin.place,
-            bracket,
-            name,
-            arguments: self.passed(rest),
-        })
     }
 
     /// The tokens of this list, which the reader was before, up to its own.

@@ -11,7 +11,18 @@ pub fn tokens_of(alloc: Global, text: &str) -> Result<Vec<Token<'_>>, AllocError
         tokens: Vec::new(alloc),
         open: Vec::new(alloc),
     };
-    lexer.read(text)?;
+    let mut place = Place::BEGIN;
+    let mut end = 0;
+    for (begin, character) in text.char_indices() {
+        if begin >= end {
+            let onward = text.get(begin..).unwrap_or("");
+            let (kind, rest) = first_token(character, onward);
+            end = text.len().saturating_sub(rest.len());
+            lexer.push(kind, before(onward, rest), begin, place)?;
+        }
+        place = place.after(character);
+    }
+    lexer.push(Kind::End, "", text.len(), place)?;
     Ok(lexer.tokens)
 }
 
@@ -24,24 +35,7 @@ struct Lexer<'a> {
 }
 
 impl<'a> Lexer<'a> {
-    /// Reads a text to its end.
-    fn read(&mut self, text: &'a str) -> Result<(), AllocError> {
-        let mut place = Place::BEGIN;
-        let mut end = 0;
-        for (begin, character) in text.char_indices() {
-            if begin >= end {
-                let onward = text.get(begin..).unwrap_or("");
-                let (kind, rest) = first_token(character, onward);
-                end = text.len().saturating_sub(rest.len());
-                self.push(kind, before(onward, rest), begin, place)?;
-            }
-            place = place.after(character);
-        }
-        self.push(Kind::End, "", text.len(), place)
-    }
-
-    /// Adds a token, which may begin or end a bracket. It is a fault if it ends the text or another bracket in a bracket. An
-    /// end without a beginning is no fault.
+    /// Adds a token, which may begin or end a bracket. It is a fault if it ends the text or another bracket in a bracket.
     fn push(
         &mut self,
         kind: Kind,

@@ -33,8 +33,7 @@ pub fn after_tick(text: &str) -> (Kind, &str) {
     }
 }
 
-/// What a token is that begins with `r`, `br` or `cr` before this text, and the text after it. The text begins with a quote
-/// or with `#`, so it is a raw text or a raw name.
+/// What a raw text or a raw name is, of which `r`, `br` or `cr` stands before this text, and the text after it.
 pub fn after_raw_prefix(text: &str) -> (Kind, &str) {
     let rest = text.trim_start_matches('#');
     let hashes = before(text, rest);

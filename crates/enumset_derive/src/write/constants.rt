@@ -27,14 +27,14 @@ pub(super) fn define_constants(writer: &mut Writer, plan: &Plan) -> Result<(), A
         }
         Store::Words(words) => {
             writer.set("SIZE", words.len().to_string(alloc));
+            writer.import("internal::ArrayRepr");
             writer.define_all(&IN_WORDS);
             define_words(writer, words)
         }
     }
 }
 
-/// Defines the words of all bits as a list in a clause, and as a value: on one line if it fits, or on filled lines, or with
-/// a line for each word if one has more than ten digits.
+/// Defines the words of all bits: on one line if it fits, on filled lines, or on a line each if one has over ten digits.
 fn define_words(writer: &mut Writer, words: &[u64]) -> Result<(), AllocError> {
     let alloc = writer.alloc;
     let mut items = Vec::new(alloc);

@@ -3,15 +3,12 @@
 use super::constants::define_constants;
 use super::enums::are_kept;
 use super::json::write_json;
-use super::layout::wrapped;
+use super::layout::{Elements, wrapped};
 use super::operators::write_operators;
 use super::templates::*;
 use super::writer::Writer;
 use enumset_derive_plan::{EnumDeclaration, Number, Options, Plan, Serialized, Store};
 use std::alloc::AllocError;
-
-/// The name of each variant, with its bit.
-type Elements<'a> = &'a [(&'a str, u64)];
 
 /// Writes what makes an enum an element type.
 pub(super) fn write_element_type(
@@ -27,15 +24,14 @@ pub(super) fn write_element_type(
     writer.define("NAME", declaration.name);
     define_constants(writer, plan)?;
     define_bits(writer, &elements, declaration, plan);
+    writer.import("EnumSetType");
     writer.write(ELEMENT_TYPE);
     if is_narrow(plan) {
+        writer.import("EnumSetTypeWithRepr");
         writer.write(WITH_REPR);
     }
     if are_named(options) {
-        writer.set_list("NAMES", 80, "codes \"@NAME@\" ∷", &elements);
-        writer.set_lines("WORDS", "@NAME@", &elements);
-        define_call(writer, "names_of!(", "");
-        writer.write(NAMES);
+        write_names(writer, &elements);
     }
     if options.has_display {
         write_display(writer, &elements);
@@ -53,16 +49,15 @@ pub(super) fn are_named(options: &Options) -> bool {
 }
 
 /// Whether the representation has at most 128 bits.
-pub(super) fn is_narrow(plan: &Plan) -> bool {
+fn is_narrow(plan: &Plan) -> bool {
     match &plan.store {
         Store::Integer(_, _) => true,
         Store::Words(words) => words.len() <= 2,
     }
 }
 
-/// Whether a bit becomes its variant by a load from a table: there are more than sixteen, and they are not the variants'
-/// places.
-pub(super) fn is_in_table(plan: &Plan) -> bool {
+/// Whether a bit becomes its variant by a load from a table: there are more than sixteen, and they are not the places.
+fn is_in_table(plan: &Plan) -> bool {
     plan.variants.len() > 16 && !are_places(plan)
 }
 
@@ -82,14 +77,9 @@ fn are_cast(declaration: &EnumDeclaration, plan: &Plan) -> bool {
 }
 
 /// Defines the bits of the elements, the conversions, and the proof of the laws.
-fn define_bits(
-    writer: &mut Writer,
-    elements: Elements,
-    declaration: &EnumDeclaration,
-    plan: &Plan,
-) {
-    let has_values = declaration.options.has_display;
-    let is_cast = are_cast(declaration, plan);
+fn define_bits(writer: &mut Writer, elements: Elements, item: &EnumDeclaration, plan: &Plan) {
+    let has_values = item.options.has_display;
+    let is_cast = are_cast(item, plan);
     let in_place = is_cast && are_places(plan);
     let is_short = in_place && !has_values && matches!(plan.store, Store::Integer(_, _));
     writer.set_list("VALUE_LIST", 79, "variant.@NAME@ ∷", elements);
@@ -100,19 +90,9 @@ fn define_bits(
         (true, true) => "        match self {}\n",
         (true, false) => "        self as u32\n",
     };
-    writer.define_all(&[
-        ("LISTS_USE", if is_short { "" } else { LISTS_USE }),
-        ("VALUES_USE", if has_values { VALUES_USE } else { "" }),
-        (
-            "VALUES",
-            if has_values {
-                "    ghost values = { @VALUE_LIST@ };\n\n"
-            } else {
-                ""
-            },
-        ),
-        ("BIT_OF_VALUE", bit_of_value),
-    ]);
+    writer.define("BIT_OF_VALUE", bit_of_value);
+    writer.define("LISTS_USE", if is_short { "" } else { LISTS_USE });
+    writer.define_all(if has_values { &VALUES } else { &NO_VALUES });
     writer.define_all(if in_place { &IN_PLACE } else { &WITH_BITS });
     define_value_of_bit(writer, elements, plan);
 }
@@ -120,6 +100,7 @@ fn define_bits(
 /// Defines the body that converts a bit to its variant: a match over the bits, or the call of the macro that makes a table.
 fn define_value_of_bit(writer: &mut Writer, elements: Elements, plan: &Plan) {
     if is_in_table(plan) {
+        writer.import("variant_of");
         writer.set_lines("WORDS", "@BIT@ @NAME@", elements);
         define_call(writer, "variant_of!(", "val, ");
     } else {
@@ -135,8 +116,7 @@ fn define_value_of_bit(writer: &mut Writer, elements: Elements, plan: &Plan) {
     }
 }
 
-/// Defines a body: the call of a macro with the enum's name and the words, after what the call begins with. It is on one
-/// line if it fits, else on lines of its own.
+/// Defines a body: the call of a macro with the enum's name and the words, on one line if it fits.
 fn define_call(writer: &mut Writer, macro_name: &'static str, first: &str) {
     writer.define("FIRST", first);
     writer.define("WORDS", "@FIRST@@NAME@:\n@WORDS@");
@@ -147,6 +127,16 @@ fn define_call(writer: &mut Writer, macro_name: &'static str, first: &str) {
     writer.define("MACRO", macro_name);
     writer.set("WORDS", words);
     writer.define("BODY", if is_short { SHORT_CALL } else { LONG_CALL });
+}
+
+/// Writes the names of the variants.
+fn write_names(writer: &mut Writer, elements: Elements) {
+    writer.import("EnumSetNames");
+    writer.import("names_of");
+    writer.set_list("NAMES", 80, "codes \"@NAME@\" ∷", elements);
+    writer.set_lines("WORDS", "@NAME@", elements);
+    define_call(writer, "names_of!(", "");
+    writer.write(NAMES);
 }
 
 /// Writes the `Display` by the names of the variants.

@@ -2,7 +2,6 @@
 
 use super::writer::Writer;
 use enumset_derive_plan::{EnumDeclaration, Number, Variant};
-use std::alloc::AllocError;
 
 /// Why an enum has no discriminants.
 const DROPPED: &str =
@@ -10,71 +9,69 @@ const DROPPED: &str =
 
 /// Whether Rattle takes all discriminants that are given.
 pub(super) fn are_kept(variants: &[Variant]) -> bool {
-    for variant in variants {
-        let Some(discriminant) = variant.discriminant else {
-            continue;
-        };
-        match discriminant.number {
-            Number::Small(number) if number < 1 << 63 => {}
-            Number::Negative(number) if number <= 1 << 63 => {}
-            _ => return false,
-        }
-    }
-    true
+    variants.iter().all(|variant| match variant.discriminant {
+        None => true,
+        Some(discriminant) => match discriminant.number {
+            Number::Small(number) => number < 1 << 63,
+            Number::Negative(number) => number <= 1 << 63,
+            Number::PowerOfTwo(_) => false,
+        },
+    })
 }
 
 /// Writes the enum.
-pub(super) fn write_enum(
-    writer: &mut Writer,
-    declaration: &EnumDeclaration,
-) -> Result<(), AllocError> {
+pub(super) fn write_enum(writer: &mut Writer, declaration: &EnumDeclaration) {
     let has_discriminants = are_kept(&declaration.variants);
     writer.push_each("", &declaration.attributes, "\n");
     if !has_discriminants {
         writer.push(DROPPED);
     }
-    write_derives(writer, declaration)?;
+    write_derives(writer, declaration);
     writer.push_each("", &declaration.later_attributes, "\n");
-    let (visibility, restriction) = declaration.visibility;
-    let is_empty = declaration.variants.is_empty() && declaration.last_comments.is_empty();
-    writer.push(visibility);
-    writer.push(restriction);
-    writer.push(if visibility.is_empty() {
-        "enum "
-    } else {
-        " enum "
-    });
-    writer.push(declaration.name);
-    writer.push(if is_empty { " {" } else { " {\n" });
+    write_name(writer, declaration);
     for variant in &declaration.variants {
         write_variant(writer, variant, has_discriminants);
     }
     writer.push_each("    ", &declaration.last_comments, "\n");
     writer.push("}\n\n");
-    Ok(())
 }
 
-/// Writes the attribute with the derives, on a line or on a line each: those that an element type needs, unless the author
-/// writes them, and those of the source.
-fn write_derives(writer: &mut Writer, declaration: &EnumDeclaration) -> Result<(), AllocError> {
-    let alloc = writer.alloc;
-    let mut derives = Vec::new(alloc);
+/// Writes the derives, on a line or on a line each: those that an element type needs, and those of the source.
+fn write_derives(writer: &mut Writer, declaration: &EnumDeclaration) {
+    writer.define_all(&[("DERIVES", ""), ("LINES", ""), ("COMMA", "")]);
     if !declaration.options.leaves_out_supertraits {
         for name in ["Clone", "Copy", "PartialEq", "Eq"] {
-            derives.push(name)?;
+            define_derive(writer, name);
         }
     }
     for path in &declaration.derives {
-        derives.push(path.as_str())?;
+        define_derive(writer, path.as_str());
     }
-    writer.set("DERIVES", derives.join(alloc, ", "));
-    writer.set("DERIVE_LINES", derives.join(alloc, ",\n    "));
     writer.write(match writer.part("DERIVES").len() {
         0 => "",
         1..90 => "#[derive(@DERIVES@)]\n",
-        _ => "#[derive(\n    @DERIVE_LINES@,\n)]\n",
+        _ => "#[derive(\n@LINES@)]\n",
     });
-    Ok(())
+}
+
+/// Adds a path to the derives.
+fn define_derive(writer: &mut Writer, path: &str) {
+    writer.define_all(&[
+        ("PATH", path),
+        ("DERIVES", "@DERIVES@@COMMA@@PATH@"),
+        ("LINES", "@LINES@    @PATH@,\n"),
+        ("COMMA", ", "),
+    ]);
+}
+
+/// Writes the visibility and the name, and the bracket after it.
+fn write_name(writer: &mut Writer, declaration: &EnumDeclaration) {
+    let (visibility, restriction) = declaration.visibility;
+    let is_empty = declaration.variants.is_empty() && declaration.last_comments.is_empty();
+    let gap = if visibility.is_empty() { "" } else { " " };
+    let end = if is_empty { " {" } else { " {\n" };
+    let words = [visibility, restriction, gap, "enum ", declaration.name, end];
+    writer.push_each("", &words, "");
 }
 
 /// Writes a variant, with its discriminant where the enum has discriminants.

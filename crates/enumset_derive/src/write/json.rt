@@ -80,8 +80,7 @@ const MAP: Form = Form {
     ..LIST
 };
 
-/// The form that an enum asks for, and how many bits its numbers have, or how many words. A value in JSON holds no
-/// number of 128 bits: such a set is a number if its bits are below 64, else words.
+/// The form that an enum asks for, and its size. A value in JSON holds no number of 128 bits, so it is of 64, or words.
 fn form_of(serialized: Serialized, plan: &Plan) -> (&'static Form, usize) {
     let words = match &plan.store {
         Store::Integer(IntegerType::U128, _) => 2,
@@ -102,6 +101,8 @@ pub(super) fn write_json(writer: &mut Writer, options: &Options, plan: &Plan) {
     let Some(serialized) = options.serialized else {
         return;
     };
+    writer.import("EnumSet");
+    writer.import("set_json");
     let (form, size) = form_of(serialized, plan);
     let (unknown, unknown_doc) = match (options.denies_unknown, are_named(options)) {
         (true, true) => ("Refuse", "A name that no variant has is a fault."),

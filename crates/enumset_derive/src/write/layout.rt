@@ -4,25 +4,21 @@ use super::Text;
 use super::writer::Writer;
 use std::alloc::Global;
 
+/// A list of texts with numbers: the names of variants, with their bits.
+pub(super) type Elements<'a> = &'a [(&'a str, u64)];
+
 /// How a new line of a list in an `impl` begins.
 pub(super) const LIST_START: &str = "\n        ";
 
 impl Writer {
     /// Adds a part: what a pattern becomes for each item, a line each. `@NAME@` stands for its text, `@BIT@` for its number.
-    pub fn set_lines(&mut self, name: &'static str, pattern: &str, items: &[(&str, u64)]) {
+    pub fn set_lines(&mut self, name: &'static str, pattern: &str, items: Elements) {
         let lines = lines(self.alloc, pattern, items);
         self.set(name, lines);
     }
 
-    /// Adds a part: the list, in a clause, of what a pattern becomes for each item. `room` is how many columns are left on
-    /// its first line.
-    pub fn set_list(
-        &mut self,
-        name: &'static str,
-        room: usize,
-        pattern: &str,
-        items: &[(&str, u64)],
-    ) {
+    /// Adds a part: the list, in a clause, of what a pattern becomes for each item. Its first line has this room.
+    pub fn set_list(&mut self, name: &'static str, room: usize, pattern: &str, items: Elements) {
         self.set_lines("WORDS", pattern, items);
         self.define("WORDS", "@WORDS@[]");
         let list = wrapped(self.alloc, LIST_START, [room, 92], self.part("WORDS"));
@@ -30,8 +26,8 @@ impl Writer {
     }
 }
 
-/// What a pattern becomes for each item, a line each: `@NAME@` stands for its text, `@BIT@` for its number.
-fn lines(alloc: Global, pattern: &str, items: &[(&str, u64)]) -> Text {
+/// What a pattern becomes for each item, a line each.
+fn lines(alloc: Global, pattern: &str, items: Elements) -> Text {
     let mut lines = String::new(alloc);
     for (name, number) in items {
         let number = number.to_string(alloc)?;

@@ -16,6 +16,7 @@ const OPERATORS: [&str; 4] = [
 
 /// Writes the five operators.
 pub(super) fn write_operators(writer: &mut Writer) {
+    writer.import("EnumSet");
     for operator in OPERATORS {
         for (part, text) in PARTS.iter().zip(operator.splitn(5, ' ')) {
             writer.define(part, text);

@@ -33,8 +33,16 @@ pub(super) const ELEMENT_TYPE: &str = "impl EnumSetType for @NAME@ {
 
 pub(super) const LISTS_USE: &str = "    ghost use Rattle.std.specs.Prelude.{◌∷◌, []};\n";
 
-pub(super) const VALUES_USE: &str =
-    "    ghost use Rattle.@CRATE@.specs.declared.@MODULE@.@NAME@.TheVariants as variant;\n";
+/// What is written where contracts know the list of variants, and where not.
+pub(super) const VALUES: [(&str, &str); 2] = [
+    (
+        "VALUES_USE",
+        "    ghost use Rattle.@CRATE@.specs.declared.@MODULE@.@NAME@.TheVariants as variant;\n",
+    ),
+    ("VALUES", "    ghost values = { @VALUE_LIST@ };\n\n"),
+];
+
+pub(super) const NO_VALUES: [(&str, &str); 2] = [("VALUES_USE", ""), ("VALUES", "")];
 
 /// What is written if each bit is its variant's place, and if not.
 pub(super) const IN_PLACE: [(&str, &str); 3] = [

@@ -2,14 +2,17 @@
 
 use super::Text;
 use std::alloc::{AllocError, Global};
-use std::collections::BTreeMap;
+use std::collections::{BTreeMap, BTreeSet};
 use std::convert::AsStr;
+use std::mem;
 
 /// A text that grows, and the parts that go into it. If memory runs out, the text that the writer ends with is an error.
 #[derive(Drop)]
 pub(super) struct Writer {
     pub alloc: Global,
     parts: BTreeMap<&'static str, String>,
+    /// What the module imports of the crate `enumset`, each as it is written after `enumset::`.
+    pub imports: BTreeSet<String>,
     text: String,
     has_failed: bool,
 }
@@ -19,6 +22,7 @@ impl Writer {
         Writer {
             alloc,
             parts: BTreeMap::new(alloc),
+            imports: BTreeSet::new(alloc),
             text: String::new(alloc),
             has_failed: false,
         }
@@ -86,6 +90,21 @@ impl Writer {
             self.push(text.as_str());
             self.push(after);
         }
+    }
+
+    /// Adds an import.
+    pub fn import(&mut self, name: &str) {
+        let is_added = match String::from_str(self.alloc, name) {
+            Ok(name) => self.imports.insert(name).is_ok(),
+            Err(_) => false,
+        };
+        self.has_failed = self.has_failed || !is_added;
+    }
+
+    /// Makes a part of the text that was written so far.
+    pub fn cut(&mut self, name: &'static str) {
+        let text = mem::replace(&mut self.text, String::new(self.alloc));
+        self.set(name, Ok(text));
     }
 
     /// The text that was written.
