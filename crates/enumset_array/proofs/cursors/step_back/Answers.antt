@@ -1,4 +1,4 @@
-use Rattle.std.proofs.Common.{◌<◌, arith}
+use Rattle.std.proofs.Common.{arith}
 use Rattle.enumset_array.proofs.TakenOut.{last_taken, none_left}
 use Rattle.enumset_array.proofs.cursors.step_back.Goals as goal
 

@@ -1,4 +1,4 @@
-use Rattle.std.proofs.Common.{◌<◌, arith}
+use Rattle.std.proofs.Common.{arith}
 use Rattle.enumset_array.proofs.TakenOut.{first_taken, none_left}
 use Rattle.enumset_array.proofs.cursors.step_front.Goals as goal
 

@@ -1,9 +1,9 @@
-use Rattle.std.proofs.Common.{◌≡◌, ◌<◌, ◌+◌, ◌*◌, ◌/◌, List, [], ◌∷◌, ◌++◌, ℕ, length, take, bit_or, sym, ap, ◌∙◌, arith}
+use Rattle.std.proofs.Common.{◌≡◌, ◌<◌, ◌+◌, ◌*◌, ◌/◌, List, [], ℕ, length, take, sym, ap, ◌∙◌, arith}
 use Rattle.std.proofs.lemmas.List.{take_all, get_or-drop, length_push}
 use Rattle.std.proofs.lemmas.Simd.{length-zip2, get_or-zip2}
 use Rattle.std.proofs.lemmas.Slice.Zip.{zip_turn, zip_end}
-use Rattle.std.specs.Prelude.{◌==◌, slice_index}
-use Rattle.std.specs.Simd.Lanes.{zip2, chunk}
+use Rattle.std.specs.Prelude.{slice_index}
+use Rattle.std.specs.Simd.Lanes.{zip2}
 use Rattle.enumset_array.proofs.WordLanes.{none_in, chunk_here, chunk-zip2, lanes_none, joined_none, one_none}
 use Rattle.enumset_array.proofs.lanes.any_of.Goals as goal
 
