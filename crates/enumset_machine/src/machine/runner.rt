@@ -195,21 +195,36 @@ fn refusal<S: RunSet>(command: &Command) -> Option<Refusal>
         SymmetricDifference { to, a, b }
         | Intersection { to, a, b }
         | Difference { to, a, b }
-        | Union { to, a, b } => unless(is_set_register(to) && are_set_registers(a, b), Refusal::NoRegister),
+        | Union { to, a, b } => unless(
+            is_set_register(to) && are_set_registers(a, b),
+            Refusal::NoRegister,
+        ),
         Only { r, bit } | Insert { r, bit } | Remove { r, bit } | Contains { r, bit } => {
-            unless(is_set_register(r), Refusal::NoRegister)
-                .or(unless(S::is_bit_valid(bit), Refusal::NotABit))
+            unless(is_set_register(r), Refusal::NoRegister).or(unless(
+                S::is_bit_valid(bit),
+                Refusal::NotABit,
+            ))
         }
         Number { r, width } | NumberCut { r, width } => {
-            unless(is_set_register(r), Refusal::NoRegister)
-                .or(unless(is_width(width), Refusal::NotAWidth))
+            unless(is_set_register(r), Refusal::NoRegister).or(unless(
+                is_width(width),
+                Refusal::NotAWidth,
+            ))
         }
         FromNumber { r, width, value } | FromNumberCut { r, width, value } => {
-            unless(is_set_register(r), Refusal::NoRegister)
-                .or(unless(fits(width, value), Refusal::NotAWidth))
+            unless(is_set_register(r), Refusal::NoRegister).or(unless(
+                fits(width, value),
+                Refusal::NotAWidth,
+            ))
         }
-        Iter { i, r } => unless(is_iterator_register(i) && is_set_register(r), Refusal::NoRegister),
-        Next { i } | NextBack { i } | Left { i } => unless(is_iterator_register(i), Refusal::NoRegister),
+        Iter { i, r } => unless(
+            is_iterator_register(i) && is_set_register(r),
+            Refusal::NoRegister,
+        ),
+        Next { i } | NextBack { i } | Left { i } => unless(
+            is_iterator_register(i),
+            Refusal::NoRegister,
+        ),
     }
 }
 
