@@ -51,6 +51,9 @@ macro_rules! change {
     }};
 }
 
+pub(super) use change;
+pub(super) use put;
+
 impl<S: RunSet> Runner<S> {
     /// A run whose registers are empty.
     pub(crate) fn new() -> Runner<S>
@@ -78,7 +81,11 @@ impl<S: RunSet> Runner<S> {
 
     /// Carries out a command that is not refused.
     #[tactic(auto, unfolding(crate::specs::Runs::plan))]
-    fn carry_out(&mut self, alloc: Global, command: &Command) -> Result<Reply, AllocError>
+    pub(super) fn carry_out(
+        &mut self,
+        alloc: Global,
+        command: &Command,
+    ) -> Result<Reply, AllocError>
         requires registers { (plan command.now).registers ≡ true }
         requires widths { (plan command.now).widths ≡ true }
         requires bits { (plan command.now).bits S.rules ≡ true }
@@ -171,7 +178,7 @@ fn step_reply<S: RunSet>(bit: Option<u32>) -> Reply
 
 /// Why a command is refused, if it is.
 #[tactic(auto, unfolding(crate::specs::Runs::plan))]
-fn refusal<S: RunSet>(command: &Command) -> Option<Refusal>
+pub(super) fn refusal<S: RunSet>(command: &Command) -> Option<Refusal>
     ensures { result ≡ refusal S.rules (plan command.now) }
 {
     match *command {
@@ -229,7 +236,7 @@ fn refusal<S: RunSet>(command: &Command) -> Option<Refusal>
 }
 
 /// This refusal, unless there is no reason for it.
-fn unless(holds: bool, refusal: Refusal) -> Option<Refusal>
+pub(super) fn unless(holds: bool, refusal: Refusal) -> Option<Refusal>
     ensures { result ≡ (if holds then None else Some refusal) }
 {
     (!holds).then_some(refusal)
