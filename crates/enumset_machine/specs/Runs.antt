@@ -4,7 +4,7 @@
 --     replies      the replies to a list of commands, from the start
 --     mixed_plan, mixed_outcome, mixed_replies      the same of commands of mixed sets; a command of every run has the plan that it has there
 --     is_within      whether a command names or has in a number or words only bits below a width, and is no full complement
-use Rattle.std.specs.Prelude.{ℕ, ◌*◌, Bool, true, false, not, ◌&&◌, List, [], ◌∷◌, length}
+use Rattle.std.specs.Prelude.{ℕ, ◌*◌, Bool, false, not, List, [], ◌∷◌, length}
 use Rattle.enumset_repr.specs.BitSet as set
 use Rattle.enumset_repr.specs.BitSet.{BitSet}
 use Rattle.enumset_repr.specs.Number.{number, bits}

@@ -1,16 +1,18 @@
 //! The commands that mixed sets alone have.
 
-ghost use Rattle.std.specs.Prelude.{◌≡◌, true};
+ghost use Rattle.std.specs.Prelude.{◌≡◌, true, false, IsOk, IfOk, OnOk, OnErr};
 ghost use Rattle.enumset_repr.specs.BitSet.{contains, below};
 ghost use Rattle.enumset_sets.specs.Elements.{valid_bits};
-ghost use Rattle.enumset_commands.specs.declared.mixed_command.MixedCommand.TheVariants.{HasBit, InsertBit, RemoveBit, FullComplement, ValidLen, Unknown, AsEnumset, Truncate};
-ghost use Rattle.enumset_machine.specs.Plans.{width_rules};
-ghost use Rattle.enumset_machine.specs.Runs.{mixed_plan, mixed_outcome};
+ghost use Rattle.enumset_commands.specs.declared.mixed_command.MixedCommand.TheVariants.{AsEnumset};
+ghost use Rattle.enumset_machine.specs.States.{is_set_register};
+ghost use Rattle.enumset_machine.specs.Plans.{width_rules, refusal, takes_memory};
+ghost use Rattle.enumset_machine.specs.Runs.{mixed_plan};
 
 use super::registers::{are_set_registers, is_set_register};
 use super::run::Run;
-use super::runner::Runner;
-use enumset_commands::{MixedCommand, Refusal, Reply};
+use super::runner::{Runner, change, put, refusal, unless};
+use enumset_commands::MixedCommand::{self, *};
+use enumset_commands::{Refusal, Reply};
 use enumset_mixed::{MixedEnumSet, convert_mixed};
 use enumset_repr::EnumSetTypeRepr;
 use enumset_sets::{EnumSetType, EnumSetTypeWithRepr};
@@ -21,119 +23,88 @@ impl<T: EnumSetTypeWithRepr> Run for MixedEnumSet<T> {
 
     ghost plan = { mixed_plan };
 
-    #[tactic(auto, unfolding(crate::specs::Runs::mixed_plan, crate::specs::Runs::mixed_outcome))]
     fn step(
         runner: &mut Runner<MixedEnumSet<T>>,
         alloc: Global,
         command: &MixedCommand,
     ) -> Result<Reply, AllocError> {
-        match *command {
-            MixedCommand::Common(ref command) => runner.step(alloc, command),
-            MixedCommand::HasBit { r, bit } => Ok(runner.has_bit(r, bit)),
-            MixedCommand::InsertBit { r, bit } => Ok(runner.insert_bit(r, bit)),
-            MixedCommand::RemoveBit { r, bit } => Ok(runner.remove_bit(r, bit)),
-            MixedCommand::FullComplement { to, a } => Ok(runner.full_complement(to, a)),
-            MixedCommand::ValidLen { r } => Ok(runner.valid_len(r)),
-            MixedCommand::Unknown { r } => Ok(runner.has_unknown_bits(r)),
-            MixedCommand::AsEnumset { to, a } => Ok(runner.as_enumset(to, a)),
-            MixedCommand::Truncate { to, a } => Ok(runner.truncate(to, a)),
+        match mixed_refusal::<T>(command) {
+            Some(refusal) => Ok(Reply::Refused(refusal)),
+            None => runner.carry_out_mixed(alloc, command),
         }
     }
 }
 
-// Each call below carries out one command, or refuses it.
-#[tactic(auto, unfolding(crate::specs::Runs::mixed_plan, crate::specs::Runs::mixed_outcome))]
+/// Why a command of mixed sets is refused, if it is.
+#[tactic(auto, unfolding(crate::specs::Runs::mixed_plan))]
+fn mixed_refusal<T: EnumSetTypeWithRepr>(command: &MixedCommand) -> Option<Refusal>
+    ensures { result ≡ refusal (width_rules (valid_bits T.elements) T.Repr.WIDTH)
+        (mixed_plan command.now) }
+{
+    match *command {
+        Common(ref command) => refusal::<MixedEnumSet<T>>(command),
+        HasBit { r, .. } | RemoveBit { r, .. } | ValidLen { r } | Unknown { r } => {
+            unless(is_set_register(r), Refusal::NoRegister)
+        }
+        InsertBit { r, bit } => unless(is_set_register(r), Refusal::NoRegister).or(unless(
+            is_bit_allowed::<T>(bit),
+            Refusal::NotABit,
+        )),
+        FullComplement { to, a } | AsEnumset { to, a } | Truncate { to, a } => {
+            unless(are_set_registers(to, a), Refusal::NoRegister)
+        }
+    }
+}
+
+#[tactic(auto, unfolding(crate::specs::Runs::mixed_plan))]
 impl<T: EnumSetTypeWithRepr> Runner<MixedEnumSet<T>> {
-    fn has_bit(&mut self, r: u8, bit: u32) -> Reply
-        ensures { mixed_outcome (valid_bits T.elements) T.Repr.WIDTH self.old (HasBit r bit)
-            ≡ record { reply = result; state = self.new } }
+    /// Carries out a command of mixed sets that is not refused.
+    fn carry_out_mixed(
+        &mut self,
+        alloc: Global,
+        command: &MixedCommand,
+    ) -> Result<Reply, AllocError>
+        requires registers { (mixed_plan command.now).registers ≡ true }
+        requires widths { (mixed_plan command.now).widths ≡ true }
+        requires bits { (mixed_plan command.now).bits
+            (width_rules (valid_bits T.elements) T.Repr.WIDTH) ≡ true }
+        ensures succeeds { takes_memory ((mixed_plan command.now).reply
+            (width_rules (valid_bits T.elements) T.Repr.WIDTH) self.old) ≡ false → IsOk result }
+        ensures reply { IfOk result (λ reply. reply ≡ (mixed_plan command.now).reply
+            (width_rules (valid_bits T.elements) T.Repr.WIDTH) self.old) }
+        ensures state { OnOk result (self.new ≡ (mixed_plan command.now).after
+            (width_rules (valid_bits T.elements) T.Repr.WIDTH) self.old) }
+        ensures err { OnErr result (self.new ≡ self.old) }
     {
-        if !is_set_register(r) {
-            return Reply::Refused(Refusal::NoRegister);
-        }
-        Reply::Truth(self.sets.get(r).has_bit(bit))
+        Ok(match *command {
+            Common(ref command) => self.carry_out(alloc, command)?,
+            HasBit { r, bit } => Reply::Truth(self.sets.get(r).has_bit(bit)),
+            InsertBit { r, bit } => change!(self, r, insert_bit, bit),
+            RemoveBit { r, bit } => change!(self, r, remove_bit, bit),
+            FullComplement { to, a } => put!(self, to, full_complement of a),
+            ValidLen { r } => Reply::Count(self.sets.get(r).valid_len() as u64),
+            Unknown { r } => Reply::Truth(self.sets.get(r).has_unknown_bits()),
+            AsEnumset { to, a } => self.as_enumset(to, a),
+            Truncate { to, a } => {
+                let set = convert_mixed(self.sets.get(a).as_enumset_truncate());
+                self.put(to, set)
+            }
+        })
     }
 
-    fn insert_bit(&mut self, r: u8, bit: u32) -> Reply
-        ensures { mixed_outcome (valid_bits T.elements) T.Repr.WIDTH self.old (InsertBit r bit)
-            ≡ record { reply = result; state = self.new } }
-    {
-        if !is_set_register(r) {
-            return Reply::Refused(Refusal::NoRegister);
-        }
-        if !is_bit_allowed::<T>(bit) {
-            return Reply::Refused(Refusal::NotABit);
-        }
-        let mut set = self.sets.get(r);
-        let was_absent = set.insert_bit(bit);
-        self.replace(r, set, was_absent)
-    }
-
-    fn remove_bit(&mut self, r: u8, bit: u32) -> Reply
-        ensures { mixed_outcome (valid_bits T.elements) T.Repr.WIDTH self.old (RemoveBit r bit)
-            ≡ record { reply = result; state = self.new } }
-    {
-        if !is_set_register(r) {
-            return Reply::Refused(Refusal::NoRegister);
-        }
-        let mut set = self.sets.get(r);
-        let was_present = set.remove_bit(bit);
-        self.replace(r, set, was_present)
-    }
-
-    fn full_complement(&mut self, to: u8, a: u8) -> Reply
-        ensures { mixed_outcome (valid_bits T.elements) T.Repr.WIDTH self.old (FullComplement to a)
-            ≡ record { reply = result; state = self.new } }
-    {
-        if !are_set_registers(to, a) {
-            return Reply::Refused(Refusal::NoRegister);
-        }
-        let set = self.sets.get(a).full_complement();
-        self.put(to, set)
-    }
-
-    fn valid_len(&mut self, r: u8) -> Reply
-        ensures { mixed_outcome (valid_bits T.elements) T.Repr.WIDTH self.old (ValidLen r)
-            ≡ record { reply = result; state = self.new } }
-    {
-        if !is_set_register(r) {
-            return Reply::Refused(Refusal::NoRegister);
-        }
-        Reply::Count(self.sets.get(r).valid_len() as u64)
-    }
-
-    fn has_unknown_bits(&mut self, r: u8) -> Reply
-        ensures { mixed_outcome (valid_bits T.elements) T.Repr.WIDTH self.old (Unknown r)
-            ≡ record { reply = result; state = self.new } }
-    {
-        if !is_set_register(r) {
-            return Reply::Refused(Refusal::NoRegister);
-        }
-        Reply::Truth(self.sets.get(r).has_unknown_bits())
-    }
-
+    /// Puts a set into a register, if each member is valid.
     fn as_enumset(&mut self, to: u8, a: u8) -> Reply
-        ensures { mixed_outcome (valid_bits T.elements) T.Repr.WIDTH self.old (AsEnumset to a)
-            ≡ record { reply = result; state = self.new } }
+        requires to { is_set_register to ≡ true }
+        requires a { is_set_register a ≡ true }
+        ensures reply { result ≡ (mixed_plan (AsEnumset to a)).reply
+            (width_rules (valid_bits T.elements) T.Repr.WIDTH) self.old }
+        ensures state { self.new ≡ (mixed_plan (AsEnumset to a)).after
+            (width_rules (valid_bits T.elements) T.Repr.WIDTH) self.old }
     {
-        if !are_set_registers(to, a) {
-            return Reply::Refused(Refusal::NoRegister);
-        }
         match self.sets.get(a).try_as_enumset() {
             Some(elements) => self.put(to, convert_mixed(elements)),
             None => Reply::Absent,
         }
-    }
-
-    fn truncate(&mut self, to: u8, a: u8) -> Reply
-        ensures { mixed_outcome (valid_bits T.elements) T.Repr.WIDTH self.old (Truncate to a)
-            ≡ record { reply = result; state = self.new } }
-    {
-        if !are_set_registers(to, a) {
-            return Reply::Refused(Refusal::NoRegister);
-        }
-        let set = convert_mixed(self.sets.get(a).as_enumset_truncate());
-        self.put(to, set)
     }
 }
 

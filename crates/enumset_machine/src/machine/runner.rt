@@ -51,6 +51,9 @@ macro_rules! change {
     }};
 }
 
+pub(super) use change;
+pub(super) use put;
+
 impl<S: RunSet> Runner<S> {
     /// A run whose registers are empty.
     pub(crate) fn new() -> Runner<S>
@@ -78,7 +81,11 @@ impl<S: RunSet> Runner<S> {
 
     /// Carries out a command that is not refused.
     #[tactic(auto, unfolding(crate::specs::Runs::plan))]
-    fn carry_out(&mut self, alloc: Global, command: &Command) -> Result<Reply, AllocError>
+    pub(super) fn carry_out(
+        &mut self,
+        alloc: Global,
+        command: &Command,
+    ) -> Result<Reply, AllocError>
         requires registers { (plan command.now).registers ≡ true }
         requires widths { (plan command.now).widths ≡ true }
         requires bits { (plan command.now).bits S.rules ≡ true }
@@ -171,7 +178,7 @@ fn step_reply<S: RunSet>(bit: Option<u32>) -> Reply
 
 /// Why a command is refused, if it is.
 #[tactic(auto, unfolding(crate::specs::Runs::plan))]
-fn refusal<S: RunSet>(command: &Command) -> Option<Refusal>
+pub(super) fn refusal<S: RunSet>(command: &Command) -> Option<Refusal>
     ensures { result ≡ refusal S.rules (plan command.now) }
 {
     match *command {
@@ -195,26 +202,41 @@ fn refusal<S: RunSet>(command: &Command) -> Option<Refusal>
         SymmetricDifference { to, a, b }
         | Intersection { to, a, b }
         | Difference { to, a, b }
-        | Union { to, a, b } => unless(is_set_register(to) && are_set_registers(a, b), Refusal::NoRegister),
+        | Union { to, a, b } => unless(
+            is_set_register(to) && are_set_registers(a, b),
+            Refusal::NoRegister,
+        ),
         Only { r, bit } | Insert { r, bit } | Remove { r, bit } | Contains { r, bit } => {
-            unless(is_set_register(r), Refusal::NoRegister)
-                .or(unless(S::is_bit_valid(bit), Refusal::NotABit))
+            unless(is_set_register(r), Refusal::NoRegister).or(unless(
+                S::is_bit_valid(bit),
+                Refusal::NotABit,
+            ))
         }
         Number { r, width } | NumberCut { r, width } => {
-            unless(is_set_register(r), Refusal::NoRegister)
-                .or(unless(is_width(width), Refusal::NotAWidth))
+            unless(is_set_register(r), Refusal::NoRegister).or(unless(
+                is_width(width),
+                Refusal::NotAWidth,
+            ))
         }
         FromNumber { r, width, value } | FromNumberCut { r, width, value } => {
-            unless(is_set_register(r), Refusal::NoRegister)
-                .or(unless(fits(width, value), Refusal::NotAWidth))
+            unless(is_set_register(r), Refusal::NoRegister).or(unless(
+                fits(width, value),
+                Refusal::NotAWidth,
+            ))
         }
-        Iter { i, r } => unless(is_iterator_register(i) && is_set_register(r), Refusal::NoRegister),
-        Next { i } | NextBack { i } | Left { i } => unless(is_iterator_register(i), Refusal::NoRegister),
+        Iter { i, r } => unless(
+            is_iterator_register(i) && is_set_register(r),
+            Refusal::NoRegister,
+        ),
+        Next { i } | NextBack { i } | Left { i } => unless(
+            is_iterator_register(i),
+            Refusal::NoRegister,
+        ),
     }
 }
 
 /// This refusal, unless there is no reason for it.
-fn unless(holds: bool, refusal: Refusal) -> Option<Refusal>
+pub(super) fn unless(holds: bool, refusal: Refusal) -> Option<Refusal>
     ensures { result ≡ (if holds then None else Some refusal) }
 {
     (!holds).then_some(refusal)

@@ -9,7 +9,6 @@ use enumset_kinds::kinds::serve_worked;
 use enumset_kinds::worked::Worked;
 use enumset_machine::{Machine, MixedMachine, run, run_mixed};
 use enumset_worked::{Letters, Marks};
-use std::alloc::AllocError;
 use std::test::Fail;
 
 // Whether a reply is these words.
@@ -20,18 +19,25 @@ fn is_words(reply: &Reply, wanted: &[u64]) -> bool {
     }
 }
 
+// What a call gives, made again if it is refused, and how it ended.
+macro_rules! made_again {
+    ($rt:ident, $call:expr) => {
+        match $call {
+            Ok(given) => (given, Ok(())),
+            Err(refused) => {
+                let again = $call;
+                (again.expect(&$rt, "refused once more"), Err(refused))
+            }
+        }
+    };
+}
+
 #[test]
 fn a_step_leaves_its_machine(rt: HostRuntime) -> Result<(), Fail> {
     let mut machine = Machine::<Letters>::new();
     machine.step(rt.alloc(), &Command::Insert { r: 0, bit: 2 })?;
     let words = Command::Words { r: 0, count: 2 };
-    let (reply, ended) = match machine.step(rt.alloc(), &words) {
-        Ok(reply) => (reply, Ok(())),
-        Err(refused) => {
-            let again = machine.step(rt.alloc(), &words);
-            (again.expect(&rt, "refused once more"), Err(refused))
-        }
-    };
+    let (reply, ended) = made_again!(rt, machine.step(rt.alloc(), &words));
     assert!(rt; is_words(&reply, [4, 0].as_slice()));
     Ok(ended?)
 }
@@ -41,13 +47,7 @@ fn a_mixed_step_leaves_its_machine(rt: HostRuntime) -> Result<(), Fail> {
     let mut machine = MixedMachine::<Marks>::new();
     machine.step(rt.alloc(), &MixedCommand::InsertBit { r: 0, bit: 7 })?;
     let words = MixedCommand::Common(Command::Words { r: 0, count: 2 });
-    let (reply, ended) = match machine.step(rt.alloc(), &words) {
-        Ok(reply) => (reply, Ok(())),
-        Err(refused) => {
-            let again = machine.step(rt.alloc(), &words);
-            (again.expect(&rt, "refused once more"), Err(refused))
-        }
-    };
+    let (reply, ended) = made_again!(rt, machine.step(rt.alloc(), &words));
     assert!(rt; is_words(&reply, [128, 0].as_slice()));
     Ok(ended?)
 }
@@ -58,13 +58,7 @@ fn runs(rt: HostRuntime) -> Result<(), Fail> {
         Command::Insert { r: 0, bit: 2 },
         Command::WordsCut { r: 0, count: 1 },
     ];
-    let (replies, ended) = match run::<Letters>(rt.alloc(), &commands) {
-        Ok(replies) => (replies, Ok(())),
-        Err(refused) => {
-            let again = run::<Letters>(rt.alloc(), &commands);
-            (again.expect(&rt, "refused once more"), Err(refused))
-        }
-    };
+    let (replies, ended) = made_again!(rt, run::<Letters>(rt.alloc(), &commands));
     assert!(rt; replies.len() == 2 && is_words(&replies[1], [4].as_slice()));
     Ok(ended?)
 }
@@ -75,33 +69,17 @@ fn mixed_runs(rt: HostRuntime) -> Result<(), Fail> {
         MixedCommand::InsertBit { r: 0, bit: 7 },
         MixedCommand::Common(Command::WordsCut { r: 0, count: 1 }),
     ];
-    let (replies, ended) = match run_mixed::<Marks>(rt.alloc(), &commands) {
-        Ok(replies) => (replies, Ok(())),
-        Err(refused) => {
-            let again = run_mixed::<Marks>(rt.alloc(), &commands);
-            (again.expect(&rt, "refused once more"), Err(refused))
-        }
-    };
+    let (replies, ended) = made_again!(rt, run_mixed::<Marks>(rt.alloc(), &commands));
     assert!(rt; replies.len() == 2 && is_words(&replies[1], [128].as_slice()));
     Ok(ended?)
 }
 
-const INPUT: &[u8] = b"from_words 0 5\nwords 0 2\n";
-
-const OUTPUT: &[u8] = b"ok\nwords 5 0\n";
-
 #[test]
 fn texts(rt: HostRuntime) -> Result<(), Fail> {
     for kind in [Worked::Letters, Worked::MixedMarks] {
-        let (text, ended) = match serve_worked(rt.alloc(), kind, INPUT) {
-            Ok(text) => (text, Ok(())),
-            Err(fault) => {
-                assert!(rt; fault == TextFault::OutOfMemory);
-                let again = serve_worked(rt.alloc(), kind, INPUT);
-                (again.expect(&rt, "refused once more"), Err(AllocError))
-            }
-        };
-        assert!(rt; text.as_slice() == OUTPUT);
+        let input = b"from_words 0 5\nwords 0 2\n".as_slice();
+        let (text, ended) = made_again!(rt, serve_worked(rt.alloc(), kind, input));
+        assert!(rt; text.as_slice() == b"ok\nwords 5 0\n");
         ended?;
     }
     Ok(())
