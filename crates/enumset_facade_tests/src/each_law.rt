@@ -3,7 +3,7 @@
 use enumset::set::MixedEnumSet;
 use enumset::set_json::{JsonWidth, Unknown};
 use enumset::{EnumSet, laws};
-use enumset_test_types::{LaterLetters, Letters};
+use enumset_test_types::{Letters, Numbered};
 use enumset_worked::Marks;
 
 #[test]
@@ -24,11 +24,10 @@ fn of_sets_and_elements(_rt: HostRuntime) {
 #[test]
 fn of_json(_rt: HostRuntime) {
     let letters = EnumSet::<Letters>::all();
-    let later = EnumSet::<LaterLetters>::all();
     laws::name_and_back(Letters::A, "A");
     laws::json_map_and_back(&letters, Unknown::Refuse);
     laws::json_mixed_words_and_back(&MixedEnumSet::<Letters>::from_repr(0x81), Unknown::Refuse);
-    laws::older_reader::<Letters, LaterLetters>(&later, JsonWidth::U64, Unknown::Drop);
-    laws::carried_along::<Letters, LaterLetters>(&later, Unknown::Drop, Unknown::Refuse);
-    laws::carried_along_in_number::<Letters, LaterLetters>(&later, JsonWidth::U64, Unknown::Drop);
+    laws::older_reader::<Numbered, Letters>(&letters, JsonWidth::U64, Unknown::Drop);
+    laws::carried_along::<Numbered, Letters>(&letters, Unknown::Drop, Unknown::Refuse);
+    laws::carried_along_in_number::<Numbered, Letters>(&letters, JsonWidth::U64, Unknown::Drop);
 }

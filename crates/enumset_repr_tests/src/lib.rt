@@ -1,5 +1,5 @@
 //! Tests of `enumset_repr` and `enumset_array`: each call of each representation, calls with their replies written out,
-//! traversals, texts and sizes.
+//! a long traversal, texts and sizes.
 //!
 //! They test what no contract says: that calls succeed, that the definitions say what they should, `{:?}` texts and
 //! sizes. They are in a crate of their own so that `enumset_repr` and `enumset_array` are proved once.

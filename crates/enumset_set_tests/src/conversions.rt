@@ -60,24 +60,24 @@ fn words_of_sparse(rt: HostRuntime) {
     expect(&rt, "copy_into_slice", copied, words);
 }
 
-// Makes a set of its words, by each call of arrays, and by those of slices that have a requirement.
-fn expect_made_of_words<T: EnumSetType>(rt: &impl Abort, words: [u64; 4], set: &EnumSet<T>) {
+// Makes the set of all of its words, by each call of arrays, and by those of slices that have a requirement.
+fn expect_made_of_words<T: EnumSetType>(rt: &impl Abort, words: [u64; 4]) {
+    let all = EnumSet::<T>::all();
     assert!(rt; EnumSet::<T>::try_from_array(words).is_some());
     assert!(rt; EnumSet::<T>::try_from_slice(&words).is_some());
     let same = [
-        EnumSet::from_array_truncated(words).eq(set),
-        EnumSet::from_array(words).eq(set),
-        EnumSet::from_array_unchecked(words).eq(set),
-        EnumSet::from_slice(&words).eq(set),
-        EnumSet::from_slice_unchecked(&words).eq(set),
+        EnumSet::from_array_truncated(words).eq(&all),
+        EnumSet::from_array(words).eq(&all),
+        EnumSet::from_array_unchecked(words).eq(&all),
+        EnumSet::from_slice(&words).eq(&all),
+        EnumSet::from_slice_unchecked(&words).eq(&all),
     ];
     expect(rt, "from_array and its like", same, [true; 5]);
+    let tried = EnumSet::<T>::try_from_array([u64::MAX; 3]).is_none();
+    expect(rt, "try_from_array", tried, true);
 }
 
 #[test]
 fn sets_of_words(rt: HostRuntime) {
-    let all = EnumSet::<Wide>::all();
-    expect_made_of_words(&rt, [8, 1, 4, 0], &all);
-    let tried = EnumSet::<Wide>::try_from_array([9, 1, 4]);
-    expect(&rt, "try_from_array", tried, None);
+    expect_made_of_words::<Wide>(&rt, [8, 1, 4, 0]);
 }

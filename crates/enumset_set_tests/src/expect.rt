@@ -1,5 +1,5 @@
-//! A reply beside the one that is wanted. All tests of this crate go through these assertions, as each assertion of its
-//! own takes long to prove.
+//! A reply beside the one that is wanted. Tests compare replies by these functions, since each `assert_eq!` of their own
+//! would take seconds to prove.
 
 use std::fmt::Debug;
 use std::process::Abort;

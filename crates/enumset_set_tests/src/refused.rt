@@ -5,12 +5,12 @@
 
 use crate::expect::expect;
 use enumset_sets::EnumSet;
-use enumset_worked::Wide;
+use enumset_worked::Sparse;
 use std::test::Fail;
 
 #[test]
 fn vectors_of_words(rt: HostRuntime) -> Result<(), Fail> {
-    let set = EnumSet::<Wide>::all();
+    let set = EnumSet::<Sparse>::all();
     let (words, ended) = match set.to_vec(rt.alloc()) {
         Ok(words) => (words, Ok(())),
         Err(refused) => {
@@ -18,6 +18,11 @@ fn vectors_of_words(rt: HostRuntime) -> Result<(), Fail> {
             (again, Err(refused))
         }
     };
-    expect(&rt, "to_vec", words.as_slice(), &[8, 1, 4]);
+    expect(
+        &rt,
+        "to_vec",
+        words.as_slice(),
+        &[1074791424, 9223372036854775808],
+    );
     Ok(ended?)
 }

@@ -12,16 +12,12 @@ pub enum Four {
 }
 
 impl EnumSetType for Four {
-    ghost use Rattle.std.specs.Prelude.{◌∷◌, []};
     ghost use Rattle.enumset_sets.specs.Laws.Elements.{in_place, lawful_in_integer, lawful_in_place};
     ghost use Rattle.enumset_worked.specs.contracts.four.Four.{the_type};
-    ghost use Rattle.enumset_worked.specs.declared.four.Four.TheVariants as variant;
 
     type Repr = u8;
 
     ghost elements = { in_place the_type };
-
-    ghost values = { variant.A ∷ variant.B ∷ variant.C ∷ variant.D ∷ [] };
 
     ghost ALL_BITS = { 15 };
 

@@ -14,13 +14,10 @@ impl EnumSetType for High {
     ghost use Rattle.std.specs.Prelude.{◌∷◌, []};
     ghost use Rattle.enumset_sets.specs.Laws.Elements.{with_bits, lawful_in_integer};
     ghost use Rattle.enumset_worked.specs.contracts.high.High.{the_type};
-    ghost use Rattle.enumset_worked.specs.declared.high.High.TheVariants as variant;
 
     type Repr = u8;
 
     ghost elements = { with_bits the_type (7 ∷ 6 ∷ 5 ∷ []) };
-
-    ghost values = { variant.A ∷ variant.B ∷ variant.C ∷ [] };
 
     ghost ALL_BITS = { 224 };
 

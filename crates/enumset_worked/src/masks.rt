@@ -14,13 +14,10 @@ impl EnumSetType for Masks {
     ghost use Rattle.std.specs.Prelude.{◌∷◌, []};
     ghost use Rattle.enumset_sets.specs.Laws.Elements.{with_bits, lawful_in_integer};
     ghost use Rattle.enumset_worked.specs.contracts.masks.Masks.{the_type};
-    ghost use Rattle.enumset_worked.specs.declared.masks.Masks.TheVariants as variant;
 
     type Repr = u8;
 
     ghost elements = { with_bits the_type (0 ∷ 4 ∷ 6 ∷ []) };
-
-    ghost values = { variant.P ∷ variant.Q ∷ variant.R ∷ [] };
 
     ghost ALL_BITS = { 81 };
 

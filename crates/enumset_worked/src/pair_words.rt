@@ -14,13 +14,10 @@ impl EnumSetType for PairWords {
     ghost use Rattle.std.specs.Prelude.{◌∷◌, []};
     ghost use Rattle.enumset_sets.specs.Laws.Elements.{with_bits, lawful_in_words};
     ghost use Rattle.enumset_worked.specs.contracts.pair_words.PairWords.{the_type};
-    ghost use Rattle.enumset_worked.specs.declared.pair_words.PairWords.TheVariants as variant;
 
     type Repr = ArrayRepr<2>;
 
     ghost elements = { with_bits the_type (0 ∷ 64 ∷ []) };
-
-    ghost values = { variant.A ∷ variant.B ∷ [] };
 
     ghost ALL_BITS = { 1 ∷ 1 ∷ [] };
 

@@ -9,16 +9,12 @@ pub enum Single {
 }
 
 impl EnumSetType for Single {
-    ghost use Rattle.std.specs.Prelude.{◌∷◌, []};
     ghost use Rattle.enumset_sets.specs.Laws.Elements.{in_place, lawful_in_integer, lawful_in_place};
     ghost use Rattle.enumset_worked.specs.contracts.single.Single.{the_type};
-    ghost use Rattle.enumset_worked.specs.declared.single.Single.TheVariants as variant;
 
     type Repr = u8;
 
     ghost elements = { in_place the_type };
-
-    ghost values = { variant.A ∷ [] };
 
     ghost ALL_BITS = { 1 };
 

@@ -11,8 +11,6 @@ mod requests;
 mod rights;
 mod sending;
 mod sharing;
-#[cfg(test)]
-mod tests;
 
 use enumset::{EnumSet, enum_set};
 use missing::missing;
