@@ -119,9 +119,12 @@ impl<'a> Reader<'a, '_> {
                 Some(map) => options.map = Some((map, token.place)),
                 None => return Err(token.fault(MAPS)),
             },
-            "repr" => match representation_named(value) {
-                None => return Err(token.fault(REPRESENTATIONS)),
-                representation => options.representation = representation,
+            "repr" => match form_named(value) {
+                Some(Serialized::Words) => options.representation = Some(Representation::Words),
+                Some(Serialized::Integer(integer)) => {
+                    options.representation = Some(Representation::Integer(integer));
+                }
+                _ => return Err(token.fault(REPRESENTATIONS)),
             },
             "serialize_repr" => match form_named(value) {
                 None => return Err(token.fault(FORMS)),
@@ -140,13 +143,6 @@ fn map_named(value: &str) -> Option<Map> {
         "mask" => Some(Map::Mask),
         "compact" => Some(Map::Compact),
         _ => None,
-    }
-}
-
-fn representation_named(value: &str) -> Option<Representation> {
-    match value {
-        "array" => Some(Representation::Words),
-        _ => integer_named(value).map(Representation::Integer),
     }
 }
 

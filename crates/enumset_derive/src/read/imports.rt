@@ -24,7 +24,8 @@ impl<'a> Reader<'a, '_> {
         if self.token.is_end() {
             return Ok(());
         }
-        let tokens = self.passed(rest);
+        let passed = rest.len().saturating_sub(self.rest.len());
+        let tokens = rest.get(..passed).unwrap_or(&[]);
         push_names(self.alloc, &mut self.source.imports, tokens)?;
         self.advance()?;
         self.source.pass_on(begin, self.token.begin)?;

@@ -50,7 +50,7 @@ pub(super) struct Reader<'a, 'b> {
     pub source: Source<'a>,
 }
 
-impl<'a, 'b> Reader<'a, 'b> {
+impl<'a> Reader<'a, '_> {
     /// Goes on to the next token, if there is one. It fails before a token from which on nothing can be read.
     pub fn advance(&mut self) -> Result<(), DeriveError> {
         let [next, rest @ ..] = self.rest else {
@@ -82,12 +82,6 @@ impl<'a, 'b> Reader<'a, 'b> {
     pub fn advance_past_blanks(&mut self) -> Result<(), DeriveError> {
         self.advance()?;
         self.skip_to(Stop::NoBlank)
-    }
-
-    /// The tokens of this list, which the reader was before, up to its own.
-    pub fn passed(&self, rest: &'b [Token<'a>]) -> &'b [Token<'a>] {
-        rest.get(..rest.len().saturating_sub(self.rest.len()))
-            .unwrap_or(&[])
     }
 
     /// What stands in the text from a token on, up to the reader's and with it.

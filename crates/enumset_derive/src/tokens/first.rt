@@ -40,16 +40,16 @@ fn block_comment(text: &str) -> (Kind, &str) {
     let mut depth = 0usize;
     let mut last = ' ';
     for (at, character) in text.char_indices() {
-        match (last, character) {
-            ('/', '*') => depth = depth.saturating_add(1),
-            ('*', '/') => depth = depth.saturating_sub(1),
-            _ => {
-                last = character;
-                continue;
-            }
+        if last == '/' && character == '*' {
+            depth = depth.saturating_add(1);
+            last = ' ';
+        } else if last == '*' && character == '/' {
+            depth = depth.saturating_sub(1);
+            last = ' ';
+        } else {
+            last = character;
         }
-        last = ' ';
-        if depth == 0 {
+        if depth == 0 && last == ' ' {
             return (comment_kind(text), after(text, at));
         }
     }
