@@ -124,8 +124,9 @@ fold_none : (x : ℕ) (ws : List ℕ) → (fold_l bit_or x ws == 0) ≡ ((x == 0
 fold_none x [] = sym (and-true (x == 0))
 fold_none x (w ∷ ws) = fold_none (bit_or x w) ws ∙ ap (λ t. t && none_in ws) (or_none x w) ∙ and_assoc (x == 0) (w == 0) (none_in ws)
 
-pub lanes_none : (ws : List ℕ) → (fold_l bit_or 0 ws == 0) ≡ none_in ws
-lanes_none ws = fold_none 0 ws
+-- lanes that stand for the first i words
+pub lanes_ended : (ws lanes : List ℕ) (i j : ℕ) → none_in lanes ≡ none_in (take i ws) → i ≡ j → (fold_l bit_or 0 lanes == 0) ≡ none_in (take j ws)
+lanes_ended ws lanes i j before same = fold_none 0 lanes ∙ before ∙ ap (λ k. none_in (take k ws)) same
 
 zip_none : (a b : List ℕ) → length a ≡ length b → none_in (zip2 bit_or a b) ≡ (none_in a && none_in b)
 zip_none [] [] e = refl

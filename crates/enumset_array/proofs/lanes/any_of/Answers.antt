@@ -1,10 +1,10 @@
-use Rattle.std.proofs.Common.{◌≡◌, ◌<◌, ◌+◌, ◌*◌, ◌/◌, List, [], ℕ, length, take, sym, ap, ◌∙◌, arith}
+use Rattle.std.proofs.Common.{◌≡◌, ◌<◌, ◌+◌, ◌*◌, ◌/◌, List, [], ℕ, length, sym, ap, ◌∙◌, arith}
 use Rattle.std.proofs.lemmas.List.{take_all, get_or-drop, length_push}
 use Rattle.std.proofs.lemmas.Simd.{length-zip2, get_or-zip2}
 use Rattle.std.proofs.lemmas.Slice.Zip.{zip_turn, zip_end}
 use Rattle.std.specs.Prelude.{slice_index}
 use Rattle.std.specs.Simd.Lanes.{zip2}
-use Rattle.enumset_array.proofs.WordLanes.{none_in, chunk_here, chunk-zip2, lanes_none, joined_none, one_none}
+use Rattle.enumset_array.proofs.WordLanes.{none_in, chunk_here, chunk-zip2, lanes_ended, joined_none, one_none}
 use Rattle.enumset_array.proofs.lanes.any_of.Goals as goal
 
 pub loop-chunk-preserved : goal.loop-chunk-preserved
@@ -23,7 +23,7 @@ pub loop-word-init : goal.loop-word-init
 loop-word-init g c =
     let ended = zip_end c.as_chunks.result.0.now c.as_chunks-2.result.0.now c.loop-chunk.yielded c.into_iter-chunk-iterator.result c.loop-chunk.chunk-iterator c.next.new.self c.next.result (cc) (cc) c.loop-chunk.yielded_by c.in-None.is c.next.ensures.steps in
     let done : 4 * length c.loop-chunk.yielded ≡ length c.args.words.now / 4 * 4 + 0 = omega (arith, ended, c.as_chunks.ensures.front_len, c.as_chunks-2.ensures.front_len, c.requires) in
-    lanes_none c.loop-chunk.lanes ∙ c.loop-chunk.invariant ∙ ap (λ k. none_in (take k (zip2 g.O.WordOperation.of_two c.args.words.now c.args.others.now))) done
+    lanes_ended (zip2 g.O.WordOperation.of_two c.args.words.now c.args.others.now) c.loop-chunk.lanes _ _ c.loop-chunk.invariant done
 
 pub loop-word-preserved : goal.loop-word-preserved
 loop-word-preserved g c =

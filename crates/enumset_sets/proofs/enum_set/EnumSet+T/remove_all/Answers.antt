@@ -1,5 +1,3 @@
-use Rattle.std.proofs.Common.{◌∙◌}
-use Rattle.enumset_repr.specs.BitSet.{difference}
 use Rattle.enumset_repr.specs.Laws.Members.{difference-is_subset}
 use Rattle.enumset_sets.proofs.enum_set.EnumSet+T.remove_all.Goals as goal
 
@@ -9,6 +7,3 @@ invariant_of-self g c = record {
   is_value = c.and_not_with.ensures.value;
   inverse = g.met.T.Repr.EnumSetTypeRepr.represents.inverse _ c.and_not_with.ensures.value;
 }
-
-pub returns : goal.returns
-returns g c = c.and_not_with.ensures.members ∙ (λ i. difference (c.self.view_is i) (c.other.view_is i))

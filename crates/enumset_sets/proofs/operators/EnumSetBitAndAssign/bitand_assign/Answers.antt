@@ -1,5 +1,3 @@
-use Rattle.std.proofs.Common.{◌∙◌}
-use Rattle.enumset_repr.specs.BitSet.{intersection}
 use Rattle.enumset_repr.specs.Laws.Members.{intersection-is_subset}
 use Rattle.enumset_sets.proofs.operators.EnumSetBitAndAssign.bitand_assign.Goals as goal
 
@@ -9,6 +7,3 @@ invariant_of-self g c = record {
   is_value = c.and_with.ensures.value;
   inverse = g.met.T.Repr.EnumSetTypeRepr.represents.inverse _ c.and_with.ensures.value;
 }
-
-pub returns : goal.returns
-returns g c = record { after = c.and_with.ensures.members ∙ (λ i. intersection (c.self.view_is i) (c.rhs.view_is i)) }

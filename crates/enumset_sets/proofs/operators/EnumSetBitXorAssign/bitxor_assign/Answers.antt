@@ -1,5 +1,3 @@
-use Rattle.std.proofs.Common.{◌∙◌}
-use Rattle.enumset_repr.specs.BitSet.{symmetric_difference}
 use Rattle.enumset_repr.specs.Laws.Members.{symmetric_difference-is_subset}
 use Rattle.enumset_sets.proofs.operators.EnumSetBitXorAssign.bitxor_assign.Goals as goal
 
@@ -9,6 +7,3 @@ invariant_of-self g c = record {
   is_value = c.xor_with.ensures.value;
   inverse = g.met.T.Repr.EnumSetTypeRepr.represents.inverse _ c.xor_with.ensures.value;
 }
-
-pub returns : goal.returns
-returns g c = record { after = c.xor_with.ensures.members ∙ (λ i. symmetric_difference (c.self.view_is i) (c.rhs.view_is i)) }
