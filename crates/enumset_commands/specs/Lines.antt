@@ -30,8 +30,7 @@ without_words name fields =
 -- the command that the tokens of a line write: its name says what the others are
 abbrev pub command_of : List (List ℕ) → Option Command
 command_of [] = None
-command_of (name ∷ fields) =
-    option_or (without_words name fields) (written word_verbs name fields)
+command_of (name ∷ fields) = option_or (without_words name fields) (written word_verbs name fields)
 
 -- one of mixed sets alone, or one of every run
 abbrev pub mixed_command_of : List (List ℕ) → Option MixedCommand

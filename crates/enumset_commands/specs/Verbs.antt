@@ -24,7 +24,6 @@ of_three command first second third fields = option_map (λ p. command p.0 p.1 p
 abbrev pub of_words : (ℕ → List ℕ → Command) → List (List ℕ) → Option Command
 of_words command fields = option_map (λ p. command p.0 p.1) (register_and_words fields)
 
--- these reply `ok`
 abbrev pub assignments : List (List ℕ × (List (List ℕ) → Option Command))
 assignments =
     (codes "new", of_one New register)
@@ -42,7 +41,6 @@ assignments =
     ∷ (codes "iter", of_two Iter register register)
     ∷ []
 
--- these change nothing
 abbrev pub queries : List (List ℕ × (List (List ℕ) → Option Command))
 queries =
     (codes "contains", of_two Contains register bit)
@@ -60,7 +58,6 @@ queries =
     ∷ (codes "left", of_one Left register)
     ∷ []
 
--- these change a register, or may, and tell something
 abbrev pub changes : List (List ℕ × (List (List ℕ) → Option Command))
 changes =
     (codes "insert", of_two Insert register bit)
@@ -70,14 +67,12 @@ changes =
     ∷ (codes "next_back", of_one NextBack register)
     ∷ []
 
--- these take words
 abbrev pub word_verbs : List (List ℕ × (List (List ℕ) → Option Command))
 word_verbs =
     (codes "from_words", of_words FromWords)
     ∷ (codes "from_words_cut", of_words FromWordsCut)
     ∷ []
 
--- these are of mixed sets alone
 abbrev pub own_verbs : List (List ℕ × (List (List ℕ) → Option MixedCommand))
 own_verbs =
     (codes "has_bit", of_two HasBit register bit)

@@ -126,10 +126,10 @@ impl<T: EnumSetType> RunSet for EnumSet<T> {
 
     fn number(&self, width: u32) -> Option<u128> {
         match width {
-            8 => Some(u128::from(EnumSet::<T>::try_as_u8(self)?)),
-            16 => Some(u128::from(EnumSet::<T>::try_as_u16(self)?)),
-            32 => Some(u128::from(EnumSet::<T>::try_as_u32(self)?)),
-            64 => Some(u128::from(EnumSet::<T>::try_as_u64(self)?)),
+            8 => EnumSet::<T>::try_as_u8(self).map(u128::from),
+            16 => EnumSet::<T>::try_as_u16(self).map(u128::from),
+            32 => EnumSet::<T>::try_as_u32(self).map(u128::from),
+            64 => EnumSet::<T>::try_as_u64(self).map(u128::from),
             _ => EnumSet::<T>::try_as_u128(self),
         }
     }

@@ -12,7 +12,8 @@ use super::registers::{are_set_registers, is_set_register};
 use super::run::Run;
 use super::runner::{Runner, change, put, refusal, unless};
 use enumset_commands::MixedCommand::{self, *};
-use enumset_commands::{Refusal, Reply};
+use enumset_commands::Refusal::{self, NoRegister, NotABit};
+use enumset_commands::Reply;
 use enumset_mixed::{MixedEnumSet, convert_mixed};
 use enumset_repr::EnumSetTypeRepr;
 use enumset_sets::{EnumSetType, EnumSetTypeWithRepr};
@@ -44,14 +45,13 @@ fn mixed_refusal<T: EnumSetTypeWithRepr>(command: &MixedCommand) -> Option<Refus
     match *command {
         Common(ref command) => refusal::<MixedEnumSet<T>>(command),
         HasBit { r, .. } | RemoveBit { r, .. } | ValidLen { r } | Unknown { r } => {
-            unless(is_set_register(r), Refusal::NoRegister)
+            unless(is_set_register(r), NoRegister)
         }
-        InsertBit { r, bit } => unless(is_set_register(r), Refusal::NoRegister).or(unless(
-            is_bit_allowed::<T>(bit),
-            Refusal::NotABit,
-        )),
+        InsertBit { r, bit } => {
+            unless(is_set_register(r), NoRegister).or(unless(is_bit_allowed::<T>(bit), NotABit))
+        }
         FullComplement { to, a } | AsEnumset { to, a } | Truncate { to, a } => {
-            unless(are_set_registers(to, a), Refusal::NoRegister)
+            unless(are_set_registers(to, a), NoRegister)
         }
     }
 }

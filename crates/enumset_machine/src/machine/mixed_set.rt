@@ -125,10 +125,10 @@ impl<T: EnumSetTypeWithRepr> RunSet for MixedEnumSet<T> {
     fn number(&self, width: u32) -> Option<u128> {
         let repr = self.as_repr();
         match width {
-            8 => Some(u128::from(repr.try_to_u8()?)),
-            16 => Some(u128::from(repr.try_to_u16()?)),
-            32 => Some(u128::from(repr.try_to_u32()?)),
-            64 => Some(u128::from(repr.try_to_u64()?)),
+            8 => repr.try_to_u8().map(u128::from),
+            16 => repr.try_to_u16().map(u128::from),
+            32 => repr.try_to_u32().map(u128::from),
+            64 => repr.try_to_u64().map(u128::from),
             _ => repr.try_to_u128(),
         }
     }

@@ -12,7 +12,8 @@ use super::numbers::{number_of, words_cut_of, words_of};
 use super::registers::{Registers, are_set_registers, is_set_register};
 use super::run_set::RunSet;
 use enumset_commands::Command::{self, *};
-use enumset_commands::{Refusal, Reply};
+use enumset_commands::Refusal::{self, NoRegister, NotABit, NotAWidth};
+use enumset_commands::Reply;
 use std::alloc::{AllocError, Global};
 use std::marker::Model;
 
@@ -190,7 +191,7 @@ pub(super) fn refusal<S: RunSet>(command: &Command) -> Option<Refusal>
         | Words { r, .. }
         | WordsCut { r, .. }
         | FromWords { r, .. }
-        | FromWordsCut { r, .. } => unless(is_set_register(r), Refusal::NoRegister),
+        | FromWordsCut { r, .. } => unless(is_set_register(r), NoRegister),
         Complement { to: a, a: b }
         | InsertAll { r: a, a: b }
         | RemoveAll { r: a, a: b }
@@ -198,40 +199,22 @@ pub(super) fn refusal<S: RunSet>(command: &Command) -> Option<Refusal>
         | Superset { a, b }
         | Subset { a, b }
         | Equal { a, b }
-        | Compare { a, b } => unless(are_set_registers(a, b), Refusal::NoRegister),
+        | Compare { a, b } => unless(are_set_registers(a, b), NoRegister),
         SymmetricDifference { to, a, b }
         | Intersection { to, a, b }
         | Difference { to, a, b }
-        | Union { to, a, b } => unless(
-            is_set_register(to) && are_set_registers(a, b),
-            Refusal::NoRegister,
-        ),
+        | Union { to, a, b } => unless(is_set_register(to) && are_set_registers(a, b), NoRegister),
         Only { r, bit } | Insert { r, bit } | Remove { r, bit } | Contains { r, bit } => {
-            unless(is_set_register(r), Refusal::NoRegister).or(unless(
-                S::is_bit_valid(bit),
-                Refusal::NotABit,
-            ))
+            unless(is_set_register(r), NoRegister).or(unless(S::is_bit_valid(bit), NotABit))
         }
         Number { r, width } | NumberCut { r, width } => {
-            unless(is_set_register(r), Refusal::NoRegister).or(unless(
-                is_width(width),
-                Refusal::NotAWidth,
-            ))
+            unless(is_set_register(r), NoRegister).or(unless(is_width(width), NotAWidth))
         }
         FromNumber { r, width, value } | FromNumberCut { r, width, value } => {
-            unless(is_set_register(r), Refusal::NoRegister).or(unless(
-                fits(width, value),
-                Refusal::NotAWidth,
-            ))
+            unless(is_set_register(r), NoRegister).or(unless(fits(width, value), NotAWidth))
         }
-        Iter { i, r } => unless(
-            is_iterator_register(i) && is_set_register(r),
-            Refusal::NoRegister,
-        ),
-        Next { i } | NextBack { i } | Left { i } => unless(
-            is_iterator_register(i),
-            Refusal::NoRegister,
-        ),
+        Iter { i, r } => unless(is_iterator_register(i) && is_set_register(r), NoRegister),
+        Next { i } | NextBack { i } | Left { i } => unless(is_iterator_register(i), NoRegister),
     }
 }
 

@@ -79,7 +79,7 @@ fn texts(rt: HostRuntime) -> Result<(), Fail> {
     for kind in [Worked::Letters, Worked::MixedMarks] {
         let input = b"from_words 0 5\nwords 0 2\n".as_slice();
         let (text, ended) = made_again!(rt, serve_worked(rt.alloc(), kind, input));
-        assert!(rt; text.as_slice() == b"ok\nwords 5 0\n");
+        assert!(rt; text.as_slice() == b"ok\nwords 5 0\n".as_slice());
         ended?;
     }
     Ok(())
