@@ -1,17 +1,11 @@
-//! Faults of JSON: their texts, and the line of one. What strings are read as is in `scripts/json-rows.txt`.
+//! The texts of faults of JSON. What strings are read as is in `scripts/json-rows.txt`.
 
 use crate::expect::expect;
 use enumset::set_json::{JsonFault, Unknown, from_list_text};
 use enumset_test_types::Letters;
 use std::test::Fail;
 
-// A text of two lines has its fault on the second.
-#[test]
-fn the_line_of_a_fault(rt: HostRuntime) {
-    let read = from_list_text::<Letters>(rt.alloc(), "[\"A\",\n\"B\",]", Unknown::Drop);
-    expect(&rt, "two lines", read, Err(JsonFault::NotJson(2)));
-}
-
+// The last is that of a text of two lines, on the second.
 #[test]
 fn faults_have_their_texts(rt: HostRuntime) -> Result<(), Fail> {
     let faults = [
@@ -33,6 +27,10 @@ fn faults_have_their_texts(rt: HostRuntime) -> Result<(), Fail> {
     for fault in &faults {
         writeln!(text, "{fault}")?;
     }
+    let read = from_list_text::<Letters>(rt.alloc(), "[\"A\",\n\"B\",]", Unknown::Drop);
+    if let Err(fault) = read {
+        writeln!(text, "{fault}")?;
+    }
     expect(&rt, "faults", text.as_str(), FAULTS);
     Ok(())
 }
@@ -51,4 +49,5 @@ unknown bits
 name 3: unknown
 line 4: not JSON
 out of memory
+line 2: not JSON
 ";
