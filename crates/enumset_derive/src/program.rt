@@ -26,12 +26,12 @@ pub fn answer<R: Env + Files + Input + Print + Eprint + AllocGlobal>(
     write_module(rt, module.as_str(), file)
 }
 
-/// Says on standard error what is left out, and that there is no element type.
+/// Says on standard error what is left out, and that a text has no element type.
 fn report<R: Eprint>(rt: &R, source: &Source) {
     for (place, text) in &source.left_out {
         let _ = eprintln!(rt; "{place}: left out: {text} has no meaning here");
     }
-    if !source.has_enums {
+    if !source.has_enums && !source.text.is_empty() {
         let _ = eprintln!(rt; "no enum derives EnumSetType");
     }
 }

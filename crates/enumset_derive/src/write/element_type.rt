@@ -82,9 +82,9 @@ fn define_bits(writer: &mut Writer, elements: Elements, item: &EnumDeclaration, 
     let is_cast = are_cast(item, plan);
     let in_place = is_cast && are_places(plan);
     let is_short = in_place && !has_values && matches!(plan.store, Store::Integer(_, _));
-    writer.set_list("VALUE_LIST", 79, "variant.@NAME@ ∷", elements);
+    writer.set_list("VALUE_LIST", 79, "variant.@ITEM@ ∷", elements);
     writer.set_list("ELEMENT_BITS", 59, "@BIT@ ∷", elements);
-    writer.set_lines("ARMS", "            Self::@NAME@ => @BIT@,", elements);
+    writer.set_lines("ARMS", "            Self::@ITEM@ => @BIT@,", elements);
     let bit_of_value = match (is_cast, elements.is_empty()) {
         (false, _) => "        match self {\n@ARMS@        }\n",
         (true, true) => "        match self {}\n",
@@ -101,10 +101,10 @@ fn define_bits(writer: &mut Writer, elements: Elements, item: &EnumDeclaration, 
 fn define_value_of_bit(writer: &mut Writer, elements: Elements, plan: &Plan) {
     if is_in_table(plan) {
         writer.import("variant_of");
-        writer.set_lines("WORDS", "@BIT@ @NAME@", elements);
+        writer.set_lines("WORDS", "@BIT@ @ITEM@", elements);
         define_call(writer, "variant_of!(", "val, ");
     } else {
-        writer.set_lines("ARMS", "            @BIT@ => Self::@NAME@,", elements);
+        writer.set_lines("ARMS", "            @BIT@ => Self::@ITEM@,", elements);
         let is_long = elements.len() > 32;
         let last_arm = if is_long {
             LAST_OF_MANY
@@ -133,18 +133,18 @@ fn define_call(writer: &mut Writer, macro_name: &'static str, first: &str) {
 fn write_names(writer: &mut Writer, elements: Elements) {
     writer.import("EnumSetNames");
     writer.import("names_of");
-    writer.set_list("NAMES", 80, "codes \"@NAME@\" ∷", elements);
-    writer.set_lines("WORDS", "@NAME@", elements);
+    writer.set_list("NAMES", 80, "codes \"@ITEM@\" ∷", elements);
+    writer.set_lines("WORDS", "@ITEM@", elements);
     define_call(writer, "names_of!(", "");
     writer.write(NAMES);
 }
 
 /// Writes the `Display` by the names of the variants.
 fn write_display(writer: &mut Writer, elements: Elements) {
-    writer.set_list("SHOWN_NAMES", 90, "codes \"@NAME@\" ∷", elements);
+    writer.set_list("SHOWN_NAMES", 90, "codes \"@ITEM@\" ∷", elements);
     writer.set_lines(
         "ARMS",
-        "            Self::@NAME@ => f.write_str(\"@NAME@\"),",
+        "            Self::@ITEM@ => f.write_str(\"@ITEM@\"),",
         elements,
     );
     let shown_by = if elements.is_empty() {

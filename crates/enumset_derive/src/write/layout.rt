@@ -11,12 +11,6 @@ pub(super) type Elements<'a> = &'a [(&'a str, u64)];
 pub(super) const LIST_START: &str = "\n        ";
 
 impl Writer {
-    /// Adds a part: what a pattern becomes for each item, a line each. `@NAME@` stands for its text, `@BIT@` for its number.
-    pub fn set_lines(&mut self, name: &'static str, pattern: &str, items: Elements) {
-        let lines = lines(self.alloc, pattern, items);
-        self.set(name, lines);
-    }
-
     /// Adds a part: the list, in a clause, of what a pattern becomes for each item. Its first line has this room.
     pub fn set_list(&mut self, name: &'static str, room: usize, pattern: &str, items: Elements) {
         self.set_lines("WORDS", pattern, items);
@@ -24,23 +18,6 @@ impl Writer {
         let list = wrapped(self.alloc, LIST_START, [room, 92], self.part("WORDS"));
         self.set(name, list);
     }
-}
-
-/// What a pattern becomes for each item, a line each.
-fn lines(alloc: Global, pattern: &str, items: Elements) -> Text {
-    let mut lines = String::new(alloc);
-    for (name, number) in items {
-        let number = number.to_string(alloc)?;
-        for piece in pattern.split('@') {
-            lines.push_str(match piece {
-                "NAME" => name,
-                "BIT" => number.as_str(),
-                _ => piece,
-            })?;
-        }
-        lines.push('\n')?;
-    }
-    Ok(lines)
 }
 
 /// The lines of a text as words with spaces between them. Where the next word would pass the last column, a new line

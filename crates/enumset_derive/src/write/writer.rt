@@ -1,6 +1,7 @@
 //! The text of a module, and the parts that it is made of.
 
 use super::Text;
+use super::layout::Elements;
 use std::alloc::{AllocError, Global};
 use std::collections::{BTreeMap, BTreeSet};
 use std::convert::AsStr;
@@ -105,6 +106,19 @@ impl Writer {
     pub fn cut(&mut self, name: &'static str) {
         let text = mem::replace(&mut self.text, String::new(self.alloc));
         self.set(name, Ok(text));
+    }
+
+    /// Adds a part: what a template becomes for each item, a line each. `@ITEM@` stands for its text, `@BIT@` for its number.
+    pub fn set_lines(&mut self, name: &'static str, template: &str, items: Elements) {
+        let text = mem::replace(&mut self.text, String::new(self.alloc));
+        for (item, bit) in items {
+            self.define("ITEM", item);
+            self.set("BIT", bit.to_string(self.alloc));
+            self.write(template);
+            self.push("\n");
+        }
+        self.cut(name);
+        self.text = text;
     }
 
     /// The text that was written.
