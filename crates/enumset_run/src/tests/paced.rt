@@ -1,5 +1,7 @@
 //! Input and output at a pace, over bytes that are made up.
 
+ghost use Rattle.std.specs.Prelude.{◌≤◌, IfOk};
+
 use std::io::{self, ErrorKind, Read, Write};
 
 /// How calls go: so many are interrupted before each that is not, and that one is of at most `most` bytes.
@@ -20,7 +22,9 @@ impl Pace {
     }
 
     /// How many of these bytes the next call is of.
-    fn next(&mut self, count: usize) -> io::Result<usize> {
+    fn next(&mut self, count: usize) -> io::Result<usize>
+        ensures { IfOk result (λ next. next ≤ count) }
+    {
         if self.interrupted < self.interruptions {
             self.interrupted += 1;
             return Err(io::Error::from(ErrorKind::Interrupted));
