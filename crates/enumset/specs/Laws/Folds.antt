@@ -1,16 +1,18 @@
 -- Folds of a list: only which items it has matters, neither their order nor repeats.
 --     contains-intersection_all, contains-union_all      which bits are in all the sets of a list;  in any of them
 --     intersection_all_more      one set more at the end of the list
+--     union_all_none, union_all_step      a set with all sets of a list, one after the other
 --     any_same      a test of the items
 --     from_list_same, union_all_same, intersection_all_same      lists with the same items make the same set
--- The ruleset `folds` has the first three.
+-- The ruleset `folds` has the first five.
 use Rattle.std.proofs.Common.{◌≡◌, ◌<◌, ℕ, suc, zero, Bool, true, false, not, ◌&&◌, ◌||◌, List, [], ◌∷◌, ◌++◌, length, get_or, map, refl, sym, ap, ◌∙◌, arith, Contains, inl, inr, ◌↔◌, true≢false}
 use Rattle.std.specs.Prelude.{◌==◌}
 use Rattle.std.specs.List.{list_all, list_any}
 use Rattle.std.proofs.lemmas.Bool.{or_cases, or_left, or_right}
 use Rattle.std.proofs.lemmas.Bool.Decides.{same_from_decides}
-use Rattle.enumset_repr.specs.BitSet.{BitSet, is_in, contains, intersection, from_list}
+use Rattle.enumset_repr.specs.BitSet.{BitSet, is_in, contains, union, intersection, from_list}
 use Rattle.enumset_repr.specs.Laws.Members.{members, same_set, contains-from_list, contains-empty, contains-union}
+use Rattle.enumset_repr.specs.Laws.Algebra.{union_empty, union_assoc}
 use Rattle.enumset_sets.specs.Folds.{union_all}
 use Rattle.enumset.specs.Folds.{intersection_all}
 
@@ -26,6 +28,14 @@ contains-union_all (s ∷ ss) q = contains-union s (union_all ss) q ∙ ap (λ b
 pub intersection_all_more : (s : BitSet) (ts : List BitSet) (t : BitSet) → intersection_all s (ts ++ t ∷ []) ≡ intersection (intersection_all s ts) t
 intersection_all_more s [] t = refl
 intersection_all_more s (u ∷ us) t = intersection_all_more (intersection s u) us t
+
+pub union_all_none : (s : BitSet) → union s (union_all []) ≡ s
+unfolding union_all
+union_all_none s = union_empty s
+
+pub union_all_step : (s t : BitSet) (ts : List BitSet) → union s (union_all (t ∷ ts)) ≡ union (union s t) (union_all ts)
+unfolding union_all
+union_all_step s t ts = sym (union_assoc s t (union_all ts))
 
 -- ---- tests of the items of a list
 
@@ -75,4 +85,4 @@ intersection_all_same s ts us same = same_set _ _ (λ q.
     ∙ ap (λ b. contains s q && b) (all_not_any (λ t. contains t q) ts ∙ ap not (any_same (λ t. not (contains t q)) ts us same) ∙ sym (all_not_any (λ t. contains t q) us))
     ∙ sym (contains-intersection_all s us q))
 
-pub ruleset folds = (contains-intersection_all, contains-union_all, intersection_all_more)
+pub ruleset folds = (contains-intersection_all, contains-union_all, intersection_all_more, union_all_none, union_all_step)

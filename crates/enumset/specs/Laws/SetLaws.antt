@@ -6,8 +6,10 @@ use Rattle.enumset_repr.specs.Laws.Algebra.{algebra, beside_algebra}
 use Rattle.enumset_repr.specs.Laws.Counting.{counting}
 use Rattle.enumset_repr.specs.Laws.Firsts.{firsts}
 use Rattle.enumset_repr.specs.Laws.Ordering.{ordering}
+use Rattle.enumset_repr.specs.Laws.Low.{empty_difference, empty_intersection}
 use Rattle.enumset_repr.specs.Laws.Numbers.{bits-number, number-bits}
 use Rattle.enumset.specs.Laws.Sets.{in_parts}
+use Rattle.enumset.specs.Laws.Bits.{number-max, number-min}
 use Rattle.enumset.specs.Laws.Folds.{folds}
 
-pub ruleset set_laws = (algebra, in_parts, beside_algebra, is_empty_iff, counting, firsts, ordering, folds, bits-number, number-bits)
+pub ruleset set_laws = (algebra, in_parts, beside_algebra, is_empty_iff, empty_difference, empty_intersection, counting, firsts, ordering, folds, bits-number, number-bits, number-max, number-min)

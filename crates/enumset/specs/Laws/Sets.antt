@@ -3,6 +3,7 @@
 --     intersection_insert, intersection_remove      a number that is not in t changes nothing of s inside t
 --     difference_insert_all, difference_remove_all      so do the members of a subset of t change nothing outside t
 --     difference_parts, parts_apart, symmetric_parts      the parts of s outside t and inside t;  a symmetric difference
+--     difference_shared      s without what it shares with t
 --     difference_over_.., intersection_over_symmetric_difference      one operation over another
 --     is_subset_.._iff, is_disjoint_difference_iff      subsets and disjoint sets by an equation
 --     union_least, intersection_greatest      the least set above two, and the greatest below two
@@ -31,6 +32,9 @@ intersection_remove s t b none = same_set _ _ (λ q. grind (arith, members, nat_
 
 pub difference_parts : (s t : BitSet) → union (difference s t) (intersection s t) ≡ s
 difference_parts s t = same_set _ _ (λ q. grind (arith, members))
+
+pub difference_shared : (s t : BitSet) → difference s (intersection s t) ≡ difference s t
+difference_shared s t = same_set _ _ (λ q. grind (arith, members))
 
 pub symmetric_parts : (s t : BitSet) → symmetric_difference s t ≡ difference (union s t) (intersection s t)
 symmetric_parts s t = same_set _ _ (λ q. grind (arith, members))
@@ -84,4 +88,4 @@ difference_remove_all s t u within = same_set _ _ (λ q. let each = is_subset-co
 
 -- What a proof about the parts of sets inside and outside one set needs, beside `algebra` of `enumset_repr`:
 -- `#[tactic(auto, using(enumset::specs::Laws::Sets::in_parts))]`.
-pub ruleset in_parts = (difference_insert, difference_remove, intersection_insert, intersection_remove, difference_parts, difference_over_union, difference_over_intersection, complement_of_complement, complement_outside)
+pub ruleset in_parts = (difference_insert, difference_remove, intersection_insert, intersection_remove, difference_parts, difference_shared, difference_over_union, difference_over_intersection, complement_of_complement, complement_outside)
