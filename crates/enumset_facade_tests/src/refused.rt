@@ -11,8 +11,9 @@ use enumset::set_json::{
     JsonFault, Unknown, mixed_from_number_text, mixed_from_words_text, mixed_to_number_text,
     mixed_to_words_text,
 };
+use enumset_array::{ArrayRepr, End, ShownRow, walk};
 use enumset_test_types::Letters;
-use enumset_worked::Marks;
+use enumset_worked::{Marks, Sparse};
 use std::alloc::Global;
 use std::process::Abort;
 use std::test::Fail;
@@ -30,34 +31,51 @@ fn returned<V, F: Fn() -> Result<V, JsonFault>>(
     }
 }
 
-// Writes and reads the set of one letter in a form.
-fn expect_form(rt: &impl Abort, alloc: Global, form: Form, wanted: &str) -> Result<(), Fail> {
+// Writes the set of one letter in a form.
+fn expect_written(rt: &impl Abort, alloc: Global, form: Form, wanted: &str) -> Result<(), Fail> {
     let set = EnumSet::only(Letters::G);
     let (text, written) = returned(rt, || write(alloc, form, &set));
     expect(rt, "write", text.as_str(), wanted);
-    let (same, was_read) = returned(rt, || read(alloc, form, wanted));
-    expect(rt, "read", same, set);
-    Ok(written.and(was_read)?)
+    Ok(written?)
+}
+
+// Reads the set of one letter in a form.
+fn expect_read(rt: &impl Abort, alloc: Global, form: Form, text: &str) -> Result<(), Fail> {
+    let (set, was_read) = returned(rt, || read(alloc, form, text));
+    expect(rt, "read", set, EnumSet::only(Letters::G));
+    Ok(was_read?)
 }
 
 #[test]
 fn numbers(rt: HostRuntime) -> Result<(), Fail> {
-    expect_form(&rt, rt.alloc(), Form::Number, "64")
+    expect_written(&rt, rt.alloc(), Form::Number, "64")?;
+    expect_read(&rt, rt.alloc(), Form::Number, "64")
 }
 
 #[test]
 fn words(rt: HostRuntime) -> Result<(), Fail> {
-    expect_form(&rt, rt.alloc(), Form::Words, "[64]")
+    expect_written(&rt, rt.alloc(), Form::Words, "[64]")?;
+    expect_read(&rt, rt.alloc(), Form::Words, "[64]")
 }
 
 #[test]
-fn lists(rt: HostRuntime) -> Result<(), Fail> {
-    expect_form(&rt, rt.alloc(), Form::List, "[\"G\"]")
+fn written_names(rt: HostRuntime) -> Result<(), Fail> {
+    expect_written(&rt, rt.alloc(), Form::List, "[\"G\"]")
 }
 
 #[test]
-fn maps(rt: HostRuntime) -> Result<(), Fail> {
-    expect_form(&rt, rt.alloc(), Form::Map, "{\"G\":true}")
+fn written_maps(rt: HostRuntime) -> Result<(), Fail> {
+    expect_written(&rt, rt.alloc(), Form::Map, "{\"G\":true}")
+}
+
+#[test]
+fn names_that_are_read(rt: HostRuntime) -> Result<(), Fail> {
+    expect_read(&rt, rt.alloc(), Form::List, "[\"G\"]")
+}
+
+#[test]
+fn maps_that_are_read(rt: HostRuntime) -> Result<(), Fail> {
+    expect_read(&rt, rt.alloc(), Form::Map, "{\"G\":true}")
 }
 
 #[test]
@@ -78,4 +96,37 @@ fn mixed_words(rt: HostRuntime) -> Result<(), Fail> {
     let (same, was_read) = returned(&rt, || mixed_from_words_text(alloc, "[9]", Unknown::Refuse));
     expect(&rt, "read", same, set);
     Ok(written.and(was_read)?)
+}
+
+#[test]
+fn vectors_of_words(rt: HostRuntime) -> Result<(), Fail> {
+    let set = EnumSet::<Sparse>::all();
+    let (words, ended) = match set.to_vec(rt.alloc()) {
+        Ok(words) => (words, Ok(())),
+        Err(refused) => {
+            let again = set.to_vec(rt.alloc()).expect(&rt, "refused once more");
+            (again, Err(refused))
+        }
+    };
+    let wanted = [1074791424, 9223372036854775808];
+    expect(&rt, "to_vec", words.as_slice(), &wanted);
+    Ok(ended?)
+}
+
+#[test]
+fn a_walk_leaves_its_row(rt: HostRuntime) -> Result<(), Fail> {
+    let mut row = ShownRow::new(ArrayRepr([8, 1, 4]));
+    let ends = [End::Front, End::Back, End::Front];
+    let (answers, ended) = match walk(rt.alloc(), &mut row, &ends) {
+        Ok(answers) => (answers, Ok(())),
+        Err(refused) => {
+            expect(&rt, "shown", row.shown(), 0);
+            let again = walk(rt.alloc(), &mut row, &ends).expect(&rt, "refused once more");
+            (again, Err(refused))
+        }
+    };
+    let wanted = [Some(3), Some(130), Some(64)];
+    expect(&rt, "walk", answers.as_slice(), &wanted);
+    expect(&rt, "shown", row.shown(), 4);
+    Ok(ended?)
 }

@@ -12,8 +12,6 @@ mod each_call;
 #[cfg(test)]
 mod expect;
 #[cfg(test)]
-mod refused;
-#[cfg(test)]
 mod texts;
 #[cfg(test)]
 mod walks;

@@ -21,8 +21,6 @@ mod mixed;
 #[cfg(test)]
 mod operators;
 #[cfg(test)]
-mod refused;
-#[cfg(test)]
 mod sets;
 #[cfg(test)]
 mod sizes;

@@ -9,6 +9,8 @@ use enumset_kinds::kinds::serve_worked;
 use enumset_kinds::worked::Worked;
 use enumset_machine::{Machine, MixedMachine, run, run_mixed};
 use enumset_worked::{Letters, Marks};
+use std::alloc::Global;
+use std::process::Abort;
 use std::test::Fail;
 
 // Whether a reply is these words.
@@ -74,15 +76,28 @@ fn mixed_runs(rt: HostRuntime) -> Result<(), Fail> {
     Ok(ended?)
 }
 
+// Serves two lines over a type.
+fn expect_replies(rt: &impl Abort, alloc: Global, kind: Worked) -> Result<(), Fail> {
+    let input = b"from_words 0 5\nwords 0 2\n".as_slice();
+    let (text, ended) = match serve_worked(alloc, kind, input) {
+        Ok(text) => (text, Ok(())),
+        Err(refused) => {
+            let again = serve_worked(alloc, kind, input);
+            (again.expect(rt, "refused once more"), Err(refused))
+        }
+    };
+    assert!(rt; text.as_slice() == b"ok\nwords 5 0\n".as_slice());
+    Ok(ended?)
+}
+
 #[test]
 fn texts(rt: HostRuntime) -> Result<(), Fail> {
-    for kind in [Worked::Letters, Worked::MixedMarks] {
-        let input = b"from_words 0 5\nwords 0 2\n".as_slice();
-        let (text, ended) = made_again!(rt, serve_worked(rt.alloc(), kind, input));
-        assert!(rt; text.as_slice() == b"ok\nwords 5 0\n".as_slice());
-        ended?;
-    }
-    Ok(())
+    expect_replies(&rt, rt.alloc(), Worked::Letters)
+}
+
+#[test]
+fn mixed_texts(rt: HostRuntime) -> Result<(), Fail> {
+    expect_replies(&rt, rt.alloc(), Worked::MixedMarks)
 }
 
 // The input's own fault is answered, and no refusal in its place. The long input takes the first allocation.
