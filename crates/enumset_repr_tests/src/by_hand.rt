@@ -86,14 +86,13 @@ fn bits_of_a_byte(rt: HostRuntime) {
 fn walk_gives<const N: usize>(
     rt: &impl Abort,
     alloc: Global,
-    words: [u64; N],
+    mut row: ShownRow<N>,
     ends: &[End],
-    wanted: &[Option<u32>],
+    answers: &[Option<u32>],
     asks: u64,
 ) -> Result<(), AllocError> {
-    let mut row = ShownRow::new(ArrayRepr(words));
-    let answers = walk(alloc, &mut row, ends)?;
-    assert_eq!(rt; answers.as_slice(), wanted);
+    let given = walk(alloc, &mut row, ends)?;
+    assert_eq!(rt; given.as_slice(), answers);
     expect(rt, "a row", "shown", row.shown(), asks);
     Ok(())
 }
@@ -102,8 +101,12 @@ fn walk_gives<const N: usize>(
 fn walks_of_short_rows(rt: HostRuntime) -> Result<(), Fail> {
     let alloc = rt.alloc();
     let ends = [End::Back, End::Front, End::Back, End::Front];
-    let wanted = [Some(63), Some(0), None, None];
-    walk_gives(&rt, alloc, [TOP + 1], &ends, &wanted, 3)?;
-    walk_gives(&rt, alloc, [], &ends[..2], &[None, None], 0)?;
-    Ok(walk_gives(&rt, alloc, [8, 0, 0], &[], &[], 0)?)
+    let both_ends = ShownRow::new(ArrayRepr([TOP + 1]));
+    let answers = [Some(63), Some(0), None, None];
+    walk_gives(&rt, alloc, both_ends, &ends, &answers, 3)?;
+    let no_word = ShownRow::<0>::new(ArrayRepr([]));
+    walk_gives(&rt, alloc, no_word, &ends[1..3], &[None, None], 0)?;
+    let no_end = ShownRow::new(ArrayRepr([8, 0, 0]));
+    walk_gives(&rt, alloc, no_end, &[], &[], 0)?;
+    Ok(())
 }
