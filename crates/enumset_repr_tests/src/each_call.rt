@@ -1,4 +1,4 @@
-//! Each call of `EnumSetTypeRepr` through the trait, at each type that implements it, on sets of bits below 8.
+//! Each call of `EnumSetTypeRepr` through the trait, at each type that implements it, on sets of bits below 7.
 
 use crate::expect::expect;
 use enumset_array::ArrayRepr;
@@ -7,26 +7,20 @@ use enumset_repr::{
 };
 use std::process::Abort;
 
-// The operators on {0, 3, 7} and {3, 4}.
+// The operators on {0, 3, 6} and {3, 4}.
 fn operators<R: EnumSetTypeRepr>(rt: &impl Abort, repr: &str) {
-    let (a, b) = (R::from_u8(137), R::from_u8(24));
+    let (a, b) = (R::from_u8(73), R::from_u8(24));
     let (mut or, mut and, mut xor, mut and_not) = (a, a, a, a);
     or.or_with(&b);
     and.and_with(&b);
     xor.xor_with(&b);
     and_not.and_not_with(&b);
     let changed = [or.to_u8(), and.to_u8(), xor.to_u8(), and_not.to_u8()];
-    expect(
-        rt,
-        repr,
-        "or_with and its like",
-        changed,
-        [153, 8, 145, 129],
-    );
+    expect(rt, repr, "or_with and its like", changed, [89, 8, 81, 65]);
     let made = [(a | b).to_u8(), (a & b).to_u8(), (a ^ b).to_u8()];
-    expect(rt, repr, "|, & and ^", made, [153, 8, 145]);
-    let made = [a.and_not(b).to_u8(), (!a).to_u8(), R::EMPTY.to_u8()];
-    expect(rt, repr, "and_not, ! and EMPTY", made, [129, 118, 0]);
+    expect(rt, repr, "|, & and ^", made, [89, 8, 81]);
+    let made = [a.and_not(b).to_u8(), (!a & b).to_u8(), R::EMPTY.to_u8()];
+    expect(rt, repr, "and_not, ! and EMPTY", made, [65, 16, 0]);
     let answers = [a.is_empty(), a.is_subset_of(&or), a.is_disjoint_from(&b)];
     expect(
         rt,
@@ -39,13 +33,13 @@ fn operators<R: EnumSetTypeRepr>(rt: &impl Abort, repr: &str) {
     expect(rt, repr, "== and <", answers, [false, true]);
 }
 
-// The bits of {0, 3, 7}.
+// The bits of {0, 3, 6}.
 fn bits<R: EnumSetTypeRepr>(rt: &impl Abort, repr: &str) {
     let mut set = R::from_u8(24);
-    if R::WIDTH > 7 && R::PREFERRED_ARRAY_LEN > 0 {
-        set.add_bit(7);
+    if R::WIDTH > 6 && R::PREFERRED_ARRAY_LEN > 0 {
+        set.add_bit(6);
         set.remove_bit(4);
-        let held = [set.has_bit(7), set.has_bit(4)];
+        let held = [set.has_bit(6), set.has_bit(4)];
         expect(rt, repr, "has_bit", held, [true, false]);
         let word = set.word(0);
         set.put_word(0, word | 1);
@@ -57,12 +51,12 @@ fn bits<R: EnumSetTypeRepr>(rt: &impl Abort, repr: &str) {
     ];
     expect(rt, repr, "count_ones and items_left", left, [3, 3]);
     let items = [iter.next(), iter.next_back(), iter.next(), iter.next()];
-    expect(rt, repr, "next", items, [Some(0), Some(7), Some(3), None]);
+    expect(rt, repr, "next", items, [Some(0), Some(6), Some(3), None]);
 }
 
-// The numbers of {0, 3, 7}.
+// The numbers of {0, 3, 6}.
 fn numbers<R: EnumSetTypeRepr>(rt: &impl Abort, repr: &str) {
-    let set = R::from_u128(137);
+    let set = R::from_u128(73);
     let numbers = [
         set.to_u8() as u128,
         set.to_u16() as u128,
@@ -71,40 +65,40 @@ fn numbers<R: EnumSetTypeRepr>(rt: &impl Abort, repr: &str) {
         set.to_usize() as u128,
         set.to_u128(),
     ];
-    expect(rt, repr, "to_u8 and its like", numbers, [137; 6]);
+    expect(rt, repr, "to_u8 and its like", numbers, [73; 6]);
     let tried = [
-        set.try_to_u8() == Some(137),
-        set.try_to_u16() == Some(137),
-        set.try_to_u32() == Some(137),
-        set.try_to_u64() == Some(137),
-        set.try_to_usize() == Some(137),
-        set.try_to_u128() == Some(137),
+        set.try_to_u8() == Some(73),
+        set.try_to_u16() == Some(73),
+        set.try_to_u32() == Some(73),
+        set.try_to_u64() == Some(73),
+        set.try_to_usize() == Some(73),
+        set.try_to_u128() == Some(73),
     ];
     expect(rt, repr, "try_to_u8 and its like", tried, [true; 6]);
 }
 
-// Sets from the number of {0, 3, 7}.
+// Sets from the number of {0, 3, 6}.
 fn sets_of_numbers<R: EnumSetTypeRepr>(rt: &impl Abort, repr: &str) {
-    let set = R::from_u8(137);
+    let set = R::from_u8(73);
     let made = [
-        R::from_u16(137) == set,
-        R::from_u32(137) == set,
-        R::from_u64(137) == set,
-        R::from_usize(137) == set,
-        R::from_u128(137) == set,
-        R::try_from_u8(137) == Some(set),
-        R::try_from_u16(137) == Some(set),
-        R::try_from_u32(137) == Some(set),
-        R::try_from_u64(137) == Some(set),
-        R::try_from_usize(137) == Some(set),
-        R::try_from_u128(137) == Some(set),
+        R::from_u16(73) == set,
+        R::from_u32(73) == set,
+        R::from_u64(73) == set,
+        R::from_usize(73) == set,
+        R::from_u128(73) == set,
+        R::try_from_u8(73) == Some(set),
+        R::try_from_u16(73) == Some(set),
+        R::try_from_u32(73) == Some(set),
+        R::try_from_u64(73) == Some(set),
+        R::try_from_usize(73) == Some(set),
+        R::try_from_u128(73) == Some(set),
     ];
     expect(rt, repr, "from_u8 and its like", made, [true; 11]);
 }
 
-// The words of {0, 3, 7}.
+// The words of {0, 3, 6}.
 fn words<R: EnumSetTypeRepr>(rt: &impl Abort, repr: &str) {
-    let (set, words) = (R::from_u64_slice(&[137]), [137, 0]);
+    let (set, words) = (R::from_u64_slice(&[73]), [73, 0]);
     let mut out = [7; 2];
     set.to_u64_slice(&mut out);
     expect(rt, repr, "to_u64_slice", out, words);
