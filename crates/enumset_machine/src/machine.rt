@@ -3,22 +3,16 @@
 ghost use Rattle.std.specs.Prelude.{◌≡◌, false, IfOk, IsOk, OnErr};
 ghost use Rattle.enumset_sets.specs.Elements.{valid_bits};
 
-mod element_set;
-mod iterators;
+pub(crate) mod element_set;
 mod mixed_commands;
 pub mod mixed_machine;
-mod mixed_set;
-mod numbers;
-mod registers;
-pub(crate) mod run;
-mod run_set;
-pub(crate) mod runner;
+pub(crate) mod mixed_set;
 
+use element_set::ElementSet;
 use enumset_commands::{Command, Reply};
 use enumset_repr::EnumSetTypeRepr;
-use enumset_sets::{EnumSet, EnumSetType};
-use run::Run;
-use runner::Runner;
+use enumset_runs::{Run, Runner};
+use enumset_sets::EnumSetType;
 use std::alloc::{AllocError, Global};
 use std::marker::Model;
 
@@ -27,11 +21,11 @@ use std::marker::Model;
 /// Contracts see the sets as sets of bit numbers, and the iterators as lists of what is left in them.
 #[derive(Drop)]
 pub struct Machine<T: EnumSetType> {
-    runner: Runner<EnumSet<T>>,
+    runner: Runner<ElementSet<T>>,
 }
 
 impl<T: EnumSetType> Model for Machine<T> {
-    ghost use Rattle.enumset_machine.specs.States.{State, coded_state};
+    ghost use Rattle.enumset_runs.specs.States.{State, coded_state};
 
     ghost Value = { State };
 
@@ -41,9 +35,9 @@ impl<T: EnumSetType> Model for Machine<T> {
 }
 
 impl<T: EnumSetType> Machine<T> {
-    ghost use Rattle.enumset_machine.specs.States.{start};
-    ghost use Rattle.enumset_machine.specs.Plans.{takes_memory};
-    ghost use Rattle.enumset_machine.specs.Runs.{outcome};
+    ghost use Rattle.enumset_runs.specs.States.{start};
+    ghost use Rattle.enumset_runs.specs.Plans.{takes_memory};
+    ghost use Rattle.enumset_runs.specs.Runs.{outcome};
 
     /// A machine whose registers are empty.
     pub fn new() -> Machine<T>
@@ -58,7 +52,7 @@ impl<T: EnumSetType> Machine<T> {
     ///
     /// Only a reply of words takes memory; with any other reply the call succeeds. If memory runs out, the machine is
     /// unchanged.
-    #[tactic(auto, unfolding(crate::specs::Runs::outcome))]
+    #[tactic(auto, unfolding(enumset_runs::specs::Runs::outcome))]
     pub fn step(&mut self, alloc: Global, command: &Command) -> Result<Reply, AllocError>
         ensures succeeds { takes_memory
             (outcome (valid_bits T.elements) self.old command.now).reply ≡ false
@@ -72,15 +66,15 @@ impl<T: EnumSetType> Machine<T> {
     }
 }
 
-impl<T: EnumSetType> Run for EnumSet<T> {
-    ghost use Rattle.enumset_machine.specs.Runs.{plan};
+impl<T: EnumSetType> Run for ElementSet<T> {
+    ghost use Rattle.enumset_runs.specs.Runs.{plan};
 
     type Command = Command;
 
     ghost plan = { plan };
 
     fn step(
-        runner: &mut Runner<EnumSet<T>>,
+        runner: &mut Runner<ElementSet<T>>,
         alloc: Global,
         command: &Command,
     ) -> Result<Reply, AllocError> {

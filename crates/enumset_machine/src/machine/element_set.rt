@@ -1,12 +1,12 @@
-//! `EnumSet` as a set of a run.
+//! `EnumSet` as the set of a run.
 
 ghost use Rattle.std.specs.Prelude.{◌≡◌, true};
 ghost use Rattle.enumset_repr.specs.BitSet as set;
 ghost use Rattle.enumset_sets.specs.Elements.{valid_bits};
 
-use super::run_set::RunSet;
 use enumset_commands::Reply;
 use enumset_repr::EnumSetTypeRepr;
+use enumset_runs::RunSet;
 use enumset_sets::{EnumSet, EnumSetIter, EnumSetType};
 use std::cmp::Ordering;
 
@@ -18,10 +18,14 @@ pub(super) fn element_of<T: EnumSetType>(bit: u32) -> T
     T::enum_from_u32(bit)
 }
 
-impl<T: EnumSetType> RunSet for EnumSet<T> {
-    ghost use Rattle.enumset_machine.specs.Plans.{valid_rules};
+/// The set of a run: an `EnumSet`.
+#[derive(Clone, Copy)]
+pub(crate) struct ElementSet<T: EnumSetType>(EnumSet<T>);
 
-    ghost members = { λ s. s };
+impl<T: EnumSetType> RunSet for ElementSet<T> {
+    ghost use Rattle.enumset_runs.specs.Plans.{valid_rules};
+
+    ghost members = { λ s. s.0 };
 
     ghost rules = { valid_rules (valid_bits T.elements) };
 
@@ -37,151 +41,152 @@ impl<T: EnumSetType> RunSet for EnumSet<T> {
         Reply::Bit(bit)
     }
 
-    fn new() -> EnumSet<T> {
-        EnumSet::<T>::new()
+    fn new() -> Self {
+        ElementSet(EnumSet::new())
     }
 
-    fn all() -> EnumSet<T> {
-        EnumSet::<T>::all()
+    fn all() -> Self {
+        ElementSet(EnumSet::all())
     }
 
-    fn only(bit: u32) -> EnumSet<T> {
-        EnumSet::<T>::only(element_of(bit))
+    fn only(bit: u32) -> Self {
+        ElementSet(EnumSet::only(element_of(bit)))
     }
 
     fn insert(&mut self, bit: u32) -> bool {
-        EnumSet::<T>::insert(self, element_of(bit))
+        self.0.insert(element_of(bit))
     }
 
     fn remove(&mut self, bit: u32) -> bool {
-        EnumSet::<T>::remove(self, element_of(bit))
+        self.0.remove(element_of(bit))
     }
 
     fn contains(&self, bit: u32) -> bool {
-        EnumSet::<T>::contains(self, element_of(bit))
+        self.0.contains(element_of(bit))
     }
 
-    fn clear(mut self) -> EnumSet<T> {
-        EnumSet::<T>::clear(&mut self);
+    fn clear(mut self) -> Self {
+        self.0.clear();
         self
     }
 
     fn len(&self) -> usize {
-        EnumSet::<T>::len(self)
+        self.0.len()
     }
 
     fn is_empty(&self) -> bool {
-        EnumSet::<T>::is_empty(self)
+        self.0.is_empty()
     }
 
-    fn union(&self, other: EnumSet<T>) -> EnumSet<T> {
-        EnumSet::<T>::union(self, other)
+    fn union(&self, other: Self) -> Self {
+        ElementSet(self.0.union(other.0))
     }
 
-    fn intersection(&self, other: EnumSet<T>) -> EnumSet<T> {
-        EnumSet::<T>::intersection(self, other)
+    fn intersection(&self, other: Self) -> Self {
+        ElementSet(self.0.intersection(other.0))
     }
 
-    fn difference(&self, other: EnumSet<T>) -> EnumSet<T> {
-        EnumSet::<T>::difference(self, other)
+    fn difference(&self, other: Self) -> Self {
+        ElementSet(self.0.difference(other.0))
     }
 
-    fn symmetric_difference(&self, other: EnumSet<T>) -> EnumSet<T> {
-        EnumSet::<T>::symmetric_difference(self, other)
+    fn symmetric_difference(&self, other: Self) -> Self {
+        ElementSet(self.0.symmetric_difference(other.0))
     }
 
-    fn complement(&self) -> EnumSet<T> {
-        EnumSet::<T>::complement(self)
+    fn complement(&self) -> Self {
+        ElementSet(self.0.complement())
     }
 
-    fn insert_all(mut self, other: EnumSet<T>) -> EnumSet<T> {
-        EnumSet::<T>::insert_all(&mut self, other);
+    fn insert_all(mut self, other: Self) -> Self {
+        self.0.insert_all(other.0);
         self
     }
 
-    fn remove_all(mut self, other: EnumSet<T>) -> EnumSet<T> {
-        EnumSet::<T>::remove_all(&mut self, other);
+    fn remove_all(mut self, other: Self) -> Self {
+        self.0.remove_all(other.0);
         self
     }
 
-    fn is_disjoint(&self, other: EnumSet<T>) -> bool {
-        EnumSet::<T>::is_disjoint(self, other)
+    fn is_disjoint(&self, other: Self) -> bool {
+        self.0.is_disjoint(other.0)
     }
 
-    fn is_superset(&self, other: EnumSet<T>) -> bool {
-        EnumSet::<T>::is_superset(self, other)
+    fn is_superset(&self, other: Self) -> bool {
+        self.0.is_superset(other.0)
     }
 
-    fn is_subset(&self, other: EnumSet<T>) -> bool {
-        EnumSet::<T>::is_subset(self, other)
+    fn is_subset(&self, other: Self) -> bool {
+        self.0.is_subset(other.0)
     }
 
-    fn is_same(&self, other: EnumSet<T>) -> bool {
-        *self == other
+    fn is_same(&self, other: Self) -> bool {
+        self.0 == other.0
     }
 
-    fn compare(&self, other: EnumSet<T>) -> Ordering {
-        self.cmp(&other)
+    fn compare(&self, other: Self) -> Ordering {
+        self.0.cmp(&other.0)
     }
 
     fn number(&self, width: u32) -> Option<u128> {
         match width {
-            8 => EnumSet::<T>::try_as_u8(self).map(u128::from),
-            16 => EnumSet::<T>::try_as_u16(self).map(u128::from),
-            32 => EnumSet::<T>::try_as_u32(self).map(u128::from),
-            64 => EnumSet::<T>::try_as_u64(self).map(u128::from),
-            _ => EnumSet::<T>::try_as_u128(self),
+            8 => self.0.try_as_u8().map(u128::from),
+            16 => self.0.try_as_u16().map(u128::from),
+            32 => self.0.try_as_u32().map(u128::from),
+            64 => self.0.try_as_u64().map(u128::from),
+            _ => self.0.try_as_u128(),
         }
     }
 
     fn number_cut(&self, width: u32) -> u128 {
         match width {
-            8 => u128::from(EnumSet::<T>::as_u8_truncated(self)),
-            16 => u128::from(EnumSet::<T>::as_u16_truncated(self)),
-            32 => u128::from(EnumSet::<T>::as_u32_truncated(self)),
-            64 => u128::from(EnumSet::<T>::as_u64_truncated(self)),
-            _ => EnumSet::<T>::as_u128_truncated(self),
+            8 => u128::from(self.0.as_u8_truncated()),
+            16 => u128::from(self.0.as_u16_truncated()),
+            32 => u128::from(self.0.as_u32_truncated()),
+            64 => u128::from(self.0.as_u64_truncated()),
+            _ => self.0.as_u128_truncated(),
         }
     }
 
-    fn from_number(width: u32, value: u128) -> Option<EnumSet<T>> {
-        match width {
-            8 => EnumSet::<T>::try_from_u8(value as u8),
-            16 => EnumSet::<T>::try_from_u16(value as u16),
-            32 => EnumSet::<T>::try_from_u32(value as u32),
-            64 => EnumSet::<T>::try_from_u64(value as u64),
-            _ => EnumSet::<T>::try_from_u128(value),
-        }
+    fn from_number(width: u32, value: u128) -> Option<Self> {
+        let set = match width {
+            8 => EnumSet::try_from_u8(value as u8),
+            16 => EnumSet::try_from_u16(value as u16),
+            32 => EnumSet::try_from_u32(value as u32),
+            64 => EnumSet::try_from_u64(value as u64),
+            _ => EnumSet::try_from_u128(value),
+        };
+        Some(ElementSet(set?))
     }
 
-    fn from_number_cut(width: u32, value: u128) -> EnumSet<T> {
-        match width {
-            8 => EnumSet::<T>::from_u8_truncated(value as u8),
-            16 => EnumSet::<T>::from_u16_truncated(value as u16),
-            32 => EnumSet::<T>::from_u32_truncated(value as u32),
-            64 => EnumSet::<T>::from_u64_truncated(value as u64),
-            _ => EnumSet::<T>::from_u128_truncated(value),
-        }
+    fn from_number_cut(width: u32, value: u128) -> Self {
+        ElementSet(match width {
+            8 => EnumSet::from_u8_truncated(value as u8),
+            16 => EnumSet::from_u16_truncated(value as u16),
+            32 => EnumSet::from_u32_truncated(value as u32),
+            64 => EnumSet::from_u64_truncated(value as u64),
+            _ => EnumSet::from_u128_truncated(value),
+        })
     }
 
     fn words(&self, slice: &mut [u64]) -> Option<()> {
-        EnumSet::<T>::try_copy_into_slice(self, slice)
+        self.0.try_copy_into_slice(slice)
     }
 
     fn words_cut(&self, slice: &mut [u64]) {
-        EnumSet::<T>::copy_into_slice_truncated(self, slice);
+        self.0.copy_into_slice_truncated(slice);
     }
 
-    fn from_words(words: &[u64]) -> Option<EnumSet<T>> {
-        EnumSet::<T>::try_from_slice(words)
+    fn from_words(words: &[u64]) -> Option<Self> {
+        Some(ElementSet(EnumSet::try_from_slice(words)?))
     }
 
-    fn from_words_cut(words: &[u64]) -> EnumSet<T> {
-        EnumSet::<T>::from_slice_truncated(words)
+    fn from_words_cut(words: &[u64]) -> Self {
+        ElementSet(EnumSet::from_slice_truncated(words))
     }
 
     fn items(&self) -> EnumSetIter<T> {
-        EnumSet::<T>::iter(self)
+        self.0.iter()
     }
 
     fn next(items: &mut EnumSetIter<T>) -> Option<u32> {

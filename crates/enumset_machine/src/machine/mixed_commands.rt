@@ -4,46 +4,45 @@ ghost use Rattle.std.specs.Prelude.{◌≡◌, true, false, IsOk, IfOk, OnOk, On
 ghost use Rattle.enumset_repr.specs.BitSet.{contains, below};
 ghost use Rattle.enumset_sets.specs.Elements.{valid_bits};
 ghost use Rattle.enumset_commands.specs.declared.mixed_command.MixedCommand.TheVariants.{AsEnumset};
-ghost use Rattle.enumset_machine.specs.States.{is_set_register};
-ghost use Rattle.enumset_machine.specs.Plans.{width_rules, refusal, takes_memory};
-ghost use Rattle.enumset_machine.specs.Runs.{mixed_plan};
+ghost use Rattle.enumset_runs.specs.States.{is_set_register};
+ghost use Rattle.enumset_runs.specs.Plans.{width_rules, refusal, takes_memory};
+ghost use Rattle.enumset_runs.specs.Runs.{mixed_plan};
 
-use super::registers::{are_set_registers, is_set_register};
-use super::run::Run;
-use super::runner::{Runner, change, put, refusal, unless};
+use super::mixed_set::MixedSet;
 use enumset_commands::MixedCommand::{self, *};
 use enumset_commands::Refusal::{self, NoRegister, NotABit};
 use enumset_commands::Reply;
-use enumset_mixed::{MixedEnumSet, convert_mixed};
+use enumset_mixed::convert_mixed;
 use enumset_repr::EnumSetTypeRepr;
+use enumset_runs::{Run, Runner, are_set_registers, is_set_register, refusal, unless};
 use enumset_sets::{EnumSetType, EnumSetTypeWithRepr};
 use std::alloc::{AllocError, Global};
 
-impl<T: EnumSetTypeWithRepr> Run for MixedEnumSet<T> {
+impl<T: EnumSetTypeWithRepr> Run for MixedSet<T> {
     type Command = MixedCommand;
 
     ghost plan = { mixed_plan };
 
     fn step(
-        runner: &mut Runner<MixedEnumSet<T>>,
+        runner: &mut Runner<MixedSet<T>>,
         alloc: Global,
         command: &MixedCommand,
     ) -> Result<Reply, AllocError> {
         match mixed_refusal::<T>(command) {
             Some(refusal) => Ok(Reply::Refused(refusal)),
-            None => runner.carry_out_mixed(alloc, command),
+            None => carry_out_mixed(runner, alloc, command),
         }
     }
 }
 
 /// Why a command of mixed sets is refused, if it is.
-#[tactic(auto, unfolding(crate::specs::Runs::mixed_plan))]
+#[tactic(auto, unfolding(enumset_runs::specs::Runs::mixed_plan))]
 fn mixed_refusal<T: EnumSetTypeWithRepr>(command: &MixedCommand) -> Option<Refusal>
     ensures { result ≡ refusal (width_rules (valid_bits T.elements) T.Repr.WIDTH)
         (mixed_plan command.now) }
 {
     match *command {
-        Common(ref command) => refusal::<MixedEnumSet<T>>(command),
+        Common(ref command) => refusal::<MixedSet<T>>(command),
         HasBit { r, .. } | RemoveBit { r, .. } | ValidLen { r } | Unknown { r } => {
             unless(is_set_register(r), NoRegister)
         }
@@ -56,55 +55,62 @@ fn mixed_refusal<T: EnumSetTypeWithRepr>(command: &MixedCommand) -> Option<Refus
     }
 }
 
-#[tactic(auto, unfolding(crate::specs::Runs::mixed_plan))]
-impl<T: EnumSetTypeWithRepr> Runner<MixedEnumSet<T>> {
-    /// Carries out a command of mixed sets that is not refused.
-    fn carry_out_mixed(
-        &mut self,
-        alloc: Global,
-        command: &MixedCommand,
-    ) -> Result<Reply, AllocError>
-        requires registers { (mixed_plan command.now).registers ≡ true }
-        requires widths { (mixed_plan command.now).widths ≡ true }
-        requires bits { (mixed_plan command.now).bits
-            (width_rules (valid_bits T.elements) T.Repr.WIDTH) ≡ true }
-        ensures succeeds { takes_memory ((mixed_plan command.now).reply
-            (width_rules (valid_bits T.elements) T.Repr.WIDTH) self.old) ≡ false → IsOk result }
-        ensures reply { IfOk result (λ reply. reply ≡ (mixed_plan command.now).reply
-            (width_rules (valid_bits T.elements) T.Repr.WIDTH) self.old) }
-        ensures state { OnOk result (self.new ≡ (mixed_plan command.now).after
-            (width_rules (valid_bits T.elements) T.Repr.WIDTH) self.old) }
-        ensures err { OnErr result (self.new ≡ self.old) }
-    {
-        Ok(match *command {
-            Common(ref command) => self.carry_out(alloc, command)?,
-            HasBit { r, bit } => Reply::Truth(self.sets.get(r).has_bit(bit)),
-            InsertBit { r, bit } => change!(self, r, insert_bit, bit),
-            RemoveBit { r, bit } => change!(self, r, remove_bit, bit),
-            FullComplement { to, a } => put!(self, to, full_complement of a),
-            ValidLen { r } => Reply::Count(self.sets.get(r).valid_len() as u64),
-            Unknown { r } => Reply::Truth(self.sets.get(r).has_unknown_bits()),
-            AsEnumset { to, a } => self.as_enumset(to, a),
-            Truncate { to, a } => {
-                let set = convert_mixed(self.sets.get(a).as_enumset_truncate());
-                self.put(to, set)
-            }
-        })
-    }
-
-    /// Puts a set into a register, if each member is valid.
-    fn as_enumset(&mut self, to: u8, a: u8) -> Reply
-        requires to { is_set_register to ≡ true }
-        requires a { is_set_register a ≡ true }
-        ensures reply { result ≡ (mixed_plan (AsEnumset to a)).reply
-            (width_rules (valid_bits T.elements) T.Repr.WIDTH) self.old }
-        ensures state { self.new ≡ (mixed_plan (AsEnumset to a)).after
-            (width_rules (valid_bits T.elements) T.Repr.WIDTH) self.old }
-    {
-        match self.sets.get(a).try_as_enumset() {
-            Some(elements) => self.put(to, convert_mixed(elements)),
-            None => Reply::Absent,
+/// Carries out a command of mixed sets that is not refused.
+#[tactic(auto, unfolding(enumset_runs::specs::Runs::mixed_plan))]
+fn carry_out_mixed<T: EnumSetTypeWithRepr>(
+    runner: &mut Runner<MixedSet<T>>,
+    alloc: Global,
+    command: &MixedCommand,
+) -> Result<Reply, AllocError>
+    requires registers { (mixed_plan command.now).registers ≡ true }
+    requires widths { (mixed_plan command.now).widths ≡ true }
+    requires bits { (mixed_plan command.now).bits
+        (width_rules (valid_bits T.elements) T.Repr.WIDTH) ≡ true }
+    ensures succeeds { takes_memory ((mixed_plan command.now).reply
+        (width_rules (valid_bits T.elements) T.Repr.WIDTH) runner.old) ≡ false → IsOk result }
+    ensures reply { IfOk result (λ reply. reply ≡ (mixed_plan command.now).reply
+        (width_rules (valid_bits T.elements) T.Repr.WIDTH) runner.old) }
+    ensures state { OnOk result (runner.new ≡ (mixed_plan command.now).after
+        (width_rules (valid_bits T.elements) T.Repr.WIDTH) runner.old) }
+    ensures err { OnErr result (runner.new ≡ runner.old) }
+{
+    Ok(match *command {
+        Common(ref command) => runner.carry_out(alloc, command)?,
+        HasBit { r, bit } => Reply::Truth(runner.get(r).0.has_bit(bit)),
+        InsertBit { r, bit } => {
+            let mut set = runner.get(r);
+            let truth = set.0.insert_bit(bit);
+            runner.replace(r, set, truth)
         }
+        RemoveBit { r, bit } => {
+            let mut set = runner.get(r);
+            let truth = set.0.remove_bit(bit);
+            runner.replace(r, set, truth)
+        }
+        FullComplement { to, a } => runner.put(to, MixedSet(runner.get(a).0.full_complement())),
+        ValidLen { r } => Reply::Count(runner.get(r).0.valid_len() as u64),
+        Unknown { r } => Reply::Truth(runner.get(r).0.has_unknown_bits()),
+        AsEnumset { to, a } => as_enumset(runner, to, a),
+        Truncate { to, a } => {
+            let elements = runner.get(a).0.as_enumset_truncate();
+            runner.put(to, MixedSet(convert_mixed(elements)))
+        }
+    })
+}
+
+/// Puts a set into a register, if each member is valid.
+#[tactic(auto, unfolding(enumset_runs::specs::Runs::mixed_plan))]
+fn as_enumset<T: EnumSetTypeWithRepr>(runner: &mut Runner<MixedSet<T>>, to: u8, a: u8) -> Reply
+    requires to { is_set_register to ≡ true }
+    requires a { is_set_register a ≡ true }
+    ensures reply { result ≡ (mixed_plan (AsEnumset to a)).reply
+        (width_rules (valid_bits T.elements) T.Repr.WIDTH) runner.old }
+    ensures state { runner.new ≡ (mixed_plan (AsEnumset to a)).after
+        (width_rules (valid_bits T.elements) T.Repr.WIDTH) runner.old }
+{
+    match runner.get(a).0.try_as_enumset() {
+        Some(elements) => runner.put(to, MixedSet(convert_mixed(elements))),
+        None => Reply::Absent,
     }
 }
 

@@ -3,11 +3,10 @@
 ghost use Rattle.std.specs.Prelude.{◌≡◌, false, IfOk, IsOk, OnErr};
 ghost use Rattle.enumset_sets.specs.Elements.{valid_bits};
 
-use super::run::Run;
-use super::runner::Runner;
+use super::mixed_set::MixedSet;
 use enumset_commands::{MixedCommand, Reply};
-use enumset_mixed::MixedEnumSet;
 use enumset_repr::EnumSetTypeRepr;
+use enumset_runs::{Run, Runner};
 use enumset_sets::{EnumSetType, EnumSetTypeWithRepr};
 use std::alloc::{AllocError, Global};
 use std::marker::Model;
@@ -17,11 +16,11 @@ use std::marker::Model;
 /// Contracts see the sets as sets of bit numbers, and the iterators as lists of what is left in them.
 #[derive(Drop)]
 pub struct MixedMachine<T: EnumSetTypeWithRepr> {
-    runner: Runner<MixedEnumSet<T>>,
+    runner: Runner<MixedSet<T>>,
 }
 
 impl<T: EnumSetTypeWithRepr> Model for MixedMachine<T> {
-    ghost use Rattle.enumset_machine.specs.States.{State, coded_state};
+    ghost use Rattle.enumset_runs.specs.States.{State, coded_state};
 
     ghost Value = { State };
 
@@ -31,9 +30,9 @@ impl<T: EnumSetTypeWithRepr> Model for MixedMachine<T> {
 }
 
 impl<T: EnumSetTypeWithRepr> MixedMachine<T> {
-    ghost use Rattle.enumset_machine.specs.States.{start};
-    ghost use Rattle.enumset_machine.specs.Plans.{takes_memory};
-    ghost use Rattle.enumset_machine.specs.Runs.{mixed_outcome};
+    ghost use Rattle.enumset_runs.specs.States.{start};
+    ghost use Rattle.enumset_runs.specs.Plans.{takes_memory};
+    ghost use Rattle.enumset_runs.specs.Runs.{mixed_outcome};
 
     /// A machine whose registers are empty.
     pub fn new() -> MixedMachine<T>
@@ -48,7 +47,7 @@ impl<T: EnumSetTypeWithRepr> MixedMachine<T> {
     ///
     /// Only a reply of words takes memory; with any other reply the call succeeds. If memory runs out, the machine is
     /// unchanged.
-    #[tactic(auto, unfolding(crate::specs::Runs::mixed_outcome))]
+    #[tactic(auto, unfolding(enumset_runs::specs::Runs::mixed_outcome))]
     pub fn step(&mut self, alloc: Global, command: &MixedCommand) -> Result<Reply, AllocError>
         ensures succeeds { takes_memory
             (mixed_outcome (valid_bits T.elements) T.Repr.WIDTH self.old command.now).reply
@@ -58,6 +57,6 @@ impl<T: EnumSetTypeWithRepr> MixedMachine<T> {
             ≡ record { reply = reply; state = self.new }) }
         ensures err { OnErr result (self.new ≡ self.old) }
     {
-        MixedEnumSet::<T>::step(&mut self.runner, alloc, command)
+        MixedSet::step(&mut self.runner, alloc, command)
     }
 }

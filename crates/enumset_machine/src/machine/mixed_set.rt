@@ -1,21 +1,25 @@
-//! `MixedEnumSet` as a set of a run.
+//! `MixedEnumSet` as the set of a run.
 
 ghost use Rattle.std.specs.Prelude.{◌≡◌, ◌↔◌, IsSome, IfSome};
 ghost use Rattle.enumset_mixed.specs.Mixed.{bit_with_validity};
 ghost use Rattle.enumset_sets.specs.Elements.{valid_bits};
 
 use super::element_set::element_of;
-use super::run_set::RunSet;
 use enumset_commands::Reply;
 use enumset_mixed::{MixedEnumSet, MixedEnumSetIter, MixedValue};
 use enumset_repr::EnumSetTypeRepr;
+use enumset_runs::RunSet;
 use enumset_sets::{EnumSetType, EnumSetTypeWithRepr};
 use std::cmp::Ordering;
 
-impl<T: EnumSetTypeWithRepr> RunSet for MixedEnumSet<T> {
-    ghost use Rattle.enumset_machine.specs.Plans.{width_rules};
+/// The set of a run: a `MixedEnumSet`.
+#[derive(Clone, Copy)]
+pub(crate) struct MixedSet<T: EnumSetTypeWithRepr>(pub MixedEnumSet<T>);
 
-    ghost members = { λ s. s };
+impl<T: EnumSetTypeWithRepr> RunSet for MixedSet<T> {
+    ghost use Rattle.enumset_runs.specs.Plans.{width_rules};
+
+    ghost members = { λ s. s.0 };
 
     ghost rules = { width_rules (valid_bits T.elements) T.Repr.WIDTH };
 
@@ -35,95 +39,95 @@ impl<T: EnumSetTypeWithRepr> RunSet for MixedEnumSet<T> {
         }
     }
 
-    fn new() -> MixedEnumSet<T> {
-        MixedEnumSet::<T>::new()
+    fn new() -> Self {
+        MixedSet(MixedEnumSet::new())
     }
 
-    fn all() -> MixedEnumSet<T> {
-        MixedEnumSet::<T>::all()
+    fn all() -> Self {
+        MixedSet(MixedEnumSet::all())
     }
 
-    fn only(bit: u32) -> MixedEnumSet<T> {
-        MixedEnumSet::<T>::only(element_of(bit))
+    fn only(bit: u32) -> Self {
+        MixedSet(MixedEnumSet::only(element_of(bit)))
     }
 
     fn insert(&mut self, bit: u32) -> bool {
-        MixedEnumSet::<T>::insert(self, element_of(bit))
+        self.0.insert(element_of(bit))
     }
 
     fn remove(&mut self, bit: u32) -> bool {
-        MixedEnumSet::<T>::remove(self, element_of(bit))
+        self.0.remove(element_of(bit))
     }
 
     fn contains(&self, bit: u32) -> bool {
-        MixedEnumSet::<T>::contains(self, element_of(bit))
+        self.0.contains(element_of(bit))
     }
 
-    fn clear(mut self) -> MixedEnumSet<T> {
-        MixedEnumSet::<T>::clear(&mut self);
+    fn clear(mut self) -> Self {
+        self.0.clear();
         self
     }
 
     fn len(&self) -> usize {
-        MixedEnumSet::<T>::len(self)
+        self.0.len()
     }
 
     fn is_empty(&self) -> bool {
-        MixedEnumSet::<T>::is_empty(self)
+        self.0.is_empty()
     }
 
-    fn union(&self, other: MixedEnumSet<T>) -> MixedEnumSet<T> {
-        MixedEnumSet::<T>::union(self, other)
+    fn union(&self, other: Self) -> Self {
+        MixedSet(self.0.union(other.0))
     }
 
-    fn intersection(&self, other: MixedEnumSet<T>) -> MixedEnumSet<T> {
-        MixedEnumSet::<T>::intersection(self, other)
+    fn intersection(&self, other: Self) -> Self {
+        MixedSet(self.0.intersection(other.0))
     }
 
-    fn difference(&self, other: MixedEnumSet<T>) -> MixedEnumSet<T> {
-        MixedEnumSet::<T>::difference(self, other)
+    fn difference(&self, other: Self) -> Self {
+        MixedSet(self.0.difference(other.0))
     }
 
-    fn symmetric_difference(&self, other: MixedEnumSet<T>) -> MixedEnumSet<T> {
-        MixedEnumSet::<T>::symmetric_difference(self, other)
+    fn symmetric_difference(&self, other: Self) -> Self {
+        MixedSet(self.0.symmetric_difference(other.0))
     }
 
-    fn complement(&self) -> MixedEnumSet<T> {
-        MixedEnumSet::<T>::complement(self)
+    fn complement(&self) -> Self {
+        MixedSet(self.0.complement())
     }
 
-    fn insert_all(mut self, other: MixedEnumSet<T>) -> MixedEnumSet<T> {
-        MixedEnumSet::<T>::insert_all(&mut self, other);
+    fn insert_all(mut self, other: Self) -> Self {
+        self.0.insert_all(other.0);
         self
     }
 
-    fn remove_all(mut self, other: MixedEnumSet<T>) -> MixedEnumSet<T> {
-        MixedEnumSet::<T>::remove_all(&mut self, other);
+    fn remove_all(mut self, other: Self) -> Self {
+        self.0.remove_all(other.0);
         self
     }
 
-    fn is_disjoint(&self, other: MixedEnumSet<T>) -> bool {
-        MixedEnumSet::<T>::is_disjoint(self, other)
+    fn is_disjoint(&self, other: Self) -> bool {
+        self.0.is_disjoint(other.0)
     }
 
-    fn is_superset(&self, other: MixedEnumSet<T>) -> bool {
-        MixedEnumSet::<T>::is_superset(self, other)
+    fn is_superset(&self, other: Self) -> bool {
+        self.0.is_superset(other.0)
     }
 
-    fn is_subset(&self, other: MixedEnumSet<T>) -> bool {
-        MixedEnumSet::<T>::is_subset(self, other)
+    fn is_subset(&self, other: Self) -> bool {
+        self.0.is_subset(other.0)
     }
 
-    fn is_same(&self, other: MixedEnumSet<T>) -> bool {
-        *self == other
+    fn is_same(&self, other: Self) -> bool {
+        self.0 == other.0
     }
 
-    fn compare(&self, other: MixedEnumSet<T>) -> Ordering {
-        self.cmp(&other)
+    fn compare(&self, other: Self) -> Ordering {
+        self.0.cmp(&other.0)
     }
 
     fn number(&self, width: u32) -> Option<u128> {
-        let repr = self.as_repr();
+        let repr = self.0.as_repr();
         match width {
             8 => repr.try_to_u8().map(u128::from),
             16 => repr.try_to_u16().map(u128::from),
@@ -134,7 +138,7 @@ impl<T: EnumSetTypeWithRepr> RunSet for MixedEnumSet<T> {
     }
 
     fn number_cut(&self, width: u32) -> u128 {
-        let repr = self.as_repr();
+        let repr = self.0.as_repr();
         match width {
             8 => u128::from(repr.to_u8()),
             16 => u128::from(repr.to_u16()),
@@ -144,7 +148,7 @@ impl<T: EnumSetTypeWithRepr> RunSet for MixedEnumSet<T> {
         }
     }
 
-    fn from_number(width: u32, value: u128) -> Option<MixedEnumSet<T>> {
+    fn from_number(width: u32, value: u128) -> Option<Self> {
         from_repr(match width {
             8 => T::Repr::try_from_u8(value as u8),
             16 => T::Repr::try_from_u16(value as u16),
@@ -155,35 +159,35 @@ impl<T: EnumSetTypeWithRepr> RunSet for MixedEnumSet<T> {
     }
 
     #[tactic(auto, using(crate::proofs::Cuts::low_below))]
-    fn from_number_cut(width: u32, value: u128) -> MixedEnumSet<T> {
-        MixedEnumSet::from_repr(match width {
+    fn from_number_cut(width: u32, value: u128) -> Self {
+        MixedSet(MixedEnumSet::from_repr(match width {
             8 => T::Repr::from_u8(value as u8),
             16 => T::Repr::from_u16(value as u16),
             32 => T::Repr::from_u32(value as u32),
             64 => T::Repr::from_u64(value as u64),
             _ => T::Repr::from_u128(value),
-        })
+        }))
     }
 
     fn words(&self, slice: &mut [u64]) -> Option<()> {
-        self.as_repr().try_to_u64_slice(slice)
+        self.0.as_repr().try_to_u64_slice(slice)
     }
 
     fn words_cut(&self, slice: &mut [u64]) {
-        self.as_repr().to_u64_slice(slice);
+        self.0.as_repr().to_u64_slice(slice);
     }
 
-    fn from_words(words: &[u64]) -> Option<MixedEnumSet<T>> {
+    fn from_words(words: &[u64]) -> Option<Self> {
         from_repr(T::Repr::try_from_u64_slice(words))
     }
 
     #[tactic(auto, using(crate::proofs::Cuts::low_below))]
-    fn from_words_cut(words: &[u64]) -> MixedEnumSet<T> {
-        MixedEnumSet::from_repr(T::Repr::from_u64_slice(words))
+    fn from_words_cut(words: &[u64]) -> Self {
+        MixedSet(MixedEnumSet::from_repr(T::Repr::from_u64_slice(words)))
     }
 
     fn items(&self) -> MixedEnumSetIter<T> {
-        MixedEnumSet::<T>::iter(self)
+        self.0.iter()
     }
 
     #[tactic(auto, using(enumset_mixed::specs::Laws::Items::gave_first))]
@@ -207,12 +211,12 @@ impl<T: EnumSetTypeWithRepr> RunSet for MixedEnumSet<T> {
 }
 
 /// The set that a value of the representation represents, if there is one.
-fn from_repr<T: EnumSetTypeWithRepr>(repr: Option<T::Repr>) -> Option<MixedEnumSet<T>>
+fn from_repr<T: EnumSetTypeWithRepr>(repr: Option<T::Repr>) -> Option<MixedSet<T>>
     ensures some { IsSome result ↔ IsSome repr }
-    ensures members { IfSome result (λ s. IfSome repr (λ r. s ≡ T.Repr.members r)) }
+    ensures members { IfSome result (λ s. IfSome repr (λ r. s.0 ≡ T.Repr.members r)) }
 {
     match repr {
-        Some(repr) => Some(MixedEnumSet::from_repr(repr)),
+        Some(repr) => Some(MixedSet(MixedEnumSet::from_repr(repr))),
         None => None,
     }
 }

@@ -1,0 +1,4 @@
+pub mod Answered
+pub mod OneTranscript
+pub mod Alike
+pub mod StatesOfRuns

@@ -1,0 +1,90 @@
+//! Answers a text of commands by the text of their replies.
+
+ghost use Rattle.std.specs.Prelude.{◌≡◌, ◌++◌, codes, IfOk, IfErr, Ok, OnOk};
+ghost use Rattle.std.specs.String.{string_bytes};
+ghost use Rattle.enumset_runs.specs.States.{start};
+ghost use Rattle.enumset_runs.specs.Plans.{outcome_by, replies_by};
+ghost use Rattle.enumset_runs.specs.Answers.{answer_by, commands_of};
+ghost use Rattle.enumset_commands.specs.Lines.{commands_of_text};
+ghost use Rattle.enumset_commands.specs.Texts.{IsFaultOf, text_of};
+
+use crate::run::Run;
+use crate::runner::Runner;
+use enumset_commands::grammar::lines::Lines;
+use enumset_commands::grammar::tokens::Tokens;
+use enumset_commands::{LineCommand, TextFault, write_reply};
+use std::alloc::{AllocError, Global};
+
+/// The most bytes that an input may have.
+pub const INPUT_LIMIT: usize = 1_048_576;
+
+/// The text of the replies to the commands of an input, from empty registers.
+///
+/// The errors are [`TextFault::TooLong`] for an input of more than [`INPUT_LIMIT`] bytes, else
+/// [`TextFault::BadLine`] for the first line that is not a command, and else
+/// [`TextFault::OutOfMemory`].
+pub fn serve_over<S: Run>(alloc: Global, input: &[u8]) -> Result<Vec<u8>, TextFault>
+where
+    S::Command: LineCommand,
+    ensures answer { IfOk result (λ out. answer_by (replies_by (outcome_by S.rules S.plan) start)
+        (commands_of S.Command.command_of input.now) ≡ Ok out.items) }
+    ensures fault { IfErr result (λ fault. IsFaultOf (answer_by (replies_by (outcome_by S.rules S.plan) start)
+        (commands_of S.Command.command_of input.now)) fault) }
+{
+    if input.len() > INPUT_LIMIT {
+        return Err(TextFault::TooLong);
+    }
+    answer_lines::<S>(alloc, input)
+}
+
+/// The same for an input of any length. Each command is read, carried out and answered before the next. If memory runs
+/// out, the remaining lines are still read, so an input with a line that is not a command is reported as such.
+#[tactic(auto, using(crate::proofs::Answered::line_steps))]
+fn answer_lines<S: Run>(alloc: Global, input: &[u8]) -> Result<Vec<u8>, TextFault>
+where
+    S::Command: LineCommand,
+    ensures answer { IfOk result (λ out. answer_by (replies_by (outcome_by S.rules S.plan) start)
+        (commands_of_text S.Command.command_of input.now) ≡ Ok out.items) }
+    ensures fault { IfErr result (λ fault. IsFaultOf (answer_by (replies_by (outcome_by S.rules S.plan) start)
+        (commands_of_text S.Command.command_of input.now)) fault) }
+{
+    let mut runner = Runner::<S>::new();
+    let mut text = String::new(alloc);
+    let mut has_room = true;
+    let mut number = 0u64;
+    for line in Lines::new(input) {
+        number += 1;
+        let mut tokens = Tokens::new(line);
+        if let Some(name) = tokens.next() {
+            let command = S::Command::read(alloc, name, tokens).ok_or(TextFault::BadLine(number))?;
+            has_room = match command {
+                Ok(command) => has_room
+                    && answer_command(alloc, &mut runner, command, &mut text).is_ok(),
+                Err(_) => false,
+            };
+        }
+    }
+    if has_room {
+        Ok(text.into_bytes())
+    } else {
+        Err(TextFault::OutOfMemory)
+    }
+}
+
+/// Carries out one command, and writes its reply in a line.
+fn answer_command<S: Run>(
+    alloc: Global,
+    runner: &mut Runner<S>,
+    command: S::Command,
+    text: &mut String,
+) -> Result<(), AllocError>
+where
+    S::Command: LineCommand,
+    ensures state { OnOk result
+        (runner.new ≡ (outcome_by S.rules S.plan runner.old command).state) }
+    ensures text { OnOk result (string_bytes text.new ≡ string_bytes text.old
+        ++ text_of (outcome_by S.rules S.plan runner.old command).reply ++ codes "\n") }
+{
+    let reply = S::step(runner, alloc, &command)?;
+    write_reply(text, &reply)
+}
