@@ -13,11 +13,15 @@ mod expect;
 #[cfg(test)]
 mod hashes;
 #[cfg(test)]
+mod integers;
+#[cfg(test)]
 mod items;
 #[cfg(test)]
 mod long_texts;
 #[cfg(test)]
 mod mixed;
+#[cfg(test)]
+mod of_256;
 #[cfg(test)]
 mod operators;
 #[cfg(test)]

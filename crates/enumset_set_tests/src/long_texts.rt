@@ -1,10 +1,10 @@
 //! Texts of many members, and texts that a writer does not take to their end.
 
 use crate::expect::expect;
+use crate::of_256::Of256;
 use crate::sets::two_of;
 use enumset_mixed::{MixedEnumSet, MixedValue};
 use enumset_sets::EnumSet;
-use enumset_test_types::Of256;
 use enumset_worked::{Letters, Marks, PairNumber};
 use std::fmt::{self, Write};
 use std::test::Fail;

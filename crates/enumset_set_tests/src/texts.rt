@@ -1,8 +1,8 @@
 //! The texts of sets at each representation: of the empty set, of one element and of all.
 
 use crate::expect::{expect, same_lines};
+use crate::integers::{In16, In32, In64};
 use enumset_sets::{EnumSet, EnumSetType};
-use enumset_test_types::{In16, In32, In64};
 use enumset_worked::{Letters, Sparse, Wide};
 use std::alloc::AllocError;
 use std::fmt;

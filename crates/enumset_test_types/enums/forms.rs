@@ -18,3 +18,11 @@ pub enum InWords {
     Low = 1,
     High = 200,
 }
+
+/// Two variants, on bits 0 and 31, whose sets are numbers of 32 bits.
+#[derive(EnumSetType, Debug)]
+#[enumset(no_ops, repr = "u32", serialize_repr = "u32")]
+pub enum In32Bits {
+    A,
+    B = 31,
+}

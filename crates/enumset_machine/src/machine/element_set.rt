@@ -18,9 +18,11 @@ pub(super) fn element_of<T: EnumSetType>(bit: u32) -> T
     T::enum_from_u32(bit)
 }
 
-/// The set of a run: an `EnumSet`.
-#[derive(Clone, Copy)]
-pub(crate) struct ElementSet<T: EnumSetType>(EnumSet<T>);
+/// The set of a run: an `EnumSet`. Its second parameter is that of `EnumSet`.
+#[derive(Clone, Copy, Drop)]
+pub(crate) struct ElementSet<T: EnumSetType, R: EnumSetTypeRepr = <T as EnumSetType>::Repr>(
+    EnumSet<T, R>,
+);
 
 impl<T: EnumSetType> RunSet for ElementSet<T> {
     ghost use Rattle.enumset_runs.specs.Plans.{valid_rules};

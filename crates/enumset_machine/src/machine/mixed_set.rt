@@ -12,9 +12,11 @@ use enumset_runs::RunSet;
 use enumset_sets::{EnumSetType, EnumSetTypeWithRepr};
 use std::cmp::Ordering;
 
-/// The set of a run: a `MixedEnumSet`.
-#[derive(Clone, Copy)]
-pub(crate) struct MixedSet<T: EnumSetTypeWithRepr>(pub MixedEnumSet<T>);
+/// The set of a run: a `MixedEnumSet`. Its second parameter is that of `MixedEnumSet`.
+#[derive(Clone, Copy, Drop)]
+pub(crate) struct MixedSet<T: EnumSetTypeWithRepr, R: EnumSetTypeRepr = <T as EnumSetType>::Repr>(
+    pub(super) MixedEnumSet<T, R>,
+);
 
 impl<T: EnumSetTypeWithRepr> RunSet for MixedSet<T> {
     ghost use Rattle.enumset_runs.specs.Plans.{width_rules};

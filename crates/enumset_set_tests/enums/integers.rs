@@ -4,7 +4,7 @@ use enumset::EnumSetType;
 
 /// Two variants, on bits 0 and 15 of a `u16`.
 #[derive(EnumSetType, Debug)]
-#[enumset(no_ops, repr = "u16", display)]
+#[enumset(no_ops, repr = "u16", display, crate_name = "enumset_sets")]
 pub enum In16 {
     A,
     B = 15,
@@ -12,7 +12,7 @@ pub enum In16 {
 
 /// Two variants, on bits 0 and 31 of a `u32`.
 #[derive(EnumSetType, Debug)]
-#[enumset(no_ops, repr = "u32", display, serialize_repr = "u32")]
+#[enumset(no_ops, repr = "u32", display, crate_name = "enumset_sets")]
 pub enum In32 {
     A,
     B = 31,
@@ -20,7 +20,7 @@ pub enum In32 {
 
 /// Two variants, on bits 0 and 63 of a `u64`.
 #[derive(EnumSetType, Debug)]
-#[enumset(no_ops, repr = "u64", display)]
+#[enumset(no_ops, repr = "u64", display, crate_name = "enumset_sets")]
 pub enum In64 {
     A,
     B = 63,

@@ -1,6 +1,6 @@
 //! Enums of two variants, on the lowest and the highest bit of an integer.
 
-use enumset::{EnumSet, EnumSetType, EnumSetTypeWithRepr, set_json};
+use enumset_sets::{EnumSetType, EnumSetTypeWithRepr};
 
 /// Two variants, on bits 0 and 15 of a `u16`.
 #[derive(Clone, Copy, PartialEq, Eq, Debug)]
@@ -12,8 +12,8 @@ pub enum In16 {
 impl EnumSetType for In16 {
     ghost use Rattle.std.specs.Prelude.{◌∷◌, []};
     ghost use Rattle.enumset_sets.specs.Laws.Elements.{with_bits, lawful_in_integer};
-    ghost use Rattle.enumset_test_types.specs.contracts.integers.In16.{the_type};
-    ghost use Rattle.enumset_test_types.specs.declared.integers.In16.TheVariants as variant;
+    ghost use Rattle.enumset_set_tests.specs.contracts.integers.In16.{the_type};
+    ghost use Rattle.enumset_set_tests.specs.declared.integers.In16.TheVariants as variant;
 
     type Repr = u16;
 
@@ -59,7 +59,7 @@ impl std::fmt::Display for In16 {
     ghost use Rattle.std.specs.Prelude.{Some, ◌∷◌, [], codes};
     ghost use Rattle.std.specs.List.{slice_index_or};
     ghost use denote.Enum.Declared.{tag_of};
-    ghost use Rattle.enumset_test_types.specs.contracts.integers.In16.{the_type};
+    ghost use Rattle.enumset_set_tests.specs.contracts.integers.In16.{the_type};
 
     ghost output = { λ v. Some (slice_index_or
         (codes "A" ∷ codes "B" ∷ [])
@@ -83,8 +83,8 @@ pub enum In32 {
 impl EnumSetType for In32 {
     ghost use Rattle.std.specs.Prelude.{◌∷◌, []};
     ghost use Rattle.enumset_sets.specs.Laws.Elements.{with_bits, lawful_in_integer};
-    ghost use Rattle.enumset_test_types.specs.contracts.integers.In32.{the_type};
-    ghost use Rattle.enumset_test_types.specs.declared.integers.In32.TheVariants as variant;
+    ghost use Rattle.enumset_set_tests.specs.contracts.integers.In32.{the_type};
+    ghost use Rattle.enumset_set_tests.specs.declared.integers.In32.TheVariants as variant;
 
     type Repr = u32;
 
@@ -130,7 +130,7 @@ impl std::fmt::Display for In32 {
     ghost use Rattle.std.specs.Prelude.{Some, ◌∷◌, [], codes};
     ghost use Rattle.std.specs.List.{slice_index_or};
     ghost use denote.Enum.Declared.{tag_of};
-    ghost use Rattle.enumset_test_types.specs.contracts.integers.In32.{the_type};
+    ghost use Rattle.enumset_set_tests.specs.contracts.integers.In32.{the_type};
 
     ghost output = { λ v. Some (slice_index_or
         (codes "A" ∷ codes "B" ∷ [])
@@ -144,44 +144,6 @@ impl std::fmt::Display for In32 {
     }
 }
 
-impl In32 {
-    ghost use Rattle.std.specs.Prelude.{◌≡◌, ◌↔◌, IsOk, IfOk, IfErr, IsTrue};
-    ghost use Rattle.enumset_repr.specs.BitSet.{is_subset, below};
-    ghost use Rattle.enumset_repr.specs.Number.{number};
-    ghost use Rattle.enumset_sets.specs.Elements.{valid_bits};
-    ghost use Rattle.serde_json.specs.View.{view};
-    ghost use Rattle.enumset.specs.Json.{number_value, set_of_number};
-    ghost use Rattle.enumset.specs.declared.set_json.fault.JsonFault.TheVariants.{TooWide};
-    ghost use Rattle.enumset.specs.declared.set_json.unknown.Unknown.TheVariants as unknown;
-
-    /// The set's number, which JSON takes as a `u32`.
-    ///
-    /// The only fault is [`set_json::JsonFault::TooWide`], of a member that is past its bits. It takes no memory.
-    pub fn to_json(
-        alloc: std::alloc::Global,
-        set: &EnumSet<Self>,
-    ) -> std::result::Result<serde_json::Value, set_json::JsonFault>
-        ensures fits { IsOk result ↔ IsTrue (is_subset set.now (below 32)) }
-        ensures value { IfOk result (λ value. view value ≡ number_value (number set.now)) }
-        ensures fault { IfErr result (λ fault. fault ≡ TooWide) }
-    {
-        set_json::to_number(alloc, set, set_json::JsonWidth::U32)
-    }
-
-    /// The set that `to_json` writes so. Bits that no variant has are left out.
-    ///
-    /// The faults are those of [`set_json::from_number`], in their order. It takes no memory.
-    pub fn from_json(
-        value: &serde_json::Value,
-    ) -> std::result::Result<EnumSet<Self>, set_json::JsonFault>
-        ensures { result ≡ set_of_number
-            (valid_bits ⟦<In32 as EnumSetType>⟧.elements) 32
-            unknown.Drop (view value.now) }
-    {
-        set_json::from_number(value, set_json::JsonWidth::U32, set_json::Unknown::Drop)
-    }
-}
-
 /// Two variants, on bits 0 and 63 of a `u64`.
 #[derive(Clone, Copy, PartialEq, Eq, Debug)]
 pub enum In64 {
@@ -192,8 +154,8 @@ pub enum In64 {
 impl EnumSetType for In64 {
     ghost use Rattle.std.specs.Prelude.{◌∷◌, []};
     ghost use Rattle.enumset_sets.specs.Laws.Elements.{with_bits, lawful_in_integer};
-    ghost use Rattle.enumset_test_types.specs.contracts.integers.In64.{the_type};
-    ghost use Rattle.enumset_test_types.specs.declared.integers.In64.TheVariants as variant;
+    ghost use Rattle.enumset_set_tests.specs.contracts.integers.In64.{the_type};
+    ghost use Rattle.enumset_set_tests.specs.declared.integers.In64.TheVariants as variant;
 
     type Repr = u64;
 
@@ -239,7 +201,7 @@ impl std::fmt::Display for In64 {
     ghost use Rattle.std.specs.Prelude.{Some, ◌∷◌, [], codes};
     ghost use Rattle.std.specs.List.{slice_index_or};
     ghost use denote.Enum.Declared.{tag_of};
-    ghost use Rattle.enumset_test_types.specs.contracts.integers.In64.{the_type};
+    ghost use Rattle.enumset_set_tests.specs.contracts.integers.In64.{the_type};
 
     ghost output = { λ v. Some (slice_index_or
         (codes "A" ∷ codes "B" ∷ [])
