@@ -1,10 +1,10 @@
 //! The commands that mixed sets alone have.
 
-ghost use Rattle.std.specs.Prelude.{◌≡◌, true, false, IsOk, IfOk, OnOk, OnErr};
-ghost use Rattle.enumset_repr.specs.BitSet.{contains, below};
+ghost use Rattle.std.specs.Prelude.{◌≡◌, true, false, if◌then◌else◌, IsOk, IfOk, OnOk, OnErr};
+ghost use Rattle.enumset_repr.specs.BitSet.{contains, below, is_subset};
 ghost use Rattle.enumset_sets.specs.Elements.{valid_bits};
-ghost use Rattle.enumset_commands.specs.declared.mixed_command.MixedCommand.TheVariants.{AsEnumset};
-ghost use Rattle.enumset_runs.specs.States.{is_set_register};
+ghost use Rattle.enumset_commands.specs.declared.reply.Reply.TheVariants.{Done, Absent};
+ghost use Rattle.enumset_runs.specs.States.{is_set_register, set_at, put_set};
 ghost use Rattle.enumset_runs.specs.Plans.{width_rules, refusal, takes_memory};
 ghost use Rattle.enumset_runs.specs.Runs.{mixed_plan};
 
@@ -99,14 +99,14 @@ fn carry_out_mixed<T: EnumSetTypeWithRepr>(
 }
 
 /// Puts a set into a register, if each member is valid.
-#[tactic(auto, unfolding(enumset_runs::specs::Runs::mixed_plan))]
 fn as_enumset<T: EnumSetTypeWithRepr>(runner: &mut Runner<MixedSet<T>>, to: u8, a: u8) -> Reply
     requires to { is_set_register to ≡ true }
     requires a { is_set_register a ≡ true }
-    ensures reply { result ≡ (mixed_plan (AsEnumset to a)).reply
-        (width_rules (valid_bits T.elements) T.Repr.WIDTH) runner.old }
-    ensures state { runner.new ≡ (mixed_plan (AsEnumset to a)).after
-        (width_rules (valid_bits T.elements) T.Repr.WIDTH) runner.old }
+    ensures reply { let s = set_at runner.old a in
+        result ≡ (if is_subset s (valid_bits T.elements) then Done else Absent) }
+    ensures state { let s = set_at runner.old a in
+        runner.new ≡ (if is_subset s (valid_bits T.elements)
+        then put_set runner.old to s else runner.old) }
 {
     match runner.get(a).0.try_as_enumset() {
         Some(elements) => runner.put(to, MixedSet(convert_mixed(elements))),
