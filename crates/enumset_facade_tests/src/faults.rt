@@ -1,11 +1,13 @@
-//! The texts of faults of JSON. What strings are read as is in `scripts/json-rows.txt`.
+//! The texts of faults of JSON, and the lines of parse errors. What strings are read as is in `scripts/json-rows.txt`.
 
 use crate::expect::expect;
-use enumset::set_json::{JsonFault, Unknown, from_list_text};
+use enumset::set_json::{
+    JsonFault, JsonWidth, Unknown, from_list_text, from_map_text, from_number_text,
+    from_words_text, mixed_from_number_text, mixed_from_words_text,
+};
 use enumset_test_types::Letters;
 use std::test::Fail;
 
-// The last is that of a text of two lines, on the second.
 #[test]
 fn faults_have_their_texts(rt: HostRuntime) -> Result<(), Fail> {
     let faults = [
@@ -27,10 +29,6 @@ fn faults_have_their_texts(rt: HostRuntime) -> Result<(), Fail> {
     for fault in &faults {
         writeln!(text, "{fault}")?;
     }
-    let read = from_list_text::<Letters>(rt.alloc(), "[\"A\",\n\"B\",]", Unknown::Drop);
-    if let Err(fault) = read {
-        writeln!(text, "{fault}")?;
-    }
     expect(&rt, "faults", text.as_str(), FAULTS);
     Ok(())
 }
@@ -49,5 +47,19 @@ unknown bits
 name 3: unknown
 line 4: not JSON
 out of memory
-line 2: not JSON
 ";
+
+// A comma comes before the bracket on the third line.
+#[test]
+fn parse_errors_have_their_lines(rt: HostRuntime) {
+    let (alloc, text, unknown) = (rt.alloc(), "[\n0,\n]", Unknown::Drop);
+    let faults = [
+        from_number_text::<Letters>(alloc, text, JsonWidth::U8, unknown).err(),
+        from_words_text::<Letters>(alloc, text, unknown).err(),
+        from_list_text::<Letters>(alloc, text, unknown).err(),
+        from_map_text::<Letters>(alloc, text, unknown).err(),
+        mixed_from_number_text::<Letters>(alloc, text).err(),
+        mixed_from_words_text::<Letters>(alloc, text, unknown).err(),
+    ];
+    expect(&rt, "faults", faults, [Some(JsonFault::NotJson(3)); 6]);
+}

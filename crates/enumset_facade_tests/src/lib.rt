@@ -21,6 +21,8 @@ mod forms;
 #[cfg(test)]
 mod macros;
 #[cfg(test)]
+mod many_elements;
+#[cfg(test)]
 mod no_variant;
 #[cfg(test)]
 mod reading_newer;

@@ -1,12 +1,10 @@
 //! Sets to and from numbers and words, by the calls that no command makes.
 
 use crate::expect::expect;
-use crate::of_256::Of256;
 use crate::sets::two_of;
 use enumset_sets::{EnumSet, EnumSetType};
 use enumset_worked::{Letters, Sparse, Wide};
 use std::process::Abort;
-use std::test::Fail;
 
 // The commands make the `try_` and `_truncated` calls of each type but `usize`.
 #[test]
@@ -28,15 +26,6 @@ fn numbers_of_letters(rt: HostRuntime) {
     let cut = EnumSet::from_usize_truncated(193);
     expect(&rt, "from_usize_truncated", cut, set);
     expect_made(&rt, 65, &set);
-}
-
-#[test]
-fn vectors_of_four_words(rt: HostRuntime) -> Result<(), Fail> {
-    let all = EnumSet::<Of256>::all().to_vec(rt.alloc())?;
-    expect(&rt, "to_vec", all.as_slice(), &[u64::MAX; 4]);
-    let none = EnumSet::<Of256>::new().to_vec(rt.alloc())?;
-    expect(&rt, "to_vec", none.as_slice(), &[0; 4]);
-    Ok(())
 }
 
 // Makes a set of its number, by each call with a requirement.

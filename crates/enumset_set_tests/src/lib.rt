@@ -21,8 +21,6 @@ mod long_texts;
 #[cfg(test)]
 mod mixed;
 #[cfg(test)]
-mod of_256;
-#[cfg(test)]
 mod operators;
 #[cfg(test)]
 mod sets;

@@ -1,27 +1,12 @@
 //! Texts of many members, and texts that a writer does not take to their end.
 
 use crate::expect::expect;
-use crate::of_256::Of256;
 use crate::sets::two_of;
 use enumset_mixed::{MixedEnumSet, MixedValue};
 use enumset_sets::EnumSet;
 use enumset_worked::{Letters, Marks, PairNumber};
 use std::fmt::{self, Write};
 use std::test::Fail;
-
-// V0 has bit 0, V1 bit 1 and so on.
-#[test]
-fn texts_of_many_elements(rt: HostRuntime) -> Result<(), Fail> {
-    let (alloc, mut names) = (rt.alloc(), String::from_str(rt.alloc(), "V0")?);
-    for bit in 1..256 {
-        write!(names, " | V{bit}")?;
-    }
-    let all = EnumSet::<Of256>::all();
-    let text = format!(in alloc; "{all} {all:?}")?;
-    let wanted = format!(in alloc; "{names} EnumSet({names})")?;
-    expect(&rt, "a text", text.as_str(), wanted.as_str());
-    Ok(())
-}
 
 // All bits of 128, of which two have variants.
 #[test]

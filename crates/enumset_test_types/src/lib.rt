@@ -1,4 +1,5 @@
-//! Element types for tests: of up to 64 variants, with gaps, over many words, and with a form in JSON.
+//! Element types for tests: of up to 256 variants, of which an enum may have no more, with gaps, over many
+//! words, and with a form in JSON.
 //!
 //! Most modules are what `enumset_derive` writes from their files in `enums/`: change such a file, and call
 //! `scripts/written-types`. None of them needs a proof file.
@@ -11,9 +12,10 @@ pub mod far_bits;
 pub mod forms;
 pub mod gaps_in_u128;
 pub mod named;
+pub mod of_256;
+pub mod of_256_names;
 pub mod of_33;
 pub mod of_64;
-pub mod of_64_names;
 pub mod priority;
 pub mod wide;
 pub mod wide_names;
@@ -24,5 +26,6 @@ pub use gaps_in_u128::GapsInU128;
 pub use named::{LaterLetters, Letters, Sparse};
 pub use of_33::Of33;
 pub use of_64::Of64;
+pub use of_256::Of256;
 pub use priority::Priority;
 pub use wide::Wide;
