@@ -1,5 +1,5 @@
 -- Steps of an iterator from either end: what they leave, and how many asks they may make.
-use Rattle.std.proofs.Common.{◌≡◌, ◌<◌, ◌≤◌, ℕ, ◌+◌, List, [], ◌∷◌, ◌++◌, Bool, true, false, Option, Some, None, MatchOption, is_some, if◌then◌else◌, length, drop, get_or, sym, ap, ◌∙◌, subst, arith}
+use Rattle.std.proofs.Common.{◌≡◌, ◌<◌, ◌≤◌, ℕ, ◌+◌, List, [], ◌∷◌, ◌++◌, Bool, Option, Some, None, MatchOption, is_some, if◌then◌else◌, length, drop, get_or, sym, ap, ◌∙◌, subst, arith}
 use Rattle.std.proofs.lemmas.List.{drop_more, drop_all}
 use Rattle.enumset_repr.specs.Asks.{BoundsAsks}
 use Rattle.enumset_repr.specs.BitSet.{BitSet}
@@ -50,19 +50,10 @@ answers-cons : (xs : List ℕ) (e : End) (es : List End) → length (items_among
 unfolding answers
 answers-cons xs e es = items_among-cons (answer e xs) (answers (without_answer e xs) es)
 
-pub length-items_among : (rs : List (Option ℕ)) → length (items_among rs) ≤ length rs
-unfolding items_among
-length-items_among [] = omega arith
-length-items_among (None ∷ rs) = omega (arith, length-items_among rs)
-length-items_among (Some b ∷ rs) = omega (arith, length-items_among rs)
-
 pub few_answers : (xs : List ℕ) (es : List End) → length (items_among (answers xs es)) ≤ length es
 unfolding answers items_among
 few_answers xs [] = omega arith
-few_answers xs (e ∷ es) = omega (arith, answers-cons xs e es, few_answers (without_answer e xs) es, at_most_one (is_some (answer e xs))) where
-  at_most_one : (b : Bool) → (if b then 1 else 0) ≤ 1
-  at_most_one true = omega arith
-  at_most_one false = omega arith
+few_answers xs (e ∷ es) = grind (arith, answers-cons xs e es, few_answers (without_answer e xs) es)
 
 -- one more of a list of ends
 pub left_next : (xs : List ℕ) (es : List End) (i : ℕ) (ys zs : List ℕ) → i < length es → without_answers ys (drop i es) ≡ without_answers xs es → zs ≡ without_answer (get_or es i Front) ys → without_answers zs (drop (i + 1) es) ≡ without_answers xs es
