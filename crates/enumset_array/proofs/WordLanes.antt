@@ -130,17 +130,12 @@ lanes_ended ws lanes i j before same = fold_none 0 lanes ∙ before ∙ ap (λ k
 
 zip_none : (a b : List ℕ) → length a ≡ length b → none_in (zip2 bit_or a b) ≡ (none_in a && none_in b)
 zip_none [] [] e = refl
-zip_none [] (y ∷ b) e = absurd (omega (arith, e))
-zip_none (x ∷ a) [] e = absurd (omega (arith, e))
 zip_none (x ∷ a) (y ∷ b) e = grind (arith, nat_tests, or_none x y, zip_none a b (omega (arith, e)))
+zip_none a b e = absurd (omega (arith, e))
 
 -- the test of the first j words, from that of the first i and that of the next n
 pub more_none : (ws : List ℕ) (i n j : ℕ) → j ≡ i + n → none_in (take j ws) ≡ (none_in (take i ws) && none_in (chunk i n ws))
 more_none ws i n j next = ap (λ k. none_in (take k ws)) next ∙ ap none_in (take-add i n ws) ∙ list_all-append (λ w. w == 0) (take i ws) (chunk i n ws)
-
--- the test of all words, from that of the first n and that of the others
-pub split_none : (ws : List ℕ) (n : ℕ) → none_in ws ≡ (none_in (take n ws) && none_in (drop n ws))
-split_none ws n = ap none_in (sym (take-append-drop n ws)) ∙ list_all-append (λ w. w == 0) (take n ws) (drop n ws)
 
 -- four words more, as lanes
 pub joined_none : (ws lanes more : List ℕ) (i j : ℕ) → more ≡ chunk i 4 ws → j ≡ i + 4 → j ≤ length ws → length lanes ≡ 4 → none_in lanes ≡ none_in (take i ws)
@@ -163,9 +158,8 @@ xor_none x y =
 
 pub none_apart : (a b : List ℕ) → length a ≡ length b → none_in (zip2 bit_xor a b) ≡ pointwise nat_eq a b
 none_apart [] [] e = refl
-none_apart [] (y ∷ b) e = absurd (omega (arith, e))
-none_apart (x ∷ a) [] e = absurd (omega (arith, e))
 none_apart (x ∷ a) (y ∷ b) e = (λ i. xor_none x y i && none_apart a b (omega (arith, e)) i)
+none_apart a b e = absurd (omega (arith, e))
 
 -- ---- blocks of pairs of words, where `any` is 0 exactly if all results of a block are
 
@@ -180,7 +174,7 @@ module _ (op : ℕ → ℕ → ℕ) (a b : List ℕ) (i n any : ℕ) (here : (an
 
   -- a block with a result that is not 0
   pub some_block : any ≢ 0 → false ≡ none_in (zip2 op a b)
-  some_block some = let part = with_block in let whole = split_none (zip2 op a b) (i + n) in grind (arith, nat_tests)
+  some_block some = let part = with_block in let whole = ap none_in (sym (take-append-drop (i + n) (zip2 op a b))) ∙ list_all-append (λ w. w == 0) (take (i + n) (zip2 op a b)) (drop (i + n) (zip2 op a b)) in grind (arith, nat_tests)
 
   -- the results after the last whole block
   pub last_block : i + n ≡ length a → length a ≡ length b → none_in (take i (zip2 op a b)) ≡ true → (any == 0) ≡ none_in (zip2 op a b)

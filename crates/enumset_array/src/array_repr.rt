@@ -58,9 +58,9 @@ impl<const N: usize> PartialEq for ArrayRepr<N> {
 }
 
 impl<const N: usize> Eq for ArrayRepr<N> {
-    ghost use Rattle.enumset_array.specs.Laws.ArrayWords.{same_words-IsEquivalence};
+    ghost use Rattle.std.proofs.lemmas.Cmp.{nat_list_eq_equiv};
 
-    ghost laws = { same_words-IsEquivalence };
+    ghost laws = { nat_list_eq_equiv };
 }
 
 impl<const N: usize> ArrayRepr<N> {
