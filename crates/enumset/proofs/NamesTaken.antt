@@ -4,7 +4,7 @@ use Rattle.std.specs.Prelude.{◌||◌, not, nat_lt, if◌then◌else◌, zip, f
 use Rattle.std.specs.List.{list_all, prefix_len, position_or_len, cons_option, position_from}
 use Rattle.std.specs.Ordering.{nat_cmp, is_eq, match_ordering}
 use Rattle.std.specs.Cmp.Lexicographic.{slice_cmp}
-use Rattle.std.proofs.lemmas.Bool.{false≢true, and_parts, cond-true, cond-false, cases_Bool}
+use Rattle.std.proofs.lemmas.Bool.{and_parts, cond-true, cond-false, cases_Bool}
 use Rattle.std.proofs.lemmas.Bool.Decides.{nat_tests, same_from_decides}
 use Rattle.std.proofs.lemmas.Iterator.Adapters.{position_from-zero}
 use Rattle.std.proofs.lemmas.List.{length-map}
@@ -13,14 +13,13 @@ use Rattle.std.proofs.lemmas.List.Recursion.{same_from_clauses}
 use Rattle.std.proofs.lemmas.Map.Text.{is_eq-slice_cmp}
 use Rattle.std.proofs.lemmas.Slice.Eq.{bytes_eq-Decides}
 use Rattle.enumset_repr.specs.BitSet.{BitSet, is_in, contains, insert, intersection, from_list, ascending, is_subset}
-use Rattle.enumset_repr.specs.Laws.Members.{same_set, contains-from_list, contains-ascending, contains-is_subset, is_subset-contains, list_all-each}
+use Rattle.enumset_repr.specs.Laws.Members.{same_set, contains-from_list, contains-ascending, contains-is_subset, is_subset-contains, list_all-any, list_all-each}
 use Rattle.enumset_repr.specs.Laws.Algebra.{from_list_ascending, insert_inside, empty_intersection, intersection_within}
 use Rattle.enumset.specs.Laws.Sets.{intersection_insert}
 use Rattle.enumset_sets.specs.Laws.Elements.{AreBitsOf-ascending}
 use Rattle.serde_json.specs.Data.{Data, boolean, string, Members, no_members, member, put}
-use Rattle.serde_json.specs.View.{items_of}
 use Rattle.enumset.specs.Names.{Names, name_of, bit_named, names_agree}
-use Rattle.enumset.specs.Json.{unless_fault, values_of}
+use Rattle.enumset.specs.Json.{unless_fault}
 use Rattle.enumset.specs.JsonNames.{members_in, names_in, true_names, text_of, is_true, is_no_text, is_no_boolean, is_unknown, decided, named_set, set_of_values, set_of_list, set_of_map, list_value, with_bits_true, map_value, in_map, accepted_by_name}
 use Rattle.enumset.specs.declared.set_json.unknown.Unknown.{Unknown}
 use Rattle.enumset.specs.declared.set_json.unknown.Unknown.TheVariants.{Drop, Refuse}
@@ -28,13 +27,6 @@ use Rattle.enumset.specs.declared.set_json.fault.JsonFault.{JsonFault}
 use Rattle.enumset.specs.declared.set_json.fault.JsonFault.TheVariants.{NotAText, NotABoolean, UnknownName}
 use Rattle.enumset.proofs.NameLaws.{AreNames, name_back, agree_at}
 use Rattle.enumset.proofs.JsonLaws.{values_back}
-
--- TEMP
-list_all-any : (p : ℕ → Bool) (bs : List ℕ) (q : ℕ) → list_all p bs ≡ true → is_in q bs ≡ true → p q ≡ true
-list_all-any p [] q all any = absurd (false≢true any)
-list_all-any p (b ∷ bs) q all any = let later = list_all-any p bs q in grind (arith, nat_tests, later)
-
--- TEMP
 
 -- ---- the bits of names
 
@@ -95,14 +87,6 @@ module _ (valid : BitSet) where
 all_texts : (f : ℕ → List ℕ) (place : ℕ) (bs : List ℕ) → position_from is_no_text place (map (λ b. string (f b)) bs) ≡ None
 all_texts f place [] = refl
 all_texts f place (b ∷ bs) = all_texts f (place + 1) bs
-
-list_taken : (readers : Names) (unknown : Unknown) (f : ℕ → List ℕ) (bs : List ℕ) → set_of_values readers unknown (values_of (items_of (map (λ b. string (f b)) bs))) ≡ taken unknown (map (bit_named readers) (map f bs))
-list_taken readers unknown f bs =
-    let texts = map (λ b. string (f b)) bs in
-    let back = map-map text_of (λ b. string (f b)) bs in
-    ap (set_of_values readers unknown) (values_back texts)
-    ∙ (λ j. unless_fault NotAText ((position_from-zero is_no_text texts ∙ all_texts f 0 bs) j) (named_set readers unknown (back j) (back j)))
-    ∙ by_bits readers unknown (map f bs)
 
 -- ---- maps
 
@@ -170,7 +154,12 @@ module _ (readers writers : Names) (valid : BitSet) (bs : List ℕ) (back : (b :
 
   pub list_read : (s : BitSet) (unknown : Unknown) → is_subset s (from_list bs) ≡ true → set_of_list readers unknown (list_value writers s) ≡ accepted_by_name valid unknown s (ascending s)
   list_read s unknown within =
-      list_taken readers unknown (name_of writers) (ascending s) ∙ ap (taken unknown) (bits_known (ascending s) (AreBitsOf-ascending bs (from_list bs) s refl within)) ∙ accepted valid unknown s (ascending s) (from_list_ascending s)
+      let texts = map (λ b. string (name_of writers b)) (ascending s) in
+      let back = map-map text_of (λ b. string (name_of writers b)) (ascending s) in
+      ap (set_of_values readers unknown) (values_back texts)
+      ∙ (λ j. unless_fault NotAText ((position_from-zero is_no_text texts ∙ all_texts (name_of writers) 0 (ascending s)) j) (named_set readers unknown (back j) (back j)))
+      ∙ by_bits readers unknown (map (name_of writers) (ascending s)) ∙ ap (taken unknown) (bits_known (ascending s) (AreBitsOf-ascending bs (from_list bs) s refl within))
+      ∙ accepted valid unknown s (ascending s) (from_list_ascending s)
 
   -- the name of one bit, with `true`
   abbrev IsName : List ℕ → Data → Type 0

@@ -1,5 +1,5 @@
 -- Two lists of words that are compared from the top, down to the highest place where they differ.
-use Rattle.std.proofs.Common.{◌≡◌, ◌≢◌, ◌<◌, ◌≤◌, ℕ, zero, suc, ◌+◌, true, List, ◌∷◌, ◌++◌, length, drop, refl, sym, ap, ◌∙◌, arith, add-one}
+use Rattle.std.proofs.Common.{◌≡◌, ◌≢◌, ◌<◌, ◌≤◌, ℕ, zero, suc, ◌+◌, true, List, ◌∷◌, ◌++◌, length, drop, refl, sym, ap, ◌∙◌, arith}
 use Rattle.std.specs.Prelude.{slice_index, bit_xor}
 use Rattle.std.specs.declared.cmp.Ordering.{Ordering}
 use Rattle.std.specs.declared.cmp.Ordering.TheVariants.{Equal}
@@ -24,7 +24,8 @@ all_equal a b i none same =
 kept : (o p : Ordering) (u v : ℕ) → MatchOrdering o (u < v) (u ≡ v) (v < u) → u ≢ v → ordering_then o p ≡ o
 kept o p u v h apart = grind (arith, nat_tests, h, apart)
 
-decided : (a b : List ℕ) (i : ℕ) → length a ≡ length b → i < length a → slice_index a i ≢ slice_index b i → drop (suc i) a ≡ drop (suc i) b
+-- words that differ, with equal words after them
+pub decided : (a b : List ℕ) (i : ℕ) → length a ≡ length b → i < length a → slice_index a i ≢ slice_index b i → drop (suc i) a ≡ drop (suc i) b
     → highest_first a b ≡ nat_cmp (slice_index a i) (slice_index b i)
 decided (x ∷ a) (y ∷ b) zero long under apart same =
     highest_first-cons x y a b (omega (arith, long)) ∙ ap (λ o. ordering_then o (nat_cmp x y)) (sym (all_equal a b 0 refl same))
@@ -33,13 +34,6 @@ decided (x ∷ a) (y ∷ b) (suc i) long under apart same =
     ∙ ap (λ o. ordering_then o (nat_cmp x y)) (decided a b i (omega (arith, long)) (omega (arith, under)) apart same)
     ∙ kept _ (nat_cmp x y) _ _ (ranks (slice_index a i) (slice_index b i)) apart
 decided a b i long under apart same = absurd (omega (arith, long, under))
-
--- words that differ, with equal words after them
-pub decided_at : (a b : List ℕ) (i end : ℕ) → end ≡ i + 1 → length a ≡ length b → i < length a → slice_index a i ≢ slice_index b i → drop end a ≡ drop end b
-    → nat_cmp (slice_index a i) (slice_index b i) ≡ highest_first a b
-decided_at a b i end next long under apart same =
-    let e : end ≡ suc i = next ∙ add-one i in
-    sym (decided a b i long under apart (ap (λ n. drop n a) (sym e) ∙ same ∙ ap (λ n. drop n b) e))
 
 -- ---- lists that are equal from a place on
 

@@ -5,6 +5,7 @@ use Rattle.std.specs.List.{list_all}
 use Rattle.std.specs.Int.{bit_not}
 use Rattle.std.specs.Int.Bits.{and_lt}
 use Rattle.std.proofs.lemmas.Nat.{or_lt}
+use Rattle.std.proofs.Math.Nat.{div-add-mod}
 use Rattle.std.proofs.Math.Pow.{ones_sub-lt}
 use Rattle.std.proofs.lemmas.Bool.Decides.{nat_tests}
 use Rattle.std.proofs.lemmas.List.{get_or-set_same, get_or-set_other, drop-set-lt}
@@ -15,7 +16,7 @@ use Rattle.enumset_repr.specs.Laws.Members.{contains-insert, contains-remove}
 use Rattle.enumset_repr.specs.Laws.Numbers.{bits-set, bits-clear, bits-test}
 use Rattle.enumset_repr.specs.Laws.Words.{contains-with_word}
 use Rattle.enumset_array.specs.ArrayWords.{in_use, set_of, IsArrayRepr}
-use Rattle.enumset_repr.specs.Laws.WordLists.{contains-bits_above, at_word}
+use Rattle.enumset_repr.specs.Laws.WordLists.{contains-bits_above}
 use Rattle.enumset_array.specs.Laws.ArrayWords.{contains-set_of, set_is}
 
 -- what holds of one place, and of each other, holds of all
@@ -71,7 +72,7 @@ module _ (n : ℕ) (ws : List ℕ) (bit : ℕ) (is_repr : IsArrayRepr n ws) wher
   pub test_bit : not (bit_and (slice_index ws i) one == 0) ≡ contains (set_of n ws) bit
   test_bit =
       sym (bits-test 64 (slice_index ws i) (bit % 64) (omega arith)) ∙ sym (contains-set_of n ws i (bit % 64) is_repr (omega arith))
-      ∙ ap (contains (set_of n ws)) (at_word bit)
+      ∙ ap (contains (set_of n ws)) (div-add-mod bit 64)
 
 pub put_word : (n : ℕ) (ws : List ℕ) (i x : ℕ) → IsArrayRepr n ws → i < in_use n → x < 2 ^ 64 → set_of n (set ws i x) ≡ with_word (set_of n ws) (64 * in_use n) i x
 put_word n ws i x is_repr low fits = (set_at n ws i x is_repr low fits (with_word (set_of n ws) (64 * in_use n) i x)

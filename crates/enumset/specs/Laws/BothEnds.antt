@@ -3,28 +3,19 @@
 --     ended, ended_answer      once a step gave None, nothing is left;  a step from either end gives None
 --     both_ends_whole      then what came from the front and what came from the back reversed are the list
 --     none_twice      of an ascending list no item comes twice
-use Rattle.std.proofs.Common.{◌≡◌, ◌<◌, ℕ, suc, true, not, List, [], ◌∷◌, ◌++◌, Some, None, reverse, refl, sym, ap, ◌∙◌, arith, inl, inr, ◌⊎◌, subst, get_or, append_assoc, append-nil, Contains, true≢false}
+use Rattle.std.proofs.Common.{◌≡◌, ◌<◌, ℕ, suc, true, not, List, [], ◌∷◌, ◌++◌, None, reverse, refl, sym, ap, ◌∙◌, arith, inl, inr, subst, get_or, append_assoc, append-nil, Contains, true≢false}
 use Rattle.std.proofs.lemmas.Grind.{reverse_onto}
 use Rattle.std.proofs.lemmas.Bool.{and_from, false_from_ne_true}
 use Rattle.std.proofs.lemmas.Bool.Decides.{nat_tests}
 use Rattle.std.proofs.lemmas.List.Elements.{Contains-append_cases}
 use Rattle.enumset_repr.specs.BitSet.{is_in}
 use Rattle.enumset_repr.specs.Number.{is_distinct}
-use Rattle.enumset_repr.specs.Ends.{last}
-use Rattle.enumset_repr.specs.Laws.Steps.{last-push, without_last-push}
-use Rattle.enumset_repr.specs.Laws.Ascending.{AscendsFrom, is_in-from, is_in-push}
+use Rattle.enumset_repr.specs.Laws.Steps.{last-push, without_last-push, cases_last, none_last}
+use Rattle.enumset_repr.specs.Laws.Ascending.{AscendsFrom, is_in-from, is_in-push, before_last}
 use Rattle.enumset_array.specs.declared.traversal.End.{End}
 use Rattle.enumset_array.specs.declared.traversal.End.TheVariants.{Front, Back}
 use Rattle.enumset_array.specs.Walks.{answer, without_answer, answers, without_answers, items_among}
 use Rattle.enumset.specs.BothEnds.{from_front, from_back}
-
--- a list is empty, or has a last item
-pushed : (xs : List ℕ) → (xs ≡ []) ⊎ ((ys : List ℕ) × (y : ℕ) × (xs ≡ ys ++ y ∷ []))
-pushed [] = inl refl
-pushed (x ∷ xs) = elim (pushed xs) [
-  | inl none ↦ inr ([], x, ap (λ l. x ∷ l) none)
-  | inr some ↦ inr (x ∷ some.0, some.1, ap (λ l. x ∷ l) some.2)
-]
 
 abbrev both : List ℕ → List End → List ℕ
 both xs es = from_front xs es ++ without_answers xs es ++ reverse (from_back xs es)
@@ -41,7 +32,7 @@ unfolding from_front without_answers from_back
 both_ends xs [] = append-nil xs
 both_ends [] (Front ∷ es) = both_ends [] es
 both_ends (x ∷ xs) (Front ∷ es) = ap (λ l. x ∷ l) (both_ends xs es)
-both_ends xs (Back ∷ es) = elim (pushed xs) [
+both_ends xs (Back ∷ es) = elim (cases_last xs) [
   | inl none ↦ ap (λ l. both l (Back ∷ es)) none ∙ both_ends [] es ∙ sym none
   | inr some ↦ ap (λ l. both l (Back ∷ es)) some.2 ∙ both-back some.0 some.1 es ∙ ap (λ l. l ++ some.1 ∷ []) (both_ends some.0 es) ∙ sym some.2
 ]
@@ -63,10 +54,7 @@ none_left (Back ∷ es) = none_left es
 no_answer : (e : End) (xs : List ℕ) → answer e xs ≡ None → xs ≡ []
 no_answer Front [] none = refl
 no_answer Front (x ∷ xs) none = absurd (cc)
-no_answer Back xs none = elim (pushed xs) [
-  | inl empty ↦ empty
-  | inr some ↦ let found : None ≡ Some some.1 = sym none ∙ ap last some.2 ∙ last-push some.0 some.1 in absurd (cc)
-]
+no_answer Back xs none = none_last xs none
 
 -- once a step gave None, nothing is left
 pub ended : (xs : List ℕ) (es : List End) → Contains (answers xs es) None → without_answers xs es ≡ []
@@ -104,7 +92,7 @@ unfolding answers items_among
 came xs [] q one = absurd (true≢false (sym one))
 came [] (Front ∷ es) q one = came [] es q one
 came (x ∷ xs) (Front ∷ es) q one = let later = came xs es q in grind (arith, nat_tests)
-came xs (Back ∷ es) q one = elim (pushed xs) [
+came xs (Back ∷ es) q one = elim (cases_last xs) [
   | inl none ↦ ap (is_in q) none ∙ came [] es q (ap (λ l. is_in q (items l (Back ∷ es))) (sym none) ∙ one)
   | inr some ↦
       let parts = ap (is_in q) (sym (ap (λ l. items l (Back ∷ es)) some.2 ∙ items-back some.0 some.1 es)) ∙ one in
@@ -116,12 +104,6 @@ ascends-front : (k : ℕ) (xs : List ℕ) (x : ℕ) → AscendsFrom k (xs ++ x �
 ascends-front k [] x ascends = tt
 ascends-front k (y ∷ ys) x ascends = (ascends.0, ascends-front (suc y) ys x ascends.1)
 
-before_last : (k : ℕ) (xs : List ℕ) (x q : ℕ) → AscendsFrom k (xs ++ x ∷ []) → is_in q xs ≡ true → q < x
-before_last k [] x q ascends one = absurd (true≢false (sym one))
-before_last k (y ∷ ys) x q ascends one =
-    let over = is_in-from (suc y) x (ys ++ x ∷ []) ascends.1 in
-    let later = before_last (suc y) ys x q ascends.1 in grind (arith, nat_tests, is_in-push x x ys)
-
 absent : (x : ℕ) (xs : List ℕ) → (is_in x xs ≡ true → x < x) → not (is_in x xs) ≡ true
 absent x xs less = ap not (false_from_ne_true (is_in x xs) (λ one. let no = less one in omega arith))
 
@@ -131,7 +113,7 @@ apart k xs [] ascends = refl
 apart k [] (Front ∷ es) ascends = apart k [] es ascends
 apart k (x ∷ xs) (Front ∷ es) ascends =
     and_from _ _ (absent x (items xs es) (λ one. is_in-from (suc x) x xs ascends.1 (came xs es x one))) (apart (suc x) xs es ascends.1)
-apart k xs (Back ∷ es) ascends = elim (pushed xs) [
+apart k xs (Back ∷ es) ascends = elim (cases_last xs) [
   | inl none ↦ ap (λ l. is_distinct (items l (Back ∷ es))) none ∙ apart k [] es tt
   | inr some ↦
       let parts = subst (AscendsFrom k) some.2 ascends in
