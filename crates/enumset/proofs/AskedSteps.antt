@@ -1,5 +1,5 @@
 -- Steps of an iterator from either end: what they leave, and how many asks they may make.
-use Rattle.std.proofs.Common.{◌≡◌, ◌<◌, ◌≤◌, ℕ, ◌+◌, List, [], ◌∷◌, ◌++◌, Bool, true, false, Option, Some, None, MatchOption, is_some, if◌then◌else◌, length, drop, get_or, sym, ap, ◌∙◌, subst, arith}
+use Rattle.std.proofs.Common.{◌≡◌, ◌<◌, ◌≤◌, ℕ, ◌+◌, List, [], ◌∷◌, ◌++◌, Bool, Option, Some, None, MatchOption, is_some, if◌then◌else◌, length, drop, get_or, sym, ap, ◌∙◌, subst, arith}
 use Rattle.std.proofs.lemmas.List.{drop_more, drop_all}
 use Rattle.enumset_repr.specs.Asks.{BoundsAsks}
 use Rattle.enumset_repr.specs.BitSet.{BitSet}
@@ -46,23 +46,10 @@ unfolding items_among
 items_among-cons None rs = omega arith
 items_among-cons (Some b) rs = omega arith
 
-answers-cons : (xs : List ℕ) (e : End) (es : List End) → length (items_among (answers xs (e ∷ es))) ≡ (if is_some (answer e xs) then 1 else 0) + length (items_among (answers (without_answer e xs) es))
-unfolding answers
-answers-cons xs e es = items_among-cons (answer e xs) (answers (without_answer e xs) es)
-
-pub length-items_among : (rs : List (Option ℕ)) → length (items_among rs) ≤ length rs
-unfolding items_among
-length-items_among [] = omega arith
-length-items_among (None ∷ rs) = omega (arith, length-items_among rs)
-length-items_among (Some b ∷ rs) = omega (arith, length-items_among rs)
-
 pub few_answers : (xs : List ℕ) (es : List End) → length (items_among (answers xs es)) ≤ length es
 unfolding answers items_among
 few_answers xs [] = omega arith
-few_answers xs (e ∷ es) = omega (arith, answers-cons xs e es, few_answers (without_answer e xs) es, at_most_one (is_some (answer e xs))) where
-  at_most_one : (b : Bool) → (if b then 1 else 0) ≤ 1
-  at_most_one true = omega arith
-  at_most_one false = omega arith
+few_answers xs (e ∷ es) = grind (arith, items_among-cons (answer e xs) (answers (without_answer e xs) es), few_answers (without_answer e xs) es)
 
 -- one more of a list of ends
 pub left_next : (xs : List ℕ) (es : List End) (i : ℕ) (ys zs : List ℕ) → i < length es → without_answers ys (drop i es) ≡ without_answers xs es → zs ≡ without_answer (get_or es i Front) ys → without_answers zs (drop (i + 1) es) ≡ without_answers xs es
@@ -72,11 +59,12 @@ left_next xs es i ys zs h before step =
 
 pub asks_next : (total : ℕ) (es : List End) (i : ℕ) (ys zs : List ℕ) (asks span new_asks new_span : ℕ) → i < length es → asks + span + length (items_among (answers ys (drop i es))) ≤ total → zs ≡ without_answer (get_or es i Front) ys
     → BoundsAsks asks span (answer (get_or es i Front) ys) new_asks new_span → new_asks + new_span + length (items_among (answers zs (drop (i + 1) es))) ≤ total
+unfolding answers
 asks_next total es i ys zs asks span new_asks new_span h before step bounds =
     let e = get_or es i Front in
     let count : length (items_among (answers ys (drop i es))) ≡ (if is_some (answer e ys) then 1 else 0) + length (items_among (answers zs (drop (i + 1) es))) =
     ap (λ l. length (items_among (answers ys l))) (drop_more es i Front h)
-    ∙ answers-cons ys e (drop (i + 1) es)
+    ∙ items_among-cons (answer e ys) (answers (without_answer e ys) (drop (i + 1) es))
     ∙ ap (λ l. (if is_some (answer e ys) then 1 else 0) + length (items_among (answers l (drop (i + 1) es)))) (sym step) in
     omega (arith, before, bounds.1, count)
 

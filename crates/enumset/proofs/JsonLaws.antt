@@ -1,21 +1,26 @@
 -- What was written of a set is read as that set.
-use Rattle.std.proofs.Common.{◌≡◌, ℕ, ◌+◌, ◌*◌, ◌/◌, arith, true, None, Ok, Err, List, [], ◌∷◌, map, refl, ap, ◌∙◌}
+use Rattle.std.proofs.Common.{◌≡◌, ℕ, ◌+◌, ◌*◌, ◌/◌, arith, true, None, Ok, Err, List, [], ◌∷◌, map, unwrap_or, position, refl, ap, ◌∙◌}
+use Rattle.std.specs.List.{position_from}
+use Rattle.std.proofs.lemmas.Iterator.Adapters.{position_from-zero}
+use Rattle.std.proofs.lemmas.List.{map-id}
+use Rattle.std.proofs.lemmas.Simd.{map-map}
 use Rattle.std.proofs.lemmas.Bool.{lt-ltb, cond-true}
 use Rattle.enumset_repr.specs.BitSet.{BitSet, is_subset, below}
 use Rattle.enumset_repr.specs.Number.{number, bits}
 use Rattle.enumset_repr.specs.Words.{words, bits_of}
 use Rattle.enumset_repr.specs.Laws.Algebra.{intersection_within}
-use Rattle.enumset_repr.specs.Laws.Low.{number_fits, low_within, is_subset_wider}
+use Rattle.enumset_repr.specs.Laws.Low.{low_within, is_subset_wider}
 use Rattle.enumset_sets.specs.Laws.Conversions.{words_within}
-use Rattle.enumset_repr.specs.Laws.Numbers.{bits-number}
+use Rattle.enumset_repr.specs.Laws.Numbers.{bits-number, number-within}
+use Rattle.serde_json.specs.Data.{Data}
 use Rattle.serde_json.specs.View.{items_of}
-use Rattle.enumset.specs.Json.{number_value, words_value, number_below, words_in, words_of, words_unless, first_other, accepted, accepted_of, all_bits, set_of_number, set_of_words, kept_below, kept_of, mixed_set_of_number, mixed_set_of_words}
+use Rattle.enumset.specs.Json.{number_value, words_value, number_below, values_of, word_of, is_no_word, words_of, unless_fault, words_in, accepted, accepted_of, all_bits, set_of_number, set_of_words, kept_below, kept_of, mixed_set_of_number, mixed_set_of_words}
 use Rattle.enumset.specs.declared.set_json.unknown.Unknown.{Unknown}
 use Rattle.enumset.specs.declared.set_json.unknown.Unknown.TheVariants.{Drop, Refuse}
-use Rattle.enumset.specs.declared.set_json.fault.JsonFault.TheVariants.{OutOfRange, UnknownBits}
+use Rattle.enumset.specs.declared.set_json.fault.JsonFault.TheVariants.{NotAWord, OutOfRange, UnknownBits}
 
 -- a set of valid bits is taken as it is, and so is one below the width
-accepted_within : (s valid : BitSet) (unknown : Unknown) → is_subset s valid ≡ true → accepted valid unknown s ≡ Ok s
+pub accepted_within : (s valid : BitSet) (unknown : Unknown) → is_subset s valid ≡ true → accepted valid unknown s ≡ Ok s
 accepted_within s valid Drop within = ap Ok (intersection_within s valid within)
 accepted_within s valid Refuse within = cond-true (is_subset s valid) (Ok s) (Err UnknownBits) within
 
@@ -26,39 +31,37 @@ kept_within s width Refuse within = cond-true (is_subset s (below width)) (Ok s)
 -- ---- numbers
 
 number_read : (s : BitSet) (k : ℕ) → is_subset s (below k) ≡ true → number_below k (number_value (number s)) ≡ Ok (number s)
-number_read s k fits = cond-true _ (Ok (number s)) (Err OutOfRange) (lt-ltb _ _ (number_fits s k fits))
+number_read s k fits = cond-true _ (Ok (number s)) (Err OutOfRange) (lt-ltb _ _ (number-within s k fits))
 
 pub number_accepted : (s valid : BitSet) (k : ℕ) (unknown : Unknown) → is_subset s (below k) ≡ true → set_of_number valid k unknown (number_value (number s)) ≡ accepted valid unknown s
 number_accepted s valid k unknown fits =
     ap (accepted_of bits valid unknown) (number_read s k fits) ∙ ap (accepted valid unknown) (bits-number s)
-
-pub number_and_back : (s valid : BitSet) (k : ℕ) (unknown : Unknown) → is_subset s valid ≡ true → is_subset s (below k) ≡ true → set_of_number valid k unknown (number_value (number s)) ≡ Ok s
-number_and_back s valid k unknown within fits = number_accepted s valid k unknown fits ∙ accepted_within s valid unknown within
 
 pub mixed_number_and_back : (s : BitSet) (k : ℕ) → is_subset s (below k) ≡ true → mixed_set_of_number k (number_value (number s)) ≡ Ok s
 mixed_number_and_back s k fits = ap all_bits (number_read s k fits) ∙ ap Ok (bits-number s)
 
 -- ---- words
 
+pub values_back : (ds : List Data) → values_of (items_of ds) ≡ ds
+values_back [] = refl
+values_back (d ∷ ds) = ap (λ es. d ∷ es) (values_back ds)
+
 -- an array of numbers has a word at each place
-none_other : (ns : List ℕ) (place : ℕ) → first_other place (items_of (map number_value ns)) ≡ None
+none_other : (ns : List ℕ) (place : ℕ) → position_from is_no_word place (map number_value ns) ≡ None
 none_other [] place = refl
 none_other (n ∷ ns) place = none_other ns (place + 1)
 
-words_back : (ns : List ℕ) → words_of (items_of (map number_value ns)) ≡ ns
-words_back [] = refl
-words_back (n ∷ ns) = ap (λ ms. n ∷ ms) (words_back ns)
-
 words_read : (s : BitSet) (n : ℕ) → words_in (words_value (words s n)) ≡ Ok (words s n)
-words_read s n = ap (λ other. words_unless other (items_of (map number_value (words s n)))) (none_other (words s n) 0) ∙ ap Ok (words_back (words s n))
+words_read s n =
+    let values = map number_value (words s n) in
+    let back = map-map (λ value. unwrap_or (word_of value) 0) number_value (words s n) ∙ map-id (words s n) in
+    ap (λ ds. unless_fault NotAWord (position is_no_word ds) (Ok (words_of ds))) (values_back values)
+    ∙ (λ j. unless_fault NotAWord ((position_from-zero is_no_word values ∙ none_other (words s n) 0) j) (Ok (back j)))
 
 -- words that lose nothing of a set are read as the words that they are
 pub words_accepted : (s valid : BitSet) (n : ℕ) (unknown : Unknown) → bits_of (words s n) ≡ s → set_of_words valid unknown (words_value (words s n)) ≡ accepted valid unknown s
 words_accepted s valid n unknown back =
     ap (accepted_of bits_of valid unknown) (words_read s n) ∙ ap (accepted valid unknown) back
-
-pub words_and_back : (s valid : BitSet) (n : ℕ) (unknown : Unknown) → is_subset s valid ≡ true → bits_of (words s n) ≡ s → set_of_words valid unknown (words_value (words s n)) ≡ Ok s
-words_and_back s valid n unknown within back = words_accepted s valid n unknown back ∙ accepted_within s valid unknown within
 
 pub words_kept : (s : BitSet) (width n : ℕ) (past : Unknown) → is_subset s (below width) ≡ true → bits_of (words s n) ≡ s → mixed_set_of_words width past (words_value (words s n)) ≡ Ok s
 words_kept s width n past within back =

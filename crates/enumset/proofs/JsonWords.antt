@@ -1,8 +1,11 @@
 -- The words of JSON arrays, read one by one into a set.
-use Rattle.std.proofs.Common.{◌≡◌, ◌<◌, ◌≤◌, ℕ, zero, suc, ◌+◌, ◌*◌, ◌^◌, Bool, true, ◌&&◌, if◌then◌else◌, inl, inr, Option, Some, is_some, unwrap_or, List, [], ◌∷◌, map, drop, get_or, length, refl, sym, ap, subst, ◌∙◌, arith, slice_index}
+use Rattle.std.proofs.Common.{◌≡◌, ◌<◌, ◌≤◌, ℕ, ◌+◌, ◌*◌, ◌^◌, Bool, true, ◌&&◌, if◌then◌else◌, inl, inr, Option, Some, is_none, unwrap_or, Ok, List, map, position, drop, get_or, length, refl, sym, ap, subst, ◌∙◌, arith, slice_index}
 use Rattle.std.proofs.lemmas.Bool.{cases_lt, and_parts, and_from, eqb-true, eq-eqb}
 use Rattle.std.proofs.lemmas.Bool.Decides.{nat_tests, same_from_decides}
-use Rattle.std.proofs.lemmas.List.{get_or_past}
+use Rattle.std.proofs.lemmas.Iterator.Adapters.{position_from-zero}
+use Rattle.std.proofs.lemmas.List.{get_or_past, get_or-map, length-map}
+use Rattle.std.proofs.lemmas.Simd.{map-map}
+use Rattle.std.specs.List.{position_from}
 use Rattle.std.specs.Bool.{Decides}
 use Rattle.std.specs.Prelude.{◌==◌, nat_lt}
 use Rattle.enumset_repr.specs.BitSet.{BitSet, empty, contains, is_subset, below, low}
@@ -13,45 +16,37 @@ use Rattle.enumset_repr.specs.Laws.Low.{low_within, low_narrow, is_subset_wider}
 use Rattle.enumset_repr.specs.Laws.Words.{contains-bits-word}
 use Rattle.enumset_repr.specs.Laws.WordLists.{word-bits_of, put_next, bits_of-within}
 use Rattle.enumset_repr.specs.Laws.Filled.{none_put, all_kept}
-use Rattle.serde_json.specs.Data.{Data, null, boolean, number, string, array, object, Items}
+use Rattle.serde_json.specs.Data.{Data}
 use Rattle.serde_json.specs.Find.{as_array}
-use Rattle.serde_json.specs.View.{view, items_of, items_view}
+use Rattle.serde_json.specs.View.{view, items_view}
 use Rattle.serde_json.specs.declared.value.Value.{Value}
-use Rattle.enumset.specs.Json.{word_of, words_of, first_other, words_unless, words_in}
+use Rattle.enumset.specs.Json.{word_of, is_no_word, words_of, unless_fault, words_among, words_in}
+use Rattle.enumset.specs.declared.set_json.fault.JsonFault.TheVariants.{NotAWord}
+use Rattle.enumset.proofs.JsonLaws.{values_back}
 use Rattle.enumset.proofs.NameLists.{left_at}
 
-words_in_array : (d : Data) (ds : Items) → as_array d ≡ Some ds → words_in d ≡ words_unless (first_other 0 ds) ds
-words_in_array (array es) ds is = let same : es ≡ ds = cc in ap (λ xs. words_unless (first_other 0 xs) xs) same
-words_in_array null ds is = absurd (cc)
-words_in_array (boolean b) ds is = absurd (cc)
-words_in_array (number n) ds is = absurd (cc)
-words_in_array (string s) ds is = absurd (cc)
-words_in_array (object ms) ds is = absurd (cc)
-
-pub length-words_of : (vs : List Value) → length (words_of (items_view vs)) ≡ length vs
-length-words_of [] = refl
-length-words_of (v ∷ vs) = ap suc (length-words_of vs)
-
-words_of-at : (vs : List Value) (i : ℕ) (d : Value) → i < length vs → unwrap_or (word_of (view (get_or vs i d))) 0 ≡ slice_index (words_of (items_view vs)) i
-words_of-at [] i d under = absurd (omega (arith, under))
-words_of-at (v ∷ vs) zero d under = refl
-words_of-at (v ∷ vs) (suc i) d under = words_of-at vs i d (omega (arith, under))
+pub length-words_of : (vs : List Value) → length (words_of (map view vs)) ≡ length vs
+length-words_of vs = length-map (map view vs) (λ value. unwrap_or (word_of value) 0) ∙ length-map vs view
 
 -- the first element from a place on that is no word
 abbrev pub other_from : List Value → ℕ → Option ℕ
-other_from vs place = first_other place (items_of (map view (drop place vs)))
+other_from vs place = position_from is_no_word place (map view (drop place vs))
 
 module _ (vs : List Value) (place : ℕ) (v : Value) (o : Option ℕ) (under : place < length vs) (is : v ≡ get_or vs place v) (seen : o ≡ word_of (view v)) where
-  pub other_at : other_from vs place ≡ (if is_some o then other_from vs (place + 1) else Some place)
+  pub other_at : other_from vs place ≡ (if is_none o then Some place else other_from vs (place + 1))
   other_at =
-      ap (λ us. first_other place (items_of (map view us))) (left_at vs place v under is) ∙ ap (λ w. if is_some w then other_from vs (place + 1) else Some place) (sym seen)
+      ap (λ us. position_from is_no_word place (map view us)) (left_at vs place v under is) ∙ ap (λ w. if is_none w then Some place else other_from vs (place + 1)) (sym seen)
 
-  pub word_here : (x : ℕ) → o ≡ Some x → x ≡ slice_index (words_of (items_view vs)) place
-  word_here x found = ap (λ w. unwrap_or w 0) (sym found ∙ seen) ∙ ap (λ u. unwrap_or (word_of (view u)) 0) is ∙ words_of-at vs place v under
+  pub word_here : (x : ℕ) → o ≡ Some x → x ≡ slice_index (words_of (map view vs)) place
+  word_here x found =
+      ap (λ w. unwrap_or w 0) (sym found ∙ seen) ∙ ap (λ u. unwrap_or (word_of (view u)) 0) is
+      ∙ sym (ap (λ ws. slice_index ws place) (map-map (λ value. unwrap_or (word_of value) 0) view vs) ∙ get_or-map (λ u. unwrap_or (word_of (view u)) 0) vs place v 0 under)
 
 -- what an array is read as
-pub words_read : (d : Data) (vs : List Value) (found : Option ℕ) → as_array d ≡ Some (items_view vs) → other_from vs 0 ≡ found → words_in d ≡ words_unless found (items_view vs)
-words_read d vs found is other = words_in_array d (items_view vs) is ∙ ap (λ o. words_unless o (items_view vs)) other
+pub words_read : (d : Data) (vs : List Value) (found : Option ℕ) → as_array d ≡ Some (items_view vs) → other_from vs 0 ≡ found → words_in d ≡ unless_fault NotAWord found (Ok (words_of (map view vs)))
+words_read d vs found is other =
+    ap words_among is ∙ ap (λ ds. unless_fault NotAWord (position is_no_word ds) (Ok (words_of ds))) (values_back (map view vs))
+    ∙ ap (λ o. unless_fault NotAWord o (Ok (words_of (map view vs)))) (position_from-zero is_no_word (map view vs) ∙ other)
 
 -- whether a set has the words of a list before a place
 abbrev pub Has : BitSet → List ℕ → ℕ → Type 0

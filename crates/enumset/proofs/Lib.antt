@@ -3,7 +3,6 @@ mod NameLists
 mod NameLaws
 mod NamesTaken
 mod NamesRead
-pub mod JsonNumbers
 pub mod JsonWords
 pub mod JsonLaws
 pub mod WrittenValues

@@ -10,13 +10,10 @@ use Rattle.std.proofs.lemmas.Bool.Decides.{nat_tests}
 use Rattle.std.proofs.lemmas.Slice.Eq.{bytes_eq-Decides}
 use Rattle.enumset_repr.specs.BitSet.{is_in}
 use Rattle.enumset_repr.specs.Number.{is_distinct}
-use Rattle.enumset.specs.Names.{Names, name_of, bit_named, names_agree, are_distinct, fault_unless, IsNaming, NameCountShouldBe, NamesAValueTwice}
+use Rattle.enumset_sets.specs.Laws.Elements.{passed}
+use Rattle.enumset.specs.Names.{Names, name_of, bit_named, names_agree, are_distinct, IsNaming, NameCountShouldBe, NamesAValueTwice}
 
 -- ---- the test
-
-passed : (test : Bool) (fault next : Type 0) → (fault → ⊥) → fault_unless test fault next → (test ≡ true) × next
-passed true fault next none h = (refl, h)
-passed false fault next none h = absurd (none h)
 
 -- what the test says where it passes
 pub record AreNames (bs : List ℕ) (names : List (List ℕ)) : Type 0 where
@@ -36,27 +33,23 @@ later_in b c later other one = grind (arith, nat_tests)
 
 -- what a name among others passes, and what all bits with their names pass
 name_listed : (p : List ℕ → Bool) (bs : List ℕ) (names : List (List ℕ)) (b : ℕ) → length names ≡ length bs → is_in b bs ≡ true → p (name_of (zip bs names) b) ≡ true → list_any p names ≡ true
-name_listed p [] names b len one is = absurd (true≢false (sym one))
-name_listed p (c ∷ bs) [] b len one is = absurd (omega (arith, len))
 name_listed p (c ∷ bs) (n ∷ names) b len one is = elim (cases_Bool (c == b)) [
   | inl here ↦ or_left (p n) _ (ap p (sym (cond-true (c == b) n _ here)) ∙ is)
   | inr other ↦ or_right (p n) _ (name_listed p bs names b (omega (arith, len)) (later_in b c _ other one) (ap p (sym (cond-false (c == b) n _ other)) ∙ is))
 ]
+name_listed p bs names b len one is = absurd (grind (arith, len, one))
 
 listed : (p : ℕ × List ℕ → Bool) (bs : List ℕ) (names : List (List ℕ)) (b : ℕ) → length names ≡ length bs → is_in b bs ≡ true → list_all p (zip bs names) ≡ true → p (b, name_of (zip bs names) b) ≡ true
-listed p [] names b len one all = absurd (true≢false (sym one))
-listed p (c ∷ bs) [] b len one all = absurd (omega (arith, len))
 listed p (c ∷ bs) (n ∷ names) b len one all = elim (cases_Bool (c == b)) [
   | inl here ↦ (λ j. p (sym (eqb-true c b here) j, cond-true (c == b) n (name_of (zip bs names) b) here j)) ∙ (and_parts _ _ all).0
   | inr other ↦ (λ j. p (b, cond-false (c == b) n (name_of (zip bs names) b) other j)) ∙ listed p bs names b (omega (arith, len)) (later_in b c _ other one) (and_parts _ _ all).1
 ]
+listed p bs names b len one all = absurd (grind (arith, len, one))
 
 pub name_back : (bs : List ℕ) (names : List (List ℕ)) (b : ℕ) → AreNames bs names → is_in b bs ≡ true → bit_named (zip bs names) (name_of (zip bs names) b) ≡ Some b
 name_back bs names b are = at bs names are.as_many are.distinct
   where
     at : (bs : List ℕ) (names : List (List ℕ)) → length names ≡ length bs → are_distinct names ≡ true → is_in b bs ≡ true → bit_named (zip bs names) (name_of (zip bs names) b) ≡ Some b
-    at [] names len apart one = absurd (true≢false (sym one))
-    at (c ∷ bs) [] len apart one = absurd (omega (arith, len))
     at (c ∷ bs) (n ∷ names) len apart one = elim (cases_Bool (c == b)) [
       | inl here ↦
           ap (bit_named (zip (c ∷ bs) (n ∷ names))) (cond-true (c == b) n _ here)
@@ -67,11 +60,10 @@ name_back bs names b are = at bs names are.as_many are.distinct
           true≢false (sym (name_listed (λ m. bytes_eq m n) bs names b (omega (arith, len)) rest ((bytes_eq-Decides _ n).1 (sym ((bytes_eq-Decides n _).0 same)))) ∙ not-true _ (and_parts _ _ apart).0)))
           ∙ at bs names (omega (arith, len)) (and_parts _ _ apart).1 rest
     ]
+    at bs names len apart one = absurd (grind (arith, len, one))
 
 -- no other text is the name of a bit
 pub name_alone : (bs : List ℕ) (names : List (List ℕ)) (b : ℕ) (t : List ℕ) → is_distinct bs ≡ true → bit_named (zip bs names) t ≡ Some b → (is_in b bs ≡ true) × (t ≡ name_of (zip bs names) b)
-name_alone [] names b t apart is = absurd (cc)
-name_alone (c ∷ bs) [] b t apart is = absurd (cc)
 name_alone (c ∷ bs) (n ∷ names) b t apart is = elim (cases_Bool (bytes_eq n t)) [
   | inl here ↦
       let found : Some c ≡ Some b = sym (cond-true (bytes_eq n t) (Some c) _ here) ∙ is in
@@ -82,6 +74,7 @@ name_alone (c ∷ bs) (n ∷ names) b t apart is = elim (cases_Bool (bytes_eq n 
       let differs : (c ≡ b) → ⊥ = λ same. true≢false (sym rest.0 ∙ ap (λ x. is_in x bs) (sym same) ∙ not-true _ (and_parts _ _ apart).0) in
       (or_right (b == c) _ rest.0, rest.1 ∙ sym (cond-false (c == b) n _ (ne_eqb c b differs)))
 ]
+name_alone bs names b t apart is = absurd (cc)
 
 -- ---- the names of two types
 

@@ -1,29 +1,32 @@
 -- What a reader takes of the names that a writer wrote of a set, as a list and as a map.
 use Rattle.std.proofs.Common.{◌≡◌, ◌+◌, ℕ, Bool, true, false, cond, Ordering, Less, Equal, Greater, Option, Some, None, Result, Ok, Err, List, [], ◌∷◌, map, refl, sym, ap, subst, ◌∙◌, arith, inl, inr, position}
-use Rattle.std.specs.Prelude.{◌==◌, ◌&&◌, if◌then◌else◌, zip, filter, filter_map, is_none}
-use Rattle.std.specs.List.{list_all, prefix_len, cons_option, position_from}
+use Rattle.std.specs.Prelude.{◌||◌, not, nat_lt, if◌then◌else◌, zip, filter, filter_map, is_none, length}
+use Rattle.std.specs.List.{list_all, prefix_len, position_or_len, cons_option, position_from}
 use Rattle.std.specs.Ordering.{nat_cmp, is_eq, match_ordering}
 use Rattle.std.specs.Cmp.Lexicographic.{slice_cmp}
-use Rattle.std.proofs.lemmas.Bool.{and_parts, or_cases, eqb-true, cond-true, cond-false, cases_Bool}
-use Rattle.std.proofs.lemmas.Bool.Decides.{same_from_decides}
+use Rattle.std.proofs.lemmas.Bool.{and_parts, cond-true, cond-false, cases_Bool}
+use Rattle.std.proofs.lemmas.Bool.Decides.{nat_tests, same_from_decides}
 use Rattle.std.proofs.lemmas.Iterator.Adapters.{position_from-zero}
+use Rattle.std.proofs.lemmas.List.{length-map}
+use Rattle.std.proofs.lemmas.Simd.{map-map}
+use Rattle.std.proofs.lemmas.List.Recursion.{same_from_clauses}
 use Rattle.std.proofs.lemmas.Map.Text.{is_eq-slice_cmp}
 use Rattle.std.proofs.lemmas.Slice.Eq.{bytes_eq-Decides}
-use Rattle.enumset_repr.specs.BitSet.{BitSet, is_in, contains, insert, union, intersection, from_list, ascending, is_subset}
-use Rattle.enumset_repr.specs.Laws.Members.{contains-from_list, contains-is_subset, is_subset-contains, list_all-each}
-use Rattle.enumset_repr.specs.Laws.Algebra.{from_list_ascending, insert_comm, insert_twice, insert_inside, union_insert, insert_union, union_empty, empty_union, empty_intersection, intersection_within}
+use Rattle.enumset_repr.specs.BitSet.{BitSet, is_in, contains, insert, intersection, from_list, ascending, is_subset}
+use Rattle.enumset_repr.specs.Laws.Members.{same_set, contains-from_list, contains-ascending, contains-is_subset, is_subset-contains, list_all-any, list_all-each}
+use Rattle.enumset_repr.specs.Laws.Algebra.{from_list_ascending, insert_inside, empty_intersection, intersection_within}
 use Rattle.enumset.specs.Laws.Sets.{intersection_insert}
 use Rattle.enumset_sets.specs.Laws.Elements.{AreBitsOf-ascending}
 use Rattle.serde_json.specs.Data.{Data, boolean, string, Members, no_members, member, put}
-use Rattle.serde_json.specs.View.{items_of}
 use Rattle.enumset.specs.Names.{Names, name_of, bit_named, names_agree}
-use Rattle.enumset.specs.JsonNames.{values_of, members_in, names_in, true_names, text_of, is_true, is_no_text, is_no_boolean, known_set, unless_unknown, decided, named_set, set_of_texts, set_of_booleans, set_of_list, set_of_map, list_value, with_bits_true, map_value, in_map, accepted_by_name}
+use Rattle.enumset.specs.Json.{unless_fault}
+use Rattle.enumset.specs.JsonNames.{members_in, names_in, true_names, text_of, is_true, is_no_text, is_no_boolean, is_unknown, decided, named_set, set_of_values, set_of_list, set_of_map, list_value, with_bits_true, map_value, in_map, accepted_by_name}
 use Rattle.enumset.specs.declared.set_json.unknown.Unknown.{Unknown}
 use Rattle.enumset.specs.declared.set_json.unknown.Unknown.TheVariants.{Drop, Refuse}
 use Rattle.enumset.specs.declared.set_json.fault.JsonFault.{JsonFault}
-use Rattle.enumset.specs.declared.set_json.fault.JsonFault.TheVariants.{UnknownName}
+use Rattle.enumset.specs.declared.set_json.fault.JsonFault.TheVariants.{NotAText, NotABoolean, UnknownName}
 use Rattle.enumset.proofs.NameLaws.{AreNames, name_back, agree_at}
-use Rattle.enumset.proofs.NamesRead.{with_named, position_map}
+use Rattle.enumset.proofs.JsonLaws.{values_back}
 
 -- ---- the bits of names
 
@@ -32,11 +35,10 @@ abbrev taken : Unknown → List (Option ℕ) → Result BitSet JsonFault
 taken unknown bits = decided unknown (position is_none bits) (from_list (filter_map (λ o. o) bits))
 
 by_bits : (names : Names) (unknown : Unknown) (texts : List (List ℕ)) → named_set names unknown texts texts ≡ taken unknown (map (bit_named names) texts)
-by_bits names unknown texts = λ j. decided unknown (position_map is_none (bit_named names) texts j) (from_list (by_option texts j))
-  where
-    by_option : (ts : List (List ℕ)) → filter_map (bit_named names) ts ≡ filter_map (λ o. o) (map (bit_named names) ts)
-    by_option [] = refl
-    by_option (t ∷ ts) = ap (cons_option (bit_named names t)) (by_option ts)
+by_bits names unknown texts =
+    let place = same_from_clauses (position_or_len (is_unknown names)) (λ ts. position_or_len is_none (map (bit_named names) ts)) (λ t n. cond (not (is_unknown names t)) (1 + n) 0) refl (λ _ _. refl) (λ _ _. refl) texts in
+    let bits = same_from_clauses (filter_map (bit_named names)) (λ ts. filter_map (λ o. o) (map (bit_named names) ts)) (λ t. cons_option (bit_named names t)) refl (λ _ _. refl) (λ _ _. refl) texts in
+    λ j. decided unknown (cond (nat_lt (place j) (sym (length-map texts (bit_named names)) j)) (Some (place j)) None) (from_list (bits j))
 
 module _ (valid : BitSet) where
   -- a bit, if it is valid
@@ -51,39 +53,29 @@ module _ (valid : BitSet) where
     | inr none ↦ ap (λ o. from_list (cons_option o (filter_map (λ o. o) (map known bs)))) (cond-false (contains valid b) (Some b) None none) ∙ kept bs ∙ sym (intersection_insert (from_list bs) valid b none)
   ]
 
-  first_other : (place : ℕ) (bs : List ℕ) → position_from is_none place (map known bs) ≡ (if list_all (contains valid) bs then None else Some (place + prefix_len (contains valid) bs))
-  first_other place [] = refl
-  first_other place (b ∷ bs) = at (contains valid b) (list_all (contains valid) bs) _ (prefix_len (contains valid) bs) (first_other (place + 1) bs)
-    where
-      at : (test all : Bool) (later : Option ℕ) (n : ℕ) → later ≡ (if all then None else Some (place + 1 + n))
-          → cond (is_none (cond test (Some b) None)) (Some place) later ≡ (if test && all then None else Some (place + cond test (1 + n) 0))
-      at true all later n is = let sum : place + 1 + n ≡ place + (1 + n) = omega arith in is ∙ ap (λ m. if all then None else Some m) sum
-      at false all later n is = let sum : place ≡ place + 0 = omega arith in ap Some sum
+  first_other : (bs : List ℕ) → position_or_len is_none (map known bs) ≡ prefix_len (contains valid) bs
+  first_other [] = refl
+  first_other (b ∷ bs) = grind (arith, first_other bs)
+
+  other_within : (bs : List ℕ) → nat_lt (prefix_len (contains valid) bs) (length bs) ≡ not (list_all (contains valid) bs)
+  other_within [] = refl
+  other_within (b ∷ bs) = grind (arith, nat_tests, other_within bs)
 
   all_valid : (bs : List ℕ) → list_all (contains valid) bs ≡ is_subset (from_list bs) valid
   all_valid bs = same_from_decides {P = (q : ℕ) → is_in q bs ≡ true → contains valid q ≡ true} _ _
-      (each bs, list_all-each (contains valid) bs)
+      (λ all q one. list_all-any (contains valid) bs q all one, list_all-each (contains valid) bs)
       (λ within q one. is_subset-contains (from_list bs) valid within q (contains-from_list bs q ∙ one), λ all. contains-is_subset (from_list bs) valid (λ q one. all q (sym (contains-from_list bs q) ∙ one)))
-    where
-      each : (bs : List ℕ) → list_all (contains valid) bs ≡ true → (q : ℕ) → is_in q bs ≡ true → contains valid q ≡ true
-      each [] all q one = absurd (cc)
-      each (b ∷ bs) all q one = elim (or_cases (q == b) _ one) [
-        | inl here ↦ ap (contains valid) (eqb-true q b here) ∙ (and_parts (contains valid b) _ all).0
-        | inr later ↦ each bs (and_parts (contains valid b) _ all).1 q later
-      ]
 
   accepted : (unknown : Unknown) (s : BitSet) (bs : List ℕ) → from_list bs ≡ s → taken unknown (map known bs) ≡ accepted_by_name valid unknown s bs
   accepted Drop s bs is = ap Ok (kept bs ∙ ap (λ t. intersection t valid) is)
   accepted Refuse s bs is =
-      let within : list_all (contains valid) bs ≡ is_subset s valid = all_valid bs ∙ ap (λ t. is_subset t valid) is in
-      let first : position is_none (map known bs) ≡ (if is_subset s valid then None else Some (0 + prefix_len (contains valid) bs)) =
-      position_from-zero is_none (map known bs) ∙ first_other 0 bs ∙ ap (λ b. if b then None else Some (0 + prefix_len (contains valid) bs)) within in
-      (λ j. unless_unknown (first j) ((kept bs ∙ ap (λ t. intersection t valid) is) j))
+      (λ j. unless_fault UnknownName (cond (nat_lt (first_other bs j) (length-map bs known j)) (Some (first_other bs j)) None) (Ok ((kept bs ∙ ap (λ t. intersection t valid) is) j)))
+      ∙ ap (λ b. unless_fault UnknownName (cond b (Some (prefix_len (contains valid) bs)) None) (Ok (intersection s valid))) (other_within bs ∙ ap not (all_valid bs ∙ ap (λ t. is_subset t valid) is))
       ∙ at (is_subset s valid) (prefix_len (contains valid) bs) (intersection s valid) (intersection_within s valid)
     where
-      at : (b : Bool) (n : ℕ) (t : BitSet) → (b ≡ true → t ≡ s) → unless_unknown (if b then None else Some (0 + n)) t ≡ (if b then Ok s else Err (UnknownName n))
+      at : (b : Bool) (n : ℕ) (t : BitSet) → (b ≡ true → t ≡ s) → unless_fault UnknownName (cond (not b) (Some n) None) (Ok t) ≡ (if b then Ok s else Err (UnknownName n))
       at true n t all = ap Ok (all refl)
-      at false n t all = let sum : 0 + n ≡ n = omega arith in ap (λ m. Err (UnknownName m)) sum
+      at false n t all = refl
 
   -- a set of valid bits is taken as it is
   pub accepted_whole : (unknown : Unknown) (s : BitSet) (bs : List ℕ) → is_subset s valid ≡ true → accepted_by_name valid unknown s bs ≡ Ok s
@@ -92,24 +84,9 @@ module _ (valid : BitSet) where
 
 -- ---- lists
 
-values_back : (ds : List Data) → values_of (items_of ds) ≡ ds
-values_back [] = refl
-values_back (d ∷ ds) = ap (λ es. d ∷ es) (values_back ds)
-
 all_texts : (f : ℕ → List ℕ) (place : ℕ) (bs : List ℕ) → position_from is_no_text place (map (λ b. string (f b)) bs) ≡ None
 all_texts f place [] = refl
 all_texts f place (b ∷ bs) = all_texts f (place + 1) bs
-
-texts_back : (f : ℕ → List ℕ) (bs : List ℕ) → map text_of (map (λ b. string (f b)) bs) ≡ map f bs
-texts_back f [] = refl
-texts_back f (b ∷ bs) = ap (λ ts. f b ∷ ts) (texts_back f bs)
-
-list_taken : (readers : Names) (unknown : Unknown) (f : ℕ → List ℕ) (bs : List ℕ) → set_of_texts readers unknown (position is_no_text (values_of (items_of (map (λ b. string (f b)) bs)))) (map text_of (values_of (items_of (map (λ b. string (f b)) bs)))) ≡ taken unknown (map (bit_named readers) (map f bs))
-list_taken readers unknown f bs =
-    let texts = map (λ b. string (f b)) bs in
-    ap (λ ds. set_of_texts readers unknown (position is_no_text ds) (map text_of ds)) (values_back texts)
-    ∙ (λ j. set_of_texts readers unknown ((position_from-zero is_no_text texts ∙ all_texts f 0 bs) j) (texts_back f bs j))
-    ∙ by_bits readers unknown (map f bs)
 
 -- ---- maps
 
@@ -135,38 +112,30 @@ each_written P names [] all done one within each = each
 each_written P names (b ∷ bs) all done one within each =
     each_written P names bs all (put (name_of names b) (boolean true) done) one (and_parts _ _ within).1 (each_put P (name_of names b) (boolean true) done (one b (and_parts _ _ within).0) each)
 
--- the set of the bits of the names of members
-abbrev set_of : Names → Members → BitSet
-set_of names ms = known_set names (names_in (members_in ms))
+-- whether a bit is that of a name, or of one of the names of members
+abbrev is_of : Names → ℕ → List ℕ → Bool
+is_of names q t = is_in q (cons_option (bit_named names t) [])
 
-with_first : (o : Option ℕ) (bs : List ℕ) → from_list (cons_option o bs) ≡ with_named o (from_list bs)
-unfolding from_list
-with_first None bs = refl
-with_first (Some b) bs = refl
+abbrev is_among : Names → ℕ → Members → Bool
+is_among names q ms = is_in q (filter_map (bit_named names) (names_in (members_in ms)))
 
-with_twice : (o : Option ℕ) (s : BitSet) → with_named o s ≡ with_named o (with_named o s)
-with_twice None s = refl
-with_twice (Some b) s = sym (insert_twice s b)
-
-with_comm : (o p : Option ℕ) (s : BitSet) → with_named o (with_named p s) ≡ with_named p (with_named o s)
-with_comm None p s = refl
-with_comm (Some b) None s = refl
-with_comm (Some b) (Some c) s = insert_comm s c b
+either : (o : Option ℕ) (q : ℕ) (bs : List ℕ) → is_in q (cons_option o bs) ≡ (is_in q (cons_option o []) || is_in q bs)
+either None q bs = refl
+either (Some b) q bs = grind arith
 
 -- a member that is put in adds its bit
-set_of-put : (names : Names) (k : List ℕ) (d : Data) (ms : Members) → set_of names (put k d ms) ≡ with_named (bit_named names k) (set_of names ms)
-set_of-put names k d no_members = with_first (bit_named names k) []
-set_of-put names k d (member l e ms) =
-    at _ refl (set_of-put names k d ms) ∙ ap (with_named (bit_named names k)) (sym (added l e ms))
+is_among-put : (names : Names) (q : ℕ) (k : List ℕ) (d : Data) (ms : Members) → is_among names q (put k d ms) ≡ (is_of names q k || is_among names q ms)
+is_among-put names q k d no_members = either (bit_named names k) q []
+is_among-put names q k d (member l e ms) = at _ refl (is_among-put names q k d ms)
   where
-    added : (l : List ℕ) (e : Data) (ms : Members) → set_of names (member l e ms) ≡ with_named (bit_named names l) (set_of names ms)
-    added l e ms = with_first (bit_named names l) (filter_map (bit_named names) (names_in (members_in ms)))
+    among : (ms : Members) → is_among names q (member l e ms) ≡ (is_of names q l || is_among names q ms)
+    among ms = either (bit_named names l) q (filter_map (bit_named names) (names_in (members_in ms)))
 
-    at : (o : Ordering) → slice_cmp nat_cmp k l ≡ o → set_of names (put k d ms) ≡ with_named (bit_named names k) (set_of names ms)
-        → set_of names (match_ordering o (member k d (member l e ms)) (member l d ms) (member l e (put k d ms))) ≡ with_named (bit_named names k) (with_named (bit_named names l) (set_of names ms))
-    at Less is later = added k d (member l e ms) ∙ ap (with_named (bit_named names k)) (added l e ms)
-    at Equal is later = added l d ms ∙ with_twice (bit_named names l) (set_of names ms) ∙ ap (λ t. with_named (bit_named names t) (with_named (bit_named names l) (set_of names ms))) (sym (same_key k l is))
-    at Greater is later = added l e (put k d ms) ∙ ap (with_named (bit_named names l)) later ∙ with_comm (bit_named names l) (bit_named names k) (set_of names ms)
+    at : (o : Ordering) → slice_cmp nat_cmp k l ≡ o → is_among names q (put k d ms) ≡ (is_of names q k || is_among names q ms)
+        → is_among names q (match_ordering o (member k d (member l e ms)) (member l d ms) (member l e (put k d ms))) ≡ (is_of names q k || is_among names q (member l e ms))
+    at Less is later = either (bit_named names k) q _
+    at Equal is later = let same = ap (is_of names q) (same_key k l is) in grind (arith, among ms)
+    at Greater is later = grind (arith, among ms, among (put k d ms))
 
 -- each member of a map that was written is a name with `true`: so none is a fault, and all are taken
 all_true : (P : List ℕ → Type 0) (place : ℕ) (ms : Members) → Each (λ t d. (d ≡ boolean true) × P t) ms → (position_from is_no_boolean place (members_in ms) ≡ None) × (true_names (members_in ms) ≡ names_in (members_in ms))
@@ -185,7 +154,12 @@ module _ (readers writers : Names) (valid : BitSet) (bs : List ℕ) (back : (b :
 
   pub list_read : (s : BitSet) (unknown : Unknown) → is_subset s (from_list bs) ≡ true → set_of_list readers unknown (list_value writers s) ≡ accepted_by_name valid unknown s (ascending s)
   list_read s unknown within =
-      list_taken readers unknown (name_of writers) (ascending s) ∙ ap (taken unknown) (bits_known (ascending s) (AreBitsOf-ascending bs (from_list bs) s refl within)) ∙ accepted valid unknown s (ascending s) (from_list_ascending s)
+      let texts = map (λ b. string (name_of writers b)) (ascending s) in
+      let back = map-map text_of (λ b. string (name_of writers b)) (ascending s) in
+      ap (set_of_values readers unknown) (values_back texts)
+      ∙ (λ j. unless_fault NotAText ((position_from-zero is_no_text texts ∙ all_texts (name_of writers) 0 (ascending s)) j) (named_set readers unknown (back j) (back j)))
+      ∙ by_bits readers unknown (map (name_of writers) (ascending s)) ∙ ap (taken unknown) (bits_known (ascending s) (AreBitsOf-ascending bs (from_list bs) s refl within))
+      ∙ accepted valid unknown s (ascending s) (from_list_ascending s)
 
   -- the name of one bit, with `true`
   abbrev IsName : List ℕ → Data → Type 0
@@ -196,50 +170,30 @@ module _ (readers writers : Names) (valid : BitSet) (bs : List ℕ) (back : (b :
   names_known (member t d ms) each =
       (λ j. each.0.1.2 j ∷ names_known ms each.1 j) ∙ ap (λ o. map (known valid) (cons_option o (filter_map (bit_named writers) (names_in (members_in ms))))) (sym each.0.1.1)
 
-  all_written : (ms : List ℕ) (done : Members) → list_all (λ b. is_in b bs) ms ≡ true → set_of writers (with_bits_true writers done ms) ≡ union (set_of writers done) (from_list ms)
-  unfolding from_list
-  all_written [] done within = sym (union_empty (set_of writers done))
-  all_written (m ∷ ms) done within =
-      all_written ms (put (name_of writers m) (boolean true) done) (and_parts _ _ within).1
-      ∙ ap (λ s. union s (from_list ms)) (set_of-put writers (name_of writers m) (boolean true) done ∙ ap (λ o. with_named o (set_of writers done)) (back m (and_parts _ _ within).0))
-      ∙ insert_union (set_of writers done) (from_list ms) m
-      ∙ sym (union_insert (set_of writers done) (from_list ms) m)
+  all_written : (q : ℕ) (ms : List ℕ) (done : Members) → list_all (λ b. is_in b bs) ms ≡ true → is_among writers q (with_bits_true writers done ms) ≡ (is_among writers q done || is_in q ms)
+  all_written q [] done within = grind arith
+  all_written q (m ∷ ms) done within =
+      let here = ap (λ o. is_in q (cons_option o [])) (back m (and_parts _ _ within).0) in
+      all_written q ms (put (name_of writers m) (boolean true) done) (and_parts _ _ within).1 ∙ grind (arith, is_among-put writers q (name_of writers m) (boolean true) done)
 
   pub map_read : (s : BitSet) (unknown : Unknown) → is_subset s (from_list bs) ≡ true → set_of_map readers unknown (map_value writers s) ≡ accepted_by_name valid unknown s (in_map writers s)
-  unfolding from_list
   map_read s unknown within =
       let inside = AreBitsOf-ascending bs (from_list bs) s refl within in
       let ms = with_bits_true writers no_members (ascending s) in
       let each = each_written IsName writers (ascending s) bs no_members (λ b one. (refl, (b, back b one, as_known b one))) inside tt in
       let plain = all_true (λ t. (b : ℕ) × (bit_named writers t ≡ Some b) × (bit_named readers t ≡ known valid b)) 0 ms each in
-      ap (λ o. set_of_booleans readers unknown o (members_in ms)) (position_from-zero is_no_boolean (members_in ms) ∙ plain.0)
-      ∙ ap (named_set readers unknown (names_in (members_in ms))) plain.1
+      (λ j. unless_fault NotABoolean ((position_from-zero is_no_boolean (members_in ms) ∙ plain.0) j) (named_set readers unknown (names_in (members_in ms)) (plain.1 j)))
       ∙ by_bits readers unknown (names_in (members_in ms))
       ∙ ap (taken unknown) (names_known ms each)
-      ∙ accepted valid unknown s (in_map writers s) (all_written (ascending s) no_members inside ∙ empty_union (from_list (ascending s)) ∙ from_list_ascending s)
+      ∙ accepted valid unknown s (in_map writers s) (same_set _ _ (λ q. contains-from_list (in_map writers s) q ∙ all_written q (ascending s) no_members inside ∙ sym (contains-ascending s q)))
 
 -- ---- the names of element types
 
 -- a type reads what it wrote
-module _ (bs : List ℕ) (names : List (List ℕ)) (are : AreNames bs names) where
-  own_known : (b : ℕ) → is_in b bs ≡ true → bit_named (zip bs names) (name_of (zip bs names) b) ≡ known (from_list bs) b
-  own_known b one = name_back bs names b are one ∙ sym (cond-true (contains (from_list bs) b) (Some b) None (contains-from_list bs b ∙ one))
-
-  pub list_back : (s : BitSet) (unknown : Unknown) → is_subset s (from_list bs) ≡ true → set_of_list (zip bs names) unknown (list_value (zip bs names) s) ≡ Ok s
-  list_back s unknown within =
-      list_read (zip bs names) (zip bs names) (from_list bs) bs (λ b. name_back bs names b are) own_known s unknown within ∙ accepted_whole (from_list bs) unknown s (ascending s) within
-
-  pub map_back : (s : BitSet) (unknown : Unknown) → is_subset s (from_list bs) ≡ true → set_of_map (zip bs names) unknown (map_value (zip bs names) s) ≡ Ok s
-  map_back s unknown within =
-      map_read (zip bs names) (zip bs names) (from_list bs) bs (λ b. name_back bs names b are) own_known s unknown within ∙ accepted_whole (from_list bs) unknown s (in_map (zip bs names) s) within
+pub own_known : (bs : List ℕ) (names : List (List ℕ)) → AreNames bs names → (b : ℕ) → is_in b bs ≡ true → bit_named (zip bs names) (name_of (zip bs names) b) ≡ known (from_list bs) b
+own_known bs names are b one = name_back bs names b are one ∙ sym (cond-true (contains (from_list bs) b) (Some b) None (contains-from_list bs b ∙ one))
 
 -- a type reads what another wrote, whose names agree with its own
-module _ (os : List ℕ) (olds : List (List ℕ)) (bs : List ℕ) (names : List (List ℕ)) (old : AreNames os olds) (are : AreNames bs names) (agree : names_agree (zip os olds) (zip bs names) ≡ true) where
-  other_known : (b : ℕ) → is_in b bs ≡ true → bit_named (zip os olds) (name_of (zip bs names) b) ≡ known (from_list os) b
-  other_known b one = agree_at os olds bs names b old are agree one ∙ ap (λ t. cond t (Some b) None) (sym (contains-from_list os b))
-
-  pub list_other : (s : BitSet) (unknown : Unknown) → is_subset s (from_list bs) ≡ true → set_of_list (zip os olds) unknown (list_value (zip bs names) s) ≡ accepted_by_name (from_list os) unknown s (ascending s)
-  list_other = list_read (zip os olds) (zip bs names) (from_list os) bs (λ b. name_back bs names b are) other_known
-
-  pub map_other : (s : BitSet) (unknown : Unknown) → is_subset s (from_list bs) ≡ true → set_of_map (zip os olds) unknown (map_value (zip bs names) s) ≡ accepted_by_name (from_list os) unknown s (in_map (zip bs names) s)
-  map_other = map_read (zip os olds) (zip bs names) (from_list os) bs (λ b. name_back bs names b are) other_known
+pub other_known : (os : List ℕ) (olds : List (List ℕ)) (bs : List ℕ) (names : List (List ℕ)) → AreNames os olds → AreNames bs names → names_agree (zip os olds) (zip bs names) ≡ true
+    → (b : ℕ) → is_in b bs ≡ true → bit_named (zip os olds) (name_of (zip bs names) b) ≡ known (from_list os) b
+other_known os olds bs names old are agree b one = agree_at os olds bs names b old are agree one ∙ ap (λ t. cond t (Some b) None) (sym (contains-from_list os b))

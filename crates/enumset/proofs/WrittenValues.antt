@@ -10,9 +10,13 @@ use Rattle.serde_json.specs.Read.{max_depth}
 use Rattle.serde_json.specs.View.{items_of}
 use Rattle.serde_json.specs.Written.{has_float, items_have_float, members_have_float}
 use Rattle.enumset.specs.Json.{number_value, words_value}
-use Rattle.enumset.specs.JsonNames.{with_bits_true, list_value, map_value}
+use Rattle.enumset.specs.JsonNames.{list_value, map_value}
 use Rattle.enumset.specs.Names.{Names, name_of}
 use Rattle.enumset.proofs.NamesTaken.{Each, each_written}
+
+-- no float is in a value, and a parser allows its depth
+abbrev pub IsFlat : Data → Type 0
+IsFlat d = (has_float d ≡ false) × (depth d ≤ max_depth)
 
 -- ---- words and lists of names
 
@@ -20,17 +24,11 @@ flat_items : (f : ℕ → Data) → ((n : ℕ) → (has_float (f n) ≡ false) �
 flat_items f flat [] = (refl, omega arith)
 flat_items f flat (n ∷ ns) = let rest = flat_items f flat ns in (or_from _ _ (flat n).0 rest.0, omega (arith, (flat n).1, rest.1))
 
-pub words_no_float : (ns : List ℕ) → has_float (words_value ns) ≡ false
-words_no_float ns = (flat_items number_value (λ n. (refl, omega arith)) ns).0
+pub words_flat : (ns : List ℕ) → IsFlat (words_value ns)
+words_flat ns = let flat = flat_items number_value (λ n. (refl, omega arith)) ns in (flat.0, omega (arith, flat.1))
 
-pub words_shallow : (ns : List ℕ) → depth (words_value ns) ≤ max_depth
-words_shallow ns = omega (arith, (flat_items number_value (λ n. (refl, omega arith)) ns).1)
-
-pub list_no_float : (names : Names) (s : BitSet) → has_float (list_value names s) ≡ false
-list_no_float names s = (flat_items (λ b. string (name_of names b)) (λ b. (refl, omega arith)) (ascending s)).0
-
-pub list_shallow : (names : Names) (s : BitSet) → depth (list_value names s) ≤ max_depth
-list_shallow names s = omega (arith, (flat_items (λ b. string (name_of names b)) (λ b. (refl, omega arith)) (ascending s)).1)
+pub list_flat : (names : Names) (s : BitSet) → IsFlat (list_value names s)
+list_flat names s = let flat = flat_items (λ b. string (name_of names b)) (λ b. (refl, omega arith)) (ascending s) in (flat.0, omega (arith, flat.1))
 
 -- ---- maps of names
 
@@ -39,12 +37,7 @@ flat_members no_members each = (refl, omega arith)
 flat_members (member t d ms) each =
     let rest = flat_members ms each.1 in (or_from (has_float d) _ (ap has_float each.0) rest.0, omega (arith, ap depth each.0, rest.1))
 
-flat_map : (names : Names) (s : BitSet) → (members_have_float (with_bits_true names no_members (ascending s)) ≡ false) × (members_depth (with_bits_true names no_members (ascending s)) ≤ 0)
-flat_map names s =
-    flat_members _ (each_written (λ t d. d ≡ boolean true) names (ascending s) (ascending s) no_members (λ b one. refl) (AreBitsOf-ascending (ascending s) s s (sym (from_list_ascending s)) (is_subset-itself s)) tt)
-
-pub map_no_float : (names : Names) (s : BitSet) → has_float (map_value names s) ≡ false
-map_no_float names s = (flat_map names s).0
-
-pub map_shallow : (names : Names) (s : BitSet) → depth (map_value names s) ≤ max_depth
-map_shallow names s = omega (arith, (flat_map names s).1)
+pub map_flat : (names : Names) (s : BitSet) → IsFlat (map_value names s)
+map_flat names s =
+    let flat = flat_members _ (each_written (λ t d. d ≡ boolean true) names (ascending s) (ascending s) no_members (λ b one. refl) (AreBitsOf-ascending (ascending s) s s (sym (from_list_ascending s)) (is_subset-itself s)) tt) in
+    (flat.0, omega (arith, flat.1))

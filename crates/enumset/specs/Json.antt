@@ -2,19 +2,21 @@
 --     width_of      how many bits a width has
 --     whole_number      the whole number from 0 to 2 ^ 64 - 1 that a value holds, or the fault
 --     number_below      the same, below 2 ^ width
+--     unless_fault      a result, or the fault of a place, if there is one
+--     values_of      the elements of an array
 --     word_of, words_of      the word that an element holds, if it holds one;  those of all elements, 0 where one holds none
---     first_other      the first place whose element holds no word, where the first element is at a place
+--     is_no_word      the test that finds a fault
 --     words_in      the words that a value holds, or the fault
 --     accepted      the set of valid bits that is taken of a set, or the fault
 --     kept_below      the set of bits below a width that is taken of a set, or the fault
 --     set_of_number, mixed_set_of_number, set_of_words, mixed_set_of_words      the set that a value is read as, or the fault
 --     number_value, words_value      the values that a number and words are written as
-use Rattle.std.specs.Prelude.{ℕ, ◌+◌, ◌^◌, List, [], ◌∷◌, map, nat_lt, Option, Some, None, is_some, unwrap_or, option_and_then, Result, Ok, Err, if◌then◌else◌}
+use Rattle.std.specs.Prelude.{ℕ, Bool, ◌^◌, List, [], ◌∷◌, map, nat_lt, position, Option, Some, None, is_none, unwrap_or, option_and_then, Result, Ok, Err, if◌then◌else◌}
 use Rattle.enumset_repr.specs.BitSet.{BitSet, intersection, is_subset, below, low}
 use Rattle.enumset_repr.specs.Number.{bits}
 use Rattle.enumset_repr.specs.Words.{bits_of}
 use Rattle.serde_json.specs.Data.{Data, null, boolean, number, string, array, object, Items, no_items, item, unsigned, negative, float}
-use Rattle.serde_json.specs.Find.{as_number, as_u64}
+use Rattle.serde_json.specs.Find.{as_number, as_u64, as_array}
 use Rattle.serde_json.specs.View.{items_of}
 use Rattle.enumset.specs.declared.set_json.width.JsonWidth.{JsonWidth}
 use Rattle.enumset.specs.declared.set_json.width.JsonWidth.TheVariants.{U8, U16, U32, U64}
@@ -52,25 +54,27 @@ number_below width value = below_power width (whole_number value)
 abbrev pub word_of : Data → Option ℕ
 word_of value = option_and_then as_u64 (as_number value)
 
-abbrev pub words_of : Items → List ℕ
-words_of no_items = []
-words_of (item value items) = unwrap_or (word_of value) 0 ∷ words_of items
+abbrev pub is_no_word : Data → Bool
+is_no_word value = is_none (word_of value)
 
-abbrev pub first_other : ℕ → Items → Option ℕ
-first_other place no_items = None
-first_other place (item value items) = if is_some (word_of value) then first_other (place + 1) items else Some place
+abbrev pub words_of : List Data → List ℕ
+words_of values = map (λ value. unwrap_or (word_of value) 0) values
 
-abbrev pub words_unless : Option ℕ → Items → Result (List ℕ) JsonFault
-words_unless None items = Ok (words_of items)
-words_unless (Some place) items = Err (NotAWord place)
+abbrev pub values_of : Items → List Data
+values_of no_items = []
+values_of (item value items) = value ∷ values_of items
+
+-- a result, or the fault of a place, if there is one
+abbrev pub unless_fault : {A : Type 0} → (ℕ → JsonFault) → Option ℕ → Result A JsonFault → Result A JsonFault
+unless_fault fault None result = result
+unless_fault fault (Some place) result = Err (fault place)
+
+abbrev pub words_among : Option Items → Result (List ℕ) JsonFault
+words_among None = Err NotAnArray
+words_among (Some items) = unless_fault NotAWord (position is_no_word (values_of items)) (Ok (words_of (values_of items)))
 
 abbrev pub words_in : Data → Result (List ℕ) JsonFault
-words_in (array items) = words_unless (first_other 0 items) items
-words_in null = Err NotAnArray
-words_in (boolean b) = Err NotAnArray
-words_in (number n) = Err NotAnArray
-words_in (string s) = Err NotAnArray
-words_in (object ms) = Err NotAnArray
+words_in value = words_among (as_array value)
 
 -- bits that are not valid are left out, or refused
 abbrev pub accepted : BitSet → Unknown → BitSet → Result BitSet JsonFault

@@ -1,5 +1,5 @@
 -- JSON lists and maps of names as sets, and what is wrong with one that is none.
---     values_of, members_in      the elements of an array;  the members of an object, each name with its value, in the order of their names
+--     members_in      the members of an object, each name with its value, in the order of their names
 --     text_of, is_true      the text that a value is, if it is one;  whether it is `true`
 --     is_no_text, is_no_boolean      the tests that find a fault
 --     is_unknown      whether a text is the name of no variant
@@ -11,12 +11,13 @@
 --     list_value, map_value      the values that a set is written as
 --     in_map      the members of a set in the order in which a map has their names
 --     accepted_by_name      the set of valid bits that is taken of a set whose members' names come in an order, or the fault
-use Rattle.std.specs.Prelude.{ℕ, Bool, true, false, if◌then◌else◌, is_none, List, [], ◌∷◌, map, filter, filter_map, position, Option, Some, None, unwrap_or, Result, Ok, Err}
+use Rattle.std.specs.Prelude.{ℕ, Bool, true, false, if◌then◌else◌, is_none, List, [], ◌∷◌, map, filter, filter_map, position, Option, unwrap_or, Result, Ok, Err}
 use Rattle.std.specs.List.{prefix_len}
 use Rattle.enumset_repr.specs.BitSet.{BitSet, from_list, ascending, contains, intersection, is_subset}
-use Rattle.serde_json.specs.Data.{Data, null, boolean, number, string, array, object, Items, no_items, item, Members, no_members, member, put}
+use Rattle.serde_json.specs.Data.{Data, null, boolean, number, string, array, object, Members, no_members, member, put}
 use Rattle.serde_json.specs.Find.{as_str, as_bool}
 use Rattle.serde_json.specs.View.{items_of}
+use Rattle.enumset.specs.Json.{unless_fault, values_of}
 use Rattle.enumset.specs.Names.{Names, name_of, bit_named}
 use Rattle.enumset.specs.declared.set_json.unknown.Unknown.{Unknown}
 use Rattle.enumset.specs.declared.set_json.unknown.Unknown.TheVariants.{Drop, Refuse}
@@ -24,10 +25,6 @@ use Rattle.enumset.specs.declared.set_json.fault.JsonFault.{JsonFault}
 use Rattle.enumset.specs.declared.set_json.fault.JsonFault.TheVariants.{NotAnArray, NotAnObject, NotAText, NotABoolean, UnknownName}
 
 -- ---- what is read
-
-abbrev pub values_of : Items → List Data
-values_of no_items = []
-values_of (item value items) = value ∷ values_of items
 
 abbrev pub members_in : Members → List (List ℕ × Data)
 members_in no_members = []
@@ -51,25 +48,18 @@ is_unknown names text = is_none (bit_named names text)
 abbrev pub known_set : Names → List (List ℕ) → BitSet
 known_set names texts = from_list (filter_map (bit_named names) texts)
 
-abbrev pub unless_unknown : Option ℕ → BitSet → Result BitSet JsonFault
-unless_unknown None s = Ok s
-unless_unknown (Some place) s = Err (UnknownName place)
-
 -- the set that was read, or the fault of the first unknown name
 abbrev pub decided : Unknown → Option ℕ → BitSet → Result BitSet JsonFault
 decided Drop first s = Ok s
-decided Refuse first s = unless_unknown first s
+decided Refuse first s = unless_fault UnknownName first (Ok s)
 
 -- the set of the names that are chosen among all that are there
 abbrev pub named_set : Names → Unknown → List (List ℕ) → List (List ℕ) → Result BitSet JsonFault
 named_set names unknown all chosen = decided unknown (position (is_unknown names) all) (known_set names chosen)
 
-abbrev pub set_of_texts : Names → Unknown → Option ℕ → List (List ℕ) → Result BitSet JsonFault
-set_of_texts names unknown None texts = named_set names unknown texts texts
-set_of_texts names unknown (Some place) texts = Err (NotAText place)
-
 abbrev pub set_of_values : Names → Unknown → List Data → Result BitSet JsonFault
-set_of_values names unknown values = set_of_texts names unknown (position is_no_text values) (map text_of values)
+set_of_values names unknown values =
+    unless_fault NotAText (position is_no_text values) (named_set names unknown (map text_of values) (map text_of values))
 
 abbrev pub set_of_list : Names → Unknown → Data → Result BitSet JsonFault
 set_of_list names unknown (array items) = set_of_values names unknown (values_of items)
@@ -85,12 +75,9 @@ names_in ms = map (λ m. m.0) ms
 abbrev pub true_names : List (List ℕ × Data) → List (List ℕ)
 true_names ms = names_in (filter is_true ms)
 
-abbrev pub set_of_booleans : Names → Unknown → Option ℕ → List (List ℕ × Data) → Result BitSet JsonFault
-set_of_booleans names unknown None ms = named_set names unknown (names_in ms) (true_names ms)
-set_of_booleans names unknown (Some place) ms = Err (NotABoolean place)
-
 abbrev pub set_of_members : Names → Unknown → List (List ℕ × Data) → Result BitSet JsonFault
-set_of_members names unknown ms = set_of_booleans names unknown (position is_no_boolean ms) ms
+set_of_members names unknown ms =
+    unless_fault NotABoolean (position is_no_boolean ms) (named_set names unknown (names_in ms) (true_names ms))
 
 abbrev pub set_of_map : Names → Unknown → Data → Result BitSet JsonFault
 set_of_map names unknown (object ms) = set_of_members names unknown (members_in ms)

@@ -5,10 +5,11 @@
 --     bit_named      the bit of a name, if there is one
 --     names_agree      whether any bit of one type and any bit of another are the same exactly where their names are
 --     IsNaming      the test that each bit has a name of its own;  where it fails, a type whose name says what to mend
-use Rattle.std.specs.Prelude.{ℕ, Bool, true, false, not, ◌&&◌, ◌==◌, if◌then◌else◌, List, [], ◌∷◌, length, zip, Option, Some, None}
+use Rattle.std.specs.Prelude.{ℕ, Bool, true, not, ◌&&◌, ◌==◌, if◌then◌else◌, List, [], ◌∷◌, length, zip, Option, Some, None}
 use Rattle.std.specs.Bool.{beq}
 use Rattle.std.specs.List.{list_any, list_all}
 use Rattle.std.specs.Str.{bytes_eq}
+use Rattle.enumset_repr.specs.Lawful.{or_else}
 use Rattle.enumset_sets.specs.Elements.{Elements}
 
 abbrev pub Names : Type 0
@@ -40,12 +41,8 @@ pub data NameCountShouldBe (count : ℕ) : Type 0 where
 
 pub data NamesAValueTwice : Type 0 where
 
-abbrev pub fault_unless : Bool → Type 0 → Type 0 → Type 0
-fault_unless true fault next = next
-fault_unless false fault next = fault
-
 -- as many names as bits, and no two the same
 abbrev pub IsNaming : List ℕ → List (List ℕ) → Type 0
 IsNaming bs names =
-    fault_unless (length names == length bs) (NameCountShouldBe (length bs))
-    (fault_unless (are_distinct names) NamesAValueTwice (Unit {0}))
+    or_else (length names == length bs) (NameCountShouldBe (length bs))
+    (or_else (are_distinct names) NamesAValueTwice (Unit {0}))

@@ -16,7 +16,6 @@ use Rattle.enumset_array.specs.Operations.{IsOnBits}
 use Rattle.enumset_array.specs.ArrayWords.{in_use, words_in_use, set_of, IsArrayRepr}
 use Rattle.enumset_array.specs.Laws.ArrayWords.{contains-set_of, set_is, past_is, empty_past, none_iff}
 use Rattle.enumset_repr.specs.Laws.WordLists.{contains-zero}
-use Rattle.enumset_array.proofs.ReplacedWord.{in_use-le}
 
 module _ (op : ℕ → ℕ → ℕ) (of_sets : BitSet → BitSet → BitSet) (on : IsOnBits op of_sets) (n : ℕ) (a b : List ℕ) (first : IsArrayRepr n a) (second : IsArrayRepr n b) where
   none_past : (k : ℕ) → in_use n ≤ k → op (slice_index a k) (slice_index b k) ≡ 0
@@ -30,7 +29,7 @@ module _ (op : ℕ → ℕ → ℕ) (of_sets : BitSet → BitSet → BitSet) (on
       let low = get_or-zip2 op a b k 0 0 0 in
       let past = get_or_past (zip2 op a b) k 0 in
       let none = none_past k in
-      grind (arith, first.long, second.long, length-made, in_use-le n)
+      grind (arith, first.long, second.long, length-made)
 
   pub made_repr : IsArrayRepr n (zip2 op a b)
   made_repr = record {
@@ -59,7 +58,7 @@ module _ (n : ℕ) (a : List ℕ) (first : IsArrayRepr n a) where
   front = zip2 (λ x _. bit_not w64 x) (words_in_use n a) (words_in_use n a)
 
   length-used : length (words_in_use n a) ≡ in_use n
-  length-used = omega (arith, length-take (in_use n) a, first.long, in_use-le n)
+  length-used = omega (arith, length-take (in_use n) a, first.long)
 
   length-front : length front ≡ in_use n
   length-front = length-zip2 (λ x _. bit_not w64 x) (words_in_use n a) (words_in_use n a) refl ∙ length-used
@@ -78,7 +77,7 @@ module _ (n : ℕ) (a : List ℕ) (first : IsArrayRepr n a) where
 
   pub inverted_repr : IsArrayRepr n (inverted n a)
   inverted_repr = record {
-    long = omega (arith, length-append front (drop (in_use n) a), length-front, length-drop (in_use n) a, first.long, in_use-le n);
+    long = omega (arith, length-append front (drop (in_use n) a), length-front, length-drop (in_use n) a, first.long);
     fit = λ k. let low = turned k in let past = none k in grind (arith, ones_sub-lt 64 (slice_index a k));
     past = empty_past n (inverted n a) none;
   }

@@ -1,5 +1,5 @@
 -- Two lists of words that are compared from the top, down to the highest place where they differ.
-use Rattle.std.proofs.Common.{◌≡◌, ◌≢◌, ◌<◌, ◌≤◌, ℕ, zero, suc, ◌+◌, true, List, [], ◌∷◌, ◌++◌, length, drop, refl, sym, ap, ◌∙◌, arith, add-one}
+use Rattle.std.proofs.Common.{◌≡◌, ◌≢◌, ◌<◌, ◌≤◌, ℕ, zero, suc, ◌+◌, true, List, ◌∷◌, ◌++◌, length, drop, refl, sym, ap, ◌∙◌, arith}
 use Rattle.std.specs.Prelude.{slice_index, bit_xor}
 use Rattle.std.specs.declared.cmp.Ordering.{Ordering}
 use Rattle.std.specs.declared.cmp.Ordering.TheVariants.{Equal}
@@ -8,8 +8,7 @@ use Rattle.std.specs.Cmp.{ranks, tied_itself}
 use Rattle.std.specs.Cmp.Lexicographic.{same_text}
 use Rattle.std.specs.Simd.Lanes.{zip2, chunk}
 use Rattle.std.proofs.lemmas.Bool.Decides.{nat_tests}
-use Rattle.std.proofs.lemmas.List.{take-append-drop, drop-drop}
-use Rattle.std.proofs.lemmas.Simd.{length-chunk}
+use Rattle.std.proofs.lemmas.Simd.{length-chunk, chunk-drop}
 use Rattle.enumset_array.specs.Order.{highest_first}
 use Rattle.enumset_array.specs.Laws.Order.{highest_first-cons, highest_first-total}
 use Rattle.enumset_array.proofs.WordLanes.{none_in, none_apart}
@@ -25,28 +24,18 @@ all_equal a b i none same =
 kept : (o p : Ordering) (u v : ℕ) → MatchOrdering o (u < v) (u ≡ v) (v < u) → u ≢ v → ordering_then o p ≡ o
 kept o p u v h apart = grind (arith, nat_tests, h, apart)
 
-decided : (a b : List ℕ) (i : ℕ) → length a ≡ length b → i < length a → slice_index a i ≢ slice_index b i → drop (suc i) a ≡ drop (suc i) b
+-- words that differ, with equal words after them
+pub decided : (a b : List ℕ) (i : ℕ) → length a ≡ length b → i < length a → slice_index a i ≢ slice_index b i → drop (suc i) a ≡ drop (suc i) b
     → highest_first a b ≡ nat_cmp (slice_index a i) (slice_index b i)
-decided [] b i long under apart same = absurd (omega (arith, under))
-decided (x ∷ a) [] i long under apart same = absurd (omega (arith, long))
 decided (x ∷ a) (y ∷ b) zero long under apart same =
     highest_first-cons x y a b (omega (arith, long)) ∙ ap (λ o. ordering_then o (nat_cmp x y)) (sym (all_equal a b 0 refl same))
 decided (x ∷ a) (y ∷ b) (suc i) long under apart same =
     highest_first-cons x y a b (omega (arith, long))
     ∙ ap (λ o. ordering_then o (nat_cmp x y)) (decided a b i (omega (arith, long)) (omega (arith, under)) apart same)
     ∙ kept _ (nat_cmp x y) _ _ (ranks (slice_index a i) (slice_index b i)) apart
-
--- words that differ, with equal words after them
-pub decided_at : (a b : List ℕ) (i end : ℕ) → end ≡ i + 1 → length a ≡ length b → i < length a → slice_index a i ≢ slice_index b i → drop end a ≡ drop end b
-    → nat_cmp (slice_index a i) (slice_index b i) ≡ highest_first a b
-decided_at a b i end next long under apart same =
-    let e : end ≡ suc i = next ∙ add-one i in
-    sym (decided a b i long under apart (ap (λ n. drop n a) (sym e) ∙ same ∙ ap (λ n. drop n b) e))
+decided a b i long under apart same = absurd (omega (arith, long, under))
 
 -- ---- lists that are equal from a place on
-
-parted : (a : List ℕ) (i n end : ℕ) → end ≡ i + n → drop i a ≡ chunk i n a ++ drop end a
-parted a i n end next = sym (take-append-drop n (drop i a)) ∙ ap (λ l. chunk i n a ++ l) (drop-drop n i a ∙ ap (λ m. drop m a) (sym next))
 
 -- n words lower
 pub block_lower : (a b : List ℕ) (i n end : ℕ) → end ≡ i + n → length a ≡ length b → end ≤ length a → none_in (zip2 bit_xor (chunk i n a) (chunk i n b)) ≡ true
@@ -54,4 +43,4 @@ pub block_lower : (a b : List ℕ) (i n end : ℕ) → end ≡ i + n → length 
 block_lower a b i n end next long under none same =
     let as_long : length (chunk i n a) ≡ length (chunk i n b) = length-chunk i n a (omega (arith, next, under)) ∙ sym (length-chunk i n b (omega (arith, next, long, under))) in
     let here : chunk i n a ≡ chunk i n b = same_text _ _ (sym none ∙ none_apart _ _ as_long) in
-    parted a i n end next ∙ (λ k. here k ++ same k) ∙ sym (parted b i n end next)
+    chunk-drop i n a ∙ (λ k. here k ++ (ap (λ m. drop m a) (sym next) ∙ same ∙ ap (λ m. drop m b) next) k) ∙ sym (chunk-drop i n b)

@@ -1,10 +1,11 @@
 -- The words of an `ArrayRepr` after one of them was replaced.
-use Rattle.std.proofs.Common.{◌≡◌, ◌≢◌, ◌<◌, ◌≤◌, ℕ, ◌*◌, ◌+◌, ◌-◌, ◌/◌, ◌%◌, ◌^◌, true, false, not, List, set, bit_and, bit_or, refl, sym, ap, ◌∙◌, subst, arith, w64, length-set}
-use Rattle.std.specs.Prelude.{◌==◌, slice_index, IsTrue}
+use Rattle.std.proofs.Common.{◌≡◌, ◌≢◌, ◌<◌, ℕ, ◌*◌, ◌+◌, ◌-◌, ◌/◌, ◌%◌, ◌^◌, true, false, not, List, set, bit_and, bit_or, refl, sym, ap, ◌∙◌, subst, arith, w64, length-set}
+use Rattle.std.specs.Prelude.{◌==◌, slice_index}
 use Rattle.std.specs.List.{list_all}
 use Rattle.std.specs.Int.{bit_not}
 use Rattle.std.specs.Int.Bits.{and_lt}
 use Rattle.std.proofs.lemmas.Nat.{or_lt}
+use Rattle.std.proofs.Math.Nat.{div-add-mod}
 use Rattle.std.proofs.Math.Pow.{ones_sub-lt}
 use Rattle.std.proofs.lemmas.Bool.Decides.{nat_tests}
 use Rattle.std.proofs.lemmas.List.{get_or-set_same, get_or-set_other, drop-set-lt}
@@ -14,15 +15,9 @@ use Rattle.enumset_repr.specs.Words.{with_word}
 use Rattle.enumset_repr.specs.Laws.Members.{contains-insert, contains-remove}
 use Rattle.enumset_repr.specs.Laws.Numbers.{bits-set, bits-clear, bits-test}
 use Rattle.enumset_repr.specs.Laws.Words.{contains-with_word}
-use Rattle.enumset_array.specs.ArrayWords.{in_use, set_of, is_empty_past, IsArrayRepr}
-use Rattle.enumset_repr.specs.Laws.WordLists.{contains-bits_above, at_word}
+use Rattle.enumset_array.specs.ArrayWords.{in_use, set_of, IsArrayRepr}
+use Rattle.enumset_repr.specs.Laws.WordLists.{contains-bits_above}
 use Rattle.enumset_array.specs.Laws.ArrayWords.{contains-set_of, set_is}
-
-pub set_past : (n : ℕ) (ws : List ℕ) (i x : ℕ) → i < in_use n → IsTrue (is_empty_past n ws) → IsTrue (is_empty_past n (set ws i x))
-set_past n ws i x low past = ap (list_all (λ w. w == 0)) (drop-set-lt (in_use n) ws i x low) ∙ past
-
-pub in_use-le : (n : ℕ) → in_use n ≤ n
-in_use-le n = omega arith
 
 -- what holds of one place, and of each other, holds of all
 pub at_or_apart : (P : ℕ → Type 0) (i : ℕ) → P i → ((j : ℕ) → j ≢ i → P j) → (j : ℕ) → P j
@@ -33,7 +28,7 @@ at_or_apart P i here apart j = elim (j == i) as (λ t. (j == i) ≡ t → P j) [
 
 module _ (n : ℕ) (ws : List ℕ) (i x : ℕ) (is_repr : IsArrayRepr n ws) (low : i < in_use n) (fits : x < 2 ^ 64) where
   placed : slice_index (set ws i x) i ≡ x
-  placed = get_or-set_same ws i x 0 (omega (arith, low, in_use-le n, is_repr.long))
+  placed = get_or-set_same ws i x 0 (omega (arith, low, is_repr.long))
 
   kept : (k : ℕ) → k ≢ i → slice_index (set ws i x) k ≡ slice_index ws k
   kept k apart = get_or-set_other ws i k x 0 apart
@@ -42,7 +37,7 @@ module _ (n : ℕ) (ws : List ℕ) (i x : ℕ) (is_repr : IsArrayRepr n ws) (low
   set_repr = record {
     long = length-set ws i x ∙ is_repr.long;
     fit = at_or_apart (λ k. slice_index (set ws i x) k < 2 ^ 64) i (subst (λ y. y < 2 ^ 64) (sym placed) fits) (λ k apart. subst (λ y. y < 2 ^ 64) (sym (kept k apart)) (is_repr.fit k));
-    past = set_past n ws i x low is_repr.past;
+    past = ap (list_all (λ w. w == 0)) (drop-set-lt (in_use n) ws i x low) ∙ is_repr.past;
   }
 
   -- the set, by its bits in that word and elsewhere
@@ -77,7 +72,7 @@ module _ (n : ℕ) (ws : List ℕ) (bit : ℕ) (is_repr : IsArrayRepr n ws) wher
   pub test_bit : not (bit_and (slice_index ws i) one == 0) ≡ contains (set_of n ws) bit
   test_bit =
       sym (bits-test 64 (slice_index ws i) (bit % 64) (omega arith)) ∙ sym (contains-set_of n ws i (bit % 64) is_repr (omega arith))
-      ∙ ap (contains (set_of n ws)) (at_word bit)
+      ∙ ap (contains (set_of n ws)) (div-add-mod bit 64)
 
 pub put_word : (n : ℕ) (ws : List ℕ) (i x : ℕ) → IsArrayRepr n ws → i < in_use n → x < 2 ^ 64 → set_of n (set ws i x) ≡ with_word (set_of n ws) (64 * in_use n) i x
 put_word n ws i x is_repr low fits = (set_at n ws i x is_repr low fits (with_word (set_of n ws) (64 * in_use n) i x)

@@ -11,7 +11,7 @@ use Rattle.enumset_repr.specs.Number.{bits}
 use Rattle.enumset_repr.specs.Laws.Numbers.{len-bits}
 use Rattle.enumset_array.specs.ArrayWords.{in_use, words_in_use, IsArrayRepr}
 use Rattle.enumset_array.proofs.ReplacedWord.{set_repr}
-use Rattle.enumset_array.proofs.TakenOut.{first_fits, last_fits}
+use Rattle.enumset_array.proofs.TakenOut.{by_first, by_last, small}
 
 -- ---- one word replaced
 
@@ -34,11 +34,11 @@ Gives joined x r y = MatchOption r ((x ≡ 0) × (y ≡ x)) (λ b. ascending (bi
 
 pub front_fits : (x y : ℕ) (r : Option ℕ) → x < 2 ^ 64 → Gives (λ b bs. b ∷ bs) x r y → y < 2 ^ 64
 front_fits x y None fits left = subst (λ m. m < 2 ^ 64) (sym left.1) fits
-front_fits x y (Some b) fits first = first_fits x y 64 b fits first
+front_fits x y (Some b) fits first = small x y 64 b fits (by_first _ _ b first)
 
 pub back_fits : (x y : ℕ) (r : Option ℕ) → x < 2 ^ 64 → Gives (λ b bs. bs ++ b ∷ []) x r y → y < 2 ^ 64
 back_fits x y None fits left = subst (λ m. m < 2 ^ 64) (sym left.1) fits
-back_fits x y (Some b) fits last = last_fits x y 64 b fits last
+back_fits x y (Some b) fits last = small x y 64 b fits (by_last _ _ b last)
 
 -- ---- the bits counted word by word
 
@@ -54,12 +54,8 @@ one_more ws i j next low =
 -- four words, as a chunk
 pub four_ones : (ws : List ℕ) → length ws ≡ 4
     → bits_in ws ≡ count_ones (slice_index ws 0) + count_ones (slice_index ws 1) + count_ones (slice_index ws 2) + count_ones (slice_index ws 3)
-four_ones [] e = absurd (omega (arith, e))
-four_ones (a ∷ []) e = absurd (omega (arith, e))
-four_ones (a ∷ b ∷ []) e = absurd (omega (arith, e))
-four_ones (a ∷ b ∷ c ∷ []) e = absurd (omega (arith, e))
 four_ones (a ∷ b ∷ c ∷ d ∷ []) e = omega (arith, len-bits a, len-bits b, len-bits c, len-bits d)
-four_ones (a ∷ b ∷ c ∷ d ∷ f ∷ ws) e = absurd (omega (arith, e))
+four_ones ws e = absurd (omega (arith, e))
 
 pub four_more : (ws : List ℕ) (i j : ℕ) → j ≡ i + 4 → bits_in (take j ws) ≡ bits_in (take i ws) + bits_in (chunk i 4 ws)
 four_more ws i j next = ap (λ k. bits_in (take k ws)) next ∙ ap bits_in (take-add i 4 ws) ∙ sum_by-append (λ w. len (bits w)) (take i ws) (chunk i 4 ws)

@@ -17,29 +17,23 @@ use Rattle.enumset_array.specs.OneStep.{TakesOut}
 use Rattle.enumset_array.proofs.ReplacedWord.{at_or_apart}
 
 -- b is a member of s, and t is s without it
-record IsTaken (s : BitSet) (b : ℕ) (t : BitSet) : Type 0 where
-  was : contains s b ≡ true
-  rest : t ≡ remove s b
+pub record IsTaken (s : BitSet) (b : ℕ) (t : BitSet) : Type 0 where
+  pub was : contains s b ≡ true
+  pub rest : t ≡ remove s b
 
 same_list : (s t : BitSet) → ascending s ≡ ascending t → s ≡ t
 same_list s t same = sym (from_list_ascending s) ∙ ap from_list same ∙ from_list_ascending t
 
-by_first : (s t : BitSet) (b : ℕ) → ascending s ≡ b ∷ ascending t → IsTaken s b t
+pub by_first : (s t : BitSet) (b : ℕ) → ascending s ≡ b ∷ ascending t → IsTaken s b t
 by_first s t b first = record { was = first-member s b _ first; rest = same_list t _ (first-rest s b _ first) }
 
-by_last : (s t : BitSet) (b : ℕ) → ascending s ≡ ascending t ++ b ∷ [] → IsTaken s b t
+pub by_last : (s t : BitSet) (b : ℕ) → ascending s ≡ ascending t ++ b ∷ [] → IsTaken s b t
 by_last s t b last = record { was = last-member s b _ last; rest = same_list t _ (last-rest s b _ last) }
 
 -- ---- a word of k bits with one bit taken out is a word of k bits
 
-small : (n m k b : ℕ) → n < 2 ^ k → IsTaken (bits n) b (bits m) → m < 2 ^ k
+pub small : (n m k b : ℕ) → n < 2 ^ k → IsTaken (bits n) b (bits m) → m < 2 ^ k
 small n m k b fits taken = omega (arith, number-bits m, number-within (bits m) k (rw taken.rest (remove-is_subset _ _ b (bits-within n k fits))))
-
-pub first_fits : (n m k b : ℕ) → n < 2 ^ k → ascending (bits n) ≡ b ∷ ascending (bits m) → m < 2 ^ k
-first_fits n m k b fits first = small n m k b fits (by_first _ _ b first)
-
-pub last_fits : (n m k b : ℕ) → n < 2 ^ k → ascending (bits n) ≡ ascending (bits m) ++ b ∷ [] → m < 2 ^ k
-last_fits n m k b fits last = small n m k b fits (by_last _ _ b last)
 
 -- ---- a bit taken out of the word at i
 

@@ -1,6 +1,6 @@
--- The laws of steps from either end of a list: no step, and one step more.
+-- The laws of steps from either end of a list: one step more.
 use Rattle.std.proofs.Common.{◌≡◌, ◌<◌, ◌≤◌, ℕ, suc, ◌+◌, List, [], ◌∷◌, ◌++◌, Option, Some, None, length, take, get_or, is_some, MatchOption, if◌then◌else◌, refl, sym, ap, ◌∙◌, subst, arith, length-append, append-nil, inl, inr, IfNone, Contains}
-use Rattle.std.specs.Prelude.{filter_map}
+use Rattle.std.specs.List.{cons_option}
 use Rattle.std.proofs.lemmas.List.{take_more}
 use Rattle.std.proofs.lemmas.List.Elements.{filter_map-append, Contains-push_cases}
 use Rattle.enumset_repr.specs.BitSet.{BitSet, remove, difference, from_list}
@@ -22,17 +22,13 @@ unfolding without_answers
 without_answers-push xs [] e = refl
 without_answers-push xs (f ∷ fs) e = without_answers-push (without_answer f xs) fs e
 
-pub items_among-push_some : (rs : List (Option ℕ)) (b : ℕ) → items_among (rs ++ Some b ∷ []) ≡ items_among rs ++ b ∷ []
+items_among-push : (rs : List (Option ℕ)) (r : Option ℕ) → items_among (rs ++ r ∷ []) ≡ items_among rs ++ cons_option r []
 unfolding items_among
-items_among-push_some rs b = filter_map-append (λ (r : Option ℕ). r) rs (Some b ∷ [])
-
-pub items_among-push_none : (rs : List (Option ℕ)) → items_among (rs ++ None ∷ []) ≡ items_among rs
-unfolding items_among
-items_among-push_none rs = filter_map-append (λ (r : Option ℕ). r) rs (None ∷ []) ∙ append-nil (filter_map (λ r. r) rs)
+items_among-push rs r = filter_map-append (λ (r : Option ℕ). r) rs (r ∷ [])
 
 pub length-items_among-push : (rs : List (Option ℕ)) (r : Option ℕ) → length (items_among (rs ++ r ∷ [])) ≡ length (items_among rs) + (if is_some r then 1 else 0)
-length-items_among-push rs None = ap length (items_among-push_none rs) ∙ omega arith
-length-items_among-push rs (Some b) = ap length (items_among-push_some rs b) ∙ length-append (items_among rs) (b ∷ [])
+length-items_among-push rs None = ap length (items_among-push rs None) ∙ length-append (items_among rs) []
+length-items_among-push rs (Some b) = ap length (items_among-push rs (Some b)) ∙ length-append (items_among rs) (b ∷ [])
 
 pub length-items_among : (rs : List (Option ℕ)) → length (items_among rs) ≤ length rs
 unfolding items_among
@@ -56,30 +52,13 @@ difference-push s bs b = same_set _ _ (λ q. grind (arith, members, contains-fro
 
 -- the set after a step that yielded r
 pub difference-step : (s t u : BitSet) (rs : List (Option ℕ)) (r : Option ℕ) → t ≡ difference s (from_list (items_among rs)) → MatchOption r (u ≡ t) (λ b. u ≡ remove t b) → u ≡ difference s (from_list (items_among (rs ++ r ∷ [])))
-difference-step s t u rs None e step = step ∙ e ∙ ap (λ bs. difference s (from_list bs)) (sym (items_among-push_none rs))
+difference-step s t u rs None e step = step ∙ e ∙ ap (λ bs. difference s (from_list bs)) (sym (items_among-push rs None ∙ append-nil (items_among rs)))
 difference-step s t u rs (Some b) e step =
-    step ∙ ap (λ v. remove v b) e ∙ difference-push s (items_among rs) b ∙ ap (λ bs. difference s (from_list bs)) (sym (items_among-push_some rs b))
+    step ∙ ap (λ v. remove v b) e ∙ difference-push s (items_among rs) b ∙ ap (λ bs. difference s (from_list bs)) (sym (items_among-push rs (Some b)))
 
 -- once an answer was None, the cursors have met
 pub none-push : (rs : List (Option ℕ)) (r : Option ℕ) (P Q : Type 0) → (Contains rs None → P) → (P → r ≡ None) → IfNone r Q → Contains (rs ++ r ∷ []) None → Q
 none-push rs r P Q before stays met has = subst (λ o. IfNone o Q) (elim (Contains-push_cases rs r None has) [ inl earlier ↦ stays (before earlier) | inr now ↦ now ]) met
-
--- ---- no step
-
-pub no_answers : (xs : List ℕ) → answers xs [] ≡ []
-unfolding answers
-no_answers xs = refl
-
-pub all_left : (xs : List ℕ) → without_answers xs [] ≡ xs
-unfolding without_answers
-all_left xs = refl
-
-pub none_given : length (items_among []) ≡ 0
-unfolding items_among
-none_given = refl
-
-pub none_in_no_answers : (rs : List (Option ℕ)) → rs ≡ [] → Contains rs None → ⊥
-none_in_no_answers rs e has = let short : length rs ≡ 0 = ap length e in absurd (omega (arith, has.1))
 
 -- ---- the next end of a list of ends
 

@@ -1,5 +1,5 @@
 -- Loops over lists of words, four words at a time.
-use Rattle.std.proofs.Common.{◌≡◌, ◌≢◌, ◌<◌, ◌≤◌, inl, inr, ℕ, zero, suc, ◌+◌, ◌-◌, ◌*◌, ◌/◌, Bool, true, false, ◌&&◌, List, [], ◌∷◌, length, take, drop, get_or, set, length-set, bit_and, bit_or, refl, sym, ap, ◌∙◌, arith, w64, map}
+use Rattle.std.proofs.Common.{◌≡◌, ◌≢◌, ◌<◌, ◌≤◌, ℕ, zero, suc, ◌+◌, ◌*◌, ◌/◌, Bool, true, false, ◌&&◌, List, [], ◌∷◌, length, take, drop, get_or, set, add-one, ◌++◌, bit_and, bit_or, refl, sym, ap, ◌∙◌, arith, w64, map}
 use Rattle.std.specs.Prelude.{◌==◌, nat_eq, slice_index, bit_xor}
 use Rattle.std.specs.Int.{bit_not}
 use Rattle.std.specs.Int.Bits.{or_zero_l, xor_zero_l, xor_zero_r}
@@ -9,74 +9,12 @@ use Rattle.std.specs.Simd.{first_chunks}
 use Rattle.std.specs.Simd.Lanes.{zip2, chunk, put_chunk, fold_l}
 use Rattle.std.proofs.Math.Bool.{and-true, and_assoc}
 use Rattle.std.proofs.Math.Seq.{take-add}
-use Rattle.std.proofs.lemmas.Bool.{cases_lt}
 use Rattle.std.proofs.lemmas.Bool.Decides.{nat_tests}
-use Rattle.std.proofs.lemmas.Grind.{same_number_lists}
-use Rattle.std.proofs.lemmas.List.{take-append-drop, take_all, drop-drop, get_or-set_same, get_or-set_other}
+use Rattle.std.proofs.lemmas.List.{take-append-drop, take_all, take_at, drop_at, drop_all, drop_more, drop-drop, set_split, append-nil, append_assoc, length-append, length-drop, length-take-le}
 use Rattle.std.proofs.lemmas.List.Folds.{list_all-append, list_all_more}
 use Rattle.std.proofs.lemmas.Nat.{le_or_l, le_or_r}
-use Rattle.std.proofs.lemmas.Simd.{length-chunk, length-zip2, length-put_chunk, get_or-chunk, get_or-zip2, get_or-put_chunk_below, get_or-put_chunk_at, get_or-put_chunk_above}
+use Rattle.std.proofs.lemmas.Simd.{length-chunk, length-zip2, put_chunk_is}
 use lib.Bits.{xor_assoc, xor_self}
-
--- ---- a list whose first k words were combined with others
-
--- ws is the list a with its first i words replaced by the results for them and those of b
-pub record PartMade (op : ℕ → ℕ → ℕ) (a b : List ℕ) (i : ℕ) (ws : List ℕ) : Type 0 where
-  pub long : length ws ≡ length a
-  pub made : (k : ℕ) → k < i → slice_index ws k ≡ op (slice_index a k) (slice_index b k)
-  pub kept : (k : ℕ) → i ≤ k → slice_index ws k ≡ slice_index a k
-
-module _ (op : ℕ → ℕ → ℕ) (a b : List ℕ) where
-  pub none_made : PartMade op a b 0 a
-  none_made = record { long = refl; made = λ k h. absurd (omega (arith, h)); kept = λ k h. refl }
-
-  pub all_made : (ws : List ℕ) (i : ℕ) → length a ≡ length b → length a ≤ i → PartMade op a b i ws → ws ≡ zip2 op a b
-  all_made ws i e all part = same_number_lists ws (zip2 op a b) (part.long ∙ sym (length-zip2 op a b e))
-      (λ k low. part.made k (omega (arith, low, part.long)) ∙ sym (get_or-zip2 op a b k 0 0 0 (omega (arith, low, part.long)) (omega (arith, low, part.long))))
-
-  -- n words more
-  pub lanes_made : (ws : List ℕ) (i n j : ℕ) → length a ≡ length b → j ≡ i + n → j ≤ length a → PartMade op a b i ws → PartMade op a b j (put_chunk i ws (zip2 op (chunk i n ws) (chunk i n b)))
-  lanes_made ws i n j e next within part =
-      let first : length (chunk i n ws) ≡ n = length-chunk i n ws (omega (arith, part.long)) in
-      let second : length (chunk i n b) ≡ n = length-chunk i n b (omega arith) in
-      let lanes = zip2 op (chunk i n ws) (chunk i n b) in
-      let four : length lanes ≡ n = length-zip2 op _ _ (first ∙ sym second) ∙ first in
-      record {
-        long = length-put_chunk i ws lanes ∙ part.long;
-        made = λ k h. elim (cases_lt k i) [
-          | inl low ↦ get_or-put_chunk_below i ws lanes k 0 low ∙ part.made k low
-          | inr from ↦
-              let place : i + (k - i) ≡ k = omega (arith, from) in
-              let small : k - i < n = omega (arith, from, h) in
-              ap (slice_index (put_chunk i ws lanes)) (sym place) ∙ get_or-put_chunk_at i ws lanes (k - i) 0 (omega (arith, small, four)) (omega (arith, four, part.long))
-              ∙ get_or-zip2 op _ _ (k - i) 0 0 0 (omega (arith, small, first)) (omega (arith, small, second))
-              ∙ (λ m. op ((get_or-chunk i n ws (k - i) 0 small ∙ ap (slice_index ws) place ∙ part.kept k from) m) ((get_or-chunk i n b (k - i) 0 small ∙ ap (slice_index b) place) m))
-        ];
-        kept = λ k h. get_or-put_chunk_above i ws lanes k 0 (omega (arith, h, four)) ∙ part.kept k (omega (arith, h));
-      }
-
-  -- one word more
-  pub one_made : (ws : List ℕ) (i : ℕ) → i < length a → PartMade op a b i ws → PartMade op a b (i + 1) (set ws i (op (slice_index ws i) (slice_index b i)))
-  one_made ws i low part =
-      let x = op (slice_index ws i) (slice_index b i) in
-      let here = get_or-set_same ws i x 0 (omega (arith, part.long)) in
-      record {
-        long = length-set ws i x ∙ part.long;
-        made = λ k h. let other = get_or-set_other ws i k x 0 in let before = part.made k in let kept = part.kept i (omega arith) in grind arith;
-        kept = λ k h. get_or-set_other ws i k x 0 (λ same. omega (arith, same, h)) ∙ part.kept k (omega (arith, h));
-      }
-
--- `a & !b` on lanes
-pub turned_lanes : (a b : List ℕ) → zip2 bit_and a (map (bit_not w64) b) ≡ zip2 (λ x y. bit_and x (bit_not w64 y)) a b
-turned_lanes [] b = refl
-turned_lanes (x ∷ a) [] = refl
-turned_lanes (x ∷ a) (y ∷ b) = ap (λ l. bit_and x (bit_not w64 y) ∷ l) (turned_lanes a b)
-
--- an operation that uses the first lanes alone
-pub first_lanes : (op : ℕ → ℕ) (a b : List ℕ) → length a ≡ length b → map op a ≡ zip2 (λ x _. op x) a b
-first_lanes op [] b e = refl
-first_lanes op (x ∷ a) [] e = absurd (omega (arith, e))
-first_lanes op (x ∷ a) (y ∷ b) e = ap (λ l. op x ∷ l) (first_lanes op a b (omega (arith, e)))
 
 -- ---- parts of a list of results
 
@@ -95,6 +33,54 @@ chunk-zip2 op zero n a b = take-zip2 op n a b
 chunk-zip2 op (suc i) n [] b = take-zip2 op n [] (drop (suc i) b)
 chunk-zip2 op (suc i) n (x ∷ a) [] = ap (take n) (sym (none_zipped op (drop i a))) ∙ take-zip2 op n (drop i a) []
 chunk-zip2 op (suc i) n (x ∷ a) (y ∷ b) = chunk-zip2 op i n a b
+
+-- ---- a list whose first words were combined with others
+
+module _ (op : ℕ → ℕ → ℕ) (a b : List ℕ) where
+  abbrev all : List ℕ
+  all = zip2 op a b
+
+  -- ws is the list a with its first i words replaced by the results for them and those of b
+  abbrev pub PartMade : ℕ → List ℕ → Type 0
+  PartMade i ws = ws ≡ take i all ++ drop i a
+
+  pub all_made : (ws : List ℕ) (i : ℕ) → length a ≡ length b → length a ≤ i → PartMade i ws → ws ≡ all
+  all_made ws i e past part =
+      part ∙ (λ m. take_all i all (omega (arith, past, length-zip2 op a b e)) m ++ drop_all i a past m) ∙ append-nil all
+
+  -- n words more
+  pub lanes_made : (ws : List ℕ) (i n j : ℕ) → length a ≡ length b → j ≡ i + n → j ≤ length a → PartMade i ws → PartMade j (put_chunk i ws (zip2 op (chunk i n ws) (chunk i n b)))
+  lanes_made ws i n j e next within part =
+      let long = length-take-le i all (omega (arith, next, within, length-zip2 op a b e)) in
+      let made = ap (take i) part ∙ take_at (take i all) (drop i a) i long in
+      let kept = ap (drop i) part ∙ drop_at (take i all) (drop i a) i long in
+      let four = length-chunk i n all (omega (arith, next, within, length-zip2 op a b e)) in
+      let room : i + length (chunk i n all) ≤ length ws = omega (arith, ap length part, length-append (take i all) (drop i a), length-drop i a, long, four, next, within) in
+      ap (put_chunk i ws) (ap (λ l. zip2 op (take n l) (chunk i n b)) kept ∙ sym (chunk-zip2 op i n a b)) ∙ put_chunk_is i ws (chunk i n all) room
+      ∙ (λ m. made m ++ (chunk i n all ++ drop (four m) (kept m))) ∙ sym (append_assoc (take i all) (chunk i n all) (drop n (drop i a)))
+      ∙ (λ m. sym (take-add i n all) m ++ drop-drop n i a m) ∙ ap (λ k. take k all ++ drop k a) (sym next)
+
+  -- one word more, as a chunk
+  pub one_made : (ws : List ℕ) (i : ℕ) → length a ≡ length b → i < length a → PartMade i ws → PartMade (i + 1) (set ws i (op (slice_index ws i) (slice_index b i)))
+  one_made ws i e low part =
+      let long : length ws ≡ length a = omega (arith, ap length part, length-append (take i all) (drop i a), length-drop i a, length-take-le i all (omega (arith, low, length-zip2 op a b e))) in
+      let first = ap (take 1) (drop_more ws i 0 (omega (arith, low, long))) in
+      let second = ap (take 1) (drop_more b i 0 (omega (arith, low, e))) in
+      let x = op (slice_index ws i) (slice_index b i) in
+      set_split ws i x (omega (arith, low, long)) ∙ (λ m. take i ws ++ (x ∷ sym (drop-drop 1 i ws ∙ ap (λ k. drop k ws) (add-one i)) m))
+      ∙ sym (put_chunk_is i ws (x ∷ []) (omega (arith, low, long))) ∙ (λ m. put_chunk i ws (zip2 op (sym first m) (sym second m))) ∙ lanes_made ws i 1 (i + 1) e refl (omega (arith, low)) part
+
+-- `a & !b` on lanes
+pub turned_lanes : (a b : List ℕ) → zip2 bit_and a (map (bit_not w64) b) ≡ zip2 (λ x y. bit_and x (bit_not w64 y)) a b
+turned_lanes [] b = refl
+turned_lanes (x ∷ a) [] = refl
+turned_lanes (x ∷ a) (y ∷ b) = ap (λ l. bit_and x (bit_not w64 y) ∷ l) (turned_lanes a b)
+
+-- an operation that uses the first lanes alone
+pub first_lanes : (op : ℕ → ℕ) (a b : List ℕ) → length a ≡ length b → map op a ≡ zip2 (λ x _. op x) a b
+first_lanes op [] b e = refl
+first_lanes op (x ∷ a) [] e = absurd (omega (arith, e))
+first_lanes op (x ∷ a) (y ∷ b) e = ap (λ l. op x ∷ l) (first_lanes op a b (omega (arith, e)))
 
 -- ---- a list as chunks
 
@@ -130,17 +116,12 @@ lanes_ended ws lanes i j before same = fold_none 0 lanes ∙ before ∙ ap (λ k
 
 zip_none : (a b : List ℕ) → length a ≡ length b → none_in (zip2 bit_or a b) ≡ (none_in a && none_in b)
 zip_none [] [] e = refl
-zip_none [] (y ∷ b) e = absurd (omega (arith, e))
-zip_none (x ∷ a) [] e = absurd (omega (arith, e))
 zip_none (x ∷ a) (y ∷ b) e = grind (arith, nat_tests, or_none x y, zip_none a b (omega (arith, e)))
+zip_none a b e = absurd (omega (arith, e))
 
 -- the test of the first j words, from that of the first i and that of the next n
 pub more_none : (ws : List ℕ) (i n j : ℕ) → j ≡ i + n → none_in (take j ws) ≡ (none_in (take i ws) && none_in (chunk i n ws))
 more_none ws i n j next = ap (λ k. none_in (take k ws)) next ∙ ap none_in (take-add i n ws) ∙ list_all-append (λ w. w == 0) (take i ws) (chunk i n ws)
-
--- the test of all words, from that of the first n and that of the others
-pub split_none : (ws : List ℕ) (n : ℕ) → none_in ws ≡ (none_in (take n ws) && none_in (drop n ws))
-split_none ws n = ap none_in (sym (take-append-drop n ws)) ∙ list_all-append (λ w. w == 0) (take n ws) (drop n ws)
 
 -- four words more, as lanes
 pub joined_none : (ws lanes more : List ℕ) (i j : ℕ) → more ≡ chunk i 4 ws → j ≡ i + 4 → j ≤ length ws → length lanes ≡ 4 → none_in lanes ≡ none_in (take i ws)
@@ -163,9 +144,8 @@ xor_none x y =
 
 pub none_apart : (a b : List ℕ) → length a ≡ length b → none_in (zip2 bit_xor a b) ≡ pointwise nat_eq a b
 none_apart [] [] e = refl
-none_apart [] (y ∷ b) e = absurd (omega (arith, e))
-none_apart (x ∷ a) [] e = absurd (omega (arith, e))
 none_apart (x ∷ a) (y ∷ b) e = (λ i. xor_none x y i && none_apart a b (omega (arith, e)) i)
+none_apart a b e = absurd (omega (arith, e))
 
 -- ---- blocks of pairs of words, where `any` is 0 exactly if all results of a block are
 
@@ -180,7 +160,7 @@ module _ (op : ℕ → ℕ → ℕ) (a b : List ℕ) (i n any : ℕ) (here : (an
 
   -- a block with a result that is not 0
   pub some_block : any ≢ 0 → false ≡ none_in (zip2 op a b)
-  some_block some = let part = with_block in let whole = split_none (zip2 op a b) (i + n) in grind (arith, nat_tests)
+  some_block some = let part = with_block in let whole = ap none_in (sym (take-append-drop (i + n) (zip2 op a b))) ∙ list_all-append (λ w. w == 0) (take (i + n) (zip2 op a b)) (drop (i + n) (zip2 op a b)) in grind (arith, nat_tests)
 
   -- the results after the last whole block
   pub last_block : i + n ≡ length a → length a ≡ length b → none_in (take i (zip2 op a b)) ≡ true → (any == 0) ≡ none_in (zip2 op a b)

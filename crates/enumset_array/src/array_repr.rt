@@ -46,11 +46,12 @@ impl<const N: usize> Model for ArrayRepr<N> {
 impl<const N: usize> PartialEq for ArrayRepr<N> {
     ghost use Rattle.std.specs.Prelude.{nat_eq};
     ghost use Rattle.std.specs.Cmp.Lexicographic.{pointwise};
-    ghost use Rattle.enumset_array.specs.Laws.ArrayWords.{same_words-IsPartialEquivalence};
+    ghost use Rattle.std.specs.Cmp.{partial_equiv_from_equiv};
+    ghost use Rattle.std.proofs.lemmas.Cmp.{nat_list_eq_equiv};
 
     ghost eq = { pointwise nat_eq };
 
-    ghost laws = { same_words-IsPartialEquivalence };
+    ghost laws = { partial_equiv_from_equiv nat_list_eq_equiv };
 
     fn eq(&self, other: &ArrayRepr<N>) -> bool {
         are_none::<Xor>(&self.0, &other.0)
@@ -58,9 +59,9 @@ impl<const N: usize> PartialEq for ArrayRepr<N> {
 }
 
 impl<const N: usize> Eq for ArrayRepr<N> {
-    ghost use Rattle.enumset_array.specs.Laws.ArrayWords.{same_words-IsEquivalence};
+    ghost use Rattle.std.proofs.lemmas.Cmp.{nat_list_eq_equiv};
 
-    ghost laws = { same_words-IsEquivalence };
+    ghost laws = { nat_list_eq_equiv };
 }
 
 impl<const N: usize> ArrayRepr<N> {

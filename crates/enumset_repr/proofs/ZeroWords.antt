@@ -1,5 +1,5 @@
 -- Runs of words that are 0.
-use Rattle.std.proofs.Common.{◌≡◌, ◌<◌, ◌≤◌, ◌↔◌, ℕ, ◌+◌, Bool, true, false, bit_or, refl, ◌∙◌, arith}
+use Rattle.std.proofs.Common.{◌≡◌, ◌<◌, ◌≤◌, ◌↔◌, ℕ, ◌+◌, bit_or, ◌∙◌, arith}
 use Rattle.std.proofs.lemmas.Nat.{le_or_l, le_or_r}
 
 -- each number from one place up to another is 0
@@ -18,7 +18,3 @@ one_more f from i any x start is before = (
       let new : x ≡ 0 = is ∙ none i start (omega arith) in
       (λ j. bit_or (old j) (new j)),
 )
-
-pub refused : (b : Bool) → (b ≡ true → ⊥) → false ≡ b
-refused true wrong = absurd (wrong refl)
-refused false wrong = refl

@@ -3,78 +3,41 @@
 --     ended, ended_answer      once a step gave None, nothing is left;  a step from either end gives None
 --     both_ends_whole      then what came from the front and what came from the back reversed are the list
 --     none_twice      of an ascending list no item comes twice
-use Rattle.std.proofs.Common.{◌≡◌, ◌<◌, ℕ, suc, zero, true, not, List, [], ◌∷◌, ◌++◌, Option, Some, None, reverse, refl, sym, ap, ◌∙◌, arith, inl, inr, ◌⊎◌, subst, length, get_or, append_assoc, append-nil, Contains, true≢false}
-use Rattle.std.specs.Prelude.{◌==◌}
+use Rattle.std.proofs.Common.{◌≡◌, ◌<◌, ℕ, suc, true, not, List, [], ◌∷◌, ◌++◌, None, reverse, refl, sym, ap, ◌∙◌, arith, inl, inr, subst, get_or, append_assoc, append-nil, Contains, true≢false}
 use Rattle.std.proofs.lemmas.Grind.{reverse_onto}
-use Rattle.std.proofs.lemmas.Bool.{or_cases, or_left, or_right, and_from, false_from_ne_true, eqb-true, eq-eqb}
+use Rattle.std.proofs.lemmas.Bool.{and_from, false_from_ne_true}
+use Rattle.std.proofs.lemmas.Bool.Decides.{nat_tests}
+use Rattle.std.proofs.lemmas.List.Elements.{Contains-append_cases}
 use Rattle.enumset_repr.specs.BitSet.{is_in}
 use Rattle.enumset_repr.specs.Number.{is_distinct}
-use Rattle.enumset_repr.specs.Ends.{last, without_first, without_last}
-use Rattle.enumset_repr.specs.Laws.Steps.{last-push, without_last-push}
-use Rattle.enumset_repr.specs.Laws.Ascending.{AscendsFrom, is_in-from, is_in-push}
+use Rattle.enumset_repr.specs.Laws.Steps.{last-push, without_last-push, cases_last, none_last}
+use Rattle.enumset_repr.specs.Laws.Ascending.{AscendsFrom, is_in-from, is_in-push, before_last}
 use Rattle.enumset_array.specs.declared.traversal.End.{End}
 use Rattle.enumset_array.specs.declared.traversal.End.TheVariants.{Front, Back}
 use Rattle.enumset_array.specs.Walks.{answer, without_answer, answers, without_answers, items_among}
 use Rattle.enumset.specs.BothEnds.{from_front, from_back}
 
--- a list is empty, or has a last item
-pushed : (xs : List ℕ) → (xs ≡ []) ⊎ ((ys : List ℕ) × (y : ℕ) × (xs ≡ ys ++ y ∷ []))
-pushed [] = inl refl
-pushed (x ∷ xs) = elim (pushed xs) [
-  | inl none ↦ inr ([], x, ap (λ l. x ∷ l) none)
-  | inr some ↦ inr (x ∷ some.0, some.1, ap (λ l. x ∷ l) some.2)
-]
-
-both : List ℕ → List End → List ℕ
+abbrev both : List ℕ → List End → List ℕ
 both xs es = from_front xs es ++ without_answers xs es ++ reverse (from_back xs es)
 
-both-none : (xs : List ℕ) → both xs [] ≡ xs
-unfolding both from_front without_answers from_back
-both-none xs = append-nil xs
-
-both-front : (x : ℕ) (xs : List ℕ) (es : List End) → both (x ∷ xs) (Front ∷ es) ≡ x ∷ both xs es
-unfolding both from_front without_answers from_back
-both-front x xs es = refl
-
-both-front_none : (es : List End) → both [] (Front ∷ es) ≡ both [] es
-unfolding both from_front without_answers from_back
-both-front_none es = refl
-
-both-back_none : (es : List End) → both [] (Back ∷ es) ≡ both [] es
-unfolding both from_front without_answers from_back
-both-back_none es = refl
-
 both-back : (xs : List ℕ) (x : ℕ) (es : List End) → both (xs ++ x ∷ []) (Back ∷ es) ≡ both xs es ++ x ∷ []
-unfolding both from_front without_answers from_back
+unfolding from_front without_answers from_back
 both-back xs x es =
     rw (last-push xs x, without_last-push xs x)
     (ap (λ l. from_front xs es ++ without_answers xs es ++ l) (reverse_onto (from_back xs es) x [])
     ∙ sym (append_assoc (from_front xs es ++ without_answers xs es) (reverse (from_back xs es)) (x ∷ [])))
 
-both-is : (xs : List ℕ) (es : List End) → both xs es ≡ xs
-both-is xs [] = both-none xs
-both-is [] (Front ∷ es) = both-front_none es ∙ both-is [] es
-both-is (x ∷ xs) (Front ∷ es) = both-front x xs es ∙ ap (λ l. x ∷ l) (both-is xs es)
-both-is xs (Back ∷ es) = elim (pushed xs) [
-  | inl none ↦ ap (λ l. both l (Back ∷ es)) none ∙ both-back_none es ∙ both-is [] es ∙ sym none
-  | inr some ↦ ap (λ l. both l (Back ∷ es)) some.2 ∙ both-back some.0 some.1 es ∙ ap (λ l. l ++ some.1 ∷ []) (both-is some.0 es) ∙ sym some.2
+pub both_ends : (xs : List ℕ) (es : List End) → from_front xs es ++ without_answers xs es ++ reverse (from_back xs es) ≡ xs
+unfolding from_front without_answers from_back
+both_ends xs [] = append-nil xs
+both_ends [] (Front ∷ es) = both_ends [] es
+both_ends (x ∷ xs) (Front ∷ es) = ap (λ l. x ∷ l) (both_ends xs es)
+both_ends xs (Back ∷ es) = elim (cases_last xs) [
+  | inl none ↦ ap (λ l. both l (Back ∷ es)) none ∙ both_ends [] es ∙ sym none
+  | inr some ↦ ap (λ l. both l (Back ∷ es)) some.2 ∙ both-back some.0 some.1 es ∙ ap (λ l. l ++ some.1 ∷ []) (both_ends some.0 es) ∙ sym some.2
 ]
 
--- what came from the front, what is left, and what came from the back reversed are the list
-pub both_ends : (xs : List ℕ) (es : List End) → from_front xs es ++ without_answers xs es ++ reverse (from_back xs es) ≡ xs
-unfolding both
-both_ends xs es = both-is xs es
-
 -- ---- once a step gave None
-
-no_item : (x : ℕ) → None ≡ Some x → ⊥
-no_item x e = cc
-
-Contains-cons_cases : (r : Option ℕ) (rs : List (Option ℕ)) (o : Option ℕ) → Contains (r ∷ rs) o → (r ≡ o) ⊎ Contains rs o
-Contains-cons_cases r rs o has = first has.0 has.1 has.2 where
-  first : (k : ℕ) → k < suc (length rs) → get_or (r ∷ rs) k o ≡ o → (r ≡ o) ⊎ Contains rs o
-  first zero within is = inl is
-  first (suc k) within is = inr (k, omega (arith, within), is)
 
 none_of_none : (e : End) → answer e [] ≡ None
 none_of_none Front = refl
@@ -87,25 +50,21 @@ none_left [] = refl
 none_left (Front ∷ es) = none_left es
 none_left (Back ∷ es) = none_left es
 
-after : (e : End) (xs : List ℕ) (es : List End) → xs ≡ [] → without_answers (without_answer e xs) es ≡ []
-after Front xs es none = ap (λ l. without_answers (without_first l) es) none ∙ none_left es
-after Back xs es none = ap (λ l. without_answers (without_last l) es) none ∙ none_left es
-
 -- an end that gives nothing is that of the empty list
 no_answer : (e : End) (xs : List ℕ) → answer e xs ≡ None → xs ≡ []
 no_answer Front [] none = refl
-no_answer Front (x ∷ xs) none = absurd (no_item x (sym none))
-no_answer Back xs none = elim (pushed xs) [
-  | inl empty ↦ empty
-  | inr some ↦ absurd (no_item some.1 (sym none ∙ ap last some.2 ∙ last-push some.0 some.1))
-]
+no_answer Front (x ∷ xs) none = absurd (cc)
+no_answer Back xs none = none_last xs none
 
 -- once a step gave None, nothing is left
 pub ended : (xs : List ℕ) (es : List End) → Contains (answers xs es) None → without_answers xs es ≡ []
 unfolding answers without_answers
 ended xs [] has = absurd (omega (arith, has.1))
-ended xs (e ∷ es) has = elim (Contains-cons_cases (answer e xs) _ None has) [
-  | inl now ↦ after e xs es (no_answer e xs now)
+ended xs (e ∷ es) has = elim (Contains-append_cases (answer e xs ∷ []) (answers (without_answer e xs) es) None has) [
+  | inl now ↦
+      let first : now.0 ≡ 0 = omega (arith, now.1) in
+      let none = no_answer e xs (sym (ap (λ k. get_or (answer e xs ∷ []) k None) first) ∙ now.2) in
+      ap (λ l. without_answers l (e ∷ es)) none ∙ none_left (e ∷ es)
   | inr later ↦ ended (without_answer e xs) es later
 ]
 
@@ -120,71 +79,42 @@ both_ends_whole xs es has =
 
 -- ---- no item comes twice
 
-items : List ℕ → List End → List ℕ
+abbrev items : List ℕ → List End → List ℕ
 items xs es = items_among (answers xs es)
 
-items-front : (x : ℕ) (xs : List ℕ) (es : List End) → items (x ∷ xs) (Front ∷ es) ≡ x ∷ items xs es
-unfolding items answers items_among
-items-front x xs es = refl
-
-items-front_none : (es : List End) → items [] (Front ∷ es) ≡ items [] es
-unfolding items answers items_among
-items-front_none es = refl
-
-items-back_none : (es : List End) → items [] (Back ∷ es) ≡ items [] es
-unfolding items answers items_among
-items-back_none es = refl
-
 items-back : (xs : List ℕ) (x : ℕ) (es : List End) → items (xs ++ x ∷ []) (Back ∷ es) ≡ x ∷ items xs es
-unfolding items answers items_among
+unfolding answers items_among
 items-back xs x es = rw (last-push xs x, without_last-push xs x) refl
-
-items-none : (xs : List ℕ) → items xs [] ≡ []
-unfolding items answers items_among
-items-none xs = refl
 
 -- what came is of the list
 came : (xs : List ℕ) (es : List End) (q : ℕ) → is_in q (items xs es) ≡ true → is_in q xs ≡ true
-came xs [] q one = absurd (true≢false (sym one ∙ ap (is_in q) (items-none xs)))
-came [] (Front ∷ es) q one = came [] es q (ap (is_in q) (sym (items-front_none es)) ∙ one)
-came (x ∷ xs) (Front ∷ es) q one = elim (or_cases (q == x) _ (ap (is_in q) (sym (items-front x xs es)) ∙ one)) [
-  | inl here ↦ or_left (q == x) _ here
-  | inr later ↦ or_right (q == x) _ (came xs es q later)
-]
-came xs (Back ∷ es) q one = elim (pushed xs) [
-  | inl none ↦ ap (is_in q) none ∙ came [] es q (ap (is_in q) (sym (ap (λ l. items l (Back ∷ es)) none ∙ items-back_none es)) ∙ one)
+unfolding answers items_among
+came xs [] q one = absurd (true≢false (sym one))
+came [] (Front ∷ es) q one = came [] es q one
+came (x ∷ xs) (Front ∷ es) q one = let later = came xs es q in grind (arith, nat_tests)
+came xs (Back ∷ es) q one = elim (cases_last xs) [
+  | inl none ↦ ap (is_in q) none ∙ came [] es q (ap (λ l. is_in q (items l (Back ∷ es))) (sym none) ∙ one)
   | inr some ↦
       let parts = ap (is_in q) (sym (ap (λ l. items l (Back ∷ es)) some.2 ∙ items-back some.0 some.1 es)) ∙ one in
-      ap (is_in q) some.2 ∙ is_in-push q some.1 some.0 ∙ elim (or_cases (q == some.1) _ parts) [
-        | inl here ↦ or_left (q == some.1) _ here
-        | inr later ↦ or_right (q == some.1) _ (came some.0 es q later)
-      ]
+      let later = came some.0 es q in
+      ap (is_in q) some.2 ∙ is_in-push q some.1 some.0 ∙ grind (arith, nat_tests)
 ]
 
 ascends-front : (k : ℕ) (xs : List ℕ) (x : ℕ) → AscendsFrom k (xs ++ x ∷ []) → AscendsFrom k xs
 ascends-front k [] x ascends = tt
 ascends-front k (y ∷ ys) x ascends = (ascends.0, ascends-front (suc y) ys x ascends.1)
 
-before_last : (k : ℕ) (xs : List ℕ) (x q : ℕ) → AscendsFrom k (xs ++ x ∷ []) → is_in q xs ≡ true → q < x
-before_last k [] x q ascends one = absurd (true≢false (sym one))
-before_last k (y ∷ ys) x q ascends one = elim (or_cases (q == y) _ one) [
-  | inl here ↦
-      let over = is_in-from (suc y) x (ys ++ x ∷ []) ascends.1 (is_in-push x x ys ∙ or_left (x == x) _ (eq-eqb x x refl)) in
-      omega (arith, over, eqb-true q y here)
-  | inr later ↦ before_last (suc y) ys x q ascends.1 later
-]
-
 absent : (x : ℕ) (xs : List ℕ) → (is_in x xs ≡ true → x < x) → not (is_in x xs) ≡ true
 absent x xs less = ap not (false_from_ne_true (is_in x xs) (λ one. let no = less one in omega arith))
 
 apart : (k : ℕ) (xs : List ℕ) (es : List End) → AscendsFrom k xs → is_distinct (items xs es) ≡ true
-apart k xs [] ascends = ap is_distinct (items-none xs)
-apart k [] (Front ∷ es) ascends = ap is_distinct (items-front_none es) ∙ apart k [] es ascends
+unfolding answers items_among
+apart k xs [] ascends = refl
+apart k [] (Front ∷ es) ascends = apart k [] es ascends
 apart k (x ∷ xs) (Front ∷ es) ascends =
-    ap is_distinct (items-front x xs es)
-    ∙ and_from _ _ (absent x (items xs es) (λ one. is_in-from (suc x) x xs ascends.1 (came xs es x one))) (apart (suc x) xs es ascends.1)
-apart k xs (Back ∷ es) ascends = elim (pushed xs) [
-  | inl none ↦ ap is_distinct (ap (λ l. items l (Back ∷ es)) none ∙ items-back_none es) ∙ apart k [] es tt
+    and_from _ _ (absent x (items xs es) (λ one. is_in-from (suc x) x xs ascends.1 (came xs es x one))) (apart (suc x) xs es ascends.1)
+apart k xs (Back ∷ es) ascends = elim (cases_last xs) [
+  | inl none ↦ ap (λ l. is_distinct (items l (Back ∷ es))) none ∙ apart k [] es tt
   | inr some ↦
       let parts = subst (AscendsFrom k) some.2 ascends in
       ap is_distinct (ap (λ l. items l (Back ∷ es)) some.2 ∙ items-back some.0 some.1 es)
@@ -193,5 +123,4 @@ apart k xs (Back ∷ es) ascends = elim (pushed xs) [
 
 -- of an ascending list no item comes twice
 pub none_twice : (xs : List ℕ) (es : List End) → AscendsFrom 0 xs → is_distinct (items_among (answers xs es)) ≡ true
-unfolding items
 none_twice xs es ascends = apart 0 xs es ascends

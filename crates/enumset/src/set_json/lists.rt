@@ -3,7 +3,8 @@
 ghost use Rattle.std.specs.Prelude.{◌≡◌, IfOk, IfErr};
 ghost use Rattle.serde_json.specs.View.{view, items_view};
 ghost use Rattle.enumset.specs.Names.{names_of};
-ghost use Rattle.enumset.specs.JsonNames.{values_of, set_of_values, set_of_list, list_value};
+ghost use Rattle.enumset.specs.Json.{values_of};
+ghost use Rattle.enumset.specs.JsonNames.{set_of_values, set_of_list, list_value};
 ghost use Rattle.enumset.specs.declared.set_json.fault.JsonFault.TheVariants.{OutOfMemory};
 
 use super::fault::JsonFault;

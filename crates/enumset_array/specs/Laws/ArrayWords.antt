@@ -8,7 +8,6 @@
 --     repr_of_none, set_of_none      the words of the empty set are all 0
 --     none_iff      the set is empty exactly if the test of all words says that each is 0
 --     equal      lists of words are equal exactly if their sets are
---     same_words-IsEquivalence, same_words-IsPartialEquivalence      having the same words is an equivalence
 --     width_words      there are as many words as the width needs
 use Rattle.std.proofs.lemmas.Bool.{and_parts, and_from, eqb-true}
 use Rattle.std.proofs.Common.{zero, suc, [], ◌∷◌, refl, ◌≡◌, ◌<◌, ◌≤◌, ℕ, ◌+◌, ◌-◌, ◌*◌, ◌/◌, ◌^◌, true, List, length, drop, sym, ap, ◌∙◌, subst, arith, ◌↔◌, lit<}
@@ -16,7 +15,6 @@ use Rattle.std.specs.Prelude.{◌==◌, IsTrue, nat_eq, slice_index, replicate}
 use Rattle.std.specs.List.{list_all}
 use Rattle.std.specs.Cmp.Lexicographic.{pointwise, same_text}
 use Rattle.std.proofs.lemmas.Cmp.{nat_list_eq_equiv}
-use Rattle.std.specs.Cmp.{IsEquivalence, IsPartialEquivalence}
 use Rattle.std.proofs.lemmas.List.{get_or-take, get_or-drop, get_or_past, length-take, length-replicate, drop-replicate}
 use Rattle.enumset_repr.specs.BitSet.{BitSet, contains, empty, below, is_subset}
 use Rattle.enumset_repr.specs.Number.{bits}
@@ -106,15 +104,6 @@ equal n a b p q = (
   λ same. ap (set_of n) (same_text a b (sym same)),
   λ same. let e : a ≡ b = sym (inverse n a p) ∙ ap (λ s. words s n) same ∙ inverse n b q in subst (λ c. pointwise nat_eq a c ≡ true) e (nat_list_eq_equiv.refl a),
 )
-
-pub same_words-IsEquivalence : IsEquivalence (pointwise nat_eq)
-same_words-IsEquivalence = nat_list_eq_equiv
-
-pub same_words-IsPartialEquivalence : IsPartialEquivalence (pointwise nat_eq)
-same_words-IsPartialEquivalence = record {
-  symm = nat_list_eq_equiv.symm;
-  trans = λ a b c ab bc. nat_list_eq_equiv.congr a b c ab ∙ bc;
-}
 
 pub width_words : (n : ℕ) → in_use n ≡ (64 * in_use n + 63) / 64
 width_words n = omega arith

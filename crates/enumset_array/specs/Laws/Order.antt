@@ -32,9 +32,8 @@ then_then o p r = grind (arith, nat_tests)
 -- the last items decide only if the items before them are equal
 slice_cmp-push : (xs ys : List ℕ) (x y : ℕ) → length xs ≡ length ys → slice_cmp nat_cmp (xs ++ x ∷ []) (ys ++ y ∷ []) ≡ ordering_then (slice_cmp nat_cmp xs ys) (nat_cmp x y)
 slice_cmp-push [] [] x y long = then_equal (nat_cmp x y)
-slice_cmp-push [] (b ∷ ys) x y long = absurd (omega (arith, long))
-slice_cmp-push (a ∷ xs) [] x y long = absurd (omega (arith, long))
 slice_cmp-push (a ∷ xs) (b ∷ ys) x y long = ap (ordering_then (nat_cmp a b)) (slice_cmp-push xs ys x y (omega (arith, long))) ∙ then_then (nat_cmp a b) (slice_cmp nat_cmp xs ys) (nat_cmp x y)
+slice_cmp-push xs ys x y long = absurd (omega (arith, long))
 
 -- the first words decide only if the words after them are equal
 pub highest_first-cons : (x y : ℕ) (xs ys : List ℕ) → length xs ≡ length ys → highest_first (x ∷ xs) (y ∷ ys) ≡ ordering_then (highest_first xs ys) (nat_cmp x y)
@@ -47,13 +46,12 @@ then_numbers a b x y fit_x fit_y = grind (arith, nat_tests)
 
 by_value : (a b : List ℕ) → AllFit a → AllFit b → length a ≡ length b → highest_first a b ≡ nat_cmp (value a) (value b)
 by_value [] [] p q long = refl
-by_value [] (y ∷ ys) p q long = absurd (omega (arith, long))
-by_value (x ∷ xs) [] p q long = absurd (omega (arith, long))
 by_value (x ∷ xs) (y ∷ ys) p q long =
     let shorter : length xs ≡ length ys = omega (arith, long) in
     highest_first-cons x y xs ys shorter
     ∙ ap (λ o. ordering_then o (nat_cmp x y)) (by_value xs ys (λ i. p (suc i)) (λ i. q (suc i)) shorter)
     ∙ then_numbers (value xs) (value ys) x y (p 0) (q 0)
+by_value a b p q long = absurd (omega (arith, long))
 
 pub compare_is : (n : ℕ) (a b : List ℕ) → IsArrayRepr n a → IsArrayRepr n b → highest_first a b ≡ compare (set_of n a) (set_of n b)
 compare_is n a b p q =
@@ -65,16 +63,13 @@ compare_is n a b p q =
 pub highest_first-total : IsTotalOrder highest_first
 highest_first-total = on_total reverse (lists_total nat_cmp_total)
 
-turned_back : (xs ys : List ℕ) → reverse xs ≡ reverse ys → xs ≡ ys
-turned_back xs ys same = sym (reverse-reverse xs) ∙ ap reverse same ∙ reverse-reverse ys
-
-itself : (xs ys : List ℕ) → xs ≡ ys → pointwise nat_eq xs ys ≡ true
-itself xs ys same = ap (pointwise nat_eq xs) (sym same) ∙ nat_list_eq_equiv.refl xs
-
 pub highest_first-ties : (a b : List ℕ) → pointwise nat_eq a b ≡ eq_by_cmp highest_first a b
 highest_first-ties a b =
-    both_ways _ _ (λ same. itself _ _ (ap reverse (same_text a b (sym same)))) (λ same. itself _ _ (turned_back a b (same_text _ _ (sym same))))
+    both_ways _ _ (λ same. itself (reverse a) (reverse b) (ap reverse (same_text a b (sym same)))) (λ same. itself a b (sym (reverse-reverse a) ∙ ap reverse (same_text (reverse a) (reverse b) (sym same)) ∙ reverse-reverse b))
     ∙ lists_ties nat_cmp unsigned_ties (reverse a) (reverse b)
+  where
+    itself : (xs ys : List ℕ) → xs ≡ ys → pointwise nat_eq xs ys ≡ true
+    itself xs ys same = ap (pointwise nat_eq xs) (sym same) ∙ nat_list_eq_equiv.refl xs
 
 pub highest_first-partial : IsPartialOrder (pointwise nat_eq) (λ a b. Some (highest_first a b))
 highest_first-partial = po highest_first-total highest_first-ties

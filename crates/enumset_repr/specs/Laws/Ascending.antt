@@ -93,6 +93,13 @@ pub is_in-push : (q m : ℕ) (xs : List ℕ) → is_in q (xs ++ m ∷ []) ≡ ((
 is_in-push q m [] = refl
 is_in-push q m (x ∷ xs) = grind (arith, nat_tests, is_in-push q m xs)
 
+-- each number before the last is less
+pub before_last : (k : ℕ) (xs : List ℕ) (m q : ℕ) → AscendsFrom k (xs ++ m ∷ []) → is_in q xs ≡ true → q < m
+before_last k [] m q ascends one = absurd (grind arith)
+before_last k (x ∷ xs) m q ascends one =
+    let over = is_in-from (suc x) m (xs ++ m ∷ []) ascends.1 in
+    let later = before_last (suc x) xs m q ascends.1 in grind (arith, nat_tests, is_in-push m m xs)
+
 -- the least member comes first, before the members of the set without it
 pub ascending-first : (s : BitSet) (m : ℕ) → contains s m ≡ true → ((q : ℕ) → q < m → contains s q ≡ false) → ascending s ≡ m ∷ ascending (remove s m)
 ascending-first s m one least = ascending_is s _

@@ -6,33 +6,20 @@
 --     trailing-least, leading-greatest      what `trailing_zeros` and `leading_zeros` count, at each number of bits
 --     clear-least, least-positive      `n & (n - 1)`;  a number with a least member is not 0
 --     at_the_ends      the ends of a set, for a tactic's `using`
-use Rattle.std.proofs.Common.{◌≡◌, ◌<◌, ◌≤◌, ℕ, suc, zero, ◌+◌, ◌-◌, ◌^◌, true, false, List, [], ◌∷◌, ◌++◌, Some, None, refl, sym, ap, subst, ◌∙◌, arith, true≢false, length, length-append}
+use Rattle.std.proofs.Common.{◌≡◌, ◌<◌, ◌≤◌, ℕ, suc, zero, ◌+◌, ◌-◌, ◌^◌, true, false, List, [], ◌∷◌, ◌++◌, Some, None, refl, sym, ap, subst, ◌∙◌, arith, true≢false, length, length-append, inl, inr}
 use Rattle.std.specs.Prelude.{◌==◌, MatchOption, IfSome, IsSome, is_some}
 use Rattle.std.specs.Int.RustNames.{bit_and}
 use Rattle.std.specs.Int.Count.{count_trailing_zeros, count_leading_zeros, trailing_of_zero, leading_of_zero}
 use Rattle.std.specs.List.{slice_get, last_or}
-use Rattle.std.proofs.lemmas.Bool.{eq-eqb, or_left, or_right, false_from_ne_true}
+use Rattle.std.proofs.lemmas.Bool.{eq-eqb, or_left, false_from_ne_true}
 use Rattle.std.proofs.lemmas.Bool.Decides.{nat_tests}
 use Rattle.enumset_repr.specs.BitSet.{is_in, BitSet, contains, ascending, empty, remove}
 use Rattle.enumset_repr.specs.Ends.{last, least, greatest}
-use Rattle.enumset_repr.specs.Laws.Steps.{last-push}
+use Rattle.enumset_repr.specs.Laws.Steps.{last-push, cases_last, none_last}
 use Rattle.enumset_repr.specs.Laws.Members.{contains-ascending, member_below}
-use Rattle.enumset_repr.specs.Laws.Ascending.{len-ascending, AscendsFrom, ascending-ascends, ascending-empty, is_in-below, ascending-first, ascending-last}
+use Rattle.enumset_repr.specs.Laws.Ascending.{len-ascending, AscendsFrom, ascending-ascends, ascending-empty, is_in-below, is_in-push, before_last, ascending-first, ascending-last}
 use Rattle.enumset_repr.specs.Number.{bits}
 use Rattle.enumset_repr.specs.Laws.Numbers.{lt_pow, bits-zero, bits-within, bits-clear_least, least-bits, greatest-bits}
-
--- ---- the ends of an ascending list
-
-last_or-is_in : (x : ℕ) (xs : List ℕ) (m : ℕ) → last_or (Some x) xs ≡ Some m → is_in m (x ∷ xs) ≡ true
-last_or-is_in x [] m last = grind (arith, nat_tests)
-last_or-is_in x (y ∷ ys) m last = or_right (m == x) _ (last_or-is_in y ys m last)
-
-last_or-from : (k x : ℕ) (xs : List ℕ) (m q : ℕ) → AscendsFrom k (x ∷ xs) → last_or (Some x) xs ≡ Some m → is_in q (x ∷ xs) ≡ true → q ≤ m
-last_or-from k x [] m q ascends last one = grind (arith, nat_tests)
-last_or-from k x (y ∷ ys) m q ascends last one =
-    let above = last_or-from (suc x) y ys m y ascends.1 last in
-    let later = last_or-from (suc x) y ys m q ascends.1 last in
-    grind (arith, nat_tests, ascends.1.0)
 
 -- ---- the least
 
@@ -81,9 +68,16 @@ pub greatest-empty : greatest empty ≡ None
 unfolding greatest
 greatest-empty = ap (last_or None) ascending-empty
 
-last_facts : (k : ℕ) (xs : List ℕ) (m : ℕ) → AscendsFrom k xs → last_or None xs ≡ Some m → (is_in m xs ≡ true) × ((q : ℕ) → is_in q xs ≡ true → q ≤ m)
-last_facts k [] m ascends last = absurd (cc)
-last_facts k (x ∷ xs) m ascends last = (last_or-is_in x xs m last, λ q one. last_or-from k x xs m q ascends last one)
+last_facts : (k : ℕ) (xs : List ℕ) (m : ℕ) → AscendsFrom k xs → last xs ≡ Some m → (is_in m xs ≡ true) × ((q : ℕ) → is_in q xs ≡ true → q ≤ m)
+last_facts k xs m ascends end = elim (cases_last xs) [
+  | inl none ↦ let lost : None ≡ Some m = sym (ap last none) ∙ end in absurd (cc)
+  | inr some ↦
+      let found : Some some.1 ≡ Some m = sym (ap last some.2 ∙ last-push some.0 some.1) ∙ end in
+      let same : some.1 ≡ m = cc in
+      let before = λ (q : ℕ). before_last k some.0 some.1 q (subst (AscendsFrom k) some.2 ascends) in
+      let parts = λ (q : ℕ). ap (is_in q) some.2 ∙ is_in-push q some.1 some.0 in
+      (grind (arith, nat_tests, parts m), λ q one. let low = before q in grind (arith, nat_tests, parts q))
+]
 
 pub greatest_facts : (s : BitSet) (m : ℕ) → greatest s ≡ Some m → (contains s m ≡ true) × ((q : ℕ) → m < q → contains s q ≡ false)
 unfolding greatest
@@ -101,14 +95,9 @@ ascending-greatest s m last = let facts = greatest_facts s m last in ascending-l
 pub fewer-greatest : (s : BitSet) (m : ℕ) → greatest s ≡ Some m → length (ascending (remove s m)) < length (ascending s)
 fewer-greatest s m last = omega (arith, ap length (ascending-greatest s m last), length-append (ascending (remove s m)) (m ∷ []))
 
-no_last : (xs : List ℕ) → last_or None xs ≡ None → xs ≡ []
-no_last [] none = refl
-no_last (x ∷ []) none = cc
-no_last (x ∷ y ∷ ys) none = let later = no_last (y ∷ ys) none in cc
-
 pub ascending-no_greatest : (s : BitSet) → greatest s ≡ None → ascending s ≡ []
 unfolding greatest
-ascending-no_greatest s none = no_last (ascending s) none
+ascending-no_greatest s none = none_last (ascending s) none
 
 -- ---- the ends of a number's set
 

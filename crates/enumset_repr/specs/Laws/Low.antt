@@ -8,7 +8,7 @@
 --         set
 --     is_subset_wider      a set below a width is below each greater width
 --     number_low, number_cut      the number of a cut set, as a remainder
---     number_fits, fits_number      a set is below a width exactly if its number has at most so many bits
+--     fits_number      a set is below a width if its number fits;  the converse is `number-within`
 --     cut_to, fits_in      the same for a tactic, at each width
 --     empty_difference, empty_intersection      tests of subsets and of disjoint sets
 -- The ruleset `cuts` has what a proof about sets and their numbers needs. A crate above cites it by
@@ -65,9 +65,6 @@ number_low s n = ap number (ap (λ t. low t n) (sym (bits-number s)) ∙ sym (bi
 pub number_cut : (s : BitSet) (m n : ℕ) → n ≤ m → number (low s m) % 2 ^ n ≡ number (low s n)
 number_cut s m n less = sym (number_low (low s m) n) ∙ ap number (low_narrow s m n less)
 
-pub number_fits : (s : BitSet) (n : ℕ) → is_subset s (below n) ≡ true → number s < 2 ^ n
-number_fits s n within = number-within s n within
-
 pub fits_number : (s : BitSet) (n : ℕ) → number s < 2 ^ n → is_subset s (below n) ≡ true
 fits_number s n small = subst (λ t. is_subset t (below n) ≡ true) (bits-number s) (bits-within (number s) n small)
 
@@ -82,7 +79,7 @@ cut_to s m e less =
     ap (bit_and (number (low s 128))) ones ∙ and_mask _ _ ∙ number_cut s 128 _ less
 
 pub fits_in : (s : BitSet) (n : ℕ) → is_subset s (below n) ≡ nat_lt (number s) (2 ^ n)
-fits_in s n = same_from_decides _ _ (number_fits s n, fits_number s n) (ltb-true _ _, lt-ltb _ _)
+fits_in s n = same_from_decides _ _ (number-within s n, fits_number s n) (ltb-true _ _, lt-ltb _ _)
 
 -- `a.and_not(b).is_empty()`, and `(a & b).is_empty()`
 pub empty_difference : (s t : BitSet) → is_empty (difference s t) ≡ is_subset s t

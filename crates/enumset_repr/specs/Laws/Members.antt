@@ -6,14 +6,13 @@
 --         intersection
 --     ..-is_subset      operations on subsets of one set give subsets of it;  the ruleset `subsets` has them all
 --     member_below, contains-past      members of sets of numbers below a bound
---     list_all-each      a test that passes each number of a list
+--     list_all-any, list_all-each      a test that passes each number of a list
 use Rattle.std.proofs.Common.{◌≡◌, ◌<◌, ◌≤◌, ℕ, suc, zero, Bool, true, false, cond, not, ◌&&◌, ◌||◌, List, [], ◌∷◌, Option, Some, None, refl, sym, ap, subst, true≢false, ◌∙◌, arith}
 use Rattle.std.specs.Prelude.{◌==◌, nat_lt, is_some, ◌↔◌}
 use Rattle.std.specs.List.{list_any, list_all}
 use Rattle.std.specs.Ordering.{nat_cmp}
 use Rattle.std.specs.Cmp.{nat_cmp_total, unsigned_tied}
 use Rattle.std.specs.FinMap as map
-use Rattle.std.proofs.Math.Bool.{or-false}
 use Rattle.std.proofs.lemmas.Bool.{ltb-true, and_parts, and_from, or_left, or_right, not-true, false_from_ne_true, eq-eqb}
 use Rattle.std.proofs.lemmas.Bool.Decides.{nat_tests, same_from_decides}
 use Rattle.std.specs.declared.cmp.Ordering.TheVariants.{Equal}
@@ -96,7 +95,7 @@ pub same_set : (s t : BitSet) → ((q : ℕ) → contains s q ≡ contains t q) 
 unfolding contains
 same_set s t is = map.same_map nat_cmp_total map.nat_cmp-IsAntisymmetric s t (λ q. mark_of _ ∙ ap marked (is q) ∙ sym (mark_of _))
 
-list_all-any : (p : ℕ → Bool) (bs : List ℕ) (q : ℕ) → list_all p bs ≡ true → list_any (λ b. q == b) bs ≡ true → p q ≡ true
+pub list_all-any : (p : ℕ → Bool) (bs : List ℕ) (q : ℕ) → list_all p bs ≡ true → list_any (λ b. q == b) bs ≡ true → p q ≡ true
 list_all-any p [] q all any = absurd (true≢false (sym any))
 list_all-any p (b ∷ bs) q all any = let later = list_all-any p bs q in grind (arith, nat_tests, later)
 

@@ -5,9 +5,10 @@
 --     least-bits, greatest-bits      `trailing_zeros` and `leading_zeros`
 --     bits_full      a number of n ones
 --     on_numbers      the laws that name no width, for a tactic's `using`
-use Rattle.std.proofs.Common.{◌≡◌, ◌<◌, ◌≤◌, ℕ, suc, zero, ◌+◌, ◌-◌, ◌*◌, ◌/◌, ◌%◌, ◌^◌, true, false, not, List, [], ◌∷◌, refl, sym, ap, ◌∙◌, length, arith, inl, inr, pow-suc, mul_assoc, mul_comm, suc-mul, pow-add, one-mul, zero-mul}
+use Rattle.std.proofs.Common.{◌≡◌, ◌<◌, ◌≤◌, ℕ, suc, zero, ◌+◌, ◌-◌, ◌*◌, ◌/◌, ◌%◌, ◌^◌, true, false, not, List, [], ◌∷◌, refl, sym, ap, ◌∙◌, length, arith, inl, inr, pow-suc, pow-add, one-mul, zero-mul, subst}
+use Rattle.std.proofs.Math.Nat.{dvd-add, dvd-mul_left, div-mul_cancel, dvd_trans, dvd-zero}
 use Rattle.std.specs.Prelude.{◌==◌, sum_by}
-use Rattle.std.specs.Int.{bit_at}
+use Rattle.std.specs.Int.{bit_at, ◌∣◌}
 use Rattle.std.specs.Int.RustNames.{bit_and, bit_or, bit_xor, count_ones}
 use Rattle.std.specs.Int.Count.{count_trailing_zeros, count_leading_zeros, under, ones_cat, leading_top}
 use Rattle.std.proofs.lemmas.Bool.{cases_lt, eqb-true, eq-eqb}
@@ -48,32 +49,28 @@ worth-cons : (x : ℕ) (xs : List ℕ) → worth (x ∷ xs) ≡ worth xs + 2 ^ x
 unfolding worth
 worth-cons x xs = omega (arith, sum_by-cons (λ (b : ℕ). 2 ^ b) x xs)
 
-odd_times : (a p : ℕ) → a * (p * 2) + p ≡ suc (a * 2) * p
-odd_times a p = omega (arith, suc-mul (a * 2) p, mul_assoc a 2 p, ap (λ n. a * n) (mul_comm p 2))
-
-pow_split : (k x : ℕ) → k ≤ x → 2 ^ x ≡ 2 ^ (x - k) * 2 ^ k
-pow_split k x from = let e : x ≡ x - k + k = omega arith in ap (λ j. 2 ^ j) e ∙ pow-add 2 (x - k) k
+-- a power of two divides each greater one
+pow-divides : (k x : ℕ) → k ≤ x → 2 ^ k ∣ 2 ^ x
+pow-divides k x from =
+    let e : x - k + k ≡ x = omega (arith, from) in subst (λ n. 2 ^ k ∣ n) (sym (pow-add 2 (x - k) k) ∙ ap (λ j. 2 ^ j) e) (dvd-mul_left (2 ^ k) (2 ^ (x - k)))
 
 ones-pow : (k : ℕ) → count_ones (2 ^ k) ≡ 1
 unfolding count_ones
 ones-pow k = let e : 2 ^ k ≡ 1 * 2 ^ k + 0 = omega arith in ap count_ones e ∙ ones_cat k 1 0 (pow_pos k)
 
 -- the worth of a list that ascends from k is a multiple of 2 ^ k
-worth-multiple : (k : ℕ) (xs : List ℕ) → AscendsFrom k xs → (a : ℕ) × (worth xs ≡ a * 2 ^ k)
+worth-multiple : (k : ℕ) (xs : List ℕ) → AscendsFrom k xs → 2 ^ k ∣ worth xs
 unfolding worth
-worth-multiple k [] ascends = (0, omega arith)
+worth-multiple k [] ascends = dvd-zero (2 ^ k)
 worth-multiple k (x ∷ xs) ascends =
-    let rest = worth-multiple (suc x) xs ascends.1 in (
-      suc (rest.0 * 2) * 2 ^ (x - k),
-      worth-cons x xs ∙ ap (λ n. n + 2 ^ x) (rest.1 ∙ ap (λ n. rest.0 * n) (pow-suc 2 x)) ∙ odd_times rest.0 (2 ^ x)
-          ∙ ap (λ n. suc (rest.0 * 2) * n) (pow_split k x ascends.0) ∙ sym (mul_assoc (suc (rest.0 * 2)) (2 ^ (x - k)) (2 ^ k)),
-    )
+    let later = dvd_trans (2 ^ k) (pow-divides k (suc x) (omega (arith, ascends.0))) (worth-multiple (suc x) xs ascends.1) in
+    subst (λ n. 2 ^ k ∣ n) (sym (worth-cons x xs)) (dvd-add (2 ^ k) later (pow-divides k x ascends.0))
 
 -- the worth of an ascending list is 2 ^ x for its first number x, and a multiple of 2 ^ (x + 1) for the others
 worth-parts : (k x : ℕ) (xs : List ℕ) → AscendsFrom k (x ∷ xs) → (a : ℕ) × (worth xs ≡ a * 2 ^ suc x + 0) × (worth (x ∷ xs) ≡ a * 2 ^ suc x + 2 ^ x)
 worth-parts k x xs ascends =
-    let rest = worth-multiple (suc x) xs ascends.1 in
-    (rest.0, omega (arith, rest.1), worth-cons x xs ∙ ap (λ n. n + 2 ^ x) rest.1)
+    let whole = sym (div-mul_cancel (2 ^ suc x) (worth-multiple (suc x) xs ascends.1)) in
+    (worth xs / 2 ^ suc x, omega (arith, whole), worth-cons x xs ∙ ap (λ n. n + 2 ^ x) whole)
 
 pow_bit : (k q : ℕ) → (bit_at (2 ^ k) q == 1) ≡ (q == k)
 pow_bit k q = let same = bit_at-pow_same k in let other = bit_at-pow_other k q in grind (arith, nat_tests)
@@ -182,49 +179,30 @@ bits-set w n k within = bits-or n _ ∙ ap (union (bits n)) (bits-one w k within
 pub bits-clear : (w n k : ℕ) → n < 2 ^ w → k < w → bits (bit_and n (complement w (1 * 2 ^ k % 2 ^ w))) ≡ remove (bits n) k
 bits-clear w n k fits within = bits-and_not w n _ fits (mod_below _ (2 ^ w) (pow_pos w)) ∙ ap (difference (bits n)) (bits-one w k within) ∙ difference_only _ k
 
--- a number less one, where t is its lowest bit: it has not that bit, and those above it stay
-module _ (n t : ℕ) (one : bit_at n t ≡ 1) (none : (i : ℕ) → i < t → bit_at n i ≡ 0) where
-  lowest-part : n % 2 ^ suc t ≡ 2 ^ t
-  lowest-part = same_from_bits _ _ (λ q.
-      let before = none q in
-      let low = bit_at_cat_low (n / 2 ^ suc t) (suc t) (n % 2 ^ suc t) q in
-      let whole = ap (λ m. bit_at m q) (shr_split n (suc t)) in
-      let over = bit_at_above (n % 2 ^ suc t) (suc t) q (mod_below n (2 ^ suc t) (pow_pos (suc t))) in
-      let other = bit_at-pow_other t q in
-      grind (arith, one, bit_at-pow_same t))
-
-  less_one-parts : n - 1 ≡ n / 2 ^ suc t * 2 ^ suc t + (2 ^ t - 1)
-  less_one-parts = omega (arith, shr_split n (suc t), lowest-part, pow_pos t)
-
-  less_one-lowest : bit_at (n - 1) t ≡ 0
-  less_one-lowest =
-      ap (λ m. bit_at m t) less_one-parts ∙ bit_at_cat_low (n / 2 ^ suc t) (suc t) (2 ^ t - 1) t (omega arith)
-      ∙ bit_at_above (2 ^ t - 1) t t (omega (arith, pow_pos t)) (omega arith)
-
-  less_one-above : (q : ℕ) → t < q → bit_at (n - 1) q ≡ bit_at n q
-  less_one-above q past =
-      ap (λ m. bit_at m q) less_one-parts ∙ bit_at_cat_high (n / 2 ^ suc t) (suc t) (2 ^ t - 1) q (omega (arith, pow_pos t, pow-suc 2 t)) (omega (arith, past))
-      ∙ sym (ap (λ m. bit_at m q) (sym (shr_split n (suc t))) ∙ bit_at_cat_high (n / 2 ^ suc t) (suc t) (n % 2 ^ suc t) q (mod_below n (2 ^ suc t) (pow_pos (suc t))) (omega (arith, past)))
-
-  without_lowest : bits (bit_and n (n - 1)) ≡ remove (bits n) t
-  without_lowest = bits_is _ _ (λ q.
-      let before = none q in
-      let above = less_one-above q in
-      let here = less_one-lowest in
-      grind (arith, nat_tests, bit_at_and n (n - 1) q, bit_at-lt n q, contains-bits n q, contains-remove (bits n) t q))
-
--- `n.trailing_zeros()` is the place of the lowest 1
+-- `n.trailing_zeros()` is the place of the lowest 1; n - 1 has not that bit, and those above it stay
 IsLowest : ℕ → ℕ → ℕ → Type 0
-IsLowest w n t = (t < w) × (bit_at n t ≡ 1) × ((i : ℕ) → i < t → bit_at n i ≡ 0)
+IsLowest w n t = (t < w) × (bit_at n t ≡ 1) × ((i : ℕ) → i < t → bit_at n i ≡ 0) × (bit_at (n - 1) t ≡ 0) × ((i : ℕ) → t < i → bit_at (n - 1) i ≡ bit_at n i)
 
 lowest_by : (w n t d : ℕ) → n % 2 ≡ d → 0 < n → (0 < n / 2 → IsLowest w (n / 2) t) → IsLowest (suc w) n (under d t)
 unfolding IsLowest
-lowest_by w n t (suc d) odd some half = (omega arith, omega (arith, bit_at_lowest n), λ i under. absurd (omega arith))
-lowest_by w n t zero even some half = let rest = half (omega arith) in (omega (arith, rest.0), bit_at-suc n t ∙ rest.1, before rest.2)
+lowest_by w n t (suc d) odd some half = (omega arith, omega (arith, bit_at_lowest n), λ i under. absurd (omega arith), omega (arith, bit_at_lowest (n - 1)), above)
   where
+    above : (i : ℕ) → 0 < i → bit_at (n - 1) i ≡ bit_at n i
+    above zero past = absurd (omega arith)
+    above (suc i) past = let same : (n - 1) / 2 ≡ n / 2 = omega (arith, odd) in bit_at-suc (n - 1) i ∙ ap (λ m. bit_at m i) same ∙ sym (bit_at-suc n i)
+lowest_by w n t zero even some half =
+    let rest = half (omega arith) in (omega (arith, rest.0), bit_at-suc n t ∙ rest.1, before rest.2, lower t ∙ rest.3, above rest.4)
+  where
+    lower : (i : ℕ) → bit_at (n - 1) (suc i) ≡ bit_at (n / 2 - 1) i
+    lower i = let less : (n - 1) / 2 ≡ n / 2 - 1 = omega (arith, even) in bit_at-suc (n - 1) i ∙ ap (λ m. bit_at m i) less
+
     before : ((i : ℕ) → i < t → bit_at (n / 2) i ≡ 0) → (i : ℕ) → i < suc t → bit_at n i ≡ 0
     before none zero under = bit_at_lowest n ∙ even
     before none (suc i) under = bit_at-suc n i ∙ none i (omega arith)
+
+    above : ((i : ℕ) → t < i → bit_at (n / 2 - 1) i ≡ bit_at (n / 2) i) → (i : ℕ) → suc t < i → bit_at (n - 1) i ≡ bit_at n i
+    above same zero past = absurd (omega arith)
+    above same (suc i) past = lower i ∙ same i (omega arith) ∙ sym (bit_at-suc n i)
 
 lowest_set : (w n : ℕ) → 0 < n → n < 2 ^ w → IsLowest w n (count_trailing_zeros w n)
 unfolding count_trailing_zeros
@@ -236,7 +214,10 @@ pub bits-clear_least : (w n : ℕ) → 0 < n → n < 2 ^ w → bits (bit_and n (
 unfolding IsLowest
 bits-clear_least w n some fits =
     let lowest = lowest_set w n some fits in
-    without_lowest n (count_trailing_zeros w n) lowest.1 lowest.2
+    bits_is _ _ (λ q.
+    let before = lowest.2 q in
+    let above = lowest.4 q in
+    grind (arith, nat_tests, lowest.1, lowest.3, bit_at_and n (n - 1) q, bit_at-lt n q, contains-bits n q, contains-remove (bits n) (count_trailing_zeros w n) q))
 
 pub bits-test : (w n k : ℕ) → k < w → contains (bits n) k ≡ not (bit_and n (1 * 2 ^ k % 2 ^ w) == 0)
 bits-test w n k within =

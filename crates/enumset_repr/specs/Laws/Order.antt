@@ -70,14 +70,8 @@ compare-ranks s t = ranks_by s t (deciding_number s t) refl
 
 -- ---- the laws
 
-irrefl_by_number : (s : BitSet) → ¬ (number s < number s)
-irrefl_by_number s = below_irrefl (number s)
-
-chain_by_number : (s t u : BitSet) → number s < number t → number t < number u → number s < number u
-chain_by_number s t u = below_chain (number s) (number t) (number u)
-
 pub compare-total : IsTotalOrder compare
-compare-total = strict (λ s t. number s < number t) irrefl_by_number chain_by_number compare compare-ranks
+compare-total = strict (λ s t. number s < number t) (λ s. below_irrefl (number s)) (λ s t u. below_chain (number s) (number t) (number u)) compare compare-ranks
 
 compare-number_by : (s t : BitSet) (o : Ordering) → MatchOrdering o (number s < number t) (s ≡ t) (number t < number s) → MatchOrdering o (number s < number t) (number s ≡ number t) (number t < number s)
 compare-number_by s t Less less = less

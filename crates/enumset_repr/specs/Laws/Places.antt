@@ -32,7 +32,8 @@ pub has_place : (s : BitSet) (q : ℕ) → (contains s q ≡ contains s q) × (c
 unfolding place
 has_place s q = (refl, λ one. let inside = sym (contains-ascending s q) ∙ one in ((placed q 0 (ascending s) inside).0, λ d. (placed q d (ascending s) inside).1))
 
-read_in : (k d : ℕ) (xs : List ℕ) → k < length xs → is_in (slice_index_or xs k d) xs ≡ true
+-- a number at a place of a list is in the list
+pub read_in : (k d : ℕ) (xs : List ℕ) → k < length xs → is_in (slice_index_or xs k d) xs ≡ true
 read_in k d [] within = absurd (omega (arith, within))
 read_in zero d (x ∷ xs) within = or_left (x == x) _ (eq-eqb x x refl)
 read_in (suc k) d (x ∷ xs) within = or_right (slice_index_or xs k d == x) _ (read_in k d xs (omega (arith, within)))

@@ -53,15 +53,9 @@ contains-bits_of (n ∷ ns) (suc w) b fit small =
     let none = contains-bits_above n 64 q (fit zero) (omega arith) in
     contains-union (bits n) (upward_shift (bits_of ns) 64) q ∙ grind (arith, nat_tests, contains-upward_shift (bits_of ns) 64 q)
 
-pub at_word : (q : ℕ) → 64 * (q / 64) + q % 64 ≡ q
-at_word q = div-add-mod q 64
-
-in_word : (q : ℕ) → q % 64 < 64
-in_word q = mod-lt q (omega arith)
-
 -- a fact about a number, by its word and its bit in the word
 pub by_word : (P : ℕ → Type 0) → ((w r : ℕ) → r < 64 → P (64 * w + r)) → (q : ℕ) → P q
-by_word P each q = subst P (at_word q) (each (q / 64) (q % 64) (in_word q))
+by_word P each q = subst P (div-add-mod q 64) (each (q / 64) (q % 64) (mod-lt q (omega arith)))
 
 pub contains-zero : (n b : ℕ) → n ≡ 0 → contains (bits n) b ≡ false
 contains-zero n b zero_word = ap (λ m. contains (bits m) b) zero_word ∙ ap (λ s. contains s b) bits-zero ∙ contains-empty b
@@ -165,10 +159,7 @@ low-same_words s width n within same = within_from_low s width (same_set _ _ (by
 pub number-word : (s : BitSet) (ws : List ℕ) → ws ≡ words s 1 → slice_index ws 0 ≡ number (low s 64)
 number-word s ws is =
     (λ i. slice_index (is i) 0) ∙ slice_index-words s 1 0 (omega arith) ∙ sym (number-bits (word s 0))
-    ∙ ap number (same_set _ _ (λ q. contains-bits-word s 0 q ∙ ap (λ n. contains s n && nat_lt q 64) (by q) ∙ sym (contains-low s 64 q)))
-  where
-    by : (q : ℕ) → 64 * 0 + q ≡ q
-    by q = omega arith
+    ∙ ap number (same_set _ _ (λ q. let place : 64 * 0 + q ≡ q = omega arith in contains-bits-word s 0 q ∙ ap (λ n. contains s n && nat_lt q 64) place ∙ sym (contains-low s 64 q)))
 
 pub bits_of-halves : (n : ℕ) → n < 2 ^ 128 → bits_of (n % 2 ^ 64 ∷ n / 2 ^ 64 ∷ []) ≡ bits n
 unfolding words

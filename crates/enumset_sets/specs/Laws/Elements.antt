@@ -2,23 +2,25 @@
 -- `enumset_repr`).
 --     lawful_in, lawful_in_integer, lawful_in_words      the laws, over any representation, an integer or words
 --     lawful_in_place      the laws where each bit is its variant's place, from those of the same bits as a list
+--     passed      what a test says that passes
 --     derived_eq      what a derived `==` of such an enum returns
 -- An element type imports the makers of its elements from here too.
-use Rattle.std.proofs.Common.{◌≡◌, ◌<◌, ◌≤◌, ℕ, suc, zero, ◌^◌, Bool, true, false, eqb, List, Some, sym, ap, ◌∙◌, length, get_or, sum_by, arith, true≢false}
-use Rattle.std.specs.Prelude.{◌==◌}
+use Rattle.std.proofs.Common.{◌≡◌, ◌<◌, ◌≤◌, ℕ, suc, zero, ◌^◌, Bool, true, false, eqb, List, Some, sym, ap, ◌∙◌, length, get_or, sum_by, arith, inl, inr}
+use Rattle.std.specs.Prelude.{◌==◌, max, Option, None}
 use denote.Struct.Field.{Field}
 use denote.Enum.Declared.{Declared, rowss, tag_of}
 use denote.Enum.Enum.{tag_below}
 use denote.Enum.Bare.{Bare, tag_one, sameb, same_true, true_same}
 use Rattle.std.proofs.lemmas.Bool.Decides.{nat_tests}
-use Rattle.std.proofs.lemmas.Bool.{and_parts, and_from, or_left, or_right, eqb-true, eq-eqb}
-use Rattle.std.specs.List.{last_or}
+use Rattle.std.proofs.lemmas.Bool.{cases_lt, and_parts, and_from, or_left, or_right, eqb-true, eq-eqb}
 use Rattle.std.proofs.lemmas.List.FromFn.{get_or-range_with_len}
-use Rattle.enumset_repr.specs.BitSet.{BitSet, is_in, contains, from_list, ascending, len, is_subset}
+use Rattle.enumset_repr.specs.BitSet.{BitSet, is_in, contains, insert, from_list, ascending, len, is_subset}
 use Rattle.enumset_repr.specs.Number.{bits, is_distinct}
-use Rattle.enumset_repr.specs.Ends.{last, greatest}
-use Rattle.enumset_repr.specs.Laws.Members.{contains-from_list, contains-ascending, list_all-each, is_subset-contains}
-use Rattle.enumset_repr.specs.Laws.Ascending.{len-empty, len-insert, ascending-ascends, AscendsFrom}
+use Rattle.enumset_repr.specs.Ends.{greatest}
+use Rattle.enumset_repr.specs.Laws.Members.{contains-empty, contains-insert, contains-from_list, contains-ascending, list_all-each, is_subset-contains}
+use Rattle.enumset_repr.specs.Laws.Ascending.{len-empty, len-insert, empty_of_ascending}
+use Rattle.enumset_repr.specs.Laws.Ends.{greatest-is, greatest-empty, greatest_facts, ascending-no_greatest}
+use Rattle.enumset_repr.specs.Laws.Places.{read_in}
 use Rattle.enumset_repr.specs.Words.{bits_of, lists_words}
 use Rattle.enumset_repr.specs.Laws.Listed.{bits_listed, words_listed}
 use Rattle.enumset_repr.specs.Lawful.{one_past_all, or_else, once_known, IsLawful, IsLawfulNumber, IsLawfulWords}
@@ -28,16 +30,11 @@ use Rattle.enumset_sets.specs.Elements.{one_past, one_past_greatest, IsElementTy
 
 -- ---- lists of numbers
 
-is_in-get_or : (bs : List ℕ) (i : ℕ) → i < length bs → is_in (get_or bs i 0) bs ≡ true
-is_in-get_or [] i small = absurd (omega (arith, small))
-is_in-get_or (b ∷ bs) zero small = or_left _ _ (eq-eqb b b refl)
-is_in-get_or (b ∷ bs) (suc i) small = or_right (get_or bs i 0 == b) _ (is_in-get_or bs i (omega (arith, small)))
-
 distinct_places : (bs : List ℕ) → is_distinct bs ≡ true → (i j : ℕ) → i < length bs → j < length bs → get_or bs i 0 ≡ get_or bs j 0 → i ≡ j
 distinct_places [] apart i j p q same = absurd (omega (arith, p))
 distinct_places (b ∷ bs) apart zero zero p q same = refl
-distinct_places (b ∷ bs) apart zero (suc j) p q same = let there = is_in-get_or bs j (omega (arith, q)) in absurd (grind (arith, nat_tests, same, apart))
-distinct_places (b ∷ bs) apart (suc i) zero p q same = let there = is_in-get_or bs i (omega (arith, p)) in absurd (grind (arith, nat_tests, same, apart))
+distinct_places (b ∷ bs) apart zero (suc j) p q same = let there = read_in j 0 bs (omega (arith, q)) in absurd (grind (arith, nat_tests, same, apart))
+distinct_places (b ∷ bs) apart (suc i) zero p q same = let there = read_in i 0 bs (omega (arith, p)) in absurd (grind (arith, nat_tests, same, apart))
 distinct_places (b ∷ bs) apart (suc i) (suc j) p q same = ap suc (distinct_places bs (and_parts _ _ apart).1 i j (omega (arith, p)) (omega (arith, q)) same)
 
 len-from_list : (bs : List ℕ) → is_distinct bs ≡ true → len (from_list bs) ≡ length bs
@@ -47,37 +44,27 @@ len-from_list (b ∷ bs) apart = grind (arith, nat_tests, contains-from_list bs 
 
 -- ---- one past the greatest
 
-is_in-one_past : (q : ℕ) (bs : List ℕ) → is_in q bs ≡ true → q < one_past_all bs
-is_in-one_past q [] one = absurd (true≢false (sym one))
-is_in-one_past q (b ∷ bs) one = let later = is_in-one_past q bs in grind (arith, nat_tests)
+one_past-insert : (s : BitSet) (b : ℕ) → one_past_greatest (insert s b) ≡ max (suc b) (one_past_greatest s)
+one_past-insert s b = at (greatest s) refl
+  where
+    -- where m is in the set with b, and nothing past m is
+    is_last : (m : ℕ) → contains (insert s b) m ≡ true → ((q : ℕ) → m < q → contains s q ≡ false) → b ≤ m → one_past_greatest (insert s b) ≡ suc m
+    is_last m one none from = ap one_past (greatest-is (insert s b) m one (λ q over. let gone = none q over in contains-insert s b q ∙ grind (arith, nat_tests)))
 
--- the greatest number of a list is in it
-one_past_is_in : (bs : List ℕ) (n : ℕ) → one_past_all bs ≡ suc n → is_in n bs ≡ true
-one_past_is_in [] n e = absurd (omega (arith, e))
-one_past_is_in (b ∷ bs) n e = let later = one_past_is_in bs n in grind (arith, nat_tests, e)
+    here : contains (insert s b) b ≡ true
+    here = contains-insert s b b ∙ or_left (b == b) _ (eq-eqb b b refl)
 
--- lists with the same numbers have the same greatest number
-same_reach : (xs bs : List ℕ) → ((q : ℕ) → is_in q xs ≡ is_in q bs) → one_past_all xs ≤ one_past_all bs
-same_reach xs bs same = reach_of (one_past_all xs) refl where
-  reach_of : (n : ℕ) → one_past_all xs ≡ n → one_past_all xs ≤ one_past_all bs
-  reach_of zero e = omega (arith, e)
-  reach_of (suc n) e = omega (arith, e, is_in-one_past n bs (sym (same n) ∙ one_past_is_in xs n e))
-
--- the last number of an ascending list is its greatest
-one_past-last_or : (k b : ℕ) (bs : List ℕ) → AscendsFrom k (b ∷ bs) → one_past (last_or (Some b) bs) ≡ one_past_all (b ∷ bs)
-one_past-last_or k b [] ascends = omega arith
-one_past-last_or k b (c ∷ bs) ascends = one_past-last_or (suc b) c bs ascends.1 ∙ omega (arith, ascends.1.0)
-
-one_past-last : (bs : List ℕ) → AscendsFrom 0 bs → one_past (last bs) ≡ one_past_all bs
-one_past-last [] ascends = refl
-one_past-last (b ∷ bs) ascends = one_past-last_or 0 b bs ascends
+    at : (o : Option ℕ) → greatest s ≡ o → one_past_greatest (insert s b) ≡ max (suc b) (one_past o)
+    at None none = let gone = empty_of_ascending s (ascending-no_greatest s none) in is_last b here (λ q _. ap (λ t. contains t q) gone ∙ contains-empty q) (omega arith) ∙ omega arith
+    at (Some m) some = let facts = greatest_facts s m some in elim (cases_lt b m) [
+      | inl less ↦ is_last m (contains-insert s b m ∙ or_right (m == b) _ facts.0) facts.1 (omega (arith, less)) ∙ omega (arith, less)
+      | inr from ↦ is_last b here (λ q over. facts.1 q (omega (arith, from, over))) (omega arith) ∙ omega (arith, from)
+    ]
 
 one_past_greatest-from_list : (bs : List ℕ) → one_past_greatest (from_list bs) ≡ one_past_all bs
-unfolding greatest
-one_past_greatest-from_list bs =
-    let same : (q : ℕ) → is_in q (ascending (from_list bs)) ≡ is_in q bs = λ q. sym (contains-ascending (from_list bs) q) ∙ contains-from_list bs q in
-    one_past-last (ascending (from_list bs)) (ascending-ascends (from_list bs))
-    ∙ omega (arith, same_reach _ bs same, same_reach bs _ (λ q. sym (same q)))
+unfolding from_list
+one_past_greatest-from_list [] = ap one_past greatest-empty
+one_past_greatest-from_list (b ∷ bs) = one_past-insert (from_list bs) b ∙ ap (max (suc b)) (one_past_greatest-from_list bs)
 
 -- ---- the bits of an enum's variants
 
@@ -86,7 +73,7 @@ module _ (D : Declared) (bare : Bare D.parts) (bs : List ℕ) (variants : length
   tag_within v = omega (arith, variants, tag_below (rowss D.parts) (D.to v))
 
   bit-is_in : (v : D.D) → is_in ((with_bits D bs).bit v) bs ≡ true
-  bit-is_in v = is_in-get_or bs (tag_of D v) (tag_within v)
+  bit-is_in v = read_in (tag_of D v) 0 bs (tag_within v)
 
   bit-tells : (v w : D.D) → (with_bits D bs).bit v ≡ (with_bits D bs).bit w → v ≡ w
   bit-tells v w same = tag_one D bare v w (distinct_places bs apart (tag_of D v) (tag_of D w) (tag_within v) (tag_within w) same)
@@ -111,7 +98,7 @@ derived_eq-same D v w = of_one-same D.parts (tag_of D v) (tag_of D w) (tag_below
 
 -- ---- the laws
 
-passed : (test : Bool) (fault next : Type 0) → (fault → ⊥) → or_else test fault next → (test ≡ true) × next
+pub passed : (test : Bool) (fault next : Type 0) → (fault → ⊥) → or_else test fault next → (test ≡ true) × next
 passed true fault next none h = (refl, h)
 passed false fault next none h = absurd (none h)
 

@@ -3,22 +3,23 @@ use Rattle.enumset_array.specs.Cursors.{Covers}
 use Rattle.std.proofs.Common.{ℕ, List, ◌≡◌, ◌+◌, ◌≤◌, Contains, length, is_some, if◌then◌else◌, None, take, refl, sym, ap, ◌∙◌, subst, arith}
 use Rattle.std.proofs.lemmas.Grind.{common_steps}
 use Rattle.enumset_repr.specs.BitSet.{difference, from_list}
-use Rattle.enumset_array.specs.Walks.{items_among}
+use Rattle.enumset_array.specs.Walks.{answers, without_answers, items_among}
 use Rattle.enumset_repr.specs.Words.{bits_of}
-use Rattle.enumset_array.proofs.Walks.{length-items_among, length-items_among-push, length-answers, difference-none, difference-step, none-push, no_answers, all_left, none_given, none_in_no_answers, answers_next, rest_next}
+use Rattle.enumset_array.proofs.Walks.{length-items_among, length-items_among-push, length-answers, difference-none, difference-step, none-push, answers_next, rest_next}
 use Rattle.enumset_array.proofs.traversal.walk.Goals as goal
 
 covers_all : (ws : List ℕ) → Covers ws (record { front = 0; back = length ws })
 covers_all ws = record { within = omega arith; before = λ i h. absurd (omega (arith, h)); past = λ i h. get_or_past ws i 0 h }
 
 pub loop-end-init : goal.loop-end-init
+unfolding answers without_answers items_among
 loop-end-init g c = record {
-  items = c.in_ok-answers.ensures.items ∙ sym (no_answers _);
-  rest = sym (all_left _);
+  items = c.in_ok-answers.ensures.items;
+  rest = refl;
   set = difference-none _ ∙ ap (λ rs. difference (bits_of (g.R.Row.words c.args.row.now)) (from_list (items_among rs))) (sym c.in_ok-answers.ensures.items);
-  asks = let e : length (items_among c.in_ok-answers.answers.items) ≡ 0 = ap (λ rs. length (items_among rs)) c.in_ok-answers.ensures.items ∙ none_given in
+  asks = let e : length (items_among c.in_ok-answers.answers.items) ≡ 0 = ap (λ rs. length (items_among rs)) c.in_ok-answers.ensures.items in
       rw c.over-cursors.ensures (omega arith);
-  met = λ has. absurd (none_in_no_answers _ c.in_ok-answers.ensures.items has);
+  met = λ has. absurd (omega (arith, has.1, ap length c.in_ok-answers.ensures.items));
   covers = rw (c.over-cursors.ensures, c.word_count.ensures.count) (covers_all _);
   count = c.in_ok-answers.ensures.len;
   room = omega (arith, c.in_ok-answers.ensures.capacity);

@@ -1,10 +1,9 @@
 use Rattle.std.proofs.Common.{sym, ◌∙◌, arith, true≢false}
+use Rattle.std.proofs.lemmas.Bool.{false_from_ne_true}
 use Rattle.std.specs.Cmp.{both_ways}
 use Rattle.enumset_repr.specs.BitSet.{BitSet}
-use Rattle.enumset_repr.specs.Words.{word}
 use Rattle.enumset_repr.specs.Laws.WordLists.{word-past, within_words}
 use Rattle.enumset_repr.specs.Laws.Filled.{word_past_repr}
-use Rattle.enumset_repr.proofs.ZeroWords.{refused}
 use Rattle.enumset_repr.proofs.repr.has_no_word_from.Goals as goal
 
 pub returns-then-len-from : goal.returns-then-len-from
@@ -14,12 +13,12 @@ returns-then-len-from g c =
 
 pub returns-then-word-ne0 : goal.returns-then-word-ne0
 returns-then-word-ne0 g c =
-    refused _ (λ within. c.if-word-ne0.true (c.word.ensures ∙ word-past _ _ c.args.from within (omega arith)))
+    sym (false_from_ne_true _ (λ within. c.if-word-ne0.true (c.word.ensures ∙ word-past _ _ c.args.from within (omega arith))))
 
 pub returns-then-not-are_zero : goal.returns-then-not-are_zero
 returns-then-not-are_zero g c =
-    refused _ (λ within. true≢false (
-    sym (c.are_zero.ensures.1 (λ w from under. word-past _ _ w within (omega (arith, from)))) ∙ c.if-not-are_zero.true))
+    sym (false_from_ne_true _ (λ within. true≢false (
+    sym (c.are_zero.ensures.1 (λ w from under. word-past _ _ w within (omega (arith, from)))) ∙ c.if-not-are_zero.true)))
 
 pub returns : goal.returns
 returns g c =

@@ -5,7 +5,8 @@ use Rattle.enumset_repr.specs.BitSet.{BitSet, empty}
 use Rattle.serde_json.specs.View.{view, items_view}
 use Rattle.serde_json.specs.Find.{as_str}
 use Rattle.enumset.specs.Names.{names_of, bit_named}
-use Rattle.enumset.specs.JsonNames.{values_of, set_of_values}
+use Rattle.enumset.specs.Json.{values_of}
+use Rattle.enumset.specs.JsonNames.{set_of_values}
 use Rattle.enumset.specs.declared.set_json.fault.JsonFault.TheVariants.{NotAText}
 use Rattle.enumset.proofs.NameLists.{left_at}
 use Rattle.enumset.proofs.NamesRead.{with_named, or_none, list_on, list_read, read_fault, read_next, read_end}

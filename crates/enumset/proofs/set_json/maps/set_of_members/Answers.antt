@@ -1,5 +1,5 @@
-use Rattle.std.proofs.Common.{◌≡◌, ◌+◌, ℕ, cond, false, Option, None, Some, Err, is_none, unwrap_or, string_bytes, length, map, sym, ap, ◌∙◌, arith, rules}
-use Rattle.std.proofs.lemmas.Bool.{cond-true, cond-false}
+use Rattle.std.proofs.Common.{◌≡◌, ◌+◌, ℕ, cond, false, Option, None, Some, Err, is_none, unwrap_or, string_bytes, length, map, refl, sym, ap, ◌∙◌, arith, rules}
+use Rattle.std.proofs.lemmas.Bool.{cond_both, cond-true, cond-false}
 use Rattle.std.specs.Option.{option_or}
 use Rattle.enumset_repr.specs.BitSet.{BitSet, empty}
 use Rattle.serde_json.specs.View.{view, members_view}
@@ -7,7 +7,7 @@ use Rattle.serde_json.specs.Find.{as_bool}
 use Rattle.enumset.specs.Names.{names_of, bit_named}
 use Rattle.enumset.specs.JsonNames.{members_in, set_of_members}
 use Rattle.enumset.specs.declared.set_json.fault.JsonFault.TheVariants.{NotABoolean}
-use Rattle.enumset.proofs.NamesRead.{with_named, or_none, either_way, seen, map_on, map_read, read_fault, read_next, read_end}
+use Rattle.enumset.proofs.NamesRead.{with_named, or_none, seen, map_on, map_read, read_fault, read_next, read_end}
 use Rattle.enumset.proofs.set_json.maps.set_of_members.Goals.{in-Some-of_name+then-is_member, in-Some-of_name+else-is_member, in-None-of_name}
 use Rattle.enumset.proofs.set_json.maps.set_of_members.Goals as goal
 
@@ -42,7 +42,7 @@ loop-place-preserved g c =
             next (Some (g.T.EnumSetType.elements.bit w.in-Some-of_name.element)) _ _ (w.set-is ∙ w.insert.ensures.inserted ∙ sym (cond-true _ _ _ w.if-is_member.true)) (w.first_unknown-is ∙ known) (w.in-Some-of_name.ensures ∙ name)
         | in-Some-of_name+else-is_member w ↦
             next (Some (g.T.EnumSetType.elements.bit w.in-Some-of_name.element)) _ _ (w.set-is ∙ sym (cond-false _ _ _ w.if-is_member.false)) (w.first_unknown-is ∙ known) (w.in-Some-of_name.ensures ∙ name)
-        | in-None-of_name w ↦ next None _ _ (w.set-is ∙ either_way _ _) (w.first_unknown-is ∙ w.or-first_unknown.ensures) (w.in-None-of_name.ensures ∙ name)
+        | in-None-of_name w ↦ next None _ _ (w.set-is ∙ cond_both c.in_ok-is_member.is_member _ _ (λ s. c.loop-place.set ≡ s) (λ _. refl) (λ _. refl)) (w.first_unknown-is ∙ w.or-first_unknown.ensures) (w.in-None-of_name.ensures ∙ name)
       ],
     )
 

@@ -1,9 +1,9 @@
 use Rattle.std.proofs.Common.{arith}
-use Rattle.enumset.proofs.WrittenValues.{map_no_float, map_shallow}
+use Rattle.enumset.proofs.WrittenValues.{map_flat}
 use Rattle.enumset.proofs.set_json.texts.to_map_text.Goals as goal
 
 pub returns-clause-text : goal.returns-clause-text
-returns-clause-text g c = grind (arith, map_no_float, map_shallow)
+returns-clause-text g c = grind (arith, map_flat)
 
 pub returns-clause-reads : goal.returns-clause-reads
-returns-clause-reads g c = grind (arith, map_no_float, map_shallow)
+returns-clause-reads g c = grind (arith, map_flat)

@@ -1,9 +1,10 @@
-use Rattle.std.proofs.Common.{◌≡◌, ◌+◌, ◌*◌, ◌&&◌, None, Some, Err, true, option_map, map, refl, sym, ap, subst, ◌∙◌, arith, rules, is_some, if◌then◌else◌}
+use Rattle.std.proofs.Common.{◌≡◌, ◌+◌, ◌*◌, ◌&&◌, None, Some, Err, true, option_map, map, refl, sym, ap, subst, ◌∙◌, arith, rules, is_none, if◌then◌else◌}
 use Rattle.std.specs.Prelude.{◌==◌}
+use Rattle.std.specs.List.{position_from}
 use Rattle.std.proofs.lemmas.List.{drop_all}
 use Rattle.enumset_repr.specs.BitSet.{BitSet, low}
-use Rattle.serde_json.specs.View.{view, items_of, items_view}
-use Rattle.enumset.specs.Json.{words_of, words_in, first_other}
+use Rattle.serde_json.specs.View.{view, items_view}
+use Rattle.enumset.specs.Json.{is_no_word, words_of, words_in}
 use Rattle.enumset.specs.declared.set_json.fault.JsonFault.TheVariants.{NotAWord}
 use Rattle.enumset.proofs.JsonWords.{AreRead, Has, other_from, other_at, word_here, words_read, length-words_of, none_read, put_in, left_out, one_read, all_read}
 use Rattle.enumset.proofs.set_json.words.read_words.Goals.{then-place-PREFERRED_ARRAY_LEN, else-place-PREFERRED_ARRAY_LEN}
@@ -11,7 +12,7 @@ use Rattle.enumset.proofs.set_json.words.read_words.Goals as goal
 
 pub loop-place-init : goal.loop-place-init
 loop-place-init g c =
-    (refl, subst (λ s. AreRead (words_of (items_view c.deref-item-items.result.now)) 0 g.R.EnumSetTypeRepr.WIDTH s true) (sym (ap g.R.EnumSetTypeRepr.members c.EMPTY-repr.ensures ∙ g.met.R.EnumSetTypeRepr.represents.no_member)) (none_read _ _))
+    (refl, subst (λ s. AreRead (words_of (map view c.deref-item-items.result.now)) 0 g.R.EnumSetTypeRepr.WIDTH s true) (sym (ap g.R.EnumSetTypeRepr.members c.EMPTY-repr.ensures ∙ g.met.R.EnumSetTypeRepr.represents.no_member)) (none_read _ _))
 
 pub returns-in_err-word-clause-fault : goal.returns-in_err-word-clause-fault
 returns-in_err-word-clause-fault g c =
@@ -19,7 +20,7 @@ returns-in_err-word-clause-fault g c =
     let place = c.loop-place.place in
     let here = other_at vs place c.item-item.result c.as_u64.result c.loop-place-test.true c.item-item.is c.as_u64.ensures in
     let whole : words_in (view c.args.value.now) ≡ Err (NotAWord place) =
-    words_read _ vs (Some place) (sym c.as_array.ensures ∙ ap (option_map (λ v. items_view v.now.items)) c.in_ok-items.ensures.ok_part ∙ ap (λ us. Some (items_view us)) (sym c.deref-item-items.ensures.value)) (sym c.loop-place.invariant.0 ∙ here ∙ ap (λ o. if is_some o then other_from vs (place + 1) else Some place) c.in_err-word.ensures.ok_part) in
+    words_read _ vs (Some place) (sym c.as_array.ensures ∙ ap (option_map (λ v. items_view v.now.items)) c.in_ok-items.ensures.ok_part ∙ ap (λ us. Some (items_view us)) (sym c.deref-item-items.ensures.value)) (sym c.loop-place.invariant.0 ∙ here ∙ ap (λ o. if is_none o then Some place else other_from vs (place + 1)) c.in_err-word.ensures.ok_part) in
     search rules
 
 pub loop-place-preserved : goal.loop-place-preserved
@@ -32,13 +33,13 @@ loop-place-preserved g c =
     let made = c.if-place-PREFERRED_ARRAY_LEN.repr in
     let here = other_at vs place c.item-item.result c.as_u64.result c.loop-place-test.true c.item-item.is c.as_u64.ensures in
     let is = word_here vs place c.item-item.result c.as_u64.result c.loop-place-test.true c.item-item.is c.as_u64.ensures c.in_ok-word.word c.in_ok-word.ensures.ok_part in
-    let put : (t : BitSet) → Has t (words_of (items_view vs)) (place + 1) → members made ≡ low (low t (64 * (place + 1))) width =
+    let put : (t : BitSet) → Has t (words_of (map view vs)) (place + 1) → members made ≡ low (low t (64 * (place + 1))) width =
     elim c.if-place-PREFERRED_ARRAY_LEN.branch [
       | then-place-PREFERRED_ARRAY_LEN w ↦ put_in _ place width _ _ before c.in_ok-word.word _ is (ap members w.repr-is ∙ w.put_word.ensures)
       | else-place-PREFERRED_ARRAY_LEN w ↦ λ t has. ap members w.repr-is ∙ left_out _ place width _ _ before (omega (arith, g.met.R.EnumSetTypeRepr.represents.word_count, c.PREFERRED_ARRAY_LEN.ensures, w.if-place-PREFERRED_ARRAY_LEN.false)) t has
     ] in (
-      sym (here ∙ ap (λ o. if is_some o then other_from vs (place + 1) else Some place) c.in_ok-word.ensures.ok_part) ∙ c.loop-place.invariant.0,
-      subst (λ n. AreRead (words_of (items_view vs)) (place + 1) width (members made) (c.loop-place.is_whole && (n == c.in_ok-word.word))) (sym c.word_or_zero.ensures)
+      sym (here ∙ ap (λ o. if is_none o then Some place else other_from vs (place + 1)) c.in_ok-word.ensures.ok_part) ∙ c.loop-place.invariant.0,
+      subst (λ n. AreRead (words_of (map view vs)) (place + 1) width (members made) (c.loop-place.is_whole && (n == c.in_ok-word.word))) (sym c.word_or_zero.ensures)
           (one_read _ place width _ _ before c.in_ok-word.word (members made) is (omega arith) put),
     )
 
@@ -47,8 +48,8 @@ returns-clause-read g c =
     let vs = c.deref-item-items.result.now in
     let place = c.loop-place.place in
     let all = all_read _ place _ _ _ c.loop-place.invariant.1 (omega (arith, length-words_of vs, c.loop-place-test.false)) in (
-      words_of (items_view vs),
-      words_read _ vs None (sym c.as_array.ensures ∙ ap (option_map (λ v. items_view v.now.items)) c.in_ok-items.ensures.ok_part ∙ ap (λ us. Some (items_view us)) (sym c.deref-item-items.ensures.value)) (sym c.loop-place.invariant.0 ∙ ap (λ us. first_other place (items_of (map view us))) (drop_all place vs c.loop-place-test.false)),
+      words_of (map view vs),
+      words_read _ vs None (sym c.as_array.ensures ∙ ap (option_map (λ v. items_view v.now.items)) c.in_ok-items.ensures.ok_part ∙ ap (λ us. Some (items_view us)) (sym c.deref-item-items.ensures.value)) (sym c.loop-place.invariant.0 ∙ ap (λ us. position_from is_no_word place (map view us)) (drop_all place vs c.loop-place-test.false)),
       all.0,
       all.1,
     )
