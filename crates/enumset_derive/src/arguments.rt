@@ -16,11 +16,11 @@ const WRONG: ProgramFault = ProgramFault::Arguments(
 
 /// The arguments, with the name of the program.
 pub fn arguments<R: Env + AllocGlobal>(rt: &R) -> Result<Vec<String>, ProgramFault> {
-    let arguments = env::args(rt).map_err(|error| match error.kind() {
-        ErrorKind::OutOfMemory => ProgramFault::OUT_OF_MEMORY,
-        _ => NOT_A_NAME,
-    })?;
-    Ok(arguments.collect(rt.alloc())?)
+    match env::args(rt) {
+        Ok(arguments) => Ok(arguments.collect(rt.alloc())?),
+        Err(error) if error.kind() == ErrorKind::OutOfMemory => Err(ProgramFault::OUT_OF_MEMORY),
+        Err(_) => Err(NOT_A_NAME),
+    }
 }
 
 /// The names of the crate and of the module, and the file that the module goes into, if not standard output.

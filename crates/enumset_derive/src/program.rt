@@ -19,11 +19,21 @@ pub fn answer<R: Env + Files + Input + Print + Eprint + AllocGlobal>(
 ) -> Result<(), ProgramFault> {
     let arguments = arguments(rt)?;
     let (crate_name, module_name, file) = request_of(&arguments)?;
+    let module = derive(rt, crate_name, module_name)?;
+    write_module(rt, module.as_str(), file)
+}
+
+/// The module that the input stands for.
+fn derive<R: Input + Eprint + AllocGlobal>(
+    rt: &R,
+    crate_name: &str,
+    module_name: &str,
+) -> Result<String, ProgramFault> {
     let input = read_input(rt.alloc(), rt.reader())?;
     let source = source_of(rt.alloc(), &input)?;
     let module = module_text(rt.alloc(), crate_name, module_name, &source)?;
     report(rt, &source);
-    write_module(rt, module.as_str(), file)
+    Ok(module)
 }
 
 /// Says on standard error what is left out, and that a text has no element type.

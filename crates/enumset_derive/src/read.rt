@@ -2,17 +2,17 @@
 
 mod arguments;
 mod attributes;
+mod cursor;
 mod draft;
 mod enums;
 mod imports;
 mod literals;
-mod reader;
 
 use crate::source::{Item, Source};
 use crate::tokens::{Kind, Token};
+use cursor::{Cursor, Stop};
 use draft::Draft;
-use enumset_derive_plan::{DeriveError, Place};
-use reader::{Reader, Stop};
+use enumset_derive_plan::{DeriveError, plan_enum};
 use std::alloc::Global;
 
 /// What a source text has of which these are the tokens, or the first fault, of reading or of planning.
@@ -21,136 +21,122 @@ pub fn read_source<'a>(
     text: &'a str,
     tokens: &[Token<'a>],
 ) -> Result<Source<'a>, DeriveError> {
-    let begin = Token {
-        kind: Kind::Space,
-        text: "",
-        begin: 0,
-        place: Place::BEGIN,
-        depth: 0,
-    };
-    let source = Source {
-        text,
-        begin: 0,
-        items: Vec::new(alloc),
-        imports: Vec::new(alloc),
-        has_imports: false,
-        facade: "enumset",
-        has_enums: false,
-        left_out: Vec::new(alloc),
-    };
-    let mut reader = Reader {
-        alloc,
-        token: begin,
-        rest: tokens,
-        comments: Vec::new(alloc),
-        source,
-    };
-    reader.advance()?;
-    reader.read_head()?;
-    for _ in tokens {
-        reader.read_item()?;
+    let mut source = Source::new(alloc, text);
+    if let [token, rest @ ..] = tokens {
+        let mut cursor = Cursor {
+            text,
+            token,
+            rest,
+            error: None,
+        };
+        source.read_text(&mut cursor);
+        if let Some(error) = cursor.error {
+            return Err(error);
+        }
     }
-    reader.source.pass_on(text.len(), text.len())?;
-    Ok(reader.source)
+    Ok(source)
 }
 
-impl<'a> Reader<'a, '_> {
-    /// Reads the inner comments and attributes at the head of the text, with the space after them.
-    fn read_head(&mut self) -> Result<(), DeriveError> {
-        let mut end = 0;
-        for _ in self.rest {
-            let begin = self.token;
-            let is_of_head = match begin.kind {
-                Kind::Space => begin.begin == end
-                    && (end > self.source.begin || !self.source.items.is_empty()),
-                Kind::Comment => false,
-                Kind::InnerDoc => true,
-                Kind::Mark('#') if matches!(self.rest, [next, ..] if next.is_mark('!')) => {
-                    self.skip_inner_attribute()?;
-                    true
-                }
-                _ => break,
-            };
-            let is_without_std = self.text_from(&begin) == "#![no_std]";
-            self.advance()?;
-            if is_without_std {
-                self.leave_out(begin)?;
-            }
-            if is_of_head {
-                end = self.token.begin;
-            }
+impl<'a> Source<'a> {
+    /// Reads the text: its head, and its items.
+    fn read_text(&mut self, cursor: &mut Cursor<'a, '_>) {
+        self.read_head(cursor);
+        for _ in cursor.rest {
+            self.read_item(cursor);
         }
-        self.source.pass_on(end, end)?;
-        self.source.items.push(Item::HeadEnd)?;
-        Ok(())
+        let end = self.text.len();
+        cursor.note(self.pass_on(end, end));
     }
 
-    /// Goes on to the end of an attribute `#![..]`.
-    fn skip_inner_attribute(&mut self) -> Result<(), DeriveError> {
-        self.advance()?;
-        self.advance()?;
-        self.skip_to(Stop::Outside)?;
-        if self.token.is_mark(']') {
-            Ok(())
-        } else {
-            Err(self.token.fault("wanted: `[`"))
+    /// Reads the inner comments and attributes at the head of the text, with the space after them.
+    fn read_head(&mut self, cursor: &mut Cursor<'a, '_>) {
+        let mut end = 0;
+        for _ in cursor.rest {
+            let begin = cursor.token;
+            if matches!(begin.kind, Kind::Space | Kind::Comment) {
+                cursor.advance();
+            } else if cursor.skip_inner() {
+                self.leave_out(begin, cursor, cursor.text_from(begin) == "#![no_std]");
+                end = cursor.token.begin;
+            } else {
+                break;
+            }
         }
+        cursor.note(self.pass_on(end, end));
+        cursor.note(self.items.push(Item::HeadEnd));
     }
 
     /// Reads an item, or a token between items. At the end of the text there is nothing to read.
-    fn read_item(&mut self) -> Result<(), DeriveError> {
-        match self.token.kind {
-            Kind::Space | Kind::Comment | Kind::InnerDoc | Kind::End => self.advance(),
-            Kind::OuterDoc | Kind::Mark('#') => self.read_with_attributes(),
-            _ if self.token.is("use") => self.read_use(),
-            _ => self.read_other(self.token),
+    fn read_item(&mut self, cursor: &mut Cursor<'a, '_>) {
+        match cursor.token.kind {
+            Kind::Space | Kind::Comment | Kind::InnerDoc | Kind::End => cursor.advance(),
+            Kind::OuterDoc | Kind::Mark('#') => self.read_with_attributes(cursor),
+            _ if cursor.token.is("use") => self.read_use(cursor),
+            _ => self.read_other(cursor.token, cursor),
         }
     }
 
     /// Reads an item that begins with a comment or an attribute.
-    fn read_with_attributes(&mut self) -> Result<(), DeriveError> {
-        let begin = self.token;
-        let left_out = self.source.left_out.len();
+    fn read_with_attributes(&mut self, cursor: &mut Cursor<'a, '_>) {
+        let begin = cursor.token;
         let mut draft = Draft::new(self.alloc);
-        self.read_attributes(&mut draft)?;
-        self.read_visibility(&mut draft)?;
-        if !draft.is_element_type {
-            self.source.left_out.truncate(left_out);
-            return self.read_other(begin);
+        draft.read_attributes(cursor);
+        draft.read_visibility(cursor);
+        if draft.is_element_type {
+            self.read_enum(begin.begin, draft, cursor);
+        } else {
+            self.read_other(begin, cursor);
         }
-        let plan = self.read_enum(&mut draft)?;
-        let end = self.token.begin;
-        self.source
-            .push_enum(begin.begin, end, draft.declaration, plan)?;
-        Ok(())
+    }
+
+    /// Reads an enum from its keyword on, and plans it. Its comments and attributes begin at an index.
+    fn read_enum(&mut self, begin: usize, draft: Draft<'a>, cursor: &mut Cursor<'a, '_>) {
+        let mut draft = draft;
+        draft.read_enum(cursor);
+        match plan_enum(self.alloc, &draft.declaration) {
+            Ok(plan) => {
+                cursor.advance();
+                cursor.note(self.push_gap(begin));
+                self.begin = cursor.token.begin;
+                cursor.note(self.push_enum(draft, plan));
+            }
+            Err(error) => cursor.fail(error),
+        }
     }
 
     /// Goes on past an item that is no enum, from its keyword on. One that has no meaning here is left out.
-    fn read_other(&mut self, begin: Token<'a>) -> Result<(), DeriveError> {
-        let is_crate = self.token.is("extern")
-            && matches!(self.rest, [_, second, ..] if second.is("crate"));
-        self.skip_item()?;
-        if is_crate {
-            self.leave_out(begin)?;
-        }
-        Ok(())
+    fn read_other(&mut self, begin: &Token<'a>, cursor: &mut Cursor<'a, '_>) {
+        let is_crate = cursor.token.is("extern")
+            && matches!(cursor.rest, [_, second, ..] if second.is("crate"));
+        cursor.skip_to(Stop::ItemEnd);
+        self.leave_out(begin, cursor, is_crate);
     }
 
-    /// Goes on past an item that goes through, of which the reader is at a token.
-    fn skip_item(&mut self) -> Result<(), DeriveError> {
-        self.skip_to(Stop::ItemEnd)?;
-        self.advance()
-    }
-
-    /// Leaves out the text from a token to before the one where the reader is, and the space after it.
-    fn leave_out(&mut self, begin: Token<'a>) -> Result<(), DeriveError> {
-        let end = self.token.begin;
-        let text = self.source.text.get(begin.begin..end).unwrap_or("");
-        self.source.left_out.push((begin.place, text))?;
-        if matches!(self.token.kind, Kind::Space) {
-            self.advance()?;
+    /// Goes on past a token and the space after it. The text from an earlier one on may be left out.
+    fn leave_out(&mut self, begin: &Token<'a>, cursor: &mut Cursor<'a, '_>, is_left_out: bool) {
+        let text = cursor.text_from(begin);
+        cursor.advance();
+        if matches!(cursor.token.kind, Kind::Space) {
+            cursor.advance();
         }
-        self.source.pass_on(begin.begin, self.token.begin)?;
-        Ok(())
+        if is_left_out {
+            cursor.note(self.left_out.push((begin.place, text)));
+            cursor.note(self.pass_on(begin.begin, cursor.token.begin));
+        }
+    }
+}
+
+impl Cursor<'_, '_> {
+    /// Goes on to the end of an inner comment or attribute. Tells whether there is one.
+    fn skip_inner(&mut self) -> bool {
+        let is_attribute = self.token.is_mark('#')
+            && matches!(self.rest, [next, ..] if next.is_mark('!'));
+        if is_attribute {
+            self.advance();
+            self.advance();
+            self.skip_to(Stop::Outside);
+            self.want(self.token.is_mark(']'), "wanted: `[`");
+        }
+        is_attribute || matches!(self.token.kind, Kind::InnerDoc)
     }
 }

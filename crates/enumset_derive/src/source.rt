@@ -2,11 +2,12 @@
 
 use crate::tokens::is_space;
 use enumset_derive_plan::{EnumDeclaration, Place, Plan};
-use std::alloc::AllocError;
+use std::alloc::{AllocError, Global};
 
 /// What a source text has.
 #[derive(Drop)]
 pub struct Source<'a> {
+    pub alloc: Global,
     pub text: &'a str,
     /// Where the text begins that is not yet among the items.
     pub begin: usize,
@@ -36,6 +37,21 @@ pub enum Item<'a> {
 }
 
 impl<'a> Source<'a> {
+    /// What is known of a source before it is read.
+    pub fn new(alloc: Global, text: &'a str) -> Source<'a> {
+        Source {
+            alloc,
+            text,
+            begin: 0,
+            items: Vec::new(alloc),
+            imports: Vec::new(alloc),
+            has_imports: false,
+            facade: "enumset",
+            has_enums: false,
+            left_out: Vec::new(alloc),
+        }
+    }
+
     /// Adds the text up to an index to the items. What is read goes on at another.
     pub fn pass_on(&mut self, end: usize, next: usize) -> Result<(), AllocError> {
         let text = self.text.get(self.begin..end).unwrap_or("");
@@ -46,24 +62,24 @@ impl<'a> Source<'a> {
         Ok(())
     }
 
-    /// Adds an enum between two indices. An empty line goes between it and the imports or an enum if only space is there.
-    pub fn push_enum(
-        &mut self,
-        begin: usize,
-        end: usize,
-        declaration: EnumDeclaration<'a>,
-        plan: Plan,
-    ) -> Result<(), AllocError> {
+    /// Adds the text before a line of imports, and the imports if they are the first.
+    pub fn pass_on_imports(&mut self, end: usize, next: usize) -> Result<(), AllocError> {
+        self.pass_on(end, next)?;
+        if !self.has_imports {
+            self.has_imports = true;
+            self.items.push(Item::Imports)?;
+        }
+        Ok(())
+    }
+
+    /// Adds the text before an enum. It is an empty line if only space is between the enum and the imports or an enum.
+    pub fn push_gap(&mut self, begin: usize) -> Result<(), AllocError> {
         let is_after_item = matches!(self.items.last(), Some(Item::Imports | Item::Enum(_, _)));
         if is_after_item && is_gap(self.text.get(self.begin..begin).unwrap_or("")) {
             self.items.push(Item::Other("\n\n"))?;
             self.begin = begin;
         }
-        self.pass_on(begin, end)?;
-        self.has_enums = true;
-        self.facade = declaration.options.crate_name.unwrap_or(self.facade);
-        self.items.push(Item::Enum(declaration, plan))?;
-        Ok(())
+        self.pass_on(begin, begin)
     }
 }
 

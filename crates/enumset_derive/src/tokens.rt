@@ -63,10 +63,6 @@ impl<'a> Token<'a> {
         DeriveError::Fault(Reason::Text(text).at(self.place))
     }
 
-    pub fn is_end(&self) -> bool {
-        matches!(self.kind, Kind::End)
-    }
-
     /// Whether the token is written so.
     pub fn is(&self, text: &str) -> bool {
         self.text == text

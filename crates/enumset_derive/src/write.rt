@@ -25,27 +25,30 @@ type Text = Result<String, AllocError>;
 /// The imports stand where the first of the source stand, or after its head.
 pub fn module_text(alloc: Global, crate_name: &str, module_name: &str, source: &Source) -> Text {
     let mut writer = Writer::new(alloc);
-    writer.define_all(&[
-        ("CRATE", crate_name),
-        ("MODULE", module_name),
-        ("FACADE", source.facade),
-    ]);
-    for name in &source.imports {
-        writer.import(name.as_str());
-    }
-    for item in &source.items {
-        write_item(&mut writer, source, item)?;
-    }
-    writer.cut("BODY");
+    writer.define("CRATE", crate_name);
+    writer.define("MODULE", module_name);
+    write_items(&mut writer, source);
     if source.has_imports || source.has_enums {
-        define_imports(&mut writer, source.facade)?;
+        define_imports(&mut writer, source.facade);
     }
     writer.write("@HEAD@@IMPORTS@@BODY@");
     writer.finish()
 }
 
+/// Writes the items into the body, or into the head and the body.
+fn write_items(writer: &mut Writer, source: &Source) {
+    writer.define("FACADE", source.facade);
+    for name in &source.imports {
+        writer.import(name.as_str());
+    }
+    for item in &source.items {
+        write_item(writer, source, item);
+    }
+    writer.cut("BODY");
+}
+
 /// Writes an item.
-fn write_item(writer: &mut Writer, source: &Source, item: &Item) -> Result<(), AllocError> {
+fn write_item(writer: &mut Writer, source: &Source, item: &Item) {
     match item {
         Item::Other(text) => writer.push(text),
         Item::HeadEnd if source.has_imports || !source.has_enums => {}
@@ -56,8 +59,7 @@ fn write_item(writer: &mut Writer, source: &Source, item: &Item) -> Result<(), A
         Item::Imports => writer.cut("HEAD"),
         Item::Enum(declaration, plan) => {
             write_enum(writer, declaration);
-            write_element_type(writer, declaration, plan)?;
+            write_element_type(writer, declaration, plan);
         }
     }
-    Ok(())
 }

@@ -1,9 +1,9 @@
 //! What stands in `#[derive(..)]` and `#[enumset(..)]`.
 
+use super::cursor::Cursor;
 use super::draft::Draft;
-use super::reader::Reader;
 use crate::tokens::{Kind, Token, UNCLOSED_BRACKET};
-use enumset_derive_plan::{DeriveError, IntegerType, Map, Reason, Representation, Serialized};
+use enumset_derive_plan::{IntegerType, Map, Options, Place, Reason, Representation, Serialized};
 
 const NO_VALUE: &str = "wanted: `=` and a text in quotes";
 
@@ -16,124 +16,137 @@ const REPRESENTATIONS: &str =
 const FORMS: &str =
     "`serialize_repr` is \"u8\", \"u16\", \"u32\", \"u64\", \"u128\", \"array\", \"list\" or \"map\"";
 
-impl<'a> Reader<'a, '_> {
+impl<'a> Draft<'a> {
     /// Reads the arguments of a derive or of options, from the name of that attribute on. The attribute has this bracket.
-    pub(super) fn read_arguments(
-        &mut self,
-        draft: &mut Draft<'a>,
-        bracket: &Token,
-    ) -> Result<(), DeriveError> {
-        let is_derive = self.token.is("derive");
-        self.advance_past_blanks()?;
-        if !self.token.is_mark('(') {
-            return Err(self.token.fault("wanted: `(`"));
-        }
-        for _ in self.rest {
-            self.advance_past_blanks()?;
-            match self.token.kind {
+    pub fn read_arguments(&mut self, cursor: &mut Cursor<'a, '_>, bracket: &Token) {
+        let is_derive = cursor.token.is("derive");
+        cursor.advance_past_blanks();
+        cursor.want(cursor.token.is_mark('('), "wanted: `(`");
+        for _ in cursor.rest {
+            cursor.advance_past_blanks();
+            match cursor.token.kind {
                 Kind::Mark(')') => break,
-                _ if is_derive => self.read_path(draft)?,
-                _ => self.read_option(draft)?,
+                _ if is_derive => self.read_derive(cursor),
+                _ => self.read_option(cursor),
             }
-            match self.token.kind {
-                Kind::Mark(',') => {}
-                Kind::Mark(')') => break,
-                _ => return Err(self.token.fault("wanted: `,` or `)`")),
+            if !cursor.token.is_mark(',') {
+                break;
             }
         }
-        self.advance_past_blanks()?;
-        match self.token.kind {
-            Kind::Mark(']') => Ok(()),
-            Kind::Mark('(' | '[' | '{') => Err(self.token.fault(UNCLOSED_BRACKET)),
-            _ => Err(bracket.fault(UNCLOSED_BRACKET)),
+        cursor.want(cursor.token.is_mark(')'), "wanted: `,` or `)`");
+        cursor.advance_past_blanks();
+        match cursor.token.kind {
+            Kind::Mark(']') => {}
+            Kind::Mark('(' | '[' | '{') => cursor.want(false, UNCLOSED_BRACKET),
+            _ => cursor.fail(bracket.fault(UNCLOSED_BRACKET)),
         }
     }
 
     /// Reads a path that is derived.
-    fn read_path(&mut self, draft: &mut Draft<'a>) -> Result<(), DeriveError> {
+    fn read_derive(&mut self, cursor: &mut Cursor<'a, '_>) {
         let mut path = String::new(self.alloc);
-        let mut wants_name = false;
-        for _ in self.rest {
-            match self.token.kind {
-                Kind::Mark(':') if !wants_name => wants_name = true,
-                _ if self.token.is_name() && (wants_name || path.is_empty()) => wants_name = false,
-                _ => break,
+        let mut was_name = false;
+        for _ in cursor.rest {
+            let is_name = cursor.token.is_name();
+            let is_part = is_name || cursor.token.is_mark(':');
+            if !is_part || (is_name == was_name && !path.is_empty()) {
+                break;
             }
-            path.push_str(self.token.text)?;
-            self.advance_past_blanks()?;
+            was_name = is_name;
+            cursor.note(path.push_str(cursor.token.text));
+            cursor.advance_past_blanks();
         }
-        if wants_name || path.is_empty() {
-            return Err(self.token.fault("wanted: a path, or `)`"));
-        }
+        cursor.want(was_name, "wanted: a path, or `)`");
+        let is_serde = path.ends_with("Serialize") || path.ends_with("Deserialize");
+        self.has_serde = self.has_serde || is_serde;
         if path.as_str() == "EnumSetType" || path.ends_with("::EnumSetType") {
-            draft.is_element_type = true;
+            self.is_element_type = true;
         } else {
-            draft.declaration.derives.push(path)?;
+            cursor.note(self.declaration.derives.push(path));
         }
-        Ok(())
     }
 
     /// Reads an option.
-    fn read_option(&mut self, draft: &mut Draft<'a>) -> Result<(), DeriveError> {
-        let name = self.token;
-        if !matches!(name.kind, Kind::Word) {
-            return Err(name.fault("wanted: a name of an option, or `)`"));
-        }
-        let earlier = draft.given.iter().find(|given| given.0 == name.text);
-        if let Some((_, place)) = earlier {
-            return Err(Reason::OptionTwice(*place).at(name.place).into());
-        }
-        let options = &mut draft.declaration.options;
-        match name.text {
-            "map" | "repr" | "serialize_repr" | "crate_name" => self.read_value(draft, name)?,
-            "serialize_deny_unknown" => options.denies_unknown = true,
-            "no_ops" => options.leaves_out_operators = true,
-            "no_super_impls" => options.leaves_out_supertraits = true,
-            "display" => options.has_display = true,
-            "serialize_as_list" => {
-                return Err(name.fault(
-                    "`serialize_as_list` is written `serialize_repr = \"list\"`",
-                ));
+    fn read_option(&mut self, cursor: &mut Cursor<'a, '_>) {
+        let name = cursor.token;
+        let is_name = matches!(name.kind, Kind::Word);
+        cursor.want(is_name, "wanted: a name of an option, or `)`");
+        for (given, place) in &self.given {
+            if *given == name.text {
+                cursor.fail(Reason::OptionTwice(*place).at(name.place).into());
             }
-            _ => return Err(name.fault("there is no such option")),
         }
-        draft.given.push((name.text, name.place))?;
-        self.advance_past_blanks()
+        cursor.note(self.given.push((name.text, name.place)));
+        cursor.read_setting(name.text, &mut self.declaration.options);
+        cursor.advance_past_blanks();
+    }
+}
+
+impl<'a> Cursor<'a, '_> {
+    /// Reads the value of an option of this name, if it has one, up to its last token.
+    fn read_setting(&mut self, name: &str, options: &mut Options<'a>) {
+        let fault = match name {
+            "map" | "repr" | "serialize_repr" | "crate_name" => {
+                let value = self.read_value();
+                set_value(options, name, value, self.token.place)
+            }
+            _ => set_flag(options, name),
+        };
+        if let Some(text) = fault {
+            self.fail(self.token.fault(text));
+        }
     }
 
-    /// Reads the value of an option, up to its text.
-    fn read_value(&mut self, draft: &mut Draft<'a>, name: Token<'a>) -> Result<(), DeriveError> {
-        self.advance_past_blanks()?;
-        if !self.token.is_mark('=') {
-            return Err(self.token.fault(NO_VALUE));
-        }
-        self.advance_past_blanks()?;
-        let token = self.token;
-        let quoted = token.text.strip_prefix('"').unwrap_or("");
-        let Some(value) = quoted.strip_suffix('"') else {
-            return Err(token.fault(NO_VALUE));
-        };
-        let options = &mut draft.declaration.options;
-        match name.text {
-            "map" => match map_named(value) {
-                Some(map) => options.map = Some((map, token.place)),
-                None => return Err(token.fault(MAPS)),
-            },
-            "repr" => match form_named(value) {
-                Some(Serialized::Words) => options.representation = Some(Representation::Words),
-                Some(Serialized::Integer(integer)) => {
-                    options.representation = Some(Representation::Integer(integer));
-                }
-                _ => return Err(token.fault(REPRESENTATIONS)),
-            },
-            "serialize_repr" => match form_named(value) {
-                None => return Err(token.fault(FORMS)),
-                form => options.serialized = form,
-            },
-            _ => options.crate_name = Some(value),
-        }
-        Ok(())
+    /// Reads `=` and a value, up to its text.
+    fn read_value(&mut self) -> &'a str {
+        self.advance_past_blanks();
+        self.want(self.token.is_mark('='), NO_VALUE);
+        self.advance_past_blanks();
+        let quoted = self.token.text.strip_prefix('"').unwrap_or("");
+        let value = quoted.strip_suffix('"');
+        self.want(value.is_some(), NO_VALUE);
+        value.unwrap_or("")
     }
+}
+
+/// Sets an option without a value. Gives what is wrong.
+fn set_flag(options: &mut Options, name: &str) -> Option<&'static str> {
+    match name {
+        "serialize_deny_unknown" => options.denies_unknown = true,
+        "no_ops" => options.leaves_out_operators = true,
+        "no_super_impls" => options.leaves_out_supertraits = true,
+        "display" => options.has_display = true,
+        "serialize_as_list" => {
+            return Some("`serialize_as_list` is written `serialize_repr = \"list\"`");
+        }
+        _ => return Some("there is no such option"),
+    }
+    None
+}
+
+/// Sets an option to a value that is written at a place. Gives what is wrong.
+fn set_value<'a>(
+    options: &mut Options<'a>,
+    name: &str,
+    value: &'a str,
+    place: Place,
+) -> Option<&'static str> {
+    match name {
+        "map" => match map_named(value) {
+            Some(map) => options.map = Some((map, place)),
+            None => return Some(MAPS),
+        },
+        "repr" => match representation_named(value) {
+            None => return Some(REPRESENTATIONS),
+            representation => options.representation = representation,
+        },
+        "serialize_repr" => match form_named(value) {
+            None => return Some(FORMS),
+            form => options.serialized = form,
+        },
+        _ => options.crate_name = Some(value),
+    }
+    None
 }
 
 fn map_named(value: &str) -> Option<Map> {
@@ -143,6 +156,13 @@ fn map_named(value: &str) -> Option<Map> {
         "mask" => Some(Map::Mask),
         "compact" => Some(Map::Compact),
         _ => None,
+    }
+}
+
+fn representation_named(value: &str) -> Option<Representation> {
+    match value {
+        "array" => Some(Representation::Words),
+        _ => integer_named(value).map(Representation::Integer),
     }
 }
 

@@ -1,70 +1,72 @@
 //! What stands before an enum or a variant: comments, attributes and a visibility.
 
+use super::cursor::{Cursor, Stop};
 use super::draft::Draft;
-use super::reader::{Reader, Stop};
 use crate::tokens::Kind;
 use enumset_derive_plan::DeriveError;
 
-impl<'a> Reader<'a, '_> {
+impl<'a> Draft<'a> {
     /// Reads comments and attributes. Tells whether there is an attribute.
-    pub(super) fn read_attributes(&mut self, draft: &mut Draft<'a>) -> Result<bool, DeriveError> {
+    pub fn read_attributes(&mut self, cursor: &mut Cursor<'a, '_>) -> bool {
         let mut has_attribute = false;
-        for _ in self.rest {
-            match self.token.kind {
+        for _ in cursor.rest {
+            match cursor.token.kind {
                 Kind::Space => {}
                 Kind::Mark('#') => {
                     has_attribute = true;
-                    self.read_attribute(draft)?;
+                    self.read_attribute(cursor);
                 }
-                _ if self.token.is_comment() => draft.push(self.token.text)?,
+                _ if cursor.token.is_comment() => self.keep(cursor.token.text, cursor),
                 _ => break,
             }
-            self.advance()?;
+            cursor.advance();
         }
-        Ok(has_attribute)
+        has_attribute
     }
 
     /// Reads an attribute, up to the `]` that ends it. A fault of derives or options counts for an element type alone.
-    fn read_attribute(&mut self, draft: &mut Draft<'a>) -> Result<(), DeriveError> {
-        let begin = self.token;
-        self.advance_past_blanks()?;
-        let bracket = self.token;
-        if !bracket.is_mark('[') {
-            return Err(bracket.fault("wanted: `[`"));
-        }
-        self.advance_past_blanks()?;
-        let name = self.token.text;
-        let is_taken = draft.begin_attribute(name);
+    fn read_attribute(&mut self, cursor: &mut Cursor<'a, '_>) {
+        let begin = cursor.token;
+        cursor.advance_past_blanks();
+        let bracket = cursor.token;
+        cursor.want(bracket.is_mark('['), "wanted: `[`");
+        cursor.advance_past_blanks();
+        let name = cursor.token.text;
+        let is_taken = self.begin_attribute(name);
         if is_taken {
-            match self.read_arguments(draft, &bracket) {
-                Err(DeriveError::Fault(fault)) => draft.fault = draft.fault.or(Some(fault)),
-                read => read?,
+            let mut arguments = *cursor;
+            self.read_arguments(&mut arguments, bracket);
+            match arguments.error {
+                Some(DeriveError::OutOfMemory) => cursor.fail(DeriveError::OutOfMemory),
+                error => self.error = self.error.or(error),
             }
         }
-        self.skip_to(Stop::Mark(']', begin.depth))?;
-        let text = self.text_from(&begin);
-        if !draft.gives_meaning(name) {
-            self.source.left_out.push((begin.place, text))?;
+        cursor.skip_to(Stop::Mark(']', begin.depth));
+        let text = cursor.text_from(begin);
+        if !self.gives_meaning(name) {
+            cursor.note(self.left_out.push((begin.place, text)));
         } else if !is_taken {
-            draft.push(text)?;
+            self.keep(text, cursor);
         }
-        Ok(())
+    }
+
+    /// Keeps a comment or an attribute as it is.
+    fn keep(&mut self, text: &'a str, cursor: &mut Cursor) {
+        cursor.note(self.declaration.last_comments.push(text));
     }
 
     /// Reads a visibility, as `pub` or `pub(crate)`, if there is one.
-    pub(super) fn read_visibility(&mut self, draft: &mut Draft<'a>) -> Result<(), DeriveError> {
-        if !self.token.is("pub") {
-            return Ok(());
+    pub fn read_visibility(&mut self, cursor: &mut Cursor<'a, '_>) {
+        if !cursor.token.is("pub") {
+            return;
         }
-        self.advance_past_blanks()?;
-        let mut restriction = "";
-        if self.token.is_mark('(') {
-            let begin = self.token;
-            self.skip_to(Stop::Mark(')', 0))?;
-            restriction = self.text_from(&begin);
-            self.advance_past_blanks()?;
+        cursor.advance_past_blanks();
+        self.declaration.visibility.0 = "pub";
+        let begin = cursor.token;
+        if begin.is_mark('(') {
+            cursor.skip_to(Stop::Mark(')', 0));
+            self.declaration.visibility.1 = cursor.text_from(begin);
+            cursor.advance_past_blanks();
         }
-        draft.declaration.visibility = ("pub", restriction);
-        Ok(())
     }
 }

@@ -1,22 +1,27 @@
 //! What is known of an item.
 
-use enumset_derive_plan::{DeriveError, EnumDeclaration, Fault, Options, Place};
-use std::alloc::Global;
+use crate::source::{Item, Source};
+use enumset_derive_plan::{DeriveError, EnumDeclaration, Options, Place, Plan};
+use std::alloc::{AllocError, Global};
 use std::mem;
 
 /// What is known of an item. The comments and attributes that were read last are the last comments of its declaration.
 #[derive(Drop)]
 pub(super) struct Draft<'a> {
-    alloc: Global,
+    pub alloc: Global,
     pub declaration: EnumDeclaration<'a>,
     /// Whether something is derived.
     has_derive: bool,
     /// Whether `EnumSetType` is derived.
     pub is_element_type: bool,
+    /// Whether something is derived that reads attributes of `serde`.
+    pub has_serde: bool,
     /// The names of the options that are given, and where, in their order.
     pub given: Vec<(&'a str, Place)>,
     /// The first fault of its derives and options.
-    pub fault: Option<Fault>,
+    pub error: Option<DeriveError>,
+    /// What has no meaning in Rattle, in its order.
+    pub left_out: Vec<(Place, &'a str)>,
 }
 
 impl<'a> Draft<'a> {
@@ -36,15 +41,11 @@ impl<'a> Draft<'a> {
             declaration,
             has_derive: false,
             is_element_type: false,
+            has_serde: false,
             given: Vec::new(alloc),
-            fault: None,
+            error: None,
+            left_out: Vec::new(alloc),
         }
-    }
-
-    /// Adds a comment or an attribute.
-    pub fn push(&mut self, text: &'a str) -> Result<(), DeriveError> {
-        self.declaration.last_comments.push(text)?;
-        Ok(())
     }
 
     /// Takes the comments and attributes that were read last.
@@ -65,10 +66,27 @@ impl<'a> Draft<'a> {
 
     /// Whether an attribute of this name has a meaning, on the enum as it is known or on a variant of it.
     pub fn gives_meaning(&self, attribute: &str) -> bool {
-        let is_serde = |path: &String| path.ends_with("Serialize") || path.ends_with("Deserialize");
         match attribute {
-            "serde" => self.declaration.derives.iter().any(is_serde),
+            "serde" => self.has_serde,
             _ => !matches!(attribute, "repr" | "cfg_attr" | "rustfmt"),
         }
+    }
+}
+
+impl<'a> Source<'a> {
+    /// Adds an enum.
+    pub(super) fn push_enum(&mut self, draft: Draft<'a>, plan: Plan) -> Result<(), AllocError> {
+        let Draft {
+            declaration,
+            left_out,
+            ..
+        } = draft;
+        self.has_enums = true;
+        self.facade = declaration.options.crate_name.unwrap_or(self.facade);
+        self.items.push(Item::Enum(declaration, plan))?;
+        for text in left_out {
+            self.left_out.push(text)?;
+        }
+        Ok(())
     }
 }

@@ -1,39 +1,34 @@
 //! What lines `use enumset::..;` import.
 
-use super::reader::{Reader, Stop};
-use crate::source::Item;
+use super::cursor::{Cursor, Stop};
+use crate::source::Source;
 use crate::tokens::{Kind, Token};
-use enumset_derive_plan::DeriveError;
 use std::alloc::{AllocError, Global};
 use std::mem;
 
-impl<'a> Reader<'a, '_> {
+impl<'a> Source<'a> {
     /// Reads what a line `use enumset::..;` imports. Other items that begin with `use` go through.
-    pub(super) fn read_use(&mut self) -> Result<(), DeriveError> {
-        let begin = self.token.begin;
-        self.advance_past_blanks()?;
-        if !self.token.is("enumset") {
-            return self.skip_item();
+    pub(super) fn read_use(&mut self, cursor: &mut Cursor<'a, '_>) {
+        let begin = cursor.token.begin;
+        cursor.advance_past_blanks();
+        let is_enumset = cursor.token.is("enumset");
+        if is_enumset {
+            cursor.advance_past_blanks();
         }
-        self.advance_past_blanks()?;
-        if !self.token.is_mark(':') {
-            return self.skip_item();
+        let is_path = is_enumset && cursor.token.is_mark(':');
+        let path = *cursor;
+        cursor.skip_to(if is_path {
+            Stop::Mark(';', 0)
+        } else {
+            Stop::ItemEnd
+        });
+        let has_end = cursor.token.is_mark(';');
+        cursor.advance();
+        if is_path && has_end {
+            let names = cursor.passed_since(&path);
+            cursor.note(push_names(self.alloc, &mut self.imports, names));
+            cursor.note(self.pass_on_imports(begin, cursor.token.begin));
         }
-        let rest = self.rest;
-        self.skip_to(Stop::Mark(';', 0))?;
-        if self.token.is_end() {
-            return Ok(());
-        }
-        let passed = rest.len().saturating_sub(self.rest.len());
-        let tokens = rest.get(..passed).unwrap_or(&[]);
-        push_names(self.alloc, &mut self.source.imports, tokens)?;
-        self.advance()?;
-        self.source.pass_on(begin, self.token.begin)?;
-        if !self.source.has_imports {
-            self.source.has_imports = true;
-            self.source.items.push(Item::Imports)?;
-        }
-        Ok(())
     }
 }
 

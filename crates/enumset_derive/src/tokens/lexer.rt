@@ -5,24 +5,14 @@ use super::{Kind, Token, UNCLOSED_BRACKET, before};
 use enumset_derive_plan::Place;
 use std::alloc::{AllocError, Global};
 
-/// The tokens of a text, with its end.
+/// The tokens of a text: a space of no length at its beginning, those that it has, and its end.
 pub fn tokens_of(alloc: Global, text: &str) -> Result<Vec<Token<'_>>, AllocError> {
     let mut lexer = Lexer {
         tokens: Vec::new(alloc),
         open: Vec::new(alloc),
     };
-    let mut place = Place::BEGIN;
-    let mut end = 0;
-    for (begin, character) in text.char_indices() {
-        if begin >= end {
-            let onward = text.get(begin..).unwrap_or("");
-            let (kind, rest) = first_token(character, onward);
-            end = text.len().saturating_sub(rest.len());
-            lexer.push(kind, before(onward, rest), begin, place)?;
-        }
-        place = place.after(character);
-    }
-    lexer.push(Kind::End, "", text.len(), place)?;
+    lexer.push(Kind::Space, "", 0, Place::BEGIN)?;
+    lexer.read(text)?;
     Ok(lexer.tokens)
 }
 
@@ -35,6 +25,22 @@ struct Lexer<'a> {
 }
 
 impl<'a> Lexer<'a> {
+    /// Adds the tokens of a text, and its end.
+    fn read(&mut self, text: &'a str) -> Result<(), AllocError> {
+        let mut place = Place::BEGIN;
+        let mut end = 0;
+        for (begin, character) in text.char_indices() {
+            if begin >= end {
+                let onward = text.get(begin..).unwrap_or("");
+                let (kind, rest) = first_token(character, onward);
+                end = text.len().saturating_sub(rest.len());
+                self.push(kind, before(onward, rest), begin, place)?;
+            }
+            place = place.after(character);
+        }
+        self.push(Kind::End, "", text.len(), place)
+    }
+
     /// Adds a token, which may begin or end a bracket. It is a fault if it ends the text or another bracket in a bracket.
     fn push(
         &mut self,
@@ -43,19 +49,7 @@ impl<'a> Lexer<'a> {
         begin: usize,
         place: Place,
     ) -> Result<(), AllocError> {
-        let mut unclosed = None;
-        match kind {
-            Kind::Mark('(') => self.open.push((')', place))?,
-            Kind::Mark('[') => self.open.push((']', place))?,
-            Kind::Mark('{') => self.open.push(('}', place))?,
-            Kind::Mark(mark) if matches!(mark, ')' | ']' | '}') => match self.open.pop() {
-                Some(bracket) if bracket.0 != mark => unclosed = Some(bracket),
-                _ => {}
-            },
-            Kind::End => unclosed = self.open.first().copied(),
-            _ => {}
-        }
-        let (kind, place) = match unclosed {
+        let (kind, place) = match self.unclosed_by(kind, place)? {
             Some((_, place)) => (Kind::Fault(UNCLOSED_BRACKET), place),
             None => (kind, place),
         };
@@ -67,5 +61,28 @@ impl<'a> Lexer<'a> {
             depth: self.open.len(),
         })?;
         Ok(())
+    }
+
+    /// Takes in what a token is. Gives a bracket that the token leaves without its end.
+    fn unclosed_by(
+        &mut self,
+        kind: Kind,
+        place: Place,
+    ) -> Result<Option<(char, Place)>, AllocError> {
+        let end = match kind {
+            Kind::Mark('(') => ')',
+            Kind::Mark('[') => ']',
+            Kind::Mark('{') => '}',
+            Kind::Mark(mark) if matches!(mark, ')' | ']' | '}') => {
+                return Ok(match self.open.pop() {
+                    Some((end, _)) if end == mark => None,
+                    unclosed => unclosed,
+                });
+            }
+            Kind::End => return Ok(self.open.first().copied()),
+            _ => return Ok(None),
+        };
+        self.open.push((end, place))?;
+        Ok(None)
     }
 }

@@ -8,22 +8,22 @@ use super::operators::write_operators;
 use super::templates::*;
 use super::writer::Writer;
 use enumset_derive_plan::{EnumDeclaration, Number, Options, Plan, Serialized, Store};
-use std::alloc::AllocError;
 
 /// Writes what makes an enum an element type.
-pub(super) fn write_element_type(
-    writer: &mut Writer,
-    declaration: &EnumDeclaration,
-    plan: &Plan,
-) -> Result<(), AllocError> {
+pub(super) fn write_element_type(writer: &mut Writer, declaration: &EnumDeclaration, plan: &Plan) {
     let mut elements = Vec::new(writer.alloc);
     for (variant, named) in declaration.variants.iter().zip(plan.variants.iter()) {
-        elements.push((variant.name, u64::from(named.bit)))?;
+        let element = (variant.name, u64::from(named.bit));
+        writer.note(elements.push(element).is_ok());
     }
-    let options = &declaration.options;
     writer.define("NAME", declaration.name);
-    define_constants(writer, plan)?;
+    define_constants(writer, plan);
     define_bits(writer, &elements, declaration, plan);
+    write_impls(writer, &elements, &declaration.options, plan);
+}
+
+/// Writes the implementations.
+fn write_impls(writer: &mut Writer, elements: Elements, options: &Options, plan: &Plan) {
     writer.import("EnumSetType");
     writer.write(ELEMENT_TYPE);
     if is_narrow(plan) {
@@ -31,16 +31,15 @@ pub(super) fn write_element_type(
         writer.write(WITH_REPR);
     }
     if are_named(options) {
-        write_names(writer, &elements);
+        write_names(writer, elements);
     }
     if options.has_display {
-        write_display(writer, &elements);
+        write_display(writer, elements);
     }
     if !options.leaves_out_operators {
         write_operators(writer);
     }
     write_json(writer, options, plan);
-    Ok(())
 }
 
 /// Whether sets are written in JSON by the names of their elements.

@@ -38,30 +38,20 @@ pub(super) fn write_enum(writer: &mut Writer, declaration: &EnumDeclaration) {
 
 /// Writes the derives, on a line or on a line each: those that an element type needs, and those of the source.
 fn write_derives(writer: &mut Writer, declaration: &EnumDeclaration) {
-    writer.define_all(&[("DERIVES", ""), ("LINES", ""), ("COMMA", "")]);
-    if !declaration.options.leaves_out_supertraits {
-        for name in ["Clone", "Copy", "PartialEq", "Eq"] {
-            define_derive(writer, name);
-        }
-    }
+    let needed = match declaration.options.leaves_out_supertraits {
+        true => "",
+        false => "Clone,\nCopy,\nPartialEq,\nEq,\n",
+    };
+    writer.define("WORDS", needed);
     for path in &declaration.derives {
-        define_derive(writer, path.as_str());
+        writer.define_all(&[("PATH", path.as_str()), ("WORDS", "@WORDS@@PATH@,\n")]);
     }
-    writer.write(match writer.part("DERIVES").len() {
+    writer.set_line_and_lines("\n    ", 0);
+    writer.write(match writer.part("LINE").len() {
         0 => "",
-        1..90 => "#[derive(@DERIVES@)]\n",
-        _ => "#[derive(\n@LINES@)]\n",
+        1..90 => "#[derive(@LINE@)]\n",
+        _ => "#[derive(\n    @LINES@\n)]\n",
     });
-}
-
-/// Adds a path to the derives.
-fn define_derive(writer: &mut Writer, path: &str) {
-    writer.define_all(&[
-        ("PATH", path),
-        ("DERIVES", "@DERIVES@@COMMA@@PATH@"),
-        ("LINES", "@LINES@    @PATH@,\n"),
-        ("COMMA", ", "),
-    ]);
 }
 
 /// Writes the visibility and the name, and the bracket after it.

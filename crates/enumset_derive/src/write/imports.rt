@@ -1,41 +1,48 @@
 //! What a module imports.
 
-use super::layout::wrapped;
 use super::writer::Writer;
 use crate::tokens::is_space;
-use std::alloc::AllocError;
+use std::collections::BTreeSet;
+use std::mem;
 
 /// Defines the imports of a module, in order, each once. Paths and renamed names have lines of their own.
-pub(super) fn define_imports(writer: &mut Writer, facade: &str) -> Result<(), AllocError> {
-    let alloc = writer.alloc;
-    let mut uses = Vec::new(alloc);
-    let mut plain = Vec::new(alloc);
-    for name in &writer.imports {
-        if !name.contains(':') && !name.contains(is_space) {
-            plain.push(name.as_str())?;
-        } else if facade == "enumset_sets" && name.as_str() == "internal::ArrayRepr" {
-            uses.push(String::from_str(alloc, "use enumset_array::ArrayRepr;")?)?;
+pub(super) fn define_imports(writer: &mut Writer, facade: &str) {
+    let imports = mem::replace(&mut writer.imports, BTreeSet::new(writer.alloc));
+    writer.define_all(&[("WORDS", ""), ("PATHS", ""), ("GAP", "")]);
+    for name in &imports {
+        if name.contains(':') || name.contains(is_space) {
+            define_path(writer, facade, name.as_str());
         } else {
-            uses.push(format!(in alloc; "use {facade}::{name};")?)?;
+            writer.set("WORD", name.clone());
+            writer.define("WORDS", "@WORDS@@WORD@,\n");
         }
     }
-    let is_alone = plain.len() == 1;
-    let mut words = plain.join(alloc, ",\n")?;
-    words.push(',')?;
-    let line = plain.join(alloc, ", ");
-    drop(plain);
-    writer.set("LINE", line);
-    writer.set("LINES", wrapped(alloc, "\n    ", [96, 96], words.as_str()));
+    let is_alone = writer.part("WORDS").lines().count() == 1;
     define_use(writer, is_alone);
     let is_first = is_alone && facade != "enumset_sets";
-    let place = if is_first { 0 } else { uses.len() };
-    uses.insert(place, String::from_str(alloc, writer.part("USE"))?)?;
-    writer.set("IMPORTS", uses.join(alloc, "\n"));
-    Ok(())
+    let order = if is_first {
+        "@USE@@GAP@@PATHS@"
+    } else {
+        "@PATHS@@GAP@@USE@"
+    };
+    writer.define("IMPORTS", order);
+}
+
+/// Adds the line of a path or a renamed name.
+fn define_path(writer: &mut Writer, facade: &str, name: &str) {
+    let path = if facade == "enumset_sets" && name == "internal::ArrayRepr" {
+        String::from_str(writer.alloc, "enumset_array::ArrayRepr")
+    } else {
+        format!(in writer.alloc; "{facade}::{name}")
+    };
+    writer.set("PATH", path);
+    writer.define("PATHS", "@PATHS@@GAP@use @PATH@;");
+    writer.define("GAP", "\n");
 }
 
 /// Defines the import of the plain names.
 fn define_use(writer: &mut Writer, is_alone: bool) {
+    writer.set_line_and_lines("\n    ", 96);
     writer.define("WHOLE", "use @FACADE@::{@LINE@};");
     let text = if writer.part("LINE").contains('*') {
         "use @FACADE@::*;"

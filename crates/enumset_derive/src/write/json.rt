@@ -104,22 +104,26 @@ pub(super) fn write_json(writer: &mut Writer, options: &Options, plan: &Plan) {
     writer.import("EnumSet");
     writer.import("set_json");
     let (form, size) = form_of(serialized, plan);
+    writer.set("JSON_SIZE", size.to_string(writer.alloc));
+    define_form(writer, form);
     let (unknown, unknown_doc) = match (options.denies_unknown, are_named(options)) {
         (true, true) => ("Refuse", "A name that no variant has is a fault."),
         (true, false) => ("Refuse", "A bit that no variant has is a fault."),
         (false, true) => ("Drop", "Names that no variant has are left out."),
         (false, false) => ("Drop", "Bits that no variant has are left out."),
     };
-    writer.set("JSON_SIZE", size.to_string(writer.alloc));
+    writer.define_all(&[("UNKNOWN", unknown), ("UNKNOWN_DOC", unknown_doc)]);
+    writer.write(JSON);
+}
+
+/// Defines what a form says.
+fn define_form(writer: &mut Writer, form: &Form) {
     writer.define_all(&[
         ("FORM", form.name),
-        ("UNKNOWN", unknown),
-        ("UNKNOWN_DOC", unknown_doc),
         ("JSON_USES", form.uses),
         ("JSON_DOC", form.doc),
         ("JSON_PROMISE", form.promise),
         ("JSON_READ_BY", form.read_by),
         ("JSON_ARGUMENT", form.argument),
     ]);
-    writer.write(JSON);
 }

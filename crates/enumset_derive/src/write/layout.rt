@@ -18,6 +18,16 @@ impl Writer {
         let list = wrapped(self.alloc, LIST_START, [room, 92], self.part("WORDS"));
         self.set(name, list);
     }
+
+    /// Adds the words as a line without the comma at its end, and as lines with this room, each by the text `start`.
+    pub fn set_line_and_lines(&mut self, start: &str, room: usize) {
+        let words = self.part("WORDS");
+        let on_a_line = words.strip_suffix(",\n").unwrap_or("");
+        let line = wrapped(self.alloc, "", [usize::MAX, 0], on_a_line);
+        let lines = wrapped(self.alloc, start, [room, room], words);
+        self.set("LINE", line);
+        self.set("LINES", lines);
+    }
 }
 
 /// The lines of a text as words with spaces between them. Where the next word would pass the last column, a new line

@@ -29,13 +29,18 @@ impl Writer {
         }
     }
 
+    /// Notes whether there was memory.
+    pub fn note(&mut self, had_memory: bool) {
+        self.has_failed = self.has_failed || !had_memory;
+    }
+
     /// Adds a part, in the place of an earlier one of its name.
     pub fn set(&mut self, name: &'static str, text: Text) {
         let is_set = match text {
             Ok(text) => self.parts.insert(name, text).is_ok(),
             Err(_) => false,
         };
-        self.has_failed = self.has_failed || !is_set;
+        self.note(is_set);
     }
 
     /// Adds a part: what a template becomes.
@@ -81,7 +86,7 @@ impl Writer {
     /// Writes a text as it is.
     pub fn push(&mut self, text: &str) {
         let is_written = self.text.push_str(text).is_ok();
-        self.has_failed = self.has_failed || !is_written;
+        self.note(is_written);
     }
 
     /// Writes texts as they are, each with what comes before it and after it.
@@ -99,7 +104,7 @@ impl Writer {
             Ok(name) => self.imports.insert(name).is_ok(),
             Err(_) => false,
         };
-        self.has_failed = self.has_failed || !is_added;
+        self.note(is_added);
     }
 
     /// Makes a part of the text that was written so far.
