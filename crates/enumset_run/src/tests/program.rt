@@ -30,7 +30,7 @@ fn answered(
 // A read or a write is tried until it answers, here more often than an input may have bytes.
 #[test]
 fn an_interrupted_call_is_tried_again(rt: HostRuntime) -> Result<(), Fail> {
-    for (most, interruptions) in [(usize::MAX, 0), (1, 0), (1, 1), (2, 10), (1, 180_000)] {
+    for (most, interruptions) in [(usize::MAX, 0), (1, 0), (1, 1), (2, 10), (1, 220_000)] {
         let (written, ended) = answered(rt.alloc(), Pace::new(most, interruptions), usize::MAX)?;
         assert_eq!(rt; str::from_utf8(&written), Ok("ok\n7\n"));
         ended?;
