@@ -6,21 +6,22 @@ use std::alloc::{AllocError, Global};
 use std::process::Abort;
 use std::test::Fail;
 
-// Takes no step, and then a hundred steps from the front, over words that have all bits. A step asks a word for its next
-// bit, and the next word if there is none.
-fn walk_over<const N: usize>(rt: &impl Abort, alloc: Global, shown: u64) -> Result<(), AllocError> {
-    let mut row = ShownRow::new(ArrayRepr([u64::MAX; N]));
+// Takes no step, and then a hundred steps from the front, over a row of words that have all bits. A step asks a word for
+// its next bit, and the next word if there is none.
+fn walk_over<const N: usize>(
+    rt: &impl Abort,
+    alloc: Global,
+    mut row: ShownRow<N>,
+    shown: u64,
+) -> Result<(), AllocError> {
     let answers = walk(alloc, &mut row, &[])?;
     expect(rt, "no step", "walk", answers.len(), 0);
     let answers = walk(alloc, &mut row, &[End::Front; 100])?;
     for bit in 0..100 {
-        let wanted = if (bit as usize) < N.saturating_mul(64) {
-            Some(bit)
-        } else {
-            None
-        };
+        let is_there = (bit as usize) < N.saturating_mul(64);
         let answer = answers.as_slice().get(bit as usize).copied();
-        expect(rt, "a hundred steps", "walk", answer, Some(wanted));
+        let wanted = Some(is_there.then_some(bit));
+        expect(rt, "a hundred steps", "walk", answer, wanted);
     }
     expect(rt, "a hundred steps", "shown", row.shown(), shown);
     Ok(())
@@ -28,10 +29,11 @@ fn walk_over<const N: usize>(rt: &impl Abort, alloc: Global, shown: u64) -> Resu
 
 #[test]
 fn rows_have_walks(rt: HostRuntime) -> Result<(), Fail> {
-    walk_over::<0>(&rt, rt.alloc(), 0)?;
-    walk_over::<1>(&rt, rt.alloc(), 65)?;
-    walk_over::<16>(&rt, rt.alloc(), 101)?;
-    walk_over::<17>(&rt, rt.alloc(), 101)?;
-    walk_over::<64>(&rt, rt.alloc(), 101)?;
+    let alloc = rt.alloc();
+    walk_over(&rt, alloc, ShownRow::new(ArrayRepr([u64::MAX; 0])), 0)?;
+    walk_over(&rt, alloc, ShownRow::new(ArrayRepr([u64::MAX; 1])), 65)?;
+    walk_over(&rt, alloc, ShownRow::new(ArrayRepr([u64::MAX; 16])), 101)?;
+    walk_over(&rt, alloc, ShownRow::new(ArrayRepr([u64::MAX; 17])), 101)?;
+    walk_over(&rt, alloc, ShownRow::new(ArrayRepr([u64::MAX; 64])), 101)?;
     Ok(())
 }
