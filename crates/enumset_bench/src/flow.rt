@@ -1,0 +1,171 @@
+//! The flow of facts through a graph, to its fixed point.
+
+use crate::digest::Digest;
+use crate::random::Random;
+use crate::symbols::{Far, Symbol};
+use enumset::{EnumSet, EnumSetType};
+use std::alloc::{AllocError, Global};
+
+/// How many nodes a graph has whose facts are four words, or 1024 words.
+const NODES: usize = 600;
+
+const FAR_NODES: usize = 24;
+
+/// More passes than a graph needs.
+const PASSES: usize = 1000;
+
+/// A node: the facts that it makes and ends, and from where facts come.
+struct Node<T: EnumSetType> {
+    made: EnumSet<T>,
+    ended: EnumSet<T>,
+    known: EnumSet<T>,
+    sources: [usize; 3],
+}
+
+impl<T: EnumSetType> Drop for Node<T> {
+    fn drop(self) {
+        let Node {
+            made: _,
+            ended: _,
+            known: _,
+            sources: _,
+        } = self;
+    }
+}
+
+/// The digest of the facts of all graphs.
+pub fn digest(alloc: Global, seed: u32, rounds: u32) -> Result<u64, AllocError> {
+    let mut random = Random::new(seed);
+    let mut digest = Digest::new();
+    let values: Vec<Far> = EnumSet::<Far>::all().iter().collect(alloc)?;
+    for _ in 0..rounds {
+        let mut nodes = random_nodes(alloc, &mut random)?;
+        settle(&mut nodes, &mut digest);
+        for (at, node) in nodes.iter().enumerate() {
+            add_members(&node.known, at % 2 == 0, &mut digest);
+        }
+        let mut far = random_far_nodes(alloc, &mut random, &values)?;
+        settle(&mut far, &mut digest);
+        for (at, node) in far.iter().enumerate() {
+            add_members(&node.known, at % 2 == 0, &mut digest);
+        }
+    }
+    Ok(digest.value())
+}
+
+/// Lets the facts flow until nothing changes.
+fn settle<T: EnumSetType>(nodes: &mut Vec<Node<T>>, digest: &mut Digest) {
+    for _ in 0..PASSES {
+        let mut has_changed = false;
+        for at in 0..nodes.len() {
+            let known = facts_at(nodes, at);
+            if let Some(node) = nodes.get_mut(at) {
+                if node.known != known {
+                    has_changed = true;
+                    node.known = known;
+                }
+            }
+        }
+        digest.add(u64::from(has_changed));
+        if !has_changed {
+            return;
+        }
+    }
+}
+
+/// The facts that are known at a node by what is known at its sources.
+fn facts_at<T: EnumSetType>(nodes: &[Node<T>], at: usize) -> EnumSet<T> {
+    let mut facts = EnumSet::new();
+    let Some(node) = nodes.get(at) else {
+        return facts;
+    };
+    for source in &node.sources {
+        if let Some(source) = nodes.get(*source) {
+            if !source.known.is_subset(facts.copied()) {
+                facts.insert_all(source.known.copied());
+            }
+        }
+    }
+    facts.remove_all(node.ended.copied());
+    facts.insert_all(node.made.copied());
+    facts
+}
+
+/// Mixes in the members of a set: from both ends, or from the front.
+fn add_members<T: EnumSetType>(set: &EnumSet<T>, is_from_both: bool, digest: &mut Digest) {
+    if !is_from_both {
+        for member in set.iter() {
+            digest.add(u64::from(member.enum_into_u32()));
+        }
+        return;
+    }
+    let mut members = set.iter();
+    for _ in 0..set.len() {
+        if let Some(first) = members.next() {
+            digest.add(u64::from(first.enum_into_u32()));
+        }
+        if let Some(last) = members.next_back() {
+            digest.add(u64::from(last.enum_into_u32()));
+        }
+    }
+}
+
+fn random_nodes(alloc: Global, random: &mut Random) -> Result<Vec<Node<Symbol>>, AllocError> {
+    let mut nodes = Vec::new(alloc);
+    for at in 0..NODES {
+        let words = [few(random), few(random), few(random), few(random)];
+        let ended = [random.number(), few(random), random.number(), few(random)];
+        nodes.push(Node {
+            made: EnumSet::from_array_truncated(words),
+            ended: EnumSet::from_array_truncated(ended),
+            known: EnumSet::new(),
+            sources: random_sources(random, at, NODES),
+        })?;
+    }
+    Ok(nodes)
+}
+
+fn random_far_nodes(
+    alloc: Global,
+    random: &mut Random,
+    values: &[Far],
+) -> Result<Vec<Node<Far>>, AllocError> {
+    let mut nodes = Vec::new(alloc);
+    for at in 0..FAR_NODES {
+        nodes.push(Node {
+            made: far_set(values, random.number() & random.number()),
+            ended: far_set(values, random.number() & random.number() & random.number()),
+            known: EnumSet::new(),
+            sources: random_sources(random, at, FAR_NODES),
+        })?;
+    }
+    Ok(nodes)
+}
+
+/// The node seven places on, so that facts go far, and two others.
+fn random_sources(random: &mut Random, at: usize, count: usize) -> [usize; 3] {
+    let nodes = count.max(1);
+    [
+        (at.saturating_add(7)) % nodes,
+        random.number() as usize % nodes,
+        random.number() as usize % nodes,
+    ]
+}
+
+/// Few bits.
+fn few(random: &mut Random) -> u64 {
+    random.number() & random.number() & random.number() & random.number() & random.number()
+}
+
+/// The set of those values whose places are bits of a number.
+fn far_set(values: &[Far], number: u64) -> EnumSet<Far> {
+    let mut set = EnumSet::new();
+    let mut bits = number;
+    for value in values {
+        if bits % 2 == 1 {
+            set.insert(*value);
+        }
+        bits /= 2;
+    }
+    set
+}
