@@ -3,3 +3,4 @@ pub mod Lines
 pub mod Tokens
 pub mod Fields
 pub mod WordTokens
+pub mod Mixed

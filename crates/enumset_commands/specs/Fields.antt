@@ -3,7 +3,9 @@
 --     one, two, three      the numbers of exactly one field, two or three, if each of them is read so
 --     words_of      the numbers of words that tokens write, if each of them is one
 --     register_and_words      the numbers of a register and of any number of words
-use Rattle.std.specs.Prelude.{ℕ, ◌^◌, ◌==◌, not, ◌&&◌, nat_lt, List, [], ◌∷◌, length, Option, Some, None, option_map, option_and_then, if◌then◌else◌}
+--     BeginsWithNone      there is no token, or the first one is not read as a number
+--     Takes      the number, if there is one, is what the first token is read as, and the others are left
+use Rattle.std.specs.Prelude.{◌≡◌, ⊤, ℕ, ◌^◌, ◌==◌, not, ◌&&◌, nat_lt, List, [], ◌∷◌, length, Option, Some, None, option_map, option_and_then, if◌then◌else◌}
 use Rattle.std.specs.Str.{all_ascii_digits}
 use Rattle.std.specs.Str.Parse.{digits_value}
 
@@ -53,3 +55,11 @@ words_of (token ∷ tokens) = option_and_then (λ w. option_map (λ ws. w ∷ ws
 abbrev pub register_and_words : List (List ℕ) → Option (ℕ × List ℕ)
 register_and_words [] = None
 register_and_words (x ∷ tokens) = option_and_then (λ r. option_map (λ ws. (r, ws)) (words_of tokens)) (register x)
+
+abbrev pub BeginsWithNone : (List ℕ → Option ℕ) → List (List ℕ) → Type 0
+BeginsWithNone read [] = ⊤
+BeginsWithNone read (token ∷ tokens) = read token ≡ None
+
+abbrev pub Takes : (List ℕ → Option ℕ) → List (List ℕ) → Option ℕ → List (List ℕ) → Type 0
+Takes read old None new = BeginsWithNone read old
+Takes read old (Some n) new = (token : List ℕ) × (old ≡ token ∷ new) × (read token ≡ Some n)

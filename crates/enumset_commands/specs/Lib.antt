@@ -1,4 +1,5 @@
 pub mod Fields
+pub mod Operands
 pub mod Verbs
 pub mod Lines
 pub mod Texts

@@ -1,11 +1,12 @@
 //! The command of a name over its operands.
-ghost use Rattle.std.specs.Prelude.{◌≡◌};
+ghost use Rattle.std.specs.Prelude.{◌≡◌, ◌∷◌};
 ghost use Rattle.std.specs.Str.{bytes_eq};
 ghost use Rattle.enumset_commands.specs.Lines.{command_of, without_words};
+ghost use Rattle.enumset_commands.specs.Texts.{IsReadAs};
 ghost use Rattle.enumset_commands.specs.Verbs.{assignments, queries, changes, written};
 
 use super::line_command::LineCommand;
-use super::operands::{one, three, two, with_bit, with_value, with_words};
+use super::operands::{Operands, one, three, two, with_bit, with_value, with_words};
 use super::tokens::Tokens;
 use crate::command::Command;
 use std::alloc::{AllocError, Global};
@@ -29,35 +30,50 @@ impl LineCommand for Command {
     ghost command_of = { command_of };
 
     fn read(alloc: Global, name: &[u8], fields: Tokens) -> Option<Result<Command, AllocError>> {
-        if let Some(command) = without_words(name, fields.same()) {
-            return Some(Ok(command));
-        }
-        let cuts = is(name, "from_words_cut");
-        if !cuts && !is(name, "from_words") {
-            return None;
-        }
-        match with_words(alloc, fields)? {
-            Ok((r, words)) if cuts => Some(Ok(Command::FromWordsCut { r, words })),
-            Ok((r, words)) => Some(Ok(Command::FromWords { r, words })),
-            Err(error) => Some(Err(error)),
-        }
+        command_named(alloc, name, &Operands::new(fields))
     }
 }
 
-/// The command of a name that takes no words.
-fn without_words(name: &[u8], fields: Tokens) -> Option<Command>
-    ensures { result ≡ without_words name.now fields.entry }
+/// The command of a name, over operands.
+pub(super) fn command_named(
+    alloc: Global,
+    name: &[u8],
+    operands: &Operands,
+) -> Option<Result<Command, AllocError>>
+    ensures { IsReadAs (command_of (name.now ∷ operands.now)) result }
 {
-    assignment(name, fields.same())
-        .or(query(name, fields.same()))
-        .or(change(name, fields))
+    if let Some(command) = without_words(name, operands) {
+        return Some(Ok(command));
+    }
+    let cuts = is(name, "from_words_cut");
+    if !cuts && !is(name, "from_words") {
+        return None;
+    }
+    match with_words(alloc, operands.fields())? {
+        Ok((r, words)) if cuts => Some(Ok(Command::FromWordsCut { r, words })),
+        Ok((r, words)) => Some(Ok(Command::FromWords { r, words })),
+        Err(error) => Some(Err(error)),
+    }
+}
+
+/// The command of a name that takes no words. A table is not searched once an earlier one has the command.
+fn without_words(name: &[u8], operands: &Operands) -> Option<Command>
+    ensures { result ≡ without_words name.now operands.now }
+{
+    if let Some(command) = assignment(name, operands) {
+        return Some(command);
+    }
+    if let Some(command) = query(name, operands) {
+        return Some(command);
+    }
+    change(name, operands)
 }
 
 /// The command of a name whose reply is `ok`.
-fn assignment(name: &[u8], fields: Tokens) -> Option<Command>
-    ensures { result ≡ written assignments name.now fields.entry }
+fn assignment(name: &[u8], operands: &Operands) -> Option<Command>
+    ensures { result ≡ written assignments name.now operands.now }
 {
-    command_of_name! { name, fields => Command:
+    command_of_name! { name, operands => Command:
         "new" one New { r };
         "all" one All { r };
         "only" with_bit Only { r, bit };
@@ -75,10 +91,10 @@ fn assignment(name: &[u8], fields: Tokens) -> Option<Command>
 }
 
 /// The command of a name that changes nothing.
-fn query(name: &[u8], fields: Tokens) -> Option<Command>
-    ensures { result ≡ written queries name.now fields.entry }
+fn query(name: &[u8], operands: &Operands) -> Option<Command>
+    ensures { result ≡ written queries name.now operands.now }
 {
-    command_of_name! { name, fields => Command:
+    command_of_name! { name, operands => Command:
         "contains" with_bit Contains { r, bit };
         "len" one Len { r };
         "empty" one IsEmpty { r };
@@ -96,10 +112,10 @@ fn query(name: &[u8], fields: Tokens) -> Option<Command>
 }
 
 /// The command of a name that changes a register, or may, and tells something.
-fn change(name: &[u8], fields: Tokens) -> Option<Command>
-    ensures { result ≡ written changes name.now fields.entry }
+fn change(name: &[u8], operands: &Operands) -> Option<Command>
+    ensures { result ≡ written changes name.now operands.now }
 {
-    command_of_name! { name, fields => Command:
+    command_of_name! { name, operands => Command:
         "insert" with_bit Insert { r, bit };
         "remove" with_bit Remove { r, bit };
         "from_number" with_value FromNumber { r, width, value };

@@ -3,26 +3,27 @@ ghost use Rattle.std.specs.Prelude.{◌≡◌};
 ghost use Rattle.enumset_commands.specs.Lines.{mixed_command_of};
 ghost use Rattle.enumset_commands.specs.Verbs.{own_verbs, written};
 
-use super::commands::{command_of_name, is};
+use super::commands::{command_named, command_of_name, is};
 use super::line_command::LineCommand;
-use super::operands::{one, two, with_bit};
+use super::operands::{Operands, one, two, with_bit};
 use super::tokens::Tokens;
-use crate::command::Command;
 use crate::mixed_command::MixedCommand;
 use std::alloc::{AllocError, Global};
 
 impl LineCommand for MixedCommand {
     ghost command_of = { mixed_command_of };
 
+    #[tactic(auto, using(crate::proofs::Mixed::some_common))]
     fn read(
         alloc: Global,
         name: &[u8],
         fields: Tokens,
     ) -> Option<Result<MixedCommand, AllocError>> {
-        if let Some(command) = own_command(name, fields.same()) {
+        let operands = Operands::new(fields);
+        if let Some(command) = own_command(name, &operands) {
             return Some(Ok(command));
         }
-        match Command::read(alloc, name, fields)? {
+        match command_named(alloc, name, &operands)? {
             Ok(command) => Some(Ok(MixedCommand::Common(command))),
             Err(error) => Some(Err(error)),
         }
@@ -30,10 +31,10 @@ impl LineCommand for MixedCommand {
 }
 
 /// The command that mixed sets alone have of this name.
-fn own_command(name: &[u8], fields: Tokens) -> Option<MixedCommand>
-    ensures { result ≡ written own_verbs name.now fields.entry }
+fn own_command(name: &[u8], operands: &Operands) -> Option<MixedCommand>
+    ensures { result ≡ written own_verbs name.now operands.now }
 {
-    command_of_name! { name, fields => MixedCommand:
+    command_of_name! { name, operands => MixedCommand:
         "has_bit" with_bit HasBit { r, bit };
         "insert_bit" with_bit InsertBit { r, bit };
         "remove_bit" with_bit RemoveBit { r, bit };

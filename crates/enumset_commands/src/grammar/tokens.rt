@@ -1,6 +1,9 @@
 //! The tokens of a line.
-ghost use Rattle.std.specs.Prelude.{◌≡◌};
+ghost use Rattle.std.specs.Prelude.{◌≡◌, ◌==◌, ◌≤◌, length, drop, Some, IfSome};
+ghost use Rattle.enumset_commands.specs.Lines.{tokens_of};
+ghost use Rattle.enumset_commands.specs.Fields.{value, register, Takes};
 
+use super::fields::read_value;
 use super::parts::split_once;
 use std::marker::Model;
 
@@ -20,8 +23,6 @@ impl<'a> Model for Tokens<'a> {
 }
 
 impl<'a> Tokens<'a> {
-    ghost use Rattle.enumset_commands.specs.Lines.{tokens_of};
-
     /// The tokens of a line, which spaces separate.
     pub fn new(line: &'a [u8]) -> Tokens<'a>
         ensures { result ≡ tokens_of line.now }
@@ -35,6 +36,84 @@ impl<'a> Tokens<'a> {
     {
         Tokens { rest: self.rest }
     }
+
+    /// Whether there are no more tokens.
+    pub(super) fn is_empty(&mut self) -> bool
+        ensures same { self.new ≡ self.old }
+        ensures empty { result ≡ (length self.old == 0) }
+    {
+        let rest = without_spaces(self.rest);
+        self.rest = rest;
+        rest.is_empty()
+    }
+
+    /// Takes out the next token, and returns the number that it writes, or returns `None` if there is no token or it
+    /// writes none. `first_number` nearly always finds it. So it is compiled in place, and the other way is a call.
+    #[inline(always)]
+    pub(super) fn next_value(&mut self) -> Option<u128>
+        ensures { Takes value self.old result self.new }
+    {
+        if let Some((number, end)) = first_number(self.rest) {
+            self.rest = &self.rest[end..];
+            return Some(u128::from(number));
+        }
+        self.next_long_value()
+    }
+
+    /// The same, by the end of the token first, and then by arithmetic on 128 bits.
+    #[inline(never)]
+    fn next_long_value(&mut self) -> Option<u128>
+        ensures { Takes value self.old result self.new }
+    {
+        read_value(self.next()?)
+    }
+
+    /// The same of a number that is a `u8`.
+    pub(super) fn next_register(&mut self) -> Option<u8>
+        ensures { Takes register self.old result self.new }
+    {
+        u8::try_from(self.next_value()?).ok()
+    }
+}
+
+/// A text without the spaces at its beginning.
+#[inline(always)]
+#[tactic(auto, using(crate::proofs::Tokens::space_steps))]
+fn without_spaces(text: &[u8]) -> &[u8]
+    ensures tokens { tokens_of result.now ≡ tokens_of text.now }
+    ensures empty { (length (tokens_of text.now) == 0) ≡ (length result.now == 0) }
+{
+    let mut rest = text;
+    while let [b' ', later @ ..] = rest {
+        rest = later;
+    }
+    rest
+}
+
+/// The number that the first token of a text writes, and where the text goes on after it, if the token stands at the
+/// very beginning and writes a `u64`. Nearly all fields do. Each byte is looked at once.
+#[inline(always)]
+#[tactic(auto, using(crate::proofs::Tokens::number_steps))]
+fn first_number(text: &[u8]) -> Option<(u64, usize)>
+    ensures number { IfSome result (λ found.
+        Takes value (tokens_of text.now) (Some found.0) (tokens_of (drop found.1 text.now))) }
+    ensures within { IfSome result (λ found. found.1 ≤ length text.now) }
+{
+    let mut number = 0u64;
+    for place in 0..text.len() {
+        let byte = text[place];
+        if byte == b' ' && place > 0 {
+            return Some((number, place + 1));
+        }
+        if !byte.is_ascii_digit() {
+            return None;
+        }
+        number = number.checked_mul(10)?.checked_add(u64::from(byte - b'0'))?;
+    }
+    if text.is_empty() {
+        return None;
+    }
+    Some((number, text.len()))
 }
 
 impl<'a> Iterator for Tokens<'a> {
@@ -48,6 +127,7 @@ impl<'a> Iterator for Tokens<'a> {
 
     #[tactic(auto, using(crate::proofs::Tokens::token_steps))]
     fn next(&mut self) -> Option<&'a [u8]> {
+        self.rest = without_spaces(self.rest);
         while let Some((token, rest)) = split_once(self.rest, b' ') {
             self.rest = rest;
             if !token.is_empty() {
