@@ -9,6 +9,8 @@ mod lists;
 mod maps;
 mod mixed;
 mod mixed_texts;
+mod name_index;
+mod name_reader;
 mod numbers;
 mod texts;
 mod unknown;
