@@ -1,6 +1,5 @@
 mod AskedSteps
 mod NameLists
-mod NamePlaces
 mod NameLaws
 mod NamesTaken
 mod NamesRead

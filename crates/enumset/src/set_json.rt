@@ -9,8 +9,6 @@ mod lists;
 mod maps;
 mod mixed;
 mod mixed_texts;
-mod name_index;
-mod name_reader;
 mod numbers;
 mod texts;
 mod unknown;

@@ -9,7 +9,6 @@ ghost use Rattle.enumset.specs.declared.set_json.fault.JsonFault.TheVariants.{Ou
 
 use super::fault::JsonFault;
 use super::known::decided;
-use super::name_reader::NameReader;
 use super::unknown::Unknown;
 use crate::names::EnumSetNames;
 use enumset_sets::EnumSet;
@@ -50,12 +49,11 @@ fn set_of_values<T: EnumSetNames>(
     ensures { result ≡ set_of_values (names_of T.elements T.names) unknown
         (values_of (items_view items.now)) }
 {
-    let mut reader = NameReader::new::<T>(items.len());
     let mut set = EnumSet::new();
     let mut first_unknown = None;
     for (place, item) in items.iter().enumerate() {
         let text = item.as_str().ok_or(JsonFault::NotAText(place))?;
-        match reader.value_named::<T>(text) {
+        match T::of_name(text) {
             Some(element) => {
                 set.insert(element);
             }

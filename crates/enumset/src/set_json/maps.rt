@@ -8,7 +8,6 @@ ghost use Rattle.enumset.specs.declared.set_json.fault.JsonFault.TheVariants.{Ou
 
 use super::fault::JsonFault;
 use super::known::decided;
-use super::name_reader::NameReader;
 use super::unknown::Unknown;
 use crate::names::EnumSetNames;
 use enumset_sets::EnumSet;
@@ -49,12 +48,11 @@ fn set_of_members<T: EnumSetNames>(
     ensures { result ≡ set_of_members (names_of T.elements T.names) unknown
         (members_in (members_view members.now.entries)) }
 {
-    let mut reader = NameReader::new::<T>(members.len());
     let mut set = EnumSet::new();
     let mut first_unknown = None;
     for (place, (name, value)) in members.iter().enumerate() {
         let is_member = value.as_bool().ok_or(JsonFault::NotABoolean(place))?;
-        match reader.value_named::<T>(name.as_str()) {
+        match T::of_name(name.as_str()) {
             Some(element) => {
                 if is_member {
                     set.insert(element);

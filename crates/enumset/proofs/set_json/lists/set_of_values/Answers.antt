@@ -35,7 +35,7 @@ loop-place-preserved g c =
     → list_on names c.args.unknown (c.loop-place.place + 1) set first rest ≡ list_on names c.args.unknown 0 empty None (map view c.args.items.now) =
     λ bit first set added unknown named. (λ j. list_on names c.args.unknown (c.loop-place.place + 1) (added j) (unknown j) rest)
     ∙ sym (read_next _ _ _ _ _ _ c.loop-place.place c.loop-place.set c.loop-place.first_unknown _ rest _ here bit true (ap is_none text) refl (ap (λ o. bit_named names (unwrap_or o [])) text ∙ sym named)) ∙ c.loop-place.invariant in
-    elim c.match-value_named.branch [
+    elim c.match-of_name.branch [
       | in-Some w ↦ next (Some (g.T.EnumSetType.elements.bit w.in-Some.element)) _ _ (w.set-is ∙ w.insert.ensures.inserted) (w.first_unknown-is ∙ or_none c.loop-place.first_unknown) w.in-Some.ensures
       | in-None w ↦ next None _ _ w.set-is (w.first_unknown-is ∙ w.or-first_unknown.ensures) w.in-None.ensures
     ]

@@ -8,7 +8,7 @@ use Rattle.enumset.specs.Names.{names_of, bit_named}
 use Rattle.enumset.specs.JsonNames.{members_in, set_of_members}
 use Rattle.enumset.specs.declared.set_json.fault.JsonFault.TheVariants.{NotABoolean}
 use Rattle.enumset.proofs.NamesRead.{with_named, or_none, seen, map_on, map_read, read_fault, read_next, read_end}
-use Rattle.enumset.proofs.set_json.maps.set_of_members.Goals.{in-Some-value_named+then-is_member, in-Some-value_named+else-is_member, in-None-value_named}
+use Rattle.enumset.proofs.set_json.maps.set_of_members.Goals.{in-Some-of_name+then-is_member, in-Some-of_name+else-is_member, in-None-of_name}
 use Rattle.enumset.proofs.set_json.maps.set_of_members.Goals as goal
 
 pub loop-place-init : goal.loop-place-init
@@ -37,12 +37,12 @@ loop-place-preserved g c =
     let name = ap (bit_named names) c.as_str.ensures.value in
     let known = or_none c.loop-place.first_unknown in (
       omega (arith, c.loop-place.invariant.0, ap length c.in-Some.ensures.steps),
-      elim c.match-value_named.branch [
-        | in-Some-value_named+then-is_member w ↦
-            next (Some (g.T.EnumSetType.elements.bit w.in-Some-value_named.element)) _ _ (w.set-is ∙ w.insert.ensures.inserted ∙ sym (cond-true _ _ _ w.if-is_member.true)) (w.first_unknown-is ∙ known) (w.in-Some-value_named.ensures ∙ name)
-        | in-Some-value_named+else-is_member w ↦
-            next (Some (g.T.EnumSetType.elements.bit w.in-Some-value_named.element)) _ _ (w.set-is ∙ sym (cond-false _ _ _ w.if-is_member.false)) (w.first_unknown-is ∙ known) (w.in-Some-value_named.ensures ∙ name)
-        | in-None-value_named w ↦ next None _ _ (w.set-is ∙ cond_both c.in_ok-is_member.is_member _ _ (λ s. c.loop-place.set ≡ s) (λ _. refl) (λ _. refl)) (w.first_unknown-is ∙ w.or-first_unknown.ensures) (w.in-None-value_named.ensures ∙ name)
+      elim c.match-of_name.branch [
+        | in-Some-of_name+then-is_member w ↦
+            next (Some (g.T.EnumSetType.elements.bit w.in-Some-of_name.element)) _ _ (w.set-is ∙ w.insert.ensures.inserted ∙ sym (cond-true _ _ _ w.if-is_member.true)) (w.first_unknown-is ∙ known) (w.in-Some-of_name.ensures ∙ name)
+        | in-Some-of_name+else-is_member w ↦
+            next (Some (g.T.EnumSetType.elements.bit w.in-Some-of_name.element)) _ _ (w.set-is ∙ sym (cond-false _ _ _ w.if-is_member.false)) (w.first_unknown-is ∙ known) (w.in-Some-of_name.ensures ∙ name)
+        | in-None-of_name w ↦ next None _ _ (w.set-is ∙ cond_both c.in_ok-is_member.is_member _ _ (λ s. c.loop-place.set ≡ s) (λ _. refl) (λ _. refl)) (w.first_unknown-is ∙ w.or-first_unknown.ensures) (w.in-None-of_name.ensures ∙ name)
       ],
     )
 
