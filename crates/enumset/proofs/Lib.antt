@@ -1,5 +1,6 @@
 mod AskedSteps
 mod NameLists
+mod NamePlaces
 mod NameLaws
 mod NamesTaken
 mod NamesRead

@@ -1,6 +1,8 @@
 //! The names of an element type's values.
 
-ghost use Rattle.std.specs.Prelude.{◌≡◌, ℕ, List, map, option_map};
+ghost use Rattle.std.specs.Prelude.{◌≡◌, ◌-◌, ℕ, List, length, map, option_map};
+ghost use Rattle.std.specs.List.{slice_index_or};
+ghost use Rattle.std.specs.Str.{bytes_eq};
 ghost use Rattle.enumset.specs.Names.{names_of, name_of, bit_named, IsNaming};
 
 use enumset_sets::EnumSetType;
@@ -22,7 +24,14 @@ pub trait EnumSetNames: EnumSetType + 'static {
         ensures { result.now ≡ name_of (names_of Self.elements names) (Self.elements.bit self) }
     {
         let bit = self.enum_into_u32();
-        for (value, name) in Self::names() {
+        let names = Self::names();
+        // In most types the bit is the place in the list.
+        if let Some((value, name)) = names.get(bit as usize)
+            && value.enum_into_u32() == bit
+        {
+            return name;
+        }
+        for (value, name) in names {
             if value.enum_into_u32() == bit {
                 return name;
             }
@@ -36,7 +45,7 @@ pub trait EnumSetNames: EnumSetType + 'static {
             ≡ bit_named (names_of Self.elements names) text.now }
     {
         for (value, name) in Self::names() {
-            if *name == text {
+            if is_same(name, text) {
                 return Some(*value);
             }
         }
@@ -44,4 +53,19 @@ pub trait EnumSetNames: EnumSetType + 'static {
     }
 
     ghost named: { IsNaming Self.elements.bit_list names };
+}
+
+// Whether a name is this text. The last bytes are compared first, since names often begin alike.
+#[inline(always)]
+fn is_same(name: &str, text: &str) -> bool
+    ensures { result ≡ bytes_eq name.now text.now }
+{
+    name.len() == text.len() && last_byte(name) == last_byte(text) && name == text
+}
+
+// The last byte, or 0 if there is none.
+fn last_byte(text: &str) -> u8
+    ensures { result ≡ slice_index_or text.now (length text.now - 1) 0 }
+{
+    text.as_bytes().last().copied().unwrap_or(0)
 }

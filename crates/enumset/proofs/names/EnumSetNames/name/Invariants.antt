@@ -5,5 +5,5 @@ use Rattle.enumset.proofs.names.EnumSetNames.name.Given as goal
 -- the name stands among those that are left
 abbrev pub invariant-loop-value : goal.invariant-loop-value
 invariant-loop-value g l =
-    name_of (map (λ n. (g.Self.EnumSetType.elements.bit n.0, n.1.now)) (drop l.value-index l.value-items)) l.bit
-    ≡ name_of (map (λ n. (g.Self.EnumSetType.elements.bit n.0, n.1.now)) l.value-items) l.bit
+    name_of (map (λ n. (g.Self.EnumSetType.elements.bit n.0, n.1.now)) (drop l.value-index l.names)) l.bit
+    ≡ name_of (map (λ n. (g.Self.EnumSetType.elements.bit n.0, n.1.now)) l.names) l.bit
