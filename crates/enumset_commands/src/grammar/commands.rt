@@ -6,7 +6,7 @@ ghost use Rattle.enumset_commands.specs.Texts.{IsReadAs};
 ghost use Rattle.enumset_commands.specs.Verbs.{assignments, queries, changes, written};
 
 use super::line_command::LineCommand;
-use super::operands::{Operands, one, three, two, with_bit, with_value, with_words};
+use super::operands::{OperandReader, Operands, with_words};
 use super::tokens::Tokens;
 use crate::command::Command;
 use std::alloc::{AllocError, Global};
@@ -16,7 +16,7 @@ macro_rules! command_of_name {
     ($name:ident, $fields:ident => $commands:ident: $($word:literal $operands:ident $command:ident { $($field:ident),+ };)+) => {
         match $name {
             $(_ if is($name, $word) => {
-                let ($($field),+) = $operands($fields)?;
+                let ($($field),+) = $fields.$operands()?;
                 Some($commands::$command { $($field),+ })
             })+
             _ => None,
@@ -30,17 +30,20 @@ impl LineCommand for Command {
     ghost command_of = { command_of };
 
     fn read(alloc: Global, name: &[u8], fields: Tokens) -> Option<Result<Command, AllocError>> {
-        command_named(alloc, name, &Operands::new(fields))
+        match Operands::of_short(&fields) {
+            Some(operands) => command_named(alloc, name, &operands),
+            None => command_named(alloc, name, &fields),
+        }
     }
 }
 
 /// The command of a name, over operands.
-pub(super) fn command_named(
+pub(super) fn command_named<R: OperandReader>(
     alloc: Global,
     name: &[u8],
-    operands: &Operands,
+    operands: &R,
 ) -> Option<Result<Command, AllocError>>
-    ensures { IsReadAs (command_of (name.now ∷ operands.now)) result }
+    ensures { IsReadAs (command_of (name.now ∷ R.fields operands.now)) result }
 {
     if let Some(command) = without_words(name, operands) {
         return Some(Ok(command));
@@ -49,7 +52,7 @@ pub(super) fn command_named(
     if !cuts && !is(name, "from_words") {
         return None;
     }
-    match with_words(alloc, operands.fields())? {
+    match with_words(alloc, operands.tokens())? {
         Ok((r, words)) if cuts => Some(Ok(Command::FromWordsCut { r, words })),
         Ok((r, words)) => Some(Ok(Command::FromWords { r, words })),
         Err(error) => Some(Err(error)),
@@ -57,8 +60,8 @@ pub(super) fn command_named(
 }
 
 /// The command of a name that takes no words. A table is not searched once an earlier one has the command.
-fn without_words(name: &[u8], operands: &Operands) -> Option<Command>
-    ensures { result ≡ without_words name.now operands.now }
+fn without_words<R: OperandReader>(name: &[u8], operands: &R) -> Option<Command>
+    ensures { result ≡ without_words name.now (R.fields operands.now) }
 {
     if let Some(command) = assignment(name, operands) {
         return Some(command);
@@ -70,8 +73,8 @@ fn without_words(name: &[u8], operands: &Operands) -> Option<Command>
 }
 
 /// The command of a name whose reply is `ok`.
-fn assignment(name: &[u8], operands: &Operands) -> Option<Command>
-    ensures { result ≡ written assignments name.now operands.now }
+fn assignment<R: OperandReader>(name: &[u8], operands: &R) -> Option<Command>
+    ensures { result ≡ written assignments name.now (R.fields operands.now) }
 {
     command_of_name! { name, operands => Command:
         "new" one New { r };
@@ -91,8 +94,8 @@ fn assignment(name: &[u8], operands: &Operands) -> Option<Command>
 }
 
 /// The command of a name that changes nothing.
-fn query(name: &[u8], operands: &Operands) -> Option<Command>
-    ensures { result ≡ written queries name.now operands.now }
+fn query<R: OperandReader>(name: &[u8], operands: &R) -> Option<Command>
+    ensures { result ≡ written queries name.now (R.fields operands.now) }
 {
     command_of_name! { name, operands => Command:
         "contains" with_bit Contains { r, bit };
@@ -112,8 +115,8 @@ fn query(name: &[u8], operands: &Operands) -> Option<Command>
 }
 
 /// The command of a name that changes a register, or may, and tells something.
-fn change(name: &[u8], operands: &Operands) -> Option<Command>
-    ensures { result ≡ written changes name.now operands.now }
+fn change<R: OperandReader>(name: &[u8], operands: &R) -> Option<Command>
+    ensures { result ≡ written changes name.now (R.fields operands.now) }
 {
     command_of_name! { name, operands => Command:
         "insert" with_bit Insert { r, bit };

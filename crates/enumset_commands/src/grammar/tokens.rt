@@ -1,7 +1,7 @@
 //! The tokens of a line.
 ghost use Rattle.std.specs.Prelude.{◌≡◌, ◌==◌, ◌≤◌, length, drop, Some, IfSome};
 ghost use Rattle.enumset_commands.specs.Lines.{tokens_of};
-ghost use Rattle.enumset_commands.specs.Fields.{value, register, Takes};
+ghost use Rattle.enumset_commands.specs.Fields.{value, register, bit, Takes};
 
 use super::fields::read_value;
 use super::parts::split_once;
@@ -37,7 +37,12 @@ impl<'a> Tokens<'a> {
         Tokens { rest: self.rest }
     }
 
-    /// Whether there are no more tokens.
+    /// Whether the tokens and the spaces around them are at most 64 bytes.
+    pub(super) fn are_short(&self) -> bool {
+        self.rest.len() <= 64
+    }
+
+    /// Whether there are no more tokens. Spaces before the next token are taken away.
     pub(super) fn is_empty(&mut self) -> bool
         ensures same { self.new ≡ self.old }
         ensures empty { result ≡ (length self.old == 0) }
@@ -73,6 +78,13 @@ impl<'a> Tokens<'a> {
         ensures { Takes register self.old result self.new }
     {
         u8::try_from(self.next_value()?).ok()
+    }
+
+    /// The same of a number that is a `u32`.
+    pub(super) fn next_bit(&mut self) -> Option<u32>
+        ensures { Takes bit self.old result self.new }
+    {
+        u32::try_from(self.next_value()?).ok()
     }
 }
 
