@@ -3,4 +3,3 @@ pub mod Lines
 pub mod Tokens
 pub mod Fields
 pub mod WordTokens
-pub mod Mixed

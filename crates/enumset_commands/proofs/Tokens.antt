@@ -1,9 +1,10 @@
 -- How the tokens of a line go on after the first part between spaces.
 use Rattle.std.proofs.Common.{◌≡◌, ◌==◌, ℕ, zero, suc, ◌+◌, ◌-◌, ◌*◌, ◌^◌, ◌<◌, ◌≤◌, true, false, List, [], ◌∷◌, length, get_or, take, drop, Option, Some, None, refl, sym, ap, ◌∙◌, below_more, arith}
-use Rattle.std.specs.List.{slice_split, position}
+use Rattle.std.specs.List.{slice_split, onto_first, position}
 use Rattle.std.specs.Char.{is_ascii_digit}
 use Rattle.std.proofs.lemmas.List.{length-take, get_or-take, take_all, drop_all}
 use Rattle.std.proofs.lemmas.List.Quantifiers.{position-Some}
+use Rattle.std.proofs.lemmas.List.Splits.{length-slice_split, slice_split-cons_no}
 use Rattle.std.proofs.lemmas.Bool.{ne_eqb, eq-eqb, true≢false}
 use Rattle.std.proofs.lemmas.Bool.Decides.{nat_tests}
 use Rattle.enumset_commands.specs.Lines.{tokens_of}
@@ -14,7 +15,7 @@ use Rattle.enumset_commands.proofs.Parts.{NoneBelow, position-at, position-none,
 pub tokens_of-skip : (s part rest : List ℕ) → slice_split (λ b. b == 32) s ≡ part ∷ slice_split (λ b. b == 32) rest → (length part == 0) ≡ true → tokens_of s ≡ tokens_of rest
 tokens_of-skip s part rest cut empty = rw (cut, empty) refl
 
-pub tokens_of-cut : (s part rest : List ℕ) → slice_split (λ b. b == 32) s ≡ part ∷ slice_split (λ b. b == 32) rest → (length part == 0) ≡ false → tokens_of s ≡ part ∷ tokens_of rest
+tokens_of-cut : (s part rest : List ℕ) → slice_split (λ b. b == 32) s ≡ part ∷ slice_split (λ b. b == 32) rest → (length part == 0) ≡ false → tokens_of s ≡ part ∷ tokens_of rest
 tokens_of-cut s part rest cut full = rw (cut, full) refl
 
 pub tokens_of-none : (s : List ℕ) → slice_split (λ b. b == 32) s ≡ s ∷ [] → (length s == 0) ≡ true → tokens_of s ≡ []
@@ -22,6 +23,19 @@ tokens_of-none s last empty = rw (last, empty) refl
 
 pub tokens_of-last : (s : List ℕ) → slice_split (λ b. b == 32) s ≡ s ∷ [] → (length s == 0) ≡ false → tokens_of s ≡ s ∷ []
 tokens_of-last s last full = rw (last, full) refl
+
+-- the first part is empty only if the text begins with a space
+first_part : (s part : List ℕ) (parts : List (List ℕ)) → slice_split (λ b. b == 32) s ≡ part ∷ parts → 0 < length parts → (get_or s 0 0 == 32) ≡ false → (length part == 0) ≡ false
+first_part [] part parts cut more other = absurd (omega (arith, ap length cut))
+first_part (x ∷ s) part parts cut more other =
+    elim (slice_split (λ b. b == 32) s) as (λ later. onto_first x later ≡ part ∷ parts → (length part == 0) ≡ false) [
+      | [] ↦ λ e. let same : part ≡ x ∷ [] = cc in ne_eqb (length part) 0 (λ z. omega (arith, ap length same))
+      | (p ∷ ps) ↦ λ e. let same : part ≡ x ∷ p = cc in ne_eqb (length part) 0 (λ z. omega (arith, ap length same))
+    ] (sym (slice_split-cons_no (λ b. b == 32) x s other) ∙ cut)
+
+pub tokens_of-first : (s part rest : List ℕ) → slice_split (λ b. b == 32) s ≡ part ∷ slice_split (λ b. b == 32) rest → (get_or s 0 0 == 32) ≡ false → tokens_of s ≡ part ∷ tokens_of rest
+tokens_of-first s part rest cut other =
+    tokens_of-cut s part rest cut (first_part s part (slice_split (λ b. b == 32) rest) cut (omega (arith, length-slice_split (λ b. b == 32) rest)) other)
 
 -- ---- whether there is a token
 
@@ -91,4 +105,4 @@ number_at_end s i n more all fits h =
 
 pub ruleset number_steps = (no_digits, one_digit_more, number_before_space, number_at_end)
 
-pub ruleset token_steps = (tokens_of-skip, tokens_of-cut, tokens_of-none, tokens_of-last)
+pub ruleset token_steps = (tokens_of-first, tokens_of-none, tokens_of-last)

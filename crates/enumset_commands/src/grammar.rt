@@ -5,7 +5,6 @@ mod fields;
 pub mod line_command;
 pub mod lines;
 mod mixed_commands;
-mod numbers;
 mod operands;
 mod parts;
 pub mod tokens;

@@ -1,12 +1,11 @@
-//! The command of a name over its operands.
-ghost use Rattle.std.specs.Prelude.{◌≡◌, ◌∷◌};
+//! The command of a name over its fields.
+ghost use Rattle.std.specs.Prelude.{◌≡◌};
 ghost use Rattle.std.specs.Str.{bytes_eq};
 ghost use Rattle.enumset_commands.specs.Lines.{command_of, without_words};
-ghost use Rattle.enumset_commands.specs.Texts.{IsReadAs};
 ghost use Rattle.enumset_commands.specs.Verbs.{assignments, queries, changes, written};
 
 use super::line_command::LineCommand;
-use super::operands::{OperandReader, Operands, with_words};
+use super::operands::with_words;
 use super::tokens::Tokens;
 use crate::command::Command;
 use std::alloc::{AllocError, Global};
@@ -30,53 +29,39 @@ impl LineCommand for Command {
     ghost command_of = { command_of };
 
     fn read(alloc: Global, name: &[u8], fields: Tokens) -> Option<Result<Command, AllocError>> {
-        match Operands::of_short(&fields) {
-            Some(operands) => command_named(alloc, name, &operands),
-            None => command_named(alloc, name, &fields),
+        if let Some(command) = without_words(name, &fields) {
+            return Some(Ok(command));
+        }
+        let cuts = is(name, "from_words_cut");
+        if !cuts && !is(name, "from_words") {
+            return None;
+        }
+        match with_words(alloc, fields)? {
+            Ok((r, words)) if cuts => Some(Ok(Command::FromWordsCut { r, words })),
+            Ok((r, words)) => Some(Ok(Command::FromWords { r, words })),
+            Err(error) => Some(Err(error)),
         }
     }
 }
 
-/// The command of a name, over operands.
-pub(super) fn command_named<R: OperandReader>(
-    alloc: Global,
-    name: &[u8],
-    operands: &R,
-) -> Option<Result<Command, AllocError>>
-    ensures { IsReadAs (command_of (name.now ∷ R.fields operands.now)) result }
-{
-    if let Some(command) = without_words(name, operands) {
-        return Some(Ok(command));
-    }
-    let cuts = is(name, "from_words_cut");
-    if !cuts && !is(name, "from_words") {
-        return None;
-    }
-    match with_words(alloc, operands.tokens())? {
-        Ok((r, words)) if cuts => Some(Ok(Command::FromWordsCut { r, words })),
-        Ok((r, words)) => Some(Ok(Command::FromWords { r, words })),
-        Err(error) => Some(Err(error)),
-    }
-}
-
 /// The command of a name that takes no words. A table is not searched once an earlier one has the command.
-fn without_words<R: OperandReader>(name: &[u8], operands: &R) -> Option<Command>
-    ensures { result ≡ without_words name.now (R.fields operands.now) }
+fn without_words(name: &[u8], fields: &Tokens) -> Option<Command>
+    ensures { result ≡ without_words name.now fields.now }
 {
-    if let Some(command) = assignment(name, operands) {
+    if let Some(command) = assignment(name, fields) {
         return Some(command);
     }
-    if let Some(command) = query(name, operands) {
+    if let Some(command) = query(name, fields) {
         return Some(command);
     }
-    change(name, operands)
+    change(name, fields)
 }
 
 /// The command of a name whose reply is `ok`.
-fn assignment<R: OperandReader>(name: &[u8], operands: &R) -> Option<Command>
-    ensures { result ≡ written assignments name.now (R.fields operands.now) }
+fn assignment(name: &[u8], fields: &Tokens) -> Option<Command>
+    ensures { result ≡ written assignments name.now fields.now }
 {
-    command_of_name! { name, operands => Command:
+    command_of_name! { name, fields => Command:
         "new" one New { r };
         "all" one All { r };
         "only" with_bit Only { r, bit };
@@ -94,10 +79,10 @@ fn assignment<R: OperandReader>(name: &[u8], operands: &R) -> Option<Command>
 }
 
 /// The command of a name that changes nothing.
-fn query<R: OperandReader>(name: &[u8], operands: &R) -> Option<Command>
-    ensures { result ≡ written queries name.now (R.fields operands.now) }
+fn query(name: &[u8], fields: &Tokens) -> Option<Command>
+    ensures { result ≡ written queries name.now fields.now }
 {
-    command_of_name! { name, operands => Command:
+    command_of_name! { name, fields => Command:
         "contains" with_bit Contains { r, bit };
         "len" one Len { r };
         "empty" one IsEmpty { r };
@@ -115,10 +100,10 @@ fn query<R: OperandReader>(name: &[u8], operands: &R) -> Option<Command>
 }
 
 /// The command of a name that changes a register, or may, and tells something.
-fn change<R: OperandReader>(name: &[u8], operands: &R) -> Option<Command>
-    ensures { result ≡ written changes name.now (R.fields operands.now) }
+fn change(name: &[u8], fields: &Tokens) -> Option<Command>
+    ensures { result ≡ written changes name.now fields.now }
 {
-    command_of_name! { name, operands => Command:
+    command_of_name! { name, fields => Command:
         "insert" with_bit Insert { r, bit };
         "remove" with_bit Remove { r, bit };
         "from_number" with_value FromNumber { r, width, value };

@@ -1,5 +1,5 @@
 //! The parts of a text between bytes of one value.
-ghost use Rattle.std.specs.Prelude.{◌≡◌, ◌==◌, ◌∷◌, ◌+◌, ◌<◌, ◌≤◌, [], length, not, IfSome, MatchOption};
+ghost use Rattle.std.specs.Prelude.{◌≡◌, ◌==◌, ◌∷◌, ◌+◌, ◌≤◌, [], length, not, MatchOption};
 ghost use Rattle.std.specs.List.{position, prefix_len, slice_split};
 ghost use Rattle.std.specs.Simd.Lanes.{chunk};
 
@@ -8,11 +8,10 @@ use std::simd::prelude::*;
 /// What comes before the first such byte of a text, and what comes after it, or `None` if the text has no such byte.
 #[tactic(auto, using(crate::proofs::Parts::part_steps))]
 pub(super) fn split_once(text: &[u8], separator: u8) -> Option<(&[u8], &[u8])>
-    ensures parts { MatchOption result
+    ensures { MatchOption result
         (slice_split (λ b. b == separator) text.now ≡ text.now ∷ [])
         (λ cut. slice_split (λ b. b == separator) text.now
         ≡ cut.0.now ∷ slice_split (λ b. b == separator) cut.1.now) }
-    ensures shorter { IfSome result (λ cut. length cut.1.now < length text.now) }
 {
     let end = index_of(text, separator)?;
     Some((&text[..end], &text[end + 1..]))
@@ -21,15 +20,10 @@ pub(super) fn split_once(text: &[u8], separator: u8) -> Option<(&[u8], &[u8])>
 /// The index of the first such byte.
 ///
 /// Sixteen bytes are compared at once. A line is seldom longer, and one comparison costs little more than that of a
-/// byte. The first byte is compared alone before, for empty lines and for spaces that follow one another.
+/// byte.
 fn index_of(text: &[u8], wanted: u8) -> Option<usize>
     ensures { result ≡ position (λ b. b == wanted) text.now }
 {
-    if let [first, ..] = text
-        && *first == wanted
-    {
-        return Some(0);
-    }
     for k in 0..text.len() / 16 {
         let begin = 16 * k;
         let before = count_before(text, begin, wanted);

@@ -1,7 +1,7 @@
 //! The tokens of a line.
-ghost use Rattle.std.specs.Prelude.{◌≡◌, ◌==◌, ◌≤◌, length, drop, Some, IfSome};
+ghost use Rattle.std.specs.Prelude.{◌≡◌, ◌==◌, ◌≤◌, false, length, drop, slice_index, Some, IfSome};
 ghost use Rattle.enumset_commands.specs.Lines.{tokens_of};
-ghost use Rattle.enumset_commands.specs.Fields.{value, register, bit, Takes};
+ghost use Rattle.enumset_commands.specs.Fields.{value, register, bit, word, Takes};
 
 use super::fields::read_value;
 use super::parts::split_once;
@@ -37,12 +37,8 @@ impl<'a> Tokens<'a> {
         Tokens { rest: self.rest }
     }
 
-    /// Whether the tokens and the spaces around them are at most 64 bytes.
-    pub(super) fn are_short(&self) -> bool {
-        self.rest.len() <= 64
-    }
-
     /// Whether there are no more tokens. Spaces before the next token are taken away.
+    #[tactic(auto, using(crate::proofs::Tokens::space_steps))]
     pub(super) fn is_empty(&mut self) -> bool
         ensures same { self.new ≡ self.old }
         ensures empty { result ≡ (length self.old == 0) }
@@ -86,6 +82,13 @@ impl<'a> Tokens<'a> {
     {
         u32::try_from(self.next_value()?).ok()
     }
+
+    /// The same of a number that is a `u64`.
+    pub(super) fn next_word(&mut self) -> Option<u64>
+        ensures { Takes word self.old result self.new }
+    {
+        u64::try_from(self.next_value()?).ok()
+    }
 }
 
 /// A text without the spaces at its beginning.
@@ -93,7 +96,7 @@ impl<'a> Tokens<'a> {
 #[tactic(auto, using(crate::proofs::Tokens::space_steps))]
 fn without_spaces(text: &[u8]) -> &[u8]
     ensures tokens { tokens_of result.now ≡ tokens_of text.now }
-    ensures empty { (length (tokens_of text.now) == 0) ≡ (length result.now == 0) }
+    ensures begins { (slice_index result.now 0 == 32) ≡ false }
 {
     let mut rest = text;
     while let [b' ', later @ ..] = rest {
@@ -139,15 +142,14 @@ impl<'a> Iterator for Tokens<'a> {
 
     #[tactic(auto, using(crate::proofs::Tokens::token_steps))]
     fn next(&mut self) -> Option<&'a [u8]> {
-        self.rest = without_spaces(self.rest);
-        while let Some((token, rest)) = split_once(self.rest, b' ') {
-            self.rest = rest;
-            if !token.is_empty() {
-                return Some(token);
-            }
-        }
-        let last = self.rest;
+        let text = without_spaces(self.rest);
         self.rest = &[];
-        (!last.is_empty()).then_some(last)
+        match split_once(text, b' ') {
+            Some((token, rest)) => {
+                self.rest = rest;
+                Some(token)
+            }
+            None => (!text.is_empty()).then_some(text),
+        }
     }
 }

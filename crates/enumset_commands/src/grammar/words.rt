@@ -2,7 +2,6 @@
 ghost use Rattle.enumset_commands.specs.Fields.{words_of};
 ghost use Rattle.enumset_commands.specs.Texts.{IsReadAs};
 
-use super::fields::read_word;
 use super::tokens::Tokens;
 use crate::word_list::WordList;
 use std::alloc::{AllocError, Global};
@@ -11,13 +10,13 @@ use std::alloc::{AllocError, Global};
 ///
 /// If memory runs out, the remaining tokens are still read.
 #[tactic(auto, using(crate::proofs::WordTokens::word_steps))]
-pub(super) fn read_words(alloc: Global, tokens: Tokens) -> Option<Result<WordList, AllocError>>
+pub(super) fn read_words(alloc: Global, mut tokens: Tokens) -> Option<Result<WordList, AllocError>>
     ensures { IsReadAs (words_of tokens.entry) result }
 {
     let mut words = Vec::new(alloc);
     let mut has_room = true;
-    for token in tokens {
-        let word = read_word(token)?;
+    while !tokens.is_empty() {
+        let word = tokens.next_word()?;
         has_room = has_room && words.push(word).is_ok();
     }
     if has_room {

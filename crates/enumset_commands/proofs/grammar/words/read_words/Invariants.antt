@@ -1,4 +1,4 @@
-use Rattle.std.proofs.Common.{◌≡◌, true}
+use Rattle.std.proofs.Common.{◌≡◌, true, length}
 use Rattle.std.specs.Option.{is_some}
 use Rattle.enumset_commands.specs.Fields.{words_of}
 use Rattle.enumset_commands.proofs.WordTokens.{after_words}
@@ -6,8 +6,11 @@ use Rattle.enumset_commands.proofs.grammar.words.read_words.Given as goal
 
 -- Until memory runs out, the words so far and those of what is left are those of the tokens. Whether the
 -- tokens are words is decided by what is left.
-abbrev pub invariant-loop-token : goal.invariant-loop-token
-invariant-loop-token l = record {
-  words : l.has_room ≡ true → after_words l.words.items (words_of l.token-iterator) ≡ words_of l.fn.tokens;
-  some : is_some (words_of l.token-iterator) ≡ is_some (words_of l.fn.tokens);
+abbrev pub invariant-loop-tokens : goal.invariant-loop-tokens
+invariant-loop-tokens l = record {
+  words : l.has_room ≡ true → after_words l.words.items (words_of l.tokens) ≡ words_of l.fn.tokens;
+  some : is_some (words_of l.tokens) ≡ is_some (words_of l.fn.tokens);
 }
+
+abbrev pub decreases-loop-tokens : goal.decreases-loop-tokens
+decreases-loop-tokens l = length l.tokens
