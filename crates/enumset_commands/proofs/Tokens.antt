@@ -1,15 +1,15 @@
 -- How the tokens of a line go on after the first part between spaces.
-use Rattle.std.proofs.Common.{◌≡◌, ◌==◌, ℕ, zero, suc, ◌+◌, ◌-◌, ◌*◌, ◌^◌, ◌<◌, ◌≤◌, true, false, List, [], ◌∷◌, length, get_or, take, drop, Option, Some, None, refl, sym, ap, ◌∙◌, below_more, arith}
+use Rattle.std.proofs.Common.{◌≡◌, ◌==◌, ℕ, zero, suc, ◌+◌, ◌-◌, ◌*◌, ◌^◌, ◌<◌, ◌≤◌, true, false, List, [], ◌∷◌, length, get_or, take, drop, Option, Some, None, refl, sym, ap, ◌∙◌, below_more, inl, inr, arith}
 use Rattle.std.specs.List.{slice_split, onto_first, position}
 use Rattle.std.specs.Char.{is_ascii_digit}
 use Rattle.std.proofs.lemmas.List.{length-take, get_or-take, take_all, drop_all}
 use Rattle.std.proofs.lemmas.List.Quantifiers.{position-Some}
 use Rattle.std.proofs.lemmas.List.Splits.{length-slice_split, slice_split-cons_no}
-use Rattle.std.proofs.lemmas.Bool.{ne_eqb, eq-eqb, true≢false}
+use Rattle.std.proofs.lemmas.Bool.{ne_eqb, eq-eqb, true≢false, cases_lt}
 use Rattle.std.proofs.lemmas.Bool.Decides.{nat_tests}
 use Rattle.enumset_commands.specs.Lines.{tokens_of}
-use Rattle.enumset_commands.specs.Fields.{value, Takes}
-use Rattle.enumset_commands.proofs.Fields.{value_after, value_after-start, value_after-digit, value_after-end}
+use Rattle.enumset_commands.specs.Fields.{value, word, Takes, BeginsWithNone}
+use Rattle.enumset_commands.proofs.Fields.{value_after, value_after-start, value_after-digit, value_after-other, value_after-end, word-fits, word-none, word-large}
 use Rattle.enumset_commands.proofs.Parts.{NoneBelow, position-at, position-none, split-at, split-past}
 
 pub tokens_of-skip : (s part rest : List ℕ) → slice_split (λ b. b == 32) s ≡ part ∷ slice_split (λ b. b == 32) rest → (length part == 0) ≡ true → tokens_of s ≡ tokens_of rest
@@ -84,25 +84,62 @@ one_digit_more s i n m l d sum h = record {
       ap (λ k. value_after k (drop (i + 1) (take e s))) (sum ∙ ap (λ c. n * 10 + (c - 48)) (sym same)) ∙ sym next ∙ h.goes_on e (omega arith) more within;
 }
 
-digits_value : (s : List ℕ) (i n : ℕ) → 0 < i → i ≤ length s → n < 2 ^ 64 → DigitsSoFar s i n → value (take i s) ≡ Some n
-digits_value s i n more within fits h =
-    sym (h.goes_on i (omega arith) more within) ∙ value_after-end (take i s) n i (omega (arith, length-take i s)) (omega arith)
+digits_word : (s : List ℕ) (i n : ℕ) → 0 < i → i ≤ length s → n < 2 ^ 64 → DigitsSoFar s i n → word (take i s) ≡ Some n
+digits_word s i n more within fits h =
+    word-fits (take i s) n (sym (h.goes_on i (omega arith) more within) ∙ value_after-end (take i s) n i (omega (arith, length-take i s)) (omega arith)) fits
 
 -- a space after digits ends the first token
-pub number_before_space : (s : List ℕ) (i n : ℕ) → 0 < i → i < length s → get_or s i 0 ≡ 32 → n < 2 ^ 64 → DigitsSoFar s i n → Takes value (tokens_of s) (Some n) (tokens_of (drop (i + 1) s))
+number_before_space : (s : List ℕ) (i n : ℕ) → 0 < i → i < length s → get_or s i 0 ≡ 32 → n < 2 ^ 64 → DigitsSoFar s i n → Takes word (tokens_of s) (Some n) (tokens_of (drop (i + 1) s))
 number_before_space s i n more l space fits h =
     let cut = split-at (λ b. b == 32) s i (position-at (λ b. b == 32) s i l h.apart (eq-eqb (get_or s i 0) 32 space)) in
-    (take i s, tokens_of-cut s (take i s) (drop (i + 1) s) cut (ne_eqb (length (take i s)) 0 (λ z. omega (arith, length-take i s))), digits_value s i n more (omega arith) fits h)
+    (take i s, tokens_of-cut s (take i s) (drop (i + 1) s) cut (ne_eqb (length (take i s)) 0 (λ z. omega (arith, length-take i s))), digits_word s i n more (omega arith) fits h)
+
+pub number_at_space : (s : List ℕ) (i n : ℕ) → (get_or s 0 0 == 32) ≡ false → i < length s → get_or s i 0 ≡ 32 → n < 2 ^ 64 → DigitsSoFar s i n → Takes word (tokens_of s) (Some n) (tokens_of (drop (i + 1) s))
+number_at_space s zero n other l space fits h = absurd (true≢false (sym (eq-eqb (get_or s 0 0) 32 space) ∙ other))
+number_at_space s (suc i) n other l space fits h = number_before_space s (suc i) n (omega arith) l space fits h
 
 -- and so does the end of the text
-pub number_at_end : (s : List ℕ) (i n : ℕ) → 0 < length s → i ≡ length s → n < 2 ^ 64 → DigitsSoFar s i n → Takes value (tokens_of s) (Some n) (tokens_of (drop (length s) s))
+pub number_at_end : (s : List ℕ) (i n : ℕ) → 0 < length s → i ≡ length s → n < 2 ^ 64 → DigitsSoFar s i n → Takes word (tokens_of s) (Some n) (tokens_of (drop (length s) s))
 number_at_end s i n more all fits h =
     let none : NoneBelow (λ b. b == 32) s (length s) = λ k l. h.apart k (omega arith) in
     let last = split-past (λ b. b == 32) s (position-none (λ b. b == 32) s none) in
     let whole : take i s ≡ s = take_all i s (omega arith) in
     let left : tokens_of (drop (length s) s) ≡ [] = ap tokens_of (drop_all (length s) s (omega arith)) in
-    (s, rw left (tokens_of-last s last (ne_eqb (length s) 0 (λ z. omega arith))), ap value (sym whole) ∙ digits_value s i n (omega arith) (omega arith) fits h)
+    (s, rw left (tokens_of-last s last (ne_eqb (length s) 0 (λ z. omega arith))), ap word (sym whole) ∙ digits_word s i n (omega arith) (omega arith) fits h)
 
-pub ruleset number_steps = (no_digits, one_digit_more, number_before_space, number_at_end)
+-- ---- a first token that writes no number
+
+-- what begins with the first token's first i + 1 bytes is no word, so the token is none
+no_word_at : (o : Option ℕ) (s : List ℕ) (i : ℕ) → position (λ b. b == 32) s ≡ o → NoneBelow (λ b. b == 32) s (i + 1) → i < length s → ((e : ℕ) → i < e → e ≤ length s → word (take e s) ≡ None) → BeginsWithNone word (tokens_of s)
+no_word_at None s i h apart l none =
+    let last = tokens_of-last s (split-past (λ b. b == 32) s h) (ne_eqb (length s) 0 (λ z. omega arith)) in
+    rw last (ap word (sym (take_all (length s) s (omega arith))) ∙ none (length s) l (omega arith))
+no_word_at (Some e) s i h apart l none =
+    let found = position-Some (λ b. b == 32) s e 0 h in
+    elim (cases_lt e (i + 1)) [
+      | inl below ↦ absurd (true≢false (sym found.1 ∙ apart e below))
+      | inr above ↦
+          rw (tokens_of-cut s (take e s) (drop (e + 1) s) (split-at (λ b. b == 32) s e h) (ne_eqb (length (take e s)) 0 (λ z. omega (arith, found.0, length-take e s))))
+          (none e (omega arith) (omega (arith, found.0)))
+    ]
+
+pub other_byte : (s : List ℕ) (i n : ℕ) → i < length s → (get_or s i 0 == 32) ≡ false → is_ascii_digit (get_or s i 0) ≡ false → DigitsSoFar s i n → BeginsWithNone word (tokens_of s)
+other_byte s i n l apart other h =
+    no_word_at (position (λ b. b == 32) s) s i refl (below_more _ _ h.apart apart) l (λ e from within.
+    let same : get_or (take e s) i 0 ≡ get_or s i 0 = get_or-take e s i 0 (omega arith) in
+    let none = value_after-other (take e s) n i (omega (arith, length-take e s)) (ap is_ascii_digit same ∙ other) in
+    word-none (take e s) (sym (h.goes_on e (omega arith) (omega arith) within) ∙ none))
+
+pub too_large : (s : List ℕ) (i n : ℕ) → i < length s → is_ascii_digit (get_or s i 0) ≡ true → 2 ^ 64 ≤ n * 10 + (get_or s i 0 - 48) → DigitsSoFar s i n → BeginsWithNone word (tokens_of s)
+too_large s i n l d large h =
+    let more = one_digit_more s i n (n * 10 + (get_or s i 0 - 48)) l d refl h in
+    no_word_at (position (λ b. b == 32) s) s i refl more.apart l (λ e from within.
+    word-large (take e s) (drop (i + 1) (take e s)) (n * 10 + (get_or s i 0 - 48)) (sym (more.goes_on e (omega arith) (omega arith) within)) large)
+
+pub no_token : (s : List ℕ) → (length s == 0) ≡ true → BeginsWithNone word (tokens_of s)
+no_token [] empty = tt
+no_token (x ∷ s) empty = absurd (grind (arith, nat_tests))
+
+pub ruleset number_steps = (no_digits, one_digit_more, number_at_space, number_at_end, other_byte, no_token)
 
 pub ruleset token_steps = (tokens_of-first, tokens_of-none, tokens_of-last)

@@ -20,10 +20,15 @@ pub(super) fn split_once(text: &[u8], separator: u8) -> Option<(&[u8], &[u8])>
 /// The index of the first such byte.
 ///
 /// Sixteen bytes are compared at once. A line is seldom longer, and one comparison costs little more than that of a
-/// byte.
+/// byte. The first byte is compared alone before, for empty lines.
 fn index_of(text: &[u8], wanted: u8) -> Option<usize>
     ensures { result ≡ position (λ b. b == wanted) text.now }
 {
+    if let [first, ..] = text
+        && *first == wanted
+    {
+        return Some(0);
+    }
     for k in 0..text.len() / 16 {
         let begin = 16 * k;
         let before = count_before(text, begin, wanted);

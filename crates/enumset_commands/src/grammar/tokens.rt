@@ -1,7 +1,8 @@
 //! The tokens of a line.
-ghost use Rattle.std.specs.Prelude.{◌≡◌, ◌==◌, ◌≤◌, false, length, drop, slice_index, Some, IfSome};
+ghost use Rattle.std.specs.Prelude.{◌≡◌, ◌==◌, ◌+◌, ◌-◌, ◌*◌, ◌^◌, ◌<◌, ◌≤◌, false, length, drop, slice_index, Some, IfSome, MatchOption};
+ghost use Rattle.std.specs.Option.{SomeIff};
 ghost use Rattle.enumset_commands.specs.Lines.{tokens_of};
-ghost use Rattle.enumset_commands.specs.Fields.{value, register, bit, word, Takes};
+ghost use Rattle.enumset_commands.specs.Fields.{value, register, bit, word, BeginsWithNone, Takes};
 
 use super::fields::read_value;
 use super::parts::split_once;
@@ -48,46 +49,39 @@ impl<'a> Tokens<'a> {
         rest.is_empty()
     }
 
-    /// Takes out the next token, and returns the number that it writes, or returns `None` if there is no token or it
-    /// writes none. `first_number` nearly always finds it. So it is compiled in place, and the other way is a call.
+    /// Takes out the next token, and returns the number that it writes, if it is a `u64`, or returns `None` if there is
+    /// no token or it writes none.
     #[inline(always)]
-    pub(super) fn next_value(&mut self) -> Option<u128>
-        ensures { Takes value self.old result self.new }
-    {
-        if let Some((number, end)) = first_number(self.rest) {
-            self.rest = &self.rest[end..];
-            return Some(u128::from(number));
-        }
-        self.next_long_value()
-    }
-
-    /// The same, by the end of the token first, and then by arithmetic on 128 bits.
-    #[inline(never)]
-    fn next_long_value(&mut self) -> Option<u128>
-        ensures { Takes value self.old result self.new }
-    {
-        read_value(self.next()?)
-    }
-
-    /// The same of a number that is a `u8`.
-    pub(super) fn next_register(&mut self) -> Option<u8>
-        ensures { Takes register self.old result self.new }
-    {
-        u8::try_from(self.next_value()?).ok()
-    }
-
-    /// The same of a number that is a `u32`.
-    pub(super) fn next_bit(&mut self) -> Option<u32>
-        ensures { Takes bit self.old result self.new }
-    {
-        u32::try_from(self.next_value()?).ok()
-    }
-
-    /// The same of a number that is a `u64`.
     pub(super) fn next_word(&mut self) -> Option<u64>
         ensures { Takes word self.old result self.new }
     {
-        u64::try_from(self.next_value()?).ok()
+        self.rest = without_spaces(self.rest);
+        let (number, end) = first_word(self.rest)?;
+        self.rest = &self.rest[end..];
+        Some(number)
+    }
+
+    /// The same of a number that is a `u8`.
+    #[tactic(auto, using(crate::proofs::Fields::narrow_fields))]
+    pub(super) fn next_register(&mut self) -> Option<u8>
+        ensures { Takes register self.old result self.new }
+    {
+        u8::try_from(self.next_word()?).ok()
+    }
+
+    /// The same of a number that is a `u32`.
+    #[tactic(auto, using(crate::proofs::Fields::narrow_fields))]
+    pub(super) fn next_bit(&mut self) -> Option<u32>
+        ensures { Takes bit self.old result self.new }
+    {
+        u32::try_from(self.next_word()?).ok()
+    }
+
+    /// The same of a number that is a `u128`, by arithmetic on 128 bits.
+    pub(super) fn next_value(&mut self) -> Option<u128>
+        ensures { Takes value self.old result self.new }
+    {
+        read_value(self.next()?)
     }
 }
 
@@ -105,30 +99,41 @@ fn without_spaces(text: &[u8]) -> &[u8]
     rest
 }
 
-/// The number that the first token of a text writes, and where the text goes on after it, if the token stands at the
-/// very beginning and writes a `u64`. Nearly all fields do. Each byte is looked at once.
+/// The number that the first token of a text writes, if it is a `u64`, and where the text goes on after it. The text
+/// does not begin with a space. Each byte is looked at once.
 #[inline(always)]
 #[tactic(auto, using(crate::proofs::Tokens::number_steps))]
-fn first_number(text: &[u8]) -> Option<(u64, usize)>
-    ensures number { IfSome result (λ found.
-        Takes value (tokens_of text.now) (Some found.0) (tokens_of (drop found.1 text.now))) }
+fn first_word(text: &[u8]) -> Option<(u64, usize)>
+    requires { (slice_index text.now 0 == 32) ≡ false }
+    ensures number { MatchOption result
+        (BeginsWithNone word (tokens_of text.now))
+        (λ found. Takes word (tokens_of text.now) (Some found.0) (tokens_of (drop found.1 text.now))) }
     ensures within { IfSome result (λ found. found.1 ≤ length text.now) }
 {
-    let mut number = 0u64;
-    for place in 0..text.len() {
-        let byte = text[place];
-        if byte == b' ' && place > 0 {
-            return Some((number, place + 1));
-        }
-        if !byte.is_ascii_digit() {
-            return None;
-        }
-        number = number.checked_mul(10)?.checked_add(u64::from(byte - b'0'))?;
-    }
     if text.is_empty() {
         return None;
     }
+    let mut number = 0u64;
+    for place in 0..text.len() {
+        let byte = text[place];
+        if !byte.is_ascii_digit() {
+            if byte == b' ' {
+                return Some((number, place + 1));
+            }
+            return None;
+        }
+        number = with_digit(number, byte)?;
+    }
     Some((number, text.len()))
+}
+
+/// The number that a digit after those of a number makes, if it is a `u64`.
+#[inline(always)]
+fn with_digit(number: u64, digit: u8) -> Option<u64>
+    requires { 48 ≤ digit }
+    ensures { let next = number * 10 + (digit - 48) in SomeIff result (next < 2 ^ 64) next }
+{
+    number.checked_mul(10)?.checked_add(u64::from(digit - b'0'))
 }
 
 impl<'a> Iterator for Tokens<'a> {

@@ -14,6 +14,6 @@ pub returns-then-text-i : goal.returns-then-text-i
 returns-then-text-i c =
     sym (position-at (λ b. eqb b c.args.wanted) c.args.text.now c.loop-i.i (omega arith) c.loop-i.invariant (search rules))
 
-pub returns : goal.returns
-returns c =
+pub returns-2 : goal.returns-2
+returns-2 c =
     sym (position-none (λ b. eqb b c.args.wanted) c.args.text.now (λ i l. c.loop-i.invariant i (omega arith)))
