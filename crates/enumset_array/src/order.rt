@@ -39,17 +39,11 @@ impl<const N: usize> Ord for ArrayRepr<N> {
     }
 }
 
-/// Lists of at most so many words are compared without a branch on the words.
-const FEW_WORDS: usize = 4;
-
 /// How two lists of the same length compare: the highest place where they differ decides.
 fn compare_words(words: &[u64], others: &[u64]) -> Ordering
     requires { length words.now ≡ length others.now }
     ensures { result ≡ highest_first words.now others.now }
 {
-    if words.len() <= FEW_WORDS {
-        return compare_each(words, others);
-    }
     let mut end = equal_from(words, others);
     while end > 0 {
         end -= 1;
@@ -58,17 +52,4 @@ fn compare_words(words: &[u64], others: &[u64]) -> Ordering
         }
     }
     Ordering::Equal
-}
-
-/// The same, by all words, from the lowest on. Where sets are sorted, the processor cannot foretell which word decides,
-/// and a wrong guess takes longer than a few words.
-fn compare_each(words: &[u64], others: &[u64]) -> Ordering
-    requires { length words.now ≡ length others.now }
-    ensures { result ≡ highest_first words.now others.now }
-{
-    let mut order = Ordering::Equal;
-    for i in 0..words.len() {
-        order = words[i].cmp(&others[i]).then(order);
-    }
-    order
 }
