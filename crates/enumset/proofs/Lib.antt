@@ -7,3 +7,8 @@ mod NamesRead
 pub mod JsonWords
 pub mod JsonLaws
 pub mod WrittenValues
+mod JsonTokens
+mod JsonSteps
+mod JsonSpaces
+mod JsonLists
+mod JsonScans

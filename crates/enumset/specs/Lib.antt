@@ -6,3 +6,4 @@ pub mod JsonReads
 pub mod Names
 pub mod BothEnds
 pub mod Laws
+pub mod JsonPlain

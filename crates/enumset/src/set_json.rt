@@ -10,6 +10,7 @@ mod maps;
 mod mixed;
 mod mixed_texts;
 mod numbers;
+mod scan;
 mod texts;
 mod unknown;
 mod whole;

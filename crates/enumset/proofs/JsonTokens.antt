@@ -1,0 +1,26 @@
+-- The tokens of a text, taken from a definition of serde_json that speaks of them, since they stand in a crate that this
+-- one does not name.
+use Rattle.std.proofs.Common.{◌≡◌, ℕ, List}
+use Rattle.std.specs.Prelude.{false}
+use Rattle.serde_json.specs.Data.{Data, null, no_items}
+use Rattle.serde_json.specs.Written.{IsInOrder, outline, items_outline}
+use Rattle.serde_json.specs.Sent.{start}
+
+abbrev pub TypeOf : {A : Type 0} → A → Type 0
+TypeOf {A = A} a = A
+
+abbrev pub Tokens : Type 0
+Tokens = TypeOf (start false).tokens
+
+abbrev pub Json : Type 0
+Json = TypeOf (outline null)
+
+abbrev pub JsonItems : Type 0
+JsonItems = TypeOf (items_outline no_items)
+
+abbrev pub by : (f : List ℕ → Tokens) (g : Json → Tokens) (h : Data → Json → Type 0) → ((text : List ℕ) (d : Data) → IsInOrder text d → (j : Json) × (f text ≡ g j) × h d j) → (List ℕ → Tokens)
+by f g h same = f
+
+-- the tokens of a text
+abbrev pub tokens : List ℕ → Tokens
+tokens = by _ _ _ (λ text d w. w)

@@ -1,0 +1,6 @@
+use Rattle.std.proofs.Common.{refl}
+use Rattle.enumset.proofs.JsonScans.{more_plain}
+use Rattle.enumset.proofs.set_json.scan.split_string.Goals as goal
+
+pub loop-i-preserved : goal.loop-i-preserved
+loop-i-preserved c = more_plain c.args.bytes.now c.loop-i.i c.loop-i-test.true c.loop-i.invariant (c.if-not-is_plain_byte.ensures refl).0
