@@ -45,12 +45,12 @@ plain_text_step : (x : ℕ) (s : List ℕ) → IsPlainByte x → compact_text (s
 unfolding serde_json_on_literals
 plain_text_step x s p h = grind (arith, h, p.0, p.1, p.2)
 
-plain_text : (s : List ℕ) → IsPlain s → compact_text (string s) ≡ 34 ∷ (s ++ 34 ∷ [])
+pub plain_text : (s : List ℕ) → IsPlain s → compact_text (string s) ≡ 34 ∷ (s ++ 34 ∷ [])
 plain_text [] p = refl
 plain_text (x ∷ s) p = plain_text_step x s p.0 (plain_text s p.1)
 
 -- a string's text before others
-text_before : (s rest : List ℕ) → IsPlain s → compact_text (string s) ++ rest ≡ 34 ∷ (s ++ 34 ∷ rest)
+pub text_before : (s rest : List ℕ) → IsPlain s → compact_text (string s) ++ rest ≡ 34 ∷ (s ++ 34 ∷ rest)
 text_before s rest p = ap (λ t. t ++ rest) (plain_text s p) ∙ ap (λ t. 34 ∷ t) (append_assoc s (34 ∷ []) rest)
 
 -- the list that serde_json writes reads as itself

@@ -5,10 +5,22 @@ ghost use Rattle.enumset.specs.JsonPlain.{IsPlain, AreSpaces, Passed, is_space};
 
 // Whether a byte stands for itself in a JSON string.
 #[inline(always)]
-pub(super) fn is_plain_byte(byte: u8) -> bool
+fn is_plain_byte(byte: u8) -> bool
     ensures { IsTrue result → IsPlain (byte ∷ []) }
 {
     byte != b'"' && byte != b'\\' && byte >= b' '
+}
+
+// Whether a text stands for itself in a JSON string.
+pub(super) fn is_plain(text: &str) -> bool
+    ensures { IsTrue result → IsPlain text.now }
+{
+    for byte in text.as_bytes() {
+        if !is_plain_byte(*byte) {
+            return false;
+        }
+    }
+    true
 }
 
 // Whether a byte may stand between tokens.
