@@ -7,6 +7,10 @@ use Rattle.serde_json.specs.View.{items_of}
 use Rattle.serde_json.specs.Written.{compact_text, items_text, comma_if}
 use Rattle.serde_json.specs.Sent.{text_token}
 use Rattle.serde_json.proofs.OnLiterals.{serde_json_on_literals}
+use Rattle.enumset_repr.specs.BitSet.{BitSet, ascending}
+use Rattle.std.proofs.lemmas.Simd.{map-map}
+use Rattle.enumset.specs.Names.{Names, name_of}
+use Rattle.enumset.specs.JsonNames.{list_value}
 use Rattle.enumset.specs.JsonPlain.{IsPlainByte, IsPlain, AreSpaces}
 use Rattle.enumset.proofs.JsonTokens.{tokens, Tokens}
 use Rattle.enumset.proofs.JsonSteps.{plain_byte, quote_comma, quote_end, empty_list, item_step}
@@ -54,13 +58,18 @@ pub text_before : (s rest : List ℕ) → IsPlain s → compact_text (string s) 
 text_before s rest p = ap (λ t. t ++ rest) (plain_text s p) ∙ ap (λ t. 34 ∷ t) (append_assoc s (34 ∷ []) rest)
 
 -- the list that serde_json writes reads as itself
-pub list_reads : (ss : List (List ℕ)) → ArePlain ss → read (compact_text (array (items_of (map string ss)))) ≡ Some (array (items_of (map string ss)))
+list_reads : (ss : List (List ℕ)) → ArePlain ss → read (compact_text (array (items_of (map string ss)))) ≡ Some (array (items_of (map string ss)))
 list_reads [] p = empty_list
 list_reads (s ∷ []) p = ap (λ t. read (91 ∷ t)) (text_before s (93 ∷ []) p.0) ∙ last_string s [] [] p.0 tt tt
 list_reads (s ∷ t ∷ ss) p =
     let rest = items_text true (items_of (map string ss)) in
     ap (λ r. read (91 ∷ r)) (text_before s (44 ∷ (compact_text (string t) ++ rest)) p.0 ∙ ap (λ r. 34 ∷ (s ++ 34 ∷ 44 ∷ r)) (text_before t rest p.1.0))
     ∙ next_string s [] [] (t ++ 34 ∷ rest) (items_of (map string (t ∷ ss))) p.0 tt tt (ap (λ r. read (91 ∷ r)) (sym (text_before t rest p.1.0)) ∙ list_reads (t ∷ ss) p.1)
+
+pub names_reads : (names : Names) (s : BitSet) → ArePlain (map (name_of names) (ascending s)) → read (compact_text (list_value names s)) ≡ Some (list_value names s)
+names_reads names s plain =
+    let same = map-map string (name_of names) (ascending s) in
+    subst (λ ds. read (compact_text (array (items_of ds))) ≡ Some (array (items_of ds))) same (list_reads (map (name_of names) (ascending s)) plain)
 
 -- ---- what the loop of the writer keeps
 

@@ -4,6 +4,7 @@ mod NamePlaces
 mod NameLaws
 mod NamesTaken
 mod NamesRead
+mod NamesFound
 pub mod JsonWords
 pub mod JsonLaws
 pub mod WrittenValues
@@ -12,3 +13,4 @@ mod JsonSteps
 mod JsonSpaces
 mod JsonLists
 mod JsonScans
+mod PlainLists

@@ -14,15 +14,11 @@ use Rattle.serde_json.specs.declared.value.Value.{Value}
 use Rattle.enumset.specs.Names.{Names, bit_named}
 use Rattle.enumset.specs.Json.{unless_fault, values_of}
 use Rattle.enumset.specs.JsonNames.{members_in, text_of, is_true, is_no_text, is_no_boolean, is_unknown, known_set, decided, set_of_values, set_of_members}
+use Rattle.enumset.specs.JsonPlain.{with_named}
 use Rattle.enumset.proofs.JsonLaws.{values_back}
 use Rattle.enumset.specs.declared.set_json.unknown.Unknown.{Unknown}
 use Rattle.enumset.specs.declared.set_json.fault.JsonFault.{JsonFault}
 use Rattle.enumset.specs.declared.set_json.fault.JsonFault.TheVariants.{NotAText, NotABoolean}
-
--- a set with the bit that a name has, if it has one
-abbrev pub with_named : Option ℕ → BitSet → BitSet
-with_named None s = s
-with_named (Some b) s = insert s b
 
 named_first : (o : Option ℕ) (s : BitSet) (bs : List ℕ) → union (with_named o s) (from_list bs) ≡ union s (from_list (cons_option o bs))
 unfolding from_list
@@ -83,12 +79,13 @@ all_taken : (ds : List Data) → filter (λ value. true) ds ≡ ds
 all_taken [] = refl
 all_taken (d ∷ ds) = ap (λ es. d ∷ es) (all_taken ds)
 
-pub list_read : (names : Names) (unknown : Unknown) (vs : List Value) → list_on names unknown 0 empty None (map view vs) ≡ set_of_values names unknown (values_of (items_view vs))
-list_read names unknown vs =
-    let ds = map view vs in
+pub list_read_all : (names : Names) (unknown : Unknown) (ds : List Data) → list_on names unknown 0 empty None ds ≡ set_of_values names unknown ds
+list_read_all names unknown ds =
     read_all is_no_text (λ value. true) text_of NotAText names unknown ds
     ∙ ap (λ es. unless_fault NotAText (position is_no_text ds) (decided unknown (position (is_unknown names) (map text_of ds)) (known_set names (map text_of es)))) (all_taken ds)
-    ∙ ap (set_of_values names unknown) (sym (values_back ds))
+
+pub list_read : (names : Names) (unknown : Unknown) (vs : List Value) → list_on names unknown 0 empty None (map view vs) ≡ set_of_values names unknown (values_of (items_view vs))
+list_read names unknown vs = list_read_all names unknown (map view vs) ∙ ap (set_of_values names unknown) (sym (values_back (map view vs)))
 
 -- ---- maps
 

@@ -1,6 +1,6 @@
 //! The names of an element type's values.
 
-ghost use Rattle.std.specs.Prelude.{◌≡◌, ◌-◌, ℕ, List, length, map, option_map};
+ghost use Rattle.std.specs.Prelude.{◌≡◌, ◌-◌, ◌<◌, ℕ, List, IfSome, length, map, option_map};
 ghost use Rattle.std.specs.List.{slice_index_or};
 ghost use Rattle.std.specs.Str.{bytes_eq};
 ghost use Rattle.enumset.specs.Names.{names_of, name_of, bit_named, IsNaming};
@@ -68,4 +68,47 @@ fn last_byte(text: &str) -> u8
     ensures { result ≡ slice_index_or text.now (length text.now - 1) 0 }
 {
     text.as_bytes().last().copied().unwrap_or(0)
+}
+
+// The value that has this name, if there is one. The search begins at the place `next`, then goes from the front, since
+// most texts have their names in the order of the list; `next` becomes the place after the name that was found.
+#[inline(always)]
+pub(crate) fn find_name<T: EnumSetNames>(text: &[u8], next: &mut usize) -> Option<T>
+    ensures { option_map T.elements.bit result
+        ≡ bit_named (names_of T.elements T.names) text.now }
+{
+    let names = T::names();
+    let start = if *next < names.len() { *next } else { 0 };
+    let (before, after) = names.split_at(start);
+    if let Some((place, value)) = find_in(after, text) {
+        *next = start + place + 1;
+        return Some(value);
+    }
+    let (place, value) = find_in(before, text)?;
+    *next = place + 1;
+    Some(value)
+}
+
+// The first value of a list that has this name, and its place.
+#[inline(always)]
+fn find_in<T: EnumSetType>(names: &[(T, &str)], text: &[u8]) -> Option<(usize, T)>
+    ensures within { IfSome result (λ found. found.0 < length names.now) }
+    ensures named { option_map (λ found. T.elements.bit found.1) result
+        ≡ bit_named (map (λ n. (T.elements.bit n.0, n.1.now)) names.now) text.now }
+{
+    for (place, (value, name)) in names.iter().enumerate() {
+        if has_bytes(name, text) {
+            return Some((place, *value));
+        }
+    }
+    None
+}
+
+// Whether a name is these bytes. The last ones are compared first, since names often begin alike.
+#[inline(always)]
+fn has_bytes(name: &str, text: &[u8]) -> bool
+    ensures { result ≡ bytes_eq name.now text.now }
+{
+    let name = name.as_bytes();
+    name.len() == text.len() && name.last() == text.last() && name == text
 }

@@ -10,6 +10,7 @@ mod maps;
 mod mixed;
 mod mixed_texts;
 mod numbers;
+mod plain_lists;
 mod scan;
 mod texts;
 mod unknown;

@@ -1,7 +1,9 @@
 //! Sets of names that are read one by one.
 
-ghost use Rattle.std.specs.Prelude.{◌≡◌};
+ghost use Rattle.std.specs.Prelude.{◌≡◌, Some, None, cond, is_none, option_map};
+ghost use Rattle.std.specs.Option.{option_or};
 ghost use Rattle.enumset.specs.JsonNames.{decided};
+ghost use Rattle.enumset.specs.JsonPlain.{with_named};
 
 use super::fault::JsonFault;
 use super::unknown::Unknown;
@@ -22,5 +24,25 @@ pub(super) fn decided<T: EnumSetNames>(
             Some(place) => Err(JsonFault::UnknownName(place)),
             None => Ok(set),
         },
+    }
+}
+
+// One more name of a list: the value that it names, if it names one, else its place.
+#[inline(always)]
+pub(super) fn take_name<T: EnumSetNames>(
+    set: &mut EnumSet<T>,
+    first_unknown: &mut Option<usize>,
+    value: Option<T>,
+    place: usize,
+)
+    ensures set { set.new ≡ with_named (option_map T.elements.bit value) set.old }
+    ensures first { first_unknown.new ≡ option_or first_unknown.old
+        (cond (is_none (option_map T.elements.bit value)) (Some place) None) }
+{
+    match value {
+        Some(value) => {
+            set.insert(value);
+        }
+        None => *first_unknown = first_unknown.or(Some(place)),
     }
 }

@@ -8,9 +8,9 @@ ghost use Rattle.enumset.specs.JsonNames.{set_of_values, set_of_list, list_value
 ghost use Rattle.enumset.specs.declared.set_json.fault.JsonFault.TheVariants.{OutOfMemory};
 
 use super::fault::JsonFault;
-use super::known::decided;
+use super::known::{decided, take_name};
 use super::unknown::Unknown;
-use crate::names::EnumSetNames;
+use crate::names::{EnumSetNames, find_name};
 use enumset_sets::EnumSet;
 use serde_json::Value;
 use std::alloc::Global;
@@ -51,14 +51,11 @@ fn set_of_values<T: EnumSetNames>(
 {
     let mut set = EnumSet::new();
     let mut first_unknown = None;
+    let mut next = 0;
     for (place, item) in items.iter().enumerate() {
         let text = item.as_str().ok_or(JsonFault::NotAText(place))?;
-        match T::of_name(text) {
-            Some(element) => {
-                set.insert(element);
-            }
-            None => first_unknown = first_unknown.or(Some(place)),
-        }
+        let value = find_name(text.as_bytes(), &mut next);
+        take_name(&mut set, &mut first_unknown, value, place);
     }
     decided(set, first_unknown, unknown)
 }

@@ -5,7 +5,7 @@ ghost use Rattle.enumset.specs.JsonPlain.{IsPlain, AreSpaces, Passed, is_space};
 
 // Whether a byte stands for itself in a JSON string.
 #[inline(always)]
-fn is_plain_byte(byte: u8) -> bool
+pub(super) fn is_plain_byte(byte: u8) -> bool
     ensures { IsTrue result → IsPlain (byte ∷ []) }
 {
     byte != b'"' && byte != b'\\' && byte >= b' '

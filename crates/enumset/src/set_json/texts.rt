@@ -19,6 +19,7 @@ use super::fault::JsonFault;
 use super::lists::{from_list, to_list};
 use super::maps::{from_map, to_map};
 use super::numbers::{from_number, to_number};
+use super::plain_lists::{plain_list, plain_set};
 use super::unknown::Unknown;
 use super::width::JsonWidth;
 use super::words::{from_words, to_words};
@@ -62,7 +63,10 @@ pub fn to_list_text<T: EnumSetNames>(alloc: Global, set: &EnumSet<T>) -> Result<
         ≡ Some (list_value (names_of T.elements T.names) set.now)) }
     ensures fault { IfErr result (λ fault. fault ≡ OutOfMemory) }
 {
-    Ok(to_list(alloc, set)?.to_string(alloc)?)
+    match plain_list(alloc, set)? {
+        Some(text) => Ok(text),
+        None => Ok(to_list(alloc, set)?.to_string(alloc)?),
+    }
 }
 
 /// The text of the value that [`to_map`] writes. The only fault is [`JsonFault::OutOfMemory`].
@@ -110,7 +114,10 @@ pub fn from_list_text<T: EnumSetNames>(
 ) -> Result<EnumSet<T>, JsonFault>
     ensures { IsReadOf (set_of_list (names_of T.elements T.names) unknown) text.now result }
 {
-    from_list(&Value::from_str(alloc, text)?, unknown)
+    match plain_set(text, unknown) {
+        Some(set) => set,
+        None => from_list(&Value::from_str(alloc, text)?, unknown),
+    }
 }
 
 /// What [`from_map`] reads of a text's value. The other faults are [`JsonFault::NotJson`] and

@@ -9,8 +9,7 @@ use Rattle.enumset.specs.Json.{values_of}
 use Rattle.enumset.specs.JsonNames.{set_of_values}
 use Rattle.enumset.specs.declared.set_json.fault.JsonFault.TheVariants.{NotAText}
 use Rattle.enumset.proofs.NameLists.{left_at}
-use Rattle.enumset.proofs.NamesRead.{with_named, or_none, list_on, list_read, read_fault, read_next, read_end}
-use Rattle.enumset.proofs.set_json.lists.set_of_values.Goals.{in-Some, in-None}
+use Rattle.enumset.proofs.NamesRead.{list_on, list_read, read_fault, read_next, read_end}
 use Rattle.enumset.proofs.set_json.lists.set_of_values.Goals as goal
 
 pub loop-place-init : goal.loop-place-init
@@ -31,14 +30,10 @@ loop-place-preserved g c =
     let rest = map view (drop (c.loop-place.place + 1) c.args.items.now) in
     let text : as_str (view c.index-items-place.result) ≡ Some c.in_ok-text.text.now = sym c.as_str.ensures ∙ ap (option_map (λ t. t.now)) c.in_ok-text.ensures.ok_part in
     let here = ap (map view) (left_at c.args.items.now c.loop-place.place c.index-items-place.result c.loop-place-test.true c.index-items-place.is) in
-    let next : (bit first : Option ℕ) (set : BitSet) → set ≡ with_named bit c.loop-place.set → first ≡ option_or c.loop-place.first_unknown (cond (is_none bit) (Some c.loop-place.place) None) → bit ≡ bit_named names c.in_ok-text.text.now
-    → list_on names c.args.unknown (c.loop-place.place + 1) set first rest ≡ list_on names c.args.unknown 0 empty None (map view c.args.items.now) =
-    λ bit first set added unknown named. (λ j. list_on names c.args.unknown (c.loop-place.place + 1) (added j) (unknown j) rest)
-    ∙ sym (read_next _ _ _ _ _ _ c.loop-place.place c.loop-place.set c.loop-place.first_unknown _ rest _ here bit true (ap is_none text) refl (ap (λ o. bit_named names (unwrap_or o [])) text ∙ sym named)) ∙ c.loop-place.invariant in
-    elim c.match-of_name.branch [
-      | in-Some w ↦ next (Some (g.T.EnumSetType.elements.bit w.in-Some.element)) _ _ (w.set-is ∙ w.insert.ensures.inserted) (w.first_unknown-is ∙ or_none c.loop-place.first_unknown) w.in-Some.ensures
-      | in-None w ↦ next None _ _ w.set-is (w.first_unknown-is ∙ w.or-first_unknown.ensures) w.in-None.ensures
-    ]
+    let bit = option_map g.T.EnumSetType.elements.bit c.find_name-value.result in
+    let named : bit ≡ bit_named names c.in_ok-text.text.now = c.find_name-value.ensures ∙ ap (bit_named names) c.as_bytes.ensures.value in
+    (λ j. list_on names c.args.unknown (c.loop-place.place + 1) (c.take_name.ensures.set j) (c.take_name.ensures.first j) rest)
+    ∙ sym (read_next _ _ _ _ _ _ c.loop-place.place c.loop-place.set c.loop-place.first_unknown _ rest _ here bit true (ap is_none text) refl (ap (λ o. bit_named names (unwrap_or o [])) text ∙ sym named)) ∙ c.loop-place.invariant
 
 pub returns : goal.returns
 returns g c =

@@ -7,7 +7,8 @@ use Rattle.serde_json.specs.Find.{as_bool}
 use Rattle.enumset.specs.Names.{names_of, bit_named}
 use Rattle.enumset.specs.JsonNames.{members_in, set_of_members}
 use Rattle.enumset.specs.declared.set_json.fault.JsonFault.TheVariants.{NotABoolean}
-use Rattle.enumset.proofs.NamesRead.{with_named, or_none, seen, map_on, map_read, read_fault, read_next, read_end}
+use Rattle.enumset.specs.JsonPlain.{with_named}
+use Rattle.enumset.proofs.NamesRead.{or_none, seen, map_on, map_read, read_fault, read_next, read_end}
 use Rattle.enumset.proofs.set_json.maps.set_of_members.Goals.{in-Some-of_name+then-is_member, in-Some-of_name+else-is_member, in-None-of_name}
 use Rattle.enumset.proofs.set_json.maps.set_of_members.Goals as goal
 

@@ -1,0 +1,54 @@
+-- A name among those of a type, looked for in a later part of the list, then in the part before.
+use Rattle.std.proofs.Common.{◌≡◌, ℕ, true, cond, Some, None, Option, List, [], ◌∷◌, ◌++◌, length, map, take, drop, refl, sym, ap, ◌∙◌, arith, inl, inr, true≢false}
+use Rattle.std.specs.Prelude.{zip}
+use Rattle.std.specs.List.{list_any}
+use Rattle.std.specs.Str.{bytes_eq}
+use Rattle.std.proofs.lemmas.Bool.{or_left, or_right, and_parts, not-true, cases_Bool, cond-true, cond-false}
+use Rattle.std.proofs.lemmas.List.{map-append, take-append-drop}
+use Rattle.std.proofs.lemmas.Slice.Eq.{bytes_eq-Decides}
+use Rattle.enumset.specs.Names.{Names, bit_named, are_distinct}
+
+texts : Names → List (List ℕ)
+texts ns = map (λ n. n.1) ns
+
+texts_zip : (bs : List ℕ) (names : List (List ℕ)) → length names ≡ length bs → texts (zip bs names) ≡ names
+unfolding texts
+texts_zip [] [] len = refl
+texts_zip (b ∷ bs) (n ∷ names) len = ap (λ ts. n ∷ ts) (texts_zip bs names (omega (arith, len)))
+texts_zip [] (n ∷ names) len = absurd (omega (arith, len))
+texts_zip (b ∷ bs) [] len = absurd (omega (arith, len))
+
+among : (ns : Names) (t : List ℕ) (b : ℕ) → bit_named ns t ≡ Some b → list_any (λ m. bytes_eq m t) (texts ns) ≡ true
+unfolding texts
+among (n ∷ ns) t b is = elim (cases_Bool (bytes_eq n.1 t)) [
+  | inl here ↦ or_left (bytes_eq n.1 t) _ here
+  | inr other ↦ or_right (bytes_eq n.1 t) _ (among ns t b (sym (cond-false (bytes_eq n.1 t) (Some n.0) _ other) ∙ is))
+]
+among [] t b is = absurd (cc)
+
+-- where no name comes twice, one that is found in the later part is the first
+later_at : (xs ys : Names) (t : List ℕ) (b : ℕ) → are_distinct (texts (xs ++ ys)) ≡ true → bit_named ys t ≡ Some b → bit_named (xs ++ ys) t ≡ Some b
+unfolding texts
+later_at [] ys t b apart is = is
+later_at (x ∷ xs) ys t b apart is =
+    let rest = later_at xs ys t b (and_parts _ _ apart).1 is in
+    elim (cases_Bool (bytes_eq x.1 t)) [
+      | inl here ↦ absurd (true≢false (sym (among (xs ++ ys) t b rest) ∙ ap (λ u. list_any (λ m. bytes_eq m u) (texts (xs ++ ys))) (sym ((bytes_eq-Decides x.1 t).0 here)) ∙ not-true _ (and_parts _ _ apart).0))
+      | inr other ↦ cond-false (bytes_eq x.1 t) (Some x.0) _ other ∙ rest
+    ]
+
+earlier_at : (xs ys : Names) (t : List ℕ) → bit_named ys t ≡ None → bit_named (xs ++ ys) t ≡ bit_named xs t
+earlier_at [] ys t none = none
+earlier_at (x ∷ xs) ys t none = ap (λ o. cond (bytes_eq x.1 t) (Some x.0) o) (earlier_at xs ys t none)
+
+-- what the two searches find, of the names of a type cut in two
+module _ (bs : List ℕ) (names : List (List ℕ)) (xs ys : Names) (t : List ℕ) (whole : xs ++ ys ≡ zip bs names) where
+  pub found_later : length names ≡ length bs → are_distinct names ≡ true → (b : ℕ) → bit_named ys t ≡ Some b → bit_named (zip bs names) t ≡ Some b
+  found_later len apart b is = ap (λ ns. bit_named ns t) (sym whole) ∙ later_at xs ys t b (ap are_distinct (ap texts whole ∙ texts_zip bs names len) ∙ apart) is
+
+  pub found_earlier : bit_named ys t ≡ None → bit_named (zip bs names) t ≡ bit_named xs t
+  found_earlier none = ap (λ ns. bit_named ns t) (sym whole) ∙ earlier_at xs ys t none
+
+-- the two parts of a list that is cut in two
+pub cut : {A : Type 0} (named : A → ℕ × List ℕ) (all front back : List A) (i : ℕ) → front ≡ take i all → back ≡ drop i all → map named front ++ map named back ≡ map named all
+cut named all front back i first rest = sym (map-append named front back) ∙ ap (map named) ((λ j. first j ++ rest j) ∙ take-append-drop i all)

@@ -1,0 +1,59 @@
+-- What the loop of the reader of plain lists keeps.
+use Rattle.std.proofs.Common.{◌≡◌, ◌+◌, ℕ, cond, List, [], ◌∷◌, ◌++◌, Option, Some, None, Ok, refl, sym, ap, ◌∙◌, inr, subst}
+use Rattle.std.specs.Prelude.{is_none, option_map, Result, true}
+use Rattle.std.specs.Option.{option_or}
+use Rattle.enumset_repr.specs.BitSet.{BitSet, empty}
+use Rattle.serde_json.specs.Data.{Data, array, string, item, no_items, Items}
+use Rattle.serde_json.specs.Read.{read}
+use Rattle.enumset.specs.Json.{values_of}
+use Rattle.enumset.specs.JsonNames.{set_of_list, decided}
+use Rattle.enumset.specs.JsonPlain.{IsPlain, AreSpaces, Passed, with_named}
+use Rattle.enumset.specs.JsonReads.{value_read, IsResult, IsReadOf}
+use Rattle.enumset.specs.Names.{Names, bit_named}
+use Rattle.enumset.specs.declared.set_json.fault.JsonFault.{JsonFault}
+use Rattle.enumset.specs.declared.set_json.unknown.Unknown.{Unknown}
+use Rattle.enumset.specs.declared.set_json.unknown.Unknown.TheVariants.{Drop, Refuse}
+use Rattle.enumset.proofs.JsonLists.{no_strings, first_string, next_string, last_string}
+use Rattle.enumset.proofs.NamesRead.{list_on, list_read_all, read_next, read_end}
+
+-- what a text's value is read as is what is read of the text
+pub is_read : (reader : Data → Result BitSet JsonFault) (text : List ℕ) (wanted result : Result BitSet JsonFault) → value_read reader text ≡ Some wanted → result ≡ wanted → IsReadOf reader text result
+is_read reader text wanted result e is = inr (subst (λ o. IsResult o result) (sym e) is)
+
+-- where no name is unknown, the set is read
+pub no_unknown : (unknown : Unknown) (s t : BitSet) → s ≡ t → Ok s ≡ decided unknown None t
+no_unknown Drop s t same = ap Ok same
+no_unknown Refuse s t same = ap Ok same
+
+module _ (names : Names) (unknown : Unknown) (text : List ℕ) where
+  -- where what is left after an opening quote is that of a list, the text is read as the names before it and this list
+  abbrev pub GoesOn : List ℕ → ℕ → BitSet → Option ℕ → Type 0
+  GoesOn left place s first =
+      (ds : Items) → read (91 ∷ 34 ∷ left) ≡ Some (array ds) → value_read (set_of_list names unknown) text ≡ Some (list_on names unknown place s first (values_of ds))
+
+  read_as : (ds : Items) → read text ≡ Some (array ds) → value_read (set_of_list names unknown) text ≡ Some (list_on names unknown 0 empty None (values_of ds))
+  read_as ds e = ap (option_map (set_of_list names unknown)) e ∙ ap Some (sym (list_read_all names unknown (values_of ds)))
+
+  pub none_named : (rest end : List ℕ) → Passed text 91 rest → Passed rest 93 end → AreSpaces end → value_read (set_of_list names unknown) text ≡ Some (decided unknown None empty)
+  none_named rest end (f, fs, is) (g, gs, here) hs =
+      read_as no_items (ap read (is ∙ ap (λ r. f ++ 91 ∷ r) here) ∙ no_strings f g end fs gs hs) ∙ ap Some (read_end _ _ _ _ names unknown 0 empty None [] refl)
+
+  pub goes_on_from : (rest left : List ℕ) → Passed text 91 rest → Passed rest 34 left → GoesOn left 0 empty None
+  goes_on_from rest left (f, fs, is) (g, gs, here) ds e = read_as ds (ap read (is ∙ ap (λ r. f ++ 91 ∷ r) here) ∙ first_string f g left fs gs ∙ e)
+
+  module _ (left name rest : List ℕ) (place : ℕ) (s next : BitSet) (first later : Option ℕ) (bit : Option ℕ) (so_far : GoesOn left place s first) (plain : IsPlain name) (split : left ≡ name ++ 34 ∷ rest)
+    (named : bit ≡ bit_named names name) (added : next ≡ with_named bit s) (seen : later ≡ option_or first (cond (is_none bit) (Some place) None)) where
+    one_read : (ds : Items) → list_on names unknown place s first (string name ∷ values_of ds) ≡ list_on names unknown (place + 1) next later (values_of ds)
+    one_read ds =
+        read_next _ _ _ _ names unknown place s first _ (values_of ds) (string name) refl bit true refl refl (sym named)
+        ∙ (λ j. list_on names unknown (place + 1) (sym added j) (sym seen j) (values_of ds))
+
+    pub goes_on : (after following : List ℕ) → Passed rest 44 after → Passed after 34 following → GoesOn following (place + 1) next later
+    goes_on after following (g, gs, is) (h, hs, here) ds e =
+        so_far (item (string name) ds) (ap (λ l. read (91 ∷ 34 ∷ l)) (split ∙ ap (λ r. name ++ 34 ∷ r) (is ∙ ap (λ r. g ++ 44 ∷ r) here)) ∙ next_string name g h following ds plain gs hs e)
+        ∙ ap Some (one_read ds)
+
+    pub ends : (end : List ℕ) → Passed rest 93 end → AreSpaces end → value_read (set_of_list names unknown) text ≡ Some (decided unknown later next)
+    ends end (g, gs, is) hs =
+        so_far (item (string name) no_items) (ap (λ l. read (91 ∷ 34 ∷ l)) (split ∙ ap (λ r. name ++ 34 ∷ r) is) ∙ last_string name g end plain gs hs)
+        ∙ ap Some (one_read no_items ∙ read_end _ _ _ _ names unknown (place + 1) next later [] refl)

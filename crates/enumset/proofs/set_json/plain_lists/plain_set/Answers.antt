@@ -1,0 +1,39 @@
+use Rattle.std.proofs.Common.{Ok, None, option_map, refl, sym, ap, subst}
+use Rattle.enumset_repr.specs.BitSet.{empty}
+use Rattle.enumset.specs.JsonNames.{set_of_list, decided}
+use Rattle.enumset.specs.JsonPlain.{Passed}
+use Rattle.enumset.specs.Names.{names_of}
+use Rattle.enumset.proofs.PlainLists.{GoesOn, is_read, none_named, goes_on_from, goes_on, ends, no_unknown}
+use Rattle.enumset.proofs.set_json.plain_lists.plain_set.Goals as goal
+
+pub returns-then-are_spaces : goal.returns-then-are_spaces
+returns-then-are_spaces g c =
+    let names = names_of g.T.EnumSetType.elements g.T.EnumSetNames.names in
+    let begins = subst (λ text. Passed text 91 c.in_ok-rest.rest.now) c.as_bytes-2.ensures.value c.in_ok-rest.ensures in
+    is_read (set_of_list names c.args.unknown) c.args.text.now (decided c.args.unknown None empty) (Ok c.new.result)
+    (none_named names c.args.unknown c.args.text.now c.in_ok-rest.rest.now c.in-Some.end.now begins c.in-Some.ensures (c.if-are_spaces.ensures refl))
+    (no_unknown c.args.unknown c.new.result empty c.new.ensures)
+
+pub loop-place-init : goal.loop-place-init
+loop-place-init g c =
+    let names = names_of g.T.EnumSetType.elements g.T.EnumSetNames.names in
+    let begins = subst (λ text. Passed text 91 c.in_ok-rest.rest.now) c.as_bytes-2.ensures.value c.in_ok-rest.ensures in
+    subst (λ s. GoesOn names c.args.unknown c.args.text.now c.in_ok-left.left.now 0 s None) (sym c.new-set.ensures)
+    (goes_on_from names c.args.unknown c.args.text.now c.in_ok-rest.rest.now c.in_ok-left.left.now begins c.in_ok-left.ensures)
+
+pub loop-place-preserved : goal.loop-place-preserved
+loop-place-preserved g c =
+    goes_on (names_of g.T.EnumSetType.elements g.T.EnumSetNames.names) c.args.unknown c.args.text.now c.loop-place.left.now c.in_ok-name.name.now c.in_ok-name.rest.now c.loop-place.place
+    c.loop-place.set c.take_name.new.set c.loop-place.first_unknown c.take_name.new.first_unknown (option_map g.T.EnumSetType.elements.bit c.find_name-value.result)
+    c.loop-place.invariant c.in_ok-name.ensures.0 c.in_ok-name.ensures.1 c.find_name-value.ensures c.take_name.ensures.set c.take_name.ensures.first
+    c.in_ok-after_byte.field-0.now c.in_ok-left-2.left.now c.in_ok-after_byte.ensures c.in_ok-left-2.ensures
+
+pub returns-then-are_spaces-2 : goal.returns-then-are_spaces-2
+returns-then-are_spaces-2 g c =
+    let names = names_of g.T.EnumSetType.elements g.T.EnumSetNames.names in
+    is_read (set_of_list names c.args.unknown) c.args.text.now (decided c.args.unknown c.take_name.new.first_unknown c.take_name.new.set) c.decided.result
+    (ends names c.args.unknown c.args.text.now c.loop-place.left.now c.in_ok-name.name.now c.in_ok-name.rest.now c.loop-place.place
+    c.loop-place.set c.take_name.new.set c.loop-place.first_unknown c.take_name.new.first_unknown (option_map g.T.EnumSetType.elements.bit c.find_name-value.result)
+    c.loop-place.invariant c.in_ok-name.ensures.0 c.in_ok-name.ensures.1 c.find_name-value.ensures c.take_name.ensures.set c.take_name.ensures.first
+    c.in-Some-after_byte.end.now c.in-Some-after_byte.ensures (c.if-are_spaces-2.ensures refl))
+    c.decided.ensures

@@ -1,0 +1,109 @@
+//! Texts of lists of names that stand for themselves, written and read without a tree of values.
+
+ghost use Rattle.std.specs.Prelude.{◌≡◌, ◌++◌, ◌∷◌, [], IfOk, IfSome, OnOk, Some, string_bytes};
+ghost use Rattle.serde_json.specs.Read.{read};
+ghost use Rattle.serde_json.specs.Written.{compact_text, comma_if};
+ghost use Rattle.enumset.specs.JsonNames.{list_value, set_of_list};
+ghost use Rattle.enumset.specs.JsonReads.{IsReadOf};
+ghost use Rattle.enumset.specs.Names.{names_of};
+
+use super::fault::JsonFault;
+use super::known::{decided, take_name};
+use super::scan::{after_byte, are_spaces, is_plain, is_plain_byte, split_string};
+use super::unknown::Unknown;
+use crate::names::{EnumSetNames, find_name};
+use enumset_sets::EnumSet;
+use std::alloc::{AllocError, Global};
+
+// The list of the members' names, unless one of them needs an escape.
+pub(super) fn plain_list<T: EnumSetNames>(
+    alloc: Global,
+    set: &EnumSet<T>,
+) -> Result<Option<String>, AllocError>
+    ensures text { IfOk result (λ o. IfSome o (λ text. string_bytes text
+        ≡ compact_text (list_value (names_of T.elements T.names) set.now))) }
+    ensures reads { IfOk result (λ o. IfSome o (λ text. read (string_bytes text)
+        ≡ Some (list_value (names_of T.elements T.names) set.now))) }
+{
+    // Most names have at most thirteen bytes.
+    let mut text = String::with_capacity(alloc, set.len().saturating_mul(16))?;
+    text.push_str("[")?;
+    let mut later = false;
+    for element in set.iter() {
+        let name = element.name();
+        if !is_plain(name) {
+            return Ok(None);
+        }
+        put_name(&mut text, name, later)?;
+        later = true;
+    }
+    text.push_str("]")?;
+    Ok(Some(text))
+}
+
+// One more name of a list.
+#[inline(always)]
+fn put_name(list: &mut String, name: &str, later: bool) -> Result<(), AllocError>
+    ensures { OnOk result (string_bytes list.new
+        ≡ string_bytes list.old ++ (comma_if later ++ (34 ∷ (name.now ++ 34 ∷ [])))) }
+{
+    list.push_str(if later { ",\"" } else { "\"" })?;
+    list.push_str(name)?;
+    list.push_str("\"")
+}
+
+// What is read of a list of plain strings, with spaces anywhere between its tokens. No other text is read.
+pub(super) fn plain_set<T: EnumSetNames>(
+    text: &str,
+    unknown: Unknown,
+) -> Option<Result<EnumSet<T>, JsonFault>>
+    ensures { IfSome result (λ set.
+        IsReadOf (set_of_list (names_of T.elements T.names) unknown) text.now set) }
+{
+    if !ends_as_list(text.as_bytes()) {
+        return None;
+    }
+    let rest = after_byte(text.as_bytes(), b'[')?;
+    if let Some(end) = after_byte(rest, b']') {
+        return if are_spaces(end) { Some(Ok(EnumSet::new())) } else { None };
+    }
+    let mut left = after_byte(rest, b'"')?;
+    let mut set = EnumSet::new();
+    let mut first_unknown = None;
+    let mut next = 0;
+    for place in 0..text.len() {
+        let (name, rest) = split_string(left)?;
+        let value = find_name(name, &mut next);
+        take_name(&mut set, &mut first_unknown, value, place);
+        if let Some(end) = after_byte(rest, b']') {
+            return if are_spaces(end) { Some(decided(set, first_unknown, unknown)) } else { None };
+        }
+        left = after_byte(after_byte(rest, b',')?, b'"')?;
+    }
+    None
+}
+
+// Whether the last string of a text, and what follows it, may end a list of plain strings. A text with a fault at its end
+// is not read twice so.
+fn ends_as_list(bytes: &[u8]) -> bool {
+    let Some(inside) = before_byte(bytes, b']') else {
+        return false;
+    };
+    let Some(string) = before_byte(inside, b'"') else {
+        return before_byte(inside, b'[').is_some();
+    };
+    for i in (0..string.len()).rev() {
+        if !is_plain_byte(string[i]) {
+            let before = &string[..i];
+            return string[i] == b'"'
+                && (before_byte(before, b',').is_some() || before_byte(before, b'[').is_some());
+        }
+    }
+    false
+}
+
+// What precedes a byte that stands last but for spaces.
+fn before_byte(bytes: &[u8], byte: u8) -> Option<&[u8]> {
+    let (last, rest) = bytes.trim_ascii_end().split_last()?;
+    if *last == byte { Some(rest) } else { None }
+}
