@@ -1,5 +1,5 @@
 -- What the steps over a text pass.
-use Rattle.std.proofs.Common.{◌≡◌, ◌<◌, ◌+◌, ℕ, zero, suc, List, [], ◌∷◌, ◌++◌, length, take, get_or, append-nil, subst, sym, ap, ◌∙◌, arith}
+use Rattle.std.proofs.Common.{◌≡◌, ◌<◌, ◌+◌, ℕ, zero, suc, List, [], ◌∷◌, ◌++◌, length, take, get_or, append-nil, subst, sym, ◌∙◌, arith}
 use Rattle.std.specs.Prelude.{true}
 use Rattle.enumset.specs.JsonPlain.{IsPlainByte, IsPlain, is_space, AreSpaces}
 

@@ -5,7 +5,7 @@ use Rattle.std.specs.List.{cons_option, position_from}
 use Rattle.std.specs.Option.{option_or}
 use Rattle.std.proofs.lemmas.Iterator.Adapters.{position_from-zero}
 use Rattle.std.specs.declared.alloc.Global.{Global}
-use Rattle.enumset_repr.specs.BitSet.{BitSet, empty, insert, union, from_list}
+use Rattle.enumset_repr.specs.BitSet.{BitSet, empty, union, from_list}
 use Rattle.enumset_repr.specs.Laws.Algebra.{empty_union, union_insert, insert_union}
 use Rattle.enumset_sets.specs.Laws.Folds.{union_none}
 use Rattle.serde_json.specs.Data.{Data}

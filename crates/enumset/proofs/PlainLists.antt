@@ -42,7 +42,7 @@ module _ (names : Names) (unknown : Unknown) (text : List ℕ) where
   goes_on_from rest left (f, fs, is) (g, gs, here) ds e = read_as ds (ap read (is ∙ ap (λ r. f ++ 91 ∷ r) here) ∙ first_string f g left fs gs ∙ e)
 
   module _ (left name rest : List ℕ) (place : ℕ) (s next : BitSet) (first later : Option ℕ) (bit : Option ℕ) (so_far : GoesOn left place s first) (plain : IsPlain name) (split : left ≡ name ++ 34 ∷ rest)
-    (named : bit ≡ bit_named names name) (added : next ≡ with_named bit s) (seen : later ≡ option_or first (cond (is_none bit) (Some place) None)) where
+      (named : bit ≡ bit_named names name) (added : next ≡ with_named bit s) (seen : later ≡ option_or first (cond (is_none bit) (Some place) None)) where
     one_read : (ds : Items) → list_on names unknown place s first (string name ∷ values_of ds) ≡ list_on names unknown (place + 1) next later (values_of ds)
     one_read ds =
         read_next _ _ _ _ names unknown place s first _ (values_of ds) (string name) refl bit true refl refl (sym named)

@@ -65,7 +65,11 @@ pub(super) fn plain_set<T: EnumSetNames>(
     }
     let rest = after_byte(text.as_bytes(), b'[')?;
     if let Some(end) = after_byte(rest, b']') {
-        return if are_spaces(end) { Some(Ok(EnumSet::new())) } else { None };
+        return if are_spaces(end) {
+            Some(Ok(EnumSet::new()))
+        } else {
+            None
+        };
     }
     let mut left = after_byte(rest, b'"')?;
     let mut set = EnumSet::new();
@@ -76,7 +80,11 @@ pub(super) fn plain_set<T: EnumSetNames>(
         let value = find_name(name, &mut next);
         take_name(&mut set, &mut first_unknown, value, place);
         if let Some(end) = after_byte(rest, b']') {
-            return if are_spaces(end) { Some(decided(set, first_unknown, unknown)) } else { None };
+            return if are_spaces(end) {
+                Some(decided(set, first_unknown, unknown))
+            } else {
+                None
+            };
         }
         left = after_byte(after_byte(rest, b',')?, b'"')?;
     }

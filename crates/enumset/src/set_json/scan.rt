@@ -74,7 +74,11 @@ pub(super) fn split_string(bytes: &[u8]) -> Option<(&[u8], &[u8])>
         if !is_plain_byte(bytes[i]) {
             let (string, rest) = bytes.split_at(i);
             let (quote, rest) = rest.split_first()?;
-            return if *quote == b'"' { Some((string, rest)) } else { None };
+            return if *quote == b'"' {
+                Some((string, rest))
+            } else {
+                None
+            };
         }
     }
     None

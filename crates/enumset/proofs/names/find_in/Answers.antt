@@ -1,7 +1,5 @@
-use Rattle.std.proofs.Common.{map, sym, ap, ◌∙◌}
-use Rattle.std.proofs.lemmas.Bool.{cond-true, cond-false}
-use Rattle.std.proofs.lemmas.List.{drop_all}
-use Rattle.enumset.specs.Names.{bit_named}
+use Rattle.std.proofs.Common.{sym, ◌∙◌}
+use Rattle.std.proofs.lemmas.Bool.{cond-false}
 use Rattle.enumset.proofs.NameLists.{left_at, bit_first}
 use Rattle.enumset.proofs.names.find_in.Goals as goal
 

@@ -1,7 +1,5 @@
-use Rattle.std.proofs.Common.{◌≡◌, ◌+◌, ℕ, cond, true, Option, None, Some, Err, is_none, option_map, unwrap_or, [], map, drop, refl, sym, ap, ◌∙◌, arith, rules}
+use Rattle.std.proofs.Common.{◌≡◌, ◌+◌, true, None, Some, Err, is_none, option_map, unwrap_or, [], map, drop, refl, sym, ap, ◌∙◌, arith, rules}
 use Rattle.std.proofs.lemmas.List.{drop_all}
-use Rattle.std.specs.Option.{option_or}
-use Rattle.enumset_repr.specs.BitSet.{BitSet, empty}
 use Rattle.serde_json.specs.View.{view, items_view}
 use Rattle.serde_json.specs.Find.{as_str}
 use Rattle.enumset.specs.Names.{names_of, bit_named}

@@ -1,6 +1,5 @@
-use Rattle.std.proofs.Common.{rules, arith, ◌≡◌, ◌∷◌, ◌++◌, map, string_bytes, sym, ap, subst, ◌∙◌}
+use Rattle.std.proofs.Common.{rules, arith, ◌≡◌, ◌∷◌, map, string_bytes, sym, ap, subst, ◌∙◌}
 use Rattle.std.proofs.lemmas.Grind.{common_steps}
-use Rattle.enumset_repr.specs.BitSet.{ascending}
 use Rattle.serde_json.specs.Read.{read}
 use Rattle.serde_json.specs.Written.{compact_text}
 use Rattle.enumset.specs.JsonNames.{list_value}
@@ -17,9 +16,10 @@ loop-element-preserved g c =
     let cs = c.next.new.self.items in
     let bs = c.loop-element.element-iterator.items in
     let here : bs ≡ b ∷ cs = grind (arith, common_steps) in
-    let is : c.name-name.result.now ≡ name b = c.name-name.ensures in
-    (next_text name c.name-name.result.now bs cs b here is plain (string_bytes c.loop-element.text) (string_bytes c.put_name.new.list) _ c.loop-element.later (search rules) c.loop-element.invariant.0,
-    next_plain name c.name-name.result.now bs cs b here is plain c.loop-element.invariant.1)
+    let is : c.name-name.result.now ≡ name b = c.name-name.ensures in (
+      next_text name c.name-name.result.now bs cs b here is plain (string_bytes c.loop-element.text) (string_bytes c.put_name.new.list) _ c.loop-element.later (search rules) c.loop-element.invariant.0,
+      next_plain name c.name-name.result.now bs cs b here is plain c.loop-element.invariant.1,
+    )
 
 pub returns-clause-reads : goal.returns-clause-reads
 returns-clause-reads g c =

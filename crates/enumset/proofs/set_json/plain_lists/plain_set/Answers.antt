@@ -1,4 +1,4 @@
-use Rattle.std.proofs.Common.{Ok, None, option_map, refl, sym, ap, subst}
+use Rattle.std.proofs.Common.{Ok, None, option_map, refl, sym, subst}
 use Rattle.enumset_repr.specs.BitSet.{empty}
 use Rattle.enumset.specs.JsonNames.{set_of_list, decided}
 use Rattle.enumset.specs.JsonPlain.{Passed}

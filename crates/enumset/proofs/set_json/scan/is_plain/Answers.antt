@@ -1,4 +1,4 @@
-use Rattle.std.proofs.Common.{◌≡◌, refl, subst, sym, drop, get_or}
+use Rattle.std.proofs.Common.{refl, subst, sym}
 use Rattle.std.proofs.lemmas.List.{drop_all, drop_more}
 use Rattle.enumset.specs.JsonPlain.{IsPlain}
 use Rattle.enumset.proofs.set_json.scan.is_plain.Goals as goal
