@@ -14,3 +14,8 @@ mod JsonSpaces
 mod JsonLists
 mod JsonScans
 mod PlainLists
+mod MapHandles
+mod MapTokens
+mod MapSteps
+mod MapsWritten
+mod MapsRead

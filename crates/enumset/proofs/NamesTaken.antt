@@ -95,10 +95,10 @@ abbrev pub Each : (List ℕ → Data → Type 0) → Members → Type 0
 Each P no_members = Unit {0}
 Each P (member t d ms) = P t d × Each P ms
 
-same_key : (k l : List ℕ) → slice_cmp nat_cmp k l ≡ Equal → k ≡ l
+pub same_key : (k l : List ℕ) → slice_cmp nat_cmp k l ≡ Equal → k ≡ l
 same_key k l tied = (bytes_eq-Decides k l).0 (sym (is_eq-slice_cmp k l) ∙ ap is_eq tied)
 
-each_put : (P : List ℕ → Data → Type 0) (k : List ℕ) (d : Data) (ms : Members) → P k d → Each P ms → Each P (put k d ms)
+pub each_put : (P : List ℕ → Data → Type 0) (k : List ℕ) (d : Data) (ms : Members) → P k d → Each P ms → Each P (put k d ms)
 each_put P k d no_members one each = (one, tt)
 each_put P k d (member l e ms) one each = at _ refl (each_put P k d ms one each.1)
   where

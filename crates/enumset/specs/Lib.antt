@@ -7,3 +7,4 @@ pub mod Names
 pub mod BothEnds
 pub mod Laws
 pub mod JsonPlain
+pub mod JsonMapTexts

@@ -6,6 +6,8 @@
 mod fault;
 mod known;
 mod lists;
+mod map_scan;
+mod map_texts;
 mod maps;
 mod mixed;
 mod mixed_texts;

@@ -17,6 +17,8 @@ ghost use Rattle.enumset_sets.specs.Elements.{valid_bits};
 
 use super::fault::JsonFault;
 use super::lists::{from_list, to_list};
+use super::map_scan::plain_map_set;
+use super::map_texts::plain_map;
 use super::maps::{from_map, to_map};
 use super::numbers::{from_number, to_number};
 use super::plain_lists::{plain_list, plain_set};
@@ -77,7 +79,10 @@ pub fn to_map_text<T: EnumSetNames>(alloc: Global, set: &EnumSet<T>) -> Result<S
         ≡ Some (map_value (names_of T.elements T.names) set.now)) }
     ensures fault { IfErr result (λ fault. fault ≡ OutOfMemory) }
 {
-    Ok(to_map(alloc, set)?.to_string(alloc)?)
+    match plain_map(alloc, set)? {
+        Some(text) => Ok(text),
+        None => Ok(to_map(alloc, set)?.to_string(alloc)?),
+    }
 }
 
 /// What [`from_number`] reads of a text's value. The other faults are [`JsonFault::NotJson`] and
@@ -129,5 +134,8 @@ pub fn from_map_text<T: EnumSetNames>(
 ) -> Result<EnumSet<T>, JsonFault>
     ensures { IsReadOf (set_of_map (names_of T.elements T.names) unknown) text.now result }
 {
-    from_map(&Value::from_str(alloc, text)?, unknown)
+    match plain_map_set(text) {
+        Some(set) => Ok(set),
+        None => from_map(&Value::from_str(alloc, text)?, unknown),
+    }
 }

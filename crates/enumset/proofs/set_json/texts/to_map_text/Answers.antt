@@ -2,8 +2,8 @@ use Rattle.std.proofs.Common.{arith}
 use Rattle.enumset.proofs.WrittenValues.{map_flat}
 use Rattle.enumset.proofs.set_json.texts.to_map_text.Goals as goal
 
-pub returns-clause-text : goal.returns-clause-text
-returns-clause-text g c = grind (arith, map_flat)
+pub returns-in_ok-to_string-in-None-clause-text : goal.returns-in_ok-to_string-in-None-clause-text
+returns-in_ok-to_string-in-None-clause-text g c = grind (arith, map_flat)
 
-pub returns-clause-reads : goal.returns-clause-reads
-returns-clause-reads g c = grind (arith, map_flat)
+pub returns-in_ok-to_string-in-None-clause-reads : goal.returns-in_ok-to_string-in-None-clause-reads
+returns-in_ok-to_string-in-None-clause-reads g c = grind (arith, map_flat)

@@ -1,0 +1,79 @@
+-- The reader of values, at any depth and any tokens, taken from the definition of `read`.
+use Rattle.std.proofs.Common.{◌≡◌, ℕ, suc, List, [], ◌∷◌, ◌++◌, length, refl, arith}
+use Rattle.std.specs.Prelude.{Bool, Option, Some, None, false, true, option_and_then, option_map}
+use Rattle.serde_json.specs.Data.{Data, object, boolean, Members, member, no_members}
+use Rattle.serde_json.specs.Read.{read, of_json}
+use Rattle.serde_json.specs.Written.{outline, members_outline}
+use Rattle.serde_json.specs.Sent.{text_token, bool_token}
+use Rattle.serde_json.proofs.OnLiterals.{serde_json_on_literals}
+use Rattle.enumset.proofs.JsonTokens.{tokens, Tokens, Json, TypeOf}
+
+-- `option_and_then`, which does not unfold
+unfoldable pub then : {A B : Type 0} → (A → Option B) → Option A → Option B
+then f None = None
+then f (Some a) = f a
+
+pub then_is : {A B : Type 0} (f : A → Option B) (o : Option A) → option_and_then f o ≡ then f o
+unfolding then
+then_is f None = refl
+then_is f (Some a) = refl
+
+pub itself : (text : List ℕ) → read text ≡ read text
+itself text = refl
+
+abbrev pub pick : (d : ℕ) (ts : Tokens) (f : Json → Option Data) (g : Json × Tokens → Option Json) (o : Option (Json × Tokens))
+    → ((text : List ℕ) → d ≡ 127 → ts ≡ tokens text → then f (then g o) ≡ then f (then g o)) → Option (Json × Tokens)
+pick d ts f g o same = o
+
+-- the value at the front of tokens, and those after it
+unfoldable pub value : ℕ → Tokens → Option (Json × Tokens)
+value d ts = pick d ts _ _ _ (λ text depth left. rw (then_is {A = Json} {B = Data}, then_is {A = Json × Tokens} {B = Json}, ← depth, ← left) at (itself text))
+
+-- a text whose tokens are one value reads as that value
+pub whole : (text : List ℕ) (j : Json) → value 127 (tokens text) ≡ Some (j, []) → read text ≡ of_json j
+unfolding value
+whole text j e = rw e refl
+
+-- ---- objects
+
+abbrev pub JsonMembers : Type 0
+JsonMembers = TypeOf (members_outline no_members)
+
+-- `option_map`, which does not unfold
+unfoldable pub mapped : {A B : Type 0} → (A → B) → Option A → Option B
+mapped f None = None
+mapped f (Some a) = Some (f a)
+
+pub mapped_is : {A B : Type 0} (f : A → B) (o : Option A) → option_map f o ≡ mapped f o
+unfolding mapped
+mapped_is f None = refl
+mapped_is f (Some a) = refl
+
+-- the token of an opening brace, before others
+abbrev pub brace_before : Tokens → Tokens
+brace_before ts = tokens (123 ∷ []) ++ ts
+
+abbrev pub pick_members : (d n : ℕ) (ts : Tokens) (f : JsonMembers × Tokens → Json × Tokens) (o : Option (JsonMembers × Tokens))
+    → (n ≡ length ts → mapped f o ≡ mapped f o) → Option (JsonMembers × Tokens)
+pick_members d n ts f o same = o
+
+pub object_itself : (d : ℕ) (ts : Tokens) → value (suc d) (brace_before ts) ≡ value (suc d) (brace_before ts)
+object_itself d ts = refl
+
+-- the members at the front of tokens, up to a closing brace, and the tokens after it
+unfoldable pub members : ℕ → ℕ → Tokens → Option (JsonMembers × Tokens)
+unfolding serde_json_on_literals value
+members d n ts = pick_members d n ts _ _ (λ count. rw (mapped_is {A = JsonMembers × Tokens} {B = Json × Tokens}, ← count) at (object_itself d ts))
+
+pub members_end : (d n : ℕ) → members d (suc n) (tokens (125 ∷ [])) ≡ Some (members_outline no_members, [])
+unfolding members
+members_end d n = refl
+
+pub member_step : (d n : ℕ) (ts : Tokens) (k : List ℕ) (b : Bool) (ms : Members) → members (suc d) n ts ≡ Some (members_outline ms, [])
+    → members (suc d) (suc n) (text_token true k ∷ bool_token false b ∷ ts) ≡ Some (members_outline (member k (boolean b) ms), [])
+unfolding members
+member_step d n ts k b ms h = grind (arith, h)
+
+pub object_value : (d : ℕ) (ts : Tokens) (ms : Members) → members d (length ts) ts ≡ Some (members_outline ms, []) → value (suc d) (brace_before ts) ≡ Some (outline (object ms), [])
+unfolding members
+object_value d ts ms h = grind (arith, h)

@@ -1,0 +1,141 @@
+-- What a scanner of maps keeps, and what the map that it has read is as a set.
+use Rattle.std.proofs.Common.{◌≡◌, ◌+◌, ℕ, Bool, true, false, cond, Ordering, Less, Equal, Greater, Option, Some, None, Ok, List, [], ◌∷◌, ◌++◌, refl, sym, ap, subst, ◌∙◌, inr, true≢false, arith}
+use Rattle.std.specs.Prelude.{is_none, option_map, filter_map, IfSome}
+use Rattle.std.specs.Bool.{then_some}
+use Rattle.std.specs.List.{cons_option, position_from}
+use Rattle.std.specs.Ordering.{nat_cmp, match_ordering}
+use Rattle.std.specs.Cmp.Lexicographic.{slice_cmp}
+use Rattle.std.proofs.lemmas.Iterator.Adapters.{position_from-zero}
+use Rattle.enumset_repr.specs.Laws.Algebra.{insert_comm, contains_insert}
+use Rattle.enumset_repr.specs.Laws.Members.{members}
+use Rattle.std.proofs.lemmas.Bool.Decides.{nat_tests}
+use Rattle.enumset_repr.specs.BitSet.{BitSet, empty, contains, insert, from_list}
+use Rattle.serde_json.specs.Data.{Data, boolean, object, Members, no_members, member, put}
+use Rattle.serde_json.specs.Read.{read}
+use Rattle.enumset.specs.Names.{Names, bit_named}
+use Rattle.enumset.specs.Json.{unless_fault}
+use Rattle.enumset.specs.JsonMapTexts.{boolean_before, IsMember}
+use Rattle.enumset.specs.JsonNames.{members_in, names_in, true_names, is_no_boolean, is_unknown, known_set, decided, set_of_map}
+use Rattle.enumset.specs.JsonPlain.{AreSpaces, Passed}
+use Rattle.enumset.specs.JsonReads.{IsResult, IsReadOf}
+use Rattle.enumset.specs.declared.set_json.unknown.Unknown.{Unknown}
+use Rattle.enumset.specs.declared.set_json.unknown.Unknown.TheVariants.{Drop, Refuse}
+use Rattle.enumset.specs.declared.set_json.fault.JsonFault.TheVariants.{NotABoolean}
+use Rattle.enumset.proofs.JsonTokens.{tokens}
+use Rattle.enumset.proofs.MapTokens.{put_all, member_tokens}
+use Rattle.enumset.proofs.MapSteps.{first_member, next_member, last_member, no_member}
+use Rattle.enumset.proofs.NamesTaken.{Each, same_key, each_put}
+
+module _ (names : Names) where
+  -- a boolean under a name whose bit is in a set
+  abbrev pub IsSeen : BitSet → List ℕ → Data → Type 0
+  IsSeen seen text d = ((b : Bool) × (d ≡ boolean b)) × ((c : ℕ) × (bit_named names text ≡ Some c) × (contains seen c ≡ true))
+
+  abbrev pub set_in : Members → BitSet
+  set_in ms = known_set names (true_names (members_in ms))
+
+  -- ---- such members as a set
+
+  none_faulty : (seen : BitSet) (place : ℕ) (ms : Members) → Each (IsSeen seen) ms → (position_from is_no_boolean place (members_in ms) ≡ None) × (position_from (is_unknown names) place (names_in (members_in ms)) ≡ None)
+  none_faulty seen place no_members each = (refl, refl)
+  none_faulty seen place (member text d ms) each =
+      let rest = none_faulty seen (place + 1) ms each.1 in (
+        ap (λ e. cond (is_no_boolean (text, e)) (Some place) (position_from is_no_boolean (place + 1) (members_in ms))) each.0.0.1 ∙ rest.0,
+        ap (λ o. cond (is_none o) (Some place) (position_from (is_unknown names) (place + 1) (names_in (members_in ms)))) each.0.1.1 ∙ rest.1,
+      )
+
+  none_refused : (unknown : Unknown) (s : BitSet) → decided unknown None s ≡ Ok s
+  none_refused Drop s = refl
+  none_refused Refuse s = refl
+
+  whole_set : (seen : BitSet) (unknown : Unknown) (ms : Members) → Each (IsSeen seen) ms → set_of_map names unknown (object ms) ≡ Ok (set_in ms)
+  whole_set seen unknown ms each =
+      let none = none_faulty seen 0 ms each in
+      (λ j. unless_fault NotABoolean ((position_from-zero is_no_boolean (members_in ms) ∙ none.0) j) (decided unknown ((position_from-zero (is_unknown names) (names_in (members_in ms)) ∙ none.1) j) (set_in ms)))
+      ∙ none_refused unknown (set_in ms)
+
+  -- ---- one more member
+
+  one_more : (b : Bool) (text : List ℕ) (c : ℕ) (ms : Members) → bit_named names text ≡ Some c → set_in (member text (boolean b) ms) ≡ cond b (insert (set_in ms) c) (set_in ms)
+  unfolding from_list
+  one_more true text c ms is = ap (λ o. from_list (cons_option o (filter_map (bit_named names) (true_names (members_in ms))))) is
+  one_more false text c ms is = refl
+
+  exchanged : (a b : Bool) (s : BitSet) (c e : ℕ) → cond a (insert (cond b (insert s e) s) c) (cond b (insert s e) s) ≡ cond b (insert (cond a (insert s c) s) e) (cond a (insert s c) s)
+  exchanged true true s c e = insert_comm s e c
+  exchanged true false s c e = refl
+  exchanged false true s c e = refl
+  exchanged false false s c e = refl
+
+  set_put : (seen : BitSet) (text : List ℕ) (b : Bool) (c : ℕ) (ms : Members) → bit_named names text ≡ Some c → contains seen c ≡ false → Each (IsSeen seen) ms → set_in (put text (boolean b) ms) ≡ cond b (insert (set_in ms) c) (set_in ms)
+  set_put seen text b c no_members is new each = one_more b text c no_members is
+  set_put seen text b c (member t d ms) is new (((e, bool), (n, known, old)), each) = at _ refl (set_put seen text b c ms is new each)
+    where
+      there : (ms : Members) → set_in (member t d ms) ≡ cond e (insert (set_in ms) n) (set_in ms)
+      there ms = ap (λ v. set_in (member t v ms)) bool ∙ one_more e t n ms known
+
+      at : (o : Ordering) → slice_cmp nat_cmp text t ≡ o → set_in (put text (boolean b) ms) ≡ cond b (insert (set_in ms) c) (set_in ms)
+          → set_in (match_ordering o (member text (boolean b) (member t d ms)) (member t (boolean b) ms) (member t d (put text (boolean b) ms))) ≡ cond b (insert (set_in (member t d ms)) c) (set_in (member t d ms))
+      at Less order later = one_more b text c (member t d ms) is
+      at Equal order later =
+          let same : Some c ≡ Some n = sym is ∙ ap (bit_named names) (same_key text t order) ∙ known in
+          let bit : n ≡ c = cc in
+          absurd (true≢false (sym old ∙ ap (contains seen) bit ∙ new))
+      at Greater order later =
+          there (put text (boolean b) ms) ∙ ap (λ s. cond e (insert s n) s) later ∙ exchanged e b (set_in ms) n c ∙ ap (λ s. cond b (insert s c) s) (sym (there ms))
+
+  each_more : (seen : BitSet) (c : ℕ) (ms : Members) → Each (IsSeen seen) ms → Each (IsSeen (insert seen c)) ms
+  each_more seen c no_members each = tt
+  each_more seen c (member t d ms) ((bool, (n, known, old)), each) = ((bool, (n, known, grind (arith, members, nat_tests, old))), each_more seen c ms each)
+
+  -- ---- the loop of the scanner
+
+  -- some members were read, and are this set; those of what is left after an opening quote go in after them
+  abbrev pub Scanned : List ℕ → List ℕ → BitSet → BitSet → Type 0
+  Scanned text left seen s =
+      (done : Members) × Each (IsSeen seen) done × (set_in done ≡ s) × ((ms : List (List ℕ × Bool)) → tokens (34 ∷ left) ≡ member_tokens ms → read text ≡ Some (object (put_all ms done)))
+
+  pub scan_begins : (text rest left : List ℕ) → Passed text 123 rest → Passed rest 34 left → Scanned text left empty empty
+  unfolding from_list
+  scan_begins text rest left (f, fs, first) (g, gs, second) =
+      (no_members, tt, refl, λ ms later. ap read (first ∙ ap (λ r. f ++ 123 ∷ r) second) ∙ first_member f g (34 ∷ left) ms fs gs later)
+
+  module _ (text left : List ℕ) (seen s : BitSet) (name : List ℕ) (b : Bool) (rest : List ℕ) (c : ℕ) (so_far : Scanned text left seen s) (here : IsMember left name b rest) (is : bit_named names name ≡ Some c) (new : contains seen c ≡ false) where
+    abbrev done : Members
+    done = put name (boolean b) so_far.0
+
+    each_done : Each (IsSeen (insert seen c)) done
+    each_done = each_put (IsSeen (insert seen c)) name (boolean b) so_far.0 ((b, refl), (c, is, contains_insert seen c)) (each_more seen c so_far.0 so_far.1)
+
+    set_done : set_in done ≡ cond b (insert s c) s
+    set_done = set_put seen name b c so_far.0 is new so_far.1 ∙ ap (λ t. cond b (insert t c) t) so_far.2
+
+    pub scan_next : (after next : List ℕ) → Passed rest 44 after → Passed after 34 next → Scanned text next (insert seen c) (cond b (insert s c) s)
+    scan_next after next (i, is_i, comma) (j, is_j, quote) = (
+      done,
+      each_done,
+      set_done,
+      λ ms later.
+          let (plain, (g, h, gs, hs, left_is)) = here in
+          so_far.3 ((name, b) ∷ ms) (ap (λ l. tokens (34 ∷ l)) (left_is ∙ ap (λ r. name ++ 34 ∷ (g ++ 58 ∷ (h ++ boolean_before b r))) (comma ∙ ap (λ r. i ++ 44 ∷ r) quote)) ∙ next_member name b g h i j plain gs hs is_i is_j next ms later),
+    )
+
+    pub scan_ends : (end : List ℕ) (unknown : Unknown) → Passed rest 125 end → AreSpaces end → IsReadOf (set_of_map names unknown) text (Ok (cond b (insert s c) s))
+    scan_ends end unknown (i, is_i, brace) is_end =
+        let (plain, (g, h, gs, hs, left_is)) = here in
+        let whole : read text ≡ Some (object done) = so_far.3 ((name, b) ∷ []) (ap (λ l. tokens (34 ∷ l)) (left_is ∙ ap (λ r. name ++ 34 ∷ (g ++ 58 ∷ (h ++ boolean_before b r))) brace) ∙ last_member name b g h i end plain gs hs is_i is_end) in
+        inr (subst (λ o. IsResult (option_map (set_of_map names unknown) o) (Ok (cond b (insert s c) s))) (sym whole) (ap Ok (sym set_done) ∙ sym (whole_set (insert seen c) unknown done each_done)))
+
+  pub scan_none : (text rest end : List ℕ) (unknown : Unknown) → Passed text 123 rest → Passed rest 125 end → AreSpaces end → IsReadOf (set_of_map names unknown) text (Ok empty)
+  unfolding from_list
+  scan_none text rest end unknown (f, fs, first) (g, gs, second) is_end =
+      let whole : read text ≡ Some (object no_members) = ap read (first ∙ ap (λ r. f ++ 123 ∷ r) second) ∙ first_member f g (125 ∷ end) [] fs gs (no_member end is_end) in
+      inr (subst (λ o. IsResult (option_map (set_of_map names unknown) o) (Ok empty)) (sym whole) (sym (whole_set empty unknown no_members tt)))
+
+-- what holds of a value that is given only under a test
+pub if_some : {A : Type 0} (P : A → Type 0) (b : Bool) (a : A) (o : Option A) → o ≡ then_some b a → (b ≡ true → P a) → IfSome o P
+if_some P b a o is holds = subst (λ o. IfSome o P) (sym is) (at b holds)
+  where
+    at : (b : Bool) → (b ≡ true → P a) → IfSome (then_some b a) P
+    at true holds = holds refl
+    at false holds = tt
