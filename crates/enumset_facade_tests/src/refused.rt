@@ -9,10 +9,10 @@ use enumset::EnumSet;
 use enumset::set::MixedEnumSet;
 use enumset::set_json::{
     JsonFault, Unknown, mixed_from_number_text, mixed_from_words_text, mixed_to_number_text,
-    mixed_to_words_text,
+    mixed_to_words_text, to_list_text,
 };
 use enumset_array::{ArrayRepr, End, ShownRow, walk};
-use enumset_test_types::Letters;
+use enumset_test_types::{Letters, Priority};
 use enumset_worked::{Marks, Sparse};
 use std::alloc::Global;
 use std::process::Abort;
@@ -69,8 +69,21 @@ fn written_maps(rt: HostRuntime) -> Result<(), Fail> {
 }
 
 #[test]
+fn names_with_escapes_that_are_written(rt: HostRuntime) -> Result<(), Fail> {
+    let (alloc, set) = (rt.alloc(), EnumSet::only(Priority::Normal));
+    let (text, written) = returned(&rt, || to_list_text(alloc, &set));
+    expect(&rt, "write", text.as_str(), "[\"\\\"\\\\\"]");
+    Ok(written?)
+}
+
+#[test]
 fn names_that_are_read(rt: HostRuntime) -> Result<(), Fail> {
-    expect_read(&rt, rt.alloc(), Form::List, "[\"G\"]")
+    expect_read(&rt, rt.alloc(), Form::List, " [ \"G\",\n \"G\" ] ")
+}
+
+#[test]
+fn names_with_escapes_that_are_read(rt: HostRuntime) -> Result<(), Fail> {
+    expect_read(&rt, rt.alloc(), Form::List, "[\"\\u0047\"]")
 }
 
 #[test]

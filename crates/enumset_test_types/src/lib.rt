@@ -17,6 +17,7 @@ pub mod of_256_names;
 pub mod of_33;
 pub mod of_64;
 pub mod priority;
+pub mod priority_names;
 pub mod wide;
 pub mod wide_names;
 
