@@ -2,8 +2,8 @@
 -- one does not name.
 use Rattle.std.proofs.Common.{◌≡◌, ℕ, List}
 use Rattle.std.specs.Prelude.{false}
-use Rattle.serde_json.specs.Data.{Data, null, no_items}
-use Rattle.serde_json.specs.Written.{IsInOrder, outline, items_outline}
+use Rattle.serde_json.specs.Data.{Data, null}
+use Rattle.serde_json.specs.Written.{IsInOrder, outline}
 use Rattle.serde_json.specs.Sent.{start}
 
 abbrev pub TypeOf : {A : Type 0} → A → Type 0
@@ -14,9 +14,6 @@ Tokens = TypeOf (start false).tokens
 
 abbrev pub Json : Type 0
 Json = TypeOf (outline null)
-
-abbrev pub JsonItems : Type 0
-JsonItems = TypeOf (items_outline no_items)
 
 abbrev pub by : (f : List ℕ → Tokens) (g : Json → Tokens) (h : Data → Json → Type 0) → ((text : List ℕ) (d : Data) → IsInOrder text d → (j : Json) × (f text ≡ g j) × h d j) → (List ℕ → Tokens)
 by f g h same = f

@@ -11,7 +11,7 @@ use Rattle.std.specs.Cmp.Lexicographic.{slice_cmp}
 use Rattle.std.specs.List.{AllByRecursion, AllWithin, insert}
 use Rattle.std.specs.List.Sorted.{IsStrictlySortedBy, IsSorted, IsSearchInRange, IsBinarySearchResult}
 use Rattle.std.specs.Ordering.{ordering_reverse, is_lt}
-use Rattle.serde_json.specs.Data.{object, boolean, string, Members, member, no_members, put}
+use Rattle.serde_json.specs.Data.{object, boolean, string, Members, member, put}
 use Rattle.serde_json.specs.Read.{read}
 use Rattle.serde_json.specs.Written.{compact_text, members_text, comma_if}
 use Rattle.enumset.specs.Names.{Names, name_of}

@@ -1,7 +1,6 @@
 //! The names of an element type's values.
 
-ghost use Rattle.std.specs.Prelude.{◌≡◌, ◌-◌, ◌<◌, ℕ, List, IfSome, length, map, option_map};
-ghost use Rattle.std.specs.List.{slice_index_or};
+ghost use Rattle.std.specs.Prelude.{◌≡◌, ◌<◌, ℕ, List, IfSome, length, map, option_map};
 ghost use Rattle.std.specs.Str.{bytes_eq};
 ghost use Rattle.enumset.specs.Names.{names_of, name_of, bit_named, IsNaming};
 
@@ -45,7 +44,7 @@ pub trait EnumSetNames: EnumSetType + 'static {
             ≡ bit_named (names_of Self.elements names) text.now }
     {
         for (value, name) in Self::names() {
-            if is_same(name, text) {
+            if *name == text {
                 return Some(*value);
             }
         }
@@ -53,21 +52,6 @@ pub trait EnumSetNames: EnumSetType + 'static {
     }
 
     ghost named: { IsNaming Self.elements.bit_list names };
-}
-
-// Whether a name is this text. The last bytes are compared first, since names often begin alike.
-#[inline(always)]
-fn is_same(name: &str, text: &str) -> bool
-    ensures { result ≡ bytes_eq name.now text.now }
-{
-    name.len() == text.len() && last_byte(name) == last_byte(text) && name == text
-}
-
-// The last byte, or 0 if there is none.
-fn last_byte(text: &str) -> u8
-    ensures { result ≡ slice_index_or text.now (length text.now - 1) 0 }
-{
-    text.as_bytes().last().copied().unwrap_or(0)
 }
 
 // The value that has this name, if there is one. The search begins at the place `next`, then goes from the front, since
@@ -104,11 +88,10 @@ fn find_in<T: EnumSetType>(names: &[(T, &str)], text: &[u8]) -> Option<(usize, T
     None
 }
 
-// Whether a name is these bytes. The last ones are compared first, since names often begin alike.
+// Whether a name is these bytes.
 #[inline(always)]
 fn has_bytes(name: &str, text: &[u8]) -> bool
     ensures { result ≡ bytes_eq name.now text.now }
 {
-    let name = name.as_bytes();
-    name.len() == text.len() && name.last() == text.last() && name == text
+    name.as_bytes() == text
 }

@@ -8,13 +8,13 @@ use Rattle.enumset.proofs.names.EnumSetNames.of_name.Goals as goal
 pub loop-value-preserved : goal.loop-value-preserved
 loop-value-preserved g c =
     sym (bit_first (λ n. (g.Self.EnumSetType.elements.bit n.0, n.1.now)) _ _ _ (left_at _ _ c.loop-value-item.result c.loop-value-test.true c.loop-value-item.is) _
-    ∙ cond-false _ _ _ (sym c.is_same.ensures ∙ c.if-is_same.false))
+    ∙ cond-false _ _ _ (sym c.eq.ensures ∙ c.if-eq.false))
     ∙ c.loop-value.invariant
 
-pub returns-then-is_same : goal.returns-then-is_same
-returns-then-is_same g c =
+pub returns-then-eq : goal.returns-then-eq
+returns-then-eq g c =
     sym (bit_first (λ n. (g.Self.EnumSetType.elements.bit n.0, n.1.now)) _ _ _ (left_at _ _ c.loop-value-item.result c.loop-value-test.true c.loop-value-item.is) _
-    ∙ cond-true _ _ _ (sym c.is_same.ensures ∙ c.if-is_same.true))
+    ∙ cond-true _ _ _ (sym c.eq.ensures ∙ c.if-eq.true))
     ∙ c.loop-value.invariant
     ∙ ap (λ ns. bit_named ns c.args.text.now) c.names-value-items.ensures
 

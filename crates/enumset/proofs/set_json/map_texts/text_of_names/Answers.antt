@@ -1,4 +1,4 @@
-use Rattle.std.proofs.Common.{◌≡◌, [], false, ◌∷◌, ◌++◌, ℕ, List, Bor, map, drop, string_bytes, arith, rules, refl, sym, ap, ◌∙◌}
+use Rattle.std.proofs.Common.{[], false, ◌∷◌, ◌++◌, ℕ, List, Bor, map, string_bytes, rules, ap, ◌∙◌}
 use Rattle.std.proofs.lemmas.List.{drop_all, drop_more}
 use Rattle.enumset.proofs.MapsWritten.{left_of, ended, next_name}
 use Rattle.enumset.proofs.set_json.map_texts.text_of_names.Goals as goal
