@@ -3,6 +3,7 @@
 //! - [`repr`]: the trait [`EnumSetTypeRepr`] of representations. Each call is an operation on a finite set of bit
 //!   numbers.
 //! - [`arrays`]: sets to and from arrays of words, over every representation.
+//! - [`ends`]: the least and the greatest member, over every representation.
 //! - [`primitive`] and [`primitive_iter`]: an integer as the set of its bits, and the iterator over them, from both
 //!   ends.
 //! - [`integers`]: `u8`, `u16`, `u32`, `u64` and `u128` as representations.
@@ -18,6 +19,7 @@
 pub mod arrays;
 pub mod asks;
 pub mod comparisons;
+pub mod ends;
 mod halves;
 pub mod integers;
 pub mod laws;
@@ -28,6 +30,7 @@ pub mod repr;
 pub use arrays::{from_u64_array, to_u64_array, try_from_u64_array, try_to_u64_array};
 pub use asks::Asks;
 pub use comparisons::{are_same, order_of};
+pub use ends::{greatest_bit, least_bit, least_bit_from};
 pub use primitive::Primitive;
 pub use primitive_iter::PrimitiveIter;
 pub use repr::EnumSetTypeRepr;

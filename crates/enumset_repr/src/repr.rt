@@ -1,6 +1,6 @@
 //! The trait of representations: the types that keep the bits of a set.
 
-ghost use Rattle.std.specs.Prelude.{◌≡◌, ℕ, ◌+◌, ◌*◌, ◌/◌, ◌<◌, ◌≤◌, ◌↔◌, List, length, IsTrue, IsSome, IfSome};
+ghost use Rattle.std.specs.Prelude.{◌≡◌, ℕ, ◌+◌, ◌*◌, ◌/◌, ◌<◌, ◌≤◌, ◌↔◌, List, length, not, IsTrue, IsSome, IfSome};
 ghost use Rattle.enumset_repr.specs.Asks.{IsCounted};
 ghost use Rattle.enumset_repr.specs.BitSet as set;
 ghost use Rattle.enumset_repr.specs.BitSet.{BitSet};
@@ -20,9 +20,10 @@ use std::ops::{BitAnd, BitOr, BitXor, Not};
 /// operation. So contracts of code over a representation are about sets alone.
 ///
 /// The trait mirrors `EnumSetTypeRepr` of Rust's `enumset`, and its calls keep their names. These have no counterpart
-/// there: `or_with`, `and_with`, `xor_with`, `and_not_with`, `is_subset_of`, `is_disjoint_from`, `word`, `put_word`,
-/// `items_left`, `same_iter` and `learn_is_value`. The conversions to and from arrays are functions of
-/// [`arrays`](crate::arrays).
+/// there: `or_with`, `and_with`, `xor_with`, `and_not_with`, `is_subset_of`, `is_disjoint_from`, `or_changes`,
+/// `and_changes`, `and_not_changes`, `word`, `put_word`, `items_left`, `same_iter` and `learn_is_value`. The conversions
+/// to and from arrays are functions of [`arrays`](crate::arrays), and the ends of a set are functions of
+/// [`ends`](crate::ends).
 #[tactic(auto, using(crate::specs::Laws::Low::cuts_to))]
 pub trait EnumSetTypeRepr: Copy
     + Eq
@@ -185,6 +186,45 @@ pub trait EnumSetTypeRepr: Copy
         ensures { result ≡ set.is_disjoint (members self.now) (members other.now) }
     {
         (*self & *other).is_empty()
+    }
+
+    /// Adds every member of `other`, in place, and returns whether one of them was absent.
+    ///
+    /// The default body goes over both values twice. A representation of many words should have its own.
+    fn or_changes(&mut self, other: &Self) -> bool
+        ensures members { members self.new ≡ set.union (members self.old) (members other.now) }
+        ensures value { is_value self.new }
+        ensures changed { result ≡ not (set.is_subset (members other.now) (members self.old)) }
+    {
+        let has_all = other.is_subset_of(self);
+        self.or_with(other);
+        !has_all
+    }
+
+    /// Removes every member that is not in `other`, in place, and returns whether there was one.
+    ///
+    /// The default body goes over both values twice. A representation of many words should have its own.
+    fn and_changes(&mut self, other: &Self) -> bool
+        ensures members { members self.new ≡ set.intersection (members self.old) (members other.now) }
+        ensures value { is_value self.new }
+        ensures changed { result ≡ not (set.is_subset (members self.old) (members other.now)) }
+    {
+        let keeps_all = self.is_subset_of(other);
+        self.and_with(other);
+        !keeps_all
+    }
+
+    /// Removes every member of `other`, in place, and returns whether one of them was present.
+    ///
+    /// The default body goes over both values twice. A representation of many words should have its own.
+    fn and_not_changes(&mut self, other: &Self) -> bool
+        ensures members { members self.new ≡ set.difference (members self.old) (members other.now) }
+        ensures value { is_value self.new }
+        ensures changed { result ≡ not (set.is_disjoint (members self.old) (members other.now)) }
+    {
+        let keeps_all = self.is_disjoint_from(other);
+        self.and_not_with(other);
+        !keeps_all
     }
 
     /// An iterator over the members, ascending.
@@ -549,7 +589,7 @@ fn has_no_word_from<R: EnumSetTypeRepr>(repr: &R, from: usize) -> bool
 
 /// Whether each word from one place up to another is 0. The second place must be no less than the first, and at most
 /// the number of words.
-fn are_zero<R: EnumSetTypeRepr>(repr: &R, from: usize, to: usize) -> bool
+pub(crate) fn are_zero<R: EnumSetTypeRepr>(repr: &R, from: usize, to: usize) -> bool
     requires ordered { from ≤ to }
     requires within { to ≤ R.PREFERRED_ARRAY_LEN }
     ensures { IsTrue result

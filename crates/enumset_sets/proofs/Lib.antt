@@ -1,1 +1,4 @@
 pub mod Lists
+pub mod EndMembers
+pub mod Retained
+pub mod Toggled

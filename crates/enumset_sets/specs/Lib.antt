@@ -2,5 +2,6 @@ pub mod Elements
 pub mod Folds
 pub mod Held
 pub mod Laws
+pub mod Retained
 pub mod Texts
 pub mod Variants

@@ -1,15 +1,19 @@
 //! The set of elements.
 
-ghost use Rattle.std.specs.Prelude.{◌≡◌, ◌<◌, ◌≤◌, ◌↔◌, ◌^◌, IsTrue, false, not, length};
+ghost use Rattle.std.specs.Prelude.{◌≡◌, ◌<◌, ◌≤◌, ◌↔◌, ◌^◌, ℕ, Bool, IsTrue, IfNone, IfSome, false, if◌then◌else◌, not, length};
+ghost use Rattle.std.specs.Iterator.{YieldsFirstBy, YieldsLastBy};
 ghost use Rattle.std.specs.Iterator.Runs.{EveryRun, ItemsMapTo};
+ghost use Rattle.std.specs.Option.{option_map};
 ghost use Rattle.enumset_repr.specs.BitSet as set;
+ghost use Rattle.enumset_repr.specs.Ends.{least, greatest};
 ghost use Rattle.enumset_sets.specs.Elements.{one_past_greatest, valid_bits};
+ghost use Rattle.enumset_sets.specs.Retained.{IsTest, Retains};
 
 use crate::element::EnumSetType;
 use crate::enum_set_iter::EnumSetIter;
 use crate::representation::valid_repr;
 use crate::text::write_separator;
-use enumset_repr::{EnumSetTypeRepr, are_same};
+use enumset_repr::{EnumSetTypeRepr, are_same, greatest_bit, least_bit, least_bit_from};
 use std::alloc::AllocError;
 use std::fmt;
 use std::marker::{Model, PhantomData};
@@ -17,8 +21,8 @@ use std::marker::{Model, PhantomData};
 /// A set of elements, kept as a value of a representation.
 ///
 /// It mirrors `EnumSet` of Rust's `enumset`, and its calls keep their names, except for
-/// [`eq_element`](EnumSet::eq_element). [`copied`](EnumSet::copied) has no counterpart there. The parameter `R` is
-/// always the representation of `T`: write `EnumSet<T>`.
+/// [`eq_element`](EnumSet::eq_element). [`copied`](EnumSet::copied), and the calls whose texts say so, have no
+/// counterpart there. The parameter `R` is always the representation of `T`: write `EnumSet<T>`.
 ///
 /// # Numbers
 ///
@@ -359,6 +363,155 @@ impl<T: EnumSetType> EnumSet<T> {
         ensures { self.new ≡ set.difference self.old other }
     {
         self.repr.and_not_with(&other.repr);
+    }
+
+    /// Adds every member of `other`, and returns whether one of them was absent.
+    ///
+    /// Rust's `enumset` has no such call.
+    pub fn union_with(&mut self, other: &EnumSet<T>) -> bool
+        ensures union { self.new ≡ set.union self.old other.now }
+        ensures changed { result ≡ not (set.is_subset other.now self.old) }
+    {
+        self.repr.or_changes(&other.repr)
+    }
+
+    /// Removes every member that is not in `other`, and returns whether there was one.
+    ///
+    /// Rust's `enumset` has no such call.
+    pub fn intersect_with(&mut self, other: &EnumSet<T>) -> bool
+        ensures intersection { self.new ≡ set.intersection self.old other.now }
+        ensures changed { result ≡ not (set.is_subset self.old other.now) }
+    {
+        self.repr.and_changes(&other.repr)
+    }
+
+    /// Removes every member of `other`, and returns whether one of them was present.
+    ///
+    /// Rust's `enumset` has no such call.
+    pub fn difference_with(&mut self, other: &EnumSet<T>) -> bool
+        ensures difference { self.new ≡ set.difference self.old other.now }
+        ensures changed { result ≡ not (set.is_disjoint self.old other.now) }
+    {
+        self.repr.and_not_changes(&other.repr)
+    }
+
+    /// Adds an element if it is absent, else removes it, and returns whether it is a member now.
+    ///
+    /// Rust's `enumset` has no such call.
+    pub fn toggle(&mut self, value: T) -> bool
+        ensures toggled { self.new
+            ≡ set.symmetric_difference self.old (set.only (T.elements.bit value)) }
+        ensures is_member { result ≡ set.contains self.new (T.elements.bit value) }
+        ensures was_absent { result ≡ not (set.contains self.old (T.elements.bit value)) }
+    {
+        let is_member = !self.contains(value);
+        self.set(value, is_member);
+        is_member
+    }
+
+    /// Adds an element if `is_member` is true, else removes it. So `is_member` says whether it is a member now.
+    ///
+    /// Rust's `enumset` has no such call.
+    pub fn set(&mut self, value: T, is_member: bool)
+        ensures { self.new ≡ (if is_member
+            then set.insert self.old (T.elements.bit value)
+            else set.remove self.old (T.elements.bit value)) }
+    {
+        let bit = Self::bit_index(value);
+        if is_member {
+            self.repr.add_bit(bit);
+        } else {
+            self.repr.remove_bit(bit);
+        }
+    }
+
+    /// The element with the least bit, or `None` if the set is empty.
+    ///
+    /// Rust's `enumset` has no such call.
+    pub fn first(&self) -> Option<T>
+        ensures { option_map T.elements.bit result ≡ least self.now }
+    {
+        Some(T::enum_from_u32(least_bit(&self.repr)?))
+    }
+
+    /// The element with the greatest bit, or `None` if the set is empty.
+    ///
+    /// Rust's `enumset` has no such call.
+    pub fn last(&self) -> Option<T>
+        ensures { option_map T.elements.bit result ≡ greatest self.now }
+    {
+        Some(T::enum_from_u32(greatest_bit(&self.repr)?))
+    }
+
+    /// The element with the least bit at or past `bit`, or `None` if there is none. So
+    /// `set.first_from(bit).or(set.first())` goes round the set.
+    ///
+    /// Rust's `enumset` has no such call.
+    pub fn first_from(&self, bit: u32) -> Option<T>
+        ensures { option_map T.elements.bit result
+            ≡ least (set.difference self.now (set.below bit)) }
+    {
+        Some(T::enum_from_u32(least_bit_from(&self.repr, bit)?))
+    }
+
+    /// Takes out the element with the least bit and returns it, or returns `None` if the set is empty.
+    ///
+    /// Rust's `enumset` has no such call.
+    pub fn pop_first(&mut self) -> Option<T>
+        ensures first { YieldsFirstBy T.elements.bit set.ascending self.old result self.new }
+        ensures removed { IfSome result (λ t. self.new ≡ set.remove self.old (T.elements.bit t)) }
+        ensures fewer { IfSome result (λ _. set.len self.new < set.len self.old) }
+        ensures none { IfNone result ((self.old ≡ set.empty) × (self.new ≡ set.empty)) }
+    {
+        match least_bit(&self.repr) {
+            Some(bit) => {
+                self.repr.remove_bit(bit);
+                Some(T::enum_from_u32(bit))
+            }
+            None => None,
+        }
+    }
+
+    /// Takes out the element with the greatest bit and returns it, or returns `None` if the set is empty.
+    ///
+    /// Rust's `enumset` has no such call.
+    pub fn pop_last(&mut self) -> Option<T>
+        ensures last { YieldsLastBy T.elements.bit set.ascending self.old result self.new }
+        ensures removed { IfSome result (λ t. self.new ≡ set.remove self.old (T.elements.bit t)) }
+        ensures fewer { IfSome result (λ _. set.len self.new < set.len self.old) }
+        ensures none { IfNone result ((self.old ≡ set.empty) × (self.new ≡ set.empty)) }
+    {
+        match greatest_bit(&self.repr) {
+            Some(bit) => {
+                self.repr.remove_bit(bit);
+                Some(T::enum_from_u32(bit))
+            }
+            None => None,
+        }
+    }
+
+    /// Removes each element for which `keep` returns false. It is called once for each, ascending by bit.
+    ///
+    /// If `keep` is a test of bits, whatever was called before, the elements that pass it stay. Rust's `enumset` has no
+    /// such call.
+    pub fn retain<F: FnMut(T) -> bool>(&mut self, keep: F)
+        requires { F.IsAlwaysCallable keep }
+        ensures calls { Retains T.elements.bit F.FnMut keep self.old self.new }
+        ensures kept { (p : ℕ → Bool) → IsTest T.elements.bit F.FnMut p → self.new ≡ set.retain self.old p }
+    {
+        self.ask_each(keep);
+    }
+
+    // The loop of `retain`.
+    fn ask_each<F: FnMut(T) -> bool>(&mut self, mut keep: F)
+        requires { F.IsAlwaysCallable keep }
+        ensures { Retains T.elements.bit F.FnMut keep self.old self.new }
+    {
+        for element in self.iter() {
+            if !keep(element) {
+                self.remove(element);
+            }
+        }
     }
 
     /// An iterator over the elements, each once, ascending by bit, from both ends. Later changes to the set do not

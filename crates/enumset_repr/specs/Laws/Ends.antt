@@ -2,6 +2,7 @@
 --     least-is, greatest-is      a member with none before it is the least;  one with none past it is the greatest
 --     least-empty, greatest-empty      the empty set has neither
 --     greatest_facts      the greatest is a member, and none is past it
+--     least-below, greatest-below      both are below a bound of all members
 --     ascending-least, ascending-greatest      the least comes first in the list, and the greatest last
 --     trailing-least, leading-greatest      what `trailing_zeros` and `leading_zeros` count, at each number of bits
 --     clear-least, least-positive      `n & (n - 1)`;  a number with a least member is not 0
@@ -13,7 +14,7 @@ use Rattle.std.specs.Int.Count.{count_trailing_zeros, count_leading_zeros, trail
 use Rattle.std.specs.List.{slice_get, last_or}
 use Rattle.std.proofs.lemmas.Bool.{eq-eqb, or_left, false_from_ne_true}
 use Rattle.std.proofs.lemmas.Bool.Decides.{nat_tests}
-use Rattle.enumset_repr.specs.BitSet.{is_in, BitSet, contains, ascending, empty, remove}
+use Rattle.enumset_repr.specs.BitSet.{is_in, BitSet, contains, ascending, empty, remove, is_subset, below}
 use Rattle.enumset_repr.specs.Ends.{last, least, greatest}
 use Rattle.enumset_repr.specs.Laws.Steps.{last-push, cases_last, none_last}
 use Rattle.enumset_repr.specs.Laws.Members.{contains-ascending, member_below}
@@ -90,6 +91,14 @@ greatest_facts s m last =
 -- the greatest member comes last
 pub ascending-greatest : (s : BitSet) (m : ℕ) → greatest s ≡ Some m → ascending s ≡ ascending (remove s m) ++ m ∷ []
 ascending-greatest s m last = let facts = greatest_facts s m last in ascending-last s m facts.0 facts.1
+
+-- ---- both are below a bound of all members
+
+pub least-below : (s : BitSet) (width m : ℕ) → is_subset s (below width) ≡ true → least s ≡ Some m → m < width
+least-below s width m within is = member_below s width m within (least_facts s m is).0
+
+pub greatest-below : (s : BitSet) (width m : ℕ) → is_subset s (below width) ≡ true → greatest s ≡ Some m → m < width
+greatest-below s width m within is = member_below s width m within (greatest_facts s m is).0
 
 -- the set without its greatest member has fewer members
 pub fewer-greatest : (s : BitSet) (m : ℕ) → greatest s ≡ Some m → length (ascending (remove s m)) < length (ascending s)
