@@ -1,13 +1,16 @@
 //! The set of elements and of unknown bits.
 
 ghost use Rattle.std.specs.Prelude.{◌≡◌, ◌<◌, ◌≤◌, IsTrue, false, not};
+ghost use Rattle.std.specs.Option.{option_map};
 ghost use Rattle.enumset_repr.specs.BitSet as set;
-ghost use Rattle.enumset_mixed.specs.Mixed.{valid_members, unknown_members};
+ghost use Rattle.enumset_repr.specs.Ends.{least, greatest};
+ghost use Rattle.enumset_mixed.specs.Mixed.{bit_with_validity, valid_members, unknown_members};
 ghost use Rattle.enumset_sets.specs.Elements.{valid_bits};
 
 use crate::conversions::convert_mixed;
 use crate::mixed_enum_set_iter::MixedEnumSetIter;
-use enumset_repr::{EnumSetTypeRepr, are_same};
+use crate::mixed_value::{MixedValue, value_of};
+use enumset_repr::{EnumSetTypeRepr, are_same, greatest_bit, least_bit};
 use enumset_sets::representation::valid_repr;
 use enumset_sets::text::write_separator;
 use enumset_sets::{EnumSet, EnumSetType, EnumSetTypeWithRepr};
@@ -20,8 +23,9 @@ use std::marker::{Model, PhantomData};
 ///
 /// It mirrors `MixedEnumSet` of Rust's `enumset`, and its calls keep their names, except for
 /// [`eq_enumset`](MixedEnumSet::eq_enumset) and [`eq_element`](MixedEnumSet::eq_element).
-/// [`copied`](MixedEnumSet::copied) has no counterpart there. A bit is valid if a variant has it, and unknown
-/// otherwise. The parameter `R` is always the representation of `T`: write `MixedEnumSet<T>`.
+/// [`copied`](MixedEnumSet::copied), and the calls whose texts say so, have no counterpart there. A bit is valid if a
+/// variant has it, and unknown otherwise. The parameter `R` is always the representation of `T`: write
+/// `MixedEnumSet<T>`.
 pub struct MixedEnumSet<T: EnumSetTypeWithRepr, R: EnumSetTypeRepr = <T as EnumSetType>::Repr> {
     pub(crate) repr: R,
     of: PhantomData<T>,
@@ -372,6 +376,56 @@ impl<T: EnumSetTypeWithRepr> MixedEnumSet<T> {
         ensures { self.new ≡ set.difference self.old other }
     {
         self.repr.and_not_with(&other.repr);
+    }
+
+    /// Adds every member of `other`, and returns whether one of them was absent.
+    ///
+    /// Rust's `enumset` has no such call.
+    pub fn union_with(&mut self, other: &MixedEnumSet<T>) -> bool
+        ensures union { self.new ≡ set.union self.old other.now }
+        ensures changed { result ≡ not (set.is_subset other.now self.old) }
+    {
+        self.repr.or_changes(&other.repr)
+    }
+
+    /// Removes every member that is not in `other`, and returns whether there was one.
+    ///
+    /// Rust's `enumset` has no such call.
+    pub fn intersect_with(&mut self, other: &MixedEnumSet<T>) -> bool
+        ensures intersection { self.new ≡ set.intersection self.old other.now }
+        ensures changed { result ≡ not (set.is_subset self.old other.now) }
+    {
+        self.repr.and_changes(&other.repr)
+    }
+
+    /// Removes every member of `other`, and returns whether one of them was present.
+    ///
+    /// Rust's `enumset` has no such call.
+    pub fn difference_with(&mut self, other: &MixedEnumSet<T>) -> bool
+        ensures difference { self.new ≡ set.difference self.old other.now }
+        ensures changed { result ≡ not (set.is_disjoint self.old other.now) }
+    {
+        self.repr.and_not_changes(&other.repr)
+    }
+
+    /// The member with the least bit, valid or unknown, or `None` if the set is empty.
+    ///
+    /// Rust's `enumset` has no such call.
+    pub fn first(&self) -> Option<MixedValue<T>>
+        ensures { option_map (bit_with_validity T.elements.bit) result
+            ≡ option_map (λ b. (b, set.contains (valid_bits T.elements) b)) (least self.now) }
+    {
+        Some(value_of(least_bit(&self.repr)?))
+    }
+
+    /// The member with the greatest bit, valid or unknown, or `None` if the set is empty.
+    ///
+    /// Rust's `enumset` has no such call.
+    pub fn last(&self) -> Option<MixedValue<T>>
+        ensures { option_map (bit_with_validity T.elements.bit) result
+            ≡ option_map (λ b. (b, set.contains (valid_bits T.elements) b)) (greatest self.now) }
+    {
+        Some(value_of(greatest_bit(&self.repr)?))
     }
 
     /// An iterator over the members, each once, ascending by bit, from both ends: the element for a valid bit, the
