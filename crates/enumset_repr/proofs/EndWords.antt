@@ -19,7 +19,7 @@ module _ (s : BitSet) where
   -- words that are 0 have no member
   pub no_member : (from to : ℕ) → NoneIn (word s) from to → (q : ℕ) → 64 * from ≤ q → q < 64 * to → contains s q ≡ false
   no_member from to none = by_word (λ q. 64 * from ≤ q → q < 64 * to → contains s q ≡ false) (λ w b small start end.
-    let zero = contains-zero (word s w) b (none w (omega (arith, small, start)) (omega (arith, end))) in grind (arith, nat_tests, contains-bits-word s w b))
+      let zero = contains-zero (word s w) b (none w (omega (arith, small, start)) (omega (arith, end))) in grind (arith, nat_tests, contains-bits-word s w b))
 
   -- the bits of a word without its k lowest are the members from there to the end of the word
   shifted : (i k x q : ℕ) → x ≡ word s i / 2 ^ k → 64 * i + k ≤ q → contains (bits x) (q - (64 * i + k)) ≡ (contains s q && nat_lt q (64 * i + 64))
@@ -38,17 +38,17 @@ module _ (s : BitSet) where
       let one = ap (contains (bits x)) same ∙ facts.0 in
       let there = shifted i k x m is (omega (arith, place)) in
       sym (least-is _ m (grind (arith, nat_tests, contains-difference, contains-below)) (λ q under.
-        let before = none q in
-        let lower = facts.1 (q - (64 * i + k)) in
-        let here = shifted i k x q is in
-        grind (arith, nat_tests, contains-difference s (below from) q, contains-below from q)))
+      let before = none q in
+      let lower = facts.1 (q - (64 * i + k)) in
+      let here = shifted i k x q is in
+      grind (arith, nat_tests, contains-difference s (below from) q, contains-below from q)))
 
   -- a word that is 0 without its k lowest bits has no other members
   pub least_past : (i k x : ℕ) → k < 64 → x ≡ word s i / 2 ^ k → x ≡ 0 → difference s (below (64 * (i + 1))) ≡ difference s (below (64 * i + k))
   least_past i k x low is none = same_set _ _ (λ q.
-    let here = shifted i k x q is in
-    let zero = contains-zero x (q - (64 * i + k)) none in
-    grind (arith, nat_tests, members))
+      let here = shifted i k x q is in
+      let zero = contains-zero x (q - (64 * i + k)) none in
+      grind (arith, nat_tests, members))
 
   least_none : (from : ℕ) → ((q : ℕ) → from ≤ q → contains s q ≡ false) → None ≡ least (difference s (below from))
   least_none from none = sym (ap least (same_set _ _ (λ q. let past = none q in grind (arith, members, nat_tests))) ∙ least-empty)
@@ -59,11 +59,11 @@ module _ (s : BitSet) where
       let each = λ (b : ℕ). ap (λ n. contains (bits n) b) is ∙ contains-bits-word s i b in
       let one = each (63 - count_leading_zeros 64 x) in
       sym (greatest-is _ _ (grind (arith, nat_tests, one, facts.1)) (λ q over.
-        let past = none q in
-        let there = λ (from : 64 * i ≤ q). (let e : 64 * i + (q - 64 * i) ≡ q = omega (arith, from) in ap (contains s) e) in
-        let upper = facts.2 (q - 64 * i) in
-        let here = each (q - 64 * i) in
-        grind (arith, nat_tests)))
+      let past = none q in
+      let there = λ (from : 64 * i ≤ q). (let e : 64 * i + (q - 64 * i) ≡ q = omega (arith, from) in ap (contains s) e) in
+      let upper = facts.2 (q - 64 * i) in
+      let here = each (q - 64 * i) in
+      grind (arith, nat_tests)))
 
   greatest_none : ((q : ℕ) → contains s q ≡ false) → None ≡ greatest s
   greatest_none none = sym (ap greatest (same_set s empty (λ q. none q ∙ sym (contains-empty q))) ∙ greatest-empty)

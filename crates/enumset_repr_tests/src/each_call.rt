@@ -3,7 +3,8 @@
 use crate::expect::expect;
 use enumset_array::ArrayRepr;
 use enumset_repr::{
-    EnumSetTypeRepr, from_u64_array, to_u64_array, try_from_u64_array, try_to_u64_array,
+    EnumSetTypeRepr, from_u64_array, greatest_bit, least_bit, least_bit_from, to_u64_array,
+    try_from_u64_array, try_to_u64_array,
 };
 use std::process::Abort;
 
@@ -31,6 +32,34 @@ fn operators<R: EnumSetTypeRepr>(rt: &impl Abort, repr: &str) {
     );
     let answers = [a == or, a < or];
     expect(rt, repr, "== and <", answers, [false, true]);
+}
+
+// What `or_changes` and its like do to {0, 3, 6} by {3, 4}, and what they say, once and again.
+fn changes<R: EnumSetTypeRepr>(rt: &impl Abort, repr: &str) {
+    let (a, b) = (R::from_u8(73), R::from_u8(24));
+    let (mut or, mut and, mut and_not) = (a, a, a);
+    for has_changed in [true, false] {
+        let told = [
+            or.or_changes(&b),
+            and.and_changes(&b),
+            and_not.and_not_changes(&b),
+        ];
+        expect(rt, repr, "or_changes and its like", told, [has_changed; 3]);
+        let made = [or.to_u8(), and.to_u8(), and_not.to_u8()];
+        expect(rt, repr, "what they make", made, [89, 8, 65]);
+    }
+}
+
+// The ends of {0, 3, 6}, from some bit on, and of the empty set.
+fn ends<R: EnumSetTypeRepr>(rt: &impl Abort, repr: &str) {
+    let set = R::from_u8(73);
+    let found = [least_bit(&set), greatest_bit(&set)];
+    expect(rt, repr, "least and greatest", found, [Some(0), Some(6)]);
+    let found = [1, 3, 4, 7, 64, u32::MAX].map(|from| least_bit_from(&set, from));
+    let wanted = [Some(3), Some(3), Some(6), None, None, None];
+    expect(rt, repr, "least_bit_from", found, wanted);
+    let none = [least_bit(&R::EMPTY), greatest_bit(&R::EMPTY)];
+    expect(rt, repr, "of none", none, [None; 2]);
 }
 
 // The bits of {0, 3, 6}.
@@ -117,6 +146,8 @@ fn words<R: EnumSetTypeRepr>(rt: &impl Abort, repr: &str) {
 
 fn each_call<R: EnumSetTypeRepr>(rt: &impl Abort, repr: &str) {
     operators::<R>(rt, repr);
+    changes::<R>(rt, repr);
+    ends::<R>(rt, repr);
     bits::<R>(rt, repr);
     numbers::<R>(rt, repr);
     sets_of_numbers::<R>(rt, repr);

@@ -1,7 +1,8 @@
 -- The least and the greatest member of a set of valid bits, and the set without it.
 use Rattle.std.proofs.Common.{◌≡◌, ◌<◌, ℕ, true, List, ◌∷◌, [], ◌++◌, Some, None, sym, ap, ◌∙◌, refl, length, arith}
-use Rattle.enumset_repr.specs.BitSet.{BitSet, is_in, contains, ascending, empty, remove, len, from_list, is_subset}
+use Rattle.enumset_repr.specs.BitSet.{BitSet, is_in, contains, ascending, empty, insert, remove, len, from_list, is_subset}
 use Rattle.enumset_repr.specs.Ends.{least, greatest}
+use Rattle.enumset_repr.specs.Laws.Algebra.{insert_remove}
 use Rattle.enumset_repr.specs.Laws.Ascending.{len-ascending, empty_of_ascending}
 use Rattle.enumset_repr.specs.Laws.Ends.{least_facts, greatest_facts, ascending-least, ascending-greatest, fewer-greatest, ascending-no_least, ascending-no_greatest}
 use Rattle.enumset_repr.specs.Laws.Members.{is_subset-contains}
@@ -29,6 +30,15 @@ module _ (s : BitSet) (b : ℕ) where
 
   pub greatest_fewer : (t : BitSet) → Some b ≡ greatest s → t ≡ remove s b → len t < len s
   greatest_fewer t is rest = omega (arith, fewer-greatest s b (sym is), ap len rest, len-ascending s, len-ascending (remove s b))
+
+  put_back : (t : BitSet) (c : ℕ) → contains s b ≡ true → t ≡ remove s b → c ≡ b → s ≡ insert t c
+  put_back t c one rest same = sym (insert_remove s b one) ∙ (λ i. insert (sym rest i) (sym same i))
+
+  pub least_put_back : (t : BitSet) (c : ℕ) → Some b ≡ least s → t ≡ remove s b → c ≡ b → s ≡ insert t c
+  least_put_back t c is = put_back t c (least_facts s b (sym is)).0
+
+  pub greatest_put_back : (t : BitSet) (c : ℕ) → Some b ≡ greatest s → t ≡ remove s b → c ≡ b → s ≡ insert t c
+  greatest_put_back t c is = put_back t c (greatest_facts s b (sym is)).0
 
 -- a set without an end is empty
 pub no_least : (s : BitSet) → None ≡ least s → s ≡ empty

@@ -24,6 +24,6 @@ module _ {T F : Type 0} (bit : T → ℕ) (g : Mut F (T × Unit {0}) Bool) (p : 
 
   pub kept : (f : F) (s t : BitSet) → Retains bit g f s t → t ≡ retain s p
   kept f s t calls = same_set t (retain s p) (λ q.
-    let each = each_kept calls.0 (f, s) (calls.1, t) q calls.3 in
-    let listed = contains-ascending s q ∙ ap (is_in q) (sym calls.2) in
-    grind (arith, nat_tests, contains-retain s p q))
+      let each = each_kept calls.0 (f, s) (calls.1, t) q calls.3 in
+      let listed = contains-ascending s q ∙ ap (is_in q) (sym calls.2) in
+      grind (arith, nat_tests, contains-retain s p q))

@@ -460,6 +460,7 @@ impl<T: EnumSetType> EnumSet<T> {
     pub fn pop_first(&mut self) -> Option<T>
         ensures first { YieldsFirstBy T.elements.bit set.ascending self.old result self.new }
         ensures removed { IfSome result (λ t. self.new ≡ set.remove self.old (T.elements.bit t)) }
+        ensures put_back { IfSome result (λ t. self.old ≡ set.insert self.new (T.elements.bit t)) }
         ensures fewer { IfSome result (λ _. set.len self.new < set.len self.old) }
         ensures none { IfNone result ((self.old ≡ set.empty) × (self.new ≡ set.empty)) }
     {
@@ -478,6 +479,7 @@ impl<T: EnumSetType> EnumSet<T> {
     pub fn pop_last(&mut self) -> Option<T>
         ensures last { YieldsLastBy T.elements.bit set.ascending self.old result self.new }
         ensures removed { IfSome result (λ t. self.new ≡ set.remove self.old (T.elements.bit t)) }
+        ensures put_back { IfSome result (λ t. self.old ≡ set.insert self.new (T.elements.bit t)) }
         ensures fewer { IfSome result (λ _. set.len self.new < set.len self.old) }
         ensures none { IfNone result ((self.old ≡ set.empty) × (self.new ≡ set.empty)) }
     {

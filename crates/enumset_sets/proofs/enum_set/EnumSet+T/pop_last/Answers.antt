@@ -1,6 +1,6 @@
 use Rattle.std.proofs.Common.{sym, ◌∙◌}
 use Rattle.enumset_repr.specs.Laws.Ends.{greatest-below, ascending-no_greatest}
-use Rattle.enumset_sets.proofs.EndMembers.{greatest_valid, greatest_taken, greatest_fewer, no_greatest}
+use Rattle.enumset_sets.proofs.EndMembers.{greatest_valid, greatest_taken, greatest_put_back, greatest_fewer, no_greatest}
 use Rattle.enumset_sets.proofs.enum_set.EnumSet+T.pop_last.Goals as goal
 
 pub remove_bit-requires : goal.remove_bit-requires
@@ -11,6 +11,9 @@ enum_from_u32-requires g c = greatest_valid _ _ _ c.self.invariant.valid_only (s
 
 pub returns-in-Some-clause-last : goal.returns-in-Some-clause-last
 returns-in-Some-clause-last g c = rw (← c.self.view_is) (greatest_taken _ _ _ _ (sym c.in-Some.is ∙ c.greatest_bit.ensures) c.remove_bit.ensures.members c.enum_from_u32.ensures)
+
+pub returns-in-Some-clause-put_back : goal.returns-in-Some-clause-put_back
+returns-in-Some-clause-put_back g c = rw (← c.self.view_is) (greatest_put_back _ _ _ _ (sym c.in-Some.is ∙ c.greatest_bit.ensures) c.remove_bit.ensures.members c.enum_from_u32.ensures)
 
 pub returns-in-Some-clause-fewer : goal.returns-in-Some-clause-fewer
 returns-in-Some-clause-fewer g c = rw (← c.self.view_is) (greatest_fewer _ _ _ (sym c.in-Some.is ∙ c.greatest_bit.ensures) c.remove_bit.ensures.members)
