@@ -12,14 +12,14 @@ const NODES: usize = 600;
 const FAR_NODES: usize = 24;
 
 /// More passes than a graph needs.
-const PASSES: usize = 1000;
+pub(crate) const PASSES: usize = 1000;
 
 /// A node: the facts that it makes and ends, and from where facts come.
-struct Node<T: EnumSetType> {
-    made: EnumSet<T>,
-    ended: EnumSet<T>,
-    known: EnumSet<T>,
-    sources: [usize; 3],
+pub(crate) struct Node<T: EnumSetType> {
+    pub(crate) made: EnumSet<T>,
+    pub(crate) ended: EnumSet<T>,
+    pub(crate) known: EnumSet<T>,
+    pub(crate) sources: [usize; 3],
 }
 
 impl<T: EnumSetType> Drop for Node<T> {
@@ -92,7 +92,7 @@ fn facts_at<T: EnumSetType>(nodes: &[Node<T>], at: usize) -> EnumSet<T> {
 }
 
 /// Mixes in the members of a set: from both ends, or from the front.
-fn add_members<T: EnumSetType>(set: &EnumSet<T>, is_from_both: bool, digest: &mut Digest) {
+pub(crate) fn add_members<T: EnumSetType>(set: &EnumSet<T>, is_from_both: bool, digest: &mut Digest) {
     if !is_from_both {
         for member in set.iter() {
             digest.add(u64::from(member.enum_into_u32()));
@@ -110,7 +110,7 @@ fn add_members<T: EnumSetType>(set: &EnumSet<T>, is_from_both: bool, digest: &mu
     }
 }
 
-fn random_nodes(alloc: Global, random: &mut Random) -> Result<Vec<Node<Symbol>>, AllocError> {
+pub(crate) fn random_nodes(alloc: Global, random: &mut Random) -> Result<Vec<Node<Symbol>>, AllocError> {
     let mut nodes = Vec::new(alloc);
     for at in 0..NODES {
         let words = [few(random), few(random), few(random), few(random)];
@@ -125,7 +125,7 @@ fn random_nodes(alloc: Global, random: &mut Random) -> Result<Vec<Node<Symbol>>,
     Ok(nodes)
 }
 
-fn random_far_nodes(
+pub(crate) fn random_far_nodes(
     alloc: Global,
     random: &mut Random,
     values: &[Far],

@@ -9,6 +9,7 @@ mod decide;
 mod decode;
 mod digest;
 mod flow;
+mod flow_in_place;
 mod json;
 mod random;
 mod rights;
@@ -26,6 +27,7 @@ fn digest_of(alloc: Global, job: &str, seed: u32, rounds: u32) -> Option<Result<
         "json" => json::digest(alloc, seed, rounds),
         "decide" => decide::digest(alloc, seed, rounds),
         "flow" => flow::digest(alloc, seed, rounds),
+        "flow_in_place" => flow_in_place::digest(alloc, seed, rounds),
         "decode" => decode::digest(alloc, seed, rounds),
         "commands" => commands::digest(alloc, seed, rounds),
         _ => return None,
@@ -45,7 +47,7 @@ fn run<R: Env + Print + Eprint + AllocGlobal>(rt: &R) -> io::Result<ExitCode> {
             }
         }
     }
-    eprintln!(rt; "usage: enumset_bench json|decide|flow|decode|commands SEED ROUNDS")?;
+    eprintln!(rt; "usage: enumset_bench json|decide|flow|flow_in_place|decode|commands SEED ROUNDS")?;
     Ok(ExitCode::from(2))
 }
 

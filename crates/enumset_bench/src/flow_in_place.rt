@@ -1,0 +1,66 @@
+//! The flow of facts through the graphs of `flow`, by calls that change a set in place and tell whether it has changed.
+
+use crate::digest::Digest;
+use crate::flow::{Node, PASSES, add_members, random_far_nodes, random_nodes};
+use crate::random::Random;
+use crate::symbols::Far;
+use enumset::{EnumSet, EnumSetType};
+use std::alloc::{AllocError, Global};
+
+/// The digest of the facts of all graphs, the same as that of `flow`.
+pub fn digest(alloc: Global, seed: u32, rounds: u32) -> Result<u64, AllocError> {
+    let mut random = Random::new(seed);
+    let mut digest = Digest::new();
+    let values: Vec<Far> = EnumSet::<Far>::all().iter().collect(alloc)?;
+    for _ in 0..rounds {
+        let mut nodes = random_nodes(alloc, &mut random)?;
+        settle(&mut nodes, &mut digest);
+        for (at, node) in nodes.iter().enumerate() {
+            add_members(&node.known, at % 2 == 0, &mut digest);
+        }
+        let mut far = random_far_nodes(alloc, &mut random, &values)?;
+        settle(&mut far, &mut digest);
+        for (at, node) in far.iter().enumerate() {
+            add_members(&node.known, at % 2 == 0, &mut digest);
+        }
+    }
+    Ok(digest.value())
+}
+
+/// Lets the facts flow until nothing changes.
+fn settle<T: EnumSetType>(nodes: &mut Vec<Node<T>>, digest: &mut Digest) {
+    let mut facts = EnumSet::new();
+    for _ in 0..PASSES {
+        let mut has_changed = false;
+        for at in 0..nodes.len() {
+            gather(nodes, at, &mut facts);
+            if let Some(node) = nodes.get_mut(at) {
+                facts.difference_with(&node.ended);
+                facts.union_with(&node.made);
+                if node.known.union_with(&facts) {
+                    has_changed = true;
+                }
+            }
+        }
+        digest.add(u64::from(has_changed));
+        if !has_changed {
+            return;
+        }
+    }
+}
+
+/// Makes `facts` those that are known at the sources of a node.
+fn gather<T: EnumSetType>(nodes: &[Node<T>], at: usize, facts: &mut EnumSet<T>) {
+    let Some(node) = nodes.get(at) else {
+        return;
+    };
+    let [first, others @ ..] = &node.sources;
+    if let Some(source) = nodes.get(*first) {
+        *facts = source.known.copied();
+    }
+    for source in others {
+        if let Some(source) = nodes.get(*source) {
+            facts.union_with(&source.known);
+        }
+    }
+}
