@@ -54,12 +54,12 @@ fn gather<T: EnumSetType>(nodes: &[Node<T>], at: usize, facts: &mut EnumSet<T>) 
     let Some(node) = nodes.get(at) else {
         return;
     };
-    let [first, others @ ..] = &node.sources;
-    if let Some(source) = nodes.get(*first) {
+    let [first, second, third] = node.sources;
+    if let Some(source) = nodes.get(first) {
         *facts = source.known.copied();
     }
-    for source in others {
-        if let Some(source) = nodes.get(*source) {
+    for other in [second, third] {
+        if let Some(source) = nodes.get(other) {
             facts.union_with(&source.known);
         }
     }

@@ -35,3 +35,47 @@ fn sets_of_letters(rt: HostRuntime) {
     ];
     expect(&rt, "bit_index and its like", numbers, [2, 7, 7]);
 }
+
+// {A, C, F}.
+fn some_letters() -> EnumSet<Letters> {
+    two_of(Letters::A, Letters::C).union(EnumSet::only(Letters::F))
+}
+
+#[test]
+fn letters_in_place(rt: HostRuntime) {
+    let other = two_of(Letters::C, Letters::D);
+    let mut sets = [some_letters(); 3];
+    for has_changed in [true, false] {
+        let told = [
+            sets[0].union_with(&other),
+            sets[1].intersect_with(&other),
+            sets[2].difference_with(&other),
+        ];
+        expect(&rt, "what the calls say", told, [has_changed; 3]);
+        let made = [sets[0].as_u8(), sets[1].as_u8(), sets[2].as_u8()];
+        expect(&rt, "what the calls make", made, [45, 4, 33]);
+    }
+    let mut set = some_letters();
+    let told = [set.toggle(Letters::B), set.toggle(Letters::C)];
+    expect(&rt, "toggle", told, [true, false]);
+    set.set(Letters::D, true);
+    set.set(Letters::F, false);
+    expect(&rt, "toggle and set", set.as_u8(), 11);
+    set.retain(|letter| letter != Letters::B);
+    expect(&rt, "retain", set.as_u8(), 9);
+}
+
+#[test]
+fn ends_of_letters(rt: HostRuntime) {
+    let mut set = some_letters();
+    let found = [set.first(), set.last()];
+    let wanted = [Some(Letters::A), Some(Letters::F)];
+    expect(&rt, "first and last", found, wanted);
+    let found = [1, 2, 3, 6, u32::MAX].map(|bit| set.first_from(bit));
+    let (c, f) = (Some(Letters::C), Some(Letters::F));
+    expect(&rt, "first_from", found, [c, c, f, None, None]);
+    let popped = [set.pop_first(), set.pop_last(), set.pop_first()];
+    expect(&rt, "pops", popped, [Some(Letters::A), f, c]);
+    let popped = [set.pop_first(), set.pop_last(), set.first(), set.last()];
+    expect(&rt, "of none", popped, [None; 4]);
+}
