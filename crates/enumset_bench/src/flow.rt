@@ -92,7 +92,11 @@ fn facts_at<T: EnumSetType>(nodes: &[Node<T>], at: usize) -> EnumSet<T> {
 }
 
 /// Mixes in the members of a set: from both ends, or from the front.
-pub(crate) fn add_members<T: EnumSetType>(set: &EnumSet<T>, is_from_both: bool, digest: &mut Digest) {
+pub(crate) fn add_members<T: EnumSetType>(
+    set: &EnumSet<T>,
+    is_from_both: bool,
+    digest: &mut Digest,
+) {
     if !is_from_both {
         for member in set.iter() {
             digest.add(u64::from(member.enum_into_u32()));
@@ -110,7 +114,10 @@ pub(crate) fn add_members<T: EnumSetType>(set: &EnumSet<T>, is_from_both: bool, 
     }
 }
 
-pub(crate) fn random_nodes(alloc: Global, random: &mut Random) -> Result<Vec<Node<Symbol>>, AllocError> {
+pub(crate) fn random_nodes(
+    alloc: Global,
+    random: &mut Random,
+) -> Result<Vec<Node<Symbol>>, AllocError> {
     let mut nodes = Vec::new(alloc);
     for at in 0..NODES {
         let words = [few(random), few(random), few(random), few(random)];

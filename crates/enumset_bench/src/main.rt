@@ -47,7 +47,9 @@ fn run<R: Env + Print + Eprint + AllocGlobal>(rt: &R) -> io::Result<ExitCode> {
             }
         }
     }
-    eprintln!(rt; "usage: enumset_bench json|decide|flow|flow_in_place|decode|commands SEED ROUNDS")?;
+    eprintln!(rt;
+        "usage: enumset_bench json|decide|flow|flow_in_place|decode|commands SEED ROUNDS"
+    )?;
     Ok(ExitCode::from(2))
 }
 
