@@ -1,11 +1,14 @@
 //! Writes the module of Rattle for a source of enums.
 //!
 //! `enumset_derive CRATE MODULE` reads the source from standard input and prints the module of this name in this crate.
+//! The module `bar` in the module `foo` is named `foo::bar`.
 //! With `-o FILE` after them the module goes into that file, once the source had no fault.
 #![tactic(auto)]
 
 mod arguments;
 mod fault;
+mod place;
+mod plan;
 mod program;
 mod read;
 mod source;

@@ -6,13 +6,15 @@ mod cursor;
 mod draft;
 mod enums;
 mod imports;
+mod items;
 mod literals;
+mod names;
 
-use crate::source::{Item, Source};
+use crate::fault::DeriveError;
+use crate::source::{Form, Source};
 use crate::tokens::{Kind, Token};
-use cursor::{Cursor, Stop};
-use draft::Draft;
-use enumset_derive_plan::{DeriveError, plan_enum};
+use attributes::renamed_derive;
+use cursor::{Cursor, Done};
 use std::alloc::Global;
 
 /// What a source text has of which these are the tokens, or the first fault, of reading or of planning.
@@ -21,122 +23,92 @@ pub fn read_source<'a>(
     text: &'a str,
     tokens: &[Token<'a>],
 ) -> Result<Source<'a>, DeriveError> {
-    let mut source = Source::new(alloc, text);
+    let mut reader = Reader {
+        alloc,
+        source: Source::new(alloc),
+        derive: renamed_derive(tokens),
+        words: Vec::new(alloc),
+        others: Vec::new(alloc),
+    };
     if let [token, rest @ ..] = tokens {
-        let mut cursor = Cursor {
-            text,
-            token,
-            rest,
-            error: None,
-        };
-        source.read_text(&mut cursor);
-        if let Some(error) = cursor.error {
-            return Err(error);
-        }
+        reader.read_text(Cursor { text, token, rest })?;
     }
+    reader.settle_imports()?;
+    let Reader { mut source, .. } = reader;
+    source
+        .notes
+        .sort_by_key(|(place, _)| (place.line, place.column))?;
     Ok(source)
 }
 
-impl<'a> Source<'a> {
-    /// Reads the text: its head, and its items.
-    fn read_text(&mut self, cursor: &mut Cursor<'a, '_>) {
-        self.read_head(cursor);
-        for _ in cursor.rest {
-            self.read_item(cursor);
-        }
-        let end = self.text.len();
-        cursor.note(self.pass_on(end, end));
-    }
+/// A source, and what is known of it while it is read.
+#[derive(Drop)]
+struct Reader<'a, 'b> {
+    alloc: Global,
+    source: Source<'a>,
+    /// The other name under which it imports `EnumSetType`, if there is one.
+    derive: &'a str,
+    /// The names in the derives that are kept.
+    words: Vec<&'a str>,
+    /// The tokens of each item that is no import and no element type, from its keyword on.
+    others: Vec<&'b [Token<'a>]>,
+}
 
-    /// Reads the inner comments and attributes at the head of the text, with the space after them.
-    fn read_head(&mut self, cursor: &mut Cursor<'a, '_>) {
-        let mut end = 0;
-        for _ in cursor.rest {
-            let begin = cursor.token;
-            if matches!(begin.kind, Kind::Space | Kind::Comment) {
-                cursor.advance();
-            } else if cursor.skip_inner() {
-                self.leave_out(begin, cursor, cursor.text_from(begin) == "#![no_std]");
-                end = cursor.token.begin;
-            } else {
-                break;
+impl<'a, 'b> Reader<'a, 'b> {
+    /// Reads the text: its head, and its items.
+    fn read_text(&mut self, begin: Cursor<'a, 'b>) -> Done {
+        let head = begin.head_end()?;
+        let mut is_in_head = true;
+        let mut cursor = begin;
+        for _ in begin.rest {
+            let is_space = matches!(cursor.token.kind, Kind::Space);
+            if is_in_head && !is_space && cursor.token.begin >= head {
+                is_in_head = false;
+                self.source.push(Form::HeadEnd)?;
             }
+            self.read_item(&mut cursor)?;
         }
-        cursor.note(self.pass_on(end, end));
-        cursor.note(self.items.push(Item::HeadEnd));
+        Ok(())
     }
 
     /// Reads an item, or a token between items. At the end of the text there is nothing to read.
-    fn read_item(&mut self, cursor: &mut Cursor<'a, '_>) {
+    fn read_item(&mut self, cursor: &mut Cursor<'a, 'b>) -> Done {
         match cursor.token.kind {
-            Kind::Space | Kind::Comment | Kind::InnerDoc | Kind::End => cursor.advance(),
-            Kind::OuterDoc | Kind::Mark('#') => self.read_with_attributes(cursor),
-            _ if cursor.token.is("use") => self.read_use(cursor),
-            _ => self.read_other(cursor.token, cursor),
-        }
-    }
-
-    /// Reads an item that begins with a comment or an attribute.
-    fn read_with_attributes(&mut self, cursor: &mut Cursor<'a, '_>) {
-        let begin = cursor.token;
-        let mut draft = Draft::new(self.alloc);
-        draft.read_attributes(cursor);
-        draft.read_visibility(cursor);
-        if draft.is_element_type {
-            self.read_enum(begin.begin, draft, cursor);
-        } else {
-            self.read_other(begin, cursor);
-        }
-    }
-
-    /// Reads an enum from its keyword on, and plans it. Its comments and attributes begin at an index.
-    fn read_enum(&mut self, begin: usize, draft: Draft<'a>, cursor: &mut Cursor<'a, '_>) {
-        let mut draft = draft;
-        draft.read_enum(cursor);
-        match plan_enum(self.alloc, &draft.declaration) {
-            Ok(plan) => {
-                cursor.advance();
-                cursor.note(self.push_gap(begin));
-                self.begin = cursor.token.begin;
-                cursor.note(self.push_enum(draft, plan));
+            Kind::Space => self.source.add_space(cursor.token.text),
+            Kind::Comment | Kind::InnerDoc => {
+                self.source.push(Form::Text(cursor.token.text))?;
             }
-            Err(error) => cursor.fail(error),
+            Kind::Mark('#') if cursor.is_at_inner_attribute() => {
+                self.read_inner_attribute(cursor)?;
+            }
+            Kind::End => {}
+            _ => self.read_with_attributes(cursor)?,
         }
-    }
-
-    /// Goes on past an item that is no enum, from its keyword on. One that has no meaning here is left out.
-    fn read_other(&mut self, begin: &Token<'a>, cursor: &mut Cursor<'a, '_>) {
-        let is_crate = cursor.token.is("extern")
-            && matches!(cursor.rest, [_, second, ..] if second.is("crate"));
-        cursor.skip_to(Stop::ItemEnd);
-        self.leave_out(begin, cursor, is_crate);
-    }
-
-    /// Goes on past a token and the space after it. The text from an earlier one on may be left out.
-    fn leave_out(&mut self, begin: &Token<'a>, cursor: &mut Cursor<'a, '_>, is_left_out: bool) {
-        let text = cursor.text_from(begin);
-        cursor.advance();
-        if matches!(cursor.token.kind, Kind::Space) {
-            cursor.advance();
-        }
-        if is_left_out {
-            cursor.note(self.left_out.push((begin.place, text)));
-            cursor.note(self.pass_on(begin.begin, cursor.token.begin));
-        }
+        cursor.advance()
     }
 }
 
 impl Cursor<'_, '_> {
-    /// Goes on to the end of an inner comment or attribute. Tells whether there is one.
-    fn skip_inner(&mut self) -> bool {
-        let is_attribute = self.token.is_mark('#')
-            && matches!(self.rest, [next, ..] if next.is_mark('!'));
-        if is_attribute {
-            self.advance();
-            self.advance();
-            self.skip_to(Stop::Outside);
-            self.want(self.token.is_mark(']'), "wanted: `[`");
+    /// Where the head of the text ends: what comes after the last inner comment or attribute before the first item.
+    fn head_end(self) -> Result<usize, DeriveError> {
+        let mut cursor = self;
+        let mut end = 0;
+        for _ in self.rest {
+            let is_inner = match cursor.token.kind {
+                Kind::Space | Kind::Comment => false,
+                Kind::InnerDoc => true,
+                Kind::Mark('#') if cursor.is_at_inner_attribute() => {
+                    cursor.advance()?;
+                    let _ = cursor.read_attribute()?;
+                    true
+                }
+                _ => break,
+            };
+            cursor.advance()?;
+            if is_inner {
+                end = cursor.token.begin;
+            }
         }
-        is_attribute || matches!(self.token.kind, Kind::InnerDoc)
+        Ok(end)
     }
 }

@@ -4,7 +4,8 @@ mod first;
 mod lexer;
 mod quotes;
 
-use enumset_derive_plan::{DeriveError, Place, Reason};
+use crate::fault::{DeriveError, Reason};
+use crate::place::Place;
 pub use lexer::tokens_of;
 
 /// What a token is.
@@ -18,17 +19,17 @@ pub enum Kind {
     OuterDoc,
     /// A comment that documents what it stands in, as `//! ..`.
     InnerDoc,
-    /// A name, a keyword or a number.
+    /// A name, a keyword or a number, in ASCII.
     Word,
     /// A text or a character in quotes.
     Quoted,
     /// This character, or `::` for `:`.
     Mark(char),
-    /// A lifetime, a single `:`, or `r#` and such where neither a name nor a raw text follows.
+    /// A lifetime, a single `:`, or `r#` and such where no raw text follows.
     Other,
     /// The end of the text.
     End,
-    /// Nothing can be read from here on: what begins at the place has no end, as this says.
+    /// Nothing can be read from here on: what begins at the place has no end, or no place in Rattle, as this says.
     Fault(&'static str),
 }
 
@@ -63,6 +64,13 @@ impl<'a> Token<'a> {
         DeriveError::Fault(Reason::Text(text).at(self.place))
     }
 
+    /// The text in quotes that the token is, without them, unless it is of bytes.
+    pub fn unquoted(&self) -> Option<&'a str> {
+        let text = self.text.strip_prefix('r').unwrap_or(self.text);
+        let text = text.trim_start_matches('#').trim_end_matches('#');
+        text.strip_prefix('"')?.strip_suffix('"')
+    }
+
     /// Whether the token is written so.
     pub fn is(&self, text: &str) -> bool {
         self.text == text
@@ -72,12 +80,9 @@ impl<'a> Token<'a> {
         matches!(self.kind, Kind::Mark(found) if found == mark)
     }
 
-    /// Whether the token is a name: letters, digits and `_`, no digit first, maybe after `r#`.
+    /// Whether the token is a name: a word without a digit first.
     pub fn is_name(&self) -> bool {
-        let name = self.text.strip_prefix("r#").unwrap_or(self.text);
-        matches!(self.kind, Kind::Word)
-            && !name.starts_with(is_digit)
-            && name.trim_start_matches(is_ascii_word).is_empty()
+        matches!(self.kind, Kind::Word) && !self.text.starts_with(is_digit)
     }
 }
 
@@ -101,8 +106,8 @@ fn after(text: &str, at: usize) -> &str {
 }
 
 /// Whether a character is a space, a tab or the end of a line.
-pub fn is_space(character: char) -> bool {
-    matches!(character, ' ' | '\t' | '\n' | '\r')
+fn is_space(character: char) -> bool {
+    matches!(character, ' ' | '\t' | '\n')
 }
 
 /// Whether a character may stand in a word: a letter, a digit, `_`, or a character past ASCII.

@@ -1,65 +1,95 @@
 //! The text of a module.
 
-mod constants;
 mod element_type;
 mod enums;
 mod imports;
 mod json;
 mod layout;
+mod names;
 mod operators;
-mod templates;
-mod writer;
+mod stores;
 
-use crate::source::{Item, Source};
+use crate::fault::DeriveError;
+use crate::source::{Element, Form, Source};
 use element_type::write_element_type;
 use enums::write_enum;
-use imports::define_imports;
+use imports::imports_of;
 use std::alloc::{AllocError, Global};
-use writer::Writer;
 
-/// A text, unless memory ran out.
-type Text = Result<String, AllocError>;
+/// Nothing, unless memory ran out.
+type Written = Result<(), AllocError>;
 
-/// The text of the module that a source stands for. The only error is that memory ran out.
+/// An element type that is written: what it is, and where.
+#[derive(Clone, Copy)]
+struct Subject<'a> {
+    alloc: Global,
+    crate_name: &'a str,
+    /// The modules down to its own, with dots between them.
+    module: &'a str,
+    facade: &'a str,
+    name: &'a str,
+    /// The attribute of each of its implementations, if they are there for tests alone.
+    guard: &'static str,
+    element: &'a Element<'a>,
+}
+
+/// The text of the module that a source stands for, or the fault of a name that the module needs itself.
 ///
 /// The imports stand where the first of the source stand, or after its head.
-pub fn module_text(alloc: Global, crate_name: &str, module_name: &str, source: &Source) -> Text {
-    let mut writer = Writer::new(alloc);
-    writer.define("CRATE", crate_name);
-    writer.define("MODULE", module_name);
-    write_items(&mut writer, source);
-    if source.has_imports || source.has_enums {
-        define_imports(&mut writer, source.facade);
-    }
-    writer.write("@HEAD@@IMPORTS@@BODY@");
-    writer.finish()
-}
-
-/// Writes the items into the body, or into the head and the body.
-fn write_items(writer: &mut Writer, source: &Source) {
-    writer.define("FACADE", source.facade);
-    for name in &source.imports {
-        writer.import(name.as_str());
-    }
+pub fn module_text(
+    alloc: Global,
+    crate_name: &str,
+    module: &str,
+    source: &Source,
+) -> Result<String, DeriveError> {
+    let imports = imports_of(source)?;
+    let imports = imports.as_str();
+    let mut text = String::new(alloc);
     for item in &source.items {
-        write_item(writer, source, item);
+        write_gap(&mut text, item.gap)?;
+        match &item.form {
+            Form::Text(other) => text.push_str(other)?,
+            Form::Changed(other) => text.push_str(other.as_str())?,
+            Form::Foreign(import) => text.push_str(import.text.as_str())?,
+            Form::HeadEnd if source.has_imports || !source.has_enums => {}
+            Form::HeadEnd => {
+                text.push_str(imports)?;
+                text.push_str("\n\n")?;
+            }
+            Form::Imports => text.push_str(imports)?,
+            Form::Element(element) => {
+                write_enum(&mut text, alloc, element)?;
+                let subject = Subject {
+                    alloc,
+                    crate_name,
+                    module,
+                    facade: source.facade,
+                    name: element.declaration.name,
+                    guard: if element.is_test {
+                        "#[cfg(test)]\n"
+                    } else {
+                        ""
+                    },
+                    element,
+                };
+                write_element_type(&mut text, &subject)?;
+            }
+        }
     }
-    writer.cut("BODY");
+    if !text.is_empty() {
+        text.push('\n')?;
+    }
+    Ok(text)
 }
 
-/// Writes an item.
-fn write_item(writer: &mut Writer, source: &Source, item: &Item) {
-    match item {
-        Item::Other(text) => writer.push(text),
-        Item::HeadEnd if source.has_imports || !source.has_enums => {}
-        Item::HeadEnd => {
-            writer.cut("HEAD");
-            writer.push("\n\n");
-        }
-        Item::Imports => writer.cut("HEAD"),
-        Item::Enum(declaration, plan) => {
-            write_enum(writer, declaration);
-            write_element_type(writer, declaration, plan);
-        }
-    }
+/// Writes space, unless it is there.
+fn write_gap(text: &mut String, gap: &str) -> Written {
+    let written = if text.is_empty() || text.ends_with("\n\n") {
+        2
+    } else if text.ends_with('\n') {
+        1
+    } else {
+        0
+    };
+    text.push_str(gap.get(written..).unwrap_or(""))
 }

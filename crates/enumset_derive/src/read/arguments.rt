@@ -1,11 +1,16 @@
 //! What stands in `#[derive(..)]` and `#[enumset(..)]`.
 
-use super::cursor::Cursor;
+use super::attributes::Attribute;
+use super::cursor::{Cursor, Done};
 use super::draft::Draft;
-use crate::tokens::{Kind, Token, UNCLOSED_BRACKET};
-use enumset_derive_plan::{IntegerType, Map, Options, Place, Reason, Representation, Serialized};
+use crate::fault::{DeriveError, Reason};
+use crate::place::Place;
+use crate::plan::{IntegerType, Map, Options, Representation, Serialized};
+use crate::tokens::{Kind, UNCLOSED_BRACKET};
 
-const NO_VALUE: &str = "wanted: `=` and a text in quotes";
+pub(super) const NO_VALUE: &str = "wanted: `=` and a text in quotes";
+
+const NO_BOOLEAN: &str = "wanted: `true` or `false`";
 
 const MAPS: &str = "`map` is \"lsb\", \"msb\", \"mask\" or \"compact\"";
 
@@ -16,35 +21,38 @@ const REPRESENTATIONS: &str =
 const FORMS: &str =
     "`serialize_repr` is \"u8\", \"u16\", \"u32\", \"u64\", \"u128\", \"array\", \"list\" or \"map\"";
 
-impl<'a> Draft<'a> {
-    /// Reads the arguments of a derive or of options, from the name of that attribute on. The attribute has this bracket.
-    pub fn read_arguments(&mut self, cursor: &mut Cursor<'a, '_>, bracket: &Token) {
+impl<'a, 'b> Draft<'a, 'b> {
+    /// Reads the arguments of a derive or of options.
+    pub fn read_arguments(&mut self, attribute: &Attribute<'a, 'b>) -> Done {
+        let mut cursor = attribute.name;
         let is_derive = cursor.token.is("derive");
-        cursor.advance_past_blanks();
-        cursor.want(cursor.token.is_mark('('), "wanted: `(`");
+        cursor.advance_past_blanks()?;
+        cursor.want(cursor.token.is_mark('('), "wanted: `(`")?;
         for _ in cursor.rest {
-            cursor.advance_past_blanks();
+            cursor.advance_past_blanks()?;
             match cursor.token.kind {
                 Kind::Mark(')') => break,
-                _ if is_derive => self.read_derive(cursor),
-                _ => self.read_option(cursor),
+                _ if is_derive => self.read_derive(&mut cursor)?,
+                _ => self.read_option(&mut cursor)?,
             }
             if !cursor.token.is_mark(',') {
                 break;
             }
         }
-        cursor.want(cursor.token.is_mark(')'), "wanted: `,` or `)`");
-        cursor.advance_past_blanks();
+        cursor.want(cursor.token.is_mark(')'), "wanted: `,` or `)`")?;
+        cursor.advance_past_blanks()?;
         match cursor.token.kind {
-            Kind::Mark(']') => {}
+            Kind::Mark(']') => Ok(()),
             Kind::Mark('(' | '[' | '{') => cursor.want(false, UNCLOSED_BRACKET),
-            _ => cursor.fail(bracket.fault(UNCLOSED_BRACKET)),
+            _ => Err(attribute.bracket.fault(UNCLOSED_BRACKET)),
         }
     }
 
     /// Reads a path that is derived.
-    fn read_derive(&mut self, cursor: &mut Cursor<'a, '_>) {
+    fn read_derive(&mut self, cursor: &mut Cursor<'a, 'b>) -> Done {
+        let place = cursor.token.place;
         let mut path = String::new(self.alloc);
+        let mut words = Vec::new(self.alloc);
         let mut was_name = false;
         for _ in cursor.rest {
             let is_name = cursor.token.is_name();
@@ -53,100 +61,109 @@ impl<'a> Draft<'a> {
                 break;
             }
             was_name = is_name;
-            cursor.note(path.push_str(cursor.token.text));
-            cursor.advance_past_blanks();
+            if is_name {
+                words.push(cursor.token.text)?;
+            }
+            if is_name || !words.is_empty() {
+                path.push_str(cursor.token.text)?;
+            }
+            cursor.advance_past_blanks()?;
         }
-        cursor.want(was_name, "wanted: a path, or `)`");
-        let is_serde = path.ends_with("Serialize") || path.ends_with("Deserialize");
-        self.has_serde = self.has_serde || is_serde;
-        if path.as_str() == "EnumSetType" || path.ends_with("::EnumSetType") {
-            self.is_element_type = true;
-        } else {
-            cursor.note(self.declaration.derives.push(path));
-        }
+        cursor.want(was_name, "wanted: a path, or `)`")?;
+        self.take_derive(path, words.as_slice(), place)
     }
 
     /// Reads an option.
-    fn read_option(&mut self, cursor: &mut Cursor<'a, '_>) {
+    fn read_option(&mut self, cursor: &mut Cursor<'a, 'b>) -> Done {
         let name = cursor.token;
         let is_name = matches!(name.kind, Kind::Word);
-        cursor.want(is_name, "wanted: a name of an option, or `)`");
+        cursor.want(is_name, "wanted: a name of an option, or `)`")?;
         for (given, place) in &self.given {
             if *given == name.text {
-                cursor.fail(Reason::OptionTwice(*place).at(name.place).into());
+                return Err(Reason::OptionTwice(*place).at(name.place).into());
             }
         }
-        cursor.note(self.given.push((name.text, name.place)));
-        cursor.read_setting(name.text, &mut self.declaration.options);
-        cursor.advance_past_blanks();
+        self.given.push((name.text, name.place))?;
+        let options = &mut self.declaration.options;
+        let set = match name.text {
+            "map" | "repr" | "serialize_repr" | "crate_name" => {
+                let value = cursor.read_value()?;
+                set_value(options, name.text, value, cursor.token.place)
+            }
+            _ => {
+                let set = set_flag(options, name.text, true);
+                if set.is_ok() && !cursor.read_boolean()? {
+                    set_flag(options, name.text, false)
+                } else {
+                    set
+                }
+            }
+        };
+        if let Err(text) = set {
+            return Err(cursor.token.fault(text));
+        }
+        cursor.advance_past_blanks()
     }
 }
 
 impl<'a> Cursor<'a, '_> {
-    /// Reads the value of an option of this name, if it has one, up to its last token.
-    fn read_setting(&mut self, name: &str, options: &mut Options<'a>) {
-        let fault = match name {
-            "map" | "repr" | "serialize_repr" | "crate_name" => {
-                let value = self.read_value();
-                set_value(options, name, value, self.token.place)
-            }
-            _ => set_flag(options, name),
-        };
-        if let Some(text) = fault {
-            self.fail(self.token.fault(text));
-        }
-    }
-
     /// Reads `=` and a value, up to its text.
-    fn read_value(&mut self) -> &'a str {
-        self.advance_past_blanks();
-        self.want(self.token.is_mark('='), NO_VALUE);
-        self.advance_past_blanks();
-        let quoted = self.token.text.strip_prefix('"').unwrap_or("");
-        let value = quoted.strip_suffix('"');
-        self.want(value.is_some(), NO_VALUE);
-        value.unwrap_or("")
+    pub fn read_value(&mut self) -> Result<&'a str, DeriveError> {
+        self.advance_past_blanks()?;
+        self.want(self.token.is_mark('='), NO_VALUE)?;
+        self.advance_past_blanks()?;
+        let value = self.token.unquoted();
+        value.ok_or(self.token.fault(NO_VALUE))
     }
-}
 
-/// Sets an option without a value. Gives what is wrong.
-fn set_flag(options: &mut Options, name: &str) -> Option<&'static str> {
-    match name {
-        "serialize_deny_unknown" => options.denies_unknown = true,
-        "no_ops" => options.leaves_out_operators = true,
-        "no_super_impls" => options.leaves_out_supertraits = true,
-        "display" => options.has_display = true,
-        "serialize_as_list" => {
-            return Some("`serialize_as_list` is written `serialize_repr = \"list\"`");
+    /// Reads `=` and a value that is true or false, up to it, if there is one. Otherwise it is true.
+    fn read_boolean(&mut self) -> Result<bool, DeriveError> {
+        let mut ahead = *self;
+        ahead.advance_past_blanks()?;
+        if !ahead.token.is_mark('=') {
+            return Ok(true);
         }
-        _ => return Some("there is no such option"),
+        ahead.advance_past_blanks()?;
+        *self = ahead;
+        match self.token.unquoted().unwrap_or(self.token.text) {
+            "true" => Ok(true),
+            "false" => Ok(false),
+            _ => Err(self.token.fault(NO_BOOLEAN)),
+        }
     }
-    None
 }
 
-/// Sets an option to a value that is written at a place. Gives what is wrong.
+/// Sets an option that is true or false, or says what is wrong.
+fn set_flag(options: &mut Options, name: &str, is_set: bool) -> Result<(), &'static str> {
+    match name {
+        "serialize_deny_unknown" => options.denies_unknown = is_set,
+        "no_ops" => options.leaves_out_operators = is_set,
+        "no_super_impls" => options.leaves_out_supertraits = is_set,
+        "display" => options.has_display = is_set,
+        "serialize_as_list" => {
+            return Err("`serialize_as_list` is written `serialize_repr = \"list\"`");
+        }
+        _ => return Err("there is no such option"),
+    }
+    Ok(())
+}
+
+/// Sets an option to a value that is written at a place, or says what is wrong.
 fn set_value<'a>(
     options: &mut Options<'a>,
     name: &str,
     value: &'a str,
     place: Place,
-) -> Option<&'static str> {
+) -> Result<(), &'static str> {
     match name {
-        "map" => match map_named(value) {
-            Some(map) => options.map = Some((map, place)),
-            None => return Some(MAPS),
-        },
-        "repr" => match representation_named(value) {
-            None => return Some(REPRESENTATIONS),
-            representation => options.representation = representation,
-        },
-        "serialize_repr" => match form_named(value) {
-            None => return Some(FORMS),
-            form => options.serialized = form,
-        },
+        "map" => options.map = Some((map_named(value).ok_or(MAPS)?, place)),
+        "repr" => {
+            options.representation = Some(representation_named(value).ok_or(REPRESENTATIONS)?);
+        }
+        "serialize_repr" => options.serialized = Some(form_named(value).ok_or(FORMS)?),
         _ => options.crate_name = Some(value),
     }
-    None
+    Ok(())
 }
 
 fn map_named(value: &str) -> Option<Map> {

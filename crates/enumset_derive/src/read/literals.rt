@@ -1,15 +1,16 @@
 //! The numbers that literals of integers write.
 
+use crate::plan::Number;
 use crate::tokens::is_digit;
-use enumset_derive_plan::Number;
 
 pub(super) const NOT_A_LITERAL: &str = "a discriminant must be a literal of an integer";
 
 const TOO_LARGE: &str = "a literal past 2^128 - 1 must be a power of two, and not decimal";
 
-/// The number that a literal writes, or that a minus sign before it makes of it.
-pub(super) fn number_of(literal: &str, is_negative: bool) -> Result<Number, &'static str> {
+/// A literal without the type after it, and the number that it writes, or that a minus sign before it makes of it.
+pub(super) fn number_of(literal: &str, is_negative: bool) -> Result<(&str, Number), &'static str> {
     let (radix, digits) = radix_of(literal);
+    let mut end = literal.len();
     let mut value = Some(0u128);
     let mut exponent = None;
     let mut has_digit = false;
@@ -21,18 +22,26 @@ pub(super) fn number_of(literal: &str, is_negative: bool) -> Result<Number, &'st
                 has_digit = true;
             }
             _ if character == '_' => {}
-            _ if is_integer_type(digits.get(at..).unwrap_or("")) => break,
+            _ if is_integer_type(digits.get(at..).unwrap_or("")) => {
+                end = literal
+                    .len()
+                    .saturating_sub(digits.len())
+                    .saturating_add(at);
+                break;
+            }
             _ => return Err(NOT_A_LITERAL),
         }
     }
-    match (value, exponent) {
-        _ if !has_digit => Err(NOT_A_LITERAL),
-        (Some(0), _) => Ok(Number::Small(0)),
-        (Some(number), _) if is_negative => Ok(Number::Negative(number)),
-        (Some(number), _) => Ok(Number::Small(number)),
-        (None, Some(exponent)) if !is_negative => Ok(Number::PowerOfTwo(exponent)),
-        _ => Err(TOO_LARGE),
-    }
+    let number = match (value, exponent) {
+        _ if !has_digit => return Err(NOT_A_LITERAL),
+        (Some(0), _) => Number::Small(0),
+        (Some(number), _) if is_negative => Number::Negative(number),
+        (Some(number), _) => Number::Small(number),
+        (None, Some(exponent)) if !is_negative => Number::PowerOfTwo(exponent),
+        _ => return Err(TOO_LARGE),
+    };
+    let written = literal.get(..end).unwrap_or("");
+    Ok((written.trim_end_matches('_'), number))
 }
 
 /// The base of a literal, and what stands after its prefix. Of a text that begins with no digit, that is nothing.

@@ -3,13 +3,16 @@
 use super::quotes::{after_quote, after_raw_prefix, after_tick};
 use super::{Kind, after, before, is_space, is_word};
 
+const CARRIAGE_RETURN: &str = "a carriage return stands only before a line feed";
+
 /// What the first token of a text is, and the text after it.
 pub fn first_token(first: char, text: &str) -> (Kind, &str) {
     let rest = text.strip_prefix(first).unwrap_or("");
     match first {
-        ' ' | '\t' | '\n' | '\r' => (Kind::Space, rest.trim_start_matches(is_space)),
+        ' ' | '\t' | '\n' => (Kind::Space, rest.trim_start_matches(is_space)),
         '/' if rest.starts_with('/') => (comment_kind(text), rest.trim_start_matches(is_on_line)),
         '/' if rest.starts_with('*') => block_comment(text),
+        '\r' => (Kind::Fault(CARRIAGE_RETURN), ""),
         '"' => after_quote(rest),
         '\'' => after_tick(rest),
         ':' => match rest.strip_prefix(':') {
@@ -56,7 +59,7 @@ fn block_comment(text: &str) -> (Kind, &str) {
     (Kind::Fault("this comment has no end"), "")
 }
 
-/// What a token is that begins as a word, and the text after it: a word, a raw name, or a text in quotes.
+/// What a token is that begins as a word, and the text after it: a word, or a text in quotes.
 fn word(text: &str) -> (Kind, &str) {
     let rest = text.trim_start_matches(is_word);
     let next = rest.chars().next();
@@ -65,6 +68,7 @@ fn word(text: &str) -> (Kind, &str) {
         ("r" | "br" | "cr", Some('#' | '"')) => after_raw_prefix(rest),
         ("b" | "c", Some('"')) => after_quote(after_next),
         ("b" | "c", Some('\'')) => after_tick(after_next),
+        (word, _) if !word.is_ascii() => (Kind::Fault("names are ASCII here"), rest),
         _ => (Kind::Word, rest),
     }
 }

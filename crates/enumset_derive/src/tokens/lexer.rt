@@ -2,7 +2,7 @@
 
 use super::first::first_token;
 use super::{Kind, Token, UNCLOSED_BRACKET, before};
-use enumset_derive_plan::Place;
+use crate::place::Place;
 use std::alloc::{AllocError, Global};
 
 /// The tokens of a text: a space of no length at its beginning, those that it has, and its end.

@@ -5,6 +5,9 @@ use super::{Kind, after, before, is_word};
 /// What a text or a character in quotes is that has no end.
 const UNCLOSED: (Kind, &str) = (Kind::Fault("this quote has no end"), "");
 
+/// What is wrong with a raw name.
+const RAW_NAME: &str = "no raw names here: choose one that is no keyword";
+
 /// What a token is that begins with `"`, and the text after it.
 pub fn after_quote(text: &str) -> (Kind, &str) {
     let mut is_escaped = false;
@@ -33,7 +36,7 @@ pub fn after_tick(text: &str) -> (Kind, &str) {
     }
 }
 
-/// What a raw text or a raw name is, of which `r`, `br` or `cr` stands before this text, and the text after it.
+/// What a raw text is, or a raw name, of which `r`, `br` or `cr` stands before this text, and the text after it.
 pub fn after_raw_prefix(text: &str) -> (Kind, &str) {
     let rest = text.trim_start_matches('#');
     let hashes = before(text, rest);
@@ -46,7 +49,7 @@ pub fn after_raw_prefix(text: &str) -> (Kind, &str) {
         return UNCLOSED;
     }
     if rest.starts_with(is_word) {
-        (Kind::Word, rest.trim_start_matches(is_word))
+        (Kind::Fault(RAW_NAME), "")
     } else {
         (Kind::Other, rest)
     }

@@ -1,62 +1,39 @@
 //! What makes an enum an element type.
 
-use super::constants::define_constants;
 use super::enums::are_kept;
 use super::json::write_json;
-use super::layout::{Elements, wrapped};
+use super::layout::{call_of, list_of};
+use super::names::{are_named, write_display, write_names};
 use super::operators::write_operators;
-use super::templates::*;
-use super::writer::Writer;
-use enumset_derive_plan::{EnumDeclaration, Number, Options, Plan, Serialized, Store};
+use super::stores::{is_narrow, store_text};
+use super::{Subject, Written};
+use crate::plan::{Number, Plan, Store};
+use std::alloc::AllocError;
 
 /// Writes what makes an enum an element type.
-pub(super) fn write_element_type(writer: &mut Writer, declaration: &EnumDeclaration, plan: &Plan) {
-    let mut elements = Vec::new(writer.alloc);
-    for (variant, named) in declaration.variants.iter().zip(plan.variants.iter()) {
-        let element = (variant.name, u64::from(named.bit));
-        writer.note(elements.push(element).is_ok());
-    }
-    writer.define("NAME", declaration.name);
-    define_constants(writer, plan);
-    define_bits(writer, &elements, declaration, plan);
-    write_impls(writer, &elements, &declaration.options, plan);
-}
-
-/// Writes the implementations.
-fn write_impls(writer: &mut Writer, elements: Elements, options: &Options, plan: &Plan) {
-    writer.import("EnumSetType");
-    writer.write(ELEMENT_TYPE);
-    if is_narrow(plan) {
-        writer.import("EnumSetTypeWithRepr");
-        writer.write(WITH_REPR);
+pub(super) fn write_element_type(out: &mut String, of: &Subject) -> Written {
+    let options = &of.element.declaration.options;
+    write_impl(out, of)?;
+    if is_narrow(&of.element.plan) {
+        write_with_repr(out, of)?;
     }
     if are_named(options) {
-        write_names(writer, elements);
+        write_names(out, of)?;
     }
     if options.has_display {
-        write_display(writer, elements);
+        write_display(out, of)?;
     }
     if !options.leaves_out_operators {
-        write_operators(writer);
+        write_operators(out, of)?;
     }
-    write_json(writer, options, plan);
-}
-
-/// Whether sets are written in JSON by the names of their elements.
-pub(super) fn are_named(options: &Options) -> bool {
-    matches!(options.serialized, Some(Serialized::List | Serialized::Map))
-}
-
-/// Whether the representation has at most 128 bits.
-fn is_narrow(plan: &Plan) -> bool {
-    match &plan.store {
-        Store::Integer(_, _) => true,
-        Store::Words(words) => words.len() <= 2,
+    match options.serialized {
+        Some(serialized) => write_json(out, of, serialized),
+        None => Ok(()),
     }
 }
 
 /// Whether a bit becomes its variant by a load from a table: there are more than sixteen, and they are not the places.
-fn is_in_table(plan: &Plan) -> bool {
+pub(super) fn is_in_table(plan: &Plan) -> bool {
     plan.variants.len() > 16 && !are_places(plan)
 }
 
@@ -67,90 +44,208 @@ fn are_places(plan: &Plan) -> bool {
 }
 
 /// Whether each bit is its variant's number, as `as` gives it.
-fn are_cast(declaration: &EnumDeclaration, plan: &Plan) -> bool {
-    if !are_kept(&declaration.variants) {
+fn are_cast(of: &Subject) -> bool {
+    let plan = &of.element.plan;
+    if !are_kept(&of.element.declaration.variants) {
         return are_places(plan);
     }
     let mut variants = plan.variants.iter();
     variants.all(|named| named.number == Number::Small(u128::from(named.bit)))
 }
 
-/// Defines the bits of the elements, the conversions, and the proof of the laws.
-fn define_bits(writer: &mut Writer, elements: Elements, item: &EnumDeclaration, plan: &Plan) {
-    let has_values = item.options.has_display;
-    let is_cast = are_cast(item, plan);
-    let in_place = is_cast && are_places(plan);
+/// Writes the implementation of an element type.
+fn write_impl(out: &mut String, of: &Subject) -> Written {
+    let Subject {
+        alloc,
+        crate_name,
+        module,
+        name,
+        guard,
+        ..
+    } = *of;
+    let plan = &of.element.plan;
+    let has_values = of.element.declaration.options.has_display;
+    let in_place = are_cast(of) && are_places(plan);
     let is_short = in_place && !has_values && matches!(plan.store, Store::Integer(_, _));
-    writer.set_list("VALUE_LIST", 79, "variant.@ITEM@ ∷", elements);
-    writer.set_list("ELEMENT_BITS", 59, "@BIT@ ∷", elements);
-    writer.set_lines("ARMS", "            Self::@ITEM@ => @BIT@,", elements);
-    let bit_of_value = match (is_cast, elements.is_empty()) {
-        (false, _) => "        match self {\n@ARMS@        }\n",
-        (true, true) => "        match self {}\n",
-        (true, false) => "        self as u32\n",
+    let lists_use = match is_short {
+        true => "",
+        false => "    ghost use Rattle.std.specs.Prelude.{◌∷◌, []};\n",
     };
-    writer.define("BIT_OF_VALUE", bit_of_value);
-    writer.define("LISTS_USE", if is_short { "" } else { LISTS_USE });
-    writer.define_all(if has_values { &VALUES } else { &NO_VALUES });
-    writer.define_all(if in_place { &IN_PLACE } else { &WITH_BITS });
-    define_value_of_bit(writer, elements, plan);
+    let store = store_text(alloc, &plan.store)?;
+    let law = store.law;
+    let (laws, elements, lawful) = if in_place {
+        (
+            format!(in alloc; "in_place, {law}, lawful_in_place")?,
+            String::from_str(alloc, "in_place the_type")?,
+            format!(in alloc; "lawful_in_place the_type ({law} the_type _ tt)")?,
+        )
+    } else {
+        let bits = bits_of(of)?;
+        (
+            format!(in alloc; "with_bits, {law}")?,
+            format!(in alloc; "with_bits the_type ({bits})")?,
+            format!(in alloc; "{law} the_type _ tt")?,
+        )
+    };
+    let (values_use, values) = values_of(of)?;
+    let body_into = body_of_into(of)?;
+    let body_from = body_of_from(of)?;
+    let repr = store.repr.as_str();
+    let bits = store.bits.as_str();
+    let all_bits = store.all_bits.as_str();
+    let width = plan.bit_width;
+    let count = plan.variants.len();
+    write!(
+        out,
+        "{guard}impl EnumSetType for {name} {{
+{lists_use}    ghost use Rattle.enumset_sets.specs.Laws.Elements.{{{laws}}};
+    ghost use Rattle.{crate_name}.specs.contracts.{module}.{name}.{{the_type}};
+{values_use}
+    type Repr = {repr};
+
+    ghost elements = {{ {elements} }};
+
+{values}    ghost ALL_BITS = {{ {bits} }};
+
+    const ALL_BITS: {repr} = {all_bits};
+
+    ghost BIT_WIDTH = {{ {width} }};
+
+    const BIT_WIDTH: u32 = {width};
+
+    ghost VARIANT_COUNT = {{ {count} }};
+
+    const VARIANT_COUNT: u32 = {count};
+
+    fn enum_into_u32(self) -> u32 {{
+{body_into}    }}
+
+    fn enum_from_u32(val: u32) -> Self {{
+{body_from}
+    }}
+
+    ghost lawful = {{ {lawful} }};
+}}"
+    )
 }
 
-/// Defines the body that converts a bit to its variant: a match over the bits, or the call of the macro that makes a table.
-fn define_value_of_bit(writer: &mut Writer, elements: Elements, plan: &Plan) {
-    if is_in_table(plan) {
-        writer.import("variant_of");
-        writer.set_lines("WORDS", "@BIT@ @ITEM@", elements);
-        define_call(writer, "variant_of!(", "val, ");
-    } else {
-        writer.set_lines("ARMS", "            @BIT@ => Self::@ITEM@,", elements);
-        let is_long = elements.len() > 32;
-        let last_arm = if is_long {
-            LAST_OF_MANY
-        } else {
-            "unreachable!(),"
-        };
-        writer.define("LAST_ARM", last_arm);
-        writer.define("BODY", MATCH);
+/// The list of the variants' bits.
+fn bits_of(of: &Subject) -> Result<String, AllocError> {
+    let mut words = String::new(of.alloc);
+    for named in &of.element.plan.variants {
+        write!(words, "{} ∷\n", named.bit)?;
     }
+    list_of(of.alloc, 59, words.as_str())
 }
 
-/// Defines a body: the call of a macro with the enum's name and the words, on one line if it fits.
-fn define_call(writer: &mut Writer, macro_name: &'static str, first: &str) {
-    writer.define("FIRST", first);
-    writer.define("WORDS", "@FIRST@@NAME@:\n@WORDS@");
-    let words = writer.part("WORDS");
-    let is_short = words.len().saturating_add(macro_name.len()) <= 92;
-    let room = if is_short { 92 } else { 88 };
-    let words = wrapped(writer.alloc, "\n            ", [room, 88], words);
-    writer.define("MACRO", macro_name);
-    writer.set("WORDS", words);
-    writer.define("BODY", if is_short { SHORT_CALL } else { LONG_CALL });
+/// What is written where contracts know the list of variants: its import, and the list.
+fn values_of(of: &Subject) -> Result<(String, String), AllocError> {
+    let alloc = of.alloc;
+    if !of.element.declaration.options.has_display {
+        return Ok((String::new(alloc), String::new(alloc)));
+    }
+    let mut words = String::new(alloc);
+    for variant in &of.element.declaration.variants {
+        write!(words, "variant.{} ∷\n", variant.name)?;
+    }
+    let values = list_of(alloc, 79, words.as_str())?;
+    let Subject {
+        crate_name,
+        module,
+        name,
+        ..
+    } = *of;
+    let import = format!(in alloc;
+        "    ghost use Rattle.{crate_name}.specs.declared.{module}.{name}.TheVariants as variant;\n"
+    )?;
+    Ok((
+        import,
+        format!(in alloc; "    ghost values = {{ {values} }};\n\n")?,
+    ))
 }
 
-/// Writes the names of the variants.
-fn write_names(writer: &mut Writer, elements: Elements) {
-    writer.import("EnumSetNames");
-    writer.import("names_of");
-    writer.set_list("NAMES", 80, "codes \"@ITEM@\" ∷", elements);
-    writer.set_lines("WORDS", "@ITEM@", elements);
-    define_call(writer, "names_of!(", "");
-    writer.write(NAMES);
+/// The body that converts a variant to its bit.
+fn body_of_into(of: &Subject) -> Result<String, AllocError> {
+    let alloc = of.alloc;
+    let declaration = &of.element.declaration;
+    if are_cast(of) {
+        let has_variants = !declaration.variants.is_empty();
+        let value = if has_variants {
+            "self as u32"
+        } else {
+            "match self {}"
+        };
+        return format!(in alloc; "        {value}\n");
+    }
+    let mut body = String::from_str(alloc, "        match self {\n")?;
+    for (variant, named) in declaration
+        .variants
+        .iter()
+        .zip(of.element.plan.variants.iter())
+    {
+        let name = variant.name;
+        let bit = named.bit;
+        write!(body, "            Self::{name} => {bit},\n")?;
+    }
+    body.push_str("        }\n")?;
+    Ok(body)
 }
 
-/// Writes the `Display` by the names of the variants.
-fn write_display(writer: &mut Writer, elements: Elements) {
-    writer.set_list("SHOWN_NAMES", 90, "codes \"@ITEM@\" ∷", elements);
-    writer.set_lines(
-        "ARMS",
-        "            Self::@ITEM@ => f.write_str(\"@ITEM@\"),",
-        elements,
-    );
-    let shown_by = if elements.is_empty() {
-        "        match *self {}\n"
+/// The body that converts a bit to its variant: a match over the bits, or the call of the macro that makes a table.
+fn body_of_from(of: &Subject) -> Result<String, AllocError> {
+    let alloc = of.alloc;
+    let plan = &of.element.plan;
+    let is_in_table = is_in_table(plan);
+    let mut words = String::new(alloc);
+    if is_in_table {
+        let name = of.name;
+        write!(words, "val, {name}:\n")?;
     } else {
-        "        match self {\n@ARMS@        }\n"
-    };
-    writer.define("SHOWN_BY", shown_by);
-    writer.write(DISPLAY);
+        words.push_str("        match val {\n")?;
+    }
+    let variants = &of.element.declaration.variants;
+    for (variant, named) in variants.iter().zip(plan.variants.iter()) {
+        let name = variant.name;
+        let bit = named.bit;
+        if is_in_table {
+            write!(words, "{bit} {name}\n")?;
+        } else {
+            write!(words, "            {bit} => Self::{name},\n")?;
+        }
+    }
+    if is_in_table {
+        return call_of(alloc, "variant_of!", words.as_str());
+    }
+    let count = plan.variants.len();
+    if count > 32 {
+        // A proof takes in no more bits by itself.
+        let facade = of.facade;
+        write!(
+            words,
+            "            _ => {{
+                {facade}::variants::is_below(val, {count});
+                unreachable!()
+            }}
+        }}"
+        )?;
+    } else {
+        words.push_str("            _ => unreachable!(),\n        }")?;
+    }
+    Ok(words)
+}
+
+/// Writes the implementation of an element type of at most 128 bits.
+fn write_with_repr(out: &mut String, of: &Subject) -> Written {
+    let name = of.name;
+    let guard = of.guard;
+    write!(
+        out,
+        "
+
+{guard}impl EnumSetTypeWithRepr for {name} {{
+    ghost use Rattle.std.proofs.Common.{{rules}};
+
+    ghost narrow = {{ Prim.search rules }};
+}}"
+    )
 }

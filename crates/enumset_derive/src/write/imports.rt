@@ -1,57 +1,120 @@
 //! What a module imports.
 
-use super::writer::Writer;
-use crate::tokens::is_space;
+use super::element_type::is_in_table;
+use super::layout::{on_a_line, wrapped};
+use super::names::are_named;
+use super::stores::is_narrow;
+use crate::fault::{DeriveError, Reason};
+use crate::plan::Store;
+use crate::source::{Element, Form, Source};
+use std::alloc::AllocError;
 use std::collections::BTreeSet;
-use std::mem;
 
-/// Defines the imports of a module, in order, each once. Paths and renamed names have lines of their own.
-pub(super) fn define_imports(writer: &mut Writer, facade: &str) {
-    let imports = mem::replace(&mut writer.imports, BTreeSet::new(writer.alloc));
-    writer.define_all(&[("WORDS", ""), ("PATHS", ""), ("GAP", "")]);
-    for name in &imports {
-        if name.contains(':') || name.contains(is_space) {
-            define_path(writer, facade, name.as_str());
-        } else {
-            writer.set("WORD", name.clone());
-            writer.define("WORDS", "@WORDS@@WORD@,\n");
+const TAKEN: &str = "the module needs this name for what it imports of `enumset`: choose another";
+
+/// The imports of a module of `enumset`, in order, each once. Paths and renamed names have lines of their own.
+pub(super) fn imports_of(source: &Source) -> Result<String, DeriveError> {
+    let alloc = source.alloc;
+    let mut imports = BTreeSet::new(alloc);
+    for name in &source.imports {
+        imports.insert(name.clone()?)?;
+    }
+    let mut needed = BTreeSet::new(alloc);
+    for item in &source.items {
+        if let Form::Element(element) = &item.form {
+            for (is_needed, name) in needed_by(element) {
+                if is_needed {
+                    needed.insert(name)?;
+                }
+            }
         }
     }
-    let is_alone = writer.part("WORDS").lines().count() == 1;
-    define_use(writer, is_alone);
-    let is_first = is_alone && facade != "enumset_sets";
-    let order = if is_first {
-        "@USE@@GAP@@PATHS@"
-    } else {
-        "@PATHS@@GAP@@USE@"
-    };
-    writer.define("IMPORTS", order);
+    for name in &needed {
+        if is_free(source, name)? {
+            imports.insert(String::from_str(alloc, name)?)?;
+        }
+    }
+    Ok(lines_of(source, &imports)?)
 }
 
-/// Adds the line of a path or a renamed name.
-fn define_path(writer: &mut Writer, facade: &str, name: &str) {
-    let path = if facade == "enumset_sets" && name == "internal::ArrayRepr" {
-        String::from_str(writer.alloc, "enumset_array::ArrayRepr")
-    } else {
-        format!(in writer.alloc; "{facade}::{name}")
-    };
-    writer.set("PATH", path);
-    writer.define("PATHS", "@PATHS@@GAP@use @PATH@;");
-    writer.define("GAP", "\n");
+/// What the module of an element type may need of `enumset`, and whether it does.
+fn needed_by(element: &Element) -> [(bool, &'static str); 8] {
+    let options = &element.declaration.options;
+    let is_named = are_named(options);
+    let has_form = options.serialized.is_some();
+    [
+        (true, "EnumSetType"),
+        (is_narrow(&element.plan), "EnumSetTypeWithRepr"),
+        (has_form || !options.leaves_out_operators, "EnumSet"),
+        (is_named, "EnumSetNames"),
+        (is_named, "names_of"),
+        (has_form, "set_json"),
+        (is_in_table(&element.plan), "variant_of"),
+        (
+            matches!(element.plan.store, Store::Words(_)),
+            "internal::ArrayRepr",
+        ),
+    ]
 }
 
-/// Defines the import of the plain names.
-fn define_use(writer: &mut Writer, is_alone: bool) {
-    writer.set_line_and_lines("\n    ", 96);
-    writer.define("WHOLE", "use @FACADE@::{@LINE@};");
-    let text = if writer.part("LINE").contains('*') {
-        "use @FACADE@::*;"
+/// Whether a source has not imported a path of `enumset` itself, be it through its own crate. It is a fault if it gives the
+/// name to something else.
+fn is_free(source: &Source, path: &str) -> Result<bool, DeriveError> {
+    let name = path.strip_prefix("internal::").unwrap_or(path);
+    for other in &source.names {
+        if other.text == name {
+            let is_inside = matches!(other.root, "crate" | "self" | "super");
+            if is_inside || other.root == source.facade || other.root.starts_with("enumset") {
+                return Ok(false);
+            }
+            return Err(Reason::Text(TAKEN).at(other.place).into());
+        }
+    }
+    Ok(true)
+}
+
+/// The lines that import these.
+fn lines_of(source: &Source, imports: &BTreeSet<String>) -> Result<String, AllocError> {
+    let alloc = source.alloc;
+    let facade = source.facade;
+    let is_ours = facade == "enumset_sets";
+    let mut words = String::new(alloc);
+    let mut paths = String::new(alloc);
+    for name in imports {
+        if is_ours && name.as_str() == "internal::ArrayRepr" {
+            paths.push_str("use enumset_array::ArrayRepr;\n")?;
+        } else if name.contains(':') || name.contains(' ') {
+            write!(paths, "use {facade}::{name};\n")?;
+        } else {
+            write!(words, "{name},\n")?;
+        }
+    }
+    let line = on_a_line(alloc, words.as_str())?;
+    let is_alone = words.lines().count() == 1;
+    let whole = if words.is_empty() {
+        String::new(alloc)
+    } else if line.contains('*') {
+        format!(in alloc; "use {facade}::*;")?
     } else if is_alone {
-        "use @FACADE@::@LINE@;"
-    } else if writer.part("WHOLE").len() <= 100 {
-        "@WHOLE@"
+        format!(in alloc; "use {facade}::{line};")?
     } else {
-        "use @FACADE@::{\n    @LINES@\n};"
+        let whole = format!(in alloc; "use {facade}::{{{line}}};")?;
+        if whole.len() <= 100 {
+            whole
+        } else {
+            let lines = wrapped(alloc, "\n    ", [96, 96], words.as_str())?;
+            format!(in alloc; "use {facade}::{{\n    {lines}\n}};")?
+        }
     };
-    writer.define("USE", text);
+    let paths = paths.trim_end();
+    let gap = if paths.is_empty() || whole.is_empty() {
+        ""
+    } else {
+        "\n"
+    };
+    if is_alone && !is_ours {
+        format!(in alloc; "{whole}{gap}{paths}")
+    } else {
+        format!(in alloc; "{paths}{gap}{whole}")
+    }
 }

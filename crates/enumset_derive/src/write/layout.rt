@@ -1,38 +1,21 @@
-//! Lists of words, and their layout in lines of at most 100 columns.
+//! The layout of words in lines of at most 100 columns.
 
-use super::Text;
-use super::writer::Writer;
-use std::alloc::Global;
-
-/// A list of texts with numbers: the names of variants, with their bits.
-pub(super) type Elements<'a> = &'a [(&'a str, u64)];
+use std::alloc::{AllocError, Global};
 
 /// How a new line of a list in an `impl` begins.
 pub(super) const LIST_START: &str = "\n        ";
 
-impl Writer {
-    /// Adds a part: the list, in a clause, of what a pattern becomes for each item. Its first line has this room.
-    pub fn set_list(&mut self, name: &'static str, room: usize, pattern: &str, items: Elements) {
-        self.set_lines("WORDS", pattern, items);
-        self.define("WORDS", "@WORDS@[]");
-        let list = wrapped(self.alloc, LIST_START, [room, 92], self.part("WORDS"));
-        self.set(name, list);
-    }
-
-    /// Adds the words as a line without the comma at its end, and as lines with this room, each by the text `start`.
-    pub fn set_line_and_lines(&mut self, start: &str, room: usize) {
-        let words = self.part("WORDS");
-        let on_a_line = words.strip_suffix(",\n").unwrap_or("");
-        let line = wrapped(self.alloc, "", [usize::MAX, 0], on_a_line);
-        let lines = wrapped(self.alloc, start, [room, room], words);
-        self.set("LINE", line);
-        self.set("LINES", lines);
-    }
-}
+/// How many columns such a line has left.
+pub(super) const LIST_ROOM: usize = 92;
 
 /// The lines of a text as words with spaces between them. Where the next word would pass the last column, a new line
 /// begins, by the text `start`. `rooms` is how many columns are left on the first line, and on the others after `start`.
-pub(super) fn wrapped(alloc: Global, start: &str, rooms: [usize; 2], words: &str) -> Text {
+pub(super) fn wrapped(
+    alloc: Global,
+    start: &str,
+    rooms: [usize; 2],
+    words: &str,
+) -> Result<String, AllocError> {
     let [mut room, room_of_line] = rooms;
     let mut out = String::new(alloc);
     for word in words.lines() {
@@ -49,4 +32,28 @@ pub(super) fn wrapped(alloc: Global, start: &str, rooms: [usize; 2], words: &str
         out.push_str(word)?;
     }
     Ok(out)
+}
+
+/// The words, each with a comma, on one line without the comma at its end.
+pub(super) fn on_a_line(alloc: Global, words: &str) -> Result<String, AllocError> {
+    let words = words.strip_suffix(",\n").unwrap_or("");
+    wrapped(alloc, "", [usize::MAX, 0], words)
+}
+
+/// A list in a clause, of which these are the words but the last. Its first line has this room.
+pub(super) fn list_of(alloc: Global, room: usize, words: &str) -> Result<String, AllocError> {
+    let words = format!(in alloc; "{words}[]")?;
+    wrapped(alloc, LIST_START, [room, LIST_ROOM], words.as_str())
+}
+
+/// The body of a function that calls a macro with words, on one line if it fits.
+pub(super) fn call_of(alloc: Global, macro_name: &str, words: &str) -> Result<String, AllocError> {
+    let is_short = words.len().saturating_add(macro_name.len()) <= 91;
+    let room = if is_short { LIST_ROOM } else { 88 };
+    let words = wrapped(alloc, "\n            ", [room, 88], words)?;
+    if is_short {
+        format!(in alloc; "        {macro_name}({words})")
+    } else {
+        format!(in alloc; "        {macro_name}(\n            {words}\n        )")
+    }
 }

@@ -1,27 +1,92 @@
 //! The operators on elements.
 
-use super::templates::{COMPLEMENT, OPERATOR};
-use super::writer::Writer;
+use super::{Subject, Written};
 
-/// What a template says of an operator.
-const PARTS: [&str; 5] = ["TRAIT", "FUNCTION", "SIGN", "OPERATION", "IN_WORDS"];
-
-/// These parts of each operator with two operands.
-const OPERATORS: [&str; 4] = [
-    "BitAnd bitand & intersection intersection",
-    "BitOr bitor | union union",
-    "BitXor bitxor ^ symmetric_difference symmetric difference",
-    "Sub sub - difference difference",
+/// Of each operator with two operands the trait, the function, the sign, the operation in the model, and its name in words.
+const OPERATORS: [[&str; 5]; 4] = [
+    ["BitAnd", "bitand", "&", "intersection", "intersection"],
+    ["BitOr", "bitor", "|", "union", "union"],
+    [
+        "BitXor",
+        "bitxor",
+        "^",
+        "symmetric_difference",
+        "symmetric difference",
+    ],
+    ["Sub", "sub", "-", "difference", "difference"],
 ];
 
 /// Writes the five operators.
-pub(super) fn write_operators(writer: &mut Writer) {
-    writer.import("EnumSet");
-    for operator in OPERATORS {
-        for (part, text) in PARTS.iter().zip(operator.splitn(5, ' ')) {
-            writer.define(part, text);
-        }
-        writer.write(OPERATOR);
+pub(super) fn write_operators(out: &mut String, of: &Subject) -> Written {
+    for operator in &OPERATORS {
+        write_operator(out, of, operator)?;
     }
-    writer.write(COMPLEMENT);
+    write_complement(out, of)
+}
+
+/// Writes an operator between two elements, and between an element and a set.
+fn write_operator(out: &mut String, of: &Subject, operator: &[&str; 5]) -> Written {
+    let Subject { name, guard, .. } = *of;
+    let [trait_name, function, sign, operation, words] = *operator;
+    write!(
+        out,
+        "
+
+/// The {words} of the set of the one and that of the other.
+{guard}impl std::ops::{trait_name} for {name} {{
+    ghost use Rattle.std.specs.Prelude.{{◌≡◌}};
+    ghost use Rattle.enumset_repr.specs.BitSet as set;
+
+    type Output = EnumSet<{name}>;
+
+    ghost {function}_gives = {{ λ a b r. r ≡ set.{operation}
+        (set.only (⟦<{name} as EnumSetType>⟧.elements.bit a))
+        (set.only (⟦<{name} as EnumSetType>⟧.elements.bit b)) }};
+
+    fn {function}(self, rhs: Self) -> EnumSet<Self> {{
+        EnumSet::only(self) {sign} EnumSet::only(rhs)
+    }}
+}}
+
+/// The {words} of the set of the one and the other.
+{guard}impl std::ops::{trait_name}<EnumSet<{name}>> for {name} {{
+    ghost use Rattle.std.specs.Prelude.{{◌≡◌}};
+    ghost use Rattle.enumset_repr.specs.BitSet as set;
+
+    type Output = EnumSet<{name}>;
+
+    ghost {function}_gives = {{ λ a b r. r ≡ set.{operation}
+        (set.only (⟦<{name} as EnumSetType>⟧.elements.bit a)) b }};
+
+    fn {function}(self, rhs: EnumSet<Self>) -> EnumSet<Self> {{
+        EnumSet::only(self) {sign} rhs
+    }}
+}}"
+    )
+}
+
+/// Writes the complement.
+fn write_complement(out: &mut String, of: &Subject) -> Written {
+    let Subject { name, guard, .. } = *of;
+    write!(
+        out,
+        "
+
+/// The set of all the others.
+{guard}impl std::ops::Not for {name} {{
+    ghost use Rattle.std.specs.Prelude.{{◌≡◌}};
+    ghost use Rattle.enumset_repr.specs.BitSet as set;
+    ghost use Rattle.enumset_sets.specs.Elements.{{valid_bits}};
+
+    type Output = EnumSet<{name}>;
+
+    ghost not_gives = {{ λ a r. r ≡ set.difference
+        (valid_bits ⟦<{name} as EnumSetType>⟧.elements)
+        (set.only (⟦<{name} as EnumSetType>⟧.elements.bit a)) }};
+
+    fn not(self) -> EnumSet<Self> {{
+        !EnumSet::only(self)
+    }}
+}}"
+    )
 }

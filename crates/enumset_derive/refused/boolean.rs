@@ -1,0 +1,5 @@
+#[derive(EnumSetType)]
+#[enumset(no_ops = "yes")]
+pub enum E {
+    A,
+}

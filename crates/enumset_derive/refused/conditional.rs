@@ -1,0 +1,4 @@
+#[cfg_attr(feature = "sets", derive(EnumSetType))]
+pub enum E {
+    A,
+}

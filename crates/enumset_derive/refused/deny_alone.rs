@@ -1,0 +1,5 @@
+#[derive(EnumSetType)]
+#[enumset(serialize_deny_unknown)]
+pub enum E {
+    A,
+}

@@ -1,0 +1,6 @@
+pub use enumset::*;
+
+#[derive(EnumSetType)]
+pub enum E {
+    A,
+}

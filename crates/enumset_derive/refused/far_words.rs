@@ -1,0 +1,5 @@
+#[derive(EnumSetType)]
+#[enumset(repr = "array")]
+pub enum E {
+    A = 0xFFFFFFBF,
+}

@@ -1,0 +1,6 @@
+fn f() {
+    #[derive(enumset::EnumSetType)]
+    enum Local {
+        A,
+    }
+}

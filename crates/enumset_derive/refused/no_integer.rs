@@ -1,0 +1,5 @@
+#[derive(EnumSetType)]
+#[enumset(map = "msb")]
+pub enum E {
+    A,
+}

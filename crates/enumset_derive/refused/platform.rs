@@ -1,0 +1,5 @@
+#[cfg(unix)]
+#[derive(EnumSetType)]
+pub enum Signal {
+    Hangup,
+}

@@ -1,0 +1,5 @@
+#[derive(EnumSetType)]
+pub enum Keyword {
+    If,
+    r#Else,
+}

@@ -1,0 +1,5 @@
+#[derive(EnumSetType)]
+#[enumset(map = "mask")]
+pub enum E {
+    A = 1 << 0,
+}

@@ -1,0 +1,4 @@
+#[derive(EnumSetType, Debug)]
+pub struct Flags {
+    bits: u8,
+}

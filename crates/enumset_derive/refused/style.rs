@@ -1,0 +1,6 @@
+#[derive(EnumSetType, Serialize, Deserialize)]
+#[serde(rename_all = "Lowercase")]
+#[enumset(serialize_repr = "list")]
+pub enum E {
+    A,
+}

@@ -1,0 +1,6 @@
+use enumset::EnumSetType;
+
+#[derive(EnumSetType)]
+pub enum EnumSet {
+    A,
+}

@@ -1,0 +1,3 @@
+#[derive(EnumSetType)]
+pub enum E {
+    A,

@@ -1,0 +1,5 @@
+#[derive(EnumSetType)]
+pub enum Note {
+    A,
+    Ä,
+}

@@ -1,0 +1,6 @@
+#[derive(EnumSetType)]
+pub enum Signal {
+    Interrupt,
+    #[cfg(unix)]
+    Hangup,
+}

@@ -1,0 +1,15 @@
+//! Frames of a protocol.
+
+use enumset::EnumSetType;
+use serde::{Deserialize, Serialize};
+
+/// A kind of frame.
+#[derive(EnumSetType, Debug, Serialize, Deserialize)]
+#[serde(rename_all = "kebab-case")]
+#[enumset(serialize_repr = "map", serialize_deny_unknown, no_ops)]
+pub enum Frame {
+    OpenStream,
+    #[serde(rename = "payload")]
+    Data,
+    CloseStream,
+}

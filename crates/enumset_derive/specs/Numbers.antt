@@ -1,0 +1,67 @@
+-- Which bit a discriminant names.
+--     width      how many bits an integer type has
+--     next_number, same_number      one more than a number, if that is kept;  whether two numbers are the same
+--     and_then      what comes next, if there is no fault so far
+--     bit_of      the bit of the variant at a place, counted from 0, that has a discriminant, under a map, where a set is
+--         kept in so many bits; or why it has none
+--     bit_limit, json_limit      one past the greatest bit of what keeps a set;  of what a set is in JSON
+use Rattle.std.specs.Prelude.{ℕ, ◌+◌, ◌-◌, ◌^◌, ◌==◌, Bool, false, nat_lt, nat_le, Option, Some, None, Result, Ok, Err, if◌then◌else◌}
+use Rattle.std.specs.Int.{is_power_of_two, trailing_zeros, w128}
+use Rattle.enumset_derive.specs.declared.plan.options.IntegerType.{IntegerType}
+use Rattle.enumset_derive.specs.declared.plan.options.IntegerType.TheVariants.{U8, U16, U32, U64, U128}
+use Rattle.enumset_derive.specs.declared.plan.number.Number.{Number}
+use Rattle.enumset_derive.specs.declared.plan.number.Number.TheVariants.{Small, PowerOfTwo, Negative}
+use Rattle.enumset_derive.specs.declared.plan.options.Map.{Map}
+use Rattle.enumset_derive.specs.declared.plan.options.Map.TheVariants.{Lsb, Msb, Mask, Compact}
+use Rattle.enumset_derive.specs.declared.plan.options.Representation.{Representation}
+use Rattle.enumset_derive.specs.declared.plan.options.Representation.TheVariants as representation
+use Rattle.enumset_derive.specs.declared.plan.options.Serialized.{Serialized}
+use Rattle.enumset_derive.specs.declared.plan.options.Serialized.TheVariants as serialized
+use Rattle.enumset_derive.specs.declared.fault.Reason.{Reason}
+use Rattle.enumset_derive.specs.declared.fault.Reason.TheVariants.{PastGreatest, PastRepresentation, NotAMask}
+
+abbrev pub width : IntegerType → ℕ
+width U8 = 8
+width U16 = 16
+width U32 = 32
+width U64 = 64
+width U128 = 128
+
+abbrev pub next_number : Number → Option Number
+next_number (Small n) = if nat_lt (n + 1) (2 ^ 128) then Some (Small (n + 1)) else Some (PowerOfTwo 128)
+next_number (PowerOfTwo e) = None
+next_number (Negative n) = if nat_le n 1 then Some (Small 0) else Some (Negative (n - 1))
+
+abbrev pub same_number : Number → Number → Bool
+same_number (Small m) (Small n) = m == n
+same_number (PowerOfTwo d) (PowerOfTwo e) = d == e
+same_number (Negative m) (Negative n) = m == n
+same_number m n = false
+
+abbrev pub and_then : {A B E : Type 0} → Result A E → (A → Result B E) → Result B E
+and_then (Ok x) next = next x
+and_then (Err fault) next = Err fault
+
+-- a number from 0 to 4294967231 names itself
+abbrev pub small_bit : Number → Result ℕ Reason
+small_bit (Small n) = if nat_lt n 4294967232 then Ok n else Err PastGreatest
+small_bit n = Err PastGreatest
+
+abbrev pub bit_of_mask : Number → Result ℕ Reason
+bit_of_mask (Small n) = if is_power_of_two n then Ok (trailing_zeros w128 n) else Err NotAMask
+bit_of_mask (PowerOfTwo e) = if nat_lt e 4294967232 then Ok e else Err PastGreatest
+bit_of_mask (Negative n) = Err NotAMask
+
+abbrev pub bit_of : Map → ℕ → ℕ → Number → Result ℕ Reason
+bit_of Lsb w place n = small_bit n
+bit_of Msb w place n = and_then (small_bit n) (λ b. if nat_lt b w then Ok (w - 1 - b) else Err (PastRepresentation b w))
+bit_of Mask w place n = bit_of_mask n
+bit_of Compact w place n = Ok place
+
+abbrev pub bit_limit : Option Representation → ℕ
+bit_limit (Some (representation.Integer t)) = width t
+bit_limit r = 4294967232
+
+abbrev pub json_limit : Option Serialized → ℕ
+json_limit (Some (serialized.Integer t)) = width t
+json_limit s = 4294967232

@@ -1,0 +1,64 @@
+-- What is true of a plan.
+--     IsPlanned      the plan has the enum's variants, with their bits and their discriminants
+--     without_fields      an enum of so many variants without fields
+--     IsLawfulPlan      the plan passes the test that proves the laws of an element type
+--     kind_of      what keeps a set: as asked for, else the smallest integer with this many bits, else words
+--     IsStoredAsAsked      a set is kept so
+use Rattle.std.specs.Prelude.{◌≡◌, ℕ, ◌≤◌, nat_le, List, [], length, replicate, Option, Some, None, Ok, if◌then◌else◌}
+use Rattle.std.specs.Int.{div_ceil}
+use denote.Enum.Enum.{Sum}
+use denote.Enum.Declared.{Declared, rowss}
+use Rattle.enumset_repr.specs.Lawful.{IsLawfulNumber, IsLawfulWords}
+use Rattle.enumset_derive.specs.Numbers.{width}
+use Rattle.enumset_derive.specs.Variants.{named_variants, bits_of}
+use Rattle.enumset_derive.specs.declared.plan.declaration.EnumDeclaration.{EnumDeclaration}
+use Rattle.enumset_derive.specs.declared.plan.options.IntegerType.TheVariants.{U8, U16, U32, U64, U128}
+use Rattle.enumset_derive.specs.declared.plan.options.Representation.{Representation}
+use Rattle.enumset_derive.specs.declared.plan.options.Representation.TheVariants.{Integer, Words}
+use Rattle.enumset_derive.specs.declared.plan.Plan.{Plan}
+use Rattle.enumset_derive.specs.declared.plan.Store.{Store}
+use Rattle.enumset_derive.specs.declared.plan.Store.TheVariants as store
+
+-- the variants have no fault, and the plan has them with their bits and their discriminants
+abbrev pub IsPlanned : EnumDeclaration → Plan → Type 0
+IsPlanned d plan = named_variants d ≡ Ok plan.variants.items
+
+-- an enum of n variants without fields, whose values are their places
+abbrev pub without_fields : ℕ → Declared
+without_fields n = record {
+  name = [];
+  args = [];
+  types = [];
+  parts = replicate n [];
+  D = Sum (rowss (replicate n []));
+  to = λ v. v;
+  to_one = λ v w same. same;
+}
+
+-- at an enum of n variants without fields, the test by which `lawful_in_integer` and `lawful_in_words` prove the laws of
+-- an element type
+abbrev pub IsLawfulStore : ℕ → List ℕ → Store → ℕ → Type 0
+IsLawfulStore n bs (store.Integer t all) width = IsLawfulNumber (without_fields n) bs all width n
+IsLawfulStore n bs (store.Words all) width = IsLawfulWords (without_fields n) bs all.items width n
+
+abbrev pub IsLawfulPlan : ℕ → Plan → Type 0
+IsLawfulPlan n plan = IsLawfulStore n (bits_of plan.variants.items) plan.store plan.bit_width
+
+abbrev pub kind_of : Option Representation → ℕ → Representation
+kind_of (Some r) n = r
+kind_of None n =
+    if nat_le n 8 then Integer U8
+    else if nat_le n 16 then Integer U16
+    else if nat_le n 32 then Integer U32
+    else if nat_le n 64 then Integer U64
+    else if nat_le n 128 then Integer U128
+    else Words
+
+-- so many words as n bits need
+abbrev pub IsStore : Representation → ℕ → Store → Type 0
+IsStore (Integer t) n (store.Integer u all) = (u ≡ t) × (n ≤ width t)
+IsStore Words n (store.Words all) = length all.items ≡ div_ceil n 64
+IsStore r n s = ⊥
+
+abbrev pub IsStoredAsAsked : Option Representation → Plan → Type 0
+IsStoredAsAsked r plan = IsStore (kind_of r plan.bit_width) plan.bit_width plan.store

@@ -1,0 +1,89 @@
+-- The variants of an enum, each with its bit, or the first fault.
+--     fault_at      a reason as a fault at a place
+--     named_variant      the variant with its bit, or its first fault
+--     named_variants      the variants of an enum, each with its bit, or the first fault
+--     bits_of      the bits of variants
+--     IsErrorOf      why a result is not there: its fault, or out of memory
+use Rattle.std.specs.Prelude.{◌≡◌, ℕ, ◌==◌, Bool, ◌||◌, nat_le, nat_eq, List, [], ◌∷◌, ◌++◌, length, map, Option, Some, Result, Ok, Err, if◌then◌else◌}
+use Rattle.std.specs.List.{find}
+use Rattle.std.specs.Option.{ok_or, option_or, option_map, option_map_or}
+use Rattle.std.specs.Result.{result_map_both}
+use Rattle.std.specs.Cmp.Lexicographic.{pointwise}
+use Rattle.enumset_derive.specs.Numbers.{next_number, same_number, and_then, bit_of, bit_limit, json_limit}
+use Rattle.enumset_derive.specs.declared.place.Place.{Place}
+use Rattle.enumset_derive.specs.declared.plan.number.Number.{Number}
+use Rattle.enumset_derive.specs.declared.plan.number.Number.TheVariants.{Small}
+use Rattle.enumset_derive.specs.declared.plan.declaration.Variant.{Variant}
+use Rattle.enumset_derive.specs.declared.plan.declaration.EnumDeclaration.{EnumDeclaration}
+use Rattle.enumset_derive.specs.declared.plan.options.Options.{Options}
+use Rattle.enumset_derive.specs.declared.plan.options.Map.{Map}
+use Rattle.enumset_derive.specs.declared.plan.options.Map.TheVariants.{Lsb, Msb}
+use Rattle.enumset_derive.specs.declared.plan.options.Representation.{Representation}
+use Rattle.enumset_derive.specs.declared.plan.options.Representation.TheVariants as representation
+use Rattle.enumset_derive.specs.declared.plan.NamedVariant.{NamedVariant}
+use Rattle.enumset_derive.specs.declared.fault.Fault.{Fault}
+use Rattle.enumset_derive.specs.declared.fault.DeriveError.{DeriveError}
+use Rattle.enumset_derive.specs.declared.fault.DeriveError.TheVariants as error
+use Rattle.enumset_derive.specs.declared.fault.Reason.{Reason}
+use Rattle.enumset_derive.specs.declared.fault.Reason.TheVariants.{IntegerMissing, TooManyVariants, NameTwice, ImpliedTooLarge, PastRepresentation, PastSerialized, PastWords, BitTwice, DiscriminantTwice}
+
+abbrev pub fault_at : Place → Reason → Fault
+fault_at place reason = record { place = place; reason = reason }
+
+-- ---- one variant, after those before it, which have their bits
+
+-- the first of the variants with this bit or this discriminant took it
+abbrev pub has_taken : ℕ → Number → NamedVariant → Bool
+has_taken b n m = (b == m.bit) || same_number n m.number
+
+abbrev pub taken_at : ℕ → NamedVariant → Reason
+taken_at b m = if b == m.bit then BitTwice m.place else DiscriminantTwice m.place
+
+unfoldable pub bit_among : Options → List NamedVariant → Number → Result ℕ Reason
+bit_among o named n =
+    and_then (bit_of (option_map_or (λ m. m.0) o.map Lsb) (bit_limit o.representation) (length named) n) (λ b.
+    if nat_le (bit_limit o.representation) b then Err (PastRepresentation b (bit_limit o.representation))
+    else if nat_le (json_limit o.serialized) b then Err (PastSerialized b (json_limit o.serialized))
+    else if nat_le 65536 b then Err (PastWords b)
+    else option_map_or (λ m. Err (taken_at b m)) (find (has_taken b n) named) (Ok b))
+
+abbrev pub has_name : Variant → Variant → Bool
+has_name v w = pointwise nat_eq w.name.now v.name.now
+
+abbrev pub number_place : Variant → Place
+number_place v = option_map_or (λ d. d.place) v.discriminant v.place
+
+-- the discriminant is as given, else as implied
+abbrev pub named_variant : Options → List Variant → List NamedVariant → Option Number → Variant → Result NamedVariant Fault
+named_variant o earlier named implied v =
+    if nat_le 256 (length named) then Err (fault_at v.place TooManyVariants)
+    else option_map_or (λ w. Err (fault_at v.place (NameTwice w.place))) (find (has_name v) earlier)
+    (result_map_both (λ m. m) (fault_at (number_place v))
+    (and_then (ok_or (option_or (option_map (λ d. d.number) v.discriminant) implied) ImpliedTooLarge) (λ n.
+    result_map_both (λ b. record { bit = b; number = n; place = number_place v }) (λ r. r) (bit_among o named n))))
+
+-- ---- all variants
+
+-- the first variant has the implied discriminant 0, and each later one 1 more than the one before
+abbrev pub named_from : Options → List Variant → List NamedVariant → Option Number → List Variant → Result (List NamedVariant) Fault
+named_from o earlier named implied [] = Ok named
+named_from o earlier named implied (v ∷ vs) =
+    and_then (named_variant o earlier named implied v) (λ n.
+    named_from o (earlier ++ v ∷ []) (named ++ n ∷ []) (next_number n.number) vs)
+
+-- the most significant bit is that of an integer, which has to be asked for
+abbrev pub map_test : Option (Map × Place) → Option Representation → Result (Unit {0}) Fault
+map_test (Some m) (Some (representation.Integer t)) = Ok tt
+map_test (Some (Msb, place)) r = Err (fault_at place IntegerMissing)
+map_test m r = Ok tt
+
+abbrev pub named_variants : EnumDeclaration → Result (List NamedVariant) Fault
+named_variants d = and_then (map_test d.options.map d.options.representation) (λ _. named_from d.options [] [] (Some (Small 0)) d.variants.items)
+
+abbrev pub bits_of : List NamedVariant → List ℕ
+bits_of named = map (λ n. n.bit) named
+
+abbrev pub IsErrorOf : {A : Type 0} → Result A Fault → DeriveError → Type 0
+IsErrorOf r (error.Fault fault) = r ≡ Err fault
+IsErrorOf r error.OutOfMemory = Unit {0}
+IsErrorOf r e = ⊥

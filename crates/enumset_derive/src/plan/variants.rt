@@ -1,0 +1,172 @@
+//! The variants of an enum, each with its bit.
+
+ghost use Rattle.std.specs.Prelude.{◌≡◌, ◌+◌, ◌<◌, ◌≤◌, length, false, [], IsTrue, IfOk, IfErr};
+ghost use Rattle.std.specs.List.{find};
+ghost use Rattle.std.specs.Option.{option_map};
+ghost use Rattle.enumset_repr.specs.BitSet.{is_in};
+ghost use Rattle.enumset_repr.specs.Number.{is_distinct};
+ghost use Rattle.enumset_repr.specs.Lawful.{one_past_all};
+ghost use Rattle.enumset_derive.specs.declared.plan.number.Number.TheVariants.{Small};
+ghost use Rattle.enumset_derive.specs.Numbers.{bit_of, bit_limit, json_limit};
+ghost use Rattle.enumset_derive.specs.Variants.{has_name, has_taken, bit_among, named_variant, named_from, bits_of, IsErrorOf};
+
+use crate::fault::{DeriveError, Fault, Reason};
+use crate::place::Place;
+use crate::plan::{Map, NamedVariant, Number, Options, Representation, Serialized, Variant};
+use std::alloc::Global;
+
+/// How many variants an enum may have.
+const VARIANT_LIMIT: usize = 256;
+
+/// One past the greatest bit that a variant may have, as in Rust's crate.
+const BIT_LIMIT: u32 = 4294967232;
+
+/// One past the greatest bit that a module takes: its constants are as long as the words.
+const MODULE_LIMIT: u32 = 65536;
+
+/// The variants with their bits, or the first fault.
+pub fn name_variants(
+    alloc: Global,
+    options: &Options,
+    variants: &[Variant],
+) -> Result<Vec<NamedVariant>, DeriveError>
+    ensures named { IfOk result (λ named.
+        named_from options.now [] [] (Some (Small 0)) variants.now ≡ Ok named.items) }
+    ensures count { IfOk result (λ named. length named.items ≡ length variants.now) }
+    ensures distinct { IfOk result (λ named. IsTrue (is_distinct (bits_of named.items))) }
+    ensures range { IfOk result (λ named. one_past_all (bits_of named.items) ≤ bit_limit options.now.representation) }
+    ensures fault { IfErr result (IsErrorOf (named_from options.now [] [] (Some (Small 0)) variants.now)) }
+{
+    let mut named = Vec::new(alloc);
+    let mut implied = Some(Number::Small(0));
+    for (i, variant) in variants.iter().enumerate() {
+        let next = name_variant(options, &variants[..i], named.as_slice(), implied, variant)?;
+        implied = next.number.next();
+        named.push(next)?;
+    }
+    Ok(named)
+}
+
+/// The variant with its bit, or its first fault. The variants before it are given, with their bits, and the
+/// discriminant that it has if it gives none.
+fn name_variant(
+    options: &Options,
+    earlier: &[Variant],
+    named: &[NamedVariant],
+    implied: Option<Number>,
+    variant: &Variant,
+) -> Result<NamedVariant, Fault>
+    ensures variant { result ≡ named_variant options.now earlier.now named.now implied variant.now }
+    ensures new { IfOk result (λ n. is_in n.bit (bits_of named.now) ≡ false) }
+    ensures range { IfOk result (λ n. n.bit < bit_limit options.now.representation) }
+{
+    if named.len() >= VARIANT_LIMIT {
+        return Err(Reason::TooManyVariants.at(variant.place));
+    }
+    if let Some(first) = place_of_name(earlier, variant) {
+        return Err(Reason::NameTwice(first).at(variant.place));
+    }
+    let (number, place) = match &variant.discriminant {
+        Some(given) => (Some(given.number), given.place),
+        None => (implied, variant.place),
+    };
+    let Some(number) = number else {
+        return Err(Reason::ImpliedTooLarge.at(place));
+    };
+    match bit_among(options, named, number) {
+        Ok(bit) => Ok(NamedVariant { bit, number, place }),
+        Err(reason) => Err(reason.at(place)),
+    }
+}
+
+/// Where the first variant is that has the name of this one.
+fn place_of_name(variants: &[Variant], variant: &Variant) -> Option<Place>
+    ensures { result ≡ option_map (λ w. w.place) (find (has_name variant.now) variants.now) }
+{
+    let first = variants.iter().find(|other| other.name == variant.name)?;
+    Some(first.place)
+}
+
+/// The bit of one more variant with this discriminant, or what is wrong with it.
+#[tactic(auto, using(crate::proofs::Named::not_taken), unfolding(crate::specs::Variants::bit_among))]
+fn bit_among(options: &Options, named: &[NamedVariant], number: Number) -> Result<u32, Reason>
+    requires { length named.now < 256 }
+    ensures bit { result ≡ bit_among options.now named.now number }
+    ensures new { IfOk result (λ b. is_in b (bits_of named.now) ≡ false) }
+    ensures range { IfOk result (λ b. b < bit_limit options.now.representation) }
+{
+    let map = match options.map {
+        Some((map, _)) => map,
+        None => Map::Lsb,
+    };
+    let width = bit_limit(options.representation);
+    let bit = bit_of(map, width, named.len() as u32, number)?;
+    if bit >= width {
+        return Err(Reason::PastRepresentation { bit, width });
+    }
+    let width = json_limit(options.serialized);
+    if bit >= width {
+        return Err(Reason::PastSerialized { bit, width });
+    }
+    if bit >= MODULE_LIMIT {
+        return Err(Reason::PastWords(bit));
+    }
+    match taken_by(named, bit, number) {
+        Some(first) if bit == first.bit => Err(Reason::BitTwice(first.place)),
+        Some(first) => Err(Reason::DiscriminantTwice(first.place)),
+        None => Ok(bit),
+    }
+}
+
+/// The first variant that has this bit or this discriminant.
+fn taken_by(named: &[NamedVariant], bit: u32, number: Number) -> Option<NamedVariant>
+    ensures { result ≡ find (has_taken bit number) named.now }
+{
+    named
+        .iter()
+        .copied()
+        .find(|other| bit == other.bit || number == other.number)
+}
+
+/// The bit of the variant at a place, counted from 0, that has this discriminant; or why it has none. A set is kept in so
+/// many bits.
+fn bit_of(map: Map, width: u32, place: u32, number: Number) -> Result<u32, Reason>
+    ensures { result ≡ bit_of map width place number }
+{
+    match (map, number) {
+        (Map::Compact, _) => Ok(place),
+        (Map::Mask, Number::Small(mask)) if mask.is_power_of_two() => Ok(mask.trailing_zeros()),
+        (Map::Mask, Number::Small(_) | Number::Negative(_)) => Err(Reason::NotAMask),
+        (Map::Mask, Number::PowerOfTwo(bit)) if bit < BIT_LIMIT => Ok(bit),
+        (Map::Lsb, Number::Small(bit)) if bit < u128::from(BIT_LIMIT) => Ok(bit as u32),
+        (Map::Msb, Number::Small(bit)) if bit < u128::from(BIT_LIMIT) => {
+            let bit = bit as u32;
+            if bit < width {
+                Ok(width - 1 - bit)
+            } else {
+                Err(Reason::PastRepresentation { bit, width })
+            }
+        }
+        _ => Err(Reason::PastGreatest),
+    }
+}
+
+/// One past the greatest bit that what keeps a set may have.
+fn bit_limit(representation: Option<Representation>) -> u32
+    ensures { result ≡ bit_limit representation }
+{
+    match representation {
+        Some(Representation::Integer(integer)) => integer.width(),
+        _ => BIT_LIMIT,
+    }
+}
+
+/// One past the greatest bit that what a set is in JSON may have.
+fn json_limit(serialized: Option<Serialized>) -> u32
+    ensures { result ≡ json_limit serialized }
+{
+    match serialized {
+        Some(Serialized::Integer(integer)) => integer.width(),
+        _ => BIT_LIMIT,
+    }
+}

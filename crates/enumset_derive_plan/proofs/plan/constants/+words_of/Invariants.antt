@@ -1,5 +1,0 @@
-use Rattle.std.proofs.Common.{length}
-use Rattle.enumset_derive_plan.proofs.plan.constants.+words_of.Given as goal
-
-abbrev pub decreases-words_of : goal.decreases-words_of
-decreases-words_of l = length l.named.now
