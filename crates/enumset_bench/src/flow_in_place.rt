@@ -1,7 +1,7 @@
 //! The flow of facts through the graphs of `flow`, by calls that change a set in place and tell whether it has changed.
 
 use crate::digest::Digest;
-use crate::flow::{Node, PASSES, add_members, random_far_nodes, random_nodes};
+use crate::flow::{Node, PASSES, random_far_nodes, random_nodes};
 use crate::random::Random;
 use crate::symbols::Far;
 use enumset::{EnumSet, EnumSetType};
@@ -61,6 +61,35 @@ fn gather<T: EnumSetType>(nodes: &[Node<T>], at: usize, facts: &mut EnumSet<T>) 
     for other in [second, third] {
         if let Some(source) = nodes.get(other) {
             facts.union_with(&source.known);
+        }
+    }
+}
+
+/// Mixes in the members of a set: from both ends, or from the front.
+fn add_members<T: EnumSetType>(set: &EnumSet<T>, is_from_both: bool, digest: &mut Digest) {
+    if is_from_both {
+        add_from_both(set.copied(), digest);
+    } else {
+        add_from_front(set, digest);
+    }
+}
+
+fn add_from_both<T: EnumSetType>(mut left: EnumSet<T>, digest: &mut Digest) {
+    while let Some(first) = left.pop_first() {
+        digest.add(u64::from(first.enum_into_u32()));
+        if let Some(last) = left.pop_last() {
+            digest.add(u64::from(last.enum_into_u32()));
+        }
+    }
+}
+
+fn add_from_front<T: EnumSetType>(set: &EnumSet<T>, digest: &mut Digest) {
+    let mut from = 0;
+    for _ in 0..set.len() {
+        if let Some(member) = set.first_from(from) {
+            let bit = member.enum_into_u32();
+            digest.add(u64::from(bit));
+            from = bit.saturating_add(1);
         }
     }
 }
