@@ -40,29 +40,6 @@ fn sets_of_marks(rt: HostRuntime) {
 }
 
 #[test]
-fn marks_in_place(rt: HostRuntime) {
-    let other = MixedEnumSet::<Marks>::from_repr(6);
-    let mut sets = [MixedEnumSet::<Marks>::from_repr(11); 3];
-    for has_changed in [true, false] {
-        let told = [
-            sets[0].union_with(&other),
-            sets[1].intersect_with(&other),
-            sets[2].difference_with(&other),
-        ];
-        expect(&rt, "what the calls say", told, [has_changed; 3]);
-        let made = [sets[0].as_repr(), sets[1].as_repr(), sets[2].as_repr()];
-        expect(&rt, "what the calls make", made, [15, 2, 9]);
-    }
-    let ends = [sets[2].first(), sets[2].last(), MixedEnumSet::new().last()];
-    let wanted = [
-        Some(MixedValue::Valid(Marks::A)),
-        Some(MixedValue::Invalid(3)),
-        None,
-    ];
-    expect(&rt, "first and last", ends, wanted);
-}
-
-#[test]
 fn texts_of_marks(rt: HostRuntime) -> Result<(), Fail> {
     let (none, set) = (
         MixedEnumSet::<Marks>::new(),
