@@ -7,12 +7,12 @@ use enumset_worked::{Letters, Marks};
 use std::process::Abort;
 use std::test::Fail;
 
-/// How many lines `len 0` an input has room for.
-const LINES: usize = 174_762;
+/// More commands than an input has bytes.
+const COMMANDS: usize = (1 << 20) + 1;
 
-// Whether there is a reply to each of the lines, and each says that a set is empty.
+// Whether there is a reply to each of the commands, and each says that a set is empty.
 fn all_are_empty(rt: &impl Abort, replies: &[Reply]) {
-    assert_eq!(rt; replies.len(), LINES);
+    assert_eq!(rt; replies.len(), COMMANDS);
     for reply in replies {
         assert!(rt; matches!(reply, Reply::Count(0)));
     }
@@ -21,7 +21,7 @@ fn all_are_empty(rt: &impl Abort, replies: &[Reply]) {
 #[test]
 fn many_commands_are_run(rt: HostRuntime) -> Result<(), Fail> {
     let mut commands = Vec::new(rt.alloc());
-    for _ in 0..LINES {
+    for _ in 0..COMMANDS {
         commands.push(Command::Len { r: 0 })?;
     }
     all_are_empty(&rt, &run::<Letters>(rt.alloc(), &commands)?);
@@ -31,7 +31,7 @@ fn many_commands_are_run(rt: HostRuntime) -> Result<(), Fail> {
 #[test]
 fn many_mixed_commands_are_run(rt: HostRuntime) -> Result<(), Fail> {
     let mut commands = Vec::new(rt.alloc());
-    for _ in 0..LINES {
+    for _ in 0..COMMANDS {
         commands.push(MixedCommand::Common(Command::Len { r: 0 }))?;
     }
     all_are_empty(&rt, &run_mixed::<Marks>(rt.alloc(), &commands)?);
