@@ -1,6 +1,7 @@
 //! The text of replies.
 ghost use Rattle.std.specs.Prelude.{◌≡◌, ◌++◌, codes, OnOk};
 ghost use Rattle.std.specs.String.{string_bytes};
+ghost use Rattle.std.specs.Fmt.{decimal};
 ghost use Rattle.enumset_commands.specs.Texts.{text_of, words_text};
 
 use crate::reply::Reply;
@@ -16,8 +17,8 @@ pub fn write_reply(out: &mut String, reply: &Reply) -> Result<(), AllocError>
         Reply::Done => out.push_str("ok\n"),
         Reply::Truth(true) => out.push_str("true\n"),
         Reply::Truth(false) => out.push_str("false\n"),
-        Reply::Count(count) => Ok(writeln!(out, "{count}")?),
-        Reply::Number(number) => Ok(writeln!(out, "{number}")?),
+        Reply::Count(count) => write_number(out, u128::from(*count)),
+        Reply::Number(number) => write_number(out, *number),
         Reply::Words(words) => {
             out.push_str("words")?;
             write_words(out, words.as_slice())?;
@@ -26,14 +27,31 @@ pub fn write_reply(out: &mut String, reply: &Reply) -> Result<(), AllocError>
         Reply::Order(Ordering::Less) => out.push_str("less\n"),
         Reply::Order(Ordering::Equal) => out.push_str("equal\n"),
         Reply::Order(Ordering::Greater) => out.push_str("greater\n"),
-        Reply::Bit(bit) => Ok(writeln!(out, "bit {bit}")?),
-        Reply::Unknown(bit) => Ok(writeln!(out, "unknown {bit}")?),
+        Reply::Bit(bit) => {
+            out.push_str("bit ")?;
+            write_number(out, u128::from(*bit))
+        }
+        Reply::Unknown(bit) => {
+            out.push_str("unknown ")?;
+            write_number(out, u128::from(*bit))
+        }
         Reply::Absent => out.push_str("none\n"),
         Reply::Refused(refusal) => {
             out.push_str(refusal.as_str())?;
             out.push('\n')
         }
     }
+}
+
+/// Writes a number and a line feed.
+///
+/// It is not inlined, since replies without a number would then clear room for a formatter.
+#[inline(never)]
+fn write_number(out: &mut String, number: u128) -> Result<(), AllocError>
+    ensures { OnOk result
+        (string_bytes out.new ≡ string_bytes out.old ++ decimal number ++ codes "\n") }
+{
+    Ok(writeln!(out, "{number}")?)
 }
 
 /// Writes a space before each word.

@@ -9,8 +9,12 @@ use crate::word_list::WordList;
 use std::alloc::{AllocError, Global};
 
 /// Fields are read one by one, and only as far as the name and each field allow.
+///
+/// These readers are inlined into the tables of names, and so are those of each field. A call returns several numbers
+/// in memory, so a table would clear room for the numbers of all its names before it looks one up.
 impl<'a> Tokens<'a> {
     /// A register.
+    #[inline(always)]
     pub(super) fn one(&self) -> Option<u8>
         ensures { result ≡ one register self.now }
     {
@@ -20,6 +24,7 @@ impl<'a> Tokens<'a> {
     }
 
     /// Two registers; or a register and a count, which is a number of 8 bits too.
+    #[inline(always)]
     pub(super) fn two(&self) -> Option<(u8, u8)>
         ensures { result ≡ two register register self.now }
     {
@@ -30,6 +35,7 @@ impl<'a> Tokens<'a> {
     }
 
     /// Three registers.
+    #[inline(always)]
     pub(super) fn three(&self) -> Option<(u8, u8, u8)>
         ensures { result ≡ three register register register self.now }
     {
@@ -41,6 +47,7 @@ impl<'a> Tokens<'a> {
     }
 
     /// A register and a bit; or a register and a width, which is a number of 32 bits too.
+    #[inline(always)]
     pub(super) fn with_bit(&self) -> Option<(u8, u32)>
         ensures { result ≡ two register bit self.now }
     {
@@ -51,6 +58,7 @@ impl<'a> Tokens<'a> {
     }
 
     /// A register, a width and a value.
+    #[inline(always)]
     pub(super) fn with_value(&self) -> Option<(u8, u32, u128)>
         ensures { result ≡ three register width value self.now }
     {

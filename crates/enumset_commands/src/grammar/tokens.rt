@@ -62,6 +62,7 @@ impl<'a> Tokens<'a> {
     }
 
     /// The same of a number that is a `u8`.
+    #[inline(always)]
     #[tactic(auto, using(crate::proofs::Fields::narrow_fields))]
     pub(super) fn next_register(&mut self) -> Option<u8>
         ensures { Takes register self.old result self.new }
@@ -70,6 +71,7 @@ impl<'a> Tokens<'a> {
     }
 
     /// The same of a number that is a `u32`.
+    #[inline(always)]
     #[tactic(auto, using(crate::proofs::Fields::narrow_fields))]
     pub(super) fn next_bit(&mut self) -> Option<u32>
         ensures { Takes bit self.old result self.new }
