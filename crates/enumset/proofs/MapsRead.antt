@@ -25,6 +25,7 @@ use Rattle.enumset.proofs.JsonTokens.{tokens}
 use Rattle.enumset.proofs.MapTokens.{put_all, member_tokens}
 use Rattle.enumset.proofs.MapSteps.{first_member, next_member, last_member, no_member}
 use Rattle.enumset.proofs.NamesTaken.{Each, same_key, each_put}
+use Rattle.enumset.proofs.PlainLists.{no_unknown}
 
 module _ (names : Names) where
   -- a boolean under a name whose bit is in a set
@@ -44,15 +45,11 @@ module _ (names : Names) where
         ap (λ o. cond (is_none o) (Some place) (position_from (is_unknown names) (place + 1) (names_in (members_in ms)))) each.0.1.1 ∙ rest.1,
       )
 
-  none_refused : (unknown : Unknown) (s : BitSet) → decided unknown None s ≡ Ok s
-  none_refused Drop s = refl
-  none_refused Refuse s = refl
-
   whole_set : (seen : BitSet) (unknown : Unknown) (ms : Members) → Each (IsSeen seen) ms → set_of_map names unknown (object ms) ≡ Ok (set_in ms)
   whole_set seen unknown ms each =
       let none = none_faulty seen 0 ms each in
       (λ j. unless_fault NotABoolean ((position_from-zero is_no_boolean (members_in ms) ∙ none.0) j) (decided unknown ((position_from-zero (is_unknown names) (names_in (members_in ms)) ∙ none.1) j) (set_in ms)))
-      ∙ none_refused unknown (set_in ms)
+      ∙ sym (no_unknown unknown (set_in ms) (set_in ms) refl)
 
   -- ---- one more member
 
