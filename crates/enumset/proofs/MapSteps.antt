@@ -41,15 +41,10 @@ unfolding serde_json_on_literals
 space_ends true z = at_space (λ x. Ends true (x ∷ z) z) refl refl refl refl
 space_ends false z = at_space (λ x. Ends false (x ∷ z) z) refl refl refl refl
 
-comma_ends : (b : Bool) (z : List ℕ) → Ends b (44 ∷ z) (44 ∷ z)
+comma_or_brace : (b : Bool) (z : List ℕ) → Ends b (44 ∷ z) (44 ∷ z) × Ends b (125 ∷ z) (125 ∷ z)
 unfolding serde_json_on_literals
-comma_ends true z = refl
-comma_ends false z = refl
-
-brace_ends : (b : Bool) (z : List ℕ) → Ends b (125 ∷ z) (125 ∷ z)
-unfolding serde_json_on_literals
-brace_ends true z = refl
-brace_ends false z = refl
+comma_or_brace true z = (refl, refl)
+comma_or_brace false z = (refl, refl)
 
 spaces_end : (b : Bool) (g z : List ℕ) → AreSpaces g → Ends b z z → Ends b (g ++ z) z
 spaces_end b [] z h ends = ends
@@ -73,12 +68,12 @@ module _ (s : List ℕ) (b : Bool) (g h i j : List ℕ) (p : IsPlain s) (pg : Ar
       → tokens (34 ∷ (s ++ 34 ∷ (g ++ 58 ∷ (h ++ boolean_before b (i ++ 44 ∷ (j ++ 34 ∷ next)))))) ≡ member_tokens ((s, b) ∷ ms)
   unfolding member_tokens
   next_member next ms later =
-      one_member s b g h i (44 ∷ (j ++ 34 ∷ next)) p pg ph pi (comma_ends b (j ++ 34 ∷ next))
+      one_member s b g h i (44 ∷ (j ++ 34 ∷ next)) p pg ph pi (comma_or_brace b (j ++ 34 ∷ next)).0
       ∙ ap (λ ts. text_token true s ∷ bool_token false b ∷ ts) (spaces_after_comma j (34 ∷ next) pj ∙ comma_quote next ∙ later)
 
   pub last_member : tokens (34 ∷ (s ++ 34 ∷ (g ++ 58 ∷ (h ++ boolean_before b (i ++ 125 ∷ j))))) ≡ member_tokens ((s, b) ∷ [])
   unfolding member_tokens
-  last_member = one_member s b g h i (125 ∷ j) p pg ph pi (brace_ends b j) ∙ ap (λ ts. text_token true s ∷ bool_token false b ∷ ts) (close_map j pj)
+  last_member = one_member s b g h i (125 ∷ j) p pg ph pi (comma_or_brace b j).1 ∙ ap (λ ts. text_token true s ∷ bool_token false b ∷ ts) (close_map j pj)
 
 brace : (xs : List ℕ) → tokens (123 ∷ xs) ≡ brace_before (tokens xs)
 unfolding serde_json_on_literals
