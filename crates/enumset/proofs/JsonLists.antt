@@ -66,21 +66,36 @@ list_reads (s ∷ t ∷ ss) p =
     ap (λ r. read (91 ∷ r)) (text_before s (44 ∷ (compact_text (string t) ++ rest)) p.0 ∙ ap (λ r. 34 ∷ (s ++ 34 ∷ 44 ∷ r)) (text_before t rest p.1.0))
     ∙ next_string s [] [] (t ++ 34 ∷ rest) (items_of (map string (t ∷ ss))) p.0 tt tt (ap (λ r. read (91 ∷ r)) (sym (text_before t rest p.1.0)) ∙ list_reads (t ∷ ss) p.1)
 
-pub names_reads : (names : Names) (s : BitSet) → ArePlain (map (name_of names) (ascending s)) → read (compact_text (list_value names s)) ≡ Some (list_value names s)
+names_reads : (names : Names) (s : BitSet) → ArePlain (map (name_of names) (ascending s)) → read (compact_text (list_value names s)) ≡ Some (list_value names s)
 names_reads names s plain =
     let same = map-map string (name_of names) (ascending s) in
     subst (λ ds. read (compact_text (array (items_of ds))) ≡ Some (array (items_of ds))) same (list_reads (map (name_of names) (ascending s)) plain)
 
 -- ---- what the loop of the writer keeps
 
-module _ (f : ℕ → List ℕ) (name : List ℕ) (bs cs : List ℕ) (b : ℕ) (here : bs ≡ b ∷ cs) (is : name ≡ f b) (plain : IsPlain name) where
-  pub next_text : (old new whole : List ℕ) (later : Bool) → new ≡ old ++ (comma_if later ++ (34 ∷ (name ++ 34 ∷ [])))
-      → old ++ items_text later (items_of (map (λ b. string (f b)) bs)) ≡ whole → new ++ items_text true (items_of (map (λ b. string (f b)) cs)) ≡ whole
-  next_text old new whole later put so_far =
-      let rest = items_text true (items_of (map (λ b. string (f b)) cs)) in
-      ap (λ t. t ++ rest) put ∙ append_assoc old (comma_if later ++ (34 ∷ (name ++ 34 ∷ []))) rest
-      ∙ ap (λ t. old ++ t) (append_assoc (comma_if later) (34 ∷ (name ++ 34 ∷ [])) rest ∙ ap (λ t. comma_if later ++ (t ++ rest)) (sym (plain_text name plain) ∙ ap (λ t. compact_text (string t)) is))
-      ∙ ap (λ l. old ++ items_text later (items_of (map (λ b. string (f b)) l))) (sym here) ∙ so_far
+abbrev values : Names → List ℕ → Items
+values names bits = items_of (map (λ b. string (name_of names b)) bits)
 
-  pub next_plain : {G : Type 0} → (ArePlain (map f bs) → G) → ArePlain (map f cs) → G
-  next_plain all rest = all (subst (λ l. ArePlain (map f l)) (sym here) (subst IsPlain is plain, rest))
+-- the text so far, with the names of the bits that are left; all names are plain if those are
+abbrev pub Writes : Names → List ℕ → List ℕ → Bool → List ℕ → Type 0
+Writes names bits text later left =
+    (text ++ items_text later (values names left) ≡ compact_text (array (values names bits))) × (ArePlain (map (name_of names) left) → ArePlain (map (name_of names) bits))
+
+pub begins : (names : Names) (bits text : List ℕ) → text ≡ 91 ∷ [] → Writes names bits text false bits
+begins names bits text is = (ap (λ t. t ++ items_text false (values names bits)) is, λ plain. plain)
+
+pub next_name : (names : Names) (bits left rest : List ℕ) (b : ℕ) (name text next : List ℕ) (later : Bool) → left ≡ b ∷ rest → name ≡ name_of names b → IsPlain name
+    → next ≡ text ++ (comma_if later ++ (34 ∷ (name ++ 34 ∷ []))) → Writes names bits text later left → Writes names bits next true rest
+next_name names bits left rest b name text next later here is plain put (so_far, all) =
+    let others = items_text true (values names rest) in (
+      ap (λ t. t ++ others) put ∙ append_assoc text (comma_if later ++ (34 ∷ (name ++ 34 ∷ []))) others
+      ∙ ap (λ t. text ++ t) (append_assoc (comma_if later) (34 ∷ (name ++ 34 ∷ [])) others ∙ ap (λ t. comma_if later ++ (t ++ others)) (sym (plain_text name plain) ∙ ap (λ t. compact_text (string t)) is))
+      ∙ ap (λ l. text ++ items_text later (values names l)) (sym here) ∙ so_far,
+      λ ps. all (subst (λ l. ArePlain (map (name_of names) l)) (sym here) (subst IsPlain is plain, ps)),
+    )
+
+pub ended : (names : Names) (s : BitSet) (left text end : List ℕ) (later : Bool) → left ≡ [] → end ≡ text ++ 93 ∷ [] → Writes names (ascending s) text later left
+    → (end ≡ compact_text (list_value names s)) × (read end ≡ Some (list_value names s))
+ended names s left text end later none closed (so_far, all) =
+    let whole : end ≡ compact_text (list_value names s) = closed ∙ ap (λ l. text ++ items_text later (values names l)) (sym none) ∙ so_far in
+    (whole, ap read whole ∙ names_reads names s (all (subst (λ l. ArePlain (map (name_of names) l)) (sym none) tt)))

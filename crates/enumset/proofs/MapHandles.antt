@@ -18,16 +18,13 @@ unfolding then
 then_is f None = refl
 then_is f (Some a) = refl
 
-pub itself : (text : List ℕ) → read text ≡ read text
-itself text = refl
-
 abbrev pub pick : (d : ℕ) (ts : Tokens) (f : Json → Option Data) (g : Json × Tokens → Option Json) (o : Option (Json × Tokens))
     → ((text : List ℕ) → d ≡ 127 → ts ≡ tokens text → then f (then g o) ≡ then f (then g o)) → Option (Json × Tokens)
 pick d ts f g o same = o
 
 -- the value at the front of tokens, and those after it
 unfoldable pub value : ℕ → Tokens → Option (Json × Tokens)
-value d ts = pick d ts _ _ _ (λ text depth left. rw (then_is {A = Json} {B = Data}, then_is {A = Json × Tokens} {B = Json}, ← depth, ← left) at (itself text))
+value d ts = pick d ts _ _ _ (λ text depth left. let same : read text ≡ read text = refl in rw (then_is {A = Json} {B = Data}, then_is {A = Json × Tokens} {B = Json}, ← depth, ← left) at same)
 
 -- a text whose tokens are one value reads as that value
 pub whole : (text : List ℕ) (j : Json) → value 127 (tokens text) ≡ Some (j, []) → read text ≡ of_json j
@@ -57,13 +54,10 @@ abbrev pub pick_members : (d n : ℕ) (ts : Tokens) (f : JsonMembers × Tokens �
     → (n ≡ length ts → mapped f o ≡ mapped f o) → Option (JsonMembers × Tokens)
 pick_members d n ts f o same = o
 
-pub object_itself : (d : ℕ) (ts : Tokens) → value (suc d) (brace_before ts) ≡ value (suc d) (brace_before ts)
-object_itself d ts = refl
-
 -- the members at the front of tokens, up to a closing brace, and the tokens after it
 unfoldable pub members : ℕ → ℕ → Tokens → Option (JsonMembers × Tokens)
 unfolding serde_json_on_literals value
-members d n ts = pick_members d n ts _ _ (λ count. rw (mapped_is {A = JsonMembers × Tokens} {B = Json × Tokens}, ← count) at (object_itself d ts))
+members d n ts = pick_members d n ts _ _ (λ count. let same : value (suc d) (brace_before ts) ≡ value (suc d) (brace_before ts) = refl in rw (mapped_is {A = JsonMembers × Tokens} {B = Json × Tokens}, ← count) at same)
 
 pub members_end : (d n : ℕ) → members d (suc n) (tokens (125 ∷ [])) ≡ Some (members_outline no_members, [])
 unfolding members

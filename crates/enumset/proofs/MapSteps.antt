@@ -11,7 +11,7 @@ use Rattle.enumset.specs.JsonMapTexts.{boolean_before}
 use Rattle.enumset.proofs.JsonTokens.{tokens, Tokens}
 use Rattle.enumset.proofs.MapHandles.{brace_before}
 use Rattle.enumset.proofs.MapTokens.{key_before, member_tokens, put_all, read_members}
-use Rattle.enumset.proofs.JsonSpaces.{at_space, spaces_first, spaces_after_brace, spaces_after_string, spaces_after_colon, spaces_after_map}
+use Rattle.enumset.proofs.JsonSpaces.{at_space, pass, pass_all, spaces_first, spaces_after_brace, spaces_after_string, spaces_after_colon, spaces_after_map}
 
 -- ---- after a boolean
 
@@ -19,22 +19,18 @@ use Rattle.enumset.proofs.JsonSpaces.{at_space, spaces_first, spaces_after_brace
 abbrev after_value : List ℕ → Tokens
 after_value z = drop 1 (tokens (49 ∷ 32 ∷ z))
 
--- where one space may be passed, any may
-passed : (f : List ℕ → Tokens) → ((z : List ℕ) (x : ℕ) → is_space x ≡ true → f (x ∷ z) ≡ f z) → (g z : List ℕ) → AreSpaces g → f (g ++ z) ≡ f z
-passed f one [] z h = refl
-passed f one (x ∷ g) z h = one (g ++ z) x h.0 ∙ passed f one g z h.1
-
-space_later : (z : List ℕ) (x : ℕ) → is_space x ≡ true → after_value (x ∷ z) ≡ after_value z
+spaces_later : (g z : List ℕ) → AreSpaces g → after_value (g ++ z) ≡ after_value z
 unfolding serde_json_on_literals
-space_later z = at_space (λ x. after_value (x ∷ z) ≡ after_value z) refl refl refl refl
+spaces_later = pass after_value (λ _. refl) (λ _. refl) (λ _. refl) (λ _. refl)
 
-space_after_comma : (z : List ℕ) (x : ℕ) → is_space x ≡ true → after_value (44 ∷ x ∷ z) ≡ after_value (44 ∷ z)
+spaces_after_comma : (g z : List ℕ) → AreSpaces g → after_value (44 ∷ (g ++ z)) ≡ after_value (44 ∷ z)
 unfolding serde_json_on_literals
-space_after_comma z = at_space (λ x. after_value (44 ∷ x ∷ z) ≡ after_value (44 ∷ z)) refl refl refl refl
+spaces_after_comma = pass (λ z. after_value (44 ∷ z)) (λ _. refl) (λ _. refl) (λ _. refl) (λ _. refl)
 
-space_after_end : (z : List ℕ) (x : ℕ) → is_space x ≡ true → after_value (125 ∷ x ∷ z) ≡ after_value (125 ∷ z)
+-- after the last one
+close_map : (g : List ℕ) → AreSpaces g → after_value (125 ∷ g) ≡ tokens (125 ∷ [])
 unfolding serde_json_on_literals
-space_after_end z = at_space (λ x. after_value (125 ∷ x ∷ z) ≡ after_value (125 ∷ z)) refl refl refl refl
+close_map = pass_all (λ z. after_value (125 ∷ z)) (λ _. refl) (λ _. refl) (λ _. refl) (λ _. refl)
 
 -- a key's end, a boolean, and what stands after it
 abbrev Ends : Bool → List ℕ → List ℕ → Type 0
@@ -45,30 +41,18 @@ unfolding serde_json_on_literals
 space_ends true z = at_space (λ x. Ends true (x ∷ z) z) refl refl refl refl
 space_ends false z = at_space (λ x. Ends false (x ∷ z) z) refl refl refl refl
 
-comma_ends : (b : Bool) (z : List ℕ) → Ends b (44 ∷ z) (44 ∷ z)
+comma_or_brace : (b : Bool) (z : List ℕ) → Ends b (44 ∷ z) (44 ∷ z) × Ends b (125 ∷ z) (125 ∷ z)
 unfolding serde_json_on_literals
-comma_ends true z = refl
-comma_ends false z = refl
-
-brace_ends : (b : Bool) (z : List ℕ) → Ends b (125 ∷ z) (125 ∷ z)
-unfolding serde_json_on_literals
-brace_ends true z = refl
-brace_ends false z = refl
+comma_or_brace true z = (refl, refl)
+comma_or_brace false z = (refl, refl)
 
 spaces_end : (b : Bool) (g z : List ℕ) → AreSpaces g → Ends b z z → Ends b (g ++ z) z
 spaces_end b [] z h ends = ends
-spaces_end b (x ∷ g) z h ends = space_ends b (g ++ z) x h.0 ∙ ap (λ ts. text_token true [] ∷ bool_token false b ∷ ts) (passed after_value space_later g z h.1)
+spaces_end b (x ∷ g) z h ends = space_ends b (g ++ z) x h.0 ∙ ap (λ ts. text_token true [] ∷ bool_token false b ∷ ts) (spaces_later g z h.1)
 
 comma_quote : (z : List ℕ) → after_value (44 ∷ 34 ∷ z) ≡ tokens (34 ∷ z)
 unfolding serde_json_on_literals
 comma_quote z = grind arith
-
-brace_closes : after_value (125 ∷ []) ≡ tokens (125 ∷ [])
-unfolding serde_json_on_literals
-brace_closes = refl
-
-close_map : (g : List ℕ) → AreSpaces g → after_value (125 ∷ g) ≡ tokens (125 ∷ [])
-close_map g h = ap (λ z. after_value (125 ∷ z)) (sym (append-nil g)) ∙ passed (λ z. after_value (125 ∷ z)) space_after_end g [] h ∙ brace_closes
 
 -- ---- one member at a time, from the end of a text to its front
 
@@ -84,12 +68,12 @@ module _ (s : List ℕ) (b : Bool) (g h i j : List ℕ) (p : IsPlain s) (pg : Ar
       → tokens (34 ∷ (s ++ 34 ∷ (g ++ 58 ∷ (h ++ boolean_before b (i ++ 44 ∷ (j ++ 34 ∷ next)))))) ≡ member_tokens ((s, b) ∷ ms)
   unfolding member_tokens
   next_member next ms later =
-      one_member s b g h i (44 ∷ (j ++ 34 ∷ next)) p pg ph pi (comma_ends b (j ++ 34 ∷ next))
-      ∙ ap (λ ts. text_token true s ∷ bool_token false b ∷ ts) (passed (λ z. after_value (44 ∷ z)) space_after_comma j (34 ∷ next) pj ∙ comma_quote next ∙ later)
+      one_member s b g h i (44 ∷ (j ++ 34 ∷ next)) p pg ph pi (comma_or_brace b (j ++ 34 ∷ next)).0
+      ∙ ap (λ ts. text_token true s ∷ bool_token false b ∷ ts) (spaces_after_comma j (34 ∷ next) pj ∙ comma_quote next ∙ later)
 
   pub last_member : tokens (34 ∷ (s ++ 34 ∷ (g ++ 58 ∷ (h ++ boolean_before b (i ++ 125 ∷ j))))) ≡ member_tokens ((s, b) ∷ [])
   unfolding member_tokens
-  last_member = one_member s b g h i (125 ∷ j) p pg ph pi (brace_ends b j) ∙ ap (λ ts. text_token true s ∷ bool_token false b ∷ ts) (close_map j pj)
+  last_member = one_member s b g h i (125 ∷ j) p pg ph pi (comma_or_brace b j).1 ∙ ap (λ ts. text_token true s ∷ bool_token false b ∷ ts) (close_map j pj)
 
 brace : (xs : List ℕ) → tokens (123 ∷ xs) ≡ brace_before (tokens xs)
 unfolding serde_json_on_literals

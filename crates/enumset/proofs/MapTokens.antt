@@ -1,17 +1,21 @@
 -- What serde_json reads of the tokens of an object of booleans.
 use Rattle.std.proofs.Common.{◌≡◌, ◌≤◌, ℕ, zero, suc, List, [], ◌∷◌, ◌++◌, length, Some, refl, ap, ◌∙◌, arith}
 use Rattle.std.specs.Prelude.{Bool, nat_lt, ◌==◌, true, false, option_map}
-use Rattle.serde_json.specs.Data.{object, boolean, Members, no_members, put}
+use Rattle.serde_json.specs.Data.{object, boolean, Members, no_members, member, put}
 use Rattle.serde_json.specs.Read.{read, of_members}
 use Rattle.serde_json.specs.Written.{outline, members_outline}
 use Rattle.serde_json.specs.Sent.{text_token, bool_token}
 use Rattle.serde_json.proofs.OnLiterals.{serde_json_on_literals}
 use Rattle.enumset.specs.JsonPlain.{IsPlain}
-use Rattle.enumset.specs.JsonMapTexts.{listed}
 use Rattle.enumset.proofs.JsonTokens.{tokens, Tokens}
 use Rattle.enumset.proofs.MapHandles.{value, members, whole, brace_before, members_end, member_step, object_value}
 
--- the members put into an object one after another
+-- the members of names with booleans, in the order given
+abbrev listed : List (List ℕ × Bool) → Members
+listed [] = no_members
+listed (m ∷ ms) = member m.0 (boolean m.1) (listed ms)
+
+-- those put into an object one after another
 abbrev pub put_all : List (List ℕ × Bool) → Members → Members
 put_all [] found = found
 put_all (m ∷ ms) found = put_all ms (put m.0 (boolean m.1) found)

@@ -1,7 +1,6 @@
 -- What a scanner of maps keeps, and what the map that it has read is as a set.
-use Rattle.std.proofs.Common.{◌≡◌, ◌+◌, ℕ, Bool, true, false, cond, Ordering, Less, Equal, Greater, Option, Some, None, Ok, List, [], ◌∷◌, ◌++◌, refl, sym, ap, subst, ◌∙◌, inr, true≢false, arith}
-use Rattle.std.specs.Prelude.{is_none, option_map, filter_map, IfSome}
-use Rattle.std.specs.Bool.{then_some}
+use Rattle.std.proofs.Common.{◌≡◌, ◌+◌, ℕ, Bool, true, false, cond, Ordering, Less, Equal, Greater, Some, None, Ok, List, [], ◌∷◌, ◌++◌, refl, sym, ap, subst, ◌∙◌, inr, true≢false, arith}
+use Rattle.std.specs.Prelude.{is_none, option_map, filter_map}
 use Rattle.std.specs.List.{cons_option, position_from}
 use Rattle.std.specs.Ordering.{nat_cmp, match_ordering}
 use Rattle.std.specs.Cmp.Lexicographic.{slice_cmp}
@@ -25,6 +24,7 @@ use Rattle.enumset.proofs.JsonTokens.{tokens}
 use Rattle.enumset.proofs.MapTokens.{put_all, member_tokens}
 use Rattle.enumset.proofs.MapSteps.{first_member, next_member, last_member, no_member}
 use Rattle.enumset.proofs.NamesTaken.{Each, same_key, each_put}
+use Rattle.enumset.proofs.PlainLists.{no_unknown}
 
 module _ (names : Names) where
   -- a boolean under a name whose bit is in a set
@@ -44,15 +44,11 @@ module _ (names : Names) where
         ap (λ o. cond (is_none o) (Some place) (position_from (is_unknown names) (place + 1) (names_in (members_in ms)))) each.0.1.1 ∙ rest.1,
       )
 
-  none_refused : (unknown : Unknown) (s : BitSet) → decided unknown None s ≡ Ok s
-  none_refused Drop s = refl
-  none_refused Refuse s = refl
-
   whole_set : (seen : BitSet) (unknown : Unknown) (ms : Members) → Each (IsSeen seen) ms → set_of_map names unknown (object ms) ≡ Ok (set_in ms)
   whole_set seen unknown ms each =
       let none = none_faulty seen 0 ms each in
       (λ j. unless_fault NotABoolean ((position_from-zero is_no_boolean (members_in ms) ∙ none.0) j) (decided unknown ((position_from-zero (is_unknown names) (names_in (members_in ms)) ∙ none.1) j) (set_in ms)))
-      ∙ none_refused unknown (set_in ms)
+      ∙ sym (no_unknown unknown (set_in ms) (set_in ms) refl)
 
   -- ---- one more member
 
@@ -95,10 +91,10 @@ module _ (names : Names) where
   Scanned text left seen s =
       (done : Members) × Each (IsSeen seen) done × (set_in done ≡ s) × ((ms : List (List ℕ × Bool)) → tokens (34 ∷ left) ≡ member_tokens ms → read text ≡ Some (object (put_all ms done)))
 
-  pub scan_begins : (text rest left : List ℕ) → Passed text 123 rest → Passed rest 34 left → Scanned text left empty empty
+  pub scan_begins : (text bytes rest left : List ℕ) → bytes ≡ text → Passed bytes 123 rest → Passed rest 34 left → Scanned text left empty empty
   unfolding from_list
-  scan_begins text rest left (f, fs, first) (g, gs, second) =
-      (no_members, tt, refl, λ ms later. ap read (first ∙ ap (λ r. f ++ 123 ∷ r) second) ∙ first_member f g (34 ∷ left) ms fs gs later)
+  scan_begins text bytes rest left same (f, fs, first) (g, gs, second) =
+      (no_members, tt, refl, λ ms later. ap read (sym same ∙ first ∙ ap (λ r. f ++ 123 ∷ r) second) ∙ first_member f g (34 ∷ left) ms fs gs later)
 
   module _ (text left : List ℕ) (seen s : BitSet) (name : List ℕ) (b : Bool) (rest : List ℕ) (c : ℕ) (so_far : Scanned text left seen s) (here : IsMember left name b rest) (is : bit_named names name ≡ Some c) (new : contains seen c ≡ false) where
     abbrev done : Members
@@ -126,16 +122,8 @@ module _ (names : Names) where
         let whole : read text ≡ Some (object done) = so_far.3 ((name, b) ∷ []) (ap (λ l. tokens (34 ∷ l)) (left_is ∙ ap (λ r. name ++ 34 ∷ (g ++ 58 ∷ (h ++ boolean_before b r))) brace) ∙ last_member name b g h i end plain gs hs is_i is_end) in
         inr (subst (λ o. IsResult (option_map (set_of_map names unknown) o) (Ok (cond b (insert s c) s))) (sym whole) (ap Ok (sym set_done) ∙ sym (whole_set (insert seen c) unknown done each_done)))
 
-  pub scan_none : (text rest end : List ℕ) (unknown : Unknown) → Passed text 123 rest → Passed rest 125 end → AreSpaces end → IsReadOf (set_of_map names unknown) text (Ok empty)
+  pub scan_none : (text bytes rest end : List ℕ) (unknown : Unknown) → bytes ≡ text → Passed bytes 123 rest → Passed rest 125 end → AreSpaces end → IsReadOf (set_of_map names unknown) text (Ok empty)
   unfolding from_list
-  scan_none text rest end unknown (f, fs, first) (g, gs, second) is_end =
-      let whole : read text ≡ Some (object no_members) = ap read (first ∙ ap (λ r. f ++ 123 ∷ r) second) ∙ first_member f g (125 ∷ end) [] fs gs (no_member end is_end) in
+  scan_none text bytes rest end unknown same (f, fs, first) (g, gs, second) is_end =
+      let whole : read text ≡ Some (object no_members) = ap read (sym same ∙ first ∙ ap (λ r. f ++ 123 ∷ r) second) ∙ first_member f g (125 ∷ end) [] fs gs (no_member end is_end) in
       inr (subst (λ o. IsResult (option_map (set_of_map names unknown) o) (Ok empty)) (sym whole) (sym (whole_set empty unknown no_members tt)))
-
--- what holds of a value that is given only under a test
-pub if_some : {A : Type 0} (P : A → Type 0) (b : Bool) (a : A) (o : Option A) → o ≡ then_some b a → (b ≡ true → P a) → IfSome o P
-if_some P b a o is holds = subst (λ o. IfSome o P) (sym is) (at b holds)
-  where
-    at : (b : Bool) → (b ≡ true → P a) → IfSome (then_some b a) P
-    at true holds = holds refl
-    at false holds = tt

@@ -34,12 +34,12 @@ module _ (names : Names) (unknown : Unknown) (text : List ℕ) where
   read_as : (ds : Items) → read text ≡ Some (array ds) → value_read (set_of_list names unknown) text ≡ Some (list_on names unknown 0 empty None (values_of ds))
   read_as ds e = ap (option_map (set_of_list names unknown)) e ∙ ap Some (sym (list_read_all names unknown (values_of ds)))
 
-  pub none_named : (rest end : List ℕ) → Passed text 91 rest → Passed rest 93 end → AreSpaces end → value_read (set_of_list names unknown) text ≡ Some (decided unknown None empty)
-  none_named rest end (f, fs, is) (g, gs, here) hs =
-      read_as no_items (ap read (is ∙ ap (λ r. f ++ 91 ∷ r) here) ∙ no_strings f g end fs gs hs) ∙ ap Some (read_end _ _ _ _ names unknown 0 empty None [] refl)
+  pub none_named : (bytes rest end : List ℕ) → bytes ≡ text → Passed bytes 91 rest → Passed rest 93 end → AreSpaces end → value_read (set_of_list names unknown) text ≡ Some (decided unknown None empty)
+  none_named bytes rest end same (f, fs, is) (g, gs, here) hs =
+      read_as no_items (ap read (sym same ∙ is ∙ ap (λ r. f ++ 91 ∷ r) here) ∙ no_strings f g end fs gs hs) ∙ ap Some (read_end _ _ _ _ names unknown 0 empty None [] refl)
 
-  pub goes_on_from : (rest left : List ℕ) → Passed text 91 rest → Passed rest 34 left → GoesOn left 0 empty None
-  goes_on_from rest left (f, fs, is) (g, gs, here) ds e = read_as ds (ap read (is ∙ ap (λ r. f ++ 91 ∷ r) here) ∙ first_string f g left fs gs ∙ e)
+  pub goes_on_from : (bytes rest left : List ℕ) → bytes ≡ text → Passed bytes 91 rest → Passed rest 34 left → GoesOn left 0 empty None
+  goes_on_from bytes rest left same (f, fs, is) (g, gs, here) ds e = read_as ds (ap read (sym same ∙ is ∙ ap (λ r. f ++ 91 ∷ r) here) ∙ first_string f g left fs gs ∙ e)
 
   module _ (left name rest : List ℕ) (place : ℕ) (s next : BitSet) (first later : Option ℕ) (bit : Option ℕ) (so_far : GoesOn left place s first) (plain : IsPlain name) (split : left ≡ name ++ 34 ∷ rest)
       (named : bit ≡ bit_named names name) (added : next ≡ with_named bit s) (seen : later ≡ option_or first (cond (is_none bit) (Some place) None)) where

@@ -9,10 +9,10 @@ use enumset::EnumSet;
 use enumset::set::MixedEnumSet;
 use enumset::set_json::{
     JsonFault, Unknown, mixed_from_number_text, mixed_from_words_text, mixed_to_number_text,
-    mixed_to_words_text, to_list_text,
+    mixed_to_words_text, to_list_text, to_map_text,
 };
 use enumset_array::{ArrayRepr, End, ShownRow, walk};
-use enumset_test_types::{Letters, Priority};
+use enumset_test_types::{Letters, Priority, Wide};
 use enumset_worked::{Marks, Sparse};
 use std::alloc::Global;
 use std::process::Abort;
@@ -89,6 +89,35 @@ fn names_with_escapes_that_are_read(rt: HostRuntime) -> Result<(), Fail> {
 #[test]
 fn maps_that_are_read(rt: HostRuntime) -> Result<(), Fail> {
     expect_read(&rt, rt.alloc(), Form::Map, "{\"G\":true}")
+}
+
+#[test]
+fn maps_with_spaces_that_are_read(rt: HostRuntime) -> Result<(), Fail> {
+    let text = "\r\n{\t\"A\" :false,\n\t\"G\"\r:\ttrue\n, \"B\": false }\t";
+    expect_read(&rt, rt.alloc(), Form::Map, text)
+}
+
+#[test]
+fn maps_with_escapes_that_are_read(rt: HostRuntime) -> Result<(), Fail> {
+    expect_read(&rt, rt.alloc(), Form::Map, "{\"\\u0047\":true}")
+}
+
+#[test]
+fn maps_with_escapes_that_are_written(rt: HostRuntime) -> Result<(), Fail> {
+    let (alloc, set) = (rt.alloc(), EnumSet::only(Priority::Low));
+    let (text, written) = returned(&rt, || to_map_text(alloc, &set));
+    expect(&rt, "write", text.as_str(), "{\"é\\u0001\":true}");
+    Ok(written?)
+}
+
+// A map has its names in the order of their bytes, which is not that of the bits.
+#[test]
+fn maps_whose_order_changes(rt: HostRuntime) -> Result<(), Fail> {
+    let (alloc, set) = (rt.alloc(), EnumSet::<Wide>::all());
+    let (text, written) = returned(&rt, || to_map_text(alloc, &set));
+    let wanted = "{\"Re\":true,\"Read\":true,\"Reader\":true}";
+    expect(&rt, "write", text.as_str(), wanted);
+    Ok(written?)
 }
 
 #[test]

@@ -9,7 +9,7 @@ ghost use Rattle.enumset.specs.declared.set_json.fault.JsonFault.TheVariants.{Ou
 use super::fault::JsonFault;
 use super::known::decided;
 use super::unknown::Unknown;
-use crate::names::EnumSetNames;
+use crate::names::{EnumSetNames, find_name};
 use enumset_sets::EnumSet;
 use serde_json::{Map, Value, put};
 use std::alloc::Global;
@@ -50,9 +50,10 @@ fn set_of_members<T: EnumSetNames>(
 {
     let mut set = EnumSet::new();
     let mut first_unknown = None;
+    let mut next = 0;
     for (place, (name, value)) in members.iter().enumerate() {
         let is_member = value.as_bool().ok_or(JsonFault::NotABoolean(place))?;
-        match T::of_name(name.as_str()) {
+        match find_name(name.as_bytes(), &mut next) {
             Some(element) => {
                 if is_member {
                     set.insert(element);

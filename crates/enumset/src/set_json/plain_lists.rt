@@ -20,10 +20,9 @@ pub(super) fn plain_list<T: EnumSetNames>(
     alloc: Global,
     set: &EnumSet<T>,
 ) -> Result<Option<String>, AllocError>
-    ensures text { IfOk result (λ o. IfSome o (λ text. string_bytes text
-        ≡ compact_text (list_value (names_of T.elements T.names) set.now))) }
-    ensures reads { IfOk result (λ o. IfSome o (λ text. read (string_bytes text)
-        ≡ Some (list_value (names_of T.elements T.names) set.now))) }
+    ensures { IfOk result (λ o. IfSome o (λ text.
+        (string_bytes text ≡ compact_text (list_value (names_of T.elements T.names) set.now))
+        × (read (string_bytes text) ≡ Some (list_value (names_of T.elements T.names) set.now)))) }
 {
     // Most names have at most thirteen bytes.
     let mut text = String::with_capacity(alloc, set.len().saturating_mul(16))?;

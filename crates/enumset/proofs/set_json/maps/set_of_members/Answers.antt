@@ -9,7 +9,7 @@ use Rattle.enumset.specs.JsonNames.{members_in, set_of_members}
 use Rattle.enumset.specs.declared.set_json.fault.JsonFault.TheVariants.{NotABoolean}
 use Rattle.enumset.specs.JsonPlain.{with_named}
 use Rattle.enumset.proofs.NamesRead.{or_none, seen, map_on, map_read, read_fault, read_next, read_end}
-use Rattle.enumset.proofs.set_json.maps.set_of_members.Goals.{in-Some-of_name+then-is_member, in-Some-of_name+else-is_member, in-None-of_name}
+use Rattle.enumset.proofs.set_json.maps.set_of_members.Goals.{in-Some-find_name+then-is_member, in-Some-find_name+else-is_member, in-None-find_name}
 use Rattle.enumset.proofs.set_json.maps.set_of_members.Goals as goal
 
 pub loop-place-init : goal.loop-place-init
@@ -35,15 +35,15 @@ loop-place-preserved g c =
     → map_on names c.args.unknown (c.loop-place.place + 1) set first rest ≡ map_on names c.args.unknown 0 empty None (map seen c.iter-name-items.result) =
     λ bit first set added unknown named. (λ j. map_on names c.args.unknown (c.loop-place.place + 1) (added j) (unknown j) rest)
     ∙ sym (read_next _ _ _ _ _ _ c.loop-place.place c.loop-place.set c.loop-place.first_unknown _ rest _ (ap (map seen) c.in-Some.ensures.steps) bit c.in_ok-is_member.is_member (ap is_none is) (ap (λ o. unwrap_or o false) is) (sym named)) ∙ c.loop-place.invariant.1 in
-    let name = ap (bit_named names) c.as_str.ensures.value in
+    let name = ap (bit_named names) c.as_bytes.ensures.value in
     let known = or_none c.loop-place.first_unknown in (
       omega (arith, c.loop-place.invariant.0, ap length c.in-Some.ensures.steps),
-      elim c.match-of_name.branch [
-        | in-Some-of_name+then-is_member w ↦
-            next (Some (g.T.EnumSetType.elements.bit w.in-Some-of_name.element)) _ _ (w.set-is ∙ w.insert.ensures.inserted ∙ sym (cond-true _ _ _ w.if-is_member.true)) (w.first_unknown-is ∙ known) (w.in-Some-of_name.ensures ∙ name)
-        | in-Some-of_name+else-is_member w ↦
-            next (Some (g.T.EnumSetType.elements.bit w.in-Some-of_name.element)) _ _ (w.set-is ∙ sym (cond-false _ _ _ w.if-is_member.false)) (w.first_unknown-is ∙ known) (w.in-Some-of_name.ensures ∙ name)
-        | in-None-of_name w ↦ next None _ _ (w.set-is ∙ cond_both c.in_ok-is_member.is_member _ _ (λ s. c.loop-place.set ≡ s) (λ _. refl) (λ _. refl)) (w.first_unknown-is ∙ w.or-first_unknown.ensures) (w.in-None-of_name.ensures ∙ name)
+      elim c.match-find_name.branch [
+        | in-Some-find_name+then-is_member w ↦
+            next (Some (g.T.EnumSetType.elements.bit w.in-Some-find_name.element)) _ _ (w.set-is ∙ w.insert.ensures.inserted ∙ sym (cond-true _ _ _ w.if-is_member.true)) (w.first_unknown-is ∙ known) (w.in-Some-find_name.ensures ∙ name)
+        | in-Some-find_name+else-is_member w ↦
+            next (Some (g.T.EnumSetType.elements.bit w.in-Some-find_name.element)) _ _ (w.set-is ∙ sym (cond-false _ _ _ w.if-is_member.false)) (w.first_unknown-is ∙ known) (w.in-Some-find_name.ensures ∙ name)
+        | in-None-find_name w ↦ next None _ _ (w.set-is ∙ cond_both c.in_ok-is_member.is_member _ _ (λ s. c.loop-place.set ≡ s) (λ _. refl) (λ _. refl)) (w.first_unknown-is ∙ w.or-first_unknown.ensures) (w.in-None-find_name.ensures ∙ name)
       ],
     )
 

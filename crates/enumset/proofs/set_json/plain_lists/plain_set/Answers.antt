@@ -1,7 +1,6 @@
 use Rattle.std.proofs.Common.{Ok, None, option_map, refl, sym, subst}
 use Rattle.enumset_repr.specs.BitSet.{empty}
 use Rattle.enumset.specs.JsonNames.{set_of_list, decided}
-use Rattle.enumset.specs.JsonPlain.{Passed}
 use Rattle.enumset.specs.Names.{names_of}
 use Rattle.enumset.proofs.PlainLists.{GoesOn, is_read, none_named, goes_on_from, goes_on, ends, no_unknown}
 use Rattle.enumset.proofs.set_json.plain_lists.plain_set.Goals as goal
@@ -9,17 +8,15 @@ use Rattle.enumset.proofs.set_json.plain_lists.plain_set.Goals as goal
 pub returns-then-are_spaces : goal.returns-then-are_spaces
 returns-then-are_spaces g c =
     let names = names_of g.T.EnumSetType.elements g.T.EnumSetNames.names in
-    let begins = subst (λ text. Passed text 91 c.in_ok-rest.rest.now) c.as_bytes-2.ensures.value c.in_ok-rest.ensures in
     is_read (set_of_list names c.args.unknown) c.args.text.now (decided c.args.unknown None empty) (Ok c.new.result)
-    (none_named names c.args.unknown c.args.text.now c.in_ok-rest.rest.now c.in-Some.end.now begins c.in-Some.ensures (c.if-are_spaces.ensures refl))
+    (none_named names c.args.unknown c.args.text.now _ c.in_ok-rest.rest.now c.in-Some.end.now c.as_bytes-2.ensures.value c.in_ok-rest.ensures c.in-Some.ensures (c.if-are_spaces.ensures refl))
     (no_unknown c.args.unknown c.new.result empty c.new.ensures)
 
 pub loop-place-init : goal.loop-place-init
 loop-place-init g c =
     let names = names_of g.T.EnumSetType.elements g.T.EnumSetNames.names in
-    let begins = subst (λ text. Passed text 91 c.in_ok-rest.rest.now) c.as_bytes-2.ensures.value c.in_ok-rest.ensures in
     subst (λ s. GoesOn names c.args.unknown c.args.text.now c.in_ok-left.left.now 0 s None) (sym c.new-set.ensures)
-    (goes_on_from names c.args.unknown c.args.text.now c.in_ok-rest.rest.now c.in_ok-left.left.now begins c.in_ok-left.ensures)
+    (goes_on_from names c.args.unknown c.args.text.now _ c.in_ok-rest.rest.now c.in_ok-left.left.now c.as_bytes-2.ensures.value c.in_ok-rest.ensures c.in_ok-left.ensures)
 
 pub loop-place-preserved : goal.loop-place-preserved
 loop-place-preserved g c =
