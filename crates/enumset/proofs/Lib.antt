@@ -14,6 +14,10 @@ mod JsonSpaces
 mod JsonLists
 mod JsonScans
 mod PlainLists
+mod JsonDigits
+mod JsonNumbers
+mod NumberScans
+mod PlainWords
 mod MapHandles
 mod MapTokens
 mod MapSteps

@@ -13,6 +13,8 @@ mod mixed;
 mod mixed_texts;
 mod numbers;
 mod plain_lists;
+mod plain_numbers;
+mod plain_words;
 mod scan;
 mod texts;
 mod unknown;

@@ -11,7 +11,12 @@ ghost use Rattle.enumset.specs.JsonReads.{IsReadOf};
 ghost use Rattle.enumset.specs.declared.set_json.fault.JsonFault.TheVariants.{OutOfMemory};
 
 use super::fault::JsonFault;
-use super::mixed::{mixed_from_number, mixed_from_words, mixed_to_number, mixed_to_words};
+use super::mixed::{
+    kept_below, mixed_from_number, mixed_from_words, mixed_set_of_number, mixed_to_number,
+    mixed_to_words,
+};
+use super::plain_numbers::plain_number;
+use super::plain_words::plain_words;
 use super::unknown::Unknown;
 use enumset_mixed::MixedEnumSet;
 use enumset_repr::EnumSetTypeRepr;
@@ -57,7 +62,10 @@ pub fn mixed_from_number_text<T: EnumSetTypeWithRepr>(
     requires narrow { T.Repr.WIDTH ≤ 64 }
     ensures { IsReadOf (mixed_set_of_number T.Repr.WIDTH) text.now result }
 {
-    mixed_from_number(&Value::from_str(alloc, text)?)
+    match plain_number(text) {
+        Some(number) => mixed_set_of_number(number),
+        None => mixed_from_number(&Value::from_str(alloc, text)?),
+    }
 }
 
 /// What [`mixed_from_words`] reads of a text's value. The other faults are [`JsonFault::NotJson`] and
@@ -69,5 +77,8 @@ pub fn mixed_from_words_text<T: EnumSetTypeWithRepr>(
 ) -> Result<MixedEnumSet<T>, JsonFault>
     ensures { IsReadOf (mixed_set_of_words T.Repr.WIDTH past) text.now result }
 {
-    mixed_from_words(&Value::from_str(alloc, text)?, past)
+    match plain_words(text) {
+        Some((repr, is_whole)) => kept_below(repr, is_whole, past),
+        None => mixed_from_words(&Value::from_str(alloc, text)?, past),
+    }
 }

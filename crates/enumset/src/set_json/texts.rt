@@ -20,11 +20,13 @@ use super::lists::{from_list, to_list};
 use super::map_scan::plain_map_set;
 use super::map_texts::plain_map;
 use super::maps::{from_map, to_map};
-use super::numbers::{from_number, to_number};
+use super::numbers::{from_number, set_of_number, to_number};
 use super::plain_lists::{plain_list, plain_set};
+use super::plain_numbers::plain_number;
+use super::plain_words::plain_words;
 use super::unknown::Unknown;
 use super::width::JsonWidth;
-use super::words::{from_words, to_words};
+use super::words::{accepted, from_words, to_words};
 use crate::names::EnumSetNames;
 use enumset_sets::{EnumSet, EnumSetType};
 use serde_json::Value;
@@ -95,7 +97,10 @@ pub fn from_number_text<T: EnumSetType>(
 ) -> Result<EnumSet<T>, JsonFault>
     ensures { IsReadOf (set_of_number (valid_bits T.elements) (width_of width) unknown) text.now result }
 {
-    from_number(&Value::from_str(alloc, text)?, width, unknown)
+    match plain_number(text) {
+        Some(number) => set_of_number(number, width, unknown),
+        None => from_number(&Value::from_str(alloc, text)?, width, unknown),
+    }
 }
 
 /// What [`from_words`] reads of a text's value. The other faults are [`JsonFault::NotJson`] and
@@ -107,7 +112,10 @@ pub fn from_words_text<T: EnumSetType>(
 ) -> Result<EnumSet<T>, JsonFault>
     ensures { IsReadOf (set_of_words (valid_bits T.elements) unknown) text.now result }
 {
-    from_words(&Value::from_str(alloc, text)?, unknown)
+    match plain_words(text) {
+        Some((repr, is_whole)) => accepted(repr, is_whole, unknown),
+        None => from_words(&Value::from_str(alloc, text)?, unknown),
+    }
 }
 
 /// What [`from_list`] reads of a text's value. The other faults are [`JsonFault::NotJson`] and
