@@ -18,6 +18,8 @@ mod JsonDigits
 mod JsonNumbers
 mod NumberScans
 mod PlainWords
+mod DigitsWritten
+mod WordsWritten
 mod MapHandles
 mod MapTokens
 mod MapSteps

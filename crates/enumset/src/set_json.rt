@@ -3,6 +3,7 @@
 //!
 //! In Rust's `enumset` these are the forms that its `serde` feature writes and reads.
 
+mod digits;
 mod fault;
 mod known;
 mod lists;

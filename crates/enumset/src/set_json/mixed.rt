@@ -29,10 +29,18 @@ pub fn mixed_to_number<T: EnumSetTypeWithRepr>(
     ensures succeeds { IsOk result }
     ensures value { IfOk result (λ value. view value ≡ number_value (number set.now)) }
 {
+    Ok(Value::from(mixed_number(set)))
+}
+
+// The set's number, unknown bits included.
+pub(super) fn mixed_number<T: EnumSetTypeWithRepr>(set: &MixedEnumSet<T>) -> u64
+    requires narrow { T.Repr.WIDTH ≤ 64 }
+    ensures { result ≡ number set.now }
+{
     let repr = set.as_repr();
     // That the members are below the width is a law of values.
     repr.learn_is_value();
-    Ok(Value::from(repr.to_u64()))
+    repr.to_u64()
 }
 
 /// The set of all bits of a number below two to the representation's width, which may be 64 at most.

@@ -12,11 +12,10 @@ ghost use Rattle.enumset.specs.declared.set_json.fault.JsonFault.TheVariants.{Ou
 
 use super::fault::JsonFault;
 use super::mixed::{
-    kept_below, mixed_from_number, mixed_from_words, mixed_set_of_number, mixed_to_number,
-    mixed_to_words,
+    kept_below, mixed_from_number, mixed_from_words, mixed_number, mixed_set_of_number,
 };
-use super::plain_numbers::plain_number;
-use super::plain_words::plain_words;
+use super::plain_numbers::{number_text, plain_number};
+use super::plain_words::{plain_words, words_text};
 use super::unknown::Unknown;
 use enumset_mixed::MixedEnumSet;
 use enumset_repr::EnumSetTypeRepr;
@@ -36,10 +35,10 @@ pub fn mixed_to_number_text<T: EnumSetTypeWithRepr>(
         read (string_bytes text) ≡ Some (number_value (number set.now))) }
     ensures fault { IfErr result (λ fault. fault ≡ OutOfMemory) }
 {
-    Ok(mixed_to_number(alloc, set)?.to_string(alloc)?)
+    Ok(number_text(alloc, mixed_number(set))?)
 }
 
-/// The text of the value that [`mixed_to_words`] writes. The only fault is [`JsonFault::OutOfMemory`].
+/// The text of the value that `mixed_to_words` writes. The only fault is [`JsonFault::OutOfMemory`].
 pub fn mixed_to_words_text<T: EnumSetTypeWithRepr>(
     alloc: Global,
     set: &MixedEnumSet<T>,
@@ -50,7 +49,7 @@ pub fn mixed_to_words_text<T: EnumSetTypeWithRepr>(
         ≡ Some (words_value (words set.now T.Repr.PREFERRED_ARRAY_LEN))) }
     ensures fault { IfErr result (λ fault. fault ≡ OutOfMemory) }
 {
-    Ok(mixed_to_words(alloc, set)?.to_string(alloc)?)
+    Ok(words_text(alloc, &set.as_repr())?)
 }
 
 /// What [`mixed_from_number`] reads of a text's value. The representation may have 64 bits at most. The other faults are

@@ -1,10 +1,24 @@
-//! Whole numbers of JSON texts, read digit by digit without a tree of values.
+//! JSON texts of whole numbers, written and read digit by digit, without a tree of values.
 
-ghost use Rattle.std.specs.Prelude.{◌≡◌, ◌<◌, ◌+◌, ◌^◌, ◌++◌, decimal, IfSome, Some};
+ghost use Rattle.std.specs.Prelude.{◌≡◌, ◌<◌, ◌+◌, ◌^◌, ◌++◌, decimal, IfOk, IfSome, Some};
+ghost use Rattle.std.specs.Prelude.{string_bytes};
 ghost use Rattle.serde_json.specs.Read.{read};
 ghost use Rattle.enumset.specs.Json.{number_value};
 
+use super::digits::push_digits;
 use super::scan::{are_spaces, split_spaces};
+use std::alloc::{AllocError, Global};
+
+// The digits of a number.
+pub(super) fn number_text(alloc: Global, number: u64) -> Result<String, AllocError>
+    ensures text { IfOk result (λ text. string_bytes text ≡ decimal number) }
+    ensures reads { IfOk result (λ text.
+        read (string_bytes text) ≡ Some (number_value number)) }
+{
+    let mut bytes = Vec::with_capacity(alloc, 20)?;
+    push_digits(&mut bytes, number)?;
+    Ok(String::from_utf8(bytes).unwrap())
+}
 
 // The whole number below 2^64 that a text is, but for spaces at its ends. No other text is read.
 pub(super) fn plain_number(text: &str) -> Option<u64>
