@@ -51,21 +51,21 @@ none_other : (ns : List ℕ) (place : ℕ) → position_from is_no_word place (m
 none_other [] place = refl
 none_other (n ∷ ns) place = none_other ns (place + 1)
 
-words_read : (s : BitSet) (n : ℕ) → words_in (words_value (words s n)) ≡ Ok (words s n)
-words_read s n =
-    let values = map number_value (words s n) in
-    let back = map-map (λ value. unwrap_or (word_of value) 0) number_value (words s n) ∙ map-id (words s n) in
+pub words_back : (ns : List ℕ) → words_in (words_value ns) ≡ Ok ns
+words_back ns =
+    let values = map number_value ns in
+    let back = map-map (λ value. unwrap_or (word_of value) 0) number_value ns ∙ map-id ns in
     ap (λ ds. unless_fault NotAWord (position is_no_word ds) (Ok (words_of ds))) (values_back values)
-    ∙ (λ j. unless_fault NotAWord ((position_from-zero is_no_word values ∙ none_other (words s n) 0) j) (Ok (back j)))
+    ∙ (λ j. unless_fault NotAWord ((position_from-zero is_no_word values ∙ none_other ns 0) j) (Ok (back j)))
 
 -- words that lose nothing of a set are read as the words that they are
 pub words_accepted : (s valid : BitSet) (n : ℕ) (unknown : Unknown) → bits_of (words s n) ≡ s → set_of_words valid unknown (words_value (words s n)) ≡ accepted valid unknown s
 words_accepted s valid n unknown back =
-    ap (accepted_of bits_of valid unknown) (words_read s n) ∙ ap (accepted valid unknown) back
+    ap (accepted_of bits_of valid unknown) (words_back (words s n)) ∙ ap (accepted valid unknown) back
 
 pub words_kept : (s : BitSet) (width n : ℕ) (past : Unknown) → is_subset s (below width) ≡ true → bits_of (words s n) ≡ s → mixed_set_of_words width past (words_value (words s n)) ≡ Ok s
 words_kept s width n past within back =
-    ap (kept_of width past) (words_read s n) ∙ ap (kept_below width past) back ∙ kept_within s width past within
+    ap (kept_of width past) (words_back (words s n)) ∙ ap (kept_below width past) back ∙ kept_within s width past within
 
 -- as many words as a representation of a width has lose nothing of a set below the width
 pub all_in_words : (s : BitSet) (n width : ℕ) → n ≡ (width + 63) / 64 → is_subset s (below width) ≡ true → bits_of (words s n) ≡ s

@@ -1,6 +1,6 @@
 -- The words of JSON arrays, read one by one into a set.
-use Rattle.std.proofs.Common.{◌≡◌, ◌<◌, ◌≤◌, ℕ, ◌+◌, ◌*◌, ◌^◌, Bool, true, ◌&&◌, if◌then◌else◌, inl, inr, Option, Some, is_none, unwrap_or, Ok, List, map, position, drop, get_or, length, refl, sym, ap, subst, ◌∙◌, arith, slice_index}
-use Rattle.std.proofs.lemmas.Bool.{cases_lt, and_parts, and_from, eqb-true, eq-eqb}
+use Rattle.std.proofs.Common.{◌≡◌, ◌<◌, ◌≤◌, ℕ, ◌+◌, ◌*◌, ◌/◌, ◌^◌, Bool, true, false, ◌&&◌, if◌then◌else◌, inl, inr, Option, Some, is_none, unwrap_or, Ok, List, map, position, drop, get_or, length, refl, sym, ap, subst, ◌∙◌, arith, slice_index}
+use Rattle.std.proofs.lemmas.Bool.{cases_lt, and_parts, and_from, eqb-true, eq-eqb, ltb-false}
 use Rattle.std.proofs.lemmas.Bool.Decides.{nat_tests, same_from_decides}
 use Rattle.std.proofs.lemmas.Iterator.Adapters.{position_from-zero}
 use Rattle.std.proofs.lemmas.List.{get_or_past, get_or-map, length-map}
@@ -101,6 +101,25 @@ module _ (ws : List ℕ) (place width : ℕ) (s : BitSet) (is_whole : Bool) (bef
           λ kept. one_more (λ w. word (low t width) w ≡ slice_index ws w) place (rest.0 (and_parts _ _ kept).0) (sym same ∙ eqb-true _ _ (and_parts _ _ kept).1 ∙ is),
           λ kept. and_from _ _ (rest.1 (λ w under. kept w (omega (arith, under)))) (eq-eqb _ _ (same ∙ kept place (omega arith) ∙ sym is)),
         );
+  }
+
+  -- the same of a word that is put in where the representation has n words
+  pub taken : (n x : ℕ) (r : BitSet) (kept : Bool) → n ≡ (width + 63) / 64 → x ≡ slice_index ws place → x < 2 ^ 64
+      → r ≡ (if nat_lt place n then with_word s width place x else s) → kept ≡ (is_whole && (word r place == x)) → AreRead ws (place + 1) width r kept
+  taken n x r kept count is fits made whole = subst (AreRead ws (place + 1) width r) (sym whole) (one_read x r is fits (at (nat_lt place n) refl))
+    where
+      at : (b : Bool) → nat_lt place n ≡ b → (t : BitSet) → Has t ws (place + 1) → r ≡ low (low t (64 * (place + 1))) width
+      at true under = put_in x r is (made ∙ ap (λ b. if b then with_word s width place x else s) under)
+      at false past = λ t has. made ∙ ap (λ b. if b then with_word s width place x else s) past ∙ left_out (omega (arith, count, ltb-false _ _ past)) t has
+
+  -- words that are the same before the place are read as well
+  pub same_before : (us : List ℕ) → ((w : ℕ) → w < place → slice_index us w ≡ slice_index ws w) → AreRead us place width s is_whole
+  same_before us same = record {
+    small = λ w under. subst (λ x. x < 2 ^ 64) (sym (same w under)) (before.small w under);
+    put = λ t has. before.put t (λ w under. has w under ∙ same w under);
+    whole = λ t has.
+        let decides = before.whole t (λ w under. has w under ∙ same w under) in
+        (λ kept w under. decides.0 kept w under ∙ sym (same w under), λ kept. decides.1 (λ w under. kept w under ∙ same w under));
   }
 
   pub all_read : length ws ≤ place → (s ≡ low (bits_of ws) width) × (is_whole ≡ is_subset (bits_of ws) (below width))

@@ -14,6 +14,12 @@ mod JsonSpaces
 mod JsonLists
 mod JsonScans
 mod PlainLists
+mod JsonDigits
+mod JsonNumbers
+mod NumberScans
+mod PlainWords
+mod DigitsWritten
+mod WordsWritten
 mod MapHandles
 mod MapTokens
 mod MapSteps

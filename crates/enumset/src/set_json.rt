@@ -3,6 +3,7 @@
 //!
 //! In Rust's `enumset` these are the forms that its `serde` feature writes and reads.
 
+mod digits;
 mod fault;
 mod known;
 mod lists;
@@ -13,6 +14,8 @@ mod mixed;
 mod mixed_texts;
 mod numbers;
 mod plain_lists;
+mod plain_numbers;
+mod plain_words;
 mod scan;
 mod texts;
 mod unknown;

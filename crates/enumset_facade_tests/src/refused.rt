@@ -47,15 +47,23 @@ fn expect_read(rt: &impl Abort, alloc: Global, form: Form, text: &str) -> Result
 }
 
 #[test]
-fn numbers(rt: HostRuntime) -> Result<(), Fail> {
-    expect_written(&rt, rt.alloc(), Form::Number, "64")?;
-    expect_read(&rt, rt.alloc(), Form::Number, "64")
+fn written_numbers(rt: HostRuntime) -> Result<(), Fail> {
+    expect_written(&rt, rt.alloc(), Form::Number, "64")
 }
 
 #[test]
-fn words(rt: HostRuntime) -> Result<(), Fail> {
-    expect_written(&rt, rt.alloc(), Form::Words, "[64]")?;
-    expect_read(&rt, rt.alloc(), Form::Words, "[64]")
+fn numbers_that_are_read(rt: HostRuntime) -> Result<(), Fail> {
+    expect_read(&rt, rt.alloc(), Form::Number, " 64\n")
+}
+
+#[test]
+fn written_words(rt: HostRuntime) -> Result<(), Fail> {
+    expect_written(&rt, rt.alloc(), Form::Words, "[64]")
+}
+
+#[test]
+fn words_that_are_read(rt: HostRuntime) -> Result<(), Fail> {
+    expect_read(&rt, rt.alloc(), Form::Words, " [ 64,\t0 ] ")
 }
 
 #[test]

@@ -1,16 +1,17 @@
 //! Mixed sets as JSON numbers and as JSON arrays of words.
 
 ghost use Rattle.std.specs.Prelude.{◌≡◌, ◌≤◌, IfOk, IfErr, IsOk};
+ghost use Rattle.enumset_repr.specs.BitSet.{BitSet, low, is_subset, below};
 ghost use Rattle.enumset_repr.specs.Number.{number};
 ghost use Rattle.enumset_repr.specs.Words.{words};
 ghost use Rattle.serde_json.specs.View.{view};
 ghost use Rattle.enumset.specs.Json.{number_value, mixed_set_of_number};
-ghost use Rattle.enumset.specs.Json.{words_value, mixed_set_of_words};
+ghost use Rattle.enumset.specs.Json.{words_value, mixed_set_of_words, kept_below};
 ghost use Rattle.enumset.specs.declared.set_json.fault.JsonFault.TheVariants.{OutOfMemory};
 
 use super::fault::JsonFault;
 use super::unknown::Unknown;
-use super::whole::number_below;
+use super::whole::{below_power, whole_number};
 use super::words::{read_words, words_of};
 use enumset_mixed::MixedEnumSet;
 use enumset_repr::EnumSetTypeRepr;
@@ -28,10 +29,18 @@ pub fn mixed_to_number<T: EnumSetTypeWithRepr>(
     ensures succeeds { IsOk result }
     ensures value { IfOk result (λ value. view value ≡ number_value (number set.now)) }
 {
+    Ok(Value::from(mixed_number(set)))
+}
+
+// The set's number, unknown bits included.
+pub(super) fn mixed_number<T: EnumSetTypeWithRepr>(set: &MixedEnumSet<T>) -> u64
+    requires narrow { T.Repr.WIDTH ≤ 64 }
+    ensures { result ≡ number set.now }
+{
     let repr = set.as_repr();
     // That the members are below the width is a law of values.
     repr.learn_is_value();
-    Ok(Value::from(repr.to_u64()))
+    repr.to_u64()
 }
 
 /// The set of all bits of a number below two to the representation's width, which may be 64 at most.
@@ -44,8 +53,18 @@ pub fn mixed_from_number<T: EnumSetTypeWithRepr>(
     requires narrow { T.Repr.WIDTH ≤ 64 }
     ensures { result ≡ mixed_set_of_number T.Repr.WIDTH (view value.now) }
 {
-    let number = number_below(value, <T::Repr as EnumSetTypeRepr>::WIDTH)?;
-    Ok(MixedEnumSet::from_repr(T::Repr::from_u64(number)))
+    mixed_set_of_number(whole_number(value)?)
+}
+
+// The set of all bits of a number below two to the representation's width.
+pub(super) fn mixed_set_of_number<T: EnumSetTypeWithRepr>(
+    number: u64,
+) -> Result<MixedEnumSet<T>, JsonFault>
+    requires narrow { T.Repr.WIDTH ≤ 64 }
+    ensures { result ≡ mixed_set_of_number T.Repr.WIDTH (number_value number) }
+{
+    let bits = below_power(number, <T::Repr as EnumSetTypeRepr>::WIDTH)?;
+    Ok(MixedEnumSet::from_repr(T::Repr::from_u64(bits)))
 }
 
 /// The set's words of 64 bits, the lowest first, as many as its representation has, unknown bits included. The only
@@ -75,6 +94,19 @@ pub fn mixed_from_words<T: EnumSetTypeWithRepr>(
     ensures { result ≡ mixed_set_of_words T.Repr.WIDTH past (view value.now) }
 {
     let (repr, is_whole): (T::Repr, bool) = read_words(value)?;
+    kept_below(repr, is_whole, past)
+}
+
+// The set of the bits below the representation's width, unless there are others and such bits are refused.
+pub(super) fn kept_below<T: EnumSetTypeWithRepr>(
+    repr: T::Repr,
+    is_whole: bool,
+    past: Unknown,
+) -> Result<MixedEnumSet<T>, JsonFault>
+    ensures { (bits : BitSet) → (T.Repr.members repr ≡ low bits T.Repr.WIDTH)
+        → (is_whole ≡ is_subset bits (below T.Repr.WIDTH))
+        → result ≡ kept_below T.Repr.WIDTH past bits }
+{
     match past {
         Unknown::Refuse if !is_whole => Err(JsonFault::OutOfRange),
         _ => Ok(MixedEnumSet::from_repr(repr)),

@@ -11,7 +11,11 @@ ghost use Rattle.enumset.specs.JsonReads.{IsReadOf};
 ghost use Rattle.enumset.specs.declared.set_json.fault.JsonFault.TheVariants.{OutOfMemory};
 
 use super::fault::JsonFault;
-use super::mixed::{mixed_from_number, mixed_from_words, mixed_to_number, mixed_to_words};
+use super::mixed::{
+    kept_below, mixed_from_number, mixed_from_words, mixed_number, mixed_set_of_number,
+};
+use super::plain_numbers::{number_text, plain_number};
+use super::plain_words::{plain_words, words_text};
 use super::unknown::Unknown;
 use enumset_mixed::MixedEnumSet;
 use enumset_repr::EnumSetTypeRepr;
@@ -31,10 +35,10 @@ pub fn mixed_to_number_text<T: EnumSetTypeWithRepr>(
         read (string_bytes text) ≡ Some (number_value (number set.now))) }
     ensures fault { IfErr result (λ fault. fault ≡ OutOfMemory) }
 {
-    Ok(mixed_to_number(alloc, set)?.to_string(alloc)?)
+    Ok(number_text(alloc, mixed_number(set))?)
 }
 
-/// The text of the value that [`mixed_to_words`] writes. The only fault is [`JsonFault::OutOfMemory`].
+/// The text of the value that `mixed_to_words` writes. The only fault is [`JsonFault::OutOfMemory`].
 pub fn mixed_to_words_text<T: EnumSetTypeWithRepr>(
     alloc: Global,
     set: &MixedEnumSet<T>,
@@ -45,7 +49,7 @@ pub fn mixed_to_words_text<T: EnumSetTypeWithRepr>(
         ≡ Some (words_value (words set.now T.Repr.PREFERRED_ARRAY_LEN))) }
     ensures fault { IfErr result (λ fault. fault ≡ OutOfMemory) }
 {
-    Ok(mixed_to_words(alloc, set)?.to_string(alloc)?)
+    Ok(words_text(alloc, &set.as_repr())?)
 }
 
 /// What [`mixed_from_number`] reads of a text's value. The representation may have 64 bits at most. The other faults are
@@ -57,7 +61,10 @@ pub fn mixed_from_number_text<T: EnumSetTypeWithRepr>(
     requires narrow { T.Repr.WIDTH ≤ 64 }
     ensures { IsReadOf (mixed_set_of_number T.Repr.WIDTH) text.now result }
 {
-    mixed_from_number(&Value::from_str(alloc, text)?)
+    match plain_number(text) {
+        Some(number) => mixed_set_of_number(number),
+        None => mixed_from_number(&Value::from_str(alloc, text)?),
+    }
 }
 
 /// What [`mixed_from_words`] reads of a text's value. The other faults are [`JsonFault::NotJson`] and
@@ -69,5 +76,8 @@ pub fn mixed_from_words_text<T: EnumSetTypeWithRepr>(
 ) -> Result<MixedEnumSet<T>, JsonFault>
     ensures { IsReadOf (mixed_set_of_words T.Repr.WIDTH past) text.now result }
 {
-    mixed_from_words(&Value::from_str(alloc, text)?, past)
+    match plain_words(text) {
+        Some((repr, is_whole)) => kept_below(repr, is_whole, past),
+        None => mixed_from_words(&Value::from_str(alloc, text)?, past),
+    }
 }

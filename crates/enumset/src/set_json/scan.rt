@@ -33,7 +33,7 @@ fn is_space_byte(byte: u8) -> bool
 
 // The spaces at the front, and what follows them.
 #[inline(always)]
-fn split_spaces(bytes: &[u8]) -> (&[u8], &[u8])
+pub(super) fn split_spaces(bytes: &[u8]) -> (&[u8], &[u8])
     ensures whole { bytes.now ≡ result.0.now ++ result.1.now }
     ensures spaces { AreSpaces result.0.now }
 {

@@ -20,13 +20,15 @@ use super::lists::{from_list, to_list};
 use super::map_scan::plain_map_set;
 use super::map_texts::plain_map;
 use super::maps::{from_map, to_map};
-use super::numbers::{from_number, to_number};
+use super::numbers::{from_number, number_within, set_of_number};
 use super::plain_lists::{plain_list, plain_set};
+use super::plain_numbers::{number_text, plain_number};
+use super::plain_words::{plain_words, words_text};
 use super::unknown::Unknown;
 use super::width::JsonWidth;
-use super::words::{from_words, to_words};
+use super::words::{accepted, from_words};
 use crate::names::EnumSetNames;
-use enumset_sets::{EnumSet, EnumSetType};
+use enumset_sets::{EnumSet, EnumSetType, raw};
 use serde_json::Value;
 use std::alloc::Global;
 
@@ -43,10 +45,10 @@ pub fn to_number_text<T: EnumSetType>(
     ensures too_wide { (result ≡ Err TooWide) ↔ (is_subset set.now (below (width_of width)) ≡ false) }
     ensures fault { IfErr result (λ fault. (fault ≡ TooWide) ⊎ (fault ≡ OutOfMemory)) }
 {
-    Ok(to_number(alloc, set, width)?.to_string(alloc)?)
+    Ok(number_text(alloc, number_within(set, width)?)?)
 }
 
-/// The text of the value that [`to_words`] writes. The only fault is [`JsonFault::OutOfMemory`].
+/// The text of the value that `to_words` writes. The only fault is [`JsonFault::OutOfMemory`].
 pub fn to_words_text<T: EnumSetType>(alloc: Global, set: &EnumSet<T>) -> Result<String, JsonFault>
     ensures text { IfOk result (λ text. string_bytes text
         ≡ compact_text (words_value (words set.now T.Repr.PREFERRED_ARRAY_LEN))) }
@@ -54,7 +56,7 @@ pub fn to_words_text<T: EnumSetType>(alloc: Global, set: &EnumSet<T>) -> Result<
         ≡ Some (words_value (words set.now T.Repr.PREFERRED_ARRAY_LEN))) }
     ensures fault { IfErr result (λ fault. fault ≡ OutOfMemory) }
 {
-    Ok(to_words(alloc, set)?.to_string(alloc)?)
+    Ok(words_text(alloc, &raw::get(set.copied()))?)
 }
 
 /// The text of the value that [`to_list`] writes. The only fault is [`JsonFault::OutOfMemory`].
@@ -95,7 +97,10 @@ pub fn from_number_text<T: EnumSetType>(
 ) -> Result<EnumSet<T>, JsonFault>
     ensures { IsReadOf (set_of_number (valid_bits T.elements) (width_of width) unknown) text.now result }
 {
-    from_number(&Value::from_str(alloc, text)?, width, unknown)
+    match plain_number(text) {
+        Some(number) => set_of_number(number, width, unknown),
+        None => from_number(&Value::from_str(alloc, text)?, width, unknown),
+    }
 }
 
 /// What [`from_words`] reads of a text's value. The other faults are [`JsonFault::NotJson`] and
@@ -107,7 +112,10 @@ pub fn from_words_text<T: EnumSetType>(
 ) -> Result<EnumSet<T>, JsonFault>
     ensures { IsReadOf (set_of_words (valid_bits T.elements) unknown) text.now result }
 {
-    from_words(&Value::from_str(alloc, text)?, unknown)
+    match plain_words(text) {
+        Some((repr, is_whole)) => accepted(repr, is_whole, unknown),
+        None => from_words(&Value::from_str(alloc, text)?, unknown),
+    }
 }
 
 /// What [`from_list`] reads of a text's value. The other faults are [`JsonFault::NotJson`] and

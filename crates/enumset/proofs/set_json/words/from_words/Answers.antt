@@ -1,43 +1,10 @@
-use Rattle.std.proofs.Common.{◌≡◌, true, false, Ok, refl, sym, ap, ◌∙◌}
-use Rattle.enumset_repr.specs.BitSet.{is_subset, intersection}
-use Rattle.std.proofs.lemmas.Bool.{both_ways, false_from_ne_true}
+use Rattle.std.proofs.Common.{sym, ap, ◌∙◌}
 use Rattle.enumset_repr.specs.Words.{bits_of}
-use Rattle.enumset_repr.specs.Laws.Algebra.{intersection_right, is_subset_trans}
-use Rattle.enumset_repr.specs.Laws.Low.{low_intersection, low_within}
 use Rattle.enumset_sets.specs.Elements.{valid_bits}
-use Rattle.enumset.proofs.set_json.words.from_words.Goals.{else-is_whole-via-then-is_whole+else-is_subset_of, else-is_whole-via-else-is_whole}
+use Rattle.enumset.specs.Json.{accepted_of}
 use Rattle.enumset.proofs.set_json.words.from_words.Goals as goal
 
-pub new-requires : goal.new-requires
-new-requires g c = record {
-  valid = ap (λ s. is_subset s (valid_bits g.T.EnumSetType.elements)) ((g.met.T.Repr.EnumSetTypeRepr.operators.bitand _ _ _ c.bitand.ensures) ∙ (λ i. intersection (g.T.Repr.EnumSetTypeRepr.members c.in_ok-repr.repr) (c.valid_repr-all.ensures.members i)))
-      ∙ intersection_right _ _;
-}
-
-pub returns-in-Drop : goal.returns-in-Drop
-returns-in-Drop g c =
-    let read = c.in_ok-repr.ensures.read in
-    rw (c.in-Drop.is, read.1)
-    (ap Ok (c.new.ensures ∙ (g.met.T.Repr.EnumSetTypeRepr.operators.bitand _ _ _ c.bitand.ensures)
-    ∙ (λ i. intersection (read.2 i) (c.valid_repr-all.ensures.members i))
-    ∙ low_intersection _ _ g.T.Repr.EnumSetTypeRepr.WIDTH c.valid_repr-all.ensures.within))
-
-pub returns-then-is_subset_of : goal.returns-then-is_subset_of
-returns-then-is_subset_of g c =
-    let read = c.in_ok-repr.ensures.read in
-    let kept = read.2 ∙ low_within _ _ (sym read.3 ∙ c.if-is_whole.true) in
-    let valid : is_subset (bits_of read.0) (valid_bits g.T.EnumSetType.elements) ≡ true =
-    (λ i. is_subset (sym kept i) (sym c.valid_repr-all.ensures.members i)) ∙ sym c.is_subset_of.ensures ∙ c.if-is_subset_of.true in
-    rw (c.in-Refuse.is, read.1, valid) (ap Ok (c.new-then-is_subset_of.ensures ∙ kept))
-
-pub returns-else-is_whole : goal.returns-else-is_whole
-returns-else-is_whole g c =
-    let read = c.in_ok-repr.ensures.read in
-    let other : is_subset (bits_of read.0) (valid_bits g.T.EnumSetType.elements) ≡ false =
-    elim c.else-is_whole.branch [
-      | else-is_whole-via-then-is_whole+else-is_subset_of w ↦
-          (λ i. is_subset (sym (read.2 ∙ low_within _ _ (sym read.3 ∙ w.if-is_whole.true)) i) (sym c.valid_repr-all.ensures.members i)) ∙ sym w.is_subset_of.ensures ∙ w.if-is_subset_of.false
-      | else-is_whole-via-else-is_whole w ↦
-          false_from_ne_true _ (λ valid. both_ways _ (sym read.3 ∙ w.if-is_whole.false) (is_subset_trans _ _ _ valid c.valid_repr-all.ensures.within))
-    ] in
-    rw (c.in-Refuse.is, read.1, other) refl
+pub returns : goal.returns
+returns g c =
+    let (ws, is, cut, whole) = c.in_ok-repr.ensures.read in
+    c.accepted.ensures (bits_of ws) cut whole ∙ ap (accepted_of bits_of (valid_bits g.T.EnumSetType.elements) c.args.unknown) (sym is)

@@ -6,8 +6,7 @@ use Rattle.enumset_repr.specs.BitSet.{BitSet, low}
 use Rattle.serde_json.specs.View.{view, items_view}
 use Rattle.enumset.specs.Json.{is_no_word, words_of, words_in}
 use Rattle.enumset.specs.declared.set_json.fault.JsonFault.TheVariants.{NotAWord}
-use Rattle.enumset.proofs.JsonWords.{AreRead, Has, other_from, other_at, word_here, words_read, length-words_of, none_read, put_in, left_out, one_read, all_read}
-use Rattle.enumset.proofs.set_json.words.read_words.Goals.{then-place-PREFERRED_ARRAY_LEN, else-place-PREFERRED_ARRAY_LEN}
+use Rattle.enumset.proofs.JsonWords.{AreRead, Has, other_from, other_at, word_here, words_read, length-words_of, none_read, taken, all_read}
 use Rattle.enumset.proofs.set_json.words.read_words.Goals as goal
 
 pub loop-place-init : goal.loop-place-init
@@ -27,20 +26,10 @@ pub loop-place-preserved : goal.loop-place-preserved
 loop-place-preserved g c =
     let vs = c.deref-item-items.result.now in
     let place = c.loop-place.place in
-    let width = g.R.EnumSetTypeRepr.WIDTH in
-    let members = g.R.EnumSetTypeRepr.members in
-    let before = c.loop-place.invariant.1 in
-    let made = c.if-place-PREFERRED_ARRAY_LEN.repr in
     let here = other_at vs place c.item-item.result c.as_u64.result c.loop-place-test.true c.item-item.is c.as_u64.ensures in
-    let is = word_here vs place c.item-item.result c.as_u64.result c.loop-place-test.true c.item-item.is c.as_u64.ensures c.in_ok-word.word c.in_ok-word.ensures.ok_part in
-    let put : (t : BitSet) → Has t (words_of (map view vs)) (place + 1) → members made ≡ low (low t (64 * (place + 1))) width =
-    elim c.if-place-PREFERRED_ARRAY_LEN.branch [
-      | then-place-PREFERRED_ARRAY_LEN w ↦ put_in _ place width _ _ before c.in_ok-word.word _ is (ap members w.repr-is ∙ w.put_word.ensures)
-      | else-place-PREFERRED_ARRAY_LEN w ↦ λ t has. ap members w.repr-is ∙ left_out _ place width _ _ before (omega (arith, g.met.R.EnumSetTypeRepr.represents.word_count, c.PREFERRED_ARRAY_LEN.ensures, w.if-place-PREFERRED_ARRAY_LEN.false)) t has
-    ] in (
+    let is = word_here vs place c.item-item.result c.as_u64.result c.loop-place-test.true c.item-item.is c.as_u64.ensures c.in_ok-word.word c.in_ok-word.ensures.ok_part in (
       sym (here ∙ ap (λ o. if is_none o then Some place else other_from vs (place + 1)) c.in_ok-word.ensures.ok_part) ∙ c.loop-place.invariant.0,
-      subst (λ n. AreRead (words_of (map view vs)) (place + 1) width (members made) (c.loop-place.is_whole && (n == c.in_ok-word.word))) (sym c.word_or_zero.ensures)
-          (one_read _ place width _ _ before c.in_ok-word.word (members made) is (omega arith) put),
+      taken _ place _ _ _ c.loop-place.invariant.1 g.R.EnumSetTypeRepr.PREFERRED_ARRAY_LEN c.in_ok-word.word _ _ g.met.R.EnumSetTypeRepr.represents.word_count is (omega arith) c.take_word.ensures.put c.take_word.ensures.whole,
     )
 
 pub returns-clause-read : goal.returns-clause-read

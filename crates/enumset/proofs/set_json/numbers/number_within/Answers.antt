@@ -3,7 +3,7 @@ use Rattle.std.proofs.lemmas.Bool.{ltb-true, lt-ltb}
 use Rattle.enumset_repr.specs.Laws.Low.{fits_number, is_subset_wider}
 use Rattle.enumset_repr.specs.Laws.Numbers.{number-within}
 use Rattle.enumset.specs.Json.{width_of}
-use Rattle.enumset.proofs.set_json.numbers.to_number.Goals as goal
+use Rattle.enumset.proofs.set_json.numbers.number_within.Goals as goal
 
 pub returns-in-None-clause-fits : goal.returns-in-None-clause-fits
 returns-in-None-clause-fits g c = (

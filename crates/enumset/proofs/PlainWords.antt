@@ -1,0 +1,71 @@
+-- What the loop of the reader of plain words keeps.
+use Rattle.std.proofs.Common.{◌≡◌, ◌<◌, ◌+◌, ◌/◌, ◌^◌, ℕ, Bool, true, ◌&&◌, if◌then◌else◌, Some, List, [], ◌∷◌, ◌++◌, length, length-append, decimal, refl, sym, ap, subst, ◌∙◌, append_assoc, append-nil, arith, slice_index}
+use Rattle.std.proofs.Math.Seq.{get_or-append_seam}
+use Rattle.std.proofs.lemmas.List.{get_or_append_left}
+use Rattle.std.specs.Prelude.{◌==◌, nat_lt}
+use Rattle.enumset_repr.specs.BitSet.{BitSet, empty, is_subset, below, low}
+use Rattle.enumset_repr.specs.Words.{word, with_word, bits_of}
+use Rattle.serde_json.specs.Data.{array, no_items}
+use Rattle.serde_json.specs.Read.{read}
+use Rattle.enumset.specs.Json.{words_value}
+use Rattle.enumset.specs.JsonPlain.{AreSpaces, Passed}
+use Rattle.enumset.proofs.JsonLists.{no_strings}
+use Rattle.enumset.proofs.JsonNumbers.{IsNumberFirst, before_comma, before_bracket, first_number, next_number, last_number}
+use Rattle.enumset.proofs.JsonWords.{AreRead, none_read, taken, same_before, all_read}
+
+module _ (text : List ℕ) (width : ℕ) where
+  -- the words before a place were read, and what is left goes on the array
+  abbrev pub GoesOn : List ℕ → ℕ → BitSet → Bool → Type 0
+  GoesOn left place s is_whole =
+      (ws : List ℕ) × (length ws ≡ place) × AreRead ws place width s is_whole
+      × ((more : List ℕ) → IsNumberFirst left → read (91 ∷ left) ≡ Some (words_value more) → read text ≡ Some (words_value (ws ++ more)))
+
+  -- the array was read
+  abbrev pub IsRead : BitSet → Bool → Type 0
+  IsRead s is_whole =
+      (ws : List ℕ) × (read text ≡ Some (words_value ws)) × (s ≡ low (bits_of ws) width) × (is_whole ≡ is_subset (bits_of ws) (below width))
+
+  pub no_words : (rest end : List ℕ) (s : BitSet) → Passed text 91 rest → Passed rest 93 end → AreSpaces end → s ≡ empty → IsRead s true
+  no_words rest end s (f, fs, is) (g, gs, here) hs none =
+      let all = all_read [] 0 width s true (subst (λ s. AreRead [] 0 width s true) (sym none) (none_read [] width)) (omega arith) in
+      ([], ap read (is ∙ ap (λ r. f ++ 91 ∷ r) here) ∙ no_strings f g end fs gs hs, all.0, all.1)
+
+  pub goes_on_from : (rest g left : List ℕ) (s : BitSet) → Passed text 91 rest → AreSpaces g → rest ≡ g ++ left → s ≡ empty → GoesOn left 0 s true
+  goes_on_from rest g left s (f, fs, is) gs here none = (
+    [],
+    refl,
+    subst (λ s. AreRead [] 0 width s true) (sym none) (none_read [] width),
+    λ more first e. ap read (is ∙ ap (λ r. f ++ 91 ∷ r) here) ∙ first_number f g left fs gs ∙ e,
+  )
+
+  module _ (left rest : List ℕ) (place n x : ℕ) (s r : BitSet) (is_whole kept : Bool) (so_far : GoesOn left place s is_whole) (count : n ≡ (width + 63) / 64) (fits : x < 2 ^ 64) (split : left ≡ decimal x ++ rest)
+      (made : r ≡ (if nat_lt place n then with_word s width place x else s)) (whole : kept ≡ (is_whole && (word r place == x))) where
+    abbrev done : List ℕ
+    done = so_far.0 ++ x ∷ []
+
+    one_more : AreRead done (place + 1) width r kept
+    one_more =
+        let same : (w : ℕ) → w < place → slice_index done w ≡ slice_index so_far.0 w = λ w under. get_or_append_left so_far.0 (x ∷ []) 0 w (omega (arith, under, so_far.1)) in
+        let here : x ≡ slice_index done place = sym (get_or-append_seam so_far.0 x [] 0) ∙ ap (λ w. slice_index done w) so_far.1 in
+        taken done place width s is_whole (same_before so_far.0 place width s is_whole so_far.2 done same) n x r kept count here fits made whole
+
+    pub goes_on : (after g next : List ℕ) → Passed rest 44 after → AreSpaces g → after ≡ g ++ next → GoesOn next (place + 1) r kept
+    goes_on after g next (f, fs, is) gs here = (
+      done,
+      omega (arith, length-append so_far.0 (x ∷ []), so_far.1),
+      one_more,
+      λ more first e.
+          let all = split ∙ ap (λ t. decimal x ++ t) (is ∙ ap (λ t. f ++ 44 ∷ t) here) in
+          so_far.3 (x ∷ more) (subst IsNumberFirst (sym all) (before_comma x f (g ++ next) fits fs)) (ap (λ l. read (91 ∷ l)) all ∙ next_number x f g next _ fits fs gs first e)
+          ∙ ap (λ ws. Some (words_value ws)) (sym (append_assoc so_far.0 (x ∷ []) more)),
+    )
+
+    pub ends : (end : List ℕ) → Passed rest 93 end → AreSpaces end → IsRead r kept
+    ends end (f, fs, is) gs =
+        let text = split ∙ ap (λ t. decimal x ++ t) is in
+        let all = all_read done (place + 1) width r kept one_more (omega (arith, length-append so_far.0 (x ∷ []), so_far.1)) in (
+          done,
+          so_far.3 (x ∷ []) (subst IsNumberFirst (sym text) (before_bracket x f end fits fs)) (ap (λ l. read (91 ∷ l)) text ∙ last_number x f end fits fs gs),
+          all.0,
+          all.1,
+        )

@@ -1,0 +1,13 @@
+use Rattle.std.proofs.Common.{Some, option_map, sym, ap, ◌∙◌}
+use Rattle.enumset_repr.specs.Words.{bits_of}
+use Rattle.enumset.specs.Json.{kept_of, mixed_set_of_words, words_value}
+use Rattle.enumset.proofs.JsonLaws.{words_back}
+use Rattle.enumset.proofs.PlainLists.{is_read}
+use Rattle.enumset.proofs.set_json.mixed_texts.mixed_from_words_text.Goals as goal
+
+pub returns-in-Some : goal.returns-in-Some
+returns-in-Some g c =
+    let reader = mixed_set_of_words g.T.Repr.EnumSetTypeRepr.WIDTH c.args.past in
+    let (ws, is, cut, whole) = c.in-Some.ensures in
+    is_read reader c.args.text.now (reader (words_value ws)) c.kept_below.result (ap (option_map reader) is)
+    (c.kept_below.ensures (bits_of ws) cut whole ∙ ap (kept_of g.T.Repr.EnumSetTypeRepr.WIDTH c.args.past) (sym (words_back ws)))

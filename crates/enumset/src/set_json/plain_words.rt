@@ -1,0 +1,79 @@
+//! JSON texts of arrays of words, written and read without a tree of values.
+
+ghost use Rattle.std.specs.Prelude.{◌≡◌, ◌++◌, ℕ, List, IfOk, IfSome, OnOk, Some, decimal, string_bytes};
+ghost use Rattle.enumset_repr.specs.BitSet.{low, is_subset, below};
+ghost use Rattle.enumset_repr.specs.Words.{words, bits_of};
+ghost use Rattle.serde_json.specs.Read.{read};
+ghost use Rattle.serde_json.specs.Written.{compact_text, comma_if};
+ghost use Rattle.enumset.specs.Json.{words_value};
+
+use super::digits::push_digits;
+use super::plain_numbers::split_number;
+use super::scan::{after_byte, are_spaces, split_spaces};
+use super::words::take_word;
+use enumset_repr::EnumSetTypeRepr;
+use std::alloc::{AllocError, Global};
+
+// The array of the words of a value that represents a set.
+pub(super) fn words_text<R: EnumSetTypeRepr>(alloc: Global, repr: &R) -> Result<String, AllocError>
+    ensures text { IfOk result (λ text. string_bytes text
+        ≡ compact_text (words_value (words (R.members repr.now) R.PREFERRED_ARRAY_LEN))) }
+    ensures reads { IfOk result (λ text. read (string_bytes text)
+        ≡ Some (words_value (words (R.members repr.now) R.PREFERRED_ARRAY_LEN))) }
+{
+    // A word has at most twenty digits.
+    let room = R::PREFERRED_ARRAY_LEN.saturating_mul(21).saturating_add(2);
+    let mut bytes = Vec::with_capacity(alloc, room)?;
+    bytes.push(b'[')?;
+    for i in 0..R::PREFERRED_ARRAY_LEN {
+        push_word(&mut bytes, repr.word(i), i > 0)?;
+    }
+    bytes.push(b']')?;
+    Ok(String::from_utf8(bytes).unwrap())
+}
+
+// One more word of an array.
+#[inline(always)]
+fn push_word(bytes: &mut Vec<u8>, word: u64, later: bool) -> Result<(), AllocError>
+    ensures { OnOk result (bytes.new.items ≡ bytes.old.items ++ (comma_if later ++ decimal word)) }
+{
+    if later {
+        bytes.push(b',')?;
+    }
+    push_digits(bytes, word)
+}
+
+// The set of the bits of an array's words below the representation's width, and whether these are all their bits. The
+// array has whole numbers below 2^64 alone, with spaces anywhere between its tokens. No other text is read.
+pub(super) fn plain_words<R: EnumSetTypeRepr>(text: &str) -> Option<(R, bool)>
+    ensures { IfSome result (λ found. (ws : List ℕ)
+        × (read text.now ≡ Some (words_value ws))
+        × (R.members found.0 ≡ low (bits_of ws) R.WIDTH)
+        × (found.1 ≡ is_subset (bits_of ws) (below R.WIDTH))) }
+{
+    let rest = after_byte(text.as_bytes(), b'[')?;
+    let mut repr = R::EMPTY;
+    let mut is_whole = true;
+    if let Some(end) = after_byte(rest, b']') {
+        return if are_spaces(end) {
+            Some((repr, is_whole))
+        } else {
+            None
+        };
+    }
+    let (_, mut left) = split_spaces(rest);
+    for place in 0..text.len() {
+        let (word, rest) = split_number(left)?;
+        take_word(&mut repr, &mut is_whole, place, word);
+        if let Some(end) = after_byte(rest, b']') {
+            return if are_spaces(end) {
+                Some((repr, is_whole))
+            } else {
+                None
+            };
+        }
+        let (_, next) = split_spaces(after_byte(rest, b',')?);
+        left = next;
+    }
+    None
+}
