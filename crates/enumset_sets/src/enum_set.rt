@@ -494,12 +494,13 @@ impl<T: EnumSetType> EnumSet<T> {
 
     /// Removes each element for which `keep` returns false. It is called once for each, ascending by bit.
     ///
-    /// If `keep` is a test of bits, whatever was called before, the elements that pass it stay. Rust's `enumset` has no
-    /// such call.
+    /// If `keep` tests the bit of the element and changes nothing that it captured, the elements that pass stay. Rust's
+    /// `enumset` has no such call.
     pub fn retain<F: FnMut(T) -> bool>(&mut self, keep: F)
         requires { F.IsAlwaysCallable keep }
         ensures calls { Retains T.elements.bit F.FnMut keep self.old self.new }
-        ensures kept { (p : ℕ → Bool) → IsTest T.elements.bit F.FnMut p → self.new ≡ set.retain self.old p }
+        ensures kept { (p : ℕ → Bool) → IsTest T.elements.bit F.FnMut keep p
+            → self.new ≡ set.retain self.old p }
     {
         self.ask_each(keep);
     }
