@@ -309,6 +309,36 @@ impl<T: EnumSetTypeWithRepr> MixedEnumSet<T> {
         self.repr.is_subset_of(&other.repr)
     }
 
+    /// Whether no bit is a member of both sets, as [`is_disjoint`](MixedEnumSet::is_disjoint), which copies its
+    /// argument.
+    ///
+    /// Rust's `enumset` has no such call.
+    pub fn is_disjoint_from(&self, other: &MixedEnumSet<T>) -> bool
+        ensures { result ≡ set.is_disjoint self.now other.now }
+    {
+        self.repr.is_disjoint_from(&other.repr)
+    }
+
+    /// Whether every member of `other` is a member of this set, as [`is_superset`](MixedEnumSet::is_superset), which
+    /// copies its argument.
+    ///
+    /// Rust's `enumset` has no such call.
+    pub fn is_superset_of(&self, other: &MixedEnumSet<T>) -> bool
+        ensures { result ≡ set.is_subset other.now self.now }
+    {
+        other.repr.is_subset_of(&self.repr)
+    }
+
+    /// Whether every member of this set is a member of `other`, as [`is_subset`](MixedEnumSet::is_subset), which copies
+    /// its argument.
+    ///
+    /// Rust's `enumset` has no such call.
+    pub fn is_subset_of(&self, other: &MixedEnumSet<T>) -> bool
+        ensures { result ≡ set.is_subset self.now other.now }
+    {
+        self.repr.is_subset_of(&other.repr)
+    }
+
     /// The members of either set.
     pub fn union(&self, other: MixedEnumSet<T>) -> MixedEnumSet<T>
         ensures { result ≡ set.union self.now other }

@@ -1,6 +1,6 @@
 //! The set of elements.
 
-ghost use Rattle.std.specs.Prelude.{◌≡◌, ◌<◌, ◌≤◌, ◌↔◌, ◌^◌, ℕ, Bool, IsTrue, IfNone, IfSome, false, if◌then◌else◌, not, length};
+ghost use Rattle.std.specs.Prelude.{◌≡◌, ◌<◌, ◌≤◌, ◌↔◌, ◌&&◌, ◌^◌, ℕ, Bool, IsTrue, IfNone, IfSome, false, if◌then◌else◌, nat_le, not, length};
 ghost use Rattle.std.specs.Iterator.{YieldsFirstBy, YieldsLastBy};
 ghost use Rattle.std.specs.Iterator.Runs.{EveryRun, ItemsMapTo};
 ghost use Rattle.std.specs.Option.{option_map};
@@ -9,6 +9,7 @@ ghost use Rattle.enumset_repr.specs.Ends.{least, greatest};
 ghost use Rattle.enumset_sets.specs.Elements.{one_past_greatest, valid_bits};
 ghost use Rattle.enumset_sets.specs.Retained.{IsTest, Retains};
 
+use crate::between::between;
 use crate::element::EnumSetType;
 use crate::enum_set_iter::EnumSetIter;
 use crate::representation::valid_repr;
@@ -191,6 +192,18 @@ impl<T: EnumSetType> EnumSet<T> {
         Self::of_repr(repr)
     }
 
+    /// The variants whose bits lie from the bit of `from` to that of `to`, both included. There is none if `to` has the
+    /// lesser bit.
+    ///
+    /// Rust's `enumset` has no such call.
+    pub fn range(from: T, to: T) -> EnumSet<T>
+        ensures { result ≡ set.retain (valid_bits T.elements)
+            (λ q. nat_le (T.elements.bit from) q && nat_le q (T.elements.bit to)) }
+    {
+        let (first, last) = (Self::bit_index(from), Self::bit_index(to));
+        Self::of_repr(between(&valid_repr::<T>(), first, last))
+    }
+
     /// One past the greatest valid bit, or 0 if there is none.
     pub fn bit_width() -> u32
         ensures { result ≡ one_past_greatest (valid_bits T.elements) }
@@ -302,6 +315,35 @@ impl<T: EnumSetType> EnumSet<T> {
     /// Whether every member of this set is a member of `other`.
     pub fn is_subset(&self, other: EnumSet<T>) -> bool
         ensures { result ≡ set.is_subset self.now other }
+    {
+        self.repr.is_subset_of(&other.repr)
+    }
+
+    /// Whether no element is a member of both sets, as [`is_disjoint`](EnumSet::is_disjoint), which copies its argument.
+    ///
+    /// Rust's `enumset` has no such call.
+    pub fn is_disjoint_from(&self, other: &EnumSet<T>) -> bool
+        ensures { result ≡ set.is_disjoint self.now other.now }
+    {
+        self.repr.is_disjoint_from(&other.repr)
+    }
+
+    /// Whether every member of `other` is a member of this set, as [`is_superset`](EnumSet::is_superset), which copies
+    /// its argument.
+    ///
+    /// Rust's `enumset` has no such call.
+    pub fn is_superset_of(&self, other: &EnumSet<T>) -> bool
+        ensures { result ≡ set.is_subset other.now self.now }
+    {
+        other.repr.is_subset_of(&self.repr)
+    }
+
+    /// Whether every member of this set is a member of `other`, as [`is_subset`](EnumSet::is_subset), which copies its
+    /// argument.
+    ///
+    /// Rust's `enumset` has no such call.
+    pub fn is_subset_of(&self, other: &EnumSet<T>) -> bool
+        ensures { result ≡ set.is_subset self.now other.now }
     {
         self.repr.is_subset_of(&other.repr)
     }
@@ -494,12 +536,13 @@ impl<T: EnumSetType> EnumSet<T> {
 
     /// Removes each element for which `keep` returns false. It is called once for each, ascending by bit.
     ///
-    /// If `keep` is a test of bits, whatever was called before, the elements that pass it stay. Rust's `enumset` has no
-    /// such call.
+    /// If `keep` tests the bit of the element and changes nothing that it captured, the elements that pass stay. Rust's
+    /// `enumset` has no such call.
     pub fn retain<F: FnMut(T) -> bool>(&mut self, keep: F)
         requires { F.IsAlwaysCallable keep }
         ensures calls { Retains T.elements.bit F.FnMut keep self.old self.new }
-        ensures kept { (p : ℕ → Bool) → IsTest T.elements.bit F.FnMut p → self.new ≡ set.retain self.old p }
+        ensures kept { (p : ℕ → Bool) → IsTest T.elements.bit F.FnMut keep p
+            → self.new ≡ set.retain self.old p }
     {
         self.ask_each(keep);
     }

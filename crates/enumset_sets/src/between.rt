@@ -1,0 +1,34 @@
+//! The members from one bit to another.
+
+ghost use Rattle.std.specs.Prelude.{◌≡◌, ◌<◌, ◌&&◌, nat_le};
+ghost use Rattle.enumset_repr.specs.BitSet as set;
+ghost use Rattle.enumset_repr.specs.Number.{bits};
+
+use enumset_repr::EnumSetTypeRepr;
+
+/// The members from the bit `first` to the bit `last`, both included. The last must be below the width.
+///
+/// The words are cut at both ends, so no member is asked for.
+pub(crate) fn between<R: EnumSetTypeRepr>(repr: &R, first: u32, last: u32) -> R
+    requires { last < R.WIDTH }
+    ensures { R.members result
+        ≡ set.retain (R.members repr.now) (λ q. nat_le first q && nat_le q last) }
+{
+    // That each member is below the width, which is a `u32`, is a law of values.
+    repr.learn_is_value();
+    let _width = R::WIDTH;
+    let mut between = R::EMPTY;
+    for i in first / 64..last / 64 + 1 {
+        let before = ones_from(first.saturating_sub(64 * i));
+        let past = ones_from((last + 1).saturating_sub(64 * i));
+        between.put_word(i as usize, repr.word(i as usize) & before & !past);
+    }
+    between
+}
+
+/// The 64 bits without those below `k`.
+fn ones_from(k: u32) -> u64
+    ensures { bits result ≡ set.difference (set.below 64) (set.below k) }
+{
+    if k < 64 { u64::MAX << k } else { 0 }
+}
