@@ -40,6 +40,45 @@ fn sets_of_marks(rt: HostRuntime) {
 }
 
 #[test]
+fn marks_in_place(rt: HostRuntime) {
+    let other = MixedEnumSet::<Marks>::from_repr(6);
+    let set = MixedEnumSet::<Marks>::from_repr(11);
+    let (mut united, mut shared, mut left) = (set, set, set);
+    for has_changed in [true, false] {
+        let told = [
+            united.union_with(&other),
+            shared.intersect_with(&other),
+            left.difference_with(&other),
+        ];
+        expect(&rt, "what the calls say", told, [has_changed; 3]);
+        let made = [united.as_repr(), shared.as_repr(), left.as_repr()];
+        expect(&rt, "what the calls make", made, [15, 2, 9]);
+    }
+    let ends = [left.first(), left.last(), MixedEnumSet::new().last()];
+    let wanted = [
+        Some(MixedValue::Valid(Marks::A)),
+        Some(MixedValue::Invalid(3)),
+        None,
+    ];
+    expect(&rt, "first and last", ends, wanted);
+}
+
+#[test]
+fn marks_by_reference(rt: HostRuntime) {
+    let (few, many) = (
+        MixedEnumSet::<Marks>::from_repr(1),
+        MixedEnumSet::from_repr(9),
+    );
+    let other = MixedEnumSet::from_repr(6);
+    let subset = [few.is_subset_of(&many), many.is_subset_of(&few)];
+    expect(&rt, "is_subset_of", subset, [true, false]);
+    let superset = [few.is_superset_of(&many), many.is_superset_of(&few)];
+    expect(&rt, "is_superset_of", superset, [false, true]);
+    let disjoint = [many.is_disjoint_from(&few), many.is_disjoint_from(&other)];
+    expect(&rt, "is_disjoint_from", disjoint, [false, true]);
+}
+
+#[test]
 fn texts_of_marks(rt: HostRuntime) -> Result<(), Fail> {
     let (none, set) = (
         MixedEnumSet::<Marks>::new(),

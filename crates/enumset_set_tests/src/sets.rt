@@ -2,7 +2,7 @@
 
 use crate::expect::expect;
 use enumset_sets::{EnumSet, EnumSetType, laws, raw};
-use enumset_worked::Letters;
+use enumset_worked::{Letters, Wide};
 
 pub fn two_of<T: EnumSetType>(a: T, b: T) -> EnumSet<T> {
     EnumSet::only(a).union(EnumSet::only(b))
@@ -34,4 +34,82 @@ fn sets_of_letters(rt: HostRuntime) {
         EnumSet::<Letters>::variant_count(),
     ];
     expect(&rt, "bit_index and its like", numbers, [2, 7, 7]);
+}
+
+// {A, C, F}.
+fn some_letters() -> EnumSet<Letters> {
+    two_of(Letters::A, Letters::C).union(EnumSet::only(Letters::F))
+}
+
+#[test]
+fn letters_in_place(rt: HostRuntime) {
+    let other = two_of(Letters::C, Letters::D);
+    let (mut united, mut shared, mut left) = (some_letters(), some_letters(), some_letters());
+    for has_changed in [true, false] {
+        let told = [
+            united.union_with(&other),
+            shared.intersect_with(&other),
+            left.difference_with(&other),
+        ];
+        expect(&rt, "what the calls say", told, [has_changed; 3]);
+        let made = [united.as_u8(), shared.as_u8(), left.as_u8()];
+        expect(&rt, "what the calls make", made, [45, 4, 33]);
+    }
+    let mut set = some_letters();
+    let told = [set.toggle(Letters::B), set.toggle(Letters::C)];
+    expect(&rt, "toggle", told, [true, false]);
+    set.set(Letters::D, true);
+    set.set(Letters::F, false);
+    expect(&rt, "toggle and set", set.as_u8(), 11);
+    set.retain(|letter| letter != Letters::B);
+    expect(&rt, "retain", set.as_u8(), 9);
+    set.retain(|letter| other.contains(letter));
+    expect(&rt, "retain, by another set", set.as_u8(), 8);
+}
+
+#[test]
+fn letters_by_reference(rt: HostRuntime) {
+    let (few, many) = (two_of(Letters::A, Letters::C), some_letters());
+    let other = two_of(Letters::B, Letters::D);
+    let subset = [few.is_subset_of(&many), many.is_subset_of(&few)];
+    expect(&rt, "is_subset_of", subset, [true, false]);
+    let superset = [few.is_superset_of(&many), many.is_superset_of(&few)];
+    expect(&rt, "is_superset_of", superset, [false, true]);
+    let disjoint = [many.is_disjoint_from(&few), many.is_disjoint_from(&other)];
+    expect(&rt, "is_disjoint_from", disjoint, [false, true]);
+}
+
+#[test]
+fn ranges(rt: HostRuntime) {
+    let letters = [
+        EnumSet::range(Letters::B, Letters::D),
+        EnumSet::range(Letters::C, Letters::C),
+        EnumSet::range(Letters::D, Letters::B),
+        EnumSet::range(Letters::A, Letters::G),
+    ];
+    let numbers = letters.map(|set| set.as_u8());
+    expect(&rt, "of letters", numbers, [14, 4, 0, 127]);
+    let wide = [
+        EnumSet::range(Wide::P, Wide::Q),
+        EnumSet::range(Wide::Q, Wide::R),
+        EnumSet::range(Wide::R, Wide::P),
+    ];
+    let words = wide.map(|set| set.as_array_truncated());
+    let wanted = [[8, 1, 0], [0, 1, 4], [0; 3]];
+    expect(&rt, "over words", words, wanted);
+}
+
+#[test]
+fn ends_of_letters(rt: HostRuntime) {
+    let mut set = some_letters();
+    let found = [set.first(), set.last()];
+    let wanted = [Some(Letters::A), Some(Letters::F)];
+    expect(&rt, "first and last", found, wanted);
+    let found = [1, 2, 3, 6, u32::MAX].map(|bit| set.first_from(bit));
+    let (c, f) = (Some(Letters::C), Some(Letters::F));
+    expect(&rt, "first_from", found, [c, c, f, None, None]);
+    let popped = [set.pop_first(), set.pop_last(), set.pop_first()];
+    expect(&rt, "pops", popped, [Some(Letters::A), f, c]);
+    let popped = [set.pop_first(), set.pop_last(), set.first(), set.last()];
+    expect(&rt, "of none", popped, [None; 4]);
 }

@@ -5,25 +5,34 @@ use Rattle.std.specs.List.{FoldsTo}
 use Rattle.std.proofs.lemmas.Bool.Decides.{nat_tests}
 use Rattle.enumset_repr.specs.BitSet.{BitSet, is_in, contains, remove, retain}
 use Rattle.enumset_repr.specs.Laws.Members.{same_set, contains-remove, contains-retain, contains-ascending}
-use Rattle.enumset_sets.specs.Retained.{Keeps, Retains, IsTest}
+use Rattle.enumset_sets.specs.Retained.{Keeps, Retains, IsConstantTest, IsTest}
 
 one_kept : (s t : BitSet) (b : Bool) (m q : ℕ) → t ≡ cond b s (remove s m) → contains t q ≡ (contains s q && (not (q == m) || b))
 one_kept s t true m q is = ap (λ u. contains u q) is ∙ grind (arith, nat_tests)
 one_kept s t false m q is = ap (λ u. contains u q) is ∙ contains-remove s m q ∙ grind (arith, nat_tests)
 
-module _ {T F : Type 0} (bit : T → ℕ) (g : Mut F (T × Unit {0}) Bool) (f : F) (p : ℕ → Bool) (test : IsTest bit g f p) where
-  each_kept : (xs : List T) (u v : F × BitSet) (q : ℕ) → u.0 ≡ f → FoldsTo (Keeps bit g) u xs v → contains v.1 q ≡ (contains u.1 q && (not (is_in q (map bit xs)) || p q))
+-- `Usual` holds of the closure at each call
+module _ {T F : Type 0} (bit : T → ℕ) (g : Mut F (T × Unit {0}) Bool) (p : ℕ → Bool) (Usual : F → Type 0)
+    (test : (t : T) (f : F) (b : Bool) (f' : F) → Usual f → Called g f (t, tt) b f' → (b ≡ p (bit t)) × Usual f') where
+  each_kept : (xs : List T) (u v : F × BitSet) (q : ℕ) → Usual u.0 → FoldsTo (Keeps bit g) u xs v → contains v.1 q ≡ (contains u.1 q && (not (is_in q (map bit xs)) || p q))
   each_kept [] u v q begun same = ap (λ w. contains w.1 q) (sym same) ∙ grind (arith, nat_tests)
   each_kept (x ∷ xs) u v q begun calls =
       let one = calls.1 in
       let here = one_kept u.1 calls.0.1 one.0 (bit x) q one.2 in
-      let passes = test x one.0 calls.0.0 (subst (λ h. Called g h (x, tt) one.0 calls.0.0) begun one.1) in
+      let passes = test x u.0 one.0 calls.0.0 begun one.1 in
       let later = each_kept xs calls.0 v q passes.1 calls.2 in
       let same = λ (e : q ≡ bit x). ap p e in
       grind (arith, nat_tests, passes.0)
 
-  pub kept : (s t : BitSet) → Retains bit g f s t → t ≡ retain s p
-  kept s t calls = same_set t (retain s p) (λ q.
-      let each = each_kept calls.0 (f, s) (calls.1, t) q refl calls.3 in
+  pub kept : (f : F) (s t : BitSet) → Usual f → Retains bit g f s t → t ≡ retain s p
+  kept f s t begun calls = same_set t (retain s p) (λ q.
+      let each = each_kept calls.0 (f, s) (calls.1, t) q begun calls.3 in
       let listed = contains-ascending s q ∙ ap (is_in q) (sym calls.2) in
       grind (arith, nat_tests, contains-retain s p q))
+
+module _ {T F : Type 0} (bit : T → ℕ) (g : Mut F (T × Unit {0}) Bool) (f : F) (p : ℕ → Bool) (s t : BitSet) (calls : Retains bit g f s t) where
+  pub kept_unchanged : IsConstantTest bit g f p → t ≡ retain s p
+  kept_unchanged test = kept bit g p (λ h. h ≡ f) (λ x h b h' same call. let one = test x b h' (subst (λ k. Called g k (x, tt) b h') same call) in one) f s t refl calls
+
+  pub kept_by_test : IsTest bit g p → t ≡ retain s p
+  kept_by_test test = kept bit g p (λ _. Unit {0}) (λ x h b h' same call. (test x h b h' call, tt)) f s t tt calls

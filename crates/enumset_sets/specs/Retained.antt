@@ -1,7 +1,8 @@
 -- What `retain` leaves of a set, by the calls of its closure.
 --     Keeps      one call: the element stays exactly if the call returned true
 --     Retains      the calls for the elements of a set, ascending by bit, left this set
---     IsTest      each call of the closure returns what a test says of the element's bit, and leaves what it captured
+--     IsTest      each call, whatever the closure has captured, returns what a test says of the element's bit
+--     IsConstantTest      each call of this one closure returns that, and leaves what it captured
 use Rattle.std.specs.Prelude.{◌≡◌, ℕ, Bool, cond, List, map}
 use Rattle.std.specs.Fn.{Mut, Called}
 use Rattle.std.specs.List.{FoldsTo}
@@ -13,5 +14,8 @@ Keeps bit g p x q = (b : Bool) × Called g p.0 (x, tt) b q.0 × (q.1 ≡ cond b 
 abbrev pub Retains : {T F : Type 0} → (T → ℕ) → Mut F (T × Unit {0}) Bool → F → BitSet → BitSet → Type 0
 Retains {T} {F} bit g f s t = (xs : List T) × (last : F) × (map bit xs ≡ ascending s) × FoldsTo (Keeps bit g) (f, s) xs (last, t)
 
-abbrev pub IsTest : {T F : Type 0} → (T → ℕ) → Mut F (T × Unit {0}) Bool → F → (ℕ → Bool) → Type 0
-IsTest {T} {F} bit g f p = (t : T) (b : Bool) (f' : F) → Called g f (t, tt) b f' → (b ≡ p (bit t)) × (f' ≡ f)
+abbrev pub IsTest : {T F : Type 0} → (T → ℕ) → Mut F (T × Unit {0}) Bool → (ℕ → Bool) → Type 0
+IsTest {T} {F} bit g p = (t : T) (f : F) (b : Bool) (f' : F) → Called g f (t, tt) b f' → b ≡ p (bit t)
+
+abbrev pub IsConstantTest : {T F : Type 0} → (T → ℕ) → Mut F (T × Unit {0}) Bool → F → (ℕ → Bool) → Type 0
+IsConstantTest {T} {F} bit g f p = (t : T) (b : Bool) (f' : F) → Called g f (t, tt) b f' → (b ≡ p (bit t)) × (f' ≡ f)

@@ -7,7 +7,7 @@ ghost use Rattle.std.specs.Option.{option_map};
 ghost use Rattle.enumset_repr.specs.BitSet as set;
 ghost use Rattle.enumset_repr.specs.Ends.{least, greatest};
 ghost use Rattle.enumset_sets.specs.Elements.{one_past_greatest, valid_bits};
-ghost use Rattle.enumset_sets.specs.Retained.{IsTest, Retains};
+ghost use Rattle.enumset_sets.specs.Retained.{IsConstantTest, IsTest, Retains};
 
 use crate::between::between;
 use crate::element::EnumSetType;
@@ -536,12 +536,13 @@ impl<T: EnumSetType> EnumSet<T> {
 
     /// Removes each element for which `keep` returns false. It is called once for each, ascending by bit.
     ///
-    /// If `keep` tests the bit of the element and changes nothing that it captured, the elements that pass stay. Rust's
-    /// `enumset` has no such call.
+    /// If `keep` tests the bit of the element, the elements that pass stay. The test may read what `keep` captured, if no
+    /// call changes it. Rust's `enumset` has no such call.
     pub fn retain<F: FnMut(T) -> bool>(&mut self, keep: F)
         requires { F.IsAlwaysCallable keep }
         ensures calls { Retains T.elements.bit F.FnMut keep self.old self.new }
-        ensures kept { (p : ℕ → Bool) → IsTest T.elements.bit F.FnMut keep p
+        ensures kept { (p : ℕ → Bool) → IsTest T.elements.bit F.FnMut p → self.new ≡ set.retain self.old p }
+        ensures kept_unchanged { (p : ℕ → Bool) → IsConstantTest T.elements.bit F.FnMut keep p
             → self.new ≡ set.retain self.old p }
     {
         self.ask_each(keep);

@@ -1,6 +1,6 @@
 //! Loops over sets.
 
-ghost use Rattle.std.specs.Prelude.{◌≡◌, not, count_by, true};
+ghost use Rattle.std.specs.Prelude.{◌≡◌, not, count_by, false, true};
 ghost use Rattle.std.specs.List.{find};
 ghost use Rattle.std.specs.Option.{option_map};
 ghost use Rattle.enumset_repr.specs.BitSet as set;
@@ -60,4 +60,36 @@ pub fn is_unhindered<T: EnumSetType>(granted: &EnumSet<T>, denied: &EnumSet<T>) 
         }
     }
     true
+}
+
+/// The granted rights that are not denied, taken out one after another.
+#[tactic(auto, using(enumset_repr::specs::Laws::Loops::loops))]
+pub fn allowed_in_turn<T: EnumSetType>(granted: EnumSet<T>, denied: &EnumSet<T>) -> EnumSet<T>
+    ensures { result ≡ set.difference granted denied.now }
+{
+    let mut pending = granted;
+    let mut allowed = EnumSet::new();
+    while let Some(right) = pending.pop_first() {
+        if !denied.contains(right) {
+            allowed.insert(right);
+        }
+    }
+    allowed
+}
+
+/// The granted rights that are not denied, kept by a test that looks at another set.
+#[tactic(auto, unfolding(enumset_repr::specs::BitSet::difference))]
+pub fn keep_allowed<T: EnumSetType>(granted: &mut EnumSet<T>, denied: &EnumSet<T>)
+    ensures { granted.new ≡ set.difference granted.old denied.now }
+{
+    granted.retain(|right| !denied.contains(right));
+}
+
+/// Grants more rights, and returns whether one of them is new. If none is, nothing changes.
+#[tactic(auto, using(enumset_repr::specs::Laws::Algebra::algebra))]
+pub fn gain<T: EnumSetType>(granted: &mut EnumSet<T>, more: &EnumSet<T>) -> bool
+    ensures settled { result ≡ false → set.is_subset more.now granted.old ≡ true }
+    ensures same { result ≡ false → granted.new ≡ granted.old }
+{
+    granted.union_with(more)
 }

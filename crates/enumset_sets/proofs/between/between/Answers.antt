@@ -1,4 +1,4 @@
-use Rattle.std.proofs.Common.{◌≡◌, ◌<◌, ◌≤◌, ℕ, ◌+◌, ◌-◌, ◌*◌, ◌/◌, ◌^◌, ◌&&◌, true, sym, ap, ◌∙◌, arith}
+use Rattle.std.proofs.Common.{◌≡◌, ◌<◌, ◌≤◌, ℕ, ◌+◌, ◌-◌, ◌*◌, ◌/◌, ◌^◌, ◌&&◌, true, ap, ◌∙◌, arith}
 use Rattle.std.specs.Prelude.{nat_le, nat_lt}
 use Rattle.std.specs.Int.{bit_not, w64}
 use Rattle.std.specs.Int.RustNames.{bit_and}
@@ -7,8 +7,8 @@ use Rattle.std.proofs.lemmas.Nat.{and_le_l}
 use Rattle.enumset_repr.specs.BitSet.{BitSet, contains, empty, retain, difference, is_subset, below}
 use Rattle.enumset_repr.specs.Number.{bits}
 use Rattle.enumset_repr.specs.Words.{word, with_word}
-use Rattle.enumset_repr.specs.Laws.Members.{members, same_set, member_below, contains-retain}
-use Rattle.enumset_repr.specs.Laws.Numbers.{bits-and, bits-and_not, bits-within}
+use Rattle.enumset_repr.specs.Laws.Members.{members, same_set, member_below}
+use Rattle.enumset_repr.specs.Laws.Numbers.{bits-and, bits-and_not}
 use Rattle.enumset_repr.specs.Laws.Words.{contains-bits-word, contains-with_word}
 use Rattle.enumset_sets.proofs.between.between.Goals as goal
 

@@ -1,4 +1,4 @@
-use Rattle.std.proofs.Common.{◌≡◌, ℕ, Bool, true, ap, ◌∙◌, arith}
+use Rattle.std.proofs.Common.{◌≡◌, ℕ, Bool, true, ap, arith}
 use Rattle.enumset_repr.specs.BitSet.{BitSet, contains, retain, is_subset}
 use Rattle.enumset_repr.specs.Laws.Members.{contains-is_subset, members}
 use Rattle.enumset_sets.proofs.enum_set.EnumSet+T.range.Goals as goal

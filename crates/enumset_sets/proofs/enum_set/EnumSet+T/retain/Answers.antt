@@ -1,5 +1,8 @@
-use Rattle.enumset_sets.proofs.Retained.{kept}
+use Rattle.enumset_sets.proofs.Retained.{kept_by_test, kept_unchanged}
 use Rattle.enumset_sets.proofs.enum_set.EnumSet+T.retain.Goals as goal
 
 pub returns-clause-kept : goal.returns-clause-kept
-returns-clause-kept g c p test = kept _ _ _ p test _ _ c.ask_each.ensures
+returns-clause-kept g c p test = kept_by_test _ _ _ p _ _ c.ask_each.ensures test
+
+pub returns-clause-kept_unchanged : goal.returns-clause-kept_unchanged
+returns-clause-kept_unchanged g c p test = kept_unchanged _ _ _ p _ _ c.ask_each.ensures test

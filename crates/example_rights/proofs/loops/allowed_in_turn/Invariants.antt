@@ -1,0 +1,10 @@
+use Rattle.std.proofs.Common.{◌≡◌}
+use Rattle.enumset_repr.specs.BitSet.{len, union, difference}
+use Rattle.example_rights.proofs.loops.allowed_in_turn.Given as goal
+
+-- what is allowed so far, with what is allowed of those to come
+abbrev pub invariant-loop-right : goal.invariant-loop-right
+invariant-loop-right g l = union l.allowed (difference l.pending l.denied) ≡ difference l.fn.granted l.denied
+
+abbrev pub decreases-loop-right : goal.decreases-loop-right
+decreases-loop-right g l = len l.pending
