@@ -19,7 +19,7 @@ use Rattle.std.proofs.lemmas.Bool.Decides.{nat_tests, same_from_decides}
 use Rattle.std.proofs.lemmas.List.Filters.{length-filter_both}
 use Rattle.std.proofs.lemmas.List.Sums.{length-filter}
 use Rattle.enumset_repr.specs.BitSet.{BitSet, is_in, contains, ascending, len, is_empty, empty, insert, remove, union, intersection, difference, is_subset, is_disjoint}
-use Rattle.enumset_repr.specs.Laws.Members.{members, same_set, contains-empty, contains-ascending, contains-intersection, contains-difference, is_subset_iff, is_disjoint_iff}
+use Rattle.enumset_repr.specs.Laws.Members.{contains-empty, contains-ascending, contains-intersection, contains-difference, is_subset_iff, is_disjoint_iff}
 use Rattle.enumset_repr.specs.Laws.Algebra.{intersection_comm, intersection_assoc, intersection_union, intersection_within, union_comm, union_difference}
 use Rattle.enumset_repr.specs.Laws.Ascending.{AscendsFrom, ascends_lower, ascending-ascends, ascending_is, len-ascending, len-below, len-empty, len-insert, len-remove, empty_of_len, is_empty_iff}
 

@@ -3,7 +3,7 @@
 --     least_tells, greatest_tells      `least` is a member, and none is less;  `greatest` the same the other way;  if
 --         there is none, the set is empty
 -- The first part of each is always true: it shows the search where to take the law. The ruleset `found` has them.
-use Rattle.std.proofs.Common.{◌≡◌, ◌<◌, ◌≤◌, ℕ, suc, Bool, true, false, cond, List, [], ◌∷◌, Option, Some, None, refl, sym, ap, subst, ◌∙◌, arith}
+use Rattle.std.proofs.Common.{◌≡◌, ◌≤◌, ℕ, suc, Bool, true, false, cond, List, [], ◌∷◌, Option, Some, None, refl, sym, subst, arith}
 use Rattle.std.specs.Prelude.{◌==◌, MatchOption}
 use Rattle.std.specs.List.{find}
 use Rattle.std.proofs.lemmas.Bool.{or_left, or_right, eq-eqb}
