@@ -32,7 +32,7 @@ impl<T: EnumSetType> IntoIterator for EnumSet<T> {
     ghost into_iter_gives = { λ s i. IsFresh (set.ascending s) T.Repr.PREFERRED_ARRAY_LEN i
         × IsTrue (set.is_subset s (valid_bits T.elements)) × (length i.items < 2 ^ 32)
         × EveryRun ⟦<EnumSetIter<T> as Iterator>⟧.next_gives
-            (λ run. ItemsMapTo run T.elements.bit run.from.items) };
+        (λ run. ItemsMapTo run T.elements.bit run.from.items) };
 
     fn into_iter(self) -> EnumSetIter<T> {
         self.iter()
