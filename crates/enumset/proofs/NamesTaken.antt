@@ -15,7 +15,7 @@ use Rattle.std.proofs.lemmas.Slice.Eq.{bytes_eq-Decides}
 use Rattle.enumset_repr.specs.BitSet.{BitSet, is_in, contains, insert, intersection, from_list, ascending, is_subset}
 use Rattle.enumset_repr.specs.Laws.Members.{same_set, contains-from_list, contains-ascending, contains-is_subset, is_subset-contains, list_all-any, list_all-each}
 use Rattle.enumset_repr.specs.Laws.Algebra.{from_list_ascending, insert_inside, empty_intersection, intersection_within}
-use Rattle.enumset.specs.Laws.Sets.{intersection_insert}
+use Rattle.enumset_repr.specs.Laws.Sets.{intersection_insert}
 use Rattle.enumset_sets.specs.Laws.Elements.{AreBitsOf-ascending}
 use Rattle.serde_json.specs.Data.{Data, boolean, string, Members, no_members, member, put}
 use Rattle.enumset.specs.Names.{Names, name_of, bit_named, names_agree}

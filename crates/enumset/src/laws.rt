@@ -3,9 +3,10 @@
 //!
 //! Here stand the laws of round trips through JSON: the value that was written of a set is read as that set. The clause
 //! `reads` of each writer of texts says that its text is read as this value, so what the laws say of values holds of
-//! texts too. Those of numbers and words without JSON come from `enumset_sets`, and all others from the modules below:
-//! what a reader of another element type reads, elements, absorption, complements, mixed sets, folds, iterators from both
-//! ends, and asks. The laws of sets alone are in rulesets. Rust's `enumset` has no laws.
+//! texts too. Those of numbers and words without JSON come from `enumset_sets`, that of the order from `enumset_repr`, and
+//! all others from the modules below: what a reader of another element type reads, elements, absorption, complements,
+//! mixed sets, folds, iterators from both ends, and asks. The laws of sets alone are in rulesets. Rust's `enumset` has no
+//! laws.
 
 ghost use Rattle.std.specs.Prelude.{◌≡◌, Ok, Some, IsTrue};
 ghost use Rattle.enumset_repr.specs.BitSet.{below, is_subset};
@@ -36,6 +37,7 @@ pub use ends::both_ends;
 pub use enumset_array::End;
 use enumset_mixed::MixedEnumSet;
 use enumset_repr::EnumSetTypeRepr;
+pub use enumset_repr::laws::order;
 pub use enumset_sets::laws::{
     all_words_and_back, cut_number_and_back, cut_words_and_back, number_and_back, words_and_back,
 };

@@ -1,6 +1,6 @@
 //! Mixed sets from elements and from sets, and the members of a mixed set, by the traits of std.
 
-ghost use Rattle.std.specs.Prelude.{◌≡◌, ⊤, List, map, IsOk, IfOk};
+ghost use Rattle.std.specs.Prelude.{◌≡◌, ⊤, List, map, IsOk, IfOk, IsTrue};
 ghost use Rattle.std.specs.Iterator.{ExtendsWithItems, DrainsIf, IsFiniteIterable};
 ghost use Rattle.enumset_repr.specs.Asks.{IsFresh};
 ghost use Rattle.enumset_repr.specs.BitSet as set;
@@ -47,7 +47,8 @@ impl<T: EnumSetTypeWithRepr> IntoIterator for MixedEnumSet<T> {
 
     type IntoIter = MixedEnumSetIter<T>;
 
-    ghost into_iter_gives = { λ s i. IsFresh (set.ascending s) T.Repr.PREFERRED_ARRAY_LEN i };
+    ghost into_iter_gives = { λ s i. IsFresh (set.ascending s) T.Repr.PREFERRED_ARRAY_LEN i
+        × IsTrue (set.is_subset s (set.below T.Repr.WIDTH)) };
 
     fn into_iter(self) -> MixedEnumSetIter<T> {
         self.iter()

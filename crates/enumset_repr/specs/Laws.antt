@@ -2,6 +2,7 @@
 -- are in specs/ so that representations, and the crates above, can cite them.
 --     Members      what `contains` returns for each set, subsets, and that sets with the same members are equal
 --     Algebra      the algebra of sets, for users' proofs: order, grouping, De Morgan, inserting and removing
+--     Sets      one set inside and outside another: parts, complements, subsets by equations
 --     Ascending      the list of the members, and `len`
 --     Equality      `is_same` is an equivalence
 --     Numbers      sets and numbers, at every width
@@ -19,9 +20,12 @@
 --     Firsts      the first and the last member, and the list of a set that is written out
 --     Ordering      the greater and the lesser of two sets
 --     Places      where members stand in their order: chains over a set's iterator
+--     Found      what is found in a set: the least member that passes, the least, the greatest
+--     Masks      numbers with bits masked out
 --     Loops      the steps of a loop over a set's iterator
 pub mod Members
 pub mod Algebra
+pub mod Sets
 pub mod Ascending
 pub mod Equality
 pub mod Numbers
@@ -39,4 +43,6 @@ pub mod Counting
 pub mod Firsts
 pub mod Ordering
 pub mod Places
+pub mod Found
+pub mod Masks
 pub mod Loops

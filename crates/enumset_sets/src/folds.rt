@@ -1,9 +1,11 @@
 //! Sets from elements and from sets, and the elements of a set, by the traits of std.
 
-ghost use Rattle.std.specs.Prelude.{◌≡◌, ⊤, List, map, IsOk, IfOk};
+ghost use Rattle.std.specs.Prelude.{◌≡◌, ◌<◌, ◌^◌, ⊤, List, map, length, IsOk, IfOk, IsTrue};
 ghost use Rattle.std.specs.Iterator.{ExtendsWithItems, DrainsIf, IsFiniteIterable};
+ghost use Rattle.std.specs.Iterator.Runs.{EveryRun, ItemsMapTo};
 ghost use Rattle.enumset_repr.specs.Asks.{IsFresh};
 ghost use Rattle.enumset_repr.specs.BitSet as set;
+ghost use Rattle.enumset_sets.specs.Elements.{valid_bits};
 ghost use Rattle.enumset_sets.specs.Folds.{union_all};
 
 use crate::element::EnumSetType;
@@ -27,7 +29,10 @@ impl<T: EnumSetType> IntoIterator for EnumSet<T> {
 
     type IntoIter = EnumSetIter<T>;
 
-    ghost into_iter_gives = { λ s i. IsFresh (set.ascending s) T.Repr.PREFERRED_ARRAY_LEN i };
+    ghost into_iter_gives = { λ s i. IsFresh (set.ascending s) T.Repr.PREFERRED_ARRAY_LEN i
+        × IsTrue (set.is_subset s (valid_bits T.elements)) × (length i.items < 2 ^ 32)
+        × EveryRun ⟦<EnumSetIter<T> as Iterator>⟧.next_gives
+        (λ run. ItemsMapTo run T.elements.bit run.from.items) };
 
     fn into_iter(self) -> EnumSetIter<T> {
         self.iter()

@@ -1,30 +1,20 @@
 -- Laws of numbers and of listed bits.
 --     bits_tell      two numbers with the same bits are one
---     number-max, number-min      the number of the greater set, and of the lesser
 --     bits_in_order      the numbers of the list 0, 1, 2 and so on are those below n
 -- Two rulesets, for `#[tactic(auto, using(enumset::specs::Laws::Bits::numbers))]`: `numbers` has a set and its number,
 -- there and back, `listed` the set of a number, of words or of a list, by a list of its bits.
-use Rattle.std.proofs.Common.{◌≡◌, ℕ, suc, zero, ◌+◌, ◌&&◌, ◌||◌, min, max, sym, ap, ◌∙◌, arith}
+use Rattle.std.proofs.Common.{◌≡◌, ℕ, suc, zero, ◌+◌, ◌&&◌, ◌||◌, sym, ap, ◌∙◌, arith}
 use Rattle.std.specs.Prelude.{◌==◌, nat_le, nat_lt}
 use Rattle.std.specs.List.{range_with_len}
-use Rattle.std.specs.Ordering.{ord_max, ord_min}
 use Rattle.std.proofs.lemmas.Bool.Decides.{nat_tests}
 use Rattle.enumset_repr.specs.BitSet.{BitSet, is_in, from_list, below}
 use Rattle.enumset_repr.specs.Number.{bits, number}
-use Rattle.enumset_repr.specs.Order.{compare}
 use Rattle.enumset_repr.specs.Laws.Members.{same_set, contains-below, contains-from_list, contains-ascending}
 use Rattle.enumset_repr.specs.Laws.Numbers.{bits-number, number-bits, bits-within, number-within}
-use Rattle.enumset_repr.specs.Laws.Order.{compare-number}
 use Rattle.enumset_repr.specs.Laws.Listed.{bits_listed, words_listed}
 
 pub bits_tell : (m n : ℕ) → bits m ≡ bits n → m ≡ n
 bits_tell m n same = sym (number-bits m) ∙ ap number same ∙ number-bits n
-
-pub number-max : (s t : BitSet) → number (ord_max compare s t) ≡ max (number s) (number t)
-number-max s t = let order = compare-number t s in let back = compare-number s t in grind (arith, nat_tests)
-
-pub number-min : (s t : BitSet) → number (ord_min compare s t) ≡ min (number s) (number t)
-number-min s t = let order = compare-number t s in let back = compare-number s t in grind (arith, nat_tests)
 
 in_range : (q a n : ℕ) → is_in q (range_with_len a n) ≡ (nat_le a q && nat_lt q (a + n))
 in_range q a zero = grind (arith, nat_tests)

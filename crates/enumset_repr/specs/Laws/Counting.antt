@@ -1,22 +1,27 @@
 -- How many members sets have.
 --     ascending-intersection, ascending-difference      the members of s that are in t, and that are not, ascending
+--     is_empty_difference, is_empty_intersection      tests of subsets and of disjoint sets
 --     len-parts      the members of s outside t and those inside t are all of s
+--     len_union_more, len_union_same      a union has the members of the one set, and those of the other outside it;
+--         it has as many as the one exactly if the other is a subset
 --     len-union      a union and an intersection have together as many members as the two sets
 --     len-intersection, len-difference, len-subset      a part has no more members
 --     len-inserted, len-removed      one more, and one less
 --     len_zero_iff      a set has no member exactly if it is the empty set
 --     kept_count, left_count      the numbers of the list of s that are in t, and that are not, kept in a list
 --     len-kept, len-left      the same, counted
+--     len_kept_both      the members of s that are in two other sets, counted
 --     length-ascending      the list of the members is as long as the set
 -- The ruleset `counting` has those that a tactic can apply by itself.
 use Rattle.std.proofs.Common.{◌≡◌, ◌≤◌, ◌+◌, ◌-◌, ℕ, suc, zero, Bool, true, false, cond, not, ◌&&◌, List, [], ◌∷◌, length, filter, count_by, refl, sym, ap, ◌∙◌, arith, ◌↔◌}
-use Rattle.std.proofs.lemmas.Bool.Decides.{nat_tests}
+use Rattle.std.specs.Prelude.{◌==◌}
+use Rattle.std.proofs.lemmas.Bool.Decides.{nat_tests, same_from_decides}
 use Rattle.std.proofs.lemmas.List.Filters.{length-filter_both}
 use Rattle.std.proofs.lemmas.List.Sums.{length-filter}
-use Rattle.enumset_repr.specs.BitSet.{BitSet, is_in, contains, ascending, len, empty, insert, remove, union, intersection, difference, is_subset}
-use Rattle.enumset_repr.specs.Laws.Members.{contains-empty, contains-ascending, contains-intersection, contains-difference}
-use Rattle.enumset_repr.specs.Laws.Algebra.{intersection_comm, intersection_union, intersection_within, union_comm, union_difference}
-use Rattle.enumset_repr.specs.Laws.Ascending.{AscendsFrom, ascends_lower, ascending-ascends, ascending_is, len-ascending, len-below, len-empty, len-insert, len-remove, empty_of_len}
+use Rattle.enumset_repr.specs.BitSet.{BitSet, is_in, contains, ascending, len, is_empty, empty, insert, remove, union, intersection, difference, is_subset, is_disjoint}
+use Rattle.enumset_repr.specs.Laws.Members.{contains-empty, contains-ascending, contains-intersection, contains-difference, is_subset_iff, is_disjoint_iff}
+use Rattle.enumset_repr.specs.Laws.Algebra.{intersection_comm, intersection_assoc, intersection_union, intersection_within, union_comm, union_difference}
+use Rattle.enumset_repr.specs.Laws.Ascending.{AscendsFrom, ascends_lower, ascending-ascends, ascending_is, len-ascending, len-below, len-empty, len-insert, len-remove, empty_of_len, is_empty_iff}
 
 module _ (p : ℕ → Bool) where
   ascends-filter : (k : ℕ) (xs : List ℕ) → AscendsFrom k xs → AscendsFrom k (filter p xs)
@@ -40,6 +45,12 @@ ascending-difference s t = ascending_is (difference s t) (filter (λ b. not (con
     (ascends-filter (λ b. not (contains t b)) 0 (ascending s) (ascending-ascends s))
     (λ q. grind (arith, contains-difference s t q, contains-ascending s q, is_in-filter (λ b. not (contains t b)) q (ascending s)))
 
+pub is_empty_difference : (s t : BitSet) → is_empty (difference s t) ≡ is_subset s t
+is_empty_difference s t = same_from_decides _ _ (is_empty_iff _) (is_subset_iff s t)
+
+pub is_empty_intersection : (s t : BitSet) → is_empty (intersection s t) ≡ is_disjoint s t
+is_empty_intersection s t = same_from_decides _ _ (is_empty_iff _) (is_disjoint_iff s t)
+
 pub len-parts : (s t : BitSet) → len (difference s t) + len (intersection s t) ≡ len s
 len-parts s t =
     let out = len-ascending (difference s t) ∙ ap length (ascending-difference s t) in
@@ -62,6 +73,18 @@ len-union s t =
     let outside = ap len (union_difference s t) in
     let inside = ap len (intersection_comm (union s t) t ∙ ap (intersection t) (union_comm s t) ∙ intersection_union t s) in
     omega (arith, parts, outside, inside, len-parts s t)
+
+pub len_union_more : (s t : BitSet) → len (union s t) ≡ len s + len (difference t s)
+len_union_more s t =
+    let outside : intersection t s ≡ intersection s t = intersection_comm t s in
+    omega (arith, len-union s t, len-parts t s, ap len outside)
+
+none_more : (s t : BitSet) → (len (difference t s) == 0) ≡ is_subset t s
+unfolding is_empty
+none_more s t = is_empty_difference t s
+
+pub len_union_same : (s t : BitSet) → (len (union s t) == len s) ≡ is_subset t s
+len_union_same s t = let more = len_union_more s t in let none = none_more s t in grind (arith, nat_tests)
 
 pub len-subset : (s t : BitSet) → is_subset s t ≡ true → len s ≤ len t
 len-subset s t within = omega (arith, ap len (intersection_within s t within), len-intersection_right s t)
@@ -93,6 +116,9 @@ len-kept s t = sym (kept_count s t) ∙ length-filter (contains t) (ascending s)
 
 pub len-left : (s t : BitSet) → len (difference s t) ≡ count_by (λ b. not (contains t b)) (ascending s)
 len-left s t = sym (left_count s t) ∙ length-filter (λ b. not (contains t b)) (ascending s)
+
+pub len_kept_both : (s t u : BitSet) → len (intersection (intersection s t) u) ≡ count_by (λ b. contains t b && contains u b) (ascending s)
+len_kept_both s t u = ap len (intersection_assoc s t u) ∙ len-kept s (intersection t u) ∙ ap (λ (p : ℕ → Bool). count_by p (ascending s)) (λ i b. contains-intersection t u b i)
 
 pub length-ascending : (s : BitSet) → length (ascending s) ≡ len s
 length-ascending s = sym (len-ascending s)

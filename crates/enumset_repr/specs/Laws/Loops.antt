@@ -1,7 +1,8 @@
 -- The steps of a loop over a set's iterator, whose list of numbers still to come loses its first.
 --     find-more, list_any-more, list_all-more      tests of such a list
 --     is_subset-list, is_disjoint-list      a subset and disjoint sets as tests of a list
--- The ruleset `loops` has what the invariant of such a loop needs.
+-- The ruleset `loops` has what the invariant of such a loop needs, and `searches` what a loop needs that returns the member
+-- that it finds.
 use Rattle.std.proofs.Common.{◌≡◌, ℕ, Bool, true, false, cond, not, ◌&&◌, ◌||◌, List, [], ◌∷◌, Some, refl, arith}
 use Rattle.std.specs.List.{list_any, list_all, find}
 use Rattle.std.proofs.lemmas.Bool.Decides.{nat_tests}
@@ -10,6 +11,7 @@ use Rattle.enumset_repr.specs.BitSet.{BitSet, contains, ascending, insert, inter
 use Rattle.enumset_repr.specs.Laws.Members.{members, same_set}
 use Rattle.enumset_repr.specs.Laws.Algebra.{on_unions, on_differences, on_intersections, on_lists, insert_union, union_insert, insert_inside, difference_inserted}
 use Rattle.enumset_repr.specs.Laws.Counting.{len-kept, len-left}
+use Rattle.enumset_repr.specs.Laws.Found.{found_tells}
 use Rattle.enumset_repr.specs.Laws.Firsts.{from_list-none, from_list-more}
 
 pub find-more : (p : ℕ → Bool) (b : ℕ) (bs : List ℕ) → find p (b ∷ bs) ≡ cond (p b) (Some b) (find p bs)
@@ -42,3 +44,5 @@ pub intersection_passed : (s t : BitSet) (b : ℕ) → contains t b ≡ false �
 intersection_passed s t b none = same_set _ _ (λ q. grind (arith, members, nat_tests))
 
 pub ruleset loops = (on_unions, on_differences, on_intersections, on_lists, from_list-none, from_list-more, find-more, list_any-more, list_all-more, is_subset-list, is_disjoint-list, sum_by-cons, len-kept, len-left, insert_union, union_insert, insert_inside, intersection_passed, difference_inserted, difference_passed)
+
+pub ruleset searches = (found_tells, find-more, nat_tests)

@@ -10,7 +10,6 @@
 --     number_low, number_cut      the number of a cut set, as a remainder
 --     fits_number      a set is below a width if its number fits;  the converse is `number-within`
 --     cut_to, fits_in      the same for a tactic, at each width
---     empty_difference, empty_intersection      tests of subsets and of disjoint sets
 -- The ruleset `cuts` has what a proof about sets and their numbers needs. A crate above cites it by
 -- `#[tactic(auto, using(enumset_repr::specs::Laws::Low::cuts))]`. `cuts_to` has what calls to and
 -- from integers need.
@@ -21,11 +20,11 @@ use Rattle.std.proofs.lemmas.Grind.{low_zeros}
 use Rattle.std.specs.Prelude.{nat_lt}
 use Rattle.std.specs.Int.RustNames.{bit_and}
 use Rattle.std.proofs.lemmas.Nat.{and_mask}
-use Rattle.enumset_repr.specs.BitSet.{BitSet, empty, is_empty, intersection, difference, is_subset, is_disjoint, below, low}
+use Rattle.enumset_repr.specs.BitSet.{BitSet, empty, intersection, is_subset, below, low}
 use Rattle.enumset_repr.specs.Number.{number}
-use Rattle.enumset_repr.specs.Laws.Ascending.{is_empty_iff}
-use Rattle.enumset_repr.specs.Laws.Members.{members, same_set, is_subset-contains, contains-is_subset, is_subset_iff, is_disjoint_iff}
+use Rattle.enumset_repr.specs.Laws.Members.{members, same_set, is_subset-contains, contains-is_subset}
 use Rattle.enumset_repr.specs.Laws.Algebra.{is_subset_trans, intersection_right, difference_within, difference_none}
+use Rattle.enumset_repr.specs.Laws.Counting.{is_empty_difference, is_empty_intersection}
 use Rattle.enumset_repr.specs.Laws.Numbers.{bits-low, bits-number, number-bits, bits-within, number-within}
 
 -- ---- the cut set
@@ -81,11 +80,4 @@ cut_to s m e less =
 pub fits_in : (s : BitSet) (n : ℕ) → is_subset s (below n) ≡ nat_lt (number s) (2 ^ n)
 fits_in s n = same_from_decides _ _ (number-within s n, fits_number s n) (ltb-true _ _, lt-ltb _ _)
 
--- `a.and_not(b).is_empty()`, and `(a & b).is_empty()`
-pub empty_difference : (s t : BitSet) → is_empty (difference s t) ≡ is_subset s t
-empty_difference s t = same_from_decides _ _ (is_empty_iff _) (is_subset_iff s t)
-
-pub empty_intersection : (s t : BitSet) → is_empty (intersection s t) ≡ is_disjoint s t
-empty_intersection s t = same_from_decides _ _ (is_empty_iff _) (is_disjoint_iff s t)
-
-pub ruleset cuts_to = (cut_to, fits_in, nat_tests, empty_difference, empty_intersection)
+pub ruleset cuts_to = (cut_to, fits_in, nat_tests, is_empty_difference, is_empty_intersection)

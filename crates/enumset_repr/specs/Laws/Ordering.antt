@@ -1,8 +1,9 @@
 -- The greater and the lesser of two sets of which one is a part of the other.
 --     max_superset, superset_max      the maximum is the one that has all
 --     min_subset, subset_min      the minimum is the part
+--     number_max, number_min      the number of the greater set, and of the lesser
 -- The ruleset `ordering` has them, that a proper subset is less, and that a set compares as equal with itself alone.
-use Rattle.std.proofs.Common.{◌≡◌, ◌<◌, ◌⊎◌, inl, inr, Bool, true, false, refl, sym, subst, ◌∙◌, true≢false, arith}
+use Rattle.std.proofs.Common.{◌≡◌, ◌<◌, ◌⊎◌, inl, inr, Bool, true, false, min, max, refl, sym, subst, ◌∙◌, true≢false, arith}
 use Rattle.std.specs.Ordering.{ord_max, ord_min, MatchOrdering}
 use Rattle.std.proofs.lemmas.Bool.Decides.{nat_tests}
 use Rattle.enumset_repr.specs.BitSet.{BitSet, is_subset, is_same}
@@ -29,5 +30,11 @@ module _ (s t : BitSet) (within : is_subset s t ≡ true) where
 
   pub subset_min : ord_min compare t s ≡ s
   subset_min = let either = less_or_same in let order = compare-number s t in grind (arith, nat_tests)
+
+pub number_max : (s t : BitSet) → number (ord_max compare s t) ≡ max (number s) (number t)
+number_max s t = let order = compare-number t s in let back = compare-number s t in grind (arith, nat_tests)
+
+pub number_min : (s t : BitSet) → number (ord_min compare s t) ≡ min (number s) (number t)
+number_min s t = let order = compare-number t s in let back = compare-number s t in grind (arith, nat_tests)
 
 pub ruleset ordering = (max_superset, superset_max, min_subset, subset_min, compare-subset, compare-itself, compare-same)

@@ -5,16 +5,19 @@
 --         member stands at some place
 --     first_at, find_tells      the first place at which a test passes, and what `find` finds there
 -- The ruleset `chains` has what a proof about `any`, `all`, `find` and a count over a set's iterator needs.
+-- `chains_of_two` is for a count by two other sets.
 use Rattle.std.proofs.Common.{◌≡◌, ◌<◌, ℕ, suc, zero, Bool, true, false, cond, List, [], ◌∷◌, Option, Some, None, length, refl, sym, ap, ◌∙◌, arith, true≢false, ◌↔◌}
 use Rattle.std.specs.Prelude.{◌==◌, SomeIndex, slice_index, MatchOption}
 use Rattle.std.specs.List.{slice_index_or, find}
 use Rattle.std.proofs.lemmas.Bool.{false_from_ne_true, not-true, and_parts, or_left, or_right, eq-eqb}
 use Rattle.std.proofs.lemmas.Bool.Decides.{nat_tests}
 use Rattle.enumset_repr.specs.BitSet.{BitSet, is_in, contains, ascending, intersection, difference, is_subset, is_disjoint}
-use Rattle.enumset_repr.specs.Laws.Members.{contains-ascending, contains-intersection, contains-difference, is_subset-contains, is_disjoint-contains, is_disjoint_iff}
+use Rattle.enumset_repr.specs.Laws.Members.{members, contains-ascending, contains-intersection, contains-difference, is_subset-contains, is_disjoint-contains, is_disjoint_iff}
 use Rattle.enumset_repr.specs.Laws.Algebra.{intersection_self, difference_none}
 use Rattle.enumset_repr.specs.Laws.Ascending.{empty_of_ascending}
-use Rattle.enumset_repr.specs.Laws.Counting.{len-kept, len-left, length-ascending}
+use Rattle.enumset_repr.specs.Laws.Counting.{len-kept, len-left, len_kept_both, length-ascending}
+use Rattle.enumset_repr.specs.Laws.Found.{found_tells}
+use Rattle.enumset_repr.specs.Laws.Sets.{len_regrouped}
 
 -- the place of a number in a list
 abbrev place_in : ℕ → List ℕ → ℕ
@@ -104,4 +107,7 @@ find-found p (x ∷ xs) = elim (p x) as (λ t. p x ≡ t → IsFound p (x ∷ xs
 pub find_tells : (p : ℕ → Bool) (xs : List ℕ) → (find p xs ≡ find p xs) × IsFound p xs (find p xs) (first_at p xs)
 find_tells p xs = (refl, find-found p xs)
 
-pub ruleset chains = (some_shared, some_outside, find_tells, len-kept, len-left, length-ascending)
+pub ruleset chains = (some_shared, some_outside, find_tells, found_tells, len-kept, len-left, len_regrouped, length-ascending)
+
+-- What a count over a closure with `&&` needs, of members in two other sets: with the laws of `chains` the search gives up.
+pub ruleset chains_of_two = (len_kept_both, members)

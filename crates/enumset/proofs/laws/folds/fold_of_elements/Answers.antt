@@ -1,4 +1,4 @@
-use Rattle.enumset.specs.Laws.Folds.{from_list_same}
+use Rattle.enumset_sets.specs.Laws.ManySets.{from_list_same}
 use Rattle.enumset.proofs.laws.folds.fold_of_elements.Goals as goal
 
 pub returns : goal.returns

@@ -1,4 +1,4 @@
-use Rattle.enumset.specs.Laws.Folds.{union_all_same, intersection_all_same}
+use Rattle.enumset_sets.specs.Laws.ManySets.{union_all_same, intersection_all_same}
 use Rattle.enumset.proofs.laws.folds.fold_of_sets.Goals as goal
 
 pub returns : goal.returns

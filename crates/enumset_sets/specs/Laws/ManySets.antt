@@ -1,0 +1,73 @@
+-- Folds of a list: only which items it has matters, neither their order nor repeats.
+--     contains-intersection_all, contains-union_all      which bits are in all the sets of a list;  in any of them
+--     intersection_all_more      one set more at the end of the list
+--     union_all_none, union_all_step      a set with all sets of a list, one after the other
+--     any_same      a test of the items
+--     from_list_same, union_all_same, intersection_all_same      lists with the same items make the same set
+-- The ruleset `folds` has the first five.
+use Rattle.std.proofs.Common.{◌≡◌, ℕ, Bool, true, not, ◌&&◌, ◌||◌, List, [], ◌∷◌, ◌++◌, map, refl, sym, ap, ◌∙◌, arith, Contains, ◌↔◌}
+use Rattle.std.specs.Prelude.{◌==◌}
+use Rattle.std.specs.List.{list_all, list_any}
+use Rattle.std.proofs.lemmas.List.Folds.{Any-from_list_any, list_any_at}
+use Rattle.std.proofs.lemmas.Bool.Decides.{same_from_decides}
+use Rattle.enumset_repr.specs.BitSet.{BitSet, is_in, contains, union, intersection, from_list}
+use Rattle.enumset_repr.specs.Laws.Members.{members, same_set, contains-from_list, contains-empty, contains-union}
+use Rattle.enumset_repr.specs.Laws.Algebra.{union_empty, union_assoc}
+use Rattle.enumset_sets.specs.Folds.{union_all, intersection_all}
+
+pub contains-intersection_all : (s : BitSet) (ts : List BitSet) (q : ℕ) → contains (intersection_all s ts) q ≡ (contains s q && list_all (λ t. contains t q) ts)
+contains-intersection_all s [] q = grind arith
+contains-intersection_all s (t ∷ ts) q = contains-intersection_all (intersection s t) ts q ∙ grind (arith, members)
+
+pub contains-union_all : (ss : List BitSet) (q : ℕ) → contains (union_all ss) q ≡ list_any (λ s. contains s q) ss
+unfolding union_all
+contains-union_all [] q = contains-empty q
+contains-union_all (s ∷ ss) q = contains-union s (union_all ss) q ∙ ap (λ b. contains s q || b) (contains-union_all ss q)
+
+pub intersection_all_more : (s : BitSet) (ts : List BitSet) (t : BitSet) → intersection_all s (ts ++ t ∷ []) ≡ intersection (intersection_all s ts) t
+intersection_all_more s [] t = refl
+intersection_all_more s (u ∷ us) t = intersection_all_more (intersection s u) us t
+
+pub union_all_none : (s : BitSet) → union s (union_all []) ≡ s
+unfolding union_all
+union_all_none s = union_empty s
+
+pub union_all_step : (s t : BitSet) (ts : List BitSet) → union s (union_all (t ∷ ts)) ≡ union (union s t) (union_all ts)
+unfolding union_all
+union_all_step s t ts = sym (union_assoc s t (union_all ts))
+
+-- ---- tests of the items of a list
+
+module _ {A : Type 0} (p : A → Bool) where
+  any_moves : (xs ys : List A) → ((x : A) → Contains xs x → Contains ys x) → list_any p xs ≡ true → list_any p ys ≡ true
+  any_moves xs ys has one =
+      let found = Any-from_list_any p xs one in
+      let there = has found.1 (found.0, found.2, found.3) in
+      list_any_at p ys there.0 found.1 there.1 (ap p there.2 ∙ found.4)
+
+  -- lists with the same items have the same test
+  pub any_same : (xs ys : List A) → ((x : A) → Contains xs x ↔ Contains ys x) → list_any p xs ≡ list_any p ys
+  any_same xs ys same = same_from_decides _ _ (any_moves xs ys (λ x. (same x).0), any_moves ys xs (λ x. (same x).1)) (λ h. h, λ h. h)
+
+is_in-any : {A : Type 0} (f : A → ℕ) (q : ℕ) (xs : List A) → is_in q (map f xs) ≡ list_any (λ x. q == f x) xs
+is_in-any f q [] = refl
+is_in-any f q (x ∷ xs) = ap (λ b. (q == f x) || b) (is_in-any f q xs)
+
+pub from_list_same : {A : Type 0} (f : A → ℕ) (xs ys : List A) → ((x : A) → Contains xs x ↔ Contains ys x) → from_list (map f xs) ≡ from_list (map f ys)
+from_list_same f xs ys same = same_set _ _ (λ q.
+    contains-from_list (map f xs) q ∙ is_in-any f q xs ∙ any_same (λ x. q == f x) xs ys same ∙ sym (is_in-any f q ys) ∙ sym (contains-from_list (map f ys) q))
+
+pub union_all_same : (ss ts : List BitSet) → ((s : BitSet) → Contains ss s ↔ Contains ts s) → union_all ss ≡ union_all ts
+union_all_same ss ts same = same_set _ _ (λ q. contains-union_all ss q ∙ any_same (λ s. contains s q) ss ts same ∙ sym (contains-union_all ts q))
+
+all_not_any : {A : Type 0} (p : A → Bool) (xs : List A) → list_all p xs ≡ not (list_any (λ x. not (p x)) xs)
+all_not_any p [] = refl
+all_not_any p (x ∷ xs) = grind (arith, all_not_any p xs)
+
+pub intersection_all_same : (s : BitSet) (ts us : List BitSet) → ((t : BitSet) → Contains ts t ↔ Contains us t) → intersection_all s ts ≡ intersection_all s us
+intersection_all_same s ts us same = same_set _ _ (λ q.
+    contains-intersection_all s ts q
+    ∙ ap (λ b. contains s q && b) (all_not_any (λ t. contains t q) ts ∙ ap not (any_same (λ t. not (contains t q)) ts us same) ∙ sym (all_not_any (λ t. contains t q) us))
+    ∙ sym (contains-intersection_all s us q))
+
+pub ruleset folds = (contains-intersection_all, contains-union_all, intersection_all_more, union_all_none, union_all_step)
