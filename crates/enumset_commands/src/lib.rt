@@ -1,11 +1,12 @@
 //! Commands on sets of bit numbers and the replies to them, and the texts of both.
 //!
-//! Nothing here knows a set: what commands do is said, and carried out, in `enumset_runs`.
+//! Nothing here knows a set: what commands do is said, and carried out, in `enumset_machine`.
 #![tactic(auto)]
 
 pub mod command;
 pub mod grammar;
 pub mod mixed_command;
+pub mod names;
 pub mod reply;
 pub mod text_fault;
 pub mod transcript;

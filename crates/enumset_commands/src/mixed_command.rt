@@ -1,6 +1,13 @@
-//! The commands of a run of mixed sets.
+//! The commands of a run of mixed sets, and their names.
+ghost use Rattle.std.specs.Prelude.{◌≡◌};
+ghost use Rattle.enumset_commands.specs.Lines.{mixed_command_of};
+ghost use Rattle.enumset_commands.specs.Verbs.{own_verbs, written};
 
-use crate::command::Command;
+use crate::command::{Command, command_of_name};
+use crate::grammar::line_command::LineCommand;
+use crate::grammar::tokens::Tokens;
+use crate::names::is;
+use std::alloc::{AllocError, Global};
 
 /// One command of a run of mixed sets: one that every run has, or one on bits that need not be valid.
 ///
@@ -25,4 +32,38 @@ pub enum MixedCommand {
     AsEnumset { to: u8, a: u8 },
     /// `truncate to a`: puts those members of `a` that are valid bits into `to`.
     Truncate { to: u8, a: u8 },
+}
+
+impl LineCommand for MixedCommand {
+    ghost command_of = { mixed_command_of };
+
+    fn read(
+        alloc: Global,
+        name: &[u8],
+        fields: Tokens,
+    ) -> Option<Result<MixedCommand, AllocError>> {
+        if let Some(command) = own_command(name, &fields) {
+            return Some(Ok(command));
+        }
+        match Command::read(alloc, name, fields)? {
+            Ok(command) => Some(Ok(MixedCommand::Common(command))),
+            Err(error) => Some(Err(error)),
+        }
+    }
+}
+
+/// The command that mixed sets alone have of this name.
+fn own_command(name: &[u8], fields: &Tokens) -> Option<MixedCommand>
+    ensures { result ≡ written own_verbs name.now fields.now }
+{
+    command_of_name! { name, fields => MixedCommand:
+        "has_bit" with_bit HasBit { r, bit };
+        "insert_bit" with_bit InsertBit { r, bit };
+        "remove_bit" with_bit RemoveBit { r, bit };
+        "full_complement" two FullComplement { to, a };
+        "valid_len" one ValidLen { r };
+        "unknown" one Unknown { r };
+        "as_enumset" two AsEnumset { to, a };
+        "truncate" two Truncate { to, a };
+    }
 }

@@ -10,7 +10,7 @@ use Rattle.enumset_repr.specs.BitSet.{BitSet, from_list}
 use Rattle.enumset_kinds.specs.declared.worked.Worked.{Worked}
 use Rattle.enumset_kinds.specs.declared.worked.Worked.TheVariants.{Letters, Four, Sparse, Marks, Wide, PairWords, PairNumber, High, Masks, Single, Nothing, MixedLetters, MixedFour, MixedSparse, MixedMarks, MixedPairWords, MixedPairNumber, MixedHigh, MixedMasks, MixedSingle, MixedNothing}
 use Rattle.enumset_commands.specs.declared.text_fault.TextFault.{TextFault}
-use Rattle.enumset_runs.specs.Answers.{answer_to, mixed_answer_to}
+use Rattle.enumset_machine.specs.Answers.{answer_to, mixed_answer_to}
 use Rattle.enumset_worked.specs.Bits.{letters_bits, four_bits, sparse_bits, marks_bits, wide_bits, pair_bits, high_bits, masks_bits, single_bits}
 
 abbrev pub worked_of : List ℕ → Option Worked

@@ -1,13 +1,13 @@
 //! The worked types by their names, and the answer to an input over each.
 
 ghost use Rattle.std.specs.Prelude.{◌≡◌, IfOk, IfErr, Ok};
-ghost use Rattle.std.specs.Str.{bytes_eq};
 ghost use Rattle.enumset_kinds.specs.Kinds.{worked_of, answer_over};
 ghost use Rattle.enumset_commands.specs.Texts.{IsFaultOf};
 
 use crate::nothing::serve_nothing;
 use crate::worked::Worked;
 use enumset_commands::TextFault;
+use enumset_commands::names::is;
 use enumset_machine::{serve_mixed_text, serve_text};
 use enumset_worked::{
     Four, High, Letters, Marks, Masks, PairNumber, PairWords, Single, Sparse, Wide,
@@ -49,13 +49,6 @@ pub fn worked_of_bytes(name: &[u8]) -> Option<Worked>
         _ if is(name, "mixed-nothing") => Worked::MixedNothing,
         _ => return None,
     })
-}
-
-/// Whether a name is this word.
-fn is(name: &[u8], word: &str) -> bool
-    ensures { result ≡ bytes_eq name.now word.now }
-{
-    name == word.as_bytes()
 }
 
 /// The text of the replies to the commands of an input, over the sets of a worked type, or over its mixed sets.

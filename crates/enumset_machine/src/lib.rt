@@ -1,12 +1,22 @@
 //! Runs of commands over `EnumSet` and `MixedEnumSet`, for every element type.
 #![tactic(auto)]
 
+mod element_set;
+mod iterators;
+pub mod laws;
 pub mod machine;
+mod mixed_commands;
+pub mod mixed_machine;
+mod mixed_set;
+mod numbers;
+mod registers;
+mod run_set;
+mod runner;
 pub mod runs;
 pub mod serve;
+mod steps;
 
-pub use enumset_runs::{INPUT_LIMIT, laws};
 pub use machine::Machine;
-pub use machine::mixed_machine::MixedMachine;
+pub use mixed_machine::MixedMachine;
 pub use runs::{run, run_mixed};
-pub use serve::{serve_mixed_text, serve_text};
+pub use serve::{INPUT_LIMIT, serve_mixed_text, serve_text};

@@ -1,24 +1,33 @@
 //! Answers a text of commands by the text of their replies.
 
-ghost use Rattle.std.specs.Prelude.{◌≡◌, IfOk, IfErr, Ok};
-ghost use Rattle.enumset_runs.specs.Answers.{answer_to, mixed_answer_to};
-ghost use Rattle.enumset_commands.specs.Texts.{IsFaultOf};
+ghost use Rattle.std.specs.Prelude.{◌≡◌, ◌++◌, codes, IfOk, IfErr, Ok, OnOk};
+ghost use Rattle.std.specs.String.{string_bytes};
+ghost use Rattle.enumset_machine.specs.States.{start};
+ghost use Rattle.enumset_machine.specs.Plans.{outcome_by, replies_by};
+ghost use Rattle.enumset_machine.specs.Answers.{answer_by, answer_to, commands_of, mixed_answer_to};
+ghost use Rattle.enumset_commands.specs.Lines.{commands_of_text};
+ghost use Rattle.enumset_commands.specs.Texts.{IsFaultOf, text_of};
 ghost use Rattle.enumset_sets.specs.Elements.{valid_bits};
 
-use crate::machine::element_set::ElementSet;
-use crate::machine::mixed_set::MixedSet;
-use enumset_commands::TextFault;
+use crate::runner::Runner;
+use crate::steps::{Run, step};
+use enumset_commands::grammar::lines::Lines;
+use enumset_commands::grammar::tokens::Tokens;
+use enumset_commands::{LineCommand, TextFault, write_reply};
+use enumset_mixed::MixedEnumSet;
 use enumset_repr::EnumSetTypeRepr;
-use enumset_runs::serve_over;
-use enumset_sets::{EnumSetType, EnumSetTypeWithRepr};
-use std::alloc::Global;
+use enumset_sets::{EnumSet, EnumSetType, EnumSetTypeWithRepr};
+use std::alloc::{AllocError, Global};
+
+/// The most bytes that an input may have.
+pub const INPUT_LIMIT: usize = 1_048_576;
 
 /// The text of the replies to the commands of an input.
 ///
 /// The errors are [`TextFault::TooLong`] for an input of more than [`INPUT_LIMIT`] bytes, else
 /// [`TextFault::BadLine`] for the first line that is not a command, and else
 /// [`TextFault::OutOfMemory`].
-#[tactic(auto, unfolding(enumset_runs::specs::Runs::outcome))]
+#[tactic(auto, unfolding(crate::specs::Runs::outcome))]
 pub fn serve_text<T: EnumSetType>(alloc: Global, input: &[u8]) -> Result<Vec<u8>, TextFault>
     // The replies are those of finite sets of bit numbers.
     ensures answer { IfOk result (λ out.
@@ -27,13 +36,13 @@ pub fn serve_text<T: EnumSetType>(alloc: Global, input: &[u8]) -> Result<Vec<u8>
     ensures fault { IfErr result (λ fault.
         IsFaultOf (answer_to (valid_bits T.elements) input.now) fault) }
 {
-    serve_over::<ElementSet<T>>(alloc, input)
+    serve_over::<EnumSet<T>>(alloc, input)
 }
 
 /// The text of the replies to the commands of mixed sets of an input.
 ///
 /// The errors are those of [`serve_text`].
-#[tactic(auto, unfolding(enumset_runs::specs::Runs::mixed_outcome))]
+#[tactic(auto, unfolding(crate::specs::Runs::mixed_outcome))]
 pub fn serve_mixed_text<T: EnumSetTypeWithRepr>(
     alloc: Global,
     input: &[u8],
@@ -45,5 +54,73 @@ pub fn serve_mixed_text<T: EnumSetTypeWithRepr>(
     ensures fault { IfErr result (λ fault.
         IsFaultOf (mixed_answer_to (valid_bits T.elements) T.Repr.WIDTH input.now) fault) }
 {
-    serve_over::<MixedSet<T>>(alloc, input)
+    serve_over::<MixedEnumSet<T>>(alloc, input)
+}
+
+/// The text of the replies to the commands of an input over sets of one kind, from empty registers. The errors are those
+/// of [`serve_text`].
+fn serve_over<S: Run>(alloc: Global, input: &[u8]) -> Result<Vec<u8>, TextFault>
+where
+    S::Command: LineCommand,
+    ensures answer { IfOk result (λ out. answer_by (replies_by (outcome_by S.rules S.plan) start)
+        (commands_of S.Command.command_of input.now) ≡ Ok out.items) }
+    ensures fault { IfErr result (λ fault. IsFaultOf (answer_by (replies_by (outcome_by S.rules S.plan) start)
+        (commands_of S.Command.command_of input.now)) fault) }
+{
+    if input.len() > INPUT_LIMIT {
+        return Err(TextFault::TooLong);
+    }
+    answer_lines::<S>(alloc, input)
+}
+
+/// The same for an input of any length. Each command is read, carried out and answered before the next. If memory runs
+/// out, the remaining lines are still read, so an input with a line that is not a command is reported as such.
+#[tactic(auto, using(crate::proofs::Answered::line_steps))]
+fn answer_lines<S: Run>(alloc: Global, input: &[u8]) -> Result<Vec<u8>, TextFault>
+where
+    S::Command: LineCommand,
+    ensures answer { IfOk result (λ out. answer_by (replies_by (outcome_by S.rules S.plan) start)
+        (commands_of_text S.Command.command_of input.now) ≡ Ok out.items) }
+    ensures fault { IfErr result (λ fault. IsFaultOf (answer_by (replies_by (outcome_by S.rules S.plan) start)
+        (commands_of_text S.Command.command_of input.now)) fault) }
+{
+    let mut runner = Runner::<S>::new();
+    let mut text = String::new(alloc);
+    let mut has_room = true;
+    let mut number = 0u64;
+    for line in Lines::new(input) {
+        number += 1;
+        let mut tokens = Tokens::new(line);
+        if let Some(name) = tokens.next() {
+            let command = S::Command::read(alloc, name, tokens).ok_or(TextFault::BadLine(number))?;
+            has_room = match command {
+                Ok(command) => has_room
+                    && answer_command(alloc, &mut runner, command, &mut text).is_ok(),
+                Err(_) => false,
+            };
+        }
+    }
+    if has_room {
+        Ok(text.into_bytes())
+    } else {
+        Err(TextFault::OutOfMemory)
+    }
+}
+
+/// Carries out one command, and writes its reply in a line.
+fn answer_command<S: Run>(
+    alloc: Global,
+    runner: &mut Runner<S>,
+    command: S::Command,
+    text: &mut String,
+) -> Result<(), AllocError>
+where
+    S::Command: LineCommand,
+    ensures state { OnOk result
+        (runner.new ≡ (outcome_by S.rules S.plan runner.old command).state) }
+    ensures text { OnOk result (string_bytes text.new ≡ string_bytes text.old
+        ++ text_of (outcome_by S.rules S.plan runner.old command).reply ++ codes "\n") }
+{
+    let reply = step(runner, alloc, &command)?;
+    write_reply(text, &reply)
 }

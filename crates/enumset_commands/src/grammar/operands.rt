@@ -15,7 +15,7 @@ use std::alloc::{AllocError, Global};
 impl<'a> Tokens<'a> {
     /// A register.
     #[inline(always)]
-    pub(super) fn one(&self) -> Option<u8>
+    pub(crate) fn one(&self) -> Option<u8>
         ensures { result ≡ one register self.now }
     {
         let mut fields = self.same();
@@ -25,7 +25,7 @@ impl<'a> Tokens<'a> {
 
     /// Two registers; or a register and a count, which is a number of 8 bits too.
     #[inline(always)]
-    pub(super) fn two(&self) -> Option<(u8, u8)>
+    pub(crate) fn two(&self) -> Option<(u8, u8)>
         ensures { result ≡ two register register self.now }
     {
         let mut fields = self.same();
@@ -36,7 +36,7 @@ impl<'a> Tokens<'a> {
 
     /// Three registers.
     #[inline(always)]
-    pub(super) fn three(&self) -> Option<(u8, u8, u8)>
+    pub(crate) fn three(&self) -> Option<(u8, u8, u8)>
         ensures { result ≡ three register register register self.now }
     {
         let mut fields = self.same();
@@ -48,7 +48,7 @@ impl<'a> Tokens<'a> {
 
     /// A register and a bit; or a register and a width, which is a number of 32 bits too.
     #[inline(always)]
-    pub(super) fn with_bit(&self) -> Option<(u8, u32)>
+    pub(crate) fn with_bit(&self) -> Option<(u8, u32)>
         ensures { result ≡ two register bit self.now }
     {
         let mut fields = self.same();
@@ -59,7 +59,7 @@ impl<'a> Tokens<'a> {
 
     /// A register, a width and a value.
     #[inline(always)]
-    pub(super) fn with_value(&self) -> Option<(u8, u32, u128)>
+    pub(crate) fn with_value(&self) -> Option<(u8, u32, u128)>
         ensures { result ≡ three register width value self.now }
     {
         let mut fields = self.same();
@@ -72,7 +72,7 @@ impl<'a> Tokens<'a> {
 
 /// A register, and any number of words. The only error is out of memory; where some field is not what it has to be,
 /// there is `None`, even if memory runs out.
-pub(super) fn with_words(
+pub(crate) fn with_words(
     alloc: Global,
     mut fields: Tokens,
 ) -> Option<Result<(u8, WordList), AllocError>>

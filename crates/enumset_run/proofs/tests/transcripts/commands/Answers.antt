@@ -1,7 +1,7 @@
 use Rattle.std.proofs.Common.{◌≡◌, ℕ, true, nat_lt, refl, ◌∙◌}
 use Rattle.enumset_repr.specs.BitSet.{only, empty, below, is_subset}
 use Rattle.enumset_repr.specs.Laws.Members.{contains-below, empty-is_subset, insert-is_subset}
-use Rattle.enumset_runs.specs.Runs.{plan, mixed_plan}
+use Rattle.enumset_machine.specs.Runs.{plan, mixed_plan}
 use Rattle.enumset_run.proofs.tests.transcripts.commands.Goals as goal
 
 no_bit : is_subset empty (below 128) ≡ true

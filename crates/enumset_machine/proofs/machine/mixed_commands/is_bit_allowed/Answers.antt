@@ -1,6 +1,0 @@
-use Rattle.std.proofs.Common.{sym}
-use Rattle.enumset_repr.specs.Laws.Members.{contains-below}
-use Rattle.enumset_machine.proofs.machine.mixed_commands.is_bit_allowed.Goals as goal
-
-pub returns : goal.returns
-returns g c = rw c.WIDTH.ensures (sym (contains-below g.T.Repr.EnumSetTypeRepr.WIDTH c.args.bit))

@@ -1,0 +1,94 @@
+//! The commands that mixed sets alone have.
+
+ghost use Rattle.std.specs.Prelude.{◌≡◌, true, if◌then◌else◌};
+ghost use Rattle.enumset_repr.specs.BitSet.{contains, below, is_subset};
+ghost use Rattle.enumset_sets.specs.Elements.{valid_bits};
+ghost use Rattle.enumset_commands.specs.declared.reply.Reply.TheVariants.{Done, Absent};
+ghost use Rattle.enumset_machine.specs.States.{is_set_register, set_at, put_set};
+ghost use Rattle.enumset_machine.specs.Runs.{mixed_plan};
+
+use crate::registers::{are_set_registers, is_set_register};
+use crate::runner::{Runner, refusal, unless};
+use crate::steps::Run;
+use enumset_commands::MixedCommand::{self, *};
+use enumset_commands::Refusal::{self, NoRegister, NotABit};
+use enumset_commands::Reply;
+use enumset_mixed::{MixedEnumSet, convert_mixed};
+use enumset_repr::EnumSetTypeRepr;
+use enumset_sets::{EnumSetType, EnumSetTypeWithRepr};
+use std::alloc::{AllocError, Global};
+
+impl<T: EnumSetTypeWithRepr> Run for MixedEnumSet<T> {
+    type Command = MixedCommand;
+
+    ghost plan = { mixed_plan };
+
+    #[tactic(auto, unfolding(crate::specs::Runs::mixed_plan))]
+    fn refusal(command: &MixedCommand) -> Option<Refusal> {
+        match *command {
+            Common(ref command) => refusal::<MixedEnumSet<T>>(command),
+            HasBit { r, .. } | RemoveBit { r, .. } | ValidLen { r } | Unknown { r } => {
+                unless(is_set_register(r), NoRegister)
+            }
+            InsertBit { r, bit } => {
+                unless(is_set_register(r), NoRegister).or(unless(is_bit_allowed::<T>(bit), NotABit))
+            }
+            FullComplement { to, a } | AsEnumset { to, a } | Truncate { to, a } => {
+                unless(are_set_registers(to, a), NoRegister)
+            }
+        }
+    }
+
+    #[tactic(auto, unfolding(crate::specs::Runs::mixed_plan))]
+    fn carry_out(
+        runner: &mut Runner<MixedEnumSet<T>>,
+        alloc: Global,
+        command: &MixedCommand,
+    ) -> Result<Reply, AllocError> {
+        Ok(match *command {
+            Common(ref command) => runner.carry_out(alloc, command)?,
+            HasBit { r, bit } => Reply::Truth(runner.get(r).has_bit(bit)),
+            InsertBit { r, bit } => {
+                let mut set = runner.get(r);
+                let truth = set.insert_bit(bit);
+                runner.replace(r, set, truth)
+            }
+            RemoveBit { r, bit } => {
+                let mut set = runner.get(r);
+                let truth = set.remove_bit(bit);
+                runner.replace(r, set, truth)
+            }
+            FullComplement { to, a } => runner.put(to, runner.get(a).full_complement()),
+            ValidLen { r } => Reply::Count(runner.get(r).valid_len() as u64),
+            Unknown { r } => Reply::Truth(runner.get(r).has_unknown_bits()),
+            AsEnumset { to, a } => as_enumset(runner, to, a),
+            Truncate { to, a } => {
+                let elements = runner.get(a).as_enumset_truncate();
+                runner.put(to, convert_mixed(elements))
+            }
+        })
+    }
+}
+
+/// Puts a set into a register, if each member is valid.
+fn as_enumset<T: EnumSetTypeWithRepr>(runner: &mut Runner<MixedEnumSet<T>>, to: u8, a: u8) -> Reply
+    requires to { is_set_register to ≡ true }
+    requires a { is_set_register a ≡ true }
+    ensures reply { let s = set_at runner.old a in
+        result ≡ (if is_subset s (valid_bits T.elements) then Done else Absent) }
+    ensures state { let s = set_at runner.old a in
+        runner.new ≡ (if is_subset s (valid_bits T.elements)
+        then put_set runner.old to s else runner.old) }
+{
+    match runner.get(a).try_as_enumset() {
+        Some(elements) => runner.put(to, convert_mixed(elements)),
+        None => Reply::Absent,
+    }
+}
+
+/// Whether a bit is below the width of the representation.
+fn is_bit_allowed<T: EnumSetTypeWithRepr>(bit: u32) -> bool
+    ensures { result ≡ contains (below T.Repr.WIDTH) bit }
+{
+    bit < T::Repr::WIDTH
+}

@@ -1,4 +1,0 @@
-pub mod Answered
-pub mod OneTranscript
-pub mod Alike
-pub mod StatesOfRuns
