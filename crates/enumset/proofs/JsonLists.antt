@@ -89,8 +89,8 @@ pub next_name : (names : Names) (bits left rest : List ℕ) (b : ℕ) (name text
 next_name names bits left rest b name text next later here is plain put (so_far, all) =
     let others = items_text true (values names rest) in (
       ap (λ t. t ++ others) put ∙ append_assoc text (comma_if later ++ (34 ∷ (name ++ 34 ∷ []))) others
-      ∙ ap (λ t. text ++ t) (append_assoc (comma_if later) (34 ∷ (name ++ 34 ∷ [])) others ∙ ap (λ t. comma_if later ++ (t ++ others)) (sym (plain_text name plain) ∙ ap (λ t. compact_text (string t)) is))
-      ∙ ap (λ l. text ++ items_text later (values names l)) (sym here) ∙ so_far,
+          ∙ ap (λ t. text ++ t) (append_assoc (comma_if later) (34 ∷ (name ++ 34 ∷ [])) others ∙ ap (λ t. comma_if later ++ (t ++ others)) (sym (plain_text name plain) ∙ ap (λ t. compact_text (string t)) is))
+          ∙ ap (λ l. text ++ items_text later (values names l)) (sym here) ∙ so_far,
       λ ps. all (subst (λ l. ArePlain (map (name_of names) l)) (sym here) (subst IsPlain is plain, ps)),
     )
 

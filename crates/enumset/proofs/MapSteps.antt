@@ -1,6 +1,6 @@
 -- What serde_json reads of an object of plain keys and booleans, one member at a time, with spaces of any kind between its
 -- tokens.
-use Rattle.std.proofs.Common.{◌≡◌, ℕ, List, [], ◌∷◌, ◌++◌, Some, drop, append-nil, refl, sym, ap, ◌∙◌, arith}
+use Rattle.std.proofs.Common.{◌≡◌, ℕ, List, [], ◌∷◌, ◌++◌, Some, drop, refl, ap, ◌∙◌, arith}
 use Rattle.std.specs.Prelude.{Bool, true, false}
 use Rattle.serde_json.specs.Data.{object, no_members}
 use Rattle.serde_json.specs.Read.{read}

@@ -18,7 +18,6 @@ use Rattle.enumset.specs.JsonNames.{members_in, names_in, true_names, is_no_bool
 use Rattle.enumset.specs.JsonPlain.{AreSpaces, Passed}
 use Rattle.enumset.specs.JsonReads.{IsResult, IsReadOf}
 use Rattle.enumset.specs.declared.set_json.unknown.Unknown.{Unknown}
-use Rattle.enumset.specs.declared.set_json.unknown.Unknown.TheVariants.{Drop, Refuse}
 use Rattle.enumset.specs.declared.set_json.fault.JsonFault.TheVariants.{NotABoolean}
 use Rattle.enumset.proofs.JsonTokens.{tokens}
 use Rattle.enumset.proofs.MapTokens.{put_all, member_tokens}

@@ -91,8 +91,8 @@ pub next_name : (names left rest : Texts) (name : Bor (List ℕ)) (text next : L
 next_name names left rest name text next later here p put (so_far, plain) =
     let others = left_of true rest in (
       ap (λ t. t ++ others) put ∙ append_assoc text _ others
-      ∙ ap (λ t. text ++ t) (append_assoc (comma_if later) _ others ∙ ap (λ t. comma_if later ++ t) (ap (λ t. 34 ∷ t) (append_assoc name.now _ others) ∙ sym (text_before name.now (58 ∷ (compact_text (boolean true) ++ others)) p)))
-      ∙ ap (λ l. text ++ left_of later l) (sym here) ∙ so_far,
+          ∙ ap (λ t. text ++ t) (append_assoc (comma_if later) _ others ∙ ap (λ t. comma_if later ++ t) (ap (λ t. 34 ∷ t) (append_assoc name.now _ others) ∙ sym (text_before name.now (58 ∷ (compact_text (boolean true) ++ others)) p)))
+          ∙ ap (λ l. text ++ left_of later l) (sym here) ∙ so_far,
       λ ps. plain (subst AllPlain (sym here) (p, ps)),
     )
 

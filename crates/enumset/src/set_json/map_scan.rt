@@ -70,11 +70,7 @@ pub(super) fn plain_map_set<T: EnumSetNames>(text: &str) -> Option<EnumSet<T>>
             set.insert(element);
         }
         if let Some(end) = after_byte(rest, b'}') {
-            return if are_spaces(end) {
-                Some(set)
-            } else {
-                None
-            };
+            return if are_spaces(end) { Some(set) } else { None };
         }
         let after = after_byte(rest, b',')?;
         left = after_byte(after, b'"')?;

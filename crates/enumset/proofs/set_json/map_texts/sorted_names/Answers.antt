@@ -1,6 +1,5 @@
-use Rattle.std.proofs.Common.{arith, sym, ap, ◌∙◌}
+use Rattle.std.proofs.Common.{arith, ap}
 use Rattle.std.proofs.lemmas.Grind.{common_steps}
-use Rattle.serde_json.specs.Data.{no_members}
 use Rattle.enumset.specs.JsonMapTexts.{all_true}
 use Rattle.enumset.specs.JsonNames.{with_bits_true}
 use Rattle.enumset.specs.Names.{names_of}
