@@ -1,5 +1,5 @@
 -- What serde_json reads of a number, and of a list of numbers one at a time, with spaces of any kind between its tokens.
-use Rattle.std.proofs.Common.{◌≡◌, ◌<◌, ◌^◌, ℕ, suc, List, [], ◌∷◌, ◌++◌, Some, decimal, refl, sym, ap, subst, ◌∙◌, append-nil, arith}
+use Rattle.std.proofs.Common.{◌≡◌, ◌<◌, ◌^◌, ℕ, suc, List, [], ◌∷◌, ◌++◌, Some, decimal, refl, sym, ap, ◌∙◌, append-nil, arith}
 use Rattle.std.specs.Prelude.{true, false, option_map, drop}
 use Rattle.serde_json.specs.Data.{Num, number, unsigned, array, item, no_items, Items}
 use Rattle.serde_json.specs.Read.{read, number_of}

@@ -1,11 +1,10 @@
 -- What the loop of the reader of plain words keeps.
-use Rattle.std.proofs.Common.{◌≡◌, ◌<◌, ◌+◌, ◌/◌, ◌^◌, ℕ, Bool, true, ◌&&◌, if◌then◌else◌, Some, List, [], ◌∷◌, ◌++◌, length, length-append, decimal, refl, sym, ap, subst, ◌∙◌, append_assoc, append-nil, arith, slice_index}
+use Rattle.std.proofs.Common.{◌≡◌, ◌<◌, ◌+◌, ◌/◌, ◌^◌, ℕ, Bool, true, ◌&&◌, if◌then◌else◌, Some, List, [], ◌∷◌, ◌++◌, length, length-append, decimal, refl, sym, ap, subst, ◌∙◌, append_assoc, arith, slice_index}
 use Rattle.std.proofs.Math.Seq.{get_or-append_seam}
 use Rattle.std.proofs.lemmas.List.{get_or_append_left}
 use Rattle.std.specs.Prelude.{◌==◌, nat_lt}
 use Rattle.enumset_repr.specs.BitSet.{BitSet, empty, is_subset, below, low}
 use Rattle.enumset_repr.specs.Words.{word, with_word, bits_of}
-use Rattle.serde_json.specs.Data.{array, no_items}
 use Rattle.serde_json.specs.Read.{read}
 use Rattle.enumset.specs.Json.{words_value}
 use Rattle.enumset.specs.JsonPlain.{AreSpaces, Passed}

@@ -1,4 +1,4 @@
-use Rattle.std.proofs.Common.{Some, option_map, ap}
+use Rattle.std.proofs.Common.{option_map, ap}
 use Rattle.enumset.specs.Json.{mixed_set_of_number, number_value}
 use Rattle.enumset.proofs.PlainLists.{is_read}
 use Rattle.enumset.proofs.set_json.mixed_texts.mixed_from_number_text.Goals as goal

@@ -1,4 +1,4 @@
-use Rattle.std.proofs.Common.{Some, option_map, sym, ap, ◌∙◌}
+use Rattle.std.proofs.Common.{option_map, sym, ap, ◌∙◌}
 use Rattle.enumset_repr.specs.Words.{bits_of}
 use Rattle.enumset.specs.Json.{kept_of, mixed_set_of_words, words_value}
 use Rattle.enumset.proofs.JsonLaws.{words_back}

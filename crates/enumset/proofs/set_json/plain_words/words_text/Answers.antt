@@ -1,9 +1,8 @@
-use Rattle.std.proofs.Common.{◌≡◌, ◌++◌, ◌∷◌, [], string_bytes, ap, subst, sym, ◌∙◌, arith}
-use Rattle.std.specs.Str.{IsAscii}
+use Rattle.std.proofs.Common.{◌≡◌, ◌++◌, ◌∷◌, [], string_bytes, ap, ◌∙◌, arith}
 use Rattle.std.proofs.lemmas.Grind.{common_steps}
 use Rattle.std.proofs.lemmas.Str.{IsUtf8-from_ascii}
 use Rattle.serde_json.specs.Read.{read}
-use Rattle.enumset.proofs.WordsWritten.{AreWords, none_written, one_written, all_written, words_reads}
+use Rattle.enumset.proofs.WordsWritten.{none_written, one_written, all_written, words_reads}
 use Rattle.enumset.proofs.set_json.plain_words.words_text.Goals as goal
 
 pub loop-i-init : goal.loop-i-init

@@ -1,4 +1,4 @@
-use Rattle.std.proofs.Common.{Some, option_map, ap}
+use Rattle.std.proofs.Common.{option_map, ap}
 use Rattle.enumset_sets.specs.Elements.{valid_bits}
 use Rattle.enumset.specs.Json.{width_of, set_of_number, number_value}
 use Rattle.enumset.proofs.PlainLists.{is_read}

@@ -1,4 +1,4 @@
-use Rattle.std.proofs.Common.{Some, option_map, sym, ap, ◌∙◌}
+use Rattle.std.proofs.Common.{option_map, sym, ap, ◌∙◌}
 use Rattle.enumset_repr.specs.Words.{bits_of}
 use Rattle.enumset_sets.specs.Elements.{valid_bits}
 use Rattle.enumset.specs.Json.{accepted_of, set_of_words, words_value}
