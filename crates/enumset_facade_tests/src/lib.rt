@@ -19,6 +19,8 @@ mod folds;
 #[cfg(test)]
 mod forms;
 #[cfg(test)]
+mod macro_clauses;
+#[cfg(test)]
 mod macros;
 #[cfg(test)]
 mod many_elements;

@@ -1,0 +1,275 @@
+//! The macros in functions with contracts, so that the check refuses a macro with another meaning: over sets of any enum
+//! and over mixed sets, with none, one, two, three and five operands.
+
+ghost use Rattle.std.specs.Prelude.{◌≡◌};
+ghost use Rattle.enumset_repr.specs.BitSet as set;
+ghost use Rattle.enumset_sets.specs.Elements.{valid_bits};
+
+use enumset::set::MixedEnumSet;
+use enumset::{
+    EnumSet, EnumSetType, enum_set, enum_set_complement, enum_set_difference,
+    enum_set_intersection, enum_set_symmetric_difference, enum_set_union, mixed_enum_set,
+};
+
+fn elements<T: EnumSetType>(
+    a: T,
+    b: T,
+    c: T,
+    d: T,
+    e: T,
+) -> (EnumSet<T>, EnumSet<T>, EnumSet<T>, EnumSet<T>, EnumSet<T>)
+    ensures none { result.0 ≡ set.empty }
+    ensures one { result.1 ≡ set.only (T.elements.bit a) }
+    ensures two { result.2 ≡ set.union (set.only (T.elements.bit a)) (set.only (T.elements.bit b)) }
+    ensures three { result.3
+        ≡ set.union (set.union (set.only (T.elements.bit a)) (set.only (T.elements.bit b)))
+        (set.only (T.elements.bit c)) }
+    ensures five { result.4
+        ≡ set.union (set.union (set.union (set.union (set.only (T.elements.bit a))
+        (set.only (T.elements.bit b))) (set.only (T.elements.bit c))) (set.only (T.elements.bit d)))
+        (set.only (T.elements.bit e)) }
+{
+    (
+        enum_set!(),
+        enum_set!(a),
+        enum_set!(a | b),
+        enum_set!(a | b | c),
+        enum_set!(a | b | c | d | e),
+    )
+}
+
+fn mixed_elements<T: EnumSetType>(
+    a: T,
+    b: T,
+    c: T,
+    d: T,
+    e: T,
+) -> (
+    MixedEnumSet<T>,
+    MixedEnumSet<T>,
+    MixedEnumSet<T>,
+    MixedEnumSet<T>,
+    MixedEnumSet<T>,
+)
+    ensures none { result.0 ≡ set.empty }
+    ensures one { result.1 ≡ set.only (T.elements.bit a) }
+    ensures two { result.2 ≡ set.union (set.only (T.elements.bit a)) (set.only (T.elements.bit b)) }
+    ensures three { result.3
+        ≡ set.union (set.union (set.only (T.elements.bit a)) (set.only (T.elements.bit b)))
+        (set.only (T.elements.bit c)) }
+    ensures five { result.4
+        ≡ set.union (set.union (set.union (set.union (set.only (T.elements.bit a))
+        (set.only (T.elements.bit b))) (set.only (T.elements.bit c))) (set.only (T.elements.bit d)))
+        (set.only (T.elements.bit e)) }
+{
+    (
+        mixed_enum_set!(),
+        mixed_enum_set!(a),
+        mixed_enum_set!(a | b),
+        mixed_enum_set!(a | b | c),
+        mixed_enum_set!(a | b | c | d | e),
+    )
+}
+
+fn union<T: EnumSetType>(
+    a: EnumSet<T>,
+    b: EnumSet<T>,
+    c: EnumSet<T>,
+    d: EnumSet<T>,
+    e: EnumSet<T>,
+) -> (EnumSet<T>, EnumSet<T>, EnumSet<T>, EnumSet<T>)
+    ensures one { result.0 ≡ a }
+    ensures two { result.1 ≡ set.union a b }
+    ensures three { result.2 ≡ set.union (set.union a b) c }
+    ensures five { result.3 ≡ set.union (set.union (set.union (set.union a b) c) d) e }
+{
+    (
+        enum_set_union!(a),
+        enum_set_union!(a, b),
+        enum_set_union!(a, b, c),
+        enum_set_union!(a, b, c, d, e),
+    )
+}
+
+fn intersection<T: EnumSetType>(
+    a: EnumSet<T>,
+    b: EnumSet<T>,
+    c: EnumSet<T>,
+    d: EnumSet<T>,
+    e: EnumSet<T>,
+) -> (EnumSet<T>, EnumSet<T>, EnumSet<T>, EnumSet<T>)
+    ensures one { result.0 ≡ a }
+    ensures two { result.1 ≡ set.intersection a b }
+    ensures three { result.2 ≡ set.intersection (set.intersection a b) c }
+    ensures five { result.3
+        ≡ set.intersection (set.intersection (set.intersection (set.intersection a b) c) d) e }
+{
+    (
+        enum_set_intersection!(a),
+        enum_set_intersection!(a, b),
+        enum_set_intersection!(a, b, c),
+        enum_set_intersection!(a, b, c, d, e),
+    )
+}
+
+fn difference<T: EnumSetType>(
+    a: EnumSet<T>,
+    b: EnumSet<T>,
+    c: EnumSet<T>,
+    d: EnumSet<T>,
+    e: EnumSet<T>,
+) -> (EnumSet<T>, EnumSet<T>, EnumSet<T>, EnumSet<T>)
+    ensures one { result.0 ≡ a }
+    ensures two { result.1 ≡ set.difference a b }
+    ensures three { result.2 ≡ set.difference (set.difference a b) c }
+    ensures five { result.3 ≡ set.difference (set.difference (set.difference (set.difference a b) c) d) e }
+{
+    (
+        enum_set_difference!(a),
+        enum_set_difference!(a, b),
+        enum_set_difference!(a, b, c),
+        enum_set_difference!(a, b, c, d, e),
+    )
+}
+
+fn symmetric_difference<T: EnumSetType>(
+    a: EnumSet<T>,
+    b: EnumSet<T>,
+    c: EnumSet<T>,
+    d: EnumSet<T>,
+    e: EnumSet<T>,
+) -> (EnumSet<T>, EnumSet<T>, EnumSet<T>, EnumSet<T>)
+    ensures one { result.0 ≡ a }
+    ensures two { result.1 ≡ set.symmetric_difference a b }
+    ensures three { result.2 ≡ set.symmetric_difference (set.symmetric_difference a b) c }
+    ensures five { result.3
+        ≡ set.symmetric_difference (set.symmetric_difference (set.symmetric_difference
+        (set.symmetric_difference a b) c) d) e }
+{
+    (
+        enum_set_symmetric_difference!(a),
+        enum_set_symmetric_difference!(a, b),
+        enum_set_symmetric_difference!(a, b, c),
+        enum_set_symmetric_difference!(a, b, c, d, e),
+    )
+}
+
+fn complement<T: EnumSetType>(a: EnumSet<T>) -> EnumSet<T>
+    ensures { result ≡ set.difference (valid_bits T.elements) a }
+{
+    enum_set_complement!(a)
+}
+
+fn mixed_union<T: EnumSetType>(
+    a: MixedEnumSet<T>,
+    b: MixedEnumSet<T>,
+    c: MixedEnumSet<T>,
+    d: MixedEnumSet<T>,
+    e: MixedEnumSet<T>,
+) -> (
+    MixedEnumSet<T>,
+    MixedEnumSet<T>,
+    MixedEnumSet<T>,
+    MixedEnumSet<T>,
+)
+    ensures one { result.0 ≡ a }
+    ensures two { result.1 ≡ set.union a b }
+    ensures three { result.2 ≡ set.union (set.union a b) c }
+    ensures five { result.3 ≡ set.union (set.union (set.union (set.union a b) c) d) e }
+{
+    (
+        enum_set_union!(a),
+        enum_set_union!(a, b),
+        enum_set_union!(a, b, c),
+        enum_set_union!(a, b, c, d, e),
+    )
+}
+
+fn mixed_intersection<T: EnumSetType>(
+    a: MixedEnumSet<T>,
+    b: MixedEnumSet<T>,
+    c: MixedEnumSet<T>,
+    d: MixedEnumSet<T>,
+    e: MixedEnumSet<T>,
+) -> (
+    MixedEnumSet<T>,
+    MixedEnumSet<T>,
+    MixedEnumSet<T>,
+    MixedEnumSet<T>,
+)
+    ensures one { result.0 ≡ a }
+    ensures two { result.1 ≡ set.intersection a b }
+    ensures three { result.2 ≡ set.intersection (set.intersection a b) c }
+    ensures five { result.3
+        ≡ set.intersection (set.intersection (set.intersection (set.intersection a b) c) d) e }
+{
+    (
+        enum_set_intersection!(a),
+        enum_set_intersection!(a, b),
+        enum_set_intersection!(a, b, c),
+        enum_set_intersection!(a, b, c, d, e),
+    )
+}
+
+fn mixed_difference<T: EnumSetType>(
+    a: MixedEnumSet<T>,
+    b: MixedEnumSet<T>,
+    c: MixedEnumSet<T>,
+    d: MixedEnumSet<T>,
+    e: MixedEnumSet<T>,
+) -> (
+    MixedEnumSet<T>,
+    MixedEnumSet<T>,
+    MixedEnumSet<T>,
+    MixedEnumSet<T>,
+)
+    ensures one { result.0 ≡ a }
+    ensures two { result.1 ≡ set.intersection a (set.difference (valid_bits T.elements) b) }
+    ensures three { result.2
+        ≡ set.intersection (set.intersection a (set.difference (valid_bits T.elements) b))
+        (set.difference (valid_bits T.elements) c) }
+    ensures five { result.3
+        ≡ set.intersection (set.intersection (set.intersection (set.intersection a
+        (set.difference (valid_bits T.elements) b)) (set.difference (valid_bits T.elements) c))
+        (set.difference (valid_bits T.elements) d)) (set.difference (valid_bits T.elements) e) }
+{
+    (
+        enum_set_difference!(a),
+        enum_set_difference!(a, b),
+        enum_set_difference!(a, b, c),
+        enum_set_difference!(a, b, c, d, e),
+    )
+}
+
+fn mixed_symmetric_difference<T: EnumSetType>(
+    a: MixedEnumSet<T>,
+    b: MixedEnumSet<T>,
+    c: MixedEnumSet<T>,
+    d: MixedEnumSet<T>,
+    e: MixedEnumSet<T>,
+) -> (
+    MixedEnumSet<T>,
+    MixedEnumSet<T>,
+    MixedEnumSet<T>,
+    MixedEnumSet<T>,
+)
+    ensures one { result.0 ≡ a }
+    ensures two { result.1 ≡ set.symmetric_difference a b }
+    ensures three { result.2 ≡ set.symmetric_difference (set.symmetric_difference a b) c }
+    ensures five { result.3
+        ≡ set.symmetric_difference (set.symmetric_difference (set.symmetric_difference
+        (set.symmetric_difference a b) c) d) e }
+{
+    (
+        enum_set_symmetric_difference!(a),
+        enum_set_symmetric_difference!(a, b),
+        enum_set_symmetric_difference!(a, b, c),
+        enum_set_symmetric_difference!(a, b, c, d, e),
+    )
+}
+
+fn mixed_complement<T: EnumSetType>(a: MixedEnumSet<T>) -> MixedEnumSet<T>
+    ensures { result ≡ set.difference (valid_bits T.elements) a }
+{
+    enum_set_complement!(a)
+}
