@@ -1,5 +1,5 @@
-//! The macros in functions with contracts, so that the check refuses a macro with another meaning: over sets of any enum
-//! and over mixed sets, with none, one, two, three and five operands.
+//! The macros in functions with contracts, so that the check refuses a macro with another meaning: over sets of any
+//! enum and over mixed sets, with none, one, two, three and five operands.
 
 ghost use Rattle.std.specs.Prelude.{◌≡◌};
 ghost use Rattle.enumset_repr.specs.BitSet as set;
