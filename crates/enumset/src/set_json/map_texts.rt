@@ -41,14 +41,22 @@ fn put_true(text: &mut String, name: &str, later: bool) -> Result<(), AllocError
     text.push_str("\":true")
 }
 
+// How many bytes the map of names has, so that one request for memory is enough.
+fn text_len(names: &BTreeSet<&str>) -> usize {
+    let mut len: usize = 2;
+    for name in names.iter() {
+        len = len.saturating_add(name.len()).saturating_add(8);
+    }
+    len
+}
+
 // The map of names with `true`, unless one of them needs an escape.
 fn text_of_names(alloc: Global, names: &BTreeSet<&str>) -> Result<Option<String>, AllocError>
     ensures { IfOk result (λ o. IfSome o (λ text.
         (string_bytes text ≡ compact_text (object (all_true names.now.keys)))
         × (read (string_bytes text) ≡ Some (object (all_true names.now.keys))))) }
 {
-    // Most names have at most thirteen bytes.
-    let mut text = String::with_capacity(alloc, names.len().saturating_mul(21))?;
+    let mut text = String::with_capacity(alloc, text_len(names))?;
     text.push_str("{")?;
     let mut later = false;
     for name in names.iter() {
