@@ -1,0 +1,63 @@
+use enumset::{EnumSet, EnumSetType, EnumSetTypeWithRepr};
+use std::cmp::Ordering;
+
+/// Kinds of nodes in a tree.
+#[derive(Clone, Copy, PartialEq, Eq, Debug)]
+#[must_use]
+pub enum Node {
+    Module,
+    Function,
+    #[deprecated(note = "write a function")]
+    Lambda,
+    Call,
+}
+
+impl EnumSetType for Node {
+    ghost use Rattle.enumset_sets.specs.Laws.Elements.{in_place, lawful_in_integer, lawful_in_place};
+    ghost use Rattle.enumset_derived_types.specs.contracts.nodes.Node.{the_type};
+
+    type Repr = u8;
+
+    ghost elements = { in_place the_type };
+
+    ghost ALL_BITS = { 15 };
+
+    const ALL_BITS: u8 = 15;
+
+    ghost BIT_WIDTH = { 4 };
+
+    const BIT_WIDTH: u32 = 4;
+
+    ghost VARIANT_COUNT = { 4 };
+
+    const VARIANT_COUNT: u32 = 4;
+
+    fn enum_into_u32(self) -> u32 {
+        self as u32
+    }
+
+    fn enum_from_u32(val: u32) -> Self {
+        match val {
+            0 => Self::Module,
+            1 => Self::Function,
+            2 => Self::Lambda,
+            3 => Self::Call,
+            _ => unreachable!(),
+        }
+    }
+
+    ghost lawful = { lawful_in_place the_type (lawful_in_integer the_type _ tt) };
+}
+
+impl EnumSetTypeWithRepr for Node {
+    ghost use Rattle.std.proofs.Common.{rules};
+
+    ghost narrow = { Prim.search rules };
+}
+
+/// How two nodes are ordered.
+pub fn order(a: Node, b: Node) -> Ordering {
+    (a as u8).cmp(&(b as u8))
+}
+
+pub type Nodes = EnumSet<Node>;
