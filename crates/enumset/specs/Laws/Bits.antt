@@ -1,6 +1,7 @@
 -- Laws of numbers and of listed bits.
 --     bits_tell      two numbers with the same bits are one
 --     bits_in_order      the numbers of the list 0, 1, 2 and so on are those below n
+-- `number_max` and `number_min`, the number of the greater set and of the lesser, come from `enumset_repr`.
 -- Two rulesets, for `#[tactic(auto, using(enumset::specs::Laws::Bits::numbers))]`: `numbers` has a set and its number,
 -- there and back, `listed` the set of a number, of words or of a list, by a list of its bits.
 use Rattle.std.proofs.Common.{◌≡◌, ℕ, suc, zero, ◌+◌, ◌&&◌, ◌||◌, sym, ap, ◌∙◌, arith}
@@ -12,6 +13,7 @@ use Rattle.enumset_repr.specs.Number.{bits, number}
 use Rattle.enumset_repr.specs.Laws.Members.{same_set, contains-below, contains-from_list, contains-ascending}
 use Rattle.enumset_repr.specs.Laws.Numbers.{bits-number, number-bits, bits-within, number-within}
 use Rattle.enumset_repr.specs.Laws.Listed.{bits_listed, words_listed}
+pub use Rattle.enumset_repr.specs.Laws.Ordering.{number_max, number_min}
 
 pub bits_tell : (m n : ℕ) → bits m ≡ bits n → m ≡ n
 bits_tell m n same = sym (number-bits m) ∙ ap number same ∙ number-bits n
