@@ -11,16 +11,16 @@ pub(super) fn is_plain_byte(byte: u8) -> bool
     byte != b'"' && byte != b'\\' && byte >= b' '
 }
 
-// Whether a text stands for itself in a JSON string.
+// Whether a text stands for itself in a JSON string. The loop goes on past a byte that does not, so that the compiler
+// tests sixteen bytes at once.
 pub(super) fn is_plain(text: &str) -> bool
     ensures { IsTrue result → IsPlain text.now }
 {
+    let mut is_plain = true;
     for byte in text.as_bytes() {
-        if !is_plain_byte(*byte) {
-            return false;
-        }
+        is_plain &= is_plain_byte(*byte);
     }
-    true
+    is_plain
 }
 
 // Whether a byte may stand between tokens.
