@@ -38,16 +38,10 @@ pub fn arguments<R: Env + AllocGlobal>(rt: &R) -> Result<Vec<String>, DeriveErro
 pub fn request_of(alloc: Global, arguments: &[String]) -> Result<Request<'_>, DeriveError> {
     let crate_name = arguments.get(1).ok_or(WRONG)?.as_str();
     let path = arguments.get(2).ok_or(WRONG)?.as_str();
-    let mut module = String::new(alloc);
-    for name in path.split("::") {
-        if !is_name(crate_name) || !is_name(name) {
-            return Err(NOT_A_NAME);
-        }
-        if !module.is_empty() {
-            module.push('.')?;
-        }
-        module.push_str(name)?;
+    if !is_name(crate_name) || !path.split("::").all(is_name) {
+        return Err(NOT_A_NAME);
     }
+    let module = path.replace(alloc, "::", ".")?;
     let file = match arguments {
         [_, _, _] => None,
         [_, _, _, flag, file] if flag.as_str() == "-o" => Some(file.as_str()),

@@ -79,35 +79,31 @@ impl fmt::Display for Fault {
 
 impl fmt::Display for Reason {
     fn fmt<W: fmt::Write>(&self, f: &mut fmt::Formatter<W>) -> fmt::Result {
-        f.write_str(match *self {
-            Reason::Text(text) => text,
-            Reason::OptionTwice(first) => return write!(f, "this option was given at {first}"),
-            Reason::JsonNameTwice(first) => {
-                return write!(f, "this name in JSON was given at {first}");
-            }
-            Reason::IntegerMissing => "`map = \"msb\"` needs `repr` to be an integer",
-            Reason::TooManyVariants => "an enum may have at most 256 variants",
-            Reason::NameTwice(first) => return write!(f, "this name was given at {first}"),
-            Reason::NotAMask => "a mask must be a power of two",
-            Reason::PastGreatest => "a bit must be from 0 to 4294967231",
-            Reason::ImpliedTooLarge => "the implied discriminant is past 2^128 - 1",
+        match *self {
+            Reason::Text(text) => f.write_str(text),
+            Reason::OptionTwice(first) => write!(f, "this option was given at {first}"),
+            Reason::JsonNameTwice(first) => write!(f, "this name in JSON was given at {first}"),
+            Reason::IntegerMissing => write!(f, "`map = \"msb\"` needs `repr` to be an integer"),
+            Reason::TooManyVariants => write!(f, "an enum may have at most 256 variants"),
+            Reason::NameTwice(first) => write!(f, "this name was given at {first}"),
+            Reason::NotAMask => write!(f, "a mask must be a power of two"),
+            Reason::PastGreatest => write!(f, "a bit must be from 0 to 4294967231"),
+            Reason::ImpliedTooLarge => write!(f, "the implied discriminant is past 2^128 - 1"),
             Reason::PastRepresentation { bit, width } => {
-                return write!(f, "`repr` is too small: bit {bit}, width {width}");
+                write!(f, "`repr` is too small: bit {bit}, width {width}")
             }
             Reason::PastSerialized { bit, width } => {
-                return write!(f, "`serialize_repr` is too small: bit {bit}, width {width}");
+                write!(f, "`serialize_repr` is too small: bit {bit}, width {width}")
             }
-            Reason::PastWords(bit) => {
-                return write!(
-                    f,
-                    "bit {bit} is past 1024 words; `map = \"compact\"` takes the places as bits"
-                );
-            }
-            Reason::BitTwice(first) => return write!(f, "this bit was taken at {first}"),
+            Reason::PastWords(bit) => write!(
+                f,
+                "bit {bit} is past 1024 words; `map = \"compact\"` takes the places as bits"
+            ),
+            Reason::BitTwice(first) => write!(f, "this bit was taken at {first}"),
             Reason::DiscriminantTwice(first) => {
-                return write!(f, "this discriminant was taken at {first}");
+                write!(f, "this discriminant was taken at {first}")
             }
-        })
+        }
     }
 }
 

@@ -7,7 +7,7 @@ use crate::read::read_source;
 use crate::source::Source;
 use crate::tokens::tokens_of;
 use crate::write::module_text;
-use std::alloc::{AllocError, Global};
+use std::alloc::Global;
 use std::env::Env;
 use std::fs;
 use std::io::{self, ErrorKind, Input, Print, Read, Write};
@@ -30,10 +30,10 @@ fn derive<R: Input + Eprint + AllocGlobal>(
 ) -> Result<String, DeriveError> {
     let alloc = rt.alloc();
     let input = read_input(alloc, rt.reader())?;
-    let text = with_line_feeds(alloc, text_of(&input)?)?;
+    let text = text_of(&input)?.replace(alloc, "\r\n", "\n")?;
     let tokens = tokens_of(alloc, text.as_str())?;
     let source = read_source(alloc, text.as_str(), &tokens)?;
-    let module = module_text(alloc, request.crate_name, request.module.as_str(), &source)?;
+    let module = module_text(alloc, request, &source)?;
     report(rt, &source);
     Ok(module)
 }
@@ -43,7 +43,8 @@ fn report<R: Eprint>(rt: &R, source: &Source) {
     for (place, note) in &source.notes {
         let _ = eprintln!(rt; "{place}: {note}");
     }
-    if !source.has_enums && !source.items.is_empty() {
+    let is_blank = source.items.is_empty() && source.notes.is_empty();
+    if !source.has_enums && !is_blank {
         let _ = eprintln!(rt; "no enum derives EnumSetType");
     }
 }
@@ -76,18 +77,6 @@ fn read_input<R: Read + Drop>(alloc: Global, reader: R) -> Result<Vec<u8>, Deriv
         Err(error) if error.kind() == ErrorKind::OutOfMemory => Err(DeriveError::OutOfMemory),
         Err(_) => Err(DeriveError::Stream("reading failed")),
     }
-}
-
-/// A text whose lines end by a line feed alone.
-fn with_line_feeds(alloc: Global, text: &str) -> Result<String, AllocError> {
-    let mut lines = String::new(alloc);
-    for (at, part) in text.split("\r\n").enumerate() {
-        if at > 0 {
-            lines.push('\n')?;
-        }
-        lines.push_str(part)?;
-    }
-    Ok(lines)
 }
 
 /// The text that bytes are, without a byte order mark, or the fault where they are no text.

@@ -11,6 +11,8 @@ pub struct Source<'a> {
     pub alloc: Global,
     /// In their order.
     pub items: Vec<Item<'a>>,
+    /// How many of them stand before the end of the last inner comment or attribute at its beginning.
+    pub head: usize,
     /// What it imports of the crate `enumset`, each as it is written after `enumset::`.
     pub imports: Vec<String>,
     pub has_imports: bool,
@@ -35,27 +37,27 @@ pub struct Item<'a> {
 /// What an item is.
 #[derive(Drop)]
 pub enum Form<'a> {
-    /// A text that goes through unchanged.
-    Text(&'a str),
-    /// A text of which something is left out.
-    Changed(String),
-    /// The end of the inner comments and attributes at the head of the text.
-    HeadEnd,
+    /// A text as it is written.
+    Text(String),
     /// The first line `use enumset::..;`.
     Imports,
-    /// An import of another crate, which is written if something uses it.
-    Foreign(Foreign<'a>),
+    /// An import of anything else.
+    Import(Import<'a>),
     /// An enum that is to be an element type.
     Element(Element<'a>),
 }
 
-/// An import of a crate that may not be there.
+/// An import.
 #[derive(Drop)]
-pub struct Foreign<'a> {
+pub struct Import<'a> {
     pub place: Place,
     pub text: String,
+    /// What stands after `use`.
+    pub path: String,
     /// The names that it brings, or `*` or `_`.
-    pub names: Vec<&'a str>,
+    pub names: Vec<Name<'a>>,
+    /// Whether it is of a crate that is there. Another import is written if something uses it.
+    pub is_known: bool,
 }
 
 /// An enum that is to be an element type, with its plan.
@@ -63,8 +65,8 @@ pub struct Foreign<'a> {
 pub struct Element<'a> {
     pub declaration: EnumDeclaration<'a>,
     pub plan: Plan,
-    /// The names of the variants in JSON, in their order, if one is not the variant's own.
-    pub json_names: Vec<String>,
+    /// The names of the variants in JSON, in their order, and where each is given, if one may not be the variant's own.
+    pub json_names: Vec<(Place, String)>,
     /// Whether it is there for tests alone.
     pub is_test: bool,
 }
@@ -79,7 +81,7 @@ pub struct Name<'a> {
 }
 
 /// The space since the last item.
-#[derive(Clone, Copy)]
+#[derive(Clone, Copy, Default)]
 struct Gap {
     lines: usize,
     has_space: bool,
@@ -87,37 +89,32 @@ struct Gap {
     is_after_left_out: bool,
 }
 
-const NO_GAP: Gap = Gap {
-    lines: 0,
-    has_space: false,
-    is_after_left_out: false,
-};
-
 impl<'a> Source<'a> {
     /// What is known of a source before it is read.
     pub fn new(alloc: Global) -> Source<'a> {
         Source {
             alloc,
             items: Vec::new(alloc),
+            head: 0,
             imports: Vec::new(alloc),
             has_imports: false,
             names: Vec::new(alloc),
             facade: "enumset",
             has_enums: false,
             notes: Vec::new(alloc),
-            gap: NO_GAP,
+            gap: Gap::default(),
         }
     }
 
     /// Adds an item, after the space since the last. Before an element type, a new line begins, and after the imports or
     /// another element type an empty line comes first.
     pub fn push(&mut self, form: Form<'a>) -> Result<(), AllocError> {
-        let gap = mem::replace(&mut self.gap, NO_GAP);
+        let gap = mem::take(&mut self.gap);
+        let is_after_head = self.items.len() == self.head;
         let lines = match (&form, self.items.last()) {
             (_, None) => 0,
-            (Form::Element(_), Some(last)) => match last.form {
+            (Form::Element(_), Some(last)) if !is_after_head => match last.form {
                 Form::Imports | Form::Element(_) => 2,
-                Form::HeadEnd => gap.lines,
                 _ => gap.lines.max(1),
             },
             _ => gap.lines,
@@ -130,6 +127,60 @@ impl<'a> Source<'a> {
         };
         self.items.push(Item { gap, form })?;
         Ok(())
+    }
+
+    /// Adds an item whose gap is known. Imports on lines of their own are in the order that `rt fmt` gives them.
+    pub fn insert(&mut self, item: Item<'a>) -> Result<(), AllocError> {
+        let mut item = item;
+        let mut at = self.items.len();
+        for (index, earlier) in self.items.iter().enumerate().rev() {
+            if item.gap != "\n" || !self.is_import_before(&item, earlier) {
+                break;
+            }
+            at = index;
+            if earlier.gap != "\n" {
+                break;
+            }
+        }
+        if let Some(next) = self.items.get_mut(at) {
+            mem::swap(&mut item.gap, &mut next.gap);
+        }
+        self.items.insert(at.min(self.items.len()), item)?;
+        Ok(())
+    }
+
+    /// Whether both items are imports, and the first comes before the second one.
+    fn is_import_before(&self, first: &Item, second: &Item) -> bool {
+        match (self.order_of(&first.form), self.order_of(&second.form)) {
+            (Some(first), Some(second)) => first < second,
+            _ => false,
+        }
+    }
+
+    /// By what `rt fmt` orders imports: those of the crate itself come first.
+    fn order_of<'b>(&'b self, form: &'b Form<'a>) -> Option<(u32, &'b str, &'b str)> {
+        let (root, path) = match form {
+            Form::Imports => (self.facade, "{"),
+            Form::Import(import) => {
+                let path = import.path.as_str();
+                let root = path.split(' ').next().unwrap_or(path);
+                path.split_once("::").unwrap_or((root, ""))
+            }
+            _ => return None,
+        };
+        let rank = match root {
+            "self" => 0,
+            "super" => 1,
+            "crate" => 2,
+            _ => 3,
+        };
+        Some((rank, root, path))
+    }
+
+    /// Adds a text that goes through unchanged.
+    pub fn push_text(&mut self, text: &str) -> Result<(), AllocError> {
+        let text = String::from_str(self.alloc, text)?;
+        self.push(Form::Text(text))
     }
 
     /// Adds space. Where something was left out in it, it is not more than before or after that.

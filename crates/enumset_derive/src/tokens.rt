@@ -59,6 +59,11 @@ impl<'a> Token<'a> {
         matches!(self.kind, Kind::Space) || self.is_comment()
     }
 
+    /// Where it ends, in bytes.
+    pub fn end(&self) -> usize {
+        self.begin.saturating_add(self.text.len())
+    }
+
     /// The fault that is here.
     pub fn fault(&self, text: &'static str) -> DeriveError {
         DeriveError::Fault(Reason::Text(text).at(self.place))
@@ -80,18 +85,24 @@ impl<'a> Token<'a> {
         matches!(self.kind, Kind::Mark(found) if found == mark)
     }
 
+    /// Whether the token is one of these marks.
+    pub fn is_one_of(&self, marks: &str) -> bool {
+        matches!(self.kind, Kind::Mark(mark) if marks.contains(mark))
+    }
+
     /// Whether the token is a name: a word without a digit first.
     pub fn is_name(&self) -> bool {
         matches!(self.kind, Kind::Word) && !self.text.starts_with(is_digit)
     }
 }
 
-pub fn is_digit(character: char) -> bool {
-    character.is_ascii_digit()
+/// Whether a word is among words with spaces between them.
+pub fn is_among(words: &str, word: &str) -> bool {
+    words.split(' ').any(|known| known == word)
 }
 
-fn is_ascii_word(character: char) -> bool {
-    character == '_' || character.is_ascii_alphanumeric()
+pub fn is_digit(character: char) -> bool {
+    character.is_ascii_digit()
 }
 
 /// What stands in a text before the rest of it.
@@ -112,5 +123,5 @@ fn is_space(character: char) -> bool {
 
 /// Whether a character may stand in a word: a letter, a digit, `_`, or a character past ASCII.
 fn is_word(character: char) -> bool {
-    is_ascii_word(character) || !character.is_ascii()
+    character == '_' || character.is_ascii_alphanumeric() || !character.is_ascii()
 }

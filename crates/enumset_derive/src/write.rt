@@ -9,6 +9,7 @@ mod names;
 mod operators;
 mod stores;
 
+use crate::arguments::Request;
 use crate::fault::DeriveError;
 use crate::source::{Element, Form, Source};
 use element_type::write_element_type;
@@ -41,31 +42,27 @@ struct Subject<'a> {
 /// The imports stand where the first of the source stand, or after its head.
 pub fn module_text(
     alloc: Global,
-    crate_name: &str,
-    module: &str,
+    request: &Request,
     source: &Source,
 ) -> Result<String, DeriveError> {
     let imports = imports_of(source)?;
     let imports = imports.as_str();
     let mut text = String::new(alloc);
-    for item in &source.items {
+    for (index, item) in source.items.iter().enumerate() {
         write_gap(&mut text, item.gap)?;
+        if index == source.head && source.has_enums && !source.has_imports {
+            write!(text, "{imports}\n\n")?;
+        }
         match &item.form {
-            Form::Text(other) => text.push_str(other)?,
-            Form::Changed(other) => text.push_str(other.as_str())?,
-            Form::Foreign(import) => text.push_str(import.text.as_str())?,
-            Form::HeadEnd if source.has_imports || !source.has_enums => {}
-            Form::HeadEnd => {
-                text.push_str(imports)?;
-                text.push_str("\n\n")?;
-            }
+            Form::Text(other) => text.push_str(other.as_str())?,
+            Form::Import(import) => text.push_str(import.text.as_str())?,
             Form::Imports => text.push_str(imports)?,
             Form::Element(element) => {
                 write_enum(&mut text, alloc, element)?;
                 let subject = Subject {
                     alloc,
-                    crate_name,
-                    module,
+                    crate_name: request.crate_name,
+                    module: request.module.as_str(),
                     facade: source.facade,
                     name: element.declaration.name,
                     guard: if element.is_test { FOR_TESTS } else { "" },

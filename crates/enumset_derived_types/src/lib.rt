@@ -6,7 +6,9 @@
 #![tactic(auto)]
 
 pub mod axes;
+pub mod cards;
 pub mod days;
+pub mod modes;
 pub mod nodes;
 pub mod permissions;
 pub mod states;

@@ -26,6 +26,13 @@ pub struct Options<'a> {
     pub crate_name: Option<&'a str>,
 }
 
+impl Options<'_> {
+    /// Whether sets are written in JSON by the names of their elements.
+    pub fn are_named(&self) -> bool {
+        matches!(self.serialized, Some(Serialized::List | Serialized::Map))
+    }
+}
+
 /// Which bit a discriminant names.
 #[derive(Clone, Copy)]
 pub enum Map {

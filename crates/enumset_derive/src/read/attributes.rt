@@ -1,9 +1,12 @@
-//! Attributes, and which of them have a meaning in Rattle.
+//! Comments and attributes, and which attributes have a meaning in Rattle.
 
-use super::cursor::{Cursor, Done, Stop};
+use super::cursor::Cursor;
 use crate::fault::DeriveError;
 use crate::place::Place;
-use crate::tokens::{Kind, Token};
+use crate::tokens::{Kind, Token, UNCLOSED_BRACKET, is_among};
+use std::alloc::Global;
+
+pub(super) const NO_MEANING: &str = "has no meaning here";
 
 const CONFIGURATION: &str =
     "`cfg(test)` is the only configuration here: remove the attribute, or what is under it too";
@@ -14,6 +17,21 @@ const ON_VARIANT: &str =
 const DERIVE_ALONE: &str = "here nothing comes of `EnumSetType`: write `#[derive(..)]` alone";
 
 const OPTIONS_ALONE: &str = "here nothing comes of the options: write `#[enumset(..)]` alone";
+
+/// What has a meaning everywhere, before a type, and before an item that is no element type.
+const EVERYWHERE: &str = "allow warn deny forbid expect clippy tactic";
+
+const OF_TYPES: &str = "must_use rattlefmt cycle derive_where";
+
+const OF_ITEMS: &str = "inline cold test ignore should_panic macro_export macro_use macro_derive \
+    unsafe error serde";
+
+/// What stands before an item or a variant.
+#[derive(Clone, Copy)]
+pub(super) enum Part<'a, 'b> {
+    Comment(&'a str),
+    Attribute(Attribute<'a, 'b>),
+}
 
 /// What an attribute stands before or in.
 #[derive(Clone, Copy)]
@@ -29,9 +47,9 @@ pub(super) enum Bearer {
 /// An attribute.
 #[derive(Clone, Copy)]
 pub(super) struct Attribute<'a, 'b> {
-    /// Its `#`, and the bracket after it.
-    pub begin: &'b Token<'a>,
-    pub bracket: &'b Token<'a>,
+    /// Where its `#` is.
+    pub place: Place,
+    bracket: &'b Token<'a>,
     /// As it is written.
     pub text: &'a str,
     /// The place of its name.
@@ -40,21 +58,29 @@ pub(super) struct Attribute<'a, 'b> {
     pub tokens: &'b [Token<'a>],
 }
 
-impl Attribute<'_, '_> {
+impl<'a, 'b> Attribute<'a, 'b> {
+    /// Whether it is of this name.
+    pub fn is(&self, name: &str) -> bool {
+        self.name.token.is(name)
+    }
+
     /// Whether it is kept. It is a fault if nothing right would come of keeping it or of leaving it out.
     pub fn has_meaning(&self, bearer: Bearer) -> Result<bool, DeriveError> {
+        let name = self.name.token.text;
         let is_item = matches!(bearer, Bearer::Item);
         let is_type = is_item || matches!(bearer, Bearer::Enum);
-        Ok(match self.name.token.text {
-            "allow" | "warn" | "deny" | "forbid" | "expect" | "clippy" | "tactic" => true,
+        Ok(match name {
             "doc" => self.is_written(&["(", "hidden", ")"]) || self.is_text(),
             "deprecated" | "non_exhaustive" => !matches!(bearer, Bearer::Text),
-            "must_use" | "rattlefmt" | "cycle" | "derive_where" => is_type,
+            "repr" => {
+                let is_kept = self.is_written(&["(", "C", ")"]);
+                is_item && (is_kept || self.is_written(&["(", "transparent", ")"]))
+            }
             "cfg" => {
                 let is_variant = matches!(bearer, Bearer::Variant);
                 self.name.want(!is_variant, ON_VARIANT)?;
-                self.name
-                    .want(self.is_written(&["(", "test", ")"]), CONFIGURATION)?;
+                let is_test = self.is_written(&["(", "test", ")"]);
+                self.name.want(is_test, CONFIGURATION)?;
                 true
             }
             "cfg_attr" => {
@@ -63,22 +89,8 @@ impl Attribute<'_, '_> {
                 self.name.want(!self.calls("enumset"), OPTIONS_ALONE)?;
                 false
             }
-            "repr" => {
-                let is_kept = self.is_written(&["(", "C", ")"]);
-                is_item && (is_kept || self.is_written(&["(", "transparent", ")"]))
-            }
-            "inline"
-            | "cold"
-            | "test"
-            | "ignore"
-            | "should_panic"
-            | "macro_export"
-            | "macro_use"
-            | "macro_derive"
-            | "unsafe"
-            | "error" => is_item,
-            "serde" => is_item,
-            _ => false,
+            _ if is_item && is_among(OF_ITEMS, name) => true,
+            _ => is_among(EVERYWHERE, name) || (is_type && is_among(OF_TYPES, name)),
         })
     }
 
@@ -113,16 +125,40 @@ impl Attribute<'_, '_> {
         }
         false
     }
+
+    /// The place of the bracket before its arguments.
+    pub fn arguments(&self) -> Result<Cursor<'a, 'b>, DeriveError> {
+        let mut cursor = self.name;
+        cursor.advance_past_blanks()?;
+        cursor.want(cursor.token.is_mark('('), "wanted: `(`")?;
+        Ok(cursor)
+    }
+
+    /// Goes on from the bracket before the arguments, or from what stands after an argument, to the next one or to the
+    /// bracket at their end. Tells whether there is one.
+    pub fn go_to_argument(&self, cursor: &mut Cursor<'a, 'b>) -> Result<bool, DeriveError> {
+        let depth = self.name.token.depth.saturating_add(1);
+        let is_before = cursor.token.is_one_of("(,") && cursor.token.depth == depth;
+        if is_before {
+            cursor.advance_past_blanks()?;
+        }
+        let is_end = cursor.token.is_mark(')');
+        cursor.want(is_before || is_end, "wanted: `,` or `)`")?;
+        if is_end {
+            cursor.advance_past_blanks()?;
+            if !cursor.token.is_mark(']') {
+                return Err(self.bracket.fault(UNCLOSED_BRACKET));
+            }
+        }
+        Ok(!is_end)
+    }
 }
 
 /// Where `EnumSetType` is derived among these tokens, or its other name.
 pub(super) fn place_of_derive(tokens: &[Token], renamed: &str) -> Option<Place> {
     let mut depth = None;
     let mut was_derive = false;
-    for token in tokens {
-        if token.is_blank() {
-            continue;
-        }
+    for token in tokens.iter().filter(|token| !token.is_blank()) {
         depth = match depth {
             Some(depth) if token.depth < depth => None,
             Some(_) if token.is("EnumSetType") || token.is(renamed) => return Some(token.place),
@@ -137,19 +173,33 @@ pub(super) fn place_of_derive(tokens: &[Token], renamed: &str) -> Option<Place> 
 /// The name `F` of `EnumSetType as F` among these tokens, or an empty text.
 pub(super) fn renamed_derive<'a>(tokens: &[Token<'a>]) -> &'a str {
     let mut read = 0;
-    for token in tokens {
-        match (read, token.text) {
-            _ if token.is_blank() => {}
+    for token in tokens.iter().filter(|token| !token.is_blank()) {
+        read = match (read, token.text) {
             (2, name) => return name,
-            (1, "as") => read = 2,
-            (_, "EnumSetType") => read = 1,
-            _ => read = 0,
-        }
+            (1, "as") => 2,
+            (_, "EnumSetType") => 1,
+            _ => 0,
+        };
     }
     ""
 }
 
 impl<'a, 'b> Cursor<'a, 'b> {
+    /// Reads the comments and attributes that come next, up to what stands after them.
+    pub fn read_parts(&mut self, alloc: Global) -> Result<Vec<Part<'a, 'b>>, DeriveError> {
+        let mut parts = Vec::new(alloc);
+        for _ in self.rest {
+            match self.token.kind {
+                Kind::Space => {}
+                Kind::Mark('#') => parts.push(Part::Attribute(self.read_attribute()?))?,
+                _ if self.token.is_comment() => parts.push(Part::Comment(self.token.text))?,
+                _ => break,
+            }
+            self.advance()?;
+        }
+        Ok(parts)
+    }
+
     /// Reads an attribute from its `#` or the `!` after it on, up to the `]` at its end.
     pub fn read_attribute(&mut self) -> Result<Attribute<'a, 'b>, DeriveError> {
         let begin = self.token;
@@ -158,37 +208,14 @@ impl<'a, 'b> Cursor<'a, 'b> {
         self.want(bracket.is_mark('['), "wanted: `[`")?;
         self.advance_past_blanks()?;
         let name = *self;
-        self.skip_to(Stop::Mark(']', begin.depth))?;
+        self.skip_to("]", begin.depth)?;
         Ok(Attribute {
-            begin,
+            place: begin.place,
             bracket,
-            text: self.text_from(begin),
+            text: self.text_since(begin.begin),
             name,
             tokens: self.passed_since(&name),
         })
-    }
-
-    /// Whether an attribute of the text begins here.
-    pub fn is_at_inner_attribute(&self) -> bool {
-        self.token.is_mark('#') && matches!(self.rest, [next, ..] if next.is_mark('!'))
-    }
-
-    /// Whether an attribute of what follows it begins here.
-    pub fn is_at_attribute(&self) -> bool {
-        self.token.is_mark('#') && matches!(self.rest, [next, ..] if next.is_mark('['))
-    }
-
-    /// Goes on past comments and attributes.
-    pub fn skip_attributes(&mut self) -> Done {
-        for _ in self.rest {
-            if self.token.is_mark('#') {
-                let _ = self.read_attribute()?;
-            } else if !self.token.is_blank() {
-                break;
-            }
-            self.advance()?;
-        }
-        Ok(())
     }
 
     /// Reads a visibility, as `pub` or `pub(crate)`, if there is one: `pub` and what stands in brackets after it.
@@ -201,8 +228,8 @@ impl<'a, 'b> Cursor<'a, 'b> {
         if !begin.is_mark('(') {
             return Ok(("pub", ""));
         }
-        self.skip_to(Stop::Mark(')', 0))?;
-        let restriction = self.text_from(begin);
+        self.skip_to(")", 0)?;
+        let restriction = self.text_since(begin.begin);
         self.advance_past_blanks()?;
         Ok(("pub", restriction))
     }

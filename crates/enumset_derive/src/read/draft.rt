@@ -1,14 +1,14 @@
-//! What is known of an enum that is to be an element type.
+//! Enums that are to be element types.
 
 use super::Reader;
-use super::attributes::{Attribute, Bearer};
+use super::attributes::{Attribute, Bearer, Part};
 use super::cursor::{Cursor, Done};
-use crate::fault::{DeriveError, Reason};
-use crate::place::Place;
-use crate::plan::{EnumDeclaration, Options, Serialized, plan_enum};
+use super::names::Serde;
+use crate::fault::Reason;
+use crate::plan::{EnumDeclaration, Options, plan_enum};
 use crate::source::{Element, Form};
-use crate::tokens::Kind;
-use std::alloc::{AllocError, Global};
+use crate::tokens::Token;
+use std::alloc::Global;
 use std::mem;
 
 const NO_FORM: &str = "`serialize_deny_unknown` needs `serialize_repr`";
@@ -17,44 +17,24 @@ const SERDE_ALONE: &str = "here nothing comes of the names: write `#[serde(..)]`
 
 const NO_VARIANTS: &str = "`rt ci` refuses what this enum without variants has: nobody can call it";
 
-/// An attribute of `serde`.
-#[derive(Clone, Copy)]
-pub(super) struct Serde<'a, 'b> {
-    pub attribute: Attribute<'a, 'b>,
-    /// How many variants stand before it, if it is a variant's.
-    pub variant: Option<usize>,
-    /// Whether it is among the attributes that are written.
-    is_kept: bool,
-}
-
 /// What is known of an enum that is to be an element type.
 #[derive(Drop)]
 pub(super) struct Draft<'a, 'b> {
-    pub alloc: Global,
-    /// The other name of `EnumSetType`, if there is one.
-    derive: &'a str,
+    alloc: Global,
     pub declaration: EnumDeclaration<'a>,
     /// The comments and the attributes that were read last.
-    pending: Vec<&'a str>,
+    pub pending: Vec<&'a str>,
     has_derive: bool,
-    /// Whether something is derived that reads attributes of `serde`.
-    has_serde: bool,
-    /// The names of the options that are given, and where, in their order.
-    pub given: Vec<(&'a str, Place)>,
+    is_test: bool,
+    /// The names of the options that are given, in their order.
+    pub given: Vec<&'b Token<'a>>,
     pub serde: Vec<Serde<'a, 'b>>,
     /// The attribute under which one of `serde` stands, if there is one.
     hidden_serde: Option<Attribute<'a, 'b>>,
-    /// Where the enum's name is.
-    pub place: Place,
-    is_test: bool,
-    /// The names in the derives that are kept.
-    pub words: Vec<&'a str>,
-    /// What has no meaning in Rattle, in its order.
-    pub left_out: Vec<(Place, String)>,
 }
 
 impl<'a, 'b> Draft<'a, 'b> {
-    pub fn new(alloc: Global, derive: &'a str) -> Draft<'a, 'b> {
+    fn new(alloc: Global) -> Draft<'a, 'b> {
         let declaration = EnumDeclaration {
             attributes: Vec::new(alloc),
             later_attributes: Vec::new(alloc),
@@ -67,18 +47,13 @@ impl<'a, 'b> Draft<'a, 'b> {
         };
         Draft {
             alloc,
-            derive,
             declaration,
             pending: Vec::new(alloc),
             has_derive: false,
-            has_serde: false,
+            is_test: false,
             given: Vec::new(alloc),
             serde: Vec::new(alloc),
             hidden_serde: None,
-            place: Place::BEGIN,
-            is_test: false,
-            words: Vec::new(alloc),
-            left_out: Vec::new(alloc),
         }
     }
 
@@ -87,190 +62,56 @@ impl<'a, 'b> Draft<'a, 'b> {
         mem::replace(&mut self.pending, Vec::new(self.alloc))
     }
 
-    /// Reads comments and attributes. Tells whether there is an attribute.
-    pub fn read_attributes(&mut self, cursor: &mut Cursor<'a, 'b>) -> Result<bool, DeriveError> {
-        let mut has_attribute = false;
-        for _ in cursor.rest {
-            match cursor.token.kind {
-                Kind::Space => {}
-                Kind::Mark('#') => {
-                    has_attribute = true;
-                    let attribute = cursor.read_attribute()?;
-                    self.take(&attribute)?;
-                }
-                _ if cursor.token.is_comment() => self.pending.push(cursor.token.text)?,
-                _ => break,
-            }
-            cursor.advance()?;
-        }
-        Ok(has_attribute)
-    }
-
-    /// Takes an attribute of the enum, or of a variant if the enum's name is known.
-    fn take(&mut self, attribute: &Attribute<'a, 'b>) -> Done {
-        let name = attribute.name.token.text;
-        let is_enum = self.declaration.name.is_empty();
-        let bearer = if is_enum {
-            Bearer::Enum
-        } else {
-            Bearer::Variant
-        };
-        if is_enum && (name == "derive" || name == "enumset") {
-            if name == "derive" && !self.has_derive {
-                self.declaration.attributes = self.comments();
-                self.has_derive = true;
-            }
-            return self.read_arguments(attribute);
-        }
-        if name == "cfg_attr" && attribute.calls("serde") {
-            self.hidden_serde = self.hidden_serde.or(Some(*attribute));
-        }
-        self.is_test = self.is_test || name == "cfg";
-        let is_kept = match name {
-            "serde" => self.has_serde,
-            "default" => !is_enum && self.derives("Default"),
-            "error" => self.derives("Error"),
-            _ => attribute.has_meaning(bearer)?,
-        };
-        if is_kept {
-            self.pending.push(attribute.text)?;
-        }
-        if name == "serde" {
-            let before = self.declaration.variants.len();
-            self.serde.push(Serde {
-                attribute: *attribute,
-                variant: if is_enum { None } else { Some(before) },
-                is_kept,
-            })?;
-        } else if !is_kept {
-            self.leave_out(attribute)?;
-        }
-        Ok(())
-    }
-
-    /// Notes that an attribute is left out.
-    fn leave_out(&mut self, attribute: &Attribute<'a, 'b>) -> Result<(), AllocError> {
-        let text = String::from_str(self.alloc, attribute.text)?;
-        self.left_out.push((attribute.begin.place, text))?;
-        Ok(())
-    }
-
-    /// Notes that the attributes of `serde` are left out that are neither written nor used for names.
-    fn leave_out_serde(&mut self) -> Result<(), AllocError> {
-        let is_named = self.is_named();
-        for serde in mem::replace(&mut self.serde, Vec::new(self.alloc)) {
-            if !serde.is_kept && !is_named {
-                self.leave_out(&serde.attribute)?;
-            }
-        }
-        Ok(())
-    }
-
     /// Whether something of this name is derived.
     fn derives(&self, name: &str) -> bool {
         let mut derives = self.declaration.derives.iter();
         derives.any(|path| path.ends_with(name))
     }
 
-    /// Whether sets are written in JSON by the names of their elements.
-    pub fn is_named(&self) -> bool {
-        let form = self.declaration.options.serialized;
-        matches!(form, Some(Serialized::List | Serialized::Map))
-    }
-
-    /// Takes a path that is derived.
-    pub fn take_derive(&mut self, path: String, words: &[&'a str], place: Place) -> Done {
-        let is_ours = path.as_str() == "EnumSetType" || path.ends_with("::EnumSetType");
-        if is_ours || path.as_str() == self.derive {
-            return Ok(());
-        }
-        if !is_known_derive(words) {
-            let text = format!(in self.alloc; "#[derive({path})]")?;
-            self.left_out.push((place, text))?;
-            return Ok(());
-        }
-        let is_serde = path.ends_with("Serialize") || path.ends_with("Deserialize");
-        self.has_serde = self.has_serde || is_serde;
-        for word in words {
-            self.words.push(word)?;
-        }
-        self.declaration.derives.push(path)?;
-        Ok(())
-    }
-
-    /// A fault if an option of the enum means nothing without another.
+    /// A fault if an option or an attribute of the enum means nothing without another.
     pub fn test_options(&self) -> Done {
-        for (name, place) in &self.given {
-            let is_alone = self.declaration.options.serialized.is_none();
-            if is_alone && *name == "serialize_deny_unknown" {
-                return Err(Reason::Text(NO_FORM).at(*place).into());
+        let options = &self.declaration.options;
+        for given in &self.given {
+            if options.serialized.is_none() && given.is("serialize_deny_unknown") {
+                return Err(given.fault(NO_FORM));
             }
         }
         match self.hidden_serde {
-            Some(attribute) if self.is_named() => attribute.name.want(false, SERDE_ALONE),
-            _ => Ok(()),
+            Some(attribute) => attribute.name.want(!options.are_named(), SERDE_ALONE),
+            None => Ok(()),
         }
     }
 }
 
-/// Whether a path of these names is derived by std, by `serde` or `thiserror`, or by a macro of the crate itself.
-fn is_known_derive(words: &[&str]) -> bool {
-    let (root, name) = match words {
-        [name] => ("std", *name),
-        [root, .., name] => (*root, *name),
-        [] => ("", ""),
-    };
-    let is_name = matches!(
-        name,
-        "Clone"
-            | "Copy"
-            | "PartialEq"
-            | "Eq"
-            | "PartialOrd"
-            | "Ord"
-            | "Default"
-            | "Hash"
-            | "Debug"
-            | "Drop"
-            | "Serialize"
-            | "Deserialize"
-            | "Error"
-    );
-    match root {
-        "crate" | "self" | "super" => true,
-        "std" | "core" | "fmt" | "cmp" | "hash" | "clone" | "marker" | "default" => is_name,
-        "serde" | "thiserror" => is_name,
-        _ => false,
-    }
-}
-
-impl<'a, 'b> Reader<'a, 'b> {
-    /// Plans an enum, and adds it.
-    pub(super) fn push_element(&mut self, draft: Draft<'a, 'b>) -> Done {
-        let mut draft = draft;
+impl<'a> Reader<'a> {
+    /// Reads an enum, whose comments and attributes are these, and plans it.
+    pub(super) fn read_element<'b>(
+        &mut self,
+        parts: &[Part<'a, 'b>],
+        cursor: &mut Cursor<'a, 'b>,
+    ) -> Done {
+        let mut draft = Draft::new(self.alloc);
+        for part in parts {
+            self.take(&mut draft, part)?;
+        }
+        let name = self.read_enum(&mut draft, cursor)?;
         let plan = plan_enum(self.alloc, &draft.declaration)?;
-        let json_names = draft.json_names()?;
-        draft.leave_out_serde()?;
+        let json_names = draft.json_names(self.alloc)?;
+        for serde in &draft.serde {
+            if !serde.is_kept && !draft.declaration.options.are_named() {
+                self.leave_out(&serde.attribute)?;
+            }
+        }
+        self.source.name(name.text, name.place, "")?;
+        if draft.declaration.variants.is_empty() {
+            let note = String::from_str(self.alloc, NO_VARIANTS)?;
+            self.source.notes.push((name.place, note))?;
+        }
         let Draft {
             declaration,
-            left_out,
-            words,
             is_test,
-            place,
             ..
         } = draft;
-        self.source.name(declaration.name, place, "")?;
-        if declaration.variants.is_empty() {
-            let note = String::from_str(self.alloc, NO_VARIANTS)?;
-            self.source.notes.push((place, note))?;
-        }
-        for (place, text) in left_out {
-            let note = format!(in self.alloc; "left out: {text} has no meaning here")?;
-            self.source.notes.push((place, note))?;
-        }
-        for word in words {
-            self.words.push(word)?;
-        }
         self.source.has_enums = true;
         self.source.facade = declaration.options.crate_name.unwrap_or(self.source.facade);
         self.source.push(Form::Element(Element {
@@ -279,6 +120,67 @@ impl<'a, 'b> Reader<'a, 'b> {
             json_names,
             is_test,
         }))?;
+        Ok(())
+    }
+
+    /// Takes a comment or an attribute of the enum, or of a variant if the enum's name is known.
+    pub(super) fn take<'b>(&mut self, draft: &mut Draft<'a, 'b>, part: &Part<'a, 'b>) -> Done {
+        let attribute = match part {
+            Part::Attribute(attribute) => *attribute,
+            Part::Comment(text) => {
+                draft.pending.push(text)?;
+                return Ok(());
+            }
+        };
+        let is_enum = draft.declaration.name.is_empty();
+        let bearer = if is_enum {
+            Bearer::Enum
+        } else {
+            Bearer::Variant
+        };
+        let is_kept = match attribute.name.token.text {
+            "derive" if is_enum => return self.take_derives(draft, &attribute),
+            "enumset" if is_enum => return draft.read_options(&attribute),
+            "serde" => draft.derives("Serialize") || draft.derives("Deserialize"),
+            "default" if !is_enum => draft.derives("Default"),
+            "error" => draft.derives("Error"),
+            _ => attribute.has_meaning(bearer)?,
+        };
+        if is_kept {
+            draft.pending.push(attribute.text)?;
+        }
+        if attribute.is("serde") {
+            let before = draft.declaration.variants.len();
+            let variant = if is_enum { None } else { Some(before) };
+            draft.serde.push(Serde {
+                attribute,
+                variant,
+                is_kept,
+            })?;
+        } else if !is_kept {
+            self.leave_out(&attribute)?;
+        }
+        if attribute.is("cfg_attr") && attribute.calls("serde") {
+            draft.hidden_serde = draft.hidden_serde.or(Some(attribute));
+        }
+        draft.is_test = draft.is_test || attribute.is("cfg");
+        Ok(())
+    }
+
+    /// Takes what is derived.
+    fn take_derives<'b>(
+        &mut self,
+        draft: &mut Draft<'a, 'b>,
+        attribute: &Attribute<'a, 'b>,
+    ) -> Done {
+        if !draft.has_derive {
+            draft.has_derive = true;
+            draft.declaration.attributes = draft.comments();
+        }
+        let derives = attribute.derives(self.alloc)?;
+        for path in self.kept_of(derives)? {
+            draft.declaration.derives.push(path)?;
+        }
         Ok(())
     }
 }

@@ -1,35 +1,43 @@
 //! An enum from its keyword on.
 
-use super::cursor::{Cursor, Done, Stop};
+use super::Reader;
+use super::attributes::Part;
+use super::cursor::{Cursor, Done};
 use super::draft::Draft;
 use super::literals::{NOT_A_LITERAL, number_of};
 use crate::fault::{DeriveError, Reason};
 use crate::plan::{Discriminant, Variant};
 use crate::tokens::{Kind, Token};
-use std::alloc::{AllocError, Global};
 
-impl<'a, 'b> Draft<'a, 'b> {
-    /// Reads an enum from its visibility up to the `}` at its end.
-    pub fn read_enum(&mut self, cursor: &mut Cursor<'a, 'b>) -> Done {
-        let (visibility, restriction) = cursor.read_visibility()?;
-        self.declaration.visibility.0 = visibility;
-        self.declaration.visibility.1 = restriction;
-        self.declaration.later_attributes = self.comments();
+impl<'a> Reader<'a> {
+    /// Reads an enum from its visibility up to the `}` at its end. Gives its name.
+    pub(super) fn read_enum<'b>(
+        &mut self,
+        draft: &mut Draft<'a, 'b>,
+        cursor: &mut Cursor<'a, 'b>,
+    ) -> Result<&'b Token<'a>, DeriveError> {
+        draft.declaration.visibility = cursor.read_visibility()?;
+        draft.declaration.later_attributes = draft.comments();
         let name = cursor.read_enum_name()?;
-        self.place = name.place;
-        self.declaration.name = name.text;
-        self.test_options()?;
+        draft.declaration.name = name.text;
+        draft.test_options()?;
         for _ in cursor.rest {
-            let has_attribute = self.read_attributes(cursor)?;
+            let parts = cursor.read_parts(self.alloc)?;
+            for part in &parts {
+                self.take(draft, part)?;
+            }
+            let has_attribute = parts.iter().any(|part| matches!(part, Part::Attribute(_)));
             if cursor.token.is_mark('}') && !has_attribute {
                 break;
             }
-            self.read_variant(cursor)?;
+            draft.read_variant(cursor)?;
         }
-        self.declaration.last_comments = self.comments();
-        Ok(())
+        draft.declaration.last_comments = draft.comments();
+        Ok(name)
     }
+}
 
+impl<'a, 'b> Draft<'a, 'b> {
     /// Reads a variant, up to what stands after the `,` and the comments on its line.
     fn read_variant(&mut self, cursor: &mut Cursor<'a, 'b>) -> Done {
         let begin = *cursor;
@@ -38,14 +46,20 @@ impl<'a, 'b> Draft<'a, 'b> {
         cursor.advance_past_blanks()?;
         let discriminant = cursor.read_discriminant()?;
         cursor.end_variant(discriminant)?;
-        let variant = Variant {
+        let attributes = self.comments();
+        for token in cursor.passed_since(&begin) {
+            if token.is_comment() {
+                self.pending.push(token.text)?;
+            }
+        }
+        let comments = self.comments();
+        self.declaration.variants.push(Variant {
             place: begin.token.place,
-            attributes: self.comments(),
+            attributes,
             name: begin.token.text,
             discriminant,
-            comments: comments_among(self.alloc, cursor.passed_since(&begin))?,
-        };
-        self.declaration.variants.push(variant)?;
+            comments,
+        })?;
         Ok(())
     }
 }
@@ -97,22 +111,24 @@ impl<'a, 'b> Cursor<'a, 'b> {
             (Kind::Mark('}'), _) => Ok(()),
             (Kind::Mark(','), _) => {
                 self.advance()?;
-                self.skip_to(Stop::LineEnd)
+                self.skip_line()
             }
             (_, Some(given)) => Err(Reason::Text(NOT_A_LITERAL).at(given.place).into()),
             (Kind::Mark('(' | '{'), _) => self.want(false, "a variant must have no fields"),
             _ => self.want(false, "wanted: `,` or `}`"),
         }
     }
-}
 
-/// The comments among tokens, each as it is written.
-fn comments_among<'a>(alloc: Global, tokens: &[Token<'a>]) -> Result<Vec<&'a str>, AllocError> {
-    let mut comments = Vec::new(alloc);
-    for token in tokens {
-        if token.is_comment() {
-            comments.push(token.text)?;
+    /// Goes on to the end of the line, or to what stands on it that is no comment, or documents what follows.
+    fn skip_line(&mut self) -> Done {
+        for _ in self.rest {
+            match self.token.kind {
+                Kind::Space if !self.token.text.contains('\n') => {}
+                Kind::Comment => {}
+                _ => break,
+            }
+            self.advance()?;
         }
+        Ok(())
     }
-    Ok(comments)
 }

@@ -1,141 +1,148 @@
 //! What lines `use ..;` import.
 
 use super::Reader;
-use super::cursor::{Cursor, Done, Stop};
-use crate::fault::Reason;
+use super::attributes::NO_MEANING;
+use super::cursor::{Cursor, Done};
 use crate::place::Place;
-use crate::source::{Foreign, Form};
-use crate::tokens::{Kind, Token};
+use crate::source::{Form, Import, Name};
+use crate::tokens::{Kind, Token, is_among};
 use std::alloc::{AllocError, Global};
-use std::collections::BTreeSet;
 use std::mem;
 
 const GLOB: &str = "`pub use` takes no `*` here: name what is exported";
 
 const UNUSED: &str = "is of a crate that may not be there, and nothing here names it";
 
+/// The crates that are there, beside those whose names begin with `enumset`.
+const KNOWN: &str = "std core alloc crate self super";
+
 /// A line of imports.
 #[derive(Drop)]
-struct Use<'a, 'b> {
+struct Use<'a> {
     place: Place,
-    /// As it is written, with its attributes.
-    whole: &'a str,
     /// Its attributes, a line each.
     attributes: String,
     /// What stands before `use`.
     visibility: &'a str,
-    /// Whether it may be written as it is, if it imports one path.
-    is_whole: bool,
-    tokens: &'b [Token<'a>],
+    /// As it is written without its attributes, if it is one path that may stay so.
+    written: Option<&'a str>,
 }
 
-impl<'a, 'b> Reader<'a, 'b> {
-    /// Reads an import from its keyword on. Its attributes begin at a cursor, and its visibility at another. The attributes
-    /// are given if something is left out of them.
-    pub(super) fn read_use(
+impl<'a> Reader<'a> {
+    /// Reads an import from its keyword on, of which the attributes are given. Its visibility begins at a cursor.
+    pub(super) fn read_use<'b>(
         &mut self,
-        begin: &Cursor<'a, 'b>,
+        place: Place,
+        attributes: String,
         item: &Cursor<'a, 'b>,
-        changed: Option<String>,
         cursor: &mut Cursor<'a, 'b>,
     ) -> Done {
         let keyword = *cursor;
-        cursor.skip_to(Stop::Mark(';', 0))?;
-        let is_whole = changed.is_none();
-        let line = Use {
-            place: begin.token.place,
-            whole: cursor.text_from(begin.token),
-            attributes: match changed {
-                Some(attributes) => attributes,
-                None => {
-                    let text = begin.text_up_to(item.token).trim_end();
-                    let gap = if text.is_empty() { "" } else { "\n" };
-                    format!(in self.alloc; "{text}{gap}")?
+        cursor.skip_to(";", 0)?;
+        let mut tokens = Vec::new(self.alloc);
+        for token in cursor.passed_since(&keyword) {
+            if !token.is_blank() {
+                if !token.is_name() && !token.is_one_of(":{},*") {
+                    return Err(token.fault("wanted: a path, or `;`"));
                 }
+                tokens.push(*token)?;
+            }
+        }
+        let is_path = matches!(tokens.first(), Some(root) if root.is_name() && !is_renamed(root));
+        let visibility = item.text.get(item.token.begin..keyword.token.begin);
+        let line = Use {
+            place,
+            attributes,
+            visibility: visibility.unwrap_or("").trim_end(),
+            written: if is_path {
+                Some(cursor.text_since(item.token.begin))
+            } else {
+                None
             },
-            visibility: item.text_up_to(keyword.token).trim_end(),
-            is_whole,
-            tokens: cursor.passed_since(&keyword),
         };
-        let trees = trees_of(self.alloc, line.tokens)?;
-        let mut is_first = true;
-        for (begin, end) in &trees {
-            if !is_first {
+        for (index, tree) in trees_of(self.alloc, tokens.as_slice())?.iter().enumerate() {
+            if index > 0 {
                 self.source.add_space("\n");
             }
-            is_first = false;
-            let tree = line.tokens.get(*begin..*end).unwrap_or(&[]);
-            self.read_tree(&line, tree, trees.len() == 1)?;
+            self.read_tree(&line, tree.as_slice())?;
         }
         Ok(())
     }
 
     /// Takes in what a line imports of one crate.
-    fn read_tree(&mut self, line: &Use<'a, 'b>, tree: &'b [Token<'a>], is_alone: bool) -> Done {
-        let [root, rest @ ..] = tree else {
+    fn read_tree(&mut self, line: &Use<'a>, tree: &[Token<'a>]) -> Done {
+        let [root, path @ ..] = tree else {
             return Ok(());
         };
-        let names = names_in(self.alloc, tree)?;
-        let is_known = !line.visibility.is_empty()
-            || matches!(
-                root.text,
-                "std" | "core" | "alloc" | "crate" | "self" | "super"
-            )
-            || root.text.starts_with("enumset");
-        for name in &names {
-            if is_known && name.is_name() {
-                self.source.name(name.text, name.place, root.text)?;
+        let is_own = line.visibility.is_empty();
+        let is_enumset = root.text.starts_with("enumset");
+        let is_known = !is_own || is_enumset || is_among(KNOWN, root.text);
+        let mut names = Vec::new(self.alloc);
+        for token in names_in(self.alloc, tree)? {
+            if token.is_mark('*') && !is_own {
+                return Err(token.fault(GLOB));
             }
-            if name.is_mark('*') && !line.visibility.is_empty() {
-                return Err(Reason::Text(GLOB).at(name.place).into());
-            }
+            let (place, root) = if is_known {
+                (token.place, root.text)
+            } else {
+                (line.place, "")
+            };
+            names.push(Name {
+                text: token.text,
+                place,
+                root,
+            })?;
         }
-        let is_path = rest.iter().any(|token| token.is_mark(':'));
-        if root.is("enumset") && line.visibility.is_empty() && is_path {
-            return self.read_names(line, rest);
+        if is_own && root.is("enumset") && path.iter().any(|token| token.is_mark(':')) {
+            self.source.names.append(&mut names)?;
+            return self.read_names(line, path);
         }
-        let text = line.text_of(self.alloc, tree, is_alone)?;
-        let form = if is_known {
-            Form::Changed(text)
-        } else {
-            let mut texts = Vec::new(self.alloc);
-            for name in names {
-                texts.push(name.text)?;
+        let path = spelled(self.alloc, tree)?;
+        let attributes = line.attributes.as_str();
+        let text = match line.written {
+            Some(written) => format!(in self.alloc; "{attributes}{written}")?,
+            None => {
+                let visibility = line.visibility;
+                let gap = if is_own { "" } else { " " };
+                format!(in self.alloc; "{attributes}{visibility}{gap}use {path};")?
             }
-            Form::Foreign(Foreign {
-                place: line.place,
-                text,
-                names: texts,
-            })
         };
-        self.source.push(form)?;
+        self.source.push(Form::Import(Import {
+            place: line.place,
+            text,
+            path,
+            names,
+            is_known,
+        }))?;
         Ok(())
     }
 
     /// Takes in what a line imports of the crate `enumset`: a path after its name, or some in brackets.
-    fn read_names(&mut self, line: &Use<'a, 'b>, path: &'b [Token<'a>]) -> Done {
+    fn read_names(&mut self, line: &Use<'a>, path: &[Token<'a>]) -> Done {
         if !line.attributes.is_empty() {
-            let text = line.attributes.as_str().trim_end();
-            self.source
-                .leave_out(line.place, text, "has no meaning here")?;
+            let text = line.attributes.trim_end();
+            self.source.leave_out(line.place, text, NO_MEANING)?;
         }
         if !self.source.has_imports {
             self.source.has_imports = true;
             self.source.push(Form::Imports)?;
         }
-        for (begin, end) in trees_of(self.alloc, path)? {
-            let tree = path.get(begin..end).unwrap_or(&[]);
-            match tree {
+        for tree in trees_of(self.alloc, path)? {
+            match tree.as_slice() {
                 [] => {}
                 [own] if own.is("self") => {}
-                [own, ..] if own.is("self") => {
-                    let text = spelled(self.alloc, tree)?;
-                    let name = text.strip_prefix("self").unwrap_or("");
-                    let text = format!(in self.alloc; "use enumset{name};")?;
+                [own, name @ ..] if own.is("self") => {
+                    let name = spelled(self.alloc, name)?;
                     self.source.add_space("\n");
-                    self.source.push(Form::Changed(text))?;
+                    self.source.push(Form::Import(Import {
+                        place: line.place,
+                        text: format!(in self.alloc; "use enumset{name};")?,
+                        path: format!(in self.alloc; "enumset{name}")?,
+                        names: Vec::new(self.alloc),
+                        is_known: true,
+                    }))?;
                 }
-                _ => self.source.imports.push(spelled(self.alloc, tree)?)?,
+                tree => self.source.imports.push(spelled(self.alloc, tree)?)?,
             }
         }
         Ok(())
@@ -143,117 +150,61 @@ impl<'a, 'b> Reader<'a, 'b> {
 
     /// Leaves out each import of a crate that may not be there, of which nothing is used.
     pub(super) fn settle_imports(&mut self) -> Done {
-        let items = mem::replace(&mut self.source.items, Vec::new(self.alloc));
-        let mut words = BTreeSet::new(self.alloc);
-        if items
-            .iter()
-            .any(|item| matches!(item.form, Form::Foreign(_)))
-        {
-            for word in &self.words {
-                words.insert(*word)?;
-            }
-            for tokens in &self.others {
-                for token in *tokens {
-                    if matches!(token.kind, Kind::Word) {
-                        words.insert(token.text)?;
-                    }
-                }
-            }
-        }
-        for item in items {
-            if let Form::Foreign(import) = &item.form {
-                if !is_used(import, &words, !self.others.is_empty()) {
+        for item in mem::replace(&mut self.source.items, Vec::new(self.alloc)) {
+            if let Form::Import(import) = &item.form {
+                if !import.is_known && !self.is_used(import) {
                     let text = import.text.as_str();
                     self.source.leave_out(import.place, text, UNUSED)?;
                     continue;
                 }
-                for name in &import.names {
-                    self.source.name(name, import.place, "")?;
-                }
+                self.source
+                    .names
+                    .extend_from_slice(import.names.as_slice())?;
             }
-            self.source.items.push(item)?;
+            self.source.insert(item)?;
         }
         Ok(())
     }
-}
 
-/// Whether an import brings a name that is among the words, or may bring one to other items.
-fn is_used<'a>(import: &Foreign<'a>, words: &BTreeSet<&'a str>, has_others: bool) -> bool {
-    for name in &import.names {
-        if words.contains(name) || (has_others && matches!(*name, "*" | "_")) {
-            return true;
-        }
-    }
-    false
-}
-
-impl<'a> Use<'a, '_> {
-    /// The text that imports a path of the line.
-    fn text_of(
-        &self,
-        alloc: Global,
-        tree: &[Token<'a>],
-        is_alone: bool,
-    ) -> Result<String, AllocError> {
-        let is_first = match (tree, self.tokens) {
-            ([root, ..], [space, first, ..]) => {
-                let first = if space.is_blank() { first } else { space };
-                first.begin == root.begin && !root.is("core") && !root.is("alloc")
-            }
-            _ => false,
-        };
-        if self.is_whole && is_alone && is_first {
-            return String::from_str(alloc, self.whole);
-        }
-        let attributes = self.attributes.as_str();
-        let visibility = self.visibility;
-        let gap = if visibility.is_empty() { "" } else { " " };
-        let path = spelled(alloc, tree)?;
-        format!(in alloc; "{attributes}{visibility}{gap}use {path};")
+    /// Whether an import brings a name that is used, or may bring one to other items.
+    fn is_used(&self, import: &Import<'a>) -> bool {
+        let mut names = import.names.iter();
+        names.any(|name| match name.text {
+            "*" | "_" => self.has_others,
+            text => self.words.contains(text),
+        })
     }
 }
 
-/// Where the paths begin and end that stand in brackets, or the one path, each without `::` at its beginning.
-fn trees_of(alloc: Global, tokens: &[Token]) -> Result<Vec<(usize, usize)>, AllocError> {
+/// Whether a crate is another one here: Rust's `core` and `alloc` are `std`.
+fn is_renamed(root: &Token) -> bool {
+    root.is("core") || root.is("alloc")
+}
+
+/// The paths in the brackets that a path begins with, or the path alone, each without `::` at its beginning.
+fn trees_of<'a>(alloc: Global, path: &[Token<'a>]) -> Result<Vec<Vec<Token<'a>>>, AllocError> {
     let mut trees = Vec::new(alloc);
-    let mut begin = 0;
+    let mut tree = Vec::new(alloc);
     let mut depth = None;
-    for (at, token) in tokens.iter().enumerate() {
-        match depth {
-            None if token.is_mark('{') => {
-                depth = Some(token.depth);
-                begin = at.saturating_add(1);
-            }
-            None if token.is_blank() || token.is_mark(':') => {}
-            None => break,
-            Some(depth) => {
-                let is_end = token.is_mark('}') && token.depth < depth;
-                if is_end || (token.is_mark(',') && token.depth == depth) {
-                    trees.push(trimmed(tokens, begin, at))?;
-                    begin = at.saturating_add(1);
-                }
-            }
+    for token in path {
+        let is_first = tree.is_empty();
+        let is_end = match depth {
+            Some(depth) if token.is_mark('}') => token.depth < depth,
+            Some(depth) => token.is_mark(',') && token.depth == depth,
+            None => false,
+        };
+        if is_end {
+            trees.push(mem::replace(&mut tree, Vec::new(alloc)))?;
+        } else if is_first && depth.is_none() && token.is_mark('{') {
+            depth = Some(token.depth);
+        } else if !is_first || !token.is_mark(':') {
+            tree.push(*token)?;
         }
     }
     if depth.is_none() {
-        trees.push(trimmed(tokens, 0, tokens.len()))?;
+        trees.push(tree)?;
     }
     Ok(trees)
-}
-
-/// Where the tokens between two places begin and end, without blanks, and without `::` at their beginning.
-fn trimmed(tokens: &[Token], begin: usize, end: usize) -> (usize, usize) {
-    let part = tokens.get(begin..end).unwrap_or(&[]);
-    let is_part = |token: &Token| !token.is_blank() && !token.is_mark(':');
-    let first = part.iter().position(is_part);
-    let last = part.iter().rposition(is_part);
-    match (first, last) {
-        (Some(first), Some(last)) => {
-            let end = begin.saturating_add(last).saturating_add(1);
-            (begin.saturating_add(first), end)
-        }
-        _ => (begin, begin),
-    }
 }
 
 /// The names that a path brings, and the `*`.
@@ -293,19 +244,16 @@ fn spelled(alloc: Global, tree: &[Token]) -> Result<String, AllocError> {
     let mut text = String::new(alloc);
     let mut has_comma = false;
     for token in tree {
-        if token.is_blank() {
-            continue;
-        }
         if has_comma && !token.is_mark('}') {
             text.push_str(", ")?;
         }
         has_comma = token.is_mark(',');
-        match token.text {
-            "," => {}
-            "as" => text.push_str(" as ")?,
-            "core" | "alloc" if text.is_empty() => text.push_str("std")?,
-            word => text.push_str(word)?,
-        }
+        text.push_str(match token.text {
+            "," => "",
+            "as" => " as ",
+            "core" | "alloc" if text.is_empty() => "std",
+            word => word,
+        })?;
     }
     Ok(text)
 }

@@ -1,129 +1,45 @@
-//! Items: what stands before an item, and those that are no element types.
+//! Items that are no element types, and what stands before each.
 
 use super::Reader;
-use super::attributes::{Attribute, Bearer, place_of_derive};
-use super::cursor::{Cursor, Done, Stop};
-use super::draft::Draft;
+use super::attributes::{Attribute, Bearer, NO_MEANING, Part, place_of_derive};
+use super::cursor::{Cursor, Done};
+use super::derives::Derive;
 use crate::fault::{DeriveError, Reason};
 use crate::source::Form;
-use crate::tokens::{Kind, Token};
-
-const NO_MEANING: &str = "has no meaning here";
+use crate::tokens::{Kind, is_among};
 
 const INSIDE: &str =
     "an enum in a module, a function or a macro has no element type: write it outside";
 
-impl<'a, 'b> Reader<'a, 'b> {
-    /// Reads an attribute of the text.
-    pub(super) fn read_inner_attribute(&mut self, cursor: &mut Cursor<'a, 'b>) -> Done {
-        let begin = cursor.token;
-        cursor.advance()?;
-        let attribute = cursor.read_attribute()?;
-        let text = cursor.text_from(begin);
-        if attribute.has_meaning(Bearer::Text)? {
-            self.source.push(Form::Text(text))?;
-        } else {
-            self.source.leave_out(begin.place, text, NO_MEANING)?;
-        }
-        Ok(())
-    }
+/// What may stand for a derive before a field or a variant, or derives.
+const HELPERS: &str = "derive default serde error from source";
 
+/// What has a name in the module.
+const NAMED: &str = "struct enum union trait type mod fn const static";
+
+impl<'a> Reader<'a> {
     /// Reads an item with the comments and attributes before it, up to its last token.
-    pub(super) fn read_with_attributes(&mut self, cursor: &mut Cursor<'a, 'b>) -> Done {
+    pub(super) fn read_item<'b>(&mut self, cursor: &mut Cursor<'a, 'b>) -> Done {
         let begin = *cursor;
-        let mut ahead = begin;
-        ahead.skip_attributes()?;
-        if place_of_derive(ahead.passed_since(&begin), self.derive).is_some() {
-            self.read_element(cursor)
-        } else {
-            let changed = self.changed_attributes(cursor, ahead.token)?;
-            self.read_other(&begin, changed, cursor)
+        let parts = cursor.read_parts(self.alloc)?;
+        if place_of_derive(cursor.passed_since(&begin), self.derive).is_some() {
+            return self.read_element(parts.as_slice(), cursor);
         }
-    }
-
-    /// Reads the comments and attributes before an item that is no element type. Gives them as they are to be written, if
-    /// something is left out of them. The item begins with a token.
-    fn changed_attributes(
-        &mut self,
-        cursor: &mut Cursor<'a, 'b>,
-        item: &Token,
-    ) -> Result<Option<String>, DeriveError> {
-        let mut text = String::new(self.alloc);
-        let mut is_changed = false;
-        let begin = *cursor;
-        for _ in begin.rest {
-            if cursor.token.begin >= item.begin {
-                break;
-            }
-            let written = match cursor.token.kind {
-                Kind::Mark('#') => {
-                    let attribute = cursor.read_attribute()?;
-                    self.kept_of(&attribute, &mut is_changed)?
-                }
-                Kind::Space => String::new(self.alloc),
-                _ => String::from_str(self.alloc, cursor.token.text)?,
-            };
-            if !written.is_empty() {
-                text.push_str(written.as_str())?;
-                text.push('\n')?;
-            }
-            cursor.advance()?;
-        }
-        Ok(if is_changed { Some(text) } else { None })
-    }
-
-    /// What is kept of an attribute of an item that is no element type.
-    fn kept_of(
-        &mut self,
-        attribute: &Attribute<'a, 'b>,
-        is_changed: &mut bool,
-    ) -> Result<String, DeriveError> {
-        let mut kept = String::from_str(self.alloc, attribute.text)?;
-        if attribute.name.token.is("derive") {
-            let mut draft = Draft::new(self.alloc, self.derive);
-            if draft.read_arguments(attribute).is_ok() && !draft.left_out.is_empty() {
-                kept = derive_of(draft.declaration.derives.as_slice(), self.alloc)?;
-                *is_changed = true;
-                for (place, text) in &draft.left_out {
-                    self.source.leave_out(*place, text.as_str(), NO_MEANING)?;
-                }
-            }
-            for word in draft.words {
-                self.words.push(word)?;
-            }
-        } else if !attribute.has_meaning(Bearer::Item)? {
-            kept = String::new(self.alloc);
-            *is_changed = true;
-            let place = attribute.begin.place;
-            self.source.leave_out(place, attribute.text, NO_MEANING)?;
-        }
-        Ok(kept)
-    }
-
-    /// Reads an element type.
-    fn read_element(&mut self, cursor: &mut Cursor<'a, 'b>) -> Done {
-        let mut draft = Draft::new(self.alloc, self.derive);
-        draft.read_attributes(cursor)?;
-        draft.read_enum(cursor)?;
-        self.push_element(draft)
-    }
-
-    /// Reads an item that is no element type, from what stands after its attributes on. If they are changed, they are given.
-    fn read_other(
-        &mut self,
-        begin: &Cursor<'a, 'b>,
-        changed: Option<String>,
-        cursor: &mut Cursor<'a, 'b>,
-    ) -> Done {
+        let mut text = self.kept_parts(parts.as_slice())?;
         let item = *cursor;
         let _ = cursor.read_visibility()?;
         if cursor.token.is("use") {
-            return self.read_use(begin, &item, changed, cursor);
+            return self.read_use(begin.token.place, text, &item, cursor);
         }
-        let is_crate = self.read_name(cursor)?;
-        cursor.skip_to(Stop::ItemEnd)?;
-        let text = cursor.text_from(begin.token);
+        let mut ahead = *cursor;
+        ahead.advance_past_blanks()?;
+        let is_crate = cursor.token.is("extern") && ahead.token.is("crate");
+        if is_among(NAMED, cursor.token.text) && ahead.token.is_name() {
+            self.source.name(ahead.token.text, ahead.token.place, "")?;
+        }
+        cursor.skip_to(";}", 0)?;
         if is_crate {
+            let text = cursor.text_since(begin.token.begin);
             self.source.leave_out(begin.token.place, text, NO_MEANING)?;
             return Ok(());
         }
@@ -131,98 +47,84 @@ impl<'a, 'b> Reader<'a, 'b> {
         if let Some(place) = place_of_derive(tokens, self.derive) {
             return Err(Reason::Text(INSIDE).at(place).into());
         }
-        self.others.push(tokens)?;
-        let inside = self.changed_inside(&item, cursor.token)?;
-        let form = match (changed, inside) {
-            (None, None) => Form::Text(text),
-            (changed, inside) => {
-                let mut text = match changed {
-                    Some(attributes) => attributes,
-                    None => String::from_str(self.alloc, begin.text_up_to(item.token))?,
-                };
-                text.push_str(match &inside {
-                    Some(inside) => inside.as_str(),
-                    None => cursor.text_from(item.token),
-                })?;
-                Form::Changed(text)
+        for token in tokens {
+            if matches!(token.kind, Kind::Word) {
+                self.words.insert(token.text)?;
             }
-        };
-        self.source.push(form)?;
+        }
+        self.has_others = true;
+        self.write_item(&mut text, item, cursor)?;
+        self.source.push(Form::Text(text))?;
         Ok(())
     }
 
-    /// The text of an item up to a token and with it, if something is left out of the attributes in it. A macro is as it is.
-    fn changed_inside(
-        &mut self,
-        item: &Cursor<'a, 'b>,
-        end: &Token,
-    ) -> Result<Option<String>, DeriveError> {
+    /// What is kept of the comments and attributes of an item that is no element type, a line each.
+    fn kept_parts(&mut self, parts: &[Part<'a, '_>]) -> Result<String, DeriveError> {
         let mut text = String::new(self.alloc);
-        let mut cursor = *item;
-        let mut from = *item;
+        for part in parts {
+            match part {
+                Part::Comment(comment) => write!(text, "{comment}\n")?,
+                Part::Attribute(attribute) => self.write_attribute(&mut text, attribute)?,
+            }
+        }
+        Ok(text)
+    }
+
+    /// Writes what is kept of an attribute. A derive that cannot be read is as it is.
+    fn write_attribute(&mut self, out: &mut String, attribute: &Attribute<'a, '_>) -> Done {
+        let text = attribute.text;
+        if attribute.is("derive") {
+            let derives = attribute
+                .derives(self.alloc)
+                .unwrap_or(Vec::new(self.alloc));
+            let is_whole = derives.iter().all(Derive::is_known);
+            let kept = self.kept_of(derives)?;
+            if is_whole {
+                write!(out, "{text}\n")?;
+            } else if !kept.is_empty() {
+                let kept = kept.join(self.alloc, ", ")?;
+                write!(out, "#[derive({kept})]\n")?;
+            }
+        } else if attribute.has_meaning(Bearer::Item)? {
+            write!(out, "{text}\n")?;
+        } else {
+            self.leave_out(attribute)?;
+        }
+        Ok(())
+    }
+
+    /// Writes an item up to the token at its end, without the attributes in it that have no meaning. A macro is as it is.
+    fn write_item<'b>(
+        &mut self,
+        out: &mut String,
+        item: Cursor<'a, 'b>,
+        end: &Cursor<'a, 'b>,
+    ) -> Done {
+        let mut cursor = item;
+        let mut from = item.token.begin;
         for _ in item.rest {
-            if cursor.token.begin >= end.begin || is_macro(&cursor) {
+            let is_macro = cursor.token.is_name() && cursor.is_before('!');
+            if cursor.token.begin >= end.token.begin || is_macro {
                 break;
             }
-            let begin = cursor;
-            if begin.is_at_attribute() {
+            let begin = cursor.token;
+            let mut is_kept = true;
+            if begin.is_mark('#') && cursor.is_before('[') {
                 let attribute = cursor.read_attribute()?;
-                if !is_helper(attribute.name.token.text) && !attribute.has_meaning(Bearer::Item)? {
-                    text.push_str(from.text_up_to(begin.token))?;
-                    let place = begin.token.place;
-                    self.source.leave_out(place, attribute.text, NO_MEANING)?;
-                    cursor.advance_past_space()?;
-                    from = cursor;
-                    continue;
+                is_kept = is_among(HELPERS, attribute.name.token.text)
+                    || attribute.has_meaning(Bearer::Item)?;
+                if !is_kept {
+                    out.push_str(cursor.text.get(from..begin.begin).unwrap_or(""))?;
+                    self.leave_out(&attribute)?;
                 }
             }
             cursor.advance()?;
+            if !is_kept {
+                cursor.skip_space()?;
+                from = cursor.token.begin;
+            }
         }
-        if from.token.begin == item.token.begin {
-            return Ok(None);
-        }
-        text.push_str(from.text_through(end))?;
-        Ok(Some(text))
+        out.push_str(end.text_since(from))?;
+        Ok(())
     }
-
-    /// Notes the name of an item that the cursor is at. Tells whether the item is `extern crate`.
-    fn read_name(&mut self, cursor: &Cursor<'a, 'b>) -> Result<bool, DeriveError> {
-        let mut ahead = *cursor;
-        ahead.advance_past_blanks()?;
-        let is_named = matches!(
-            cursor.token.text,
-            "struct" | "enum" | "union" | "trait" | "type" | "mod" | "fn" | "const" | "static"
-        );
-        if is_named && ahead.token.is_name() {
-            self.source.name(ahead.token.text, ahead.token.place, "")?;
-        }
-        Ok(cursor.token.is("extern") && ahead.token.is("crate"))
-    }
-}
-
-/// Whether a macro is called or defined here.
-fn is_macro(cursor: &Cursor) -> bool {
-    let is_name = cursor.token.is_name();
-    is_name && matches!(cursor.rest, [next, ..] if next.is_mark('!'))
-}
-
-/// Whether an attribute inside an item may be of a derive, or is one.
-fn is_helper(name: &str) -> bool {
-    matches!(
-        name,
-        "derive" | "default" | "serde" | "error" | "from" | "source"
-    )
-}
-
-/// The attribute that derives these.
-fn derive_of(derives: &[String], alloc: std::alloc::Global) -> Result<String, DeriveError> {
-    let mut text = String::new(alloc);
-    for path in derives {
-        text.push_str(if text.is_empty() { "#[derive(" } else { ", " })?;
-        text.push_str(path.as_str())?;
-    }
-    if !text.is_empty() {
-        text.push_str(")]")?;
-    }
-    Ok(text)
 }

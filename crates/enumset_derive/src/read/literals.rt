@@ -7,54 +7,47 @@ pub(super) const NOT_A_LITERAL: &str = "a discriminant must be a literal of an i
 
 const TOO_LARGE: &str = "a literal past 2^128 - 1 must be a power of two, and not decimal";
 
+const TYPES: &str = "u8 u16 u32 u64 u128 usize i8 i16 i32 i64 i128 isize";
+
 /// A literal without the type after it, and the number that it writes, or that a minus sign before it makes of it.
 pub(super) fn number_of(literal: &str, is_negative: bool) -> Result<(&str, Number), &'static str> {
-    let (radix, digits) = radix_of(literal);
-    let mut end = literal.len();
+    let mut types = TYPES.split(' ');
+    let untyped = types.find_map(|name| literal.strip_suffix(name));
+    let written = untyped.unwrap_or(literal).trim_end_matches('_');
+    let (radix, digits) = radix_of(written);
+    if digits.is_empty() || !written.starts_with(is_digit) {
+        return Err(NOT_A_LITERAL);
+    }
     let mut value = Some(0u128);
     let mut exponent = None;
-    let mut has_digit = false;
-    for (at, character) in digits.char_indices() {
+    for character in digits.chars() {
         match character.to_digit(16) {
             Some(digit) if digit < radix => {
                 exponent = power_with(value, exponent, radix, digit);
                 value = value_with(value, radix, digit);
-                has_digit = true;
             }
             _ if character == '_' => {}
-            _ if is_integer_type(digits.get(at..).unwrap_or("")) => {
-                end = literal
-                    .len()
-                    .saturating_sub(digits.len())
-                    .saturating_add(at);
-                break;
-            }
             _ => return Err(NOT_A_LITERAL),
         }
     }
     let number = match (value, exponent) {
-        _ if !has_digit => return Err(NOT_A_LITERAL),
         (Some(0), _) => Number::Small(0),
         (Some(number), _) if is_negative => Number::Negative(number),
         (Some(number), _) => Number::Small(number),
         (None, Some(exponent)) if !is_negative => Number::PowerOfTwo(exponent),
         _ => return Err(TOO_LARGE),
     };
-    let written = literal.get(..end).unwrap_or("");
-    Ok((written.trim_end_matches('_'), number))
+    Ok((written, number))
 }
 
-/// The base of a literal, and what stands after its prefix. Of a text that begins with no digit, that is nothing.
+/// The base of a literal, and its digits.
 fn radix_of(literal: &str) -> (u32, &str) {
-    let mut characters = literal.chars();
-    let first = characters.next().unwrap_or(' ');
-    match (first, characters.next()) {
-        ('0', Some('x')) => (16, characters.as_str()),
-        ('0', Some('o')) => (8, characters.as_str()),
-        ('0', Some('b')) => (2, characters.as_str()),
-        _ if is_digit(first) => (10, literal),
-        _ => (10, ""),
+    for (prefix, radix) in [("0x", 16), ("0o", 8), ("0b", 2)] {
+        if let Some(digits) = literal.strip_prefix(prefix) {
+            return (radix, digits);
+        }
     }
+    (10, literal)
 }
 
 /// The number of some digits and one more, unless it is past 2^128 - 1.
@@ -72,13 +65,4 @@ fn power_with(value: Option<u128>, exponent: Option<u32>, radix: u32, digit: u32
         (_, 0) if radix != 10 => exponent?.checked_add(radix.trailing_zeros()),
         _ => None,
     }
-}
-
-/// Whether a text is the name of an integer type.
-fn is_integer_type(text: &str) -> bool {
-    let width = text
-        .strip_prefix('u')
-        .or(text.strip_prefix('i'))
-        .unwrap_or("");
-    matches!(width, "8" | "16" | "32" | "64" | "128" | "size")
 }

@@ -5,84 +5,72 @@ use super::{Kind, Token, UNCLOSED_BRACKET, before};
 use crate::place::Place;
 use std::alloc::{AllocError, Global};
 
+/// The brackets that have begun: the character that is to end each, and where it is.
+type Open = Vec<(char, Place)>;
+
 /// The tokens of a text: a space of no length at its beginning, those that it has, and its end.
 pub fn tokens_of(alloc: Global, text: &str) -> Result<Vec<Token<'_>>, AllocError> {
-    let mut lexer = Lexer {
-        tokens: Vec::new(alloc),
-        open: Vec::new(alloc),
-    };
-    lexer.push(Kind::Space, "", 0, Place::BEGIN)?;
-    lexer.read(text)?;
-    Ok(lexer.tokens)
-}
-
-/// The tokens that have been read of a text.
-#[derive(Drop)]
-struct Lexer<'a> {
-    tokens: Vec<Token<'a>>,
-    /// The brackets that have begun: the character that is to end each, and where it is.
-    open: Vec<(char, Place)>,
-}
-
-impl<'a> Lexer<'a> {
-    /// Adds the tokens of a text, and its end.
-    fn read(&mut self, text: &'a str) -> Result<(), AllocError> {
-        let mut place = Place::BEGIN;
-        let mut end = 0;
-        for (begin, character) in text.char_indices() {
-            if begin >= end {
-                let onward = text.get(begin..).unwrap_or("");
-                let (kind, rest) = first_token(character, onward);
-                end = text.len().saturating_sub(rest.len());
-                self.push(kind, before(onward, rest), begin, place)?;
-            }
-            place = place.after(character);
+    let mut tokens = Vec::new(alloc);
+    let mut open = Vec::new(alloc);
+    let mut place = Place::BEGIN;
+    let mut end = 0;
+    tokens.push(token_of(&mut open, Kind::Space, "", 0, place)?)?;
+    for (begin, character) in text.char_indices() {
+        if begin >= end {
+            let onward = text.get(begin..).unwrap_or("");
+            let (kind, rest) = first_token(character, onward);
+            end = text.len().saturating_sub(rest.len());
+            tokens.push(token_of(&mut open, kind, before(onward, rest), begin, place)?)?;
         }
-        self.push(Kind::End, "", text.len(), place)
+        place = place.after(character);
     }
+    tokens.push(token_of(&mut open, Kind::End, "", text.len(), place)?)?;
+    Ok(tokens)
+}
 
-    /// Adds a token, which may begin or end a bracket. It is a fault if it ends the text or another bracket in a bracket.
-    fn push(
-        &mut self,
-        kind: Kind,
-        text: &'a str,
-        begin: usize,
-        place: Place,
-    ) -> Result<(), AllocError> {
-        let (kind, place) = match self.unclosed_by(kind, place)? {
-            Some((_, place)) => (Kind::Fault(UNCLOSED_BRACKET), place),
-            None => (kind, place),
-        };
-        self.tokens.push(Token {
-            kind,
-            text,
-            begin,
-            place,
-            depth: self.open.len(),
-        })?;
-        Ok(())
-    }
+/// A token, which may begin or end a bracket. It is a fault if it ends the text or another bracket in a bracket.
+fn token_of<'a>(
+    open: &mut Open,
+    kind: Kind,
+    text: &'a str,
+    begin: usize,
+    place: Place,
+) -> Result<Token<'a>, AllocError> {
+    let unclosed = match kind {
+        Kind::Mark(mark) => unclosed_by(open, mark, place)?,
+        Kind::End => open.first().copied(),
+        _ => None,
+    };
+    let (kind, place) = match unclosed {
+        Some((_, place)) => (Kind::Fault(UNCLOSED_BRACKET), place),
+        None => (kind, place),
+    };
+    let depth = open.len();
+    Ok(Token {
+        kind,
+        text,
+        begin,
+        place,
+        depth,
+    })
+}
 
-    /// Takes in what a token is. Gives a bracket that the token leaves without its end.
-    fn unclosed_by(
-        &mut self,
-        kind: Kind,
-        place: Place,
-    ) -> Result<Option<(char, Place)>, AllocError> {
-        let end = match kind {
-            Kind::Mark('(') => ')',
-            Kind::Mark('[') => ']',
-            Kind::Mark('{') => '}',
-            Kind::Mark(mark) if matches!(mark, ')' | ']' | '}') => {
-                return Ok(match self.open.pop() {
-                    Some((end, _)) if end == mark => None,
-                    unclosed => unclosed,
-                });
-            }
-            Kind::End => return Ok(self.open.first().copied()),
-            _ => return Ok(None),
-        };
-        self.open.push((end, place))?;
-        Ok(None)
-    }
+/// Takes in a mark. Gives the bracket that it leaves without its end.
+fn unclosed_by(
+    open: &mut Open,
+    mark: char,
+    place: Place,
+) -> Result<Option<(char, Place)>, AllocError> {
+    let end = match mark {
+        '(' => ')',
+        '[' => ']',
+        '{' => '}',
+        ')' | ']' | '}' => {
+            let last = open.pop();
+            return Ok(last.filter(|(end, _)| *end != mark));
+        }
+        _ => return Ok(None),
+    };
+    open.push((end, place))?;
+    Ok(None)
 }

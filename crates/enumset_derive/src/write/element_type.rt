@@ -3,7 +3,7 @@
 use super::enums::are_kept;
 use super::json::write_json;
 use super::layout::{call_of, list_of};
-use super::names::{are_named, write_display, write_names};
+use super::names::{write_display, write_names};
 use super::operators::write_operators;
 use super::stores::{is_narrow, store_text};
 use super::{Subject, Written};
@@ -17,7 +17,7 @@ pub(super) fn write_element_type(out: &mut String, of: &Subject) -> Written {
     if is_narrow(&of.element.plan) {
         write_with_repr(out, of)?;
     }
-    if are_named(options) {
+    if options.are_named() {
         write_names(out, of)?;
     }
     if options.has_display {
@@ -55,15 +55,8 @@ fn are_cast(of: &Subject) -> bool {
 
 /// Writes the implementation of an element type.
 fn write_impl(out: &mut String, of: &Subject) -> Written {
-    let Subject {
-        alloc,
-        crate_name,
-        module,
-        name,
-        guard,
-        ..
-    } = *of;
-    let plan = &of.element.plan;
+    let (alloc, crate_name, module) = (of.alloc, of.crate_name, of.module);
+    let (name, guard, plan) = (of.name, of.guard, &of.element.plan);
     let has_values = of.element.declaration.options.has_display;
     let in_place = are_cast(of) && are_places(plan);
     let is_short = in_place && !has_values && matches!(plan.store, Store::Integer(_, _));
@@ -149,12 +142,7 @@ fn values_of(of: &Subject) -> Result<(String, String), AllocError> {
         write!(words, "variant.{} ∷\n", variant.name)?;
     }
     let values = list_of(alloc, 79, words.as_str())?;
-    let Subject {
-        crate_name,
-        module,
-        name,
-        ..
-    } = *of;
+    let (crate_name, module, name) = (of.crate_name, of.module, of.name);
     let import = format!(in alloc;
         "    ghost use Rattle.{crate_name}.specs.declared.{module}.{name}.TheVariants as variant;\n"
     )?;
@@ -167,25 +155,23 @@ fn values_of(of: &Subject) -> Result<(String, String), AllocError> {
 /// The body that converts a variant to its bit.
 fn body_of_into(of: &Subject) -> Result<String, AllocError> {
     let alloc = of.alloc;
-    let declaration = &of.element.declaration;
+    let variants = &of.element.declaration.variants;
     if are_cast(of) {
-        let has_variants = !declaration.variants.is_empty();
-        let value = if has_variants {
-            "self as u32"
-        } else {
+        let is_empty = variants.is_empty();
+        let value = if is_empty {
             "match self {}"
+        } else {
+            "self as u32"
         };
         return format!(in alloc; "        {value}\n");
     }
     let mut body = String::from_str(alloc, "        match self {\n")?;
-    for (variant, named) in declaration
-        .variants
-        .iter()
-        .zip(of.element.plan.variants.iter())
-    {
-        let name = variant.name;
-        let bit = named.bit;
-        write!(body, "            Self::{name} => {bit},\n")?;
+    for (variant, named) in variants.iter().zip(of.element.plan.variants.iter()) {
+        write!(
+            body,
+            "            Self::{} => {},\n",
+            variant.name, named.bit
+        )?;
     }
     body.push_str("        }\n")?;
     Ok(body)
@@ -193,35 +179,29 @@ fn body_of_into(of: &Subject) -> Result<String, AllocError> {
 
 /// The body that converts a bit to its variant: a match over the bits, or the call of the macro that makes a table.
 fn body_of_from(of: &Subject) -> Result<String, AllocError> {
-    let alloc = of.alloc;
+    let (alloc, facade, name) = (of.alloc, of.facade, of.name);
     let plan = &of.element.plan;
-    let is_in_table = is_in_table(plan);
-    let mut words = String::new(alloc);
-    if is_in_table {
-        let name = of.name;
-        write!(words, "val, {name}:\n")?;
-    } else {
-        words.push_str("        match val {\n")?;
-    }
     let variants = &of.element.declaration.variants;
-    for (variant, named) in variants.iter().zip(plan.variants.iter()) {
-        let name = variant.name;
-        let bit = named.bit;
-        if is_in_table {
-            write!(words, "{bit} {name}\n")?;
-        } else {
-            write!(words, "            {bit} => Self::{name},\n")?;
+    if is_in_table(plan) {
+        let mut words = format!(in alloc; "val, {name}:\n")?;
+        for (variant, named) in variants.iter().zip(plan.variants.iter()) {
+            write!(words, "{} {}\n", named.bit, variant.name)?;
         }
-    }
-    if is_in_table {
         return call_of(alloc, "variant_of!", words.as_str());
     }
-    let count = plan.variants.len();
+    let mut body = String::from_str(alloc, "        match val {\n")?;
+    for (variant, named) in variants.iter().zip(plan.variants.iter()) {
+        write!(
+            body,
+            "            {} => Self::{},\n",
+            named.bit, variant.name
+        )?;
+    }
+    let count = variants.len();
     if count > 32 {
         // A proof takes in no more bits by itself.
-        let facade = of.facade;
         write!(
-            words,
+            body,
             "            _ => {{
                 {facade}::variants::is_below(val, {count});
                 unreachable!()
@@ -229,9 +209,9 @@ fn body_of_from(of: &Subject) -> Result<String, AllocError> {
         }}"
         )?;
     } else {
-        words.push_str("            _ => unreachable!(),\n        }")?;
+        body.push_str("            _ => unreachable!(),\n        }")?;
     }
-    Ok(words)
+    Ok(body)
 }
 
 /// Writes the implementation of an element type of at most 128 bits.

@@ -2,17 +2,16 @@
 
 use super::element_type::is_in_table;
 use super::layout::{on_a_line, wrapped};
-use super::names::are_named;
 use super::stores::is_narrow;
 use crate::fault::{DeriveError, Reason};
 use crate::plan::Store;
 use crate::source::{Element, Form, Source};
-use std::alloc::AllocError;
+use std::alloc::{AllocError, Global};
 use std::collections::BTreeSet;
 
 const TAKEN: &str = "the module needs this name for what it imports of `enumset`: choose another";
 
-/// The imports of a module of `enumset`, in order, each once. Paths and renamed names have lines of their own.
+/// The imports of a module of `enumset`, in order, each once. Paths have lines of their own.
 pub(super) fn imports_of(source: &Source) -> Result<String, DeriveError> {
     let alloc = source.alloc;
     let mut imports = BTreeSet::new(alloc);
@@ -40,7 +39,7 @@ pub(super) fn imports_of(source: &Source) -> Result<String, DeriveError> {
 /// What the module of an element type may need of `enumset`, and whether it does.
 fn needed_by(element: &Element) -> [(bool, &'static str); 8] {
     let options = &element.declaration.options;
-    let is_named = are_named(options);
+    let is_named = options.are_named();
     let has_form = options.serialized.is_some();
     [
         (true, "EnumSetType"),
@@ -80,41 +79,41 @@ fn lines_of(source: &Source, imports: &BTreeSet<String>) -> Result<String, Alloc
     let is_ours = facade == "enumset_sets";
     let mut words = String::new(alloc);
     let mut paths = String::new(alloc);
+    let has_all = imports.iter().any(|name| name.as_str() == "*");
     for name in imports {
         if is_ours && name.as_str() == "internal::ArrayRepr" {
             paths.push_str("use enumset_array::ArrayRepr;\n")?;
-        } else if name.contains(':') || name.contains(' ') {
+        } else if name.contains(':') {
             write!(paths, "use {facade}::{name};\n")?;
-        } else {
+        } else if !has_all || name.contains(' ') {
             write!(words, "{name},\n")?;
         }
     }
-    let line = on_a_line(alloc, words.as_str())?;
-    let is_alone = words.lines().count() == 1;
-    let whole = if words.is_empty() {
-        String::new(alloc)
-    } else if line.contains('*') {
-        format!(in alloc; "use {facade}::*;")?
-    } else if is_alone {
-        format!(in alloc; "use {facade}::{line};")?
-    } else {
-        let whole = format!(in alloc; "use {facade}::{{{line}}};")?;
-        if whole.len() <= 100 {
-            whole
-        } else {
-            let lines = wrapped(alloc, "\n    ", [96, 96], words.as_str())?;
-            format!(in alloc; "use {facade}::{{\n    {lines}\n}};")?
-        }
-    };
-    let paths = paths.trim_end();
-    let gap = if paths.is_empty() || whole.is_empty() {
-        ""
-    } else {
-        "\n"
-    };
-    if is_alone && !is_ours {
-        format!(in alloc; "{whole}{gap}{paths}")
-    } else {
-        format!(in alloc; "{paths}{gap}{whole}")
+    if has_all {
+        words.push_str("*,\n")?;
     }
+    let names = names_of(alloc, facade, words.as_str())?;
+    let lines = if words.lines().count() == 1 && !is_ours {
+        format!(in alloc; "{names}{paths}")?
+    } else {
+        format!(in alloc; "{paths}{names}")?
+    };
+    String::from_str(alloc, lines.trim_end())
+}
+
+/// The line that imports these names, or the lines.
+fn names_of(alloc: Global, facade: &str, words: &str) -> Result<String, AllocError> {
+    let line = on_a_line(alloc, words)?;
+    if line.is_empty() {
+        return Ok(line);
+    }
+    if !line.contains(',') {
+        return format!(in alloc; "use {facade}::{line};\n");
+    }
+    let whole = format!(in alloc; "use {facade}::{{{line}}};\n")?;
+    if whole.len() <= 101 {
+        return Ok(whole);
+    }
+    let lines = wrapped(alloc, "\n    ", [96, 96], words)?;
+    format!(in alloc; "use {facade}::{{\n    {lines}\n}};\n")
 }

@@ -1,6 +1,5 @@
 //! The calls that write the sets of an element type in JSON and read them.
 
-use super::names::are_named;
 use super::{Subject, Written};
 use crate::plan::{IntegerType, Plan, Serialized, Store};
 use std::alloc::{AllocError, Global};
@@ -142,17 +141,17 @@ fn by_names(
 
 /// Writes the calls. They name `Result` by its path, since the module may have another.
 pub(super) fn write_json(out: &mut String, of: &Subject, serialized: Serialized) -> Written {
-    let name = of.name;
-    let guard = of.guard;
+    let (name, guard) = (of.name, of.guard);
     let options = &of.element.declaration.options;
-    let text = form_of(of, serialized)?;
-    let form = text.name;
-    let uses = text.uses.as_str();
-    let doc = text.doc.as_str();
-    let promise = text.promise.as_str();
-    let argument = text.argument.as_str();
-    let read_by = text.read_by.as_str();
-    let (unknown, unknown_doc) = match (options.denies_unknown, are_named(options)) {
+    let FormText {
+        name: form,
+        uses,
+        doc,
+        promise,
+        read_by,
+        argument,
+    } = form_of(of, serialized)?;
+    let (unknown, unknown_doc) = match (options.denies_unknown, options.are_named()) {
         (true, true) => ("Refuse", "A name that no variant has is a fault."),
         (true, false) => ("Refuse", "A bit that no variant has is a fault."),
         (false, true) => ("Drop", "Names that no variant has are left out."),

@@ -2,19 +2,11 @@
 
 use super::layout::{call_of, list_of};
 use super::{Subject, Written};
-use crate::plan::{Options, Serialized};
 use std::alloc::AllocError;
-
-/// Whether sets are written in JSON by the names of their elements.
-pub(super) fn are_named(options: &Options) -> bool {
-    matches!(options.serialized, Some(Serialized::List | Serialized::Map))
-}
 
 /// Writes the names of the variants in JSON.
 pub(super) fn write_names(out: &mut String, of: &Subject) -> Written {
-    let alloc = of.alloc;
-    let name = of.name;
-    let guard = of.guard;
+    let (alloc, name, guard) = (of.alloc, of.name, of.guard);
     let mut words = format!(in alloc; "{name}:\n")?;
     let mut codes = String::new(alloc);
     let mut renamed = of.element.json_names.iter();
@@ -25,7 +17,7 @@ pub(super) fn write_names(out: &mut String, of: &Subject) -> Written {
                 write!(codes, "codes \"{own}\" ∷\n")?;
                 write!(words, "{own}\n")?;
             }
-            Some(other) => {
+            Some((_, other)) => {
                 write!(codes, "codes \"{other}\" ∷\n")?;
                 write!(words, "{own} \"{other}\"\n")?;
             }
@@ -53,14 +45,8 @@ pub(super) fn write_names(out: &mut String, of: &Subject) -> Written {
 
 /// Writes the `Display` by the names of the variants.
 pub(super) fn write_display(out: &mut String, of: &Subject) -> Written {
-    let Subject {
-        alloc,
-        crate_name,
-        module,
-        name,
-        guard,
-        ..
-    } = *of;
+    let (alloc, crate_name, module) = (of.alloc, of.crate_name, of.module);
+    let (name, guard) = (of.name, of.guard);
     let mut codes = String::new(alloc);
     for variant in &of.element.declaration.variants {
         write!(codes, "codes \"{}\" ∷\n", variant.name)?;

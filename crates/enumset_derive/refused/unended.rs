@@ -1,0 +1,6 @@
+use std::fmt
+
+#[derive(EnumSetType)]
+pub enum E {
+    A,
+}

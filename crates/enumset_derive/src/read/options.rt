@@ -1,0 +1,136 @@
+//! What stands in `#[enumset(..)]`.
+
+use super::attributes::Attribute;
+use super::cursor::{Cursor, Done};
+use super::draft::Draft;
+use crate::fault::{DeriveError, Reason};
+use crate::plan::{IntegerType, Map, Representation, Serialized};
+use crate::tokens::Kind;
+
+const NO_VALUE: &str = "wanted: `=` and a text in quotes";
+
+const WRONG_MAP: &str = "`map` is \"lsb\", \"msb\", \"mask\" or \"compact\"";
+
+const WRONG_REPRESENTATION: &str =
+    "`repr` is \"u8\", \"u16\", \"u32\", \"u64\", \"u128\" or \"array\"; over another \
+    representation write the element type by hand, as in docs/ELEMENT-TYPES.md";
+
+const WRONG_FORM: &str =
+    "`serialize_repr` is \"u8\", \"u16\", \"u32\", \"u64\", \"u128\", \"array\", \"list\" or \"map\"";
+
+impl<'a, 'b> Draft<'a, 'b> {
+    /// Reads the options in an attribute.
+    pub fn read_options(&mut self, attribute: &Attribute<'a, 'b>) -> Done {
+        let mut cursor = attribute.arguments()?;
+        for _ in cursor.rest {
+            if !attribute.go_to_argument(&mut cursor)? {
+                break;
+            }
+            let name = cursor.token;
+            let is_name = matches!(name.kind, Kind::Word);
+            cursor.want(is_name, "wanted: a name of an option, or `)`")?;
+            if let Some(first) = self.given.iter().find(|given| given.is(name.text)) {
+                return Err(Reason::OptionTwice(first.place).at(name.place).into());
+            }
+            self.given.push(name)?;
+            self.read_option(&mut cursor)?;
+            cursor.advance_past_blanks()?;
+        }
+        Ok(())
+    }
+
+    /// Reads an option, up to its last token.
+    fn read_option(&mut self, cursor: &mut Cursor<'a, 'b>) -> Done {
+        let options = &mut self.declaration.options;
+        match cursor.token.text {
+            "map" => {
+                let map = map_named(cursor.read_value()?);
+                options.map = Some((cursor.known(map, WRONG_MAP)?, cursor.token.place));
+            }
+            "repr" => {
+                let representation = representation_named(cursor.read_value()?);
+                options.representation = Some(cursor.known(representation, WRONG_REPRESENTATION)?);
+            }
+            "serialize_repr" => {
+                let form = form_named(cursor.read_value()?);
+                options.serialized = Some(cursor.known(form, WRONG_FORM)?);
+            }
+            "crate_name" => options.crate_name = Some(cursor.read_value()?),
+            "serialize_deny_unknown" => options.denies_unknown = cursor.read_boolean()?,
+            "no_ops" => options.leaves_out_operators = cursor.read_boolean()?,
+            "no_super_impls" => options.leaves_out_supertraits = cursor.read_boolean()?,
+            "display" => options.has_display = cursor.read_boolean()?,
+            "serialize_as_list" => {
+                cursor.want(
+                    false,
+                    "`serialize_as_list` is written `serialize_repr = \"list\"`",
+                )?;
+            }
+            _ => cursor.want(false, "there is no such option")?,
+        }
+        Ok(())
+    }
+}
+
+impl<'a> Cursor<'a, '_> {
+    /// Reads `=` and a value, up to its text.
+    pub fn read_value(&mut self) -> Result<&'a str, DeriveError> {
+        self.advance_past_blanks()?;
+        self.want(self.token.is_mark('='), NO_VALUE)?;
+        self.advance_past_blanks()?;
+        self.known(self.token.unquoted(), NO_VALUE)
+    }
+
+    /// Reads `=` and a value that is true or false, up to it, if there is one. Otherwise it is true.
+    fn read_boolean(&mut self) -> Result<bool, DeriveError> {
+        let mut ahead = *self;
+        ahead.advance_past_blanks()?;
+        if !ahead.token.is_mark('=') {
+            return Ok(true);
+        }
+        ahead.advance_past_blanks()?;
+        *self = ahead;
+        match self.token.unquoted().unwrap_or(self.token.text) {
+            "true" => Ok(true),
+            "false" => Ok(false),
+            _ => Err(self.token.fault("wanted: `true` or `false`")),
+        }
+    }
+}
+
+fn map_named(value: &str) -> Option<Map> {
+    match value {
+        "lsb" => Some(Map::Lsb),
+        "msb" => Some(Map::Msb),
+        "mask" => Some(Map::Mask),
+        "compact" => Some(Map::Compact),
+        _ => None,
+    }
+}
+
+fn representation_named(value: &str) -> Option<Representation> {
+    match value {
+        "array" => Some(Representation::Words),
+        _ => integer_named(value).map(Representation::Integer),
+    }
+}
+
+fn form_named(value: &str) -> Option<Serialized> {
+    match value {
+        "array" => Some(Serialized::Words),
+        "list" => Some(Serialized::List),
+        "map" => Some(Serialized::Map),
+        _ => integer_named(value).map(Serialized::Integer),
+    }
+}
+
+fn integer_named(value: &str) -> Option<IntegerType> {
+    match value {
+        "u8" => Some(IntegerType::U8),
+        "u16" => Some(IntegerType::U16),
+        "u32" => Some(IntegerType::U32),
+        "u64" => Some(IntegerType::U64),
+        "u128" => Some(IntegerType::U128),
+        _ => None,
+    }
+}

@@ -1,0 +1,62 @@
+use crate::days::Day;
+use enumset::{EnumSet, EnumSetType, EnumSetTypeWithRepr};
+
+/// Suits of cards.
+#[derive(Clone, Copy, PartialEq, Eq, PartialOrd, Ord, Debug, Hash)]
+pub enum Suit {
+    Clubs,
+    Diamonds,
+    Hearts,
+    Spades,
+}
+
+impl EnumSetType for Suit {
+    ghost use Rattle.enumset_sets.specs.Laws.Elements.{in_place, lawful_in_integer, lawful_in_place};
+    ghost use Rattle.enumset_derived_types.specs.contracts.cards.Suit.{the_type};
+
+    type Repr = u8;
+
+    ghost elements = { in_place the_type };
+
+    ghost ALL_BITS = { 15 };
+
+    const ALL_BITS: u8 = 15;
+
+    ghost BIT_WIDTH = { 4 };
+
+    const BIT_WIDTH: u32 = 4;
+
+    ghost VARIANT_COUNT = { 4 };
+
+    const VARIANT_COUNT: u32 = 4;
+
+    fn enum_into_u32(self) -> u32 {
+        self as u32
+    }
+
+    fn enum_from_u32(val: u32) -> Self {
+        match val {
+            0 => Self::Clubs,
+            1 => Self::Diamonds,
+            2 => Self::Hearts,
+            3 => Self::Spades,
+            _ => unreachable!(),
+        }
+    }
+
+    ghost lawful = { lawful_in_place the_type (lawful_in_integer the_type _ tt) };
+}
+
+impl EnumSetTypeWithRepr for Suit {
+    ghost use Rattle.std.proofs.Common.{rules};
+
+    ghost narrow = { Prim.search rules };
+}
+
+/// On which day which suit is played.
+pub fn suits(day: Day) -> EnumSet<Suit> {
+    match day {
+        Day::Monday => EnumSet::all(),
+        _ => EnumSet::empty(),
+    }
+}
