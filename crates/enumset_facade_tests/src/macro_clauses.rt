@@ -7,7 +7,7 @@ ghost use Rattle.enumset_sets.specs.Elements.{valid_bits};
 
 use enumset::set::MixedEnumSet;
 use enumset::{
-    EnumSet, EnumSetType, enum_set, enum_set_complement, enum_set_difference,
+    EnumSet, EnumSetType, EnumSetTypeWithRepr, enum_set, enum_set_complement, enum_set_difference,
     enum_set_intersection, enum_set_symmetric_difference, enum_set_union, mixed_enum_set,
 };
 
@@ -38,7 +38,7 @@ fn elements<T: EnumSetType>(
     )
 }
 
-fn mixed_elements<T: EnumSetType>(
+fn mixed_elements<T: EnumSetTypeWithRepr>(
     a: T,
     b: T,
     c: T,
@@ -71,87 +71,135 @@ fn mixed_elements<T: EnumSetType>(
     )
 }
 
-fn union<T: EnumSetType>(
-    a: EnumSet<T>,
-    b: EnumSet<T>,
-    c: EnumSet<T>,
-    d: EnumSet<T>,
-    e: EnumSet<T>,
-) -> (EnumSet<T>, EnumSet<T>, EnumSet<T>, EnumSet<T>)
-    ensures one { result.0 ≡ a }
-    ensures two { result.1 ≡ set.union a b }
-    ensures three { result.2 ≡ set.union (set.union a b) c }
-    ensures five { result.3 ≡ set.union (set.union (set.union (set.union a b) c) d) e }
+fn union_of_one<T: EnumSetType>(a: EnumSet<T>) -> EnumSet<T>
+    ensures { result ≡ a }
 {
-    (
-        enum_set_union!(a),
-        enum_set_union!(a, b),
-        enum_set_union!(a, b, c),
-        enum_set_union!(a, b, c, d, e),
-    )
+    enum_set_union!(a)
 }
 
-fn intersection<T: EnumSetType>(
-    a: EnumSet<T>,
-    b: EnumSet<T>,
-    c: EnumSet<T>,
-    d: EnumSet<T>,
-    e: EnumSet<T>,
-) -> (EnumSet<T>, EnumSet<T>, EnumSet<T>, EnumSet<T>)
-    ensures one { result.0 ≡ a }
-    ensures two { result.1 ≡ set.intersection a b }
-    ensures three { result.2 ≡ set.intersection (set.intersection a b) c }
-    ensures five { result.3
-        ≡ set.intersection (set.intersection (set.intersection (set.intersection a b) c) d) e }
+fn union_of_two<T: EnumSetType>(a: EnumSet<T>, b: EnumSet<T>) -> EnumSet<T>
+    ensures { result ≡ set.union a b }
 {
-    (
-        enum_set_intersection!(a),
-        enum_set_intersection!(a, b),
-        enum_set_intersection!(a, b, c),
-        enum_set_intersection!(a, b, c, d, e),
-    )
+    enum_set_union!(a, b)
 }
 
-fn difference<T: EnumSetType>(
-    a: EnumSet<T>,
-    b: EnumSet<T>,
-    c: EnumSet<T>,
-    d: EnumSet<T>,
-    e: EnumSet<T>,
-) -> (EnumSet<T>, EnumSet<T>, EnumSet<T>, EnumSet<T>)
-    ensures one { result.0 ≡ a }
-    ensures two { result.1 ≡ set.difference a b }
-    ensures three { result.2 ≡ set.difference (set.difference a b) c }
-    ensures five { result.3 ≡ set.difference (set.difference (set.difference (set.difference a b) c) d) e }
+fn union_of_three<T: EnumSetType>(a: EnumSet<T>, b: EnumSet<T>, c: EnumSet<T>) -> EnumSet<T>
+    ensures { result ≡ set.union (set.union a b) c }
 {
-    (
-        enum_set_difference!(a),
-        enum_set_difference!(a, b),
-        enum_set_difference!(a, b, c),
-        enum_set_difference!(a, b, c, d, e),
-    )
+    enum_set_union!(a, b, c)
 }
 
-fn symmetric_difference<T: EnumSetType>(
+fn union_of_five<T: EnumSetType>(
     a: EnumSet<T>,
     b: EnumSet<T>,
     c: EnumSet<T>,
     d: EnumSet<T>,
     e: EnumSet<T>,
-) -> (EnumSet<T>, EnumSet<T>, EnumSet<T>, EnumSet<T>)
-    ensures one { result.0 ≡ a }
-    ensures two { result.1 ≡ set.symmetric_difference a b }
-    ensures three { result.2 ≡ set.symmetric_difference (set.symmetric_difference a b) c }
-    ensures five { result.3
+) -> EnumSet<T>
+    ensures { result ≡ set.union (set.union (set.union (set.union a b) c) d) e }
+{
+    enum_set_union!(a, b, c, d, e)
+}
+
+fn intersection_of_one<T: EnumSetType>(a: EnumSet<T>) -> EnumSet<T>
+    ensures { result ≡ a }
+{
+    enum_set_intersection!(a)
+}
+
+fn intersection_of_two<T: EnumSetType>(a: EnumSet<T>, b: EnumSet<T>) -> EnumSet<T>
+    ensures { result ≡ set.intersection a b }
+{
+    enum_set_intersection!(a, b)
+}
+
+fn intersection_of_three<T: EnumSetType>(a: EnumSet<T>, b: EnumSet<T>, c: EnumSet<T>) -> EnumSet<T>
+    ensures { result ≡ set.intersection (set.intersection a b) c }
+{
+    enum_set_intersection!(a, b, c)
+}
+
+fn intersection_of_five<T: EnumSetType>(
+    a: EnumSet<T>,
+    b: EnumSet<T>,
+    c: EnumSet<T>,
+    d: EnumSet<T>,
+    e: EnumSet<T>,
+) -> EnumSet<T>
+    ensures { result ≡ set.intersection (set.intersection (set.intersection (set.intersection a b) c) d) e }
+{
+    enum_set_intersection!(a, b, c, d, e)
+}
+
+fn difference_of_one<T: EnumSetType>(a: EnumSet<T>) -> EnumSet<T>
+    ensures { result ≡ a }
+{
+    enum_set_difference!(a)
+}
+
+fn difference_of_two<T: EnumSetType>(a: EnumSet<T>, b: EnumSet<T>) -> EnumSet<T>
+    ensures { result ≡ set.intersection a (set.difference (valid_bits T.elements) b) }
+{
+    enum_set_difference!(a, b)
+}
+
+fn difference_of_three<T: EnumSetType>(a: EnumSet<T>, b: EnumSet<T>, c: EnumSet<T>) -> EnumSet<T>
+    ensures { result
+        ≡ set.intersection (set.intersection a (set.difference (valid_bits T.elements) b))
+        (set.difference (valid_bits T.elements) c) }
+{
+    enum_set_difference!(a, b, c)
+}
+
+fn difference_of_five<T: EnumSetType>(
+    a: EnumSet<T>,
+    b: EnumSet<T>,
+    c: EnumSet<T>,
+    d: EnumSet<T>,
+    e: EnumSet<T>,
+) -> EnumSet<T>
+    ensures { result
+        ≡ set.intersection (set.intersection (set.intersection (set.intersection a
+        (set.difference (valid_bits T.elements) b)) (set.difference (valid_bits T.elements) c))
+        (set.difference (valid_bits T.elements) d)) (set.difference (valid_bits T.elements) e) }
+{
+    enum_set_difference!(a, b, c, d, e)
+}
+
+fn symmetric_difference_of_one<T: EnumSetType>(a: EnumSet<T>) -> EnumSet<T>
+    ensures { result ≡ a }
+{
+    enum_set_symmetric_difference!(a)
+}
+
+fn symmetric_difference_of_two<T: EnumSetType>(a: EnumSet<T>, b: EnumSet<T>) -> EnumSet<T>
+    ensures { result ≡ set.symmetric_difference a b }
+{
+    enum_set_symmetric_difference!(a, b)
+}
+
+fn symmetric_difference_of_three<T: EnumSetType>(
+    a: EnumSet<T>,
+    b: EnumSet<T>,
+    c: EnumSet<T>,
+) -> EnumSet<T>
+    ensures { result ≡ set.symmetric_difference (set.symmetric_difference a b) c }
+{
+    enum_set_symmetric_difference!(a, b, c)
+}
+
+fn symmetric_difference_of_five<T: EnumSetType>(
+    a: EnumSet<T>,
+    b: EnumSet<T>,
+    c: EnumSet<T>,
+    d: EnumSet<T>,
+    e: EnumSet<T>,
+) -> EnumSet<T>
+    ensures { result
         ≡ set.symmetric_difference (set.symmetric_difference (set.symmetric_difference
         (set.symmetric_difference a b) c) d) e }
 {
-    (
-        enum_set_symmetric_difference!(a),
-        enum_set_symmetric_difference!(a, b),
-        enum_set_symmetric_difference!(a, b, c),
-        enum_set_symmetric_difference!(a, b, c, d, e),
-    )
+    enum_set_symmetric_difference!(a, b, c, d, e)
 }
 
 fn complement<T: EnumSetType>(a: EnumSet<T>) -> EnumSet<T>
@@ -160,115 +208,162 @@ fn complement<T: EnumSetType>(a: EnumSet<T>) -> EnumSet<T>
     enum_set_complement!(a)
 }
 
-fn mixed_union<T: EnumSetType>(
-    a: MixedEnumSet<T>,
-    b: MixedEnumSet<T>,
-    c: MixedEnumSet<T>,
-    d: MixedEnumSet<T>,
-    e: MixedEnumSet<T>,
-) -> (
-    MixedEnumSet<T>,
-    MixedEnumSet<T>,
-    MixedEnumSet<T>,
-    MixedEnumSet<T>,
-)
-    ensures one { result.0 ≡ a }
-    ensures two { result.1 ≡ set.union a b }
-    ensures three { result.2 ≡ set.union (set.union a b) c }
-    ensures five { result.3 ≡ set.union (set.union (set.union (set.union a b) c) d) e }
+fn mixed_union_of_one<T: EnumSetTypeWithRepr>(a: MixedEnumSet<T>) -> MixedEnumSet<T>
+    ensures { result ≡ a }
 {
-    (
-        enum_set_union!(a),
-        enum_set_union!(a, b),
-        enum_set_union!(a, b, c),
-        enum_set_union!(a, b, c, d, e),
-    )
+    enum_set_union!(a)
 }
 
-fn mixed_intersection<T: EnumSetType>(
+fn mixed_union_of_two<T: EnumSetTypeWithRepr>(
     a: MixedEnumSet<T>,
     b: MixedEnumSet<T>,
-    c: MixedEnumSet<T>,
-    d: MixedEnumSet<T>,
-    e: MixedEnumSet<T>,
-) -> (
-    MixedEnumSet<T>,
-    MixedEnumSet<T>,
-    MixedEnumSet<T>,
-    MixedEnumSet<T>,
-)
-    ensures one { result.0 ≡ a }
-    ensures two { result.1 ≡ set.intersection a b }
-    ensures three { result.2 ≡ set.intersection (set.intersection a b) c }
-    ensures five { result.3
-        ≡ set.intersection (set.intersection (set.intersection (set.intersection a b) c) d) e }
+) -> MixedEnumSet<T>
+    ensures { result ≡ set.union a b }
 {
-    (
-        enum_set_intersection!(a),
-        enum_set_intersection!(a, b),
-        enum_set_intersection!(a, b, c),
-        enum_set_intersection!(a, b, c, d, e),
-    )
+    enum_set_union!(a, b)
 }
 
-fn mixed_difference<T: EnumSetType>(
+fn mixed_union_of_three<T: EnumSetTypeWithRepr>(
+    a: MixedEnumSet<T>,
+    b: MixedEnumSet<T>,
+    c: MixedEnumSet<T>,
+) -> MixedEnumSet<T>
+    ensures { result ≡ set.union (set.union a b) c }
+{
+    enum_set_union!(a, b, c)
+}
+
+fn mixed_union_of_five<T: EnumSetTypeWithRepr>(
     a: MixedEnumSet<T>,
     b: MixedEnumSet<T>,
     c: MixedEnumSet<T>,
     d: MixedEnumSet<T>,
     e: MixedEnumSet<T>,
-) -> (
-    MixedEnumSet<T>,
-    MixedEnumSet<T>,
-    MixedEnumSet<T>,
-    MixedEnumSet<T>,
-)
-    ensures one { result.0 ≡ a }
-    ensures two { result.1 ≡ set.intersection a (set.difference (valid_bits T.elements) b) }
-    ensures three { result.2
+) -> MixedEnumSet<T>
+    ensures { result ≡ set.union (set.union (set.union (set.union a b) c) d) e }
+{
+    enum_set_union!(a, b, c, d, e)
+}
+
+fn mixed_intersection_of_one<T: EnumSetTypeWithRepr>(a: MixedEnumSet<T>) -> MixedEnumSet<T>
+    ensures { result ≡ a }
+{
+    enum_set_intersection!(a)
+}
+
+fn mixed_intersection_of_two<T: EnumSetTypeWithRepr>(
+    a: MixedEnumSet<T>,
+    b: MixedEnumSet<T>,
+) -> MixedEnumSet<T>
+    ensures { result ≡ set.intersection a b }
+{
+    enum_set_intersection!(a, b)
+}
+
+fn mixed_intersection_of_three<T: EnumSetTypeWithRepr>(
+    a: MixedEnumSet<T>,
+    b: MixedEnumSet<T>,
+    c: MixedEnumSet<T>,
+) -> MixedEnumSet<T>
+    ensures { result ≡ set.intersection (set.intersection a b) c }
+{
+    enum_set_intersection!(a, b, c)
+}
+
+fn mixed_intersection_of_five<T: EnumSetTypeWithRepr>(
+    a: MixedEnumSet<T>,
+    b: MixedEnumSet<T>,
+    c: MixedEnumSet<T>,
+    d: MixedEnumSet<T>,
+    e: MixedEnumSet<T>,
+) -> MixedEnumSet<T>
+    ensures { result ≡ set.intersection (set.intersection (set.intersection (set.intersection a b) c) d) e }
+{
+    enum_set_intersection!(a, b, c, d, e)
+}
+
+fn mixed_difference_of_one<T: EnumSetTypeWithRepr>(a: MixedEnumSet<T>) -> MixedEnumSet<T>
+    ensures { result ≡ a }
+{
+    enum_set_difference!(a)
+}
+
+fn mixed_difference_of_two<T: EnumSetTypeWithRepr>(
+    a: MixedEnumSet<T>,
+    b: MixedEnumSet<T>,
+) -> MixedEnumSet<T>
+    ensures { result ≡ set.intersection a (set.difference (valid_bits T.elements) b) }
+{
+    enum_set_difference!(a, b)
+}
+
+fn mixed_difference_of_three<T: EnumSetTypeWithRepr>(
+    a: MixedEnumSet<T>,
+    b: MixedEnumSet<T>,
+    c: MixedEnumSet<T>,
+) -> MixedEnumSet<T>
+    ensures { result
         ≡ set.intersection (set.intersection a (set.difference (valid_bits T.elements) b))
         (set.difference (valid_bits T.elements) c) }
-    ensures five { result.3
+{
+    enum_set_difference!(a, b, c)
+}
+
+fn mixed_difference_of_five<T: EnumSetTypeWithRepr>(
+    a: MixedEnumSet<T>,
+    b: MixedEnumSet<T>,
+    c: MixedEnumSet<T>,
+    d: MixedEnumSet<T>,
+    e: MixedEnumSet<T>,
+) -> MixedEnumSet<T>
+    ensures { result
         ≡ set.intersection (set.intersection (set.intersection (set.intersection a
         (set.difference (valid_bits T.elements) b)) (set.difference (valid_bits T.elements) c))
         (set.difference (valid_bits T.elements) d)) (set.difference (valid_bits T.elements) e) }
 {
-    (
-        enum_set_difference!(a),
-        enum_set_difference!(a, b),
-        enum_set_difference!(a, b, c),
-        enum_set_difference!(a, b, c, d, e),
-    )
+    enum_set_difference!(a, b, c, d, e)
 }
 
-fn mixed_symmetric_difference<T: EnumSetType>(
+fn mixed_symmetric_difference_of_one<T: EnumSetTypeWithRepr>(a: MixedEnumSet<T>) -> MixedEnumSet<T>
+    ensures { result ≡ a }
+{
+    enum_set_symmetric_difference!(a)
+}
+
+fn mixed_symmetric_difference_of_two<T: EnumSetTypeWithRepr>(
+    a: MixedEnumSet<T>,
+    b: MixedEnumSet<T>,
+) -> MixedEnumSet<T>
+    ensures { result ≡ set.symmetric_difference a b }
+{
+    enum_set_symmetric_difference!(a, b)
+}
+
+fn mixed_symmetric_difference_of_three<T: EnumSetTypeWithRepr>(
+    a: MixedEnumSet<T>,
+    b: MixedEnumSet<T>,
+    c: MixedEnumSet<T>,
+) -> MixedEnumSet<T>
+    ensures { result ≡ set.symmetric_difference (set.symmetric_difference a b) c }
+{
+    enum_set_symmetric_difference!(a, b, c)
+}
+
+fn mixed_symmetric_difference_of_five<T: EnumSetTypeWithRepr>(
     a: MixedEnumSet<T>,
     b: MixedEnumSet<T>,
     c: MixedEnumSet<T>,
     d: MixedEnumSet<T>,
     e: MixedEnumSet<T>,
-) -> (
-    MixedEnumSet<T>,
-    MixedEnumSet<T>,
-    MixedEnumSet<T>,
-    MixedEnumSet<T>,
-)
-    ensures one { result.0 ≡ a }
-    ensures two { result.1 ≡ set.symmetric_difference a b }
-    ensures three { result.2 ≡ set.symmetric_difference (set.symmetric_difference a b) c }
-    ensures five { result.3
+) -> MixedEnumSet<T>
+    ensures { result
         ≡ set.symmetric_difference (set.symmetric_difference (set.symmetric_difference
         (set.symmetric_difference a b) c) d) e }
 {
-    (
-        enum_set_symmetric_difference!(a),
-        enum_set_symmetric_difference!(a, b),
-        enum_set_symmetric_difference!(a, b, c),
-        enum_set_symmetric_difference!(a, b, c, d, e),
-    )
+    enum_set_symmetric_difference!(a, b, c, d, e)
 }
 
-fn mixed_complement<T: EnumSetType>(a: MixedEnumSet<T>) -> MixedEnumSet<T>
+fn mixed_complement<T: EnumSetTypeWithRepr>(a: MixedEnumSet<T>) -> MixedEnumSet<T>
     ensures { result ≡ set.difference (valid_bits T.elements) a }
 {
     enum_set_complement!(a)
