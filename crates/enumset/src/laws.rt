@@ -5,7 +5,7 @@
 //! `reads` of each writer of texts says that its text is read as this value, so what the laws say of values holds of
 //! texts too. Those of numbers and words without JSON come from `enumset_sets`, that of the order from `enumset_repr`, and
 //! all others from the modules below: what a reader of another element type reads, elements, absorption, complements,
-//! mixed sets, folds, iterators from both ends, and asks. The laws of sets alone are in rulesets. Rust's `enumset` has no
+//! mixed sets, folds, iterators from both ends, and asks. Most laws of sets alone are in rulesets. Rust's `enumset` has no
 //! laws.
 
 ghost use Rattle.std.specs.Prelude.{◌≡◌, Ok, Some, IsTrue};

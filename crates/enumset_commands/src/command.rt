@@ -132,7 +132,7 @@ fn without_words(name: &[u8], fields: &Tokens) -> Option<Command>
     change(name, fields)
 }
 
-/// The command of a name whose reply is `ok`.
+/// The command of this name, if it is one that always replies `ok`.
 fn assignment(name: &[u8], fields: &Tokens) -> Option<Command>
     ensures { result ≡ written assignments name.now fields.now }
 {
@@ -153,7 +153,7 @@ fn assignment(name: &[u8], fields: &Tokens) -> Option<Command>
     }
 }
 
-/// The command of a name that changes nothing.
+/// The command of this name, if it is one that changes nothing.
 fn query(name: &[u8], fields: &Tokens) -> Option<Command>
     ensures { result ≡ written queries name.now fields.now }
 {
@@ -174,7 +174,7 @@ fn query(name: &[u8], fields: &Tokens) -> Option<Command>
     }
 }
 
-/// The command of a name that changes a register, or may, and tells something.
+/// The command of this name, if it is one that may change a register and tells something.
 fn change(name: &[u8], fields: &Tokens) -> Option<Command>
     ensures { result ≡ written changes name.now fields.now }
 {

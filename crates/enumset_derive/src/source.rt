@@ -11,14 +11,14 @@ pub struct Source<'a> {
     pub alloc: Global,
     /// In their order.
     pub items: Vec<Item<'a>>,
-    /// How many of them stand before the end of the last inner comment or attribute at its beginning.
+    /// How many items stand before the end of the head: the inner comments and attributes at the beginning of the text.
     pub head: usize,
     /// What it imports of the crate `enumset`, each as it is written after `enumset::`.
     pub imports: Vec<String>,
     pub has_imports: bool,
     /// The names that it gives to what it declares or imports in another way.
     pub names: Vec<Name<'a>>,
-    /// The name of that crate.
+    /// The name by which the module cites the crate `enumset`.
     pub facade: &'a str,
     pub has_enums: bool,
     /// What is said of it on standard error, and of which place.

@@ -18,11 +18,13 @@ const DERIVE_ALONE: &str = "here nothing comes of `EnumSetType`: write `#[derive
 
 const OPTIONS_ALONE: &str = "here nothing comes of the options: write `#[enumset(..)]` alone";
 
-/// What has a meaning everywhere, before a type, and before an item that is no element type.
+/// The attributes with a meaning everywhere.
 const EVERYWHERE: &str = "allow warn deny forbid expect clippy tactic";
 
+/// Those with a meaning before a type.
 const OF_TYPES: &str = "must_use rattlefmt cycle derive_where";
 
+/// Those with a meaning before an item that is no element type.
 const OF_ITEMS: &str = "inline cold test ignore should_panic macro_export macro_use macro_derive \
     unsafe error serde";
 

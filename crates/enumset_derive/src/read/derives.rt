@@ -8,10 +8,11 @@ use crate::place::Place;
 use crate::tokens::is_among;
 use std::alloc::{AllocError, Global};
 
-/// What std, `serde` and `thiserror` derive, and where from.
+/// What std, `serde` and `thiserror` derive.
 const KNOWN: &str = "Clone Copy PartialEq Eq PartialOrd Ord Default Hash Debug Drop \
     Serialize Deserialize Error";
 
+/// The first names of paths to these derives.
 const ROOTS: &str = "std core fmt cmp hash clone marker default serde thiserror";
 
 /// A path that is derived.

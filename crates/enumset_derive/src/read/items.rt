@@ -11,7 +11,7 @@ use crate::tokens::{Kind, is_among};
 const INSIDE: &str =
     "an enum in a module, a function or a macro has no element type: write it outside";
 
-/// What may stand for a derive before a field or a variant, or derives.
+/// `derive`, and the attributes that a derive reads before a field or a variant.
 const HELPERS: &str = "derive default serde error from source";
 
 /// What has a name in the module.

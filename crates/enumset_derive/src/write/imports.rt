@@ -11,7 +11,8 @@ use std::collections::BTreeSet;
 
 const TAKEN: &str = "the module needs this name for what it imports of `enumset`: choose another";
 
-/// The imports of a module of `enumset`, in order, each once. Paths have lines of their own.
+/// What a module imports of `enumset`, in order, each once. Paths have lines of their own. It is a fault if the source
+/// gives a needed name to something else.
 pub(super) fn imports_of(source: &Source) -> Result<String, DeriveError> {
     let alloc = source.alloc;
     let mut imports = BTreeSet::new(alloc);
