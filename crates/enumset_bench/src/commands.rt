@@ -2,7 +2,7 @@
 
 use crate::digest::Digest;
 use crate::random::Random;
-use enumset_kinds::kinds::{serve_worked, worked};
+use enumset_machine::kinds::{serve_worked, worked};
 use std::alloc::{AllocError, Global};
 
 /// How many bytes an input has at most, and how many lines its lines are taken from.

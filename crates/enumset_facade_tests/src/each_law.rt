@@ -3,7 +3,7 @@
 use enumset::set::MixedEnumSet;
 use enumset::set_json::{JsonWidth, Unknown};
 use enumset::{EnumSet, laws};
-use enumset_test_types::{Letters, Numbered};
+use crate::types::{Letters, Numbered};
 use enumset_worked::Marks;
 
 #[test]

@@ -5,7 +5,7 @@ use enumset::set_json::{
     JsonFault, JsonWidth, Unknown, from_list_text, from_map_text, from_number_text,
     from_words_text, mixed_from_number_text, mixed_from_words_text,
 };
-use enumset_test_types::Letters;
+use crate::types::Letters;
 use std::test::Fail;
 
 #[test]

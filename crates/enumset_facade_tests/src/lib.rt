@@ -1,7 +1,7 @@
-//! Tests of the crate `enumset`: macros, folds, steps and JSON, at the worked types and at types whose values have names;
-//! and of users' code over it, with its proofs. What strings of JSON are read and written as is in `scripts/random-json`.
+//! Tests of the crate `enumset`: macros, folds, steps and JSON, at the worked types and at those of `types`; and of
+//! users' code over it, with its proofs. What strings of JSON are read and written as is in `scripts/random-json`.
 //!
-//! They are in a crate of their own so that they are proved beside the tests of sets.
+//! They are in a crate of their own so that they are proved beside the tests of sets. The scripts use `types` too.
 #![tactic(auto)]
 
 #[cfg(test)]
@@ -36,3 +36,4 @@ mod sending_json;
 mod sent;
 #[cfg(test)]
 mod steps;
+pub mod types;

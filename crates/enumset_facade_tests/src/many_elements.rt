@@ -2,7 +2,7 @@
 
 use crate::expect::expect;
 use enumset::EnumSet;
-use enumset_test_types::Of256;
+use crate::types::Of256;
 use std::test::Fail;
 
 // V0 has bit 0, V1 bit 1 and so on.

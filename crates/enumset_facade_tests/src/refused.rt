@@ -12,7 +12,7 @@ use enumset::set_json::{
     mixed_to_words_text, to_list_text, to_map_text,
 };
 use enumset_array::{ArrayRepr, End, ShownRow, walk};
-use enumset_test_types::{Letters, Priority, Wide};
+use crate::types::{Letters, Priority, Wide};
 use enumset_worked::{Marks, Sparse};
 use std::alloc::Global;
 use std::process::Abort;

@@ -6,7 +6,7 @@ use crate::sending_json::{sent_as_list_text, sent_as_number, sent_as_words, sent
 use enumset::EnumSet;
 use enumset::set::MixedEnumSet;
 use enumset::set_json::{JsonWidth, Unknown};
-use enumset_test_types::{LaterLetters, Letters};
+use crate::types::{LaterLetters, Letters};
 use std::test::Fail;
 
 #[test]

@@ -1,13 +1,15 @@
-//! Runs of commands over `EnumSet` and `MixedEnumSet`, for every element type.
+//! Runs of commands over `EnumSet` and `MixedEnumSet`, for every element type, and over the worked types by their names.
 #![tactic(auto)]
 
 mod element_set;
 mod iterators;
+pub mod kinds;
 pub mod laws;
 pub mod machine;
 mod mixed_commands;
 pub mod mixed_machine;
 mod mixed_set;
+mod nothing;
 mod numbers;
 mod registers;
 mod run_set;
@@ -15,6 +17,7 @@ mod runner;
 pub mod runs;
 pub mod serve;
 mod steps;
+pub mod worked;
 
 pub use machine::Machine;
 pub use mixed_machine::MixedMachine;

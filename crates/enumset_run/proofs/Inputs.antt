@@ -5,12 +5,12 @@ use Rattle.std.proofs.lemmas.List.{length-take, take_all}
 use Rattle.std.proofs.lemmas.Bool.Decides.{nat_tests}
 use Rattle.enumset_repr.specs.BitSet.{BitSet, from_list}
 use Rattle.enumset_machine.specs.Answers.{commands_of, answer_by}
-use Rattle.enumset_kinds.specs.Kinds.{over, answer_by_width, answer_over}
+use Rattle.enumset_machine.specs.Kinds.{over, answer_by_width, answer_over}
 use Rattle.enumset_commands.specs.Lines.{command_of, commands_of_text, mixed_command_of}
 use Rattle.enumset_machine.specs.declared.serve.TheConstants.{INPUT_LIMIT}
 use Rattle.enumset_commands.specs.declared.text_fault.TextFault.TheVariants.{TooLong}
 use Rattle.enumset_machine.specs.Runs.{replies, mixed_replies}
-use Rattle.enumset_kinds.specs.declared.worked.Worked.{Worked}
+use Rattle.enumset_machine.specs.declared.worked.Worked.{Worked}
 use Rattle.enumset_run.specs.declared.program.TheConstants.{READ_LIMIT}
 use Rattle.enumset_commands.specs.declared.text_fault.TextFault.{TextFault}
 

@@ -3,12 +3,12 @@
 ghost use Rattle.std.specs.Prelude.{◌≡◌, ◌≢◌, ◌⊎◌, ◌+◌, ◌≤◌, [], length, take, IfOk, IfErr, IfSome, OnOk, OnErr, IsOk, IsOkAnd, vec_capacity};
 ghost use Rattle.std.specs.Io.KnownBytes.{Appends};
 ghost use Rattle.enumset_run.specs.Faults.{type_of_arguments, IsFaultOver, AppendsFrontOf};
-ghost use Rattle.enumset_kinds.specs.Kinds.{answer_over};
+ghost use Rattle.enumset_machine.specs.Kinds.{answer_over};
 
 use crate::fault::ProgramFault;
 use enumset_commands::TextFault;
-use enumset_kinds::kinds::{serve_worked, worked_of_bytes};
-use enumset_kinds::worked::Worked;
+use enumset_machine::kinds::{serve_worked, worked_of_bytes};
+use enumset_machine::worked::Worked;
 use enumset_machine::INPUT_LIMIT;
 use std::alloc::Global;
 use std::env::{Env, FillError};

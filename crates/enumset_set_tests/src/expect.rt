@@ -9,6 +9,17 @@ pub fn expect<V: Copy + Eq + Debug>(rt: &impl Abort, call: &str, reply: V, wante
     assert_eq!(rt; reply, wanted, "{call}");
 }
 
+/// Tests the reply to a call of a representation.
+pub fn expect_at<V: Copy + Eq + Debug>(
+    rt: &impl Abort,
+    repr: &str,
+    call: &str,
+    reply: V,
+    wanted: V,
+) {
+    assert_eq!(rt; reply, wanted, "{call} at {repr}");
+}
+
 /// Fails the test at the first line that is not as wanted.
 pub fn same_lines(rt: &impl Abort, came: &str, wanted: &str) {
     let mut lines = came.lines();

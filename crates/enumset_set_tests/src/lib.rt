@@ -1,30 +1,13 @@
-//! Tests of sets and mixed sets at the worked types: calls that no command makes, texts, hashes and sizes.
+//! Tests of `enumset_repr`, `enumset_array`, `enumset_sets` and `enumset_mixed`.
 //!
-//! They are in a crate of their own so that the crates that they test are proved once. They name no call of the crate
-//! `enumset`.
+//! They test what no contract says: that calls succeed, that the definitions say what they should, texts, hashes and
+//! sizes. They are in a crate of their own so that the crates that they test are proved once. They name no call of the
+//! crate `enumset`.
 #![tactic(auto)]
 
 #[cfg(test)]
-mod by_hand;
-#[cfg(test)]
-mod conversions;
-#[cfg(test)]
 mod expect;
 #[cfg(test)]
-mod hashes;
-#[cfg(test)]
-mod integers;
-#[cfg(test)]
-mod items;
-#[cfg(test)]
-mod long_texts;
-#[cfg(test)]
-mod mixed;
-#[cfg(test)]
-mod operators;
+mod repr;
 #[cfg(test)]
 mod sets;
-#[cfg(test)]
-mod sizes;
-#[cfg(test)]
-mod texts;

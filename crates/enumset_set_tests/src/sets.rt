@@ -1,4 +1,15 @@
-//! The calls of a set that no command makes, at `letters`.
+//! Tests of sets and mixed sets at the worked types: here the calls of a set that no command makes, at `letters`.
+
+mod by_hand;
+mod conversions;
+mod hashes;
+mod integers;
+mod items;
+mod long_texts;
+mod mixed;
+mod operators;
+mod sizes;
+mod texts;
 
 use crate::expect::expect;
 use enumset_sets::{EnumSet, EnumSetType, laws, raw};

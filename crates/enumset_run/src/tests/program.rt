@@ -3,7 +3,7 @@
 use super::paced::{Pace, Sink, Source};
 use crate::fault::ProgramFault;
 use crate::program::{ROOM, answer_input};
-use enumset_kinds::worked::Worked;
+use enumset_machine::worked::Worked;
 use std::alloc::{AllocError, Global};
 use std::str;
 use std::test::Fail;

@@ -1,0 +1,84 @@
+//! The worked types by their names, and the answer to an input over each.
+
+ghost use Rattle.std.specs.Prelude.{◌≡◌, IfOk, IfErr, Ok};
+ghost use Rattle.enumset_machine.specs.Kinds.{worked_of, answer_over};
+ghost use Rattle.enumset_commands.specs.Texts.{IsFaultOf};
+
+use crate::nothing::serve_nothing;
+use crate::worked::Worked;
+use crate::{serve_mixed_text, serve_text};
+use enumset_commands::TextFault;
+use enumset_commands::names::is;
+use enumset_worked::{
+    Four, High, Letters, Marks, Masks, PairNumber, PairWords, Single, Sparse, Wide,
+};
+use std::alloc::Global;
+
+/// The type of this name, or `None` if no type has exactly that name.
+pub fn worked(name: &str) -> Option<Worked>
+    ensures { result ≡ worked_of name.now }
+{
+    worked_of_bytes(name.as_bytes())
+}
+
+/// The same of a name as bytes, which need not be text.
+pub fn worked_of_bytes(name: &[u8]) -> Option<Worked>
+    ensures { result ≡ worked_of name.now }
+{
+    Some(match name {
+        _ if is(name, "letters") => Worked::Letters,
+        _ if is(name, "four") => Worked::Four,
+        _ if is(name, "sparse") => Worked::Sparse,
+        _ if is(name, "marks") => Worked::Marks,
+        _ if is(name, "wide") => Worked::Wide,
+        _ if is(name, "pair-words") => Worked::PairWords,
+        _ if is(name, "pair-number") => Worked::PairNumber,
+        _ if is(name, "high") => Worked::High,
+        _ if is(name, "masks") => Worked::Masks,
+        _ if is(name, "single") => Worked::Single,
+        _ if is(name, "nothing") => Worked::Nothing,
+        _ if is(name, "mixed-letters") => Worked::MixedLetters,
+        _ if is(name, "mixed-four") => Worked::MixedFour,
+        _ if is(name, "mixed-sparse") => Worked::MixedSparse,
+        _ if is(name, "mixed-marks") => Worked::MixedMarks,
+        _ if is(name, "mixed-pair-words") => Worked::MixedPairWords,
+        _ if is(name, "mixed-pair-number") => Worked::MixedPairNumber,
+        _ if is(name, "mixed-high") => Worked::MixedHigh,
+        _ if is(name, "mixed-masks") => Worked::MixedMasks,
+        _ if is(name, "mixed-single") => Worked::MixedSingle,
+        _ if is(name, "mixed-nothing") => Worked::MixedNothing,
+        _ => return None,
+    })
+}
+
+/// The text of the replies to the commands of an input, over the sets of a worked type, or over its mixed sets.
+///
+/// The errors are those of [`serve_text`].
+pub fn serve_worked(alloc: Global, kind: Worked, input: &[u8]) -> Result<Vec<u8>, TextFault>
+    ensures answer { IfOk result (λ out. answer_over kind input.now ≡ Ok out.items) }
+    ensures fault { IfErr result (λ fault. IsFaultOf (answer_over kind input.now) fault) }
+{
+    match kind {
+        Worked::Letters => serve_text::<Letters>(alloc, input),
+        Worked::Four => serve_text::<Four>(alloc, input),
+        Worked::Sparse => serve_text::<Sparse>(alloc, input),
+        Worked::Marks => serve_text::<Marks>(alloc, input),
+        Worked::Wide => serve_text::<Wide>(alloc, input),
+        Worked::PairWords => serve_text::<PairWords>(alloc, input),
+        Worked::PairNumber => serve_text::<PairNumber>(alloc, input),
+        Worked::High => serve_text::<High>(alloc, input),
+        Worked::Masks => serve_text::<Masks>(alloc, input),
+        Worked::Single => serve_text::<Single>(alloc, input),
+        Worked::Nothing => serve_nothing(alloc, false, input),
+        Worked::MixedLetters => serve_mixed_text::<Letters>(alloc, input),
+        Worked::MixedFour => serve_mixed_text::<Four>(alloc, input),
+        Worked::MixedSparse => serve_mixed_text::<Sparse>(alloc, input),
+        Worked::MixedMarks => serve_mixed_text::<Marks>(alloc, input),
+        Worked::MixedPairWords => serve_mixed_text::<PairWords>(alloc, input),
+        Worked::MixedPairNumber => serve_mixed_text::<PairNumber>(alloc, input),
+        Worked::MixedHigh => serve_mixed_text::<High>(alloc, input),
+        Worked::MixedMasks => serve_mixed_text::<Masks>(alloc, input),
+        Worked::MixedSingle => serve_mixed_text::<Single>(alloc, input),
+        Worked::MixedNothing => serve_nothing(alloc, true, input),
+    }
+}

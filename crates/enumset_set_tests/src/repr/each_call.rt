@@ -1,0 +1,165 @@
+//! Each call of `EnumSetTypeRepr` through the trait, at each type that implements it, on sets of bits below 7.
+
+use crate::expect::expect_at;
+use enumset_array::ArrayRepr;
+use enumset_repr::{
+    EnumSetTypeRepr, from_u64_array, greatest_bit, least_bit, least_bit_from, to_u64_array,
+    try_from_u64_array, try_to_u64_array,
+};
+use std::process::Abort;
+
+// The operators on {0, 3, 6} and {3, 4}.
+fn operators<R: EnumSetTypeRepr>(rt: &impl Abort, repr: &str) {
+    let (a, b) = (R::from_u8(73), R::from_u8(24));
+    let (mut or, mut and, mut xor, mut and_not) = (a, a, a, a);
+    or.or_with(&b);
+    and.and_with(&b);
+    xor.xor_with(&b);
+    and_not.and_not_with(&b);
+    let changed = [or.to_u8(), and.to_u8(), xor.to_u8(), and_not.to_u8()];
+    expect_at(rt, repr, "or_with and its like", changed, [89, 8, 81, 65]);
+    let made = [(a | b).to_u8(), (a & b).to_u8(), (a ^ b).to_u8()];
+    expect_at(rt, repr, "|, & and ^", made, [89, 8, 81]);
+    let made = [a.and_not(b).to_u8(), (!a & b).to_u8(), R::EMPTY.to_u8()];
+    expect_at(rt, repr, "and_not, ! and EMPTY", made, [65, 16, 0]);
+    let answers = [a.is_empty(), a.is_subset_of(&or), a.is_disjoint_from(&b)];
+    expect_at(
+        rt,
+        repr,
+        "is_empty and its like",
+        answers,
+        [false, true, false],
+    );
+    let answers = [a == or, a < or];
+    expect_at(rt, repr, "== and <", answers, [false, true]);
+}
+
+// What `or_changes` and its like do to {0, 3, 6} by {3, 4}, and what they say, once and again.
+fn changes<R: EnumSetTypeRepr>(rt: &impl Abort, repr: &str) {
+    let (a, b) = (R::from_u8(73), R::from_u8(24));
+    let (mut or, mut and, mut and_not) = (a, a, a);
+    for has_changed in [true, false] {
+        let told = [
+            or.or_changes(&b),
+            and.and_changes(&b),
+            and_not.and_not_changes(&b),
+        ];
+        expect_at(rt, repr, "or_changes and its like", told, [has_changed; 3]);
+        let made = [or.to_u8(), and.to_u8(), and_not.to_u8()];
+        expect_at(rt, repr, "what they make", made, [89, 8, 65]);
+    }
+}
+
+// The ends of {0, 3, 6}, from some bit on, and of the empty set.
+fn ends<R: EnumSetTypeRepr>(rt: &impl Abort, repr: &str) {
+    let set = R::from_u8(73);
+    let found = [least_bit(&set), greatest_bit(&set)];
+    expect_at(rt, repr, "least and greatest", found, [Some(0), Some(6)]);
+    let found = [1, 3, 4, 7, 64, u32::MAX].map(|from| least_bit_from(&set, from));
+    let wanted = [Some(3), Some(3), Some(6), None, None, None];
+    expect_at(rt, repr, "least_bit_from", found, wanted);
+    let none = [least_bit(&R::EMPTY), greatest_bit(&R::EMPTY)];
+    expect_at(rt, repr, "of none", none, [None; 2]);
+}
+
+// The bits of {0, 3, 6}.
+fn bits<R: EnumSetTypeRepr>(rt: &impl Abort, repr: &str) {
+    let mut set = R::from_u8(24);
+    if R::WIDTH > 6 && R::PREFERRED_ARRAY_LEN > 0 {
+        set.add_bit(6);
+        set.remove_bit(4);
+        let held = [set.has_bit(6), set.has_bit(4)];
+        expect_at(rt, repr, "has_bit", held, [true, false]);
+        let word = set.word(0);
+        set.put_word(0, word | 1);
+    }
+    let mut iter = set.iter();
+    let left = [
+        set.count_ones() as usize,
+        R::items_left(&R::same_iter(&iter)),
+    ];
+    expect_at(rt, repr, "count_ones and items_left", left, [3, 3]);
+    let items = [iter.next(), iter.next_back(), iter.next(), iter.next()];
+    expect_at(rt, repr, "next", items, [Some(0), Some(6), Some(3), None]);
+}
+
+// The numbers of {0, 3, 6}.
+fn numbers<R: EnumSetTypeRepr>(rt: &impl Abort, repr: &str) {
+    let set = R::from_u128(73);
+    let numbers = [
+        set.to_u8() as u128,
+        set.to_u16() as u128,
+        set.to_u32() as u128,
+        set.to_u64() as u128,
+        set.to_usize() as u128,
+        set.to_u128(),
+    ];
+    expect_at(rt, repr, "to_u8 and its like", numbers, [73; 6]);
+    let tried = [
+        set.try_to_u8() == Some(73),
+        set.try_to_u16() == Some(73),
+        set.try_to_u32() == Some(73),
+        set.try_to_u64() == Some(73),
+        set.try_to_usize() == Some(73),
+        set.try_to_u128() == Some(73),
+    ];
+    expect_at(rt, repr, "try_to_u8 and its like", tried, [true; 6]);
+}
+
+// Sets from the number of {0, 3, 6}.
+fn sets_of_numbers<R: EnumSetTypeRepr>(rt: &impl Abort, repr: &str) {
+    let set = R::from_u8(73);
+    let made = [
+        R::from_u16(73) == set,
+        R::from_u32(73) == set,
+        R::from_u64(73) == set,
+        R::from_usize(73) == set,
+        R::from_u128(73) == set,
+        R::try_from_u8(73) == Some(set),
+        R::try_from_u16(73) == Some(set),
+        R::try_from_u32(73) == Some(set),
+        R::try_from_u64(73) == Some(set),
+        R::try_from_usize(73) == Some(set),
+        R::try_from_u128(73) == Some(set),
+    ];
+    expect_at(rt, repr, "from_u8 and its like", made, [true; 11]);
+}
+
+// The words of {0, 3, 6}.
+fn words<R: EnumSetTypeRepr>(rt: &impl Abort, repr: &str) {
+    let (set, words) = (R::from_u64_slice(&[73]), [73, 0]);
+    let mut out = [7; 2];
+    set.to_u64_slice(&mut out);
+    expect_at(rt, repr, "to_u64_slice", out, words);
+    let tried = [
+        set.try_to_u64_slice(&mut out).is_some(),
+        set.try_to_u64_slice(&mut []).is_some(),
+        R::try_from_u64_slice(&words) == Some(set),
+        from_u64_array::<R, 2>(words) == set,
+        try_from_u64_array::<R, 2>(words) == Some(set),
+    ];
+    let wanted = [true, false, true, true, true];
+    expect_at(rt, repr, "slices and arrays", tried, wanted);
+    let arrays = [Some(to_u64_array(&set)), try_to_u64_array(&set)];
+    expect_at(rt, repr, "to_u64_array", arrays, [Some(words); 2]);
+}
+
+fn each_call<R: EnumSetTypeRepr>(rt: &impl Abort, repr: &str) {
+    operators::<R>(rt, repr);
+    changes::<R>(rt, repr);
+    ends::<R>(rt, repr);
+    bits::<R>(rt, repr);
+    numbers::<R>(rt, repr);
+    sets_of_numbers::<R>(rt, repr);
+    words::<R>(rt, repr);
+}
+
+#[test]
+fn each_type_has_each_call(rt: HostRuntime) {
+    each_call::<u8>(&rt, "u8");
+    each_call::<u16>(&rt, "u16");
+    each_call::<u32>(&rt, "u32");
+    each_call::<u64>(&rt, "u64");
+    each_call::<u128>(&rt, "u128");
+    each_call::<ArrayRepr<5>>(&rt, "5 words");
+}
