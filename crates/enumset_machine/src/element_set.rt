@@ -145,14 +145,13 @@ impl<T: EnumSetType> RunSet for EnumSet<T> {
     }
 
     fn from_number(width: u32, value: u128) -> Option<Self> {
-        let set = match width {
+        match width {
             8 => EnumSet::try_from_u8(value as u8),
             16 => EnumSet::try_from_u16(value as u16),
             32 => EnumSet::try_from_u32(value as u32),
             64 => EnumSet::try_from_u64(value as u64),
             _ => EnumSet::try_from_u128(value),
-        };
-        set
+        }
     }
 
     fn from_number_cut(width: u32, value: u128) -> Self {

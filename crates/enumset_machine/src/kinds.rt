@@ -51,6 +51,23 @@ pub fn worked_of_bytes(name: &[u8]) -> Option<Worked>
     })
 }
 
+/// The answer over a worked type, by a table that has for each type its variant and that of its mixed sets. `wide` has no
+/// mixed sets, and `nothing` has a function of its own. A row names its type once, so none is taken for another whose
+/// sets give the same replies.
+macro_rules! over_worked_types {
+    ($kind:ident, $alloc:ident, $input:ident: $($of_sets:ident $of_mixed_sets:ident;)+) => {
+        match $kind {
+            $(
+                Worked::$of_sets => serve_text::<$of_sets>($alloc, $input),
+                Worked::$of_mixed_sets => serve_mixed_text::<$of_sets>($alloc, $input),
+            )+
+            Worked::Wide => serve_text::<Wide>($alloc, $input),
+            Worked::Nothing => serve_nothing($alloc, false, $input),
+            Worked::MixedNothing => serve_nothing($alloc, true, $input),
+        }
+    };
+}
+
 /// The text of the replies to the commands of an input, over the sets of a worked type, or over its mixed sets.
 ///
 /// The errors are those of [`serve_text`].
@@ -58,27 +75,15 @@ pub fn serve_worked(alloc: Global, kind: Worked, input: &[u8]) -> Result<Vec<u8>
     ensures answer { IfOk result (λ out. answer_over kind input.now ≡ Ok out.items) }
     ensures fault { IfErr result (λ fault. IsFaultOf (answer_over kind input.now) fault) }
 {
-    match kind {
-        Worked::Letters => serve_text::<Letters>(alloc, input),
-        Worked::Four => serve_text::<Four>(alloc, input),
-        Worked::Sparse => serve_text::<Sparse>(alloc, input),
-        Worked::Marks => serve_text::<Marks>(alloc, input),
-        Worked::Wide => serve_text::<Wide>(alloc, input),
-        Worked::PairWords => serve_text::<PairWords>(alloc, input),
-        Worked::PairNumber => serve_text::<PairNumber>(alloc, input),
-        Worked::High => serve_text::<High>(alloc, input),
-        Worked::Masks => serve_text::<Masks>(alloc, input),
-        Worked::Single => serve_text::<Single>(alloc, input),
-        Worked::Nothing => serve_nothing(alloc, false, input),
-        Worked::MixedLetters => serve_mixed_text::<Letters>(alloc, input),
-        Worked::MixedFour => serve_mixed_text::<Four>(alloc, input),
-        Worked::MixedSparse => serve_mixed_text::<Sparse>(alloc, input),
-        Worked::MixedMarks => serve_mixed_text::<Marks>(alloc, input),
-        Worked::MixedPairWords => serve_mixed_text::<PairWords>(alloc, input),
-        Worked::MixedPairNumber => serve_mixed_text::<PairNumber>(alloc, input),
-        Worked::MixedHigh => serve_mixed_text::<High>(alloc, input),
-        Worked::MixedMasks => serve_mixed_text::<Masks>(alloc, input),
-        Worked::MixedSingle => serve_mixed_text::<Single>(alloc, input),
-        Worked::MixedNothing => serve_nothing(alloc, true, input),
+    over_worked_types! { kind, alloc, input:
+        Letters MixedLetters;
+        Four MixedFour;
+        Sparse MixedSparse;
+        Marks MixedMarks;
+        PairWords MixedPairWords;
+        PairNumber MixedPairNumber;
+        High MixedHigh;
+        Masks MixedMasks;
+        Single MixedSingle;
     }
 }

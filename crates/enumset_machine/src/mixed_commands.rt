@@ -8,7 +8,7 @@ ghost use Rattle.enumset_machine.specs.States.{is_set_register, set_at, put_set}
 ghost use Rattle.enumset_machine.specs.Runs.{mixed_plan};
 
 use crate::registers::{are_set_registers, is_set_register};
-use crate::runner::{Runner, refusal, unless};
+use crate::runner::{Runner, change, refusal, unless};
 use crate::steps::Run;
 use enumset_commands::MixedCommand::{self, *};
 use enumset_commands::Refusal::{self, NoRegister, NotABit};
@@ -48,16 +48,8 @@ impl<T: EnumSetTypeWithRepr> Run for MixedEnumSet<T> {
         Ok(match *command {
             Common(ref command) => runner.carry_out(alloc, command)?,
             HasBit { r, bit } => Reply::Truth(runner.get(r).has_bit(bit)),
-            InsertBit { r, bit } => {
-                let mut set = runner.get(r);
-                let truth = set.insert_bit(bit);
-                runner.replace(r, set, truth)
-            }
-            RemoveBit { r, bit } => {
-                let mut set = runner.get(r);
-                let truth = set.remove_bit(bit);
-                runner.replace(r, set, truth)
-            }
+            InsertBit { r, bit } => change!(runner, r, insert_bit, bit),
+            RemoveBit { r, bit } => change!(runner, r, remove_bit, bit),
             FullComplement { to, a } => runner.put(to, runner.get(a).full_complement()),
             ValidLen { r } => Reply::Count(runner.get(r).valid_len() as u64),
             Unknown { r } => Reply::Truth(runner.get(r).has_unknown_bits()),

@@ -52,6 +52,8 @@ macro_rules! change {
     }};
 }
 
+pub(crate) use change;
+
 impl<S: RunSet> Runner<S> {
     /// A run whose registers are empty.
     pub fn new() -> Runner<S>

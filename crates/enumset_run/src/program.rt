@@ -1,9 +1,9 @@
 //! What the program does: its argument, its input and its output.
 
-ghost use Rattle.std.specs.Prelude.{◌≡◌, ◌≢◌, ◌⊎◌, ◌+◌, ◌≤◌, [], length, take, IfOk, IfErr, IfSome, OnOk, OnErr, IsOk, IsOkAnd, vec_capacity};
+ghost use Rattle.std.specs.Prelude.{◌≡◌, ◌≢◌, ◌⊎◌, ◌+◌, ◌<◌, ◌≤◌, ℕ, List, [], length, take, None, IfOk, IfErr, IfSome, OnOk, OnErr, IsOk, IsOkAnd, vec_capacity};
 ghost use Rattle.std.specs.Io.KnownBytes.{Appends};
 ghost use Rattle.enumset_run.specs.Faults.{type_of_arguments, IsFaultOver, AppendsFrontOf};
-ghost use Rattle.enumset_machine.specs.Kinds.{answer_over};
+ghost use Rattle.enumset_machine.specs.Kinds.{worked_of, answer_over};
 
 use crate::fault::ProgramFault;
 use enumset_commands::TextFault;
@@ -14,7 +14,7 @@ use std::alloc::Global;
 use std::env::{Env, FillError};
 use std::io::{self, ErrorKind, Input, Print, Read, Write};
 
-/// The longest name of a type has fewer bytes.
+/// No name of a type has more bytes.
 const NAME_LIMIT: usize = 64;
 
 /// The most bytes of an input that are read: one more than it may have, which shows that it is too long.
@@ -45,14 +45,18 @@ fn read_arguments<E: Env>(env: &E) -> Result<Worked, ProgramFault>
 }
 
 /// The type that the arguments name, by what looking up the first and the second found. `name` begins with the bytes
-/// of the first.
+/// of the first, and has room for the name of each type.
 fn type_of_arguments(
     first: Result<usize, FillError>,
     name: &[u8],
     second: Result<usize, FillError>,
 ) -> Result<Worked, ProgramFault>
-    requires { IfOk first (λ len. len ≤ length name.now) }
-    ensures { result ≡ type_of_arguments first name.now second }
+    requires found { IfOk first (λ len. len ≤ length name.now) }
+    requires room { NAME_LIMIT ≤ length name.now }
+    ensures kind { result ≡ type_of_arguments first name.now second }
+    // What is too long for the room is the name of no type.
+    ensures too_long { (argument : List ℕ) → length name.now < length argument
+        → worked_of argument ≡ None }
 {
     match (first, second) {
         (Ok(len), Err(FillError::NotPresent)) => worked_of_bytes(&name[..len]).ok_or(
