@@ -13,12 +13,12 @@ pub trait EnumSetNames: EnumSetType + 'static {
     // The names, one for each bit of the list of bits, in its order.
     ghost names: { List (List ℕ) };
 
-    /// Each variant with its name, in the order of the list of bits.
+    /// Returns each variant with its name, in the order of the list of bits.
     fn names() -> &'static [(Self, &'static str)]
         ensures { map (λ n. (Self.elements.bit n.0, n.1.now)) result.now
             ≡ names_of Self.elements names };
 
-    /// The value's name.
+    /// Returns the value's name.
     final fn name(self) -> &'static str
         ensures { result.now ≡ name_of (names_of Self.elements names) (Self.elements.bit self) }
     {
@@ -38,7 +38,7 @@ pub trait EnumSetNames: EnumSetType + 'static {
         ""
     }
 
-    /// The value that has this name, if there is one.
+    /// Returns the value that has this name, if there is one.
     final fn of_name(text: &str) -> Option<Self>
         ensures { option_map Self.elements.bit result
             ≡ bit_named (names_of Self.elements names) text.now }

@@ -72,7 +72,7 @@ impl<const N: usize> Iterator for ArrayIter<N> {
         step_front(&mut self.row, &mut self.cursors)
     }
 
-    /// Exactly how many items are left.
+    /// Returns exactly how many items are left.
     fn size_hint(&self) -> (usize, Option<usize>)
         ensures exact { result ≡ (length self.now.items, Some (length self.now.items)) }
         ensures lower { IsWithinCount result.0 (at_most (length self.now.items)) }
@@ -94,7 +94,7 @@ impl<const N: usize> DoubleEndedIterator for ArrayIter<N> {
 }
 
 impl<const N: usize> ExactSizeIterator for ArrayIter<N> {
-    /// The number of items left. This call makes no ask.
+    /// Returns the number of items left. This call makes no ask.
     fn len(&self) -> usize {
         self.row.bits_left()
     }

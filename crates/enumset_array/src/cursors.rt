@@ -31,7 +31,7 @@ impl Model for Cursors {
 }
 
 impl Cursors {
-    /// Cursors with the first `n` words between them.
+    /// Returns cursors with the first `n` words between them.
     pub fn over(n: usize) -> Cursors
         ensures { result ≡ record { front = 0; back = n } }
     {

@@ -14,7 +14,7 @@ impl<const N: usize> BitAnd for ArrayRepr<N> {
 
     ghost bitand_gives = { λ a b r. set_of N r ≡ set.intersection (set_of N a) (set_of N b) };
 
-    /// The members of both.
+    /// Returns the members of both.
     fn bitand(self, other: ArrayRepr<N>) -> ArrayRepr<N> {
         let mut result = self;
         change_by::<And, N>(&mut result, &other);
@@ -27,7 +27,7 @@ impl<const N: usize> BitOr for ArrayRepr<N> {
 
     ghost bitor_gives = { λ a b r. set_of N r ≡ set.union (set_of N a) (set_of N b) };
 
-    /// The members of either.
+    /// Returns the members of either.
     fn bitor(self, other: ArrayRepr<N>) -> ArrayRepr<N> {
         let mut result = self;
         change_by::<Or, N>(&mut result, &other);
@@ -40,7 +40,7 @@ impl<const N: usize> BitXor for ArrayRepr<N> {
 
     ghost bitxor_gives = { λ a b r. set_of N r ≡ set.symmetric_difference (set_of N a) (set_of N b) };
 
-    /// The members of exactly one of the two.
+    /// Returns the members of exactly one of the two.
     fn bitxor(self, other: ArrayRepr<N>) -> ArrayRepr<N> {
         let mut result = self;
         change_by::<Xor, N>(&mut result, &other);
@@ -53,7 +53,7 @@ impl<const N: usize> Not for ArrayRepr<N> {
 
     ghost not_gives = { λ a r. set_of N r ≡ set.difference (set.below (64 * in_use N)) (set_of N a) };
 
-    /// The numbers below the width that are not members.
+    /// Returns the numbers below the width that are not members.
     fn not(self) -> ArrayRepr<N> {
         let mut words = self.0;
         let used = &self.0[..N % WORD_LIMIT];

@@ -16,7 +16,7 @@ pub trait Row {
     // The number of asks so far.
     ghost asks: { Self → ℕ };
 
-    /// The number of words, which is below 67108864. This call is not an ask.
+    /// Returns the number of words, which is below 67108864. This call is not an ask.
     fn word_count(&self) -> usize
         ensures count { result ≡ length (words self.now) }
         ensures are_words { AreWords (words self.now) };

@@ -30,7 +30,7 @@ impl<const N: usize> Model for ShownRow<N> {
 }
 
 impl<const N: usize> ShownRow<N> {
-    /// The words in use of an `ArrayRepr`, not yet asked.
+    /// Returns the words in use of an `ArrayRepr`, not yet asked.
     pub fn new(repr: ArrayRepr<N>) -> Self
         ensures { result ≡ record { words = words_in_use N repr.entry; asks = 0 } }
     {
@@ -40,7 +40,7 @@ impl<const N: usize> ShownRow<N> {
         }
     }
 
-    /// The number of asks so far, or `u64::MAX` if there were more.
+    /// Returns the number of asks so far, or `u64::MAX` if there were more.
     pub fn shown(&self) -> u64
         ensures { result ≡ min self.now.asks (2 ^ 64 - 1) }
     {

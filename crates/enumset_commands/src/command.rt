@@ -85,7 +85,7 @@ pub enum Command {
     Left { i: u8 },
 }
 
-/// The command of a name, by a table that has for each name its operands and its command.
+/// Gives the command of a name, by a table that has for each name its operands and its command.
 macro_rules! command_of_name {
     ($name:ident, $fields:ident => $commands:ident: $($word:literal $operands:ident $command:ident { $($field:ident),+ };)+) => {
         match $name {

@@ -2,7 +2,7 @@
 ghost use Rattle.std.specs.Prelude.{◌≡◌};
 ghost use Rattle.std.specs.Str.{bytes_eq};
 
-/// Whether a name is this word.
+/// Returns whether a name is this word.
 pub fn is(name: &[u8], word: &str) -> bool
     ensures { result ≡ bytes_eq name.now word.now }
 {

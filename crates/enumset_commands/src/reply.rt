@@ -42,7 +42,7 @@ impl Refusal {
     ghost use Rattle.std.specs.Prelude.{◌≡◌};
     ghost use Rattle.enumset_commands.specs.Texts.{refusal_text};
 
-    /// The text of a refusal.
+    /// Returns the text of a refusal.
     pub fn as_str(&self) -> &'static str
         ensures { result.now ≡ refusal_text self.now }
     {

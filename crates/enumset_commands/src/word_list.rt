@@ -29,7 +29,7 @@ impl From<Vec<u64>> for WordList {
 impl WordList {
     ghost use Rattle.std.specs.Prelude.{◌≡◌};
 
-    /// The words as a slice.
+    /// Returns the words as a slice.
     pub fn as_slice(&self) -> &[u64]
         ensures { result.now ≡ self.now }
     {

@@ -14,14 +14,14 @@ use enumset_worked::{
 };
 use std::alloc::Global;
 
-/// The type of this name, or `None` if no type has exactly that name.
+/// Returns the type of this name, or `None` if no type has exactly that name.
 pub fn worked(name: &str) -> Option<Worked>
     ensures { result ≡ worked_of name.now }
 {
     worked_of_bytes(name.as_bytes())
 }
 
-/// The same of a name as bytes, which need not be text.
+/// Returns the type of this name, as [`worked`] does. The name is bytes, which need not be text.
 pub fn worked_of_bytes(name: &[u8]) -> Option<Worked>
     ensures { result ≡ worked_of name.now }
 {
@@ -51,9 +51,9 @@ pub fn worked_of_bytes(name: &[u8]) -> Option<Worked>
     })
 }
 
-/// The answer over a worked type, by a table that has for each type its variant and that of its mixed sets. `wide` has no
-/// mixed sets, and `nothing` has a function of its own. A row names its type once, so none is taken for another whose
-/// sets give the same replies.
+/// Gives the answer over a worked type, by a table that has for each type its variant and that of its mixed sets.
+/// `wide` has no mixed sets, and `nothing` has a function of its own. A row names its type once, so none is taken for
+/// another whose sets give the same replies.
 macro_rules! over_worked_types {
     ($kind:ident, $alloc:ident, $input:ident: $($of_sets:ident $of_mixed_sets:ident;)+) => {
         match $kind {
@@ -68,7 +68,7 @@ macro_rules! over_worked_types {
     };
 }
 
-/// The text of the replies to the commands of an input, over the sets of a worked type, or over its mixed sets.
+/// Returns the text of the replies to the commands of an input, over the sets of a worked type, or over its mixed sets.
 ///
 /// The errors are those of [`serve_text`].
 pub fn serve_worked(alloc: Global, kind: Worked, input: &[u8]) -> Result<Vec<u8>, TextFault>

@@ -10,7 +10,7 @@ use enumset_commands::TextFault;
 use enumset_sets::{EnumSetType, EnumSetTypeWithRepr, variant_of};
 use std::alloc::Global;
 
-/// The answer of `serve_worked` over the sets of an enum without variants in a `u8`, or over its mixed sets.
+/// Returns the answer of `serve_worked` over the sets of an enum without variants in a `u8`, or over its mixed sets.
 ///
 /// Nothing can call a function that takes a value of that enum, so only what stands in here can name it.
 pub fn serve_nothing(alloc: Global, is_mixed: bool, input: &[u8]) -> Result<Vec<u8>, TextFault>

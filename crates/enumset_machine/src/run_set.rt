@@ -26,23 +26,23 @@ pub trait RunSet: Copy {
     // What is left in an iterator.
     ghost rest: { Self.Items → List ℕ };
 
-    /// Whether a bit is valid.
+    /// Returns whether a bit is valid.
     fn is_bit_valid(bit: u32) -> bool
         ensures { result ≡ set.contains rules.valid bit };
 
-    /// The reply to a step that gives a bit.
+    /// Returns the reply to a step that gives a bit.
     fn bit_reply(bit: u32) -> Reply
         ensures { result ≡ rules.bit_reply bit };
 
-    /// The empty set.
+    /// Returns the empty set.
     fn new() -> Self
         ensures { members result ≡ set.empty };
 
-    /// The set of all elements.
+    /// Returns the set of all elements.
     fn all() -> Self
         ensures { members result ≡ rules.valid };
 
-    /// The set of one element.
+    /// Returns the set of one element.
     fn only(bit: u32) -> Self
         requires { set.contains rules.valid bit ≡ true }
         ensures { members result ≡ set.only bit };
@@ -59,90 +59,90 @@ pub trait RunSet: Copy {
         ensures removed { members self.new ≡ set.remove (members self.old) bit }
         ensures was_present { result ≡ set.contains (members self.old) bit };
 
-    /// Whether an element is a member.
+    /// Returns whether an element is a member.
     fn contains(&self, bit: u32) -> bool
         requires { set.contains rules.valid bit ≡ true }
         ensures { result ≡ set.contains (members self.now) bit };
 
-    /// The same set without its members.
+    /// Returns the same set without its members.
     fn clear(self) -> Self
         ensures { members result ≡ set.empty };
 
-    /// How many members there are.
+    /// Returns how many members there are.
     fn len(&self) -> usize
         ensures { result ≡ set.len (members self.now) };
 
-    /// Whether the set is empty.
+    /// Returns whether the set is empty.
     fn is_empty(&self) -> bool
         ensures { result ≡ set.is_empty (members self.now) };
 
-    /// The members of either.
+    /// Returns the members of either.
     fn union(&self, other: Self) -> Self
         ensures { members result ≡ set.union (members self.now) (members other) };
 
-    /// The members of both.
+    /// Returns the members of both.
     fn intersection(&self, other: Self) -> Self
         ensures { members result ≡ set.intersection (members self.now) (members other) };
 
-    /// The members of this that are not in the other.
+    /// Returns the members of this that are not in the other.
     fn difference(&self, other: Self) -> Self
         ensures { members result ≡ set.difference (members self.now) (members other) };
 
-    /// The members of exactly one of the two.
+    /// Returns the members of exactly one of the two.
     fn symmetric_difference(&self, other: Self) -> Self
         ensures { members result ≡ set.symmetric_difference (members self.now) (members other) };
 
-    /// The valid bits that are not members.
+    /// Returns the valid bits that are not members.
     fn complement(&self) -> Self
         ensures { members result ≡ set.difference rules.valid (members self.now) };
 
-    /// The set into which each member of the other is put.
+    /// Returns the set into which each member of the other is put.
     fn insert_all(self, other: Self) -> Self
         ensures { members result ≡ set.union (members self) (members other) };
 
-    /// The set out of which each member of the other is taken.
+    /// Returns the set out of which each member of the other is taken.
     fn remove_all(self, other: Self) -> Self
         ensures { members result ≡ set.difference (members self) (members other) };
 
-    /// Whether no element is a member of both.
+    /// Returns whether no element is a member of both.
     fn is_disjoint(&self, other: Self) -> bool
         ensures { result ≡ set.is_disjoint (members self.now) (members other) };
 
-    /// Whether each member of the other is one of this.
+    /// Returns whether each member of the other is one of this.
     fn is_superset(&self, other: Self) -> bool
         ensures { result ≡ set.is_subset (members other) (members self.now) };
 
-    /// Whether each member of this is one of the other.
+    /// Returns whether each member of this is one of the other.
     fn is_subset(&self, other: Self) -> bool
         ensures { result ≡ set.is_subset (members self.now) (members other) };
 
-    /// Whether both have the same members.
+    /// Returns whether both have the same members.
     fn is_same(&self, other: Self) -> bool
         ensures { result ≡ set.is_same (members self.now) (members other) };
 
-    /// How this compares with the other: the greatest bit that exactly one of them has decides.
+    /// Returns how this compares with the other: the greatest bit that exactly one of them has decides.
     fn compare(&self, other: Self) -> Ordering
         ensures { result ≡ compare (members self.now) (members other) };
 
-    /// The number of the set, if each member is below a width.
+    /// Returns the number of the set, if each member is below a width.
     fn number(&self, width: u32) -> Option<u128>
         requires { is_width width ≡ true }
         ensures fits { IsSome result ↔ IsTrue (set.is_subset (members self.now) (set.below width)) }
         ensures value { IfSome result (λ n. n ≡ number_of (members self.now)) };
 
-    /// The number of the members below a width.
+    /// Returns the number of the members below a width.
     fn number_cut(&self, width: u32) -> u128
         requires { is_width width ≡ true }
         ensures { result ≡ number_of (set.low (members self.now) width) };
 
-    /// The set of a number of a width, if a set may have each of its bits.
+    /// Returns the set of a number of a width, if a set may have each of its bits.
     fn from_number(width: u32, value: u128) -> Option<Self>
         requires width { is_width width ≡ true }
         requires fits { value < 2 ^ width }
         ensures allowed { IsSome result ↔ IsTrue (set.is_subset (bits value) rules.allowed) }
         ensures value { IfSome result (λ s. members s ≡ bits value) };
 
-    /// The set of those bits of a number of a width that a set may have.
+    /// Returns the set of those bits of a number of a width that a set may have.
     fn from_number_cut(width: u32, value: u128) -> Self
         requires width { is_width width ≡ true }
         requires fits { value < 2 ^ width }
@@ -159,30 +159,30 @@ pub trait RunSet: Copy {
     fn words_cut(&self, slice: &mut [u64])
         ensures { slice.new ≡ words_of (members self.now) (length slice.old) };
 
-    /// The set of words, if a set may have each of their bits.
+    /// Returns the set of words, if a set may have each of their bits.
     fn from_words(words: &[u64]) -> Option<Self>
         ensures allowed { IsSome result ↔ IsTrue (set.is_subset (bits_of words.now) rules.allowed) }
         ensures value { IfSome result (λ s. members s ≡ bits_of words.now) };
 
-    /// The set of those bits of words that a set may have.
+    /// Returns the set of those bits of words that a set may have.
     fn from_words_cut(words: &[u64]) -> Self
         ensures { members result ≡ set.intersection (bits_of words.now) rules.allowed };
 
-    /// The members as they are now, ascending, from both ends.
+    /// Returns the members as they are now, ascending, from both ends.
     fn items(&self) -> Self::Items
         ensures { rest result ≡ set.ascending (members self.now) };
 
-    /// One step of an iterator from the front.
+    /// Takes one step of an iterator from the front, and returns the bit of its item.
     fn next(items: &mut Self::Items) -> Option<u32>
         ensures given { result ≡ first (rest items.old) }
         ensures rest { rest items.new ≡ without_first (rest items.old) };
 
-    /// One step of an iterator from the back.
+    /// Takes one step of an iterator from the back, and returns the bit of its item.
     fn next_back(items: &mut Self::Items) -> Option<u32>
         ensures given { result ≡ last (rest items.old) }
         ensures rest { rest items.new ≡ without_last (rest items.old) };
 
-    /// How many members are left in an iterator.
+    /// Returns how many members are left in an iterator.
     fn items_left(items: &Self::Items) -> usize
         ensures { result ≡ length (rest items.now) };
 }

@@ -55,7 +55,7 @@ macro_rules! change {
 pub(crate) use change;
 
 impl<S: RunSet> Runner<S> {
-    /// A run whose registers are empty.
+    /// Returns a run whose registers are empty.
     pub fn new() -> Runner<S>
         ensures { result ≡ start }
     {

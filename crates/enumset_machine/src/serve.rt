@@ -22,7 +22,7 @@ use std::alloc::{AllocError, Global};
 /// The most bytes that an input may have.
 pub const INPUT_LIMIT: usize = 1_048_576;
 
-/// The text of the replies to the commands of an input.
+/// Returns the text of the replies to the commands of an input.
 ///
 /// The errors are [`TextFault::TooLong`] for an input of more than [`INPUT_LIMIT`] bytes, else
 /// [`TextFault::BadLine`] for the first line that is not a command, and else
@@ -39,7 +39,7 @@ pub fn serve_text<T: EnumSetType>(alloc: Global, input: &[u8]) -> Result<Vec<u8>
     serve_over::<EnumSet<T>>(alloc, input)
 }
 
-/// The text of the replies to the commands of mixed sets of an input.
+/// Returns the text of the replies to the commands of mixed sets of an input.
 ///
 /// The errors are those of [`serve_text`].
 #[tactic(auto, unfolding(crate::specs::Runs::mixed_outcome))]

@@ -10,28 +10,28 @@ use enumset_repr::are_same;
 use enumset_sets::{EnumSet, EnumSetTypeWithRepr};
 
 impl<T: EnumSetTypeWithRepr> MixedEnumSet<T> {
-    /// The value that represents the set, unknown bits included.
+    /// Returns the value that represents the set, unknown bits included.
     pub fn as_repr(&self) -> T::Repr
         ensures { T.Repr.members result ≡ self.now }
     {
         self.repr
     }
 
-    /// The set that a value represents, with all its bits, valid or not.
+    /// Returns the set that a value represents, with all its bits, valid or not.
     pub fn from_repr(repr: T::Repr) -> MixedEnumSet<T>
         ensures { result ≡ T.Repr.members repr }
     {
         Self::of_repr(repr)
     }
 
-    /// The set of the valid bits of a value.
+    /// Returns the set of the valid bits of a value.
     pub fn from_repr_truncated(repr: T::Repr) -> MixedEnumSet<T>
         ensures { result ≡ valid_members (valid_bits T.elements) (T.Repr.members repr) }
     {
         convert_mixed(EnumSet::from_repr_truncated(repr))
     }
 
-    /// The same set as a set of elements. No member may be an unknown bit:
+    /// Returns the same set as a set of elements. No member may be an unknown bit:
     /// [`try_as_enumset`](MixedEnumSet::try_as_enumset) is the test. Rust's call panics instead.
     pub fn as_enumset(&self) -> EnumSet<T>
         requires valid { IsTrue (set.is_subset self.now (valid_bits T.elements)) }
@@ -40,7 +40,7 @@ impl<T: EnumSetTypeWithRepr> MixedEnumSet<T> {
         EnumSet::from_repr(self.repr)
     }
 
-    /// The same set as a set of elements, if no member is an unknown bit, else `None`.
+    /// Returns the same set as a set of elements, if no member is an unknown bit, else `None`.
     pub fn try_as_enumset(&self) -> Option<EnumSet<T>>
         ensures valid { IsSome result
             ↔ IsTrue (set.is_subset self.now (valid_bits T.elements)) }
@@ -53,23 +53,23 @@ impl<T: EnumSetTypeWithRepr> MixedEnumSet<T> {
         }
     }
 
-    /// The set of its elements, without its unknown bits.
+    /// Returns the set of its elements, without its unknown bits.
     pub fn as_enumset_truncate(&self) -> EnumSet<T>
         ensures { result ≡ valid_members (valid_bits T.elements) self.now }
     {
         EnumSet::from_repr_truncated(self.repr)
     }
 
-    /// Whether the two sets have the same members. Rust's `enumset` writes this as `==` between a mixed set and a set
-    /// of elements.
+    /// Returns whether the two sets have the same members. Rust's `enumset` writes this as `==` between a mixed set and
+    /// a set of elements.
     pub fn eq_enumset(&self, other: EnumSet<T>) -> bool
         ensures { result ≡ set.is_same self.now other }
     {
         are_same(&self.repr, &other.as_repr())
     }
 
-    /// Whether the set has this element and no other member, valid or unknown. Rust's `enumset` writes this as `==`
-    /// between a set and an element.
+    /// Returns whether the set has this element and no other member, valid or unknown. Rust's `enumset` writes this as
+    /// `==` between a set and an element.
     pub fn eq_element(&self, value: T) -> bool
         ensures { result ≡ set.is_same self.now (set.only (T.elements.bit value)) }
     {
@@ -77,7 +77,7 @@ impl<T: EnumSetTypeWithRepr> MixedEnumSet<T> {
     }
 }
 
-/// The mixed set of the same elements.
+/// Returns the mixed set of the same elements.
 ///
 /// It mirrors `convert_mixed` of the helper module `set` of Rust's `enumset`.
 pub fn convert_mixed<T: EnumSetTypeWithRepr>(a: EnumSet<T>) -> MixedEnumSet<T>

@@ -126,42 +126,42 @@ impl<T: EnumSetTypeWithRepr> MixedEnumSet<T> {
         }
     }
 
-    /// The empty set.
+    /// Returns the empty set.
     pub fn new() -> MixedEnumSet<T>
         ensures { result ≡ set.empty }
     {
         Self::of_repr(T::Repr::EMPTY)
     }
 
-    /// The empty set, as [`new`](MixedEnumSet::new).
+    /// Returns the empty set, as [`new`](MixedEnumSet::new).
     pub fn empty() -> MixedEnumSet<T>
         ensures { result ≡ set.empty }
     {
         Self::new()
     }
 
-    /// The set of all variants. It has no unknown bit.
+    /// Returns the set of all variants. It has no unknown bit.
     pub fn all() -> MixedEnumSet<T>
         ensures { result ≡ valid_bits T.elements }
     {
         Self::of_repr(valid_repr::<T>())
     }
 
-    /// The set of one element.
+    /// Returns the set of one element.
     pub fn only(t: T) -> MixedEnumSet<T>
         ensures { result ≡ set.only (T.elements.bit t) }
     {
         convert_mixed(EnumSet::only(t))
     }
 
-    /// The number of valid bits, which is the number of variants.
+    /// Returns the number of valid bits, which is the number of variants.
     pub fn variant_count() -> u32
         ensures { result ≡ set.len (valid_bits T.elements) }
     {
         EnumSet::<T>::variant_count()
     }
 
-    /// The bit of an element. It is valid, and below the width of the representation.
+    /// Returns the bit of an element. It is valid, and below the width of the representation.
     pub fn bit_index(t: T) -> u32
         ensures bit { result ≡ T.elements.bit t }
         ensures valid { IsTrue (set.contains (valid_bits T.elements) result) }
@@ -170,8 +170,8 @@ impl<T: EnumSetTypeWithRepr> MixedEnumSet<T> {
         EnumSet::<T>::bit_index(t)
     }
 
-    /// Whether a bit is valid: whether a variant has it. No bit at or past the width of the representation is valid. In
-    /// Rust such a bit is another bit, an overflow or a panic.
+    /// Returns whether a bit is valid: whether a variant has it. No bit at or past the width of the representation is
+    /// valid. In Rust such a bit is another bit, an overflow or a panic.
     pub fn is_bit_valid(bit: u32) -> bool
         ensures valid { result ≡ set.contains (valid_bits T.elements) bit }
         ensures of_a_variant { result ≡ set.is_in bit T.elements.bit_list }
@@ -180,14 +180,14 @@ impl<T: EnumSetTypeWithRepr> MixedEnumSet<T> {
         EnumSet::<T>::is_bit_valid(bit)
     }
 
-    /// The same set as a new value. Code over any element type calls it where it uses a set by value twice.
+    /// Returns the same set as a new value. Code over any element type calls it where it uses a set by value twice.
     pub fn copied(&self) -> MixedEnumSet<T>
         ensures { result ≡ self.now }
     {
         Self::of_repr(self.repr)
     }
 
-    /// The number of members, unknown bits included. Each is below the width of the representation.
+    /// Returns the number of members, unknown bits included. Each is below the width of the representation.
     pub fn len(&self) -> usize
         ensures members { result ≡ set.len self.now }
         ensures within { IsTrue (set.is_subset self.now (set.below T.Repr.WIDTH)) }
@@ -195,21 +195,21 @@ impl<T: EnumSetTypeWithRepr> MixedEnumSet<T> {
         self.repr.count_ones() as usize
     }
 
-    /// The number of members that are valid bits.
+    /// Returns the number of members that are valid bits.
     pub fn valid_len(&self) -> usize
         ensures { result ≡ set.len (valid_members (valid_bits T.elements) self.now) }
     {
         self.as_enumset_truncate().len()
     }
 
-    /// Whether the set is empty: it has no member, valid or unknown.
+    /// Returns whether the set is empty: it has no member, valid or unknown.
     pub fn is_empty(&self) -> bool
         ensures { result ≡ set.is_empty self.now }
     {
         self.repr.is_empty()
     }
 
-    /// Whether some member is an unknown bit.
+    /// Returns whether some member is an unknown bit.
     pub fn has_unknown_bits(&self) -> bool
         ensures unknown { result
             ≡ not (set.is_empty (unknown_members (valid_bits T.elements) self.now)) }
@@ -225,15 +225,15 @@ impl<T: EnumSetTypeWithRepr> MixedEnumSet<T> {
         *self = Self::new();
     }
 
-    /// Whether an element is a member.
+    /// Returns whether an element is a member.
     pub fn contains(&self, value: T) -> bool
         ensures { result ≡ set.contains self.now (T.elements.bit value) }
     {
         self.repr.has_bit(Self::bit_index(value))
     }
 
-    /// Whether a bit is a member, valid or unknown. No bit at or past the width of the representation is a member. In
-    /// Rust such a bit is another bit, an overflow or a panic.
+    /// Returns whether a bit is a member, valid or unknown. No bit at or past the width of the representation is a
+    /// member. In Rust such a bit is another bit, an overflow or a panic.
     pub fn has_bit(&self, value: u32) -> bool
         ensures has { result ≡ set.contains self.now value }
         ensures past { T.Repr.WIDTH ≤ value → result ≡ false }
@@ -288,28 +288,28 @@ impl<T: EnumSetTypeWithRepr> MixedEnumSet<T> {
         is_present
     }
 
-    /// Whether no bit is a member of both sets.
+    /// Returns whether no bit is a member of both sets.
     pub fn is_disjoint(&self, other: MixedEnumSet<T>) -> bool
         ensures { result ≡ set.is_disjoint self.now other }
     {
         self.repr.is_disjoint_from(&other.repr)
     }
 
-    /// Whether every member of `other` is a member of this set.
+    /// Returns whether every member of `other` is a member of this set.
     pub fn is_superset(&self, other: MixedEnumSet<T>) -> bool
         ensures { result ≡ set.is_subset other self.now }
     {
         other.repr.is_subset_of(&self.repr)
     }
 
-    /// Whether every member of this set is a member of `other`.
+    /// Returns whether every member of this set is a member of `other`.
     pub fn is_subset(&self, other: MixedEnumSet<T>) -> bool
         ensures { result ≡ set.is_subset self.now other }
     {
         self.repr.is_subset_of(&other.repr)
     }
 
-    /// Whether no bit is a member of both sets, as [`is_disjoint`](MixedEnumSet::is_disjoint), which copies its
+    /// Returns whether no bit is a member of both sets, as [`is_disjoint`](MixedEnumSet::is_disjoint), which copies its
     /// argument.
     ///
     /// Rust's `enumset` has no such call.
@@ -319,8 +319,8 @@ impl<T: EnumSetTypeWithRepr> MixedEnumSet<T> {
         self.repr.is_disjoint_from(&other.repr)
     }
 
-    /// Whether every member of `other` is a member of this set, as [`is_superset`](MixedEnumSet::is_superset), which
-    /// copies its argument.
+    /// Returns whether every member of `other` is a member of this set, as [`is_superset`](MixedEnumSet::is_superset),
+    /// which copies its argument.
     ///
     /// Rust's `enumset` has no such call.
     pub fn is_superset_of(&self, other: &MixedEnumSet<T>) -> bool
@@ -329,8 +329,8 @@ impl<T: EnumSetTypeWithRepr> MixedEnumSet<T> {
         other.repr.is_subset_of(&self.repr)
     }
 
-    /// Whether every member of this set is a member of `other`, as [`is_subset`](MixedEnumSet::is_subset), which copies
-    /// its argument.
+    /// Returns whether every member of this set is a member of `other`, as [`is_subset`](MixedEnumSet::is_subset),
+    /// which copies its argument.
     ///
     /// Rust's `enumset` has no such call.
     pub fn is_subset_of(&self, other: &MixedEnumSet<T>) -> bool
@@ -339,35 +339,35 @@ impl<T: EnumSetTypeWithRepr> MixedEnumSet<T> {
         self.repr.is_subset_of(&other.repr)
     }
 
-    /// The members of either set.
+    /// Returns the members of either set.
     pub fn union(&self, other: MixedEnumSet<T>) -> MixedEnumSet<T>
         ensures { result ≡ set.union self.now other }
     {
         Self::of_repr(self.repr | other.repr)
     }
 
-    /// The members of both sets.
+    /// Returns the members of both sets.
     pub fn intersection(&self, other: MixedEnumSet<T>) -> MixedEnumSet<T>
         ensures { result ≡ set.intersection self.now other }
     {
         Self::of_repr(self.repr & other.repr)
     }
 
-    /// The members of this set that are not in `other`.
+    /// Returns the members of this set that are not in `other`.
     pub fn difference(&self, other: MixedEnumSet<T>) -> MixedEnumSet<T>
         ensures { result ≡ set.difference self.now other }
     {
         Self::of_repr(self.repr.and_not(other.repr))
     }
 
-    /// The members of exactly one of the two sets.
+    /// Returns the members of exactly one of the two sets.
     pub fn symmetric_difference(&self, other: MixedEnumSet<T>) -> MixedEnumSet<T>
         ensures { result ≡ set.symmetric_difference self.now other }
     {
         Self::of_repr(self.repr ^ other.repr)
     }
 
-    /// The members of exactly one of the two sets, under an older name.
+    /// Returns the members of exactly one of the two sets, under an older name.
     #[deprecated = "Use `symmetric_difference` instead."]
     pub fn symmetrical_difference(&self, other: MixedEnumSet<T>) -> MixedEnumSet<T>
         ensures { result ≡ set.symmetric_difference self.now other }
@@ -375,17 +375,17 @@ impl<T: EnumSetTypeWithRepr> MixedEnumSet<T> {
         self.symmetric_difference(other)
     }
 
-    /// The valid bits that are not in the set, as elements. The result has no unknown bits, so it tells which elements
-    /// are missing. To invert what is sent on to a peer, use [`full_complement`](MixedEnumSet::full_complement): that
-    /// inverts the bits of newer variants too.
+    /// Returns the valid bits that are not in the set, as elements. The result has no unknown bits, so it tells which
+    /// elements are missing. To invert what is sent on to a peer, use
+    /// [`full_complement`](MixedEnumSet::full_complement): that inverts the bits of newer variants too.
     pub fn complement(&self) -> MixedEnumSet<T>
         ensures { result ≡ set.difference (valid_bits T.elements) self.now }
     {
         Self::of_repr(valid_repr::<T>().and_not(self.repr))
     }
 
-    /// All bits below the width of the representation that are not in the set, valid or not. Each member of the set is
-    /// below the width, so the full complement of the full complement is the set itself.
+    /// Returns all bits below the width of the representation that are not in the set, valid or not. Each member of the
+    /// set is below the width, so the full complement of the full complement is the set itself.
     /// [`complement`](MixedEnumSet::complement) has the elements alone.
     pub fn full_complement(&self) -> MixedEnumSet<T>
         ensures complement { result ≡ set.difference (set.below T.Repr.WIDTH) self.now }
@@ -438,7 +438,7 @@ impl<T: EnumSetTypeWithRepr> MixedEnumSet<T> {
         self.repr.and_not_changes(&other.repr)
     }
 
-    /// The member with the least bit, valid or unknown, or `None` if the set is empty.
+    /// Returns the member with the least bit, valid or unknown, or `None` if the set is empty.
     ///
     /// Rust's `enumset` has no such call.
     pub fn first(&self) -> Option<MixedValue<T>>
@@ -448,7 +448,7 @@ impl<T: EnumSetTypeWithRepr> MixedEnumSet<T> {
         Some(value_of(least_bit(&self.repr)?))
     }
 
-    /// The member with the greatest bit, valid or unknown, or `None` if the set is empty.
+    /// Returns the member with the greatest bit, valid or unknown, or `None` if the set is empty.
     ///
     /// Rust's `enumset` has no such call.
     pub fn last(&self) -> Option<MixedValue<T>>
@@ -458,9 +458,9 @@ impl<T: EnumSetTypeWithRepr> MixedEnumSet<T> {
         Some(value_of(greatest_bit(&self.repr)?))
     }
 
-    /// An iterator over the members, each once, ascending by bit, from both ends: the element for a valid bit, the
-    /// number for an unknown one. Later changes to the set do not affect it. Each member of the set is below the width
-    /// of the representation.
+    /// Returns an iterator over the members, each once, ascending by bit, from both ends: the element for a valid bit,
+    /// the number for an unknown one. Later changes to the set do not affect it. Each member of the set is below the
+    /// width of the representation.
     pub fn iter(&self) -> MixedEnumSetIter<T>
         ensures ascending { result.items ≡ set.ascending self.now }
         ensures asks { result.asks ≡ 0 }

@@ -86,7 +86,7 @@ impl<T: EnumSetTypeWithRepr> Iterator for MixedEnumSetIter<T> {
         Some(value_of(bit))
     }
 
-    /// Exactly how many members are left.
+    /// Returns exactly how many members are left.
     fn size_hint(&self) -> (usize, Option<usize>)
         ensures lower { result.0 ≡ length self.now.items }
         ensures upper { result.1 ≡ Some (length self.now.items) }
@@ -110,7 +110,7 @@ impl<T: EnumSetTypeWithRepr> DoubleEndedIterator for MixedEnumSetIter<T> {
 }
 
 impl<T: EnumSetTypeWithRepr> ExactSizeIterator for MixedEnumSetIter<T> {
-    /// The number of members left.
+    /// Returns the number of members left.
     fn len(&self) -> usize {
         T::Repr::items_left(&self.iter)
     }

@@ -8,8 +8,8 @@ ghost use Rattle.enumset_repr.specs.Words.{words, bits_of};
 
 use crate::repr::EnumSetTypeRepr;
 
-/// The words of a set, the lowest first, and 0 past the last word of the representation. Members at or past `64 * O`
-/// are left out. It mirrors the call `to_u64_array` of a representation in Rust's `enumset`.
+/// Returns the words of a set, the lowest first, and 0 past the last word of the representation. Members at or past
+/// `64 * O` are left out. It mirrors the call `to_u64_array` of a representation in Rust's `enumset`.
 pub fn to_u64_array<R: EnumSetTypeRepr, const O: usize>(repr: &R) -> [u64; O]
     ensures { result ≡ words (R.members repr.now) O }
 {
@@ -18,7 +18,7 @@ pub fn to_u64_array<R: EnumSetTypeRepr, const O: usize>(repr: &R) -> [u64; O]
     out
 }
 
-/// The words of a set, the lowest first, if every member is below `64 * O`, else `None`. It mirrors the call
+/// Returns the words of a set, the lowest first, if every member is below `64 * O`, else `None`. It mirrors the call
 /// `try_to_u64_array` of a representation in Rust's `enumset`.
 pub fn try_to_u64_array<R: EnumSetTypeRepr, const O: usize>(repr: &R) -> Option<[u64; O]>
     ensures fits { IsSome result
@@ -30,16 +30,16 @@ pub fn try_to_u64_array<R: EnumSetTypeRepr, const O: usize>(repr: &R) -> Option<
     Some(out)
 }
 
-/// The set with the bits of a list of words, the lowest first. Bits at or past the width are left out. It mirrors the
-/// call `from_u64_array` of a representation in Rust's `enumset`.
+/// Returns the set with the bits of a list of words, the lowest first. Bits at or past the width are left out. It
+/// mirrors the call `from_u64_array` of a representation in Rust's `enumset`.
 pub fn from_u64_array<R: EnumSetTypeRepr, const O: usize>(v: [u64; O]) -> R
     ensures { R.members result ≡ set.low (bits_of v.entry) R.WIDTH }
 {
     R::from_u64_slice(&v)
 }
 
-/// The set with the bits of a list of words, the lowest first, if all these bits are below the width, else `None`. It
-/// mirrors the call `try_from_u64_array` of a representation in Rust's `enumset`.
+/// Returns the set with the bits of a list of words, the lowest first, if all these bits are below the width, else
+/// `None`. It mirrors the call `try_from_u64_array` of a representation in Rust's `enumset`.
 pub fn try_from_u64_array<R: EnumSetTypeRepr, const O: usize>(v: [u64; O]) -> Option<R>
     ensures fits { IsSome result ↔ IsTrue (set.is_subset (bits_of v.entry) (set.below R.WIDTH)) }
     ensures value { IfSome result (λ s. R.members s ≡ bits_of v.entry) }

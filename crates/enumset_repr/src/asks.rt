@@ -27,8 +27,8 @@ impl Model for Asks {
 }
 
 impl Asks {
-    /// A count of `n` asks, where the proof of the caller picks the number. The other calls make their counts by this
-    /// one. It is for proofs: at run time a count has no bytes.
+    /// Returns a count of `n` asks, where the proof of the caller picks the number. The other calls make their counts
+    /// by this one. It is for proofs: at run time a count has no bytes.
     pub fn counted() -> Asks
         ghost n: { ℕ }
         ensures { result ≡ n }
@@ -46,7 +46,7 @@ impl Asks {
         Asks::counted()
     }
 
-    /// A count of no asks.
+    /// Returns a count of no asks.
     pub fn new() -> Asks
         ensures { result ≡ 0 }
     {
@@ -61,7 +61,7 @@ impl Asks {
         *self = more;
     }
 
-    /// The same count.
+    /// Returns the same count.
     pub fn same(&self) -> Asks
         ensures { result ≡ self.now }
     {

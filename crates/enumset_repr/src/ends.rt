@@ -7,7 +7,7 @@ ghost use Rattle.enumset_repr.specs.Words.{word as word_of};
 
 use crate::repr::{EnumSetTypeRepr, are_zero, word_or_zero};
 
-/// The least member, or `None` if the set is empty.
+/// Returns the least member, or `None` if the set is empty.
 ///
 /// Rust's `enumset` has no such call.
 pub fn least_bit<R: EnumSetTypeRepr>(repr: &R) -> Option<u32>
@@ -16,7 +16,7 @@ pub fn least_bit<R: EnumSetTypeRepr>(repr: &R) -> Option<u32>
     least_bit_from_word(repr, 0)
 }
 
-/// The least member at or past `from`, or `None` if there is none.
+/// Returns the least member at or past `from`, or `None` if there is none.
 ///
 /// Rust's `enumset` has no such call.
 pub fn least_bit_from<R: EnumSetTypeRepr>(repr: &R, from: u32) -> Option<u32>
@@ -31,7 +31,7 @@ pub fn least_bit_from<R: EnumSetTypeRepr>(repr: &R, from: u32) -> Option<u32>
     least_bit_from_word(repr, place + 1)
 }
 
-/// The greatest member, or `None` if the set is empty.
+/// Returns the greatest member, or `None` if the set is empty.
 ///
 /// Rust's `enumset` has no such call.
 pub fn greatest_bit<R: EnumSetTypeRepr>(repr: &R) -> Option<u32>

@@ -22,24 +22,24 @@ pub trait Primitive: Copy + Debug {
     /// The number of bits, set or not.
     const BITS: u32;
 
-    /// The number of bits above the greatest one that is set, or [`BITS`](Primitive::BITS) if none is set.
+    /// Returns the number of bits above the greatest one that is set, or [`BITS`](Primitive::BITS) if none is set.
     fn leading_zeros(&self) -> u32
         ensures { MatchOption (greatest (set_of self.now)) (result ≡ BITS) (λ m. result + m + 1 ≡ BITS) };
 
-    /// The least bit that is set, or [`BITS`](Primitive::BITS) if none is set.
+    /// Returns the least bit that is set, or [`BITS`](Primitive::BITS) if none is set.
     fn trailing_zeros(&self) -> u32
         ensures { MatchOption (least (set_of self.now)) (result ≡ BITS) (λ m. (result ≡ m) × (m < BITS)) };
 
-    /// The number of bits that are set.
+    /// Returns the number of bits that are set.
     fn ones(&self) -> u32
         ensures { result ≡ set.len (set_of self.now) };
 
-    /// The integer with one bit cleared. The bit must be below [`BITS`](Primitive::BITS).
+    /// Returns the integer with one bit cleared. The bit must be below [`BITS`](Primitive::BITS).
     fn without(&self, bit: u32) -> Self
         requires { bit < BITS }
         ensures { set_of result ≡ set.remove (set_of self.now) bit };
 
-    /// The integer with its least bit cleared. At least one bit must be set.
+    /// Returns the integer with its least bit cleared. At least one bit must be set.
     fn without_least(&self) -> Self
         requires { IsSome (least (set_of self.now)) }
         ensures { IfSome (least (set_of self.now)) (λ m. set_of result ≡ set.remove (set_of self.now) m) }

@@ -41,7 +41,7 @@ impl<T: Primitive> Iterator for PrimitiveIter<T> {
         Some(least)
     }
 
-    /// Exactly how many bits are left.
+    /// Returns exactly how many bits are left.
     fn size_hint(&self) -> (usize, Option<usize>)
         ensures lower { result.0 ≡ length (ascending (T.set_of self.now.0)) }
         ensures upper { result.1 ≡ Some (length (ascending (T.set_of self.now.0))) }
@@ -69,7 +69,7 @@ impl<T: Primitive> DoubleEndedIterator for PrimitiveIter<T> {
 
 #[tactic(auto, using(crate::specs::Laws::Ends::at_the_ends))]
 impl<T: Primitive> ExactSizeIterator for PrimitiveIter<T> {
-    /// The number of bits left.
+    /// Returns the number of bits left.
     fn len(&self) -> usize {
         self.0.ones() as usize
     }

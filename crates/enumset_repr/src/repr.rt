@@ -75,7 +75,7 @@ pub trait EnumSetTypeRepr: Copy
     // How many asks an iterator may still need beyond one for each item.
     ghost span: { Self.Iter → ℕ } = { λ _. 0 };
 
-    /// Whether the set is empty. A proof also learns that the value is one of its type.
+    /// Returns whether the set is empty. A proof also learns that the value is one of its type.
     fn is_empty(&self) -> bool
         ensures empty { result ≡ set.is_empty (members self.now) }
         ensures value { is_value self.now };
@@ -90,7 +90,7 @@ pub trait EnumSetTypeRepr: Copy
         let _ = self.is_empty();
     }
 
-    /// The number of members.
+    /// Returns the number of members.
     fn count_ones(&self) -> u32
         ensures { result ≡ set.len (members self.now) };
 
@@ -106,12 +106,12 @@ pub trait EnumSetTypeRepr: Copy
         ensures members { members self.new ≡ set.remove (members self.old) bit }
         ensures value { is_value self.new };
 
-    /// Whether a bit is a member. The bit must be below the width.
+    /// Returns whether a bit is a member. The bit must be below the width.
     fn has_bit(&self, bit: u32) -> bool
         requires { bit < WIDTH }
         ensures { result ≡ set.contains (members self.now) bit };
 
-    /// The members that are not in `other`.
+    /// Returns the members that are not in `other`.
     fn and_not(&self, other: Self) -> Self
         ensures { members result ≡ set.difference (members self.now) (members other) }
     {
@@ -170,7 +170,7 @@ pub trait EnumSetTypeRepr: Copy
         self.learn_is_value();
     }
 
-    /// Whether every member is also in `other`.
+    /// Returns whether every member is also in `other`.
     ///
     /// The default body builds a value. A representation of many words should have its own.
     fn is_subset_of(&self, other: &Self) -> bool
@@ -179,7 +179,7 @@ pub trait EnumSetTypeRepr: Copy
         self.and_not(*other).is_empty()
     }
 
-    /// Whether no bit is a member of both sets.
+    /// Returns whether no bit is a member of both sets.
     ///
     /// The default body builds a value. A representation of many words should have its own.
     fn is_disjoint_from(&self, other: &Self) -> bool
@@ -227,20 +227,21 @@ pub trait EnumSetTypeRepr: Copy
         !keeps_all
     }
 
-    /// An iterator over the members, ascending.
+    /// Returns an iterator over the members, ascending.
     fn iter(self) -> Self::Iter
         ensures rest { rest result ≡ set.ascending (members self) }
         ensures asks { asks result ≡ 0 }
         ensures span { span result ≤ PREFERRED_ARRAY_LEN };
 
-    /// The number of items that an iterator has left. Code over any representation calls it in place of `size_hint`.
+    /// Returns the number of items that an iterator has left. Code over any representation calls it in place of
+    /// `size_hint`.
     fn items_left(iter: &Self::Iter) -> usize
         ensures { result ≡ length (rest iter.now) }
     {
         iter.len()
     }
 
-    /// An iterator with the same items left. Code over any representation calls it in place of `clone`.
+    /// Returns an iterator with the same items left. Code over any representation calls it in place of `clone`.
     fn same_iter(iter: &Self::Iter) -> Self::Iter
         ensures rest { rest result ≡ rest iter.now }
         ensures asks { asks result ≡ asks iter.now }
@@ -252,7 +253,7 @@ pub trait EnumSetTypeRepr: Copy
         }
     }
 
-    /// The word of 64 bits at place `i`: the bits from `64 * i` to `64 * i + 63`. The place must be below
+    /// Returns the word of 64 bits at place `i`: the bits from `64 * i` to `64 * i + 63`. The place must be below
     /// [`PREFERRED_ARRAY_LEN`](EnumSetTypeRepr::PREFERRED_ARRAY_LEN).
     fn word(&self, i: usize) -> u64
         requires { i < PREFERRED_ARRAY_LEN }
@@ -295,7 +296,7 @@ pub trait EnumSetTypeRepr: Copy
         Some(())
     }
 
-    /// The set with the bits of a list of words, the lowest first. Bits at or past the width are left out.
+    /// Returns the set with the bits of a list of words, the lowest first. Bits at or past the width are left out.
     final fn from_u64_slice(v: &[u64]) -> Self
         ensures { members result ≡ set.low (bits_of v.now) WIDTH }
     {
@@ -306,7 +307,8 @@ pub trait EnumSetTypeRepr: Copy
         repr
     }
 
-    /// The set with the bits of a list of words, the lowest first, if all these bits are below the width, else `None`.
+    /// Returns the set with the bits of a list of words, the lowest first, if all these bits are below the width, else
+    /// `None`.
     final fn try_from_u64_slice(v: &[u64]) -> Option<Self>
         ensures fits { IsSome result ↔ IsTrue (set.is_subset (bits_of v.now) (set.below WIDTH)) }
         ensures value { IfSome result (λ s. members s ≡ bits_of v.now) }
@@ -322,14 +324,14 @@ pub trait EnumSetTypeRepr: Copy
 
     // ---- u128, by words; the smaller types go by u128, and by one word where a number may be refused
 
-    /// The set with the bits of a number. Bits at or past the width are left out.
+    /// Returns the set with the bits of a number. Bits at or past the width are left out.
     final fn from_u128(v: u128) -> Self
         ensures { members result ≡ set.low (bits v) WIDTH }
     {
         Self::from_u64_slice(&halves_of(v))
     }
 
-    /// The set with the bits of a number, if all these bits are below the width, else `None`.
+    /// Returns the set with the bits of a number, if all these bits are below the width, else `None`.
     final fn try_from_u128(v: u128) -> Option<Self>
         ensures fits { IsSome result ↔ IsTrue (set.is_subset (bits v) (set.below WIDTH)) }
         ensures value { IfSome result (λ s. members s ≡ bits v) }
@@ -337,7 +339,7 @@ pub trait EnumSetTypeRepr: Copy
         Self::try_from_u64_slice(&halves_of(v))
     }
 
-    /// The number whose bits are the members below 128.
+    /// Returns the number whose bits are the members below 128.
     final fn to_u128(&self) -> u128
         ensures { result ≡ number (set.low (members self.now) u128.BITS) }
     {
@@ -346,7 +348,7 @@ pub trait EnumSetTypeRepr: Copy
         join_halves(halves[0], halves[1])
     }
 
-    /// The number whose bits are the members, if all of them are below 128, else `None`.
+    /// Returns the number whose bits are the members, if all of them are below 128, else `None`.
     final fn try_to_u128(&self) -> Option<u128>
         ensures fits { IsSome result
             ↔ IsTrue (set.is_subset (members self.now) (set.below u128.BITS)) }
@@ -359,14 +361,14 @@ pub trait EnumSetTypeRepr: Copy
 
     // ---- u8
 
-    /// The set with the bits of a number. Bits at or past the width are left out.
+    /// Returns the set with the bits of a number. Bits at or past the width are left out.
     final fn from_u8(v: u8) -> Self
         ensures { members result ≡ set.low (bits v) WIDTH }
     {
         Self::from_u128(v as u128)
     }
 
-    /// The set with the bits of a number, if all these bits are below the width, else `None`.
+    /// Returns the set with the bits of a number, if all these bits are below the width, else `None`.
     final fn try_from_u8(v: u8) -> Option<Self>
         ensures fits { IsSome result ↔ IsTrue (set.is_subset (bits v) (set.below WIDTH)) }
         ensures value { IfSome result (λ s. members s ≡ bits v) }
@@ -374,14 +376,14 @@ pub trait EnumSetTypeRepr: Copy
         Self::try_from_u128(v as u128)
     }
 
-    /// The number whose bits are the members below 8.
+    /// Returns the number whose bits are the members below 8.
     final fn to_u8(&self) -> u8
         ensures { result ≡ number (set.low (members self.now) u8.BITS) }
     {
         (self.to_u128() & u8::MAX as u128) as u8
     }
 
-    /// The number whose bits are the members, if all of them are below 8, else `None`.
+    /// Returns the number whose bits are the members, if all of them are below 8, else `None`.
     final fn try_to_u8(&self) -> Option<u8>
         ensures fits { IsSome result
             ↔ IsTrue (set.is_subset (members self.now) (set.below u8.BITS)) }
@@ -392,14 +394,14 @@ pub trait EnumSetTypeRepr: Copy
 
     // ---- u16
 
-    /// The set with the bits of a number. Bits at or past the width are left out.
+    /// Returns the set with the bits of a number. Bits at or past the width are left out.
     final fn from_u16(v: u16) -> Self
         ensures { members result ≡ set.low (bits v) WIDTH }
     {
         Self::from_u128(v as u128)
     }
 
-    /// The set with the bits of a number, if all these bits are below the width, else `None`.
+    /// Returns the set with the bits of a number, if all these bits are below the width, else `None`.
     final fn try_from_u16(v: u16) -> Option<Self>
         ensures fits { IsSome result ↔ IsTrue (set.is_subset (bits v) (set.below WIDTH)) }
         ensures value { IfSome result (λ s. members s ≡ bits v) }
@@ -407,14 +409,14 @@ pub trait EnumSetTypeRepr: Copy
         Self::try_from_u128(v as u128)
     }
 
-    /// The number whose bits are the members below 16.
+    /// Returns the number whose bits are the members below 16.
     final fn to_u16(&self) -> u16
         ensures { result ≡ number (set.low (members self.now) u16.BITS) }
     {
         (self.to_u128() & u16::MAX as u128) as u16
     }
 
-    /// The number whose bits are the members, if all of them are below 16, else `None`.
+    /// Returns the number whose bits are the members, if all of them are below 16, else `None`.
     final fn try_to_u16(&self) -> Option<u16>
         ensures fits { IsSome result
             ↔ IsTrue (set.is_subset (members self.now) (set.below u16.BITS)) }
@@ -425,14 +427,14 @@ pub trait EnumSetTypeRepr: Copy
 
     // ---- u32
 
-    /// The set with the bits of a number. Bits at or past the width are left out.
+    /// Returns the set with the bits of a number. Bits at or past the width are left out.
     final fn from_u32(v: u32) -> Self
         ensures { members result ≡ set.low (bits v) WIDTH }
     {
         Self::from_u128(v as u128)
     }
 
-    /// The set with the bits of a number, if all these bits are below the width, else `None`.
+    /// Returns the set with the bits of a number, if all these bits are below the width, else `None`.
     final fn try_from_u32(v: u32) -> Option<Self>
         ensures fits { IsSome result ↔ IsTrue (set.is_subset (bits v) (set.below WIDTH)) }
         ensures value { IfSome result (λ s. members s ≡ bits v) }
@@ -440,14 +442,14 @@ pub trait EnumSetTypeRepr: Copy
         Self::try_from_u128(v as u128)
     }
 
-    /// The number whose bits are the members below 32.
+    /// Returns the number whose bits are the members below 32.
     final fn to_u32(&self) -> u32
         ensures { result ≡ number (set.low (members self.now) u32.BITS) }
     {
         (self.to_u128() & u32::MAX as u128) as u32
     }
 
-    /// The number whose bits are the members, if all of them are below 32, else `None`.
+    /// Returns the number whose bits are the members, if all of them are below 32, else `None`.
     final fn try_to_u32(&self) -> Option<u32>
         ensures fits { IsSome result
             ↔ IsTrue (set.is_subset (members self.now) (set.below u32.BITS)) }
@@ -458,14 +460,14 @@ pub trait EnumSetTypeRepr: Copy
 
     // ---- u64
 
-    /// The set with the bits of a number. Bits at or past the width are left out.
+    /// Returns the set with the bits of a number. Bits at or past the width are left out.
     final fn from_u64(v: u64) -> Self
         ensures { members result ≡ set.low (bits v) WIDTH }
     {
         Self::from_u128(v as u128)
     }
 
-    /// The set with the bits of a number, if all these bits are below the width, else `None`.
+    /// Returns the set with the bits of a number, if all these bits are below the width, else `None`.
     final fn try_from_u64(v: u64) -> Option<Self>
         ensures fits { IsSome result ↔ IsTrue (set.is_subset (bits v) (set.below WIDTH)) }
         ensures value { IfSome result (λ s. members s ≡ bits v) }
@@ -473,14 +475,14 @@ pub trait EnumSetTypeRepr: Copy
         Self::try_from_u128(v as u128)
     }
 
-    /// The number whose bits are the members below 64.
+    /// Returns the number whose bits are the members below 64.
     final fn to_u64(&self) -> u64
         ensures { result ≡ number (set.low (members self.now) u64.BITS) }
     {
         (self.to_u128() & u64::MAX as u128) as u64
     }
 
-    /// The number whose bits are the members, if all of them are below 64, else `None`.
+    /// Returns the number whose bits are the members, if all of them are below 64, else `None`.
     final fn try_to_u64(&self) -> Option<u64>
         ensures fits { IsSome result
             ↔ IsTrue (set.is_subset (members self.now) (set.below u64.BITS)) }
@@ -493,14 +495,14 @@ pub trait EnumSetTypeRepr: Copy
 
     // ---- usize
 
-    /// The set with the bits of a number. Bits at or past the width are left out.
+    /// Returns the set with the bits of a number. Bits at or past the width are left out.
     final fn from_usize(v: usize) -> Self
         ensures { members result ≡ set.low (bits v) WIDTH }
     {
         Self::from_u128(v as u128)
     }
 
-    /// The set with the bits of a number, if all these bits are below the width, else `None`.
+    /// Returns the set with the bits of a number, if all these bits are below the width, else `None`.
     final fn try_from_usize(v: usize) -> Option<Self>
         ensures fits { IsSome result ↔ IsTrue (set.is_subset (bits v) (set.below WIDTH)) }
         ensures value { IfSome result (λ s. members s ≡ bits v) }
@@ -508,14 +510,14 @@ pub trait EnumSetTypeRepr: Copy
         Self::try_from_u128(v as u128)
     }
 
-    /// The number whose bits are the members below 64.
+    /// Returns the number whose bits are the members below 64.
     final fn to_usize(&self) -> usize
         ensures { result ≡ number (set.low (members self.now) usize.BITS) }
     {
         (self.to_u128() & usize::MAX as u128) as usize
     }
 
-    /// The number whose bits are the members, if all of them are below 64, else `None`.
+    /// Returns the number whose bits are the members, if all of them are below 64, else `None`.
     final fn try_to_usize(&self) -> Option<usize>
         ensures fits { IsSome result
             ↔ IsTrue (set.is_subset (members self.now) (set.below usize.BITS)) }
@@ -546,7 +548,7 @@ pub trait EnumSetTypeRepr: Copy
         Self.Iter.DoubleEndedIterator.next_back_gives Self.Iter.Clone.is_clone };
 }
 
-/// The word of 64 bits at any place of a set, or 0 past the last word of the representation.
+/// Returns the word of 64 bits at any place of a set, or 0 past the last word of the representation.
 ///
 /// Rust's `enumset` has no such call.
 pub fn word_or_zero<R: EnumSetTypeRepr>(repr: &R, i: usize) -> u64

@@ -36,12 +36,12 @@ pub trait EnumSetType: Copy + Eq {
     /// The number of valid bits.
     const VARIANT_COUNT: u32;
 
-    /// The bit of the value.
+    /// Returns the bit of the value.
     fn enum_into_u32(self) -> u32
         ensures { result ≡ elements.bit self };
 
-    /// The value that has a bit. The bit must be valid: [`EnumSet::is_bit_valid`](crate::EnumSet::is_bit_valid) is the
-    /// test.
+    /// Returns the value that has a bit. The bit must be valid: [`EnumSet::is_bit_valid`](crate::EnumSet::is_bit_valid)
+    /// is the test.
     fn enum_from_u32(val: u32) -> Self
         requires { IsTrue (is_in val elements.bit_list) }
         ensures { elements.bit result ≡ val };

@@ -162,28 +162,28 @@ impl<T: EnumSetType> EnumSet<T> {
         }
     }
 
-    /// The empty set.
+    /// Returns the empty set.
     pub fn new() -> EnumSet<T>
         ensures { result ≡ set.empty }
     {
         Self::of_repr(T::Repr::EMPTY)
     }
 
-    /// The empty set, as [`new`](EnumSet::new).
+    /// Returns the empty set, as [`new`](EnumSet::new).
     pub fn empty() -> EnumSet<T>
         ensures { result ≡ set.empty }
     {
         Self::new()
     }
 
-    /// The set of all variants.
+    /// Returns the set of all variants.
     pub fn all() -> EnumSet<T>
         ensures { result ≡ valid_bits T.elements }
     {
         Self::of_repr(valid_repr::<T>())
     }
 
-    /// The set of one element.
+    /// Returns the set of one element.
     pub fn only(t: T) -> EnumSet<T>
         ensures { result ≡ set.only (T.elements.bit t) }
     {
@@ -192,8 +192,8 @@ impl<T: EnumSetType> EnumSet<T> {
         Self::of_repr(repr)
     }
 
-    /// The variants whose bits lie from the bit of `from` to that of `to`, both included. There is none if `to` has the
-    /// lesser bit.
+    /// Returns the variants whose bits lie from the bit of `from` to that of `to`, both included. There is none if `to`
+    /// has the lesser bit.
     ///
     /// Rust's `enumset` has no such call.
     pub fn range(from: T, to: T) -> EnumSet<T>
@@ -204,21 +204,21 @@ impl<T: EnumSetType> EnumSet<T> {
         Self::of_repr(between(&valid_repr::<T>(), first, last))
     }
 
-    /// One past the greatest valid bit, or 0 if there is none.
+    /// Returns one past the greatest valid bit, or 0 if there is none.
     pub fn bit_width() -> u32
         ensures { result ≡ one_past_greatest (valid_bits T.elements) }
     {
         T::BIT_WIDTH
     }
 
-    /// The number of valid bits, which is the number of variants.
+    /// Returns the number of valid bits, which is the number of variants.
     pub fn variant_count() -> u32
         ensures { result ≡ set.len (valid_bits T.elements) }
     {
         T::VARIANT_COUNT
     }
 
-    /// The bit of an element. It is valid, and below the width of the representation.
+    /// Returns the bit of an element. It is valid, and below the width of the representation.
     pub fn bit_index(t: T) -> u32
         ensures bit { result ≡ T.elements.bit t }
         ensures valid { IsTrue (set.contains (valid_bits T.elements) result) }
@@ -229,8 +229,8 @@ impl<T: EnumSetType> EnumSet<T> {
         t.enum_into_u32()
     }
 
-    /// Whether a bit is valid: whether a variant has it. No bit at or past the width of the representation is valid. In
-    /// Rust such a bit is another bit, an overflow or a panic.
+    /// Returns whether a bit is valid: whether a variant has it. No bit at or past the width of the representation is
+    /// valid. In Rust such a bit is another bit, an overflow or a panic.
     pub fn is_bit_valid(bit: u32) -> bool
         ensures valid { result ≡ set.contains (valid_bits T.elements) bit }
         ensures of_a_variant { result ≡ set.is_in bit T.elements.bit_list }
@@ -240,14 +240,14 @@ impl<T: EnumSetType> EnumSet<T> {
         bit < T::Repr::WIDTH && all.has_bit(bit)
     }
 
-    /// The same set as a new value. Code over any element type calls it where it uses a set by value twice.
+    /// Returns the same set as a new value. Code over any element type calls it where it uses a set by value twice.
     pub fn copied(&self) -> EnumSet<T>
         ensures { result ≡ self.now }
     {
         Self::of_repr(self.repr)
     }
 
-    /// The number of members. Each is a valid bit.
+    /// Returns the number of members. Each is a valid bit.
     pub fn len(&self) -> usize
         ensures members { result ≡ set.len self.now }
         ensures valid { IsTrue (set.is_subset self.now (valid_bits T.elements)) }
@@ -255,7 +255,7 @@ impl<T: EnumSetType> EnumSet<T> {
         self.repr.count_ones() as usize
     }
 
-    /// Whether the set is empty.
+    /// Returns whether the set is empty.
     pub fn is_empty(&self) -> bool
         ensures { result ≡ set.is_empty self.now }
     {
@@ -269,7 +269,7 @@ impl<T: EnumSetType> EnumSet<T> {
         *self = Self::new();
     }
 
-    /// Whether an element is a member.
+    /// Returns whether an element is a member.
     pub fn contains(&self, value: T) -> bool
         ensures { result ≡ set.contains self.now (T.elements.bit value) }
     {
@@ -298,28 +298,29 @@ impl<T: EnumSetType> EnumSet<T> {
         is_present
     }
 
-    /// Whether no element is a member of both sets.
+    /// Returns whether no element is a member of both sets.
     pub fn is_disjoint(&self, other: EnumSet<T>) -> bool
         ensures { result ≡ set.is_disjoint self.now other }
     {
         self.repr.is_disjoint_from(&other.repr)
     }
 
-    /// Whether every member of `other` is a member of this set.
+    /// Returns whether every member of `other` is a member of this set.
     pub fn is_superset(&self, other: EnumSet<T>) -> bool
         ensures { result ≡ set.is_subset other self.now }
     {
         other.repr.is_subset_of(&self.repr)
     }
 
-    /// Whether every member of this set is a member of `other`.
+    /// Returns whether every member of this set is a member of `other`.
     pub fn is_subset(&self, other: EnumSet<T>) -> bool
         ensures { result ≡ set.is_subset self.now other }
     {
         self.repr.is_subset_of(&other.repr)
     }
 
-    /// Whether no element is a member of both sets, as [`is_disjoint`](EnumSet::is_disjoint), which copies its argument.
+    /// Returns whether no element is a member of both sets, as [`is_disjoint`](EnumSet::is_disjoint), which copies its
+    /// argument.
     ///
     /// Rust's `enumset` has no such call.
     pub fn is_disjoint_from(&self, other: &EnumSet<T>) -> bool
@@ -328,8 +329,8 @@ impl<T: EnumSetType> EnumSet<T> {
         self.repr.is_disjoint_from(&other.repr)
     }
 
-    /// Whether every member of `other` is a member of this set, as [`is_superset`](EnumSet::is_superset), which copies
-    /// its argument.
+    /// Returns whether every member of `other` is a member of this set, as [`is_superset`](EnumSet::is_superset), which
+    /// copies its argument.
     ///
     /// Rust's `enumset` has no such call.
     pub fn is_superset_of(&self, other: &EnumSet<T>) -> bool
@@ -338,8 +339,8 @@ impl<T: EnumSetType> EnumSet<T> {
         other.repr.is_subset_of(&self.repr)
     }
 
-    /// Whether every member of this set is a member of `other`, as [`is_subset`](EnumSet::is_subset), which copies its
-    /// argument.
+    /// Returns whether every member of this set is a member of `other`, as [`is_subset`](EnumSet::is_subset), which
+    /// copies its argument.
     ///
     /// Rust's `enumset` has no such call.
     pub fn is_subset_of(&self, other: &EnumSet<T>) -> bool
@@ -348,35 +349,35 @@ impl<T: EnumSetType> EnumSet<T> {
         self.repr.is_subset_of(&other.repr)
     }
 
-    /// The members of either set.
+    /// Returns the members of either set.
     pub fn union(&self, other: EnumSet<T>) -> EnumSet<T>
         ensures { result ≡ set.union self.now other }
     {
         Self::of_repr(self.repr | other.repr)
     }
 
-    /// The members of both sets.
+    /// Returns the members of both sets.
     pub fn intersection(&self, other: EnumSet<T>) -> EnumSet<T>
         ensures { result ≡ set.intersection self.now other }
     {
         Self::of_repr(self.repr & other.repr)
     }
 
-    /// The members of this set that are not in `other`.
+    /// Returns the members of this set that are not in `other`.
     pub fn difference(&self, other: EnumSet<T>) -> EnumSet<T>
         ensures { result ≡ set.difference self.now other }
     {
         Self::of_repr(self.repr.and_not(other.repr))
     }
 
-    /// The members of exactly one of the two sets.
+    /// Returns the members of exactly one of the two sets.
     pub fn symmetric_difference(&self, other: EnumSet<T>) -> EnumSet<T>
         ensures { result ≡ set.symmetric_difference self.now other }
     {
         Self::of_repr(self.repr ^ other.repr)
     }
 
-    /// The members of exactly one of the two sets, under an older name.
+    /// Returns the members of exactly one of the two sets, under an older name.
     #[deprecated = "Use `symmetric_difference` instead."]
     pub fn symmetrical_difference(&self, other: EnumSet<T>) -> EnumSet<T>
         ensures { result ≡ set.symmetric_difference self.now other }
@@ -384,8 +385,8 @@ impl<T: EnumSetType> EnumSet<T> {
         self.symmetric_difference(other)
     }
 
-    /// The valid bits that are not in the set, as elements. Each member of the set is a valid bit, so the complement of
-    /// the complement is the set itself.
+    /// Returns the valid bits that are not in the set, as elements. Each member of the set is a valid bit, so the
+    /// complement of the complement is the set itself.
     pub fn complement(&self) -> EnumSet<T>
         ensures complement { result ≡ set.difference (valid_bits T.elements) self.now }
         ensures valid { IsTrue (set.is_subset self.now (valid_bits T.elements)) }
@@ -467,7 +468,7 @@ impl<T: EnumSetType> EnumSet<T> {
         }
     }
 
-    /// The element with the least bit, or `None` if the set is empty.
+    /// Returns the element with the least bit, or `None` if the set is empty.
     ///
     /// Rust's `enumset` has no such call.
     pub fn first(&self) -> Option<T>
@@ -476,7 +477,7 @@ impl<T: EnumSetType> EnumSet<T> {
         Some(T::enum_from_u32(least_bit(&self.repr)?))
     }
 
-    /// The element with the greatest bit, or `None` if the set is empty.
+    /// Returns the element with the greatest bit, or `None` if the set is empty.
     ///
     /// Rust's `enumset` has no such call.
     pub fn last(&self) -> Option<T>
@@ -485,7 +486,7 @@ impl<T: EnumSetType> EnumSet<T> {
         Some(T::enum_from_u32(greatest_bit(&self.repr)?))
     }
 
-    /// The element with the least bit at or past `bit`, or `None` if there is none. So
+    /// Returns the element with the least bit at or past `bit`, or `None` if there is none. So
     /// `set.first_from(bit).or(set.first())` goes round the set.
     ///
     /// Rust's `enumset` has no such call.
@@ -560,8 +561,8 @@ impl<T: EnumSetType> EnumSet<T> {
         }
     }
 
-    /// An iterator over the elements, each once, ascending by bit, from both ends. Later changes to the set do not
-    /// affect it. Each member of the set is a valid bit.
+    /// Returns an iterator over the elements, each once, ascending by bit, from both ends. Later changes to the set do
+    /// not affect it. Each member of the set is a valid bit.
     pub fn iter(&self) -> EnumSetIter<T>
         ensures ascending { result.items ≡ set.ascending self.now }
         ensures asks { result.asks ≡ 0 }
@@ -576,7 +577,7 @@ impl<T: EnumSetType> EnumSet<T> {
         EnumSetIter::over(self.repr)
     }
 
-    /// Whether the set has this element and no other. Rust's `enumset` writes this as `==` between a set and an
+    /// Returns whether the set has this element and no other. Rust's `enumset` writes this as `==` between a set and an
     /// element.
     pub fn eq_element(&self, value: T) -> bool
         ensures { result ≡ set.is_same self.now (set.only (T.elements.bit value)) }

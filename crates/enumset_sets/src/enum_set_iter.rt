@@ -86,7 +86,7 @@ impl<T: EnumSetType> Iterator for EnumSetIter<T> {
         Some(T::enum_from_u32(bit))
     }
 
-    /// Exactly how many elements are left.
+    /// Returns exactly how many elements are left.
     fn size_hint(&self) -> (usize, Option<usize>)
         ensures lower { result.0 ≡ length self.now.items }
         ensures upper { result.1 ≡ Some (length self.now.items) }
@@ -109,7 +109,7 @@ impl<T: EnumSetType> DoubleEndedIterator for EnumSetIter<T> {
 }
 
 impl<T: EnumSetType> ExactSizeIterator for EnumSetIter<T> {
-    /// The number of elements left.
+    /// Returns the number of elements left.
     fn len(&self) -> usize {
         T::Repr::items_left(&self.iter)
     }

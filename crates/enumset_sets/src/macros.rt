@@ -1,6 +1,6 @@
 //! The macro that writes the body of `enum_from_u32`.
 
-/// The variant that has a bit.
+/// Gives the variant that has a bit.
 ///
 /// `variant_of!(bit, Month: January February March)` names the enum and all its variants, at most sixteen, in the order
 /// of their bits, which are 0, 1, 2 and so on. If the bits are others, each bit comes before its variant:

@@ -9,15 +9,15 @@ ghost use Rattle.enumset_sets.specs.Elements.{valid_bits};
 use crate::element::EnumSetType;
 use crate::enum_set::EnumSet;
 
-/// The value that represents a set.
+/// Returns the value that represents a set.
 pub fn get<T: EnumSetType>(set: EnumSet<T>) -> T::Repr
     ensures { T.Repr.members result ≡ set }
 {
     set.repr
 }
 
-/// The set that a value represents. Every bit of it must be valid: `repr.is_subset_of(&get(EnumSet::<T>::all()))` is
-/// the test. Rust's call is unsafe.
+/// Returns the set that a value represents. Every bit of it must be valid:
+/// `repr.is_subset_of(&get(EnumSet::<T>::all()))` is the test. Rust's call is unsafe.
 pub fn new<T: EnumSetType>(repr: T::Repr) -> EnumSet<T>
     requires valid { IsTrue (is_subset (T.Repr.members repr) (valid_bits T.elements)) }
     ensures { result ≡ T.Repr.members repr }

@@ -17,15 +17,15 @@ pub trait EnumSetTypeWithRepr: EnumSetType {
 }
 
 impl<T: EnumSetTypeWithRepr> EnumSet<T> {
-    /// The value that represents the set.
+    /// Returns the value that represents the set.
     pub fn as_repr(&self) -> T::Repr
         ensures { T.Repr.members result ≡ self.now }
     {
         self.repr
     }
 
-    /// The set that a value represents. Every bit of it must be valid: [`try_from_repr`](EnumSet::try_from_repr) is the
-    /// test. Rust's call panics instead.
+    /// Returns the set that a value represents. Every bit of it must be valid:
+    /// [`try_from_repr`](EnumSet::try_from_repr) is the test. Rust's call panics instead.
     pub fn from_repr(repr: T::Repr) -> EnumSet<T>
         requires valid { IsTrue (set.is_subset (T.Repr.members repr) (valid_bits T.elements)) }
         ensures { result ≡ T.Repr.members repr }
@@ -33,7 +33,7 @@ impl<T: EnumSetTypeWithRepr> EnumSet<T> {
         Self::of_repr(repr)
     }
 
-    /// The set that a value represents, if every bit of it is valid, else `None`.
+    /// Returns the set that a value represents, if every bit of it is valid, else `None`.
     pub fn try_from_repr(repr: T::Repr) -> Option<EnumSet<T>>
         ensures valid { IsSome result
             ↔ IsTrue (set.is_subset (T.Repr.members repr) (valid_bits T.elements)) }
@@ -42,15 +42,15 @@ impl<T: EnumSetTypeWithRepr> EnumSet<T> {
         validated(repr)
     }
 
-    /// The set of the valid bits of a value.
+    /// Returns the set of the valid bits of a value.
     pub fn from_repr_truncated(repr: T::Repr) -> EnumSet<T>
         ensures { result ≡ set.intersection (T.Repr.members repr) (valid_bits T.elements) }
     {
         truncated(repr)
     }
 
-    /// The set that a value represents. Every bit of it must be valid, as for [`from_repr`](EnumSet::from_repr). Rust's
-    /// call is unsafe.
+    /// Returns the set that a value represents. Every bit of it must be valid, as for
+    /// [`from_repr`](EnumSet::from_repr). Rust's call is unsafe.
     pub fn from_repr_unchecked(repr: T::Repr) -> EnumSet<T>
         requires valid { IsTrue (set.is_subset (T.Repr.members repr) (valid_bits T.elements)) }
         ensures { result ≡ T.Repr.members repr }

@@ -23,7 +23,7 @@ pub fn mixed_extend_refs<'a, T: EnumSetTypeWithRepr + 'a, I: Iterator<Item = &'a
     set.insert_all(mixed_sum_element_refs(items));
 }
 
-/// The set of the elements. It stands for Rust's `FromIterator<&T>`.
+/// Returns the set of the elements. It stands for Rust's `FromIterator<&T>`.
 pub fn mixed_from_refs<'a, T: EnumSetTypeWithRepr + 'a, I: Iterator<Item = &'a T> + Drop>(
     items: I,
 ) -> MixedEnumSet<T>
@@ -61,7 +61,7 @@ pub fn mixed_extend_set_refs<
     set.insert_all(mixed_sum_set_refs(items));
 }
 
-/// The members of any of the sets. It stands for Rust's `FromIterator<MixedEnumSet<T>>`.
+/// Returns the members of any of the sets. It stands for Rust's `FromIterator<MixedEnumSet<T>>`.
 pub fn mixed_from_sets<T: EnumSetTypeWithRepr, I: Iterator<Item = MixedEnumSet<T>> + Drop>(
     items: I,
 ) -> MixedEnumSet<T>
@@ -72,7 +72,7 @@ pub fn mixed_from_sets<T: EnumSetTypeWithRepr, I: Iterator<Item = MixedEnumSet<T
     items.sum()
 }
 
-/// The members of any of the sets. It stands for Rust's `FromIterator<&MixedEnumSet<T>>`.
+/// Returns the members of any of the sets. It stands for Rust's `FromIterator<&MixedEnumSet<T>>`.
 pub fn mixed_from_set_refs<
     'a,
     T: EnumSetTypeWithRepr + 'a,
@@ -85,7 +85,7 @@ pub fn mixed_from_set_refs<
     mixed_sum_set_refs(items)
 }
 
-/// The members of any of the sets. It stands for Rust's `Sum<&MixedEnumSet<T>>`.
+/// Returns the members of any of the sets. It stands for Rust's `Sum<&MixedEnumSet<T>>`.
 pub fn mixed_sum_set_refs<
     'a,
     T: EnumSetTypeWithRepr + 'a,
@@ -102,7 +102,7 @@ pub fn mixed_sum_set_refs<
     all
 }
 
-/// The set of the elements. It stands for Rust's `Sum<T>`.
+/// Returns the set of the elements. It stands for Rust's `Sum<T>`.
 pub fn mixed_sum_elements<T: EnumSetTypeWithRepr, I: Iterator<Item = T> + Drop>(
     items: I,
 ) -> MixedEnumSet<T>
@@ -113,7 +113,7 @@ pub fn mixed_sum_elements<T: EnumSetTypeWithRepr, I: Iterator<Item = T> + Drop>(
     convert_mixed(sum_elements(items))
 }
 
-/// The set of the elements. It stands for Rust's `Sum<&T>`.
+/// Returns the set of the elements. It stands for Rust's `Sum<&T>`.
 pub fn mixed_sum_element_refs<'a, T: EnumSetTypeWithRepr + 'a, I: Iterator<Item = &'a T> + Drop>(
     items: I,
 ) -> MixedEnumSet<T>

@@ -21,7 +21,7 @@ pub fn extend_refs<'a, T: EnumSetType + 'a, I: Iterator<Item = &'a T> + Drop>(
     set.insert_all(sum_element_refs(items));
 }
 
-/// The set of the elements. It stands for Rust's `FromIterator<&T>`.
+/// Returns the set of the elements. It stands for Rust's `FromIterator<&T>`.
 pub fn from_refs<'a, T: EnumSetType + 'a, I: Iterator<Item = &'a T> + Drop>(items: I) -> EnumSet<T>
     requires can { I.can_next items }
     requires finite { IsFinite (I.remaining items) }
@@ -56,7 +56,7 @@ pub fn extend_set_refs<'a, T: EnumSetType + 'a, I: Iterator<Item = &'a EnumSet<T
     set.insert_all(sum_set_refs(items));
 }
 
-/// The members of any of the sets. It stands for Rust's `FromIterator<EnumSet<T>>`.
+/// Returns the members of any of the sets. It stands for Rust's `FromIterator<EnumSet<T>>`.
 pub fn from_sets<T: EnumSetType, I: Iterator<Item = EnumSet<T>> + Drop>(items: I) -> EnumSet<T>
     requires can { I.can_next items }
     requires finite { IsFinite (I.remaining items) }
@@ -65,7 +65,7 @@ pub fn from_sets<T: EnumSetType, I: Iterator<Item = EnumSet<T>> + Drop>(items: I
     items.sum()
 }
 
-/// The members of any of the sets. It stands for Rust's `FromIterator<&EnumSet<T>>`.
+/// Returns the members of any of the sets. It stands for Rust's `FromIterator<&EnumSet<T>>`.
 pub fn from_set_refs<'a, T: EnumSetType + 'a, I: Iterator<Item = &'a EnumSet<T>> + Drop>(
     items: I,
 ) -> EnumSet<T>
@@ -76,7 +76,7 @@ pub fn from_set_refs<'a, T: EnumSetType + 'a, I: Iterator<Item = &'a EnumSet<T>>
     sum_set_refs(items)
 }
 
-/// The members of any of the sets. It stands for Rust's `Sum<&EnumSet<T>>`.
+/// Returns the members of any of the sets. It stands for Rust's `Sum<&EnumSet<T>>`.
 pub fn sum_set_refs<'a, T: EnumSetType + 'a, I: Iterator<Item = &'a EnumSet<T>> + Drop>(
     items: I,
 ) -> EnumSet<T>
@@ -91,7 +91,7 @@ pub fn sum_set_refs<'a, T: EnumSetType + 'a, I: Iterator<Item = &'a EnumSet<T>> 
     all
 }
 
-/// The set of the elements. It stands for Rust's `Sum<T>`.
+/// Returns the set of the elements. It stands for Rust's `Sum<T>`.
 pub fn sum_elements<T: EnumSetType, I: Iterator<Item = T> + Drop>(items: I) -> EnumSet<T>
     requires can { I.can_next items }
     requires finite { IsFinite (I.remaining items) }
@@ -102,7 +102,7 @@ pub fn sum_elements<T: EnumSetType, I: Iterator<Item = T> + Drop>(items: I) -> E
     all
 }
 
-/// The set of the elements. It stands for Rust's `Sum<&T>`.
+/// Returns the set of the elements. It stands for Rust's `Sum<&T>`.
 pub fn sum_element_refs<'a, T: EnumSetType + 'a, I: Iterator<Item = &'a T> + Drop>(
     items: I,
 ) -> EnumSet<T>

@@ -36,7 +36,7 @@ pub fn mixed_extend_enumset_refs<
     set.insert_all(mixed_sum_enumset_refs(items));
 }
 
-/// The members of any of the sets. It stands for Rust's `FromIterator<EnumSet<T>>`.
+/// Returns the members of any of the sets. It stands for Rust's `FromIterator<EnumSet<T>>`.
 pub fn mixed_from_enumsets<T: EnumSetTypeWithRepr, I: Iterator<Item = EnumSet<T>> + Drop>(
     items: I,
 ) -> MixedEnumSet<T>
@@ -47,7 +47,7 @@ pub fn mixed_from_enumsets<T: EnumSetTypeWithRepr, I: Iterator<Item = EnumSet<T>
     mixed_sum_enumsets(items)
 }
 
-/// The members of any of the sets. It stands for Rust's `FromIterator<&EnumSet<T>>`.
+/// Returns the members of any of the sets. It stands for Rust's `FromIterator<&EnumSet<T>>`.
 pub fn mixed_from_enumset_refs<
     'a,
     T: EnumSetTypeWithRepr + 'a,
@@ -60,7 +60,7 @@ pub fn mixed_from_enumset_refs<
     mixed_sum_enumset_refs(items)
 }
 
-/// The members of any of the sets. It stands for Rust's `Sum<EnumSet<T>>`.
+/// Returns the members of any of the sets. It stands for Rust's `Sum<EnumSet<T>>`.
 pub fn mixed_sum_enumsets<T: EnumSetTypeWithRepr, I: Iterator<Item = EnumSet<T>> + Drop>(
     items: I,
 ) -> MixedEnumSet<T>
@@ -71,7 +71,7 @@ pub fn mixed_sum_enumsets<T: EnumSetTypeWithRepr, I: Iterator<Item = EnumSet<T>>
     convert_mixed(items.sum())
 }
 
-/// The members of any of the sets. It stands for Rust's `Sum<&EnumSet<T>>`.
+/// Returns the members of any of the sets. It stands for Rust's `Sum<&EnumSet<T>>`.
 pub fn mixed_sum_enumset_refs<
     'a,
     T: EnumSetTypeWithRepr + 'a,

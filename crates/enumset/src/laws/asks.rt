@@ -59,9 +59,9 @@ pub fn take_mixed_steps<T: EnumSetTypeWithRepr>(iter: &mut MixedEnumSetIter<T>, 
     }
 }
 
-/// An iterator over a set, after a step from each of `ends`, in that order. Its asks are at most the number of steps
-/// plus the number of words of the representation, whatever the ends and their order. They are also at most the number
-/// of elements that the steps yielded plus that number of words.
+/// Returns an iterator over a set, after a step from each of `ends`, in that order. Its asks are at most the number of
+/// steps plus the number of words of the representation, whatever the ends and their order. They are also at most the
+/// number of elements that the steps yielded plus that number of words.
 pub fn asks_of_steps<T: EnumSetType>(set: &EnumSet<T>, ends: &[End]) -> EnumSetIter<T>
     ensures items { result.items ≡ without_answers (ascending set.now) ends.now }
     ensures asks { result.asks ≤ length ends.now + T.Repr.PREFERRED_ARRAY_LEN }
@@ -73,9 +73,9 @@ pub fn asks_of_steps<T: EnumSetType>(set: &EnumSet<T>, ends: &[End]) -> EnumSetI
     iter
 }
 
-/// An iterator over a mixed set, after a step from each of `ends`, in that order. Its asks are at most the number of
-/// steps plus the number of words of the representation, whatever the ends and their order. They are also at most the
-/// number of members that the steps yielded plus that number of words.
+/// Returns an iterator over a mixed set, after a step from each of `ends`, in that order. Its asks are at most the
+/// number of steps plus the number of words of the representation, whatever the ends and their order. They are also at
+/// most the number of members that the steps yielded plus that number of words.
 pub fn asks_of_mixed_steps<T: EnumSetTypeWithRepr>(
     set: &MixedEnumSet<T>,
     ends: &[End],

@@ -24,8 +24,8 @@ pub fn members_are_valid<T: EnumSetType>(set: &EnumSet<T>)
     let _members = set.iter();
 }
 
-/// Which bits are valid: those in the list of the element type, which has each once, and so those of `ALL_BITS`. They
-/// are below the width of the representation.
+/// The valid bits are those in the list of the element type, which has each once, and so those of `ALL_BITS`. They are
+/// below the width of the representation.
 pub fn valid_bits_listed<T: EnumSetType>()
     ensures listed { (bit : ℕ)
         → contains (valid_bits T.elements) bit ≡ is_in bit T.elements.bit_list }
@@ -39,8 +39,8 @@ pub fn valid_bits_listed<T: EnumSetType>()
     let _all = valid_repr::<T>();
 }
 
-/// From a value to its bit and back: the bit is valid, and no other value has it. So `enum_from_u32` of
-/// `enum_into_u32` is the value, and `==` compares the bits.
+/// The bit of a value is valid, and no other value has it. So `enum_from_u32` of `enum_into_u32` is the value, and `==`
+/// compares the bits.
 pub fn bit_and_back<T: EnumSetType>()
     ensures valid { (value : T) → IsTrue (contains (valid_bits T.elements) (T.elements.bit value)) }
     ensures within { (value : T) → T.elements.bit value < T.Repr.WIDTH }
@@ -53,7 +53,8 @@ pub fn bit_and_back<T: EnumSetType>()
     let _all = valid_repr::<T>();
 }
 
-/// All bits below a width, as a number and as a list: at 3, `bits 7`, and `from_list` of 0, 1 and 2.
+/// The bits below a width are those of a number and those of a list: at 3 they are `bits 7`, and `from_list` of 0, 1
+/// and 2.
 pub fn bits_below(width: u32)
     ensures number { bits (2 ^ width - 1) ≡ below width }
     ensures list { from_list (range_with_len 0 width) ≡ below width }

@@ -7,7 +7,7 @@ ghost use Rattle.enumset_array.specs.Walks.{answer, answers, without_answers, it
 ghost use Rattle.enumset_array.specs.declared.traversal.End.{End};
 ghost use Rattle.enumset.specs.BothEnds.{from_front, from_back};
 
-/// Any steps from the two ends of an iterator over a set, whose ends are listed. What came from the front, what is left,
+/// Steps are taken from the two ends of an iterator over a set, in any order. What came from the front, what is left,
 /// and what came from the back reversed are the ascending list of the members. Once a step yielded `None`, nothing is
 /// left, and each later step yields `None`, from either end. No bit comes twice.
 pub fn both_ends()

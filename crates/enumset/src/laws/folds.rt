@@ -7,14 +7,13 @@ ghost use Rattle.enumset.specs.Folds.{intersection_all};
 
 use enumset_sets::EnumSetType;
 
-/// The set of a list's elements: lists with the same elements make the same set.
+/// Lists with the same elements make the same set.
 pub fn fold_of_elements<T: EnumSetType>()
     ensures { (items others : List T) → ((item : T) → Contains items item ↔ Contains others item)
         → from_list (map T.elements.bit items) ≡ from_list (map T.elements.bit others) }
 {}
 
-/// The union of a list's sets, and what a set has in common with all of them: lists with the same sets make the same
-/// set.
+/// Lists with the same sets have the same union, and a set has the same in common with all of them.
 pub fn fold_of_sets()
     ensures union { (items others : List BitSet)
         → ((item : BitSet) → Contains items item ↔ Contains others item)

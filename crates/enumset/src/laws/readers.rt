@@ -37,8 +37,9 @@ pub fn older_reader<Old: EnumSetType, New: EnumSetType>(
     all_words_and_back(set);
 }
 
-/// The same of names, where the names of the two types agree: as lists and as maps. Under `Refuse` the fault names the
-/// place of the first other member, in a list by the order of the bits, and in a map by the order of the names.
+/// What [`older_reader`] says is so of names, as lists and as maps, where the names of the two types agree. Under
+/// `Refuse` the fault names the place of the first other member, in a list by the order of the bits, and in a map by
+/// the order of the names.
 pub fn older_reader_of_names<Old: EnumSetNames, New: EnumSetNames>(
     set: &EnumSet<New>,
     unknown: Unknown,
@@ -75,8 +76,8 @@ pub fn carried_along<Old: EnumSetTypeWithRepr, New: EnumSetType>(
     all_words_and_back(set);
 }
 
-/// The same as a number, where the representation of the mixed set has at most 64 bits, and the other type reads and
-/// writes at a width that the members are below.
+/// What [`carried_along`] says is so of a number, where the representation of the mixed set has at most 64 bits, and
+/// the other type reads and writes at a width that the members are below.
 pub fn carried_along_in_number<Old: EnumSetTypeWithRepr, New: EnumSetType>(
     set: &EnumSet<New>,
     width: JsonWidth,

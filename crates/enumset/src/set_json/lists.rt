@@ -15,8 +15,8 @@ use enumset_sets::EnumSet;
 use serde_json::Value;
 use std::alloc::Global;
 
-/// The names of the set's members, in ascending order of their bits. The only fault is [`JsonFault::OutOfMemory`]. It
-/// is the form of `serialize_repr = "list"` of Rust's `enumset`.
+/// Returns the names of the set's members, in ascending order of their bits. The only fault is
+/// [`JsonFault::OutOfMemory`]. It is the form of `serialize_repr = "list"` of Rust's `enumset`.
 pub fn to_list<T: EnumSetNames>(alloc: Global, set: &EnumSet<T>) -> Result<Value, JsonFault>
     ensures value { IfOk result (λ value.
         view value ≡ list_value (names_of T.elements T.names) set.now) }
@@ -29,7 +29,7 @@ pub fn to_list<T: EnumSetNames>(alloc: Global, set: &EnumSet<T>) -> Result<Value
     Ok(Value::from(list))
 }
 
-/// The set of the names of an array of texts, in any order. A name may be repeated.
+/// Returns the set of the names of an array of texts, in any order. A name may be repeated.
 ///
 /// The errors are [`JsonFault::NotAnArray`], [`JsonFault::NotAText`] of the first element that is no text and, where
 /// unknown names are refused, [`JsonFault::UnknownName`] of the first, tested in this order. It takes no memory. It

@@ -14,8 +14,8 @@ use enumset_sets::EnumSet;
 use serde_json::{Map, Value, put};
 use std::alloc::Global;
 
-/// An object with the name of each of the set's members and `true`. The only fault is [`JsonFault::OutOfMemory`]. It is
-/// the form of `serialize_repr = "map"` of Rust's `enumset`.
+/// Returns an object with the name of each of the set's members and `true`. The only fault is
+/// [`JsonFault::OutOfMemory`]. It is the form of `serialize_repr = "map"` of Rust's `enumset`.
 pub fn to_map<T: EnumSetNames>(alloc: Global, set: &EnumSet<T>) -> Result<Value, JsonFault>
     ensures value { IfOk result (λ value.
         view value ≡ map_value (names_of T.elements T.names) set.now) }
@@ -28,7 +28,7 @@ pub fn to_map<T: EnumSetNames>(alloc: Global, set: &EnumSet<T>) -> Result<Value,
     Ok(Value::from(members))
 }
 
-/// The set of the names with `true` of an object of booleans. A name with `false` is left out.
+/// Returns the set of the names with `true` of an object of booleans. A name with `false` is left out.
 ///
 /// The errors are [`JsonFault::NotAnObject`], [`JsonFault::NotABoolean`] of the first name whose value is no boolean
 /// and, where unknown names are refused, [`JsonFault::UnknownName`] of the first, with `true` or with `false`, tested

@@ -19,8 +19,8 @@ use enumset_sets::{EnumSetType, EnumSetTypeWithRepr};
 use serde_json::Value;
 use std::alloc::Global;
 
-/// The set's number, unknown bits included. The representation may have 64 bits at most. It takes no memory, and always
-/// succeeds. It is what Rust's `enumset` writes of a `MixedEnumSet`.
+/// Returns the set's number, unknown bits included. The representation may have 64 bits at most. It takes no memory,
+/// and always succeeds. It is what Rust's `enumset` writes of a `MixedEnumSet`.
 pub fn mixed_to_number<T: EnumSetTypeWithRepr>(
     _alloc: Global,
     set: &MixedEnumSet<T>,
@@ -43,7 +43,7 @@ pub(super) fn mixed_number<T: EnumSetTypeWithRepr>(set: &MixedEnumSet<T>) -> u64
     repr.to_u64()
 }
 
-/// The set of all bits of a number below two to the representation's width, which may be 64 at most.
+/// Returns the set of all bits of a number below two to the representation's width, which may be 64 at most.
 ///
 /// The errors are [`JsonFault::NotANumber`], [`JsonFault::NotWhole`] and [`JsonFault::OutOfRange`], tested in this
 /// order. It takes no memory. It reads what Rust's `enumset` writes of a `MixedEnumSet`.
@@ -67,9 +67,9 @@ pub(super) fn mixed_set_of_number<T: EnumSetTypeWithRepr>(
     Ok(MixedEnumSet::from_repr(T::Repr::from_u64(bits)))
 }
 
-/// The set's words of 64 bits, the lowest first, as many as its representation has, unknown bits included. The only
-/// fault is [`JsonFault::OutOfMemory`], and there is none where the representation has no word. Rust's `enumset` writes
-/// a number of 128 bits instead.
+/// Returns the set's words of 64 bits, the lowest first, as many as its representation has, unknown bits included. The
+/// only fault is [`JsonFault::OutOfMemory`], and there is none where the representation has no word. Rust's `enumset`
+/// writes a number of 128 bits instead.
 pub fn mixed_to_words<T: EnumSetTypeWithRepr>(
     alloc: Global,
     set: &MixedEnumSet<T>,
@@ -82,8 +82,8 @@ pub fn mixed_to_words<T: EnumSetTypeWithRepr>(
     words_of(alloc, &set.as_repr())
 }
 
-/// The set of all bits of an array of words of 64 bits, the lowest first. There may be any number of them. Bits at and
-/// past the representation's width are left out, or refused.
+/// Returns the set of all bits of an array of words of 64 bits, the lowest first. There may be any number of them. Bits
+/// at and past the representation's width are left out, or refused.
 ///
 /// The errors are [`JsonFault::NotAnArray`], [`JsonFault::NotAWord`] of the first element that is none and, where bits
 /// past the width are refused, [`JsonFault::OutOfRange`], tested in this order. It takes no memory.

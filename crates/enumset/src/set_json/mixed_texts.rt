@@ -23,8 +23,8 @@ use enumset_sets::{EnumSetType, EnumSetTypeWithRepr};
 use serde_json::Value;
 use std::alloc::Global;
 
-/// The digits of the set's number, unknown bits included. The representation may have 64 bits at most. The only fault is
-/// [`JsonFault::OutOfMemory`].
+/// Writes the digits of the set's number, unknown bits included. The representation may have 64 bits at most. The only
+/// fault is [`JsonFault::OutOfMemory`].
 pub fn mixed_to_number_text<T: EnumSetTypeWithRepr>(
     alloc: Global,
     set: &MixedEnumSet<T>,
@@ -38,7 +38,7 @@ pub fn mixed_to_number_text<T: EnumSetTypeWithRepr>(
     Ok(number_text(alloc, mixed_number(set))?)
 }
 
-/// The text of the value that `mixed_to_words` writes. The only fault is [`JsonFault::OutOfMemory`].
+/// Writes a set as the text of the value that [`mixed_to_words`] writes. The only fault is [`JsonFault::OutOfMemory`].
 pub fn mixed_to_words_text<T: EnumSetTypeWithRepr>(
     alloc: Global,
     set: &MixedEnumSet<T>,
@@ -52,8 +52,9 @@ pub fn mixed_to_words_text<T: EnumSetTypeWithRepr>(
     Ok(words_text(alloc, &set.as_repr())?)
 }
 
-/// What [`mixed_from_number`] reads of a text's value. The representation may have 64 bits at most. The other faults are
-/// [`JsonFault::NotJson`] and [`JsonFault::OutOfMemory`], since the parser takes memory.
+/// Reads a set from a string of JSON, as [`mixed_from_number`] reads it from the string's value. The representation may
+/// have 64 bits at most. It has the faults of [`mixed_from_number`] and two more: [`JsonFault::NotJson`] if the string
+/// is not JSON, and [`JsonFault::OutOfMemory`], since the parser takes memory.
 pub fn mixed_from_number_text<T: EnumSetTypeWithRepr>(
     alloc: Global,
     text: &str,
@@ -67,8 +68,9 @@ pub fn mixed_from_number_text<T: EnumSetTypeWithRepr>(
     }
 }
 
-/// What [`mixed_from_words`] reads of a text's value. The other faults are [`JsonFault::NotJson`] and
-/// [`JsonFault::OutOfMemory`], since the parser takes memory.
+/// Reads a set from a string of JSON, as [`mixed_from_words`] reads it from the string's value. It has the faults of
+/// [`mixed_from_words`] and two more: [`JsonFault::NotJson`] if the string is not JSON, and [`JsonFault::OutOfMemory`],
+/// since the parser takes memory.
 pub fn mixed_from_words_text<T: EnumSetTypeWithRepr>(
     alloc: Global,
     text: &str,

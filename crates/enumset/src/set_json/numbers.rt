@@ -16,8 +16,8 @@ use enumset_sets::{EnumSet, EnumSetType};
 use serde_json::Value;
 use std::alloc::Global;
 
-/// The set's number, if each member is below the width, else [`JsonFault::TooWide`]. It takes no memory. It is the form
-/// of `serialize_repr = "u8"` to `"u64"` of Rust's `enumset`.
+/// Returns the set's number, if each member is below the width, else [`JsonFault::TooWide`]. It takes no memory. It is
+/// the form of `serialize_repr = "u8"` to `"u64"` of Rust's `enumset`.
 pub fn to_number<T: EnumSetType>(
     _alloc: Global,
     set: &EnumSet<T>,
@@ -52,7 +52,7 @@ pub(super) fn number_within<T: EnumSetType>(
     }
 }
 
-/// The set of the valid bits of a number below two to the width.
+/// Returns the set of the valid bits of a number below two to the width.
 ///
 /// The errors are [`JsonFault::NotANumber`], [`JsonFault::NotWhole`], [`JsonFault::OutOfRange`] and, where unknown bits
 /// are refused, [`JsonFault::UnknownBits`], tested in this order. It takes no memory. It reads the form of

@@ -32,8 +32,8 @@ use enumset_sets::{EnumSet, EnumSetType, raw};
 use serde_json::Value;
 use std::alloc::Global;
 
-/// The digits of the set's number, if each member is below the width, else [`JsonFault::TooWide`]. The other fault is
-/// [`JsonFault::OutOfMemory`].
+/// Writes the digits of the set's number, if each member is below the width, else [`JsonFault::TooWide`]. The other
+/// fault is [`JsonFault::OutOfMemory`].
 pub fn to_number_text<T: EnumSetType>(
     alloc: Global,
     set: &EnumSet<T>,
@@ -48,7 +48,7 @@ pub fn to_number_text<T: EnumSetType>(
     Ok(number_text(alloc, number_within(set, width)?)?)
 }
 
-/// The text of the value that `to_words` writes. The only fault is [`JsonFault::OutOfMemory`].
+/// Writes a set as the text of the value that [`to_words`] writes. The only fault is [`JsonFault::OutOfMemory`].
 pub fn to_words_text<T: EnumSetType>(alloc: Global, set: &EnumSet<T>) -> Result<String, JsonFault>
     ensures text { IfOk result (λ text. string_bytes text
         ≡ compact_text (words_value (words set.now T.Repr.PREFERRED_ARRAY_LEN))) }
@@ -59,7 +59,7 @@ pub fn to_words_text<T: EnumSetType>(alloc: Global, set: &EnumSet<T>) -> Result<
     Ok(words_text(alloc, &raw::get(set.copied()))?)
 }
 
-/// The text of the value that [`to_list`] writes. The only fault is [`JsonFault::OutOfMemory`].
+/// Writes a set as the text of the value that [`to_list`] writes. The only fault is [`JsonFault::OutOfMemory`].
 pub fn to_list_text<T: EnumSetNames>(alloc: Global, set: &EnumSet<T>) -> Result<String, JsonFault>
     ensures text { IfOk result (λ text. string_bytes text
         ≡ compact_text (list_value (names_of T.elements T.names) set.now)) }
@@ -73,7 +73,7 @@ pub fn to_list_text<T: EnumSetNames>(alloc: Global, set: &EnumSet<T>) -> Result<
     }
 }
 
-/// The text of the value that [`to_map`] writes. The only fault is [`JsonFault::OutOfMemory`].
+/// Writes a set as the text of the value that [`to_map`] writes. The only fault is [`JsonFault::OutOfMemory`].
 pub fn to_map_text<T: EnumSetNames>(alloc: Global, set: &EnumSet<T>) -> Result<String, JsonFault>
     ensures text { IfOk result (λ text. string_bytes text
         ≡ compact_text (map_value (names_of T.elements T.names) set.now)) }
@@ -87,8 +87,9 @@ pub fn to_map_text<T: EnumSetNames>(alloc: Global, set: &EnumSet<T>) -> Result<S
     }
 }
 
-/// What [`from_number`] reads of a text's value. The other faults are [`JsonFault::NotJson`] and
-/// [`JsonFault::OutOfMemory`], since the parser takes memory.
+/// Reads a set from a string of JSON, as [`from_number`] reads it from the string's value. It has the faults of
+/// [`from_number`] and two more: [`JsonFault::NotJson`] if the string is not JSON, and [`JsonFault::OutOfMemory`],
+/// since the parser takes memory.
 pub fn from_number_text<T: EnumSetType>(
     alloc: Global,
     text: &str,
@@ -103,8 +104,9 @@ pub fn from_number_text<T: EnumSetType>(
     }
 }
 
-/// What [`from_words`] reads of a text's value. The other faults are [`JsonFault::NotJson`] and
-/// [`JsonFault::OutOfMemory`], since the parser takes memory.
+/// Reads a set from a string of JSON, as [`from_words`] reads it from the string's value. It has the faults of
+/// [`from_words`] and two more: [`JsonFault::NotJson`] if the string is not JSON, and [`JsonFault::OutOfMemory`], since
+/// the parser takes memory.
 pub fn from_words_text<T: EnumSetType>(
     alloc: Global,
     text: &str,
@@ -118,8 +120,9 @@ pub fn from_words_text<T: EnumSetType>(
     }
 }
 
-/// What [`from_list`] reads of a text's value. The other faults are [`JsonFault::NotJson`] and
-/// [`JsonFault::OutOfMemory`], since the parser takes memory.
+/// Reads a set from a string of JSON, as [`from_list`] reads it from the string's value. It has the faults of
+/// [`from_list`] and two more: [`JsonFault::NotJson`] if the string is not JSON, and [`JsonFault::OutOfMemory`], since
+/// the parser takes memory.
 pub fn from_list_text<T: EnumSetNames>(
     alloc: Global,
     text: &str,
@@ -133,8 +136,9 @@ pub fn from_list_text<T: EnumSetNames>(
     }
 }
 
-/// What [`from_map`] reads of a text's value. The other faults are [`JsonFault::NotJson`] and
-/// [`JsonFault::OutOfMemory`], since the parser takes memory.
+/// Reads a set from a string of JSON, as [`from_map`] reads it from the string's value. It has the faults of
+/// [`from_map`] and two more: [`JsonFault::NotJson`] if the string is not JSON, and [`JsonFault::OutOfMemory`], since
+/// the parser takes memory.
 pub fn from_map_text<T: EnumSetNames>(
     alloc: Global,
     text: &str,

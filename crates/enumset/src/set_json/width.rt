@@ -18,7 +18,7 @@ pub enum JsonWidth {
 }
 
 impl JsonWidth {
-    /// How many bits the type has.
+    /// Returns how many bits the type has.
     pub fn bits(self) -> u32
         ensures bits { result ≡ width_of self }
         ensures narrow { width_of self ≤ 64 }

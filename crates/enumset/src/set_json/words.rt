@@ -17,7 +17,7 @@ use enumset_sets::{EnumSet, EnumSetType, raw, representation};
 use serde_json::Value;
 use std::alloc::Global;
 
-/// The set's words of 64 bits, the lowest first, as many as its representation has. The only fault is
+/// Returns the set's words of 64 bits, the lowest first, as many as its representation has. The only fault is
 /// [`JsonFault::OutOfMemory`], and there is none where the representation has no word. It is the form of
 /// `serialize_repr = "array"` of Rust's `enumset`.
 pub fn to_words<T: EnumSetType>(alloc: Global, set: &EnumSet<T>) -> Result<Value, JsonFault>
@@ -43,7 +43,8 @@ pub(super) fn words_of<R: EnumSetTypeRepr>(alloc: Global, repr: &R) -> Result<Va
     Ok(Value::from(all))
 }
 
-/// The set of the valid bits of an array of words of 64 bits, the lowest first. There may be any number of them.
+/// Returns the set of the valid bits of an array of words of 64 bits, the lowest first. There may be any number of
+/// them.
 ///
 /// The errors are [`JsonFault::NotAnArray`], [`JsonFault::NotAWord`] of the first element that is none and, where
 /// unknown bits are refused, [`JsonFault::UnknownBits`], tested in this order. It takes no memory. It reads the form of

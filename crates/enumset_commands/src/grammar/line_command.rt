@@ -11,8 +11,8 @@ pub trait LineCommand: Sized + Drop {
     // The command that tokens write, the first of which is its name.
     ghost command_of: { List (List ℕ) → Option Self };
 
-    /// The command with this name whose fields are the remaining tokens, or `None` if they write no command. The only
-    /// error is out of memory, for the words of a command.
+    /// Returns the command with this name whose fields are the remaining tokens, or `None` if they write no command.
+    /// The only error is out of memory, for the words of a command.
     fn read(alloc: Global, name: &[u8], fields: Tokens) -> Option<Result<Self, AllocError>>
         ensures { IsReadAs (command_of (name.now ∷ fields.entry)) result };
 }

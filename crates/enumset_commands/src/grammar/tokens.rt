@@ -24,7 +24,7 @@ impl<'a> Model for Tokens<'a> {
 }
 
 impl<'a> Tokens<'a> {
-    /// The tokens of a line, which spaces separate.
+    /// Returns the tokens of a line, which spaces separate.
     pub fn new(line: &'a [u8]) -> Tokens<'a>
         ensures { result ≡ tokens_of line.now }
     {

@@ -12,7 +12,7 @@ use enumset_repr::{from_u64_array, to_u64_array, try_from_u64_array, try_to_u64_
 
 #[tactic(auto, using(crate::specs::Laws::Conversions::conversions))]
 impl<T: EnumSetType> EnumSet<T> {
-    /// The words of the set. Every member must be in one of them, which is so where they have the width of the
+    /// Returns the words of the set. Every member must be in one of them, which is so where they have the width of the
     /// representation: [`try_as_array`](EnumSet::try_as_array) is the test. Rust's call panics instead.
     pub fn as_array<const O: usize>(&self) -> [u64; O]
         requires fits { 64 * O < T.Repr.WIDTH → IsTrue (set.is_subset self.now (set.below (64 * O))) }
@@ -21,7 +21,7 @@ impl<T: EnumSetType> EnumSet<T> {
         self.as_array_truncated()
     }
 
-    /// The words of the set, if every member is in one of them, else `None`.
+    /// Returns the words of the set, if every member is in one of them, else `None`.
     pub fn try_as_array<const O: usize>(&self) -> Option<[u64; O]>
         ensures fits { IsSome result ↔ IsTrue (set.is_subset self.now (set.below (64 * O))) }
         ensures value { IfSome result (λ ws. ws ≡ words self.now O) }
@@ -29,15 +29,15 @@ impl<T: EnumSetType> EnumSet<T> {
         try_to_u64_array(&self.repr)
     }
 
-    /// The words of the set, without the members that are in none of them.
+    /// Returns the words of the set, without the members that are in none of them.
     pub fn as_array_truncated<const O: usize>(&self) -> [u64; O]
         ensures { result ≡ words self.now O }
     {
         to_u64_array(&self.repr)
     }
 
-    /// The set of words. Every bit of them must be valid: [`try_from_array`](EnumSet::try_from_array) is the test.
-    /// Rust's call panics instead.
+    /// Returns the set of words. Every bit of them must be valid: [`try_from_array`](EnumSet::try_from_array) is the
+    /// test. Rust's call panics instead.
     pub fn from_array<const O: usize>(array: [u64; O]) -> EnumSet<T>
         requires valid { IsTrue (set.is_subset (bits_of array) (valid_bits T.elements)) }
         ensures { result ≡ bits_of array.entry }
@@ -45,7 +45,7 @@ impl<T: EnumSetType> EnumSet<T> {
         exact(from_u64_array(array))
     }
 
-    /// The set of words, if every bit of them is valid, else `None`.
+    /// Returns the set of words, if every bit of them is valid, else `None`.
     #[tactic(auto, using(enumset_repr::specs::Laws::Algebra::is_subset_trans))]
     pub fn try_from_array<const O: usize>(array: [u64; O]) -> Option<EnumSet<T>>
         ensures valid { IsSome result
@@ -55,15 +55,15 @@ impl<T: EnumSetType> EnumSet<T> {
         validated_low(try_from_u64_array(array))
     }
 
-    /// The set of the valid bits of words.
+    /// Returns the set of the valid bits of words.
     pub fn from_array_truncated<const O: usize>(array: [u64; O]) -> EnumSet<T>
         ensures { result ≡ set.intersection (bits_of array.entry) (valid_bits T.elements) }
     {
         truncated(from_u64_array(array))
     }
 
-    /// The set of words. Every bit of them must be valid, as for [`from_array`](EnumSet::from_array). Rust's call is
-    /// unsafe.
+    /// Returns the set of words. Every bit of them must be valid, as for [`from_array`](EnumSet::from_array). Rust's
+    /// call is unsafe.
     pub fn from_array_unchecked<const O: usize>(array: [u64; O]) -> EnumSet<T>
         requires valid { IsTrue (set.is_subset (bits_of array) (valid_bits T.elements)) }
         ensures { result ≡ bits_of array.entry }

@@ -41,8 +41,8 @@ impl<T: EnumSetType> EnumSet<T> {
         self.repr.to_u64_slice(slice);
     }
 
-    /// The set of words. Every bit of them must be valid: [`try_from_slice`](EnumSet::try_from_slice) is the test.
-    /// Rust's call panics instead.
+    /// Returns the set of words. Every bit of them must be valid: [`try_from_slice`](EnumSet::try_from_slice) is the
+    /// test. Rust's call panics instead.
     pub fn from_slice(slice: &[u64]) -> EnumSet<T>
         requires valid { IsTrue (set.is_subset (bits_of slice.now) (valid_bits T.elements)) }
         ensures { result ≡ bits_of slice.now }
@@ -50,7 +50,7 @@ impl<T: EnumSetType> EnumSet<T> {
         exact(T::Repr::from_u64_slice(slice))
     }
 
-    /// The set of words, if every bit of them is valid, else `None`.
+    /// Returns the set of words, if every bit of them is valid, else `None`.
     #[tactic(auto, using(enumset_repr::specs::Laws::Algebra::is_subset_trans))]
     pub fn try_from_slice(slice: &[u64]) -> Option<EnumSet<T>>
         ensures valid { IsSome result
@@ -60,15 +60,15 @@ impl<T: EnumSetType> EnumSet<T> {
         validated_low(T::Repr::try_from_u64_slice(slice))
     }
 
-    /// The set of the valid bits of words.
+    /// Returns the set of the valid bits of words.
     pub fn from_slice_truncated(slice: &[u64]) -> EnumSet<T>
         ensures { result ≡ set.intersection (bits_of slice.now) (valid_bits T.elements) }
     {
         truncated(T::Repr::from_u64_slice(slice))
     }
 
-    /// The set of words. Every bit of them must be valid, as for [`from_slice`](EnumSet::from_slice). Rust's call is
-    /// unsafe.
+    /// Returns the set of words. Every bit of them must be valid, as for [`from_slice`](EnumSet::from_slice). Rust's
+    /// call is unsafe.
     pub fn from_slice_unchecked(slice: &[u64]) -> EnumSet<T>
         requires valid { IsTrue (set.is_subset (bits_of slice.now) (valid_bits T.elements)) }
         ensures { result ≡ bits_of slice.now }
