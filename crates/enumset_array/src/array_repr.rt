@@ -155,10 +155,12 @@ impl<const N: usize> EnumSetTypeRepr for ArrayRepr<N> {
         change_by::<AndNot, N>(self, other);
     }
 
+    #[tactic(auto, using(enumset_repr::specs::Laws::Counting::is_empty_difference))]
     fn is_subset_of(&self, other: &ArrayRepr<N>) -> bool {
         yields_none::<AndNot, N>(self, other)
     }
 
+    #[tactic(auto, using(enumset_repr::specs::Laws::Counting::is_empty_intersection))]
     fn is_disjoint_from(&self, other: &ArrayRepr<N>) -> bool {
         yields_none::<And, N>(self, other)
     }

@@ -7,9 +7,9 @@ ghost use Rattle.enumset_machine.specs.Kinds.{worked_of, answer_over};
 
 use crate::fault::ProgramFault;
 use enumset_commands::TextFault;
+use enumset_machine::INPUT_LIMIT;
 use enumset_machine::kinds::{serve_worked, worked_of_bytes};
 use enumset_machine::worked::Worked;
-use enumset_machine::INPUT_LIMIT;
 use std::alloc::Global;
 use std::env::{Env, FillError};
 use std::io::{self, ErrorKind, Input, Print, Read, Write};
