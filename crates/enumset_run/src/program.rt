@@ -37,6 +37,7 @@ fn read_arguments<E: Env>(env: &E) -> Result<Worked, ProgramFault>
     ensures { IfErr result (λ fault.
         (fault ≡ ProgramFault.OneArgument) ⊎ (fault ≡ ProgramFault.UnknownType)) }
 {
+    names_fit();
     let mut name = [0u8; NAME_LIMIT];
     let first = env.arg(1, &mut name);
     let mut next = [0u8; 1];
@@ -44,19 +45,20 @@ fn read_arguments<E: Env>(env: &E) -> Result<Worked, ProgramFault>
     type_of_arguments(first, &name, second)
 }
 
+/// What has more bytes than [`NAME_LIMIT`] is the name of no type. The call does nothing at run time.
+fn names_fit()
+    ensures { (name : List ℕ) → NAME_LIMIT < length name → worked_of name ≡ None }
+{}
+
 /// The type that the arguments name, by what looking up the first and the second found. `name` begins with the bytes
-/// of the first, and has room for the name of each type.
+/// of the first.
 fn type_of_arguments(
     first: Result<usize, FillError>,
     name: &[u8],
     second: Result<usize, FillError>,
 ) -> Result<Worked, ProgramFault>
-    requires found { IfOk first (λ len. len ≤ length name.now) }
-    requires room { NAME_LIMIT ≤ length name.now }
-    ensures kind { result ≡ type_of_arguments first name.now second }
-    // What is too long for the room is the name of no type.
-    ensures too_long { (argument : List ℕ) → length name.now < length argument
-        → worked_of argument ≡ None }
+    requires { IfOk first (λ len. len ≤ length name.now) }
+    ensures { result ≡ type_of_arguments first name.now second }
 {
     match (first, second) {
         (Ok(len), Err(FillError::NotPresent)) => worked_of_bytes(&name[..len]).ok_or(
