@@ -1,4 +1,5 @@
 -- The worked types: their names, what commands are run over, and the answer to an input over each.
+--     names      the types by their names
 --     worked_of      the type of a name, byte by byte
 --     over      what commands are run over: the bits of a type, and of its mixed sets the width of their representation
 --     answer_by_width      the answer to an input over sets of valid bits, or over mixed sets of a width
@@ -13,9 +14,8 @@ use Rattle.enumset_commands.specs.declared.text_fault.TextFault.{TextFault}
 use Rattle.enumset_machine.specs.Answers.{answer_to, mixed_answer_to}
 use Rattle.enumset_worked.specs.Bits.{letters_bits, four_bits, sparse_bits, marks_bits, wide_bits, pair_bits, high_bits, masks_bits, single_bits}
 
-abbrev pub worked_of : List ℕ → Option Worked
-worked_of name =
-    lookup (bytes_eq name) (
+abbrev pub names : List (List ℕ × Worked)
+names =
     (codes "letters", Letters)
     ∷ (codes "four", Four)
     ∷ (codes "sparse", Sparse)
@@ -38,7 +38,9 @@ worked_of name =
     ∷ (codes "mixed-single", MixedSingle)
     ∷ (codes "mixed-nothing", MixedNothing)
     ∷ []
-    )
+
+abbrev pub worked_of : List ℕ → Option Worked
+worked_of name = lookup (bytes_eq name) names
 
 abbrev pub over : Worked → List ℕ × Option ℕ
 over Letters = (letters_bits, None)
