@@ -2,7 +2,7 @@
 //!
 //! What stands here comes from the crates below: [`EnumSet`] and the traits of its elements from `enumset_sets`,
 //! [`MixedEnumSet`](set::MixedEnumSet) from `enumset_mixed`, and the representations from `enumset_repr` and
-//! `enumset_array`. New here are the macros, as [`enum_set!`], the names of elements ([`EnumSetNames`]), the modules
+//! `enumset_array`. New here are the macro [`mixed_enum_set!`], the names of elements ([`EnumSetNames`]), the modules
 //! [`folds`] and [`set_json`], and most of the [`laws`].
 #![tactic(auto)]
 
@@ -15,6 +15,8 @@ pub mod set;
 pub mod set_json;
 
 pub use enumset_sets::{
-    EnumSet, EnumSetIter, EnumSetType, EnumSetTypeWithRepr, variant_of, variants,
+    EnumSet, EnumSetIter, EnumSetType, EnumSetTypeWithRepr, enum_set, enum_set_complement,
+    enum_set_difference, enum_set_intersection, enum_set_symmetric_difference, enum_set_union,
+    variant_of, variants,
 };
 pub use names::EnumSetNames;

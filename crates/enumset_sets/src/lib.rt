@@ -18,6 +18,7 @@ mod operators;
 mod order;
 pub mod raw;
 pub mod representation;
+mod set_macros;
 pub mod text;
 mod validated;
 pub mod variants;

@@ -8,7 +8,7 @@ ghost use Rattle.example_door.specs.Events.{row, IsSafe};
 use crate::event::Event;
 use crate::flag::Flag;
 use crate::machine::Refusal;
-use enumset::EnumSet;
+use enumset_sets::EnumSet;
 
 /// A door. It is never open and locked, and never locked or alarmed without power.
 #[derive(Clone, Copy, Debug)]

@@ -5,7 +5,7 @@ ghost use Rattle.example_door.specs.Events.{row, name_of};
 
 use crate::flag::Flag;
 use crate::machine::Transition;
-use enumset::EnumSet;
+use enumset_sets::EnumSet;
 
 /// What happens to a door.
 #[derive(Clone, Copy, Debug)]

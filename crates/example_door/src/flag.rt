@@ -1,6 +1,6 @@
 //! What may be true of a door.
 
-use enumset::{EnumSetType, EnumSetTypeWithRepr};
+use enumset_sets::{EnumSetType, EnumSetTypeWithRepr};
 
 /// A flag of a door with a magnetic lock.
 #[derive(Clone, Copy, PartialEq, Eq, Debug)]

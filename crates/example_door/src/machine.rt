@@ -4,7 +4,7 @@ ghost use Rattle.std.specs.Prelude.{◌≡◌, ◌↔◌, true, IsTrue, IsOk, If
 ghost use Rattle.example_door.specs.Machines.{transition, allows, after, after_all, holds, Keeps, keeps_from, keeps_from_least, first, second, IsRefusal};
 
 use crate::flag::Flag;
-use enumset::EnumSet;
+use enumset_sets::EnumSet;
 use std::fmt;
 
 /// What a transition asks of a state, and what it changes.
