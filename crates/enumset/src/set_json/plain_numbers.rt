@@ -5,7 +5,7 @@ ghost use Rattle.std.specs.Prelude.{string_bytes};
 ghost use Rattle.serde_json.specs.Read.{read};
 ghost use Rattle.enumset.specs.Json.{number_value};
 
-use super::digits::push_digits;
+use super::digits::{ascii_text, push_digits};
 use super::scan::{are_spaces, split_spaces};
 use std::alloc::{AllocError, Global};
 
@@ -17,7 +17,7 @@ pub(super) fn number_text(alloc: Global, number: u64) -> Result<String, AllocErr
 {
     let mut bytes = Vec::with_capacity(alloc, 20)?;
     push_digits(&mut bytes, number)?;
-    Ok(String::from_utf8(bytes).unwrap())
+    Ok(ascii_text(bytes))
 }
 
 // The whole number below 2^64 that a text is, but for spaces at its ends. No other text is read.
