@@ -43,20 +43,20 @@ fn put_digits(row: &mut [u8], at: usize, number: u64) -> usize
     ensures end { result ≡ at + length (decimal number) }
     ensures written { row.new ≡ take at row.old ++ decimal number ++ drop result row.old }
 {
-    if number < 10000000000000000 {
-        return put_sixteen(row, at, number);
+    if number < 100000000 {
+        return put_eight(row, at, number);
     }
-    let next = put_sixteen(row, at, number / 100000000);
+    let next = put_twelve(row, at, number / 100000000);
     put_four(row, next, number / 10000 % 10000);
     put_four(row, next + 4, number % 10000);
     next + 8
 }
 
-// The same, of at most sixteen digits.
+// The same, of at most twelve digits.
 #[inline(always)]
 #[tactic(auto, using(crate::proofs::DigitsWritten::digit_counts))]
-fn put_sixteen(row: &mut [u8], at: usize, number: u64) -> usize
-    requires small { number < 10000000000000000 }
+fn put_twelve(row: &mut [u8], at: usize, number: u64) -> usize
+    requires small { number < 1000000000000 }
     requires room { at + length (decimal number) ≤ length row.old }
     ensures end { result ≡ at + length (decimal number) }
     ensures written { row.new ≡ take at row.old ++ decimal number ++ drop result row.old }
@@ -64,7 +64,7 @@ fn put_sixteen(row: &mut [u8], at: usize, number: u64) -> usize
     if number < 100000000 {
         return put_eight(row, at, number);
     }
-    let next = put_eight(row, at, number / 100000000);
+    let next = put_short(row, at, number / 100000000);
     put_four(row, next, number / 10000 % 10000);
     put_four(row, next + 4, number % 10000);
     next + 8
