@@ -1,4 +1,5 @@
 //! The digits of numbers, as they are written.
+#![tactic(auto, using(crate::proofs::DigitsWritten::digit_counts))]
 
 ghost use Rattle.std.specs.Prelude.{◌≡◌, ◌+◌, ◌/◌, ◌%◌, ◌<◌, ◌≤◌, ◌∷◌, [], ◌++◌, decimal, take, drop};
 ghost use Rattle.std.specs.Prelude.{length, string_bytes, IsAscii, OnOk};
@@ -13,7 +14,7 @@ static PAIRS: [u8; 200] = *b"\
     6061626364656667686970717273747576777879\
     8081828384858687888990919293949596979899";
 
-// The string of ASCII bytes. A test for UTF-8 would cost a third of the time that a number takes, and is proved to pass.
+// The string of ASCII bytes. That they are UTF-8 is proved and not tested: the test would take as long as the digits.
 #[inline(always)]
 pub(super) fn ascii_text(bytes: Vec<u8>) -> String
     requires { IsAscii bytes.items }
@@ -22,7 +23,7 @@ pub(super) fn ascii_text(bytes: Vec<u8>) -> String
     unsafe { String::from_utf8_unchecked(bytes) }
 }
 
-// Appends the digits of a number. They are written where they stay, into room for the most digits that there can be.
+// Appends the digits of a number. They are written where they stay, over room for the most digits that there can be.
 #[inline(always)]
 pub(super) fn push_digits(bytes: &mut Vec<u8>, number: u64) -> Result<(), AllocError>
     ensures { OnOk result (bytes.new.items ≡ bytes.old.items ++ decimal number) }
@@ -34,10 +35,9 @@ pub(super) fn push_digits(bytes: &mut Vec<u8>, number: u64) -> Result<(), AllocE
     Ok(())
 }
 
-// Writes the digits of a number to a place of a row, and returns the place after them. Groups of digits do not wait for
-// one another, as they would in a loop.
+// Writes the digits of a number from a place of a row on, and returns the place after them. In a loop each division would
+// wait for the one before it.
 #[inline(always)]
-#[tactic(auto, using(crate::proofs::DigitsWritten::digit_counts))]
 fn put_digits(row: &mut [u8], at: usize, number: u64) -> usize
     requires room { at + length (decimal number) ≤ length row.old }
     ensures end { result ≡ at + length (decimal number) }
@@ -54,7 +54,6 @@ fn put_digits(row: &mut [u8], at: usize, number: u64) -> usize
 
 // The same, of at most twelve digits.
 #[inline(always)]
-#[tactic(auto, using(crate::proofs::DigitsWritten::digit_counts))]
 fn put_twelve(row: &mut [u8], at: usize, number: u64) -> usize
     requires small { number < 1000000000000 }
     requires room { at + length (decimal number) ≤ length row.old }
@@ -72,7 +71,6 @@ fn put_twelve(row: &mut [u8], at: usize, number: u64) -> usize
 
 // The same, of at most eight digits.
 #[inline(always)]
-#[tactic(auto, using(crate::proofs::DigitsWritten::digit_counts))]
 fn put_eight(row: &mut [u8], at: usize, number: u64) -> usize
     requires small { number < 100000000 }
     requires room { at + length (decimal number) ≤ length row.old }
@@ -89,7 +87,6 @@ fn put_eight(row: &mut [u8], at: usize, number: u64) -> usize
 
 // The same, of at most four digits.
 #[inline(always)]
-#[tactic(auto, using(crate::proofs::DigitsWritten::digit_counts))]
 fn put_short(row: &mut [u8], at: usize, number: u64) -> usize
     requires small { number < 10000 }
     requires room { at + length (decimal number) ≤ length row.old }
@@ -106,7 +103,6 @@ fn put_short(row: &mut [u8], at: usize, number: u64) -> usize
 
 // The same, of one digit or two.
 #[inline(always)]
-#[tactic(auto, using(crate::proofs::DigitsWritten::digit_counts))]
 fn put_first(row: &mut [u8], at: usize, number: u64) -> usize
     requires small { number < 100 }
     requires room { at + length (decimal number) ≤ length row.old }
