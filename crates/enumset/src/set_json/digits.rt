@@ -1,5 +1,5 @@
 //! The digits of numbers, as they are written.
-#![tactic(auto, using(crate::proofs::DigitsWritten::digit_counts))]
+#![tactic(auto, using(crate::proofs::DigitsWritten::digit_laws))]
 
 ghost use Rattle.std.specs.Prelude.{◌≡◌, ◌+◌, ◌/◌, ◌%◌, ◌<◌, ◌≤◌, ◌∷◌, [], ◌++◌, decimal, take, drop};
 ghost use Rattle.std.specs.Prelude.{length, string_bytes, IsAscii, OnOk};

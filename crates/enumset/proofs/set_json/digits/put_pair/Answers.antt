@@ -1,4 +1,4 @@
-use Rattle.std.proofs.Common.{◌≡◌, ◌+◌, ◌%◌, ◌/◌, set, arith, length-set, refl, [], ◌∷◌, ◌++◌, take, drop, ap, ◌∙◌}
+use Rattle.std.proofs.Common.{◌+◌, ◌%◌, ◌/◌, set, arith, length-set, refl, [], ◌∷◌, ◌++◌, take, drop, ap, ◌∙◌}
 use Rattle.enumset.proofs.DigitsWritten.{pairs_are, put_one, put_more}
 use Rattle.enumset.proofs.set_json.digits.put_pair.Goals as goal
 

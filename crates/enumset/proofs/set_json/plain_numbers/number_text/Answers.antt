@@ -1,4 +1,4 @@
-use Rattle.std.proofs.Common.{◌≡◌, [], ◌++◌, decimal, ap, subst, sym, ◌∙◌, append-nil, arith}
+use Rattle.std.proofs.Common.{[], ◌++◌, decimal, ap, subst, sym, ◌∙◌, append-nil, arith}
 use Rattle.std.specs.Str.{IsAscii}
 use Rattle.std.proofs.lemmas.Fmt.{IsAscii-decimal}
 use Rattle.serde_json.specs.Read.{read}
