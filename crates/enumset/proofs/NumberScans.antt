@@ -13,16 +13,28 @@ one_more_digit n d xs some small fits =
     let last : (n * 10 + d) % 10 ≡ d = omega (arith, small) in
     sym (append_assoc (decimal n) ((48 + d) ∷ []) xs) ∙ ap (λ l. l ++ xs) (sym (decimal_step (n * 10 + d) (omega (arith, some)) fits ∙ (λ j. decimal (front j) ++ (48 + last j) ∷ [])))
 
--- the same at a place, where the digits before it are those of n
-pub scanned : (s xs : List ℕ) (i n d : ℕ) → i < length xs → 0 < n → d < 10 → n * 10 + d < 2 ^ 64 → get_or xs i 0 ≡ 48 + d → s ≡ decimal n ++ drop i xs → s ≡ decimal (n * 10 + d) ++ drop (i + 1) xs
-scanned s xs i n d within some small fits is so_far =
+-- the digits before a place are those of n
+abbrev pub Scanned : List ℕ → List ℕ → ℕ → ℕ → Type 0
+Scanned s xs i n = (0 < n) × (n < 10 ^ (i + 1)) × (s ≡ decimal n ++ drop i xs)
+
+pub scanned : (s xs : List ℕ) (i n d : ℕ) → i < length xs → i < 18 → d < 10 → get_or xs i 0 ≡ 48 + d → Scanned s xs i n → (n * 10 + d < 2 ^ 64) × Scanned s xs (i + 1) (n * 10 + d)
+scanned s xs i n d within few small is (some, below, so_far) =
     let next : suc i ≡ i + 1 = omega arith in
-    so_far ∙ ap (λ l. decimal n ++ l) (drop-cons xs i 0 within ∙ ap (λ x. x ∷ drop (suc i) xs) is ∙ ap (λ k. (48 + d) ∷ drop k xs) next)
-    ∙ one_more_digit n d (drop (i + 1) xs) some small fits
+    let most : 10 ^ (i + 1) ≤ 10 ^ 18 = pow-le-pow_right (omega arith) {i = i + 1} {j = 18} (omega (arith, few)) in
+    let fits : n * 10 + d < 2 ^ 64 = omega (arith, most, below, small) in (
+      fits,
+      (
+        omega (arith, some),
+        omega (arith, below, small, pow-add 10 (i + 1) 1),
+        so_far ∙ ap (λ l. decimal n ++ l) (drop-cons xs i 0 within ∙ ap (λ x. x ∷ drop (suc i) xs) is ∙ ap (λ k. (48 + d) ∷ drop k xs) next)
+            ∙ one_more_digit n d (drop (i + 1) xs) some small fits,
+      ),
+    )
 
--- one more of nineteen digits
-pub power_more : (n d i : ℕ) → n < 10 ^ (i + 1) → d < 10 → n * 10 + d < 10 ^ (i + 1 + 1)
-power_more n d i so_far small = omega (arith, pow-add 10 (i + 1) 1)
-
-pub power_fits : (n d i : ℕ) → n < 10 ^ (i + 1) → i < 18 → d < 10 → n * 10 + d < 2 ^ 64
-power_fits n d i so_far few small = let most : 10 ^ (i + 1) ≤ 10 ^ 18 = pow-le-pow_right (omega arith) {i = i + 1} {j = 18} (omega (arith, few)) in omega arith
+pub scanned_pair : (s xs : List ℕ) (i n p : ℕ) → i + 2 ≤ length xs → i + 2 ≤ 18 → p < 100 → get_or xs i 0 ≡ 48 + p / 10 → get_or xs (i + 1) 0 ≡ 48 + p % 10 → Scanned s xs i n → (n * 100 + p < 2 ^ 64) × Scanned s xs (i + 2) (n * 100 + p)
+scanned_pair s xs i n p within few small tens ones so_far =
+    let one = scanned s xs i n (p / 10) (omega (arith, within)) (omega (arith, few)) (omega (arith, small)) tens so_far in
+    let two = scanned s xs (i + 1) (n * 10 + p / 10) (p % 10) (omega (arith, within)) (omega (arith, few)) (omega arith) ones one.1 in
+    let a : (n * 10 + p / 10) * 10 + p % 10 ≡ n * 100 + p = omega arith in
+    let b : i + 1 + 1 ≡ i + 2 = omega arith in
+    rw (a, b) at two

@@ -9,7 +9,6 @@ use Rattle.serde_json.specs.Data.{Data, Members, string, boolean, no_members, me
 use Rattle.serde_json.specs.Read.{max_depth}
 use Rattle.serde_json.specs.View.{items_of}
 use Rattle.serde_json.specs.Written.{has_float, items_have_float, members_have_float}
-use Rattle.enumset.specs.Json.{number_value, words_value}
 use Rattle.enumset.specs.JsonNames.{list_value, map_value}
 use Rattle.enumset.specs.Names.{Names, name_of}
 use Rattle.enumset.proofs.NamesTaken.{Each, each_written}
@@ -18,14 +17,11 @@ use Rattle.enumset.proofs.NamesTaken.{Each, each_written}
 abbrev pub IsFlat : Data → Type 0
 IsFlat d = (has_float d ≡ false) × (depth d ≤ max_depth)
 
--- ---- words and lists of names
+-- ---- lists of names
 
 flat_items : (f : ℕ → Data) → ((n : ℕ) → (has_float (f n) ≡ false) × (depth (f n) ≤ 0)) → (ns : List ℕ) → (items_have_float (items_of (map f ns)) ≡ false) × (items_depth (items_of (map f ns)) ≤ 0)
 flat_items f flat [] = (refl, omega arith)
 flat_items f flat (n ∷ ns) = let rest = flat_items f flat ns in (or_from _ _ (flat n).0 rest.0, omega (arith, (flat n).1, rest.1))
-
-pub words_flat : (ns : List ℕ) → IsFlat (words_value ns)
-words_flat ns = let flat = flat_items number_value (λ n. (refl, omega arith)) ns in (flat.0, omega (arith, flat.1))
 
 pub list_flat : (names : Names) (s : BitSet) → IsFlat (list_value names s)
 list_flat names s = let flat = flat_items (λ b. string (name_of names b)) (λ b. (refl, omega arith)) (ascending s) in (flat.0, omega (arith, flat.1))

@@ -7,7 +7,7 @@ ghost use Rattle.serde_json.specs.Read.{read};
 ghost use Rattle.serde_json.specs.Written.{compact_text, comma_if};
 ghost use Rattle.enumset.specs.Json.{words_value};
 
-use super::digits::push_digits;
+use super::digits::{ascii_text, push_digits};
 use super::plain_numbers::split_number;
 use super::scan::{after_byte, are_spaces, split_spaces};
 use super::words::take_word;
@@ -29,7 +29,7 @@ pub(super) fn words_text<R: EnumSetTypeRepr>(alloc: Global, repr: &R) -> Result<
         push_word(&mut bytes, repr.word(i), i > 0)?;
     }
     bytes.push(b']')?;
-    Ok(String::from_utf8(bytes).unwrap())
+    Ok(ascii_text(bytes))
 }
 
 // One more word of an array.

@@ -1,6 +1,4 @@
-use Rattle.std.proofs.Common.{◌≡◌, ◌++◌, ◌∷◌, [], string_bytes, ap, ◌∙◌, arith}
-use Rattle.std.proofs.lemmas.Grind.{common_steps}
-use Rattle.std.proofs.lemmas.Str.{IsUtf8-from_ascii}
+use Rattle.std.proofs.Common.{◌≡◌, ◌++◌, ◌∷◌, [], ap, ◌∙◌, arith}
 use Rattle.serde_json.specs.Read.{read}
 use Rattle.enumset.proofs.WordsWritten.{none_written, one_written, all_written, words_reads}
 use Rattle.enumset.proofs.set_json.plain_words.words_text.Goals as goal
@@ -11,20 +9,15 @@ loop-i-init g c = none_written (g.R.EnumSetTypeRepr.members c.args.repr.now) c.p
 pub loop-i-preserved : goal.loop-i-preserved
 loop-i-preserved g c = one_written (g.R.EnumSetTypeRepr.members c.args.repr.now) c.loop-i.bytes.items c.push_word.new.bytes.items c.loop-i.i c.word.result c.loop-i.invariant c.word.ensures c.in_ok-push_word.ensures
 
-pub unwrap-requires : goal.unwrap-requires
-unwrap-requires g c =
+pub ascii_text-requires : goal.ascii_text-requires
+ascii_text-requires g c =
     let all : c.loop-i.i ≡ g.R.EnumSetTypeRepr.PREFERRED_ARRAY_LEN = omega (arith, c.loop-i-test.false, c.PREFERRED_ARRAY_LEN-i-end.ensures, c.loop-i.auto.i-end) in
-    c.from_utf8.ensures.succeeds (IsUtf8-from_ascii _ (all_written (g.R.EnumSetTypeRepr.members c.args.repr.now) c.loop-i.bytes.items c.push-2.new.self.items c.loop-i.i _ c.loop-i.invariant all c.in_ok-push-2.ensures.items).1)
+    (all_written (g.R.EnumSetTypeRepr.members c.args.repr.now) c.loop-i.bytes.items c.push-2.new.self.items c.loop-i.i _ c.loop-i.invariant all c.in_ok-push-2.ensures.items).1
 
 pub returns-clause-text : goal.returns-clause-text
 returns-clause-text g c =
     let all : c.loop-i.i ≡ g.R.EnumSetTypeRepr.PREFERRED_ARRAY_LEN = omega (arith, c.loop-i-test.false, c.PREFERRED_ARRAY_LEN-i-end.ensures, c.loop-i.auto.i-end) in
-    let text : string_bytes c.unwrap.result ≡ c.push-2.new.self.items = grind (arith, common_steps) in
-    text ∙ (all_written (g.R.EnumSetTypeRepr.members c.args.repr.now) c.loop-i.bytes.items c.push-2.new.self.items c.loop-i.i _ c.loop-i.invariant all c.in_ok-push-2.ensures.items).0
+    c.ascii_text.ensures ∙ (all_written (g.R.EnumSetTypeRepr.members c.args.repr.now) c.loop-i.bytes.items c.push-2.new.self.items c.loop-i.i _ c.loop-i.invariant all c.in_ok-push-2.ensures.items).0
 
 pub returns-clause-reads : goal.returns-clause-reads
-returns-clause-reads g c =
-    let all : c.loop-i.i ≡ g.R.EnumSetTypeRepr.PREFERRED_ARRAY_LEN = omega (arith, c.loop-i-test.false, c.PREFERRED_ARRAY_LEN-i-end.ensures, c.loop-i.auto.i-end) in
-    let text : string_bytes c.unwrap.result ≡ c.push-2.new.self.items = grind (arith, common_steps) in
-    ap read (text ∙ (all_written (g.R.EnumSetTypeRepr.members c.args.repr.now) c.loop-i.bytes.items c.push-2.new.self.items c.loop-i.i _ c.loop-i.invariant all c.in_ok-push-2.ensures.items).0)
-    ∙ words_reads (g.R.EnumSetTypeRepr.members c.args.repr.now) g.R.EnumSetTypeRepr.PREFERRED_ARRAY_LEN
+returns-clause-reads g c = ap read (returns-clause-text g c) ∙ words_reads (g.R.EnumSetTypeRepr.members c.args.repr.now) g.R.EnumSetTypeRepr.PREFERRED_ARRAY_LEN
