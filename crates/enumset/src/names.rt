@@ -1,6 +1,6 @@
 //! The names of an element type's values.
 
-ghost use Rattle.std.specs.Prelude.{◌≡◌, ◌<◌, ℕ, List, IfSome, length, map, option_map};
+ghost use Rattle.std.specs.Prelude.{◌≡◌, ◌<◌, ℕ, List, IfSome, IsTrue, length, map, option_map};
 ghost use Rattle.std.specs.Str.{bytes_eq};
 ghost use Rattle.enumset.specs.Names.{names_of, name_of, bit_named, IsNaming};
 
@@ -88,10 +88,24 @@ fn find_in<T: EnumSetType>(names: &[(T, &str)], text: &[u8]) -> Option<(usize, T
     None
 }
 
-// Whether a name is these bytes.
+// Whether a name is these bytes. Names that begin alike seldom end alike, so the last eight bytes are compared first.
 #[inline(always)]
 fn has_bytes(name: &str, text: &[u8]) -> bool
     ensures { result ≡ bytes_eq name.now text.now }
 {
-    name.as_bytes() == text
+    let name = name.as_bytes();
+    name.len() == text.len() && end_alike(name, text) && name == text
+}
+
+// Whether the last eight bytes of two texts of one length are the same, where they have as many.
+#[inline(always)]
+fn end_alike(one: &[u8], other: &[u8]) -> bool
+    ensures { one.now ≡ other.now → IsTrue result }
+{
+    match (one.last_chunk::<8>(), other.last_chunk::<8>()) {
+        (Some(end), Some(other_end)) => {
+            u64::from_le_bytes(*end) == u64::from_le_bytes(*other_end)
+        }
+        _ => true,
+    }
 }

@@ -1,7 +1,10 @@
 //! Steps over a JSON text whose strings stand for themselves, byte by byte.
 
-ghost use Rattle.std.specs.Prelude.{◌≡◌, ◌++◌, ◌∷◌, [], IfSome, IsTrue};
+ghost use Rattle.std.specs.Prelude.{◌≡◌, ◌≤◌, ◌==◌, ◌+◌, ◌++◌, ◌∷◌, [], if◌then◌else◌, IfSome, IsTrue, length, take, drop};
+ghost use Rattle.std.specs.Int.{trailing_zeros, w64};
 ghost use Rattle.enumset.specs.JsonPlain.{IsPlain, AreSpaces, Passed, is_space};
+
+use std::simd::prelude::*;
 
 // Whether a byte stands for itself in a JSON string.
 #[inline(always)]
@@ -11,16 +14,51 @@ pub(super) fn is_plain_byte(byte: u8) -> bool
     byte != b'"' && byte != b'\\' && byte >= b' '
 }
 
-// Whether a text stands for itself in a JSON string. The loop goes on past a byte that does not, so that the compiler
-// tests sixteen bytes at once.
+// Whether a text stands for itself in a JSON string.
 pub(super) fn is_plain(text: &str) -> bool
     ensures { IsTrue result → IsPlain text.now }
 {
-    let mut is_plain = true;
-    for byte in text.as_bytes() {
-        is_plain &= is_plain_byte(*byte);
+    plain_len(text.as_bytes()) == text.len()
+}
+
+// How many bytes at the front stand for themselves.
+#[inline(always)]
+fn plain_len(bytes: &[u8]) -> usize
+    ensures { (result ≤ length bytes.now) × IsPlain (take result bytes.now) }
+{
+    for k in 0..bytes.len() / 16 {
+        let before = plain_before(bytes, 16 * k);
+        if before < 16 {
+            return 16 * k + before;
+        }
     }
-    is_plain
+    for i in bytes.len() / 16 * 16..bytes.len() {
+        if !is_plain_byte(bytes[i]) {
+            return i;
+        }
+    }
+    bytes.len()
+}
+
+// How many of the sixteen bytes from a place on come before one that does not stand for itself.
+#[inline(always)]
+fn plain_before(bytes: &[u8], begin: usize) -> usize
+    requires { begin + 16 ≤ length bytes.now }
+    ensures { (result ≤ 16) × IsPlain (take result (drop begin bytes.now)) }
+{
+    let sixteen = u8x16::from_slice(&bytes[begin..]);
+    let quote = first_bit(sixteen.simd_eq(u8x16::splat(b'"')).to_bitmask());
+    let slash = first_bit(sixteen.simd_eq(u8x16::splat(b'\\')).to_bitmask());
+    let control = first_bit(sixteen.simd_lt(u8x16::splat(b' ')).to_bitmask());
+    quote.min(slash).min(control)
+}
+
+// The place of the lowest bit, at most 16.
+#[inline(always)]
+fn first_bit(mask: u64) -> usize
+    ensures { result ≡ (if mask == 0 then 16 else trailing_zeros w64 mask) }
+{
+    if mask == 0 { 16 } else { mask.trailing_zeros() as usize }
 }
 
 // Whether a byte may stand between tokens.
@@ -70,16 +108,11 @@ pub(super) fn split_string(bytes: &[u8]) -> Option<(&[u8], &[u8])>
     ensures { IfSome result (λ parts.
         IsPlain parts.0.now × (bytes.now ≡ parts.0.now ++ 34 ∷ parts.1.now)) }
 {
-    for i in 0..bytes.len() {
-        if !is_plain_byte(bytes[i]) {
-            let (string, rest) = bytes.split_at(i);
-            let (quote, rest) = rest.split_first()?;
-            return if *quote == b'"' {
-                Some((string, rest))
-            } else {
-                None
-            };
-        }
+    let (string, rest) = bytes.split_at(plain_len(bytes));
+    let (quote, rest) = rest.split_first()?;
+    if *quote == b'"' {
+        Some((string, rest))
+    } else {
+        None
     }
-    None
 }
