@@ -1,6 +1,6 @@
 //! The names of an element type's values.
 
-ghost use Rattle.std.specs.Prelude.{◌≡◌, ◌<◌, ℕ, List, IfSome, IsTrue, length, map, option_map};
+ghost use Rattle.std.specs.Prelude.{◌≡◌, ◌<◌, ℕ, List, IfSome, length, map, option_map};
 ghost use Rattle.std.specs.Str.{bytes_eq};
 ghost use Rattle.enumset.specs.Names.{names_of, name_of, bit_named, IsNaming};
 
@@ -88,24 +88,19 @@ fn find_in<T: EnumSetType>(names: &[(T, &str)], text: &[u8]) -> Option<(usize, T
     None
 }
 
-// Whether a name is these bytes. Names that begin alike seldom end alike, so the last eight bytes are compared first.
+// Whether a name is these bytes. The last eight are compared first, since names that begin alike seldom end alike.
 #[inline(always)]
 fn has_bytes(name: &str, text: &[u8]) -> bool
     ensures { result ≡ bytes_eq name.now text.now }
 {
     let name = name.as_bytes();
-    name.len() == text.len() && end_alike(name, text) && name == text
-}
-
-// Whether the last eight bytes of two texts of one length are the same, where they have as many.
-#[inline(always)]
-fn end_alike(one: &[u8], other: &[u8]) -> bool
-    ensures { one.now ≡ other.now → IsTrue result }
-{
-    match (one.last_chunk::<8>(), other.last_chunk::<8>()) {
-        (Some(end), Some(other_end)) => {
-            u64::from_le_bytes(*end) == u64::from_le_bytes(*other_end)
+    if name.len() != text.len() {
+        return false;
+    }
+    match (name.last_chunk(), text.last_chunk()) {
+        (Some(end), Some(text_end)) => {
+            u64::from_le_bytes(*end) == u64::from_le_bytes(*text_end) && name == text
         }
-        _ => true,
+        _ => name == text,
     }
 }
