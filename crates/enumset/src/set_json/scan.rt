@@ -1,6 +1,6 @@
 //! Steps over a JSON text whose strings stand for themselves, byte by byte.
 
-ghost use Rattle.std.specs.Prelude.{◌≡◌, ◌≤◌, ◌==◌, ◌+◌, ◌++◌, ◌∷◌, [], if◌then◌else◌, IfSome, IsTrue, length, take, drop};
+ghost use Rattle.std.specs.Prelude.{◌≡◌, ◌≤◌, ◌==◌, ◌+◌, ◌*◌, ◌++◌, ◌∷◌, [], if◌then◌else◌, IfSome, IsTrue, length, take, drop};
 ghost use Rattle.std.specs.Int.{trailing_zeros, w64};
 ghost use Rattle.enumset.specs.JsonPlain.{IsPlain, AreSpaces, Passed, is_space};
 
@@ -18,7 +18,21 @@ pub(super) fn is_plain_byte(byte: u8) -> bool
 pub(super) fn is_plain(text: &str) -> bool
     ensures { IsTrue result → IsPlain text.now }
 {
-    plain_len(text.as_bytes()) == text.len()
+    let bytes = text.as_bytes();
+    match bytes.len() {
+        4..8 => are_ends_plain::<4>(bytes),
+        8..16 => are_ends_plain::<8>(bytes),
+        len => plain_len(bytes) == len,
+    }
+}
+
+// Whether the first N bytes stand for themselves, and the last N: for short texts, faster than byte by byte.
+#[inline(always)]
+fn are_ends_plain<const N: usize>(bytes: &[u8]) -> bool
+    requires { (N ≤ length bytes.now) × (length bytes.now ≤ 2 * N) × (N ≤ 16) }
+    ensures { IsTrue result → IsPlain bytes.now }
+{
+    plain_before::<N>(bytes, 0) == N && plain_before::<N>(bytes, bytes.len() - N) == N
 }
 
 // How many bytes at the front stand for themselves.
@@ -27,7 +41,7 @@ fn plain_len(bytes: &[u8]) -> usize
     ensures { (result ≤ length bytes.now) × IsPlain (take result bytes.now) }
 {
     for k in 0..bytes.len() / 16 {
-        let before = plain_before(bytes, 16 * k);
+        let before = plain_before::<16>(bytes, 16 * k);
         if before < 16 {
             return 16 * k + before;
         }
@@ -40,25 +54,29 @@ fn plain_len(bytes: &[u8]) -> usize
     bytes.len()
 }
 
-// How many of the sixteen bytes from a place on come before one that does not stand for itself.
+// How many of the N bytes from a place on come before one that does not stand for itself.
 #[inline(always)]
-fn plain_before(bytes: &[u8], begin: usize) -> usize
-    requires { begin + 16 ≤ length bytes.now }
-    ensures { (result ≤ 16) × IsPlain (take result (drop begin bytes.now)) }
+fn plain_before<const N: usize>(bytes: &[u8], begin: usize) -> usize
+    requires { (begin + N ≤ length bytes.now) × (N ≤ 16) }
+    ensures { (result ≤ N) × IsPlain (take result (drop begin bytes.now)) }
 {
-    let sixteen = u8x16::from_slice(&bytes[begin..]);
-    let quote = first_bit(sixteen.simd_eq(u8x16::splat(b'"')).to_bitmask());
-    let slash = first_bit(sixteen.simd_eq(u8x16::splat(b'\\')).to_bitmask());
-    let control = first_bit(sixteen.simd_lt(u8x16::splat(b' ')).to_bitmask());
+    let lanes = Simd::<u8, N>::from_slice(&bytes[begin..]);
+    let quote = first_bit(lanes.simd_eq(Simd::splat(b'"')).to_bitmask(), N);
+    let slash = first_bit(lanes.simd_eq(Simd::splat(b'\\')).to_bitmask(), N);
+    let control = first_bit(lanes.simd_lt(Simd::splat(b' ')).to_bitmask(), N);
     quote.min(slash).min(control)
 }
 
-// The place of the lowest bit, at most 16.
+// The place of the lowest bit, or what stands in for it.
 #[inline(always)]
-fn first_bit(mask: u64) -> usize
-    ensures { result ≡ (if mask == 0 then 16 else trailing_zeros w64 mask) }
+fn first_bit(mask: u64, none: usize) -> usize
+    ensures { result ≡ (if mask == 0 then none else trailing_zeros w64 mask) }
 {
-    if mask == 0 { 16 } else { mask.trailing_zeros() as usize }
+    if mask == 0 {
+        none
+    } else {
+        mask.trailing_zeros() as usize
+    }
 }
 
 // Whether a byte may stand between tokens.

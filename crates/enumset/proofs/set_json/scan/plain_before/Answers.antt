@@ -21,15 +21,16 @@ plain_run (x ∷ v) (suc r) q s k =
     let d = step (ltb x 32) (prefix_len (λ x. not (ltb x 32)) v) r k in
     ((a.0, b.0, d.0), plain_run v r a.1 b.1 d.1)
 
-abbrev lowest : ℕ → ℕ
-lowest m = cond (eqb m 0) 16 (count_trailing_zeros 64 m)
+abbrev lowest : ℕ → ℕ → ℕ
+lowest n m = cond (eqb m 0) n (count_trailing_zeros 64 m)
 
 pub returns : goal.returns
-returns c =
-    let v = chunk c.args.begin 16 c.args.bytes.now in
-    let long = length-chunk c.args.begin 16 c.args.bytes.now c.requires in
-    let quote : c.first_bit-quote.result ≡ prefix_len (λ x. not (eqb x 34)) v = c.first_bit-quote.ensures ∙ ap lowest (bitmask_splat w8 eqb v 16 34 long (omega arith)) ∙ first_set_mask_l (λ x. eqb x 34) v 16 long (omega arith) in
-    let slash : c.first_bit-slash.result ≡ prefix_len (λ x. not (eqb x 92)) v = c.first_bit-slash.ensures ∙ ap lowest (bitmask_splat w8 eqb v 16 92 long (omega arith)) ∙ first_set_mask_l (λ x. eqb x 92) v 16 long (omega arith) in
-    let control : c.first_bit-control.result ≡ prefix_len (λ x. not (ltb x 32)) v = c.first_bit-control.ensures ∙ ap lowest (bitmask_splat w8 ltb v 16 32 long (omega arith)) ∙ first_set_mask_l (λ x. ltb x 32) v 16 long (omega arith) in
-    let few : c.min-2.result ≤ 16 = omega (arith, prefix_len-le-length (λ x. not (eqb x 34)) v) in
-    (few, subst IsPlain (take-take c.min-2.result 16 (drop c.args.begin c.args.bytes.now) few) (plain_run v c.min-2.result (omega arith) (omega arith) (omega arith)))
+returns g c =
+    let n = g.row.N in
+    let v = chunk c.args.begin n c.args.bytes.now in
+    let long = length-chunk c.args.begin n c.args.bytes.now c.requires.0 in
+    let quote : c.first_bit-quote.result ≡ prefix_len (λ x. not (eqb x 34)) v = c.first_bit-quote.ensures ∙ ap (lowest n) (bitmask_splat w8 eqb v n 34 long (omega arith)) ∙ first_set_mask_l (λ x. eqb x 34) v n long (omega arith) in
+    let slash : c.first_bit-slash.result ≡ prefix_len (λ x. not (eqb x 92)) v = c.first_bit-slash.ensures ∙ ap (lowest n) (bitmask_splat w8 eqb v n 92 long (omega arith)) ∙ first_set_mask_l (λ x. eqb x 92) v n long (omega arith) in
+    let control : c.first_bit-control.result ≡ prefix_len (λ x. not (ltb x 32)) v = c.first_bit-control.ensures ∙ ap (lowest n) (bitmask_splat w8 ltb v n 32 long (omega arith)) ∙ first_set_mask_l (λ x. ltb x 32) v n long (omega arith) in
+    let few : c.min-2.result ≤ n = omega (arith, prefix_len-le-length (λ x. not (eqb x 34)) v) in
+    (few, subst IsPlain (take-take c.min-2.result n (drop c.args.begin c.args.bytes.now) few) (plain_run v c.min-2.result (omega arith) (omega arith) (omega arith)))
