@@ -1,4 +1,4 @@
-use Rattle.std.proofs.Common.{◌≡◌, ◌-◌, length, take, drop, subst, arith}
+use Rattle.std.proofs.Common.{◌-◌, length, take, drop, subst, arith}
 use Rattle.std.proofs.lemmas.Bool.{eqb-true}
 use Rattle.std.proofs.lemmas.List.{take_all}
 use Rattle.enumset.specs.JsonPlain.{IsPlain, IsPlainByte}
