@@ -88,10 +88,19 @@ fn find_in<T: EnumSetType>(names: &[(T, &str)], text: &[u8]) -> Option<(usize, T
     None
 }
 
-// Whether a name is these bytes.
+// Whether a name is these bytes. The last eight are compared first, since names that begin alike seldom end alike.
 #[inline(always)]
 fn has_bytes(name: &str, text: &[u8]) -> bool
     ensures { result ≡ bytes_eq name.now text.now }
 {
-    name.as_bytes() == text
+    let name = name.as_bytes();
+    if name.len() != text.len() {
+        return false;
+    }
+    match (name.last_chunk(), text.last_chunk()) {
+        (Some(end), Some(text_end)) => {
+            u64::from_le_bytes(*end) == u64::from_le_bytes(*text_end) && name == text
+        }
+        _ => name == text,
+    }
 }

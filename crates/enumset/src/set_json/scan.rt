@@ -1,7 +1,10 @@
 //! Steps over a JSON text whose strings stand for themselves, byte by byte.
 
-ghost use Rattle.std.specs.Prelude.{◌≡◌, ◌++◌, ◌∷◌, [], IfSome, IsTrue};
+ghost use Rattle.std.specs.Prelude.{◌≡◌, ◌≤◌, ◌==◌, ◌+◌, ◌*◌, ◌++◌, ◌∷◌, [], if◌then◌else◌, IfSome, IsTrue, length, take, drop};
+ghost use Rattle.std.specs.Int.{trailing_zeros, w64};
 ghost use Rattle.enumset.specs.JsonPlain.{IsPlain, AreSpaces, Passed, is_space};
+
+use std::simd::prelude::*;
 
 // Whether a byte stands for itself in a JSON string.
 #[inline(always)]
@@ -11,16 +14,69 @@ pub(super) fn is_plain_byte(byte: u8) -> bool
     byte != b'"' && byte != b'\\' && byte >= b' '
 }
 
-// Whether a text stands for itself in a JSON string. The loop goes on past a byte that does not, so that the compiler
-// tests sixteen bytes at once.
+// Whether a text stands for itself in a JSON string.
 pub(super) fn is_plain(text: &str) -> bool
     ensures { IsTrue result → IsPlain text.now }
 {
-    let mut is_plain = true;
-    for byte in text.as_bytes() {
-        is_plain &= is_plain_byte(*byte);
+    let bytes = text.as_bytes();
+    match bytes.len() {
+        4..8 => are_ends_plain::<4>(bytes),
+        8..16 => are_ends_plain::<8>(bytes),
+        len => plain_len(bytes) == len,
     }
-    is_plain
+}
+
+// Whether the first N bytes stand for themselves, and the last N: for short texts, faster than byte by byte.
+#[inline(always)]
+fn are_ends_plain<const N: usize>(bytes: &[u8]) -> bool
+    requires { (N ≤ length bytes.now) × (length bytes.now ≤ 2 * N) × (N ≤ 16) }
+    ensures { IsTrue result → IsPlain bytes.now }
+{
+    plain_before::<N>(bytes, 0) == N && plain_before::<N>(bytes, bytes.len() - N) == N
+}
+
+// How many bytes at the front stand for themselves.
+#[inline(always)]
+fn plain_len(bytes: &[u8]) -> usize
+    ensures { (result ≤ length bytes.now) × IsPlain (take result bytes.now) }
+{
+    for k in 0..bytes.len() / 16 {
+        let before = plain_before::<16>(bytes, 16 * k);
+        if before < 16 {
+            return 16 * k + before;
+        }
+    }
+    for i in bytes.len() / 16 * 16..bytes.len() {
+        if !is_plain_byte(bytes[i]) {
+            return i;
+        }
+    }
+    bytes.len()
+}
+
+// How many of the N bytes from a place on come before one that does not stand for itself.
+#[inline(always)]
+fn plain_before<const N: usize>(bytes: &[u8], begin: usize) -> usize
+    requires { (begin + N ≤ length bytes.now) × (N ≤ 16) }
+    ensures { (result ≤ N) × IsPlain (take result (drop begin bytes.now)) }
+{
+    let lanes = Simd::<u8, N>::from_slice(&bytes[begin..]);
+    let quote = first_bit(lanes.simd_eq(Simd::splat(b'"')).to_bitmask(), N);
+    let slash = first_bit(lanes.simd_eq(Simd::splat(b'\\')).to_bitmask(), N);
+    let control = first_bit(lanes.simd_lt(Simd::splat(b' ')).to_bitmask(), N);
+    quote.min(slash).min(control)
+}
+
+// The place of the lowest bit, or what stands in for it.
+#[inline(always)]
+fn first_bit(mask: u64, none: usize) -> usize
+    ensures { result ≡ (if mask == 0 then none else trailing_zeros w64 mask) }
+{
+    if mask == 0 {
+        none
+    } else {
+        mask.trailing_zeros() as usize
+    }
 }
 
 // Whether a byte may stand between tokens.
@@ -70,16 +126,11 @@ pub(super) fn split_string(bytes: &[u8]) -> Option<(&[u8], &[u8])>
     ensures { IfSome result (λ parts.
         IsPlain parts.0.now × (bytes.now ≡ parts.0.now ++ 34 ∷ parts.1.now)) }
 {
-    for i in 0..bytes.len() {
-        if !is_plain_byte(bytes[i]) {
-            let (string, rest) = bytes.split_at(i);
-            let (quote, rest) = rest.split_first()?;
-            return if *quote == b'"' {
-                Some((string, rest))
-            } else {
-                None
-            };
-        }
+    let (string, rest) = bytes.split_at(plain_len(bytes));
+    let (quote, rest) = rest.split_first()?;
+    if *quote == b'"' {
+        Some((string, rest))
+    } else {
+        None
     }
-    None
 }
