@@ -1,4 +1,5 @@
-//! The flow of facts through the graphs of `flow`, by calls that change a set in place and tell whether it has changed.
+//! The flow of facts through the graphs of `flow`, by calls that change a set in place, that take a reference and that
+//! take members out.
 
 use crate::digest::Digest;
 use crate::flow::{Node, PASSES, random_far_nodes, random_nodes};

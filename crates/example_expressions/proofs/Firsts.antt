@@ -6,6 +6,7 @@
 use Rattle.std.proofs.Common.{◌≡◌, ℕ, Bool, true, false, not, ◌||◌, map, refl, sym, ◌∙◌, true≢false, arith, ◌↔◌, IsTrue, inl, inr}
 use Rattle.std.proofs.lemmas.Bool.{or_cases, or_left, or_right}
 use Rattle.std.proofs.lemmas.Bool.Decides.{nat_tests, same_from_decides}
+use denote.Enum.Bare.{tag_one}
 use Rattle.enumset_repr.specs.BitSet.{BitSet, is_in, contains, empty, insert, remove, union, intersection, from_list, is_subset}
 use Rattle.enumset_repr.specs.Laws.Algebra.{intersection_right}
 use Rattle.enumset_repr.specs.Laws.Members.{members, same_set, contains-from_list, contains-union, contains-is_subset}
@@ -32,15 +33,7 @@ pub record IsWorklist (whole : Part) (kinds left pending : BitSet) : Type 0 wher
   pub parts_sound : (part : Part) → contains pending (part_bit part) ≡ true → (kind : ℕ) → CanBegin part kind → CanBegin whole kind
 
 one_part : (part other : Part) → part_bit part ≡ part_bit other → part ≡ other
-one_part Sum Sum e = refl
-one_part Product Product e = refl
-one_part Operand Operand e = refl
-one_part Sum Product e = absurd (omega (arith, e))
-one_part Sum Operand e = absurd (omega (arith, e))
-one_part Product Sum e = absurd (omega (arith, e))
-one_part Product Operand e = absurd (omega (arith, e))
-one_part Operand Sum e = absurd (omega (arith, e))
-one_part Operand Product e = absurd (omega (arith, e))
+one_part = tag_one the_type tt
 
 is_part : (part : Part) → contains (valid_bits (in_place the_type)) (part_bit part) ≡ true
 is_part Sum = contains-from_list _ _
