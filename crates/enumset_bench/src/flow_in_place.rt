@@ -1,4 +1,5 @@
-//! The flow of facts through the graphs of `flow`, by calls that change a set in place and tell whether it has changed.
+//! The flow of facts through the graphs of `flow`, by calls that change a set in place, that take a reference and that
+//! take members out.
 
 use crate::digest::Digest;
 use crate::flow::{Node, PASSES, random_far_nodes, random_nodes};
@@ -37,7 +38,9 @@ fn settle<T: EnumSetType>(nodes: &mut Vec<Node<T>>, digest: &mut Digest) {
             if let Some(node) = nodes.get_mut(at) {
                 facts.difference_with(&node.ended);
                 facts.union_with(&node.made);
-                if node.known.union_with(&facts) {
+                // A set that gains nothing is only read.
+                if !facts.is_subset_of(&node.known) {
+                    node.known.union_with(&facts);
                     has_changed = true;
                 }
             }
@@ -65,31 +68,15 @@ fn gather<T: EnumSetType>(nodes: &[Node<T>], at: usize, facts: &mut EnumSet<T>) 
     }
 }
 
-/// Mixes in the members of a set: from both ends, or from the front.
+/// Mixes in the members of a set, taken out from both ends or from the front.
 fn add_members<T: EnumSetType>(set: &EnumSet<T>, is_from_both: bool, digest: &mut Digest) {
-    if is_from_both {
-        add_from_both(set.copied(), digest);
-    } else {
-        add_from_front(set, digest);
-    }
-}
-
-fn add_from_both<T: EnumSetType>(mut left: EnumSet<T>, digest: &mut Digest) {
+    let mut left = set.copied();
     while let Some(first) = left.pop_first() {
         digest.add(u64::from(first.enum_into_u32()));
-        if let Some(last) = left.pop_last() {
-            digest.add(u64::from(last.enum_into_u32()));
-        }
-    }
-}
-
-fn add_from_front<T: EnumSetType>(set: &EnumSet<T>, digest: &mut Digest) {
-    let mut from = 0;
-    for _ in 0..set.len() {
-        if let Some(member) = set.first_from(from) {
-            let bit = member.enum_into_u32();
-            digest.add(u64::from(bit));
-            from = bit.saturating_add(1);
+        if is_from_both {
+            if let Some(last) = left.pop_last() {
+                digest.add(u64::from(last.enum_into_u32()));
+            }
         }
     }
 }

@@ -18,10 +18,13 @@ pub(crate) fn between<R: EnumSetTypeRepr>(repr: &R, first: u32, last: u32) -> R
     repr.learn_is_value();
     let _width = R::WIDTH;
     let mut between = R::EMPTY;
-    for i in first / 64..last / 64 + 1 {
-        let before = ones_from(first.saturating_sub(64 * i));
-        let past = ones_from((last + 1).saturating_sub(64 * i));
-        between.put_word(i as usize, repr.word(i as usize) & before & !past);
+    // No word is past the last one: so the compiler sees that an integer has one word.
+    let end = (last as usize / 64 + 1).min(R::PREFERRED_ARRAY_LEN);
+    for i in first as usize / 64..end {
+        let start = 64 * i as u32;
+        let before = ones_from(first.saturating_sub(start));
+        let past = ones_from((last + 1).saturating_sub(start));
+        between.put_word(i, repr.word(i) & before & !past);
     }
     between
 }

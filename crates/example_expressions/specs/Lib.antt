@@ -1,2 +1,3 @@
+pub mod First
 pub mod Grammar
 pub mod States

@@ -6,8 +6,10 @@
 #![tactic(auto, using(enumset::specs::Laws::SetLaws::set_laws))]
 
 mod fault;
+mod first;
 mod kind;
 mod parser;
+mod part;
 mod token;
 mod value;
 

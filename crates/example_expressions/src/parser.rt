@@ -5,6 +5,7 @@ ghost use Rattle.enumset_repr.specs.BitSet as set;
 ghost use Rattle.example_expressions.specs.Grammar.{bit, kinds_of, IsExpression, IsFault};
 ghost use Rattle.example_expressions.specs.States.{next_kinds, Reads, Refuses};
 
+use crate::first::operand_kinds;
 use crate::kind::Kind;
 use crate::token::Token;
 use enumset::EnumSet;
@@ -87,7 +88,7 @@ impl Reader {
                 EnumSet::from([Kind::Minus, Kind::Plus, Kind::Times, Kind::Divide, closing])
             }
             Kind::End => EnumSet::new(),
-            _ => EnumSet::from([Kind::Number, Kind::Open, Kind::Minus]),
+            _ => operand_kinds(),
         }
     }
 }

@@ -45,4 +45,4 @@ loop-i-preserved g c = c.put_word.ensures ∙ next _ _ _ _ _ _ _ _ _ (g.met.R.En
     (c.ones_from-past.ensures ∙ ap (λ k. difference (below 64) (below k)) c.saturating_sub-in-loop-i.ensures)
 
 pub returns : goal.returns
-returns g c = c.loop-i.invariant ∙ all _ _ _ _ c.loop-i-test.false
+returns g c = c.loop-i.invariant ∙ all _ _ _ _ (omega (arith, c.requires, c.loop-i-test.false, g.met.R.EnumSetTypeRepr.represents.word_count))
