@@ -7,7 +7,6 @@
 
 mod arguments;
 mod fault;
-mod place;
 mod plan;
 mod program;
 mod read;

@@ -1,8 +1,7 @@
 //! What the program does: its arguments, its input and its output.
 
 use crate::arguments::{Request, arguments, request_of};
-use crate::fault::{DeriveError, Reason};
-use crate::place::Place;
+use crate::fault::{DeriveError, Place, Reason};
 use crate::read::read_source;
 use crate::source::Source;
 use crate::tokens::tokens_of;

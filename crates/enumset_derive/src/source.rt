@@ -1,6 +1,6 @@
 //! What a source text has.
 
-use crate::place::Place;
+use crate::fault::Place;
 use crate::plan::{EnumDeclaration, Plan};
 use std::alloc::{AllocError, Global};
 use std::mem;
@@ -208,9 +208,9 @@ impl<'a> Source<'a> {
         Ok(())
     }
 
-    /// Adds a name.
-    pub fn name(&mut self, text: &'a str, place: Place, root: &'a str) -> Result<(), AllocError> {
-        self.names.push(Name { text, place, root })?;
-        Ok(())
+    /// Adds the name of an item.
+    pub fn name(&mut self, text: &'a str, place: Place) -> Result<(), AllocError> {
+        let root = "";
+        Ok(self.names.push(Name { text, place, root })?)
     }
 }

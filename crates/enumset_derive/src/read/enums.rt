@@ -9,58 +9,53 @@ use crate::fault::{DeriveError, Reason};
 use crate::plan::{Discriminant, Variant};
 use crate::tokens::{Kind, Token};
 
-impl<'a> Reader<'a> {
+impl<'a, 'b> Reader<'a, 'b> {
     /// Reads an enum from its visibility up to the `}` at its end. Gives its name.
-    pub(super) fn read_enum<'b>(
+    pub(super) fn read_enum(
         &mut self,
         draft: &mut Draft<'a, 'b>,
-        cursor: &mut Cursor<'a, 'b>,
     ) -> Result<&'b Token<'a>, DeriveError> {
-        draft.declaration.visibility = cursor.read_visibility()?;
+        draft.declaration.visibility = self.cursor.read_visibility()?;
         draft.declaration.later_attributes = draft.comments();
-        let name = cursor.read_enum_name()?;
+        let name = self.cursor.read_enum_name()?;
         draft.declaration.name = name.text;
         draft.test_options()?;
-        for _ in cursor.rest {
-            let parts = cursor.read_parts(self.alloc)?;
-            for part in &parts {
-                self.take(draft, part)?;
-            }
+        for _ in self.cursor.rest {
+            let parts = self.cursor.read_parts(self.alloc)?;
+            self.take(draft, parts.as_slice())?;
             let has_attribute = parts.iter().any(|part| matches!(part, Part::Attribute(_)));
-            if cursor.token.is_mark('}') && !has_attribute {
+            if self.cursor.token.is_mark('}') && !has_attribute {
                 break;
             }
-            draft.read_variant(cursor)?;
+            let variant = self.read_variant(draft.comments())?;
+            draft.declaration.variants.push(variant)?;
         }
         draft.declaration.last_comments = draft.comments();
         Ok(name)
     }
-}
 
-impl<'a, 'b> Draft<'a, 'b> {
-    /// Reads a variant, up to what stands after the `,` and the comments on its line.
-    fn read_variant(&mut self, cursor: &mut Cursor<'a, 'b>) -> Done {
-        let begin = *cursor;
+    /// Reads a variant, of which the attributes are given, up to what stands after the `,` and the comments on its line.
+    fn read_variant(&mut self, attributes: String) -> Result<Variant<'a>, DeriveError> {
+        let begin = self.cursor;
+        let Token { text, place, .. } = *begin.token;
         let is_name = begin.token.is_name();
-        cursor.want(is_name, "wanted: a name of a variant, or `}`")?;
-        cursor.advance_past_blanks()?;
-        let discriminant = cursor.read_discriminant()?;
-        cursor.end_variant(discriminant)?;
-        let attributes = self.comments();
-        for token in cursor.passed_since(&begin) {
+        begin.want(is_name, "wanted: a name of a variant, or `}`")?;
+        self.cursor.advance_past_blanks()?;
+        let discriminant = self.cursor.read_discriminant()?;
+        self.cursor.end_variant(discriminant)?;
+        let mut comments = String::new(self.alloc);
+        for token in self.cursor.passed_since(&begin) {
             if token.is_comment() {
-                self.pending.push(token.text)?;
+                write!(comments, " {}", token.text)?;
             }
         }
-        let comments = self.comments();
-        self.declaration.variants.push(Variant {
-            place: begin.token.place,
+        Ok(Variant {
+            place,
             attributes,
-            name: begin.token.text,
+            name: text,
             discriminant,
             comments,
-        })?;
-        Ok(())
+        })
     }
 }
 

@@ -1,9 +1,8 @@
 //! What lines `use ..;` import.
 
 use super::Reader;
-use super::attributes::NO_MEANING;
 use super::cursor::{Cursor, Done};
-use crate::place::Place;
+use crate::fault::Place;
 use crate::source::{Form, Import, Name};
 use crate::tokens::{Kind, Token, is_among};
 use std::alloc::{AllocError, Global};
@@ -28,19 +27,18 @@ struct Use<'a> {
     written: Option<&'a str>,
 }
 
-impl<'a> Reader<'a> {
-    /// Reads an import from its keyword on, of which the attributes are given. Its visibility begins at a cursor.
-    pub(super) fn read_use<'b>(
+impl<'a, 'b> Reader<'a, 'b> {
+    /// Reads an import from its keyword on, of which the attributes are given. Its visibility begins at `item`.
+    pub(super) fn read_use(
         &mut self,
         place: Place,
         attributes: String,
-        item: &Cursor<'a, 'b>,
-        cursor: &mut Cursor<'a, 'b>,
+        item: Cursor<'a, 'b>,
     ) -> Done {
-        let keyword = *cursor;
-        cursor.skip_to(";", 0)?;
+        let keyword = self.cursor;
+        self.cursor.skip_to(";", 0)?;
         let mut tokens = Vec::new(self.alloc);
-        for token in cursor.passed_since(&keyword) {
+        for token in self.cursor.passed_since(&keyword) {
             if !token.is_blank() {
                 if !token.is_name() && !token.is_one_of(":{},*") {
                     return Err(token.fault("wanted: a path, or `;`"));
@@ -48,17 +46,15 @@ impl<'a> Reader<'a> {
                 tokens.push(*token)?;
             }
         }
-        let is_path = matches!(tokens.first(), Some(root) if root.is_name() && !is_renamed(root));
+        let is_path = tokens
+            .first()
+            .is_some_and(|root| root.is_name() && !is_renamed(root));
         let visibility = item.text.get(item.token.begin..keyword.token.begin);
         let line = Use {
             place,
             attributes,
             visibility: visibility.unwrap_or("").trim_end(),
-            written: if is_path {
-                Some(cursor.text_since(item.token.begin))
-            } else {
-                None
-            },
+            written: is_path.then_some(self.cursor.text_since(item.token.begin)),
         };
         for (index, tree) in trees_of(self.alloc, tokens.as_slice())?.iter().enumerate() {
             if index > 0 {
@@ -82,16 +78,13 @@ impl<'a> Reader<'a> {
             if token.is_mark('*') && !is_own {
                 return Err(token.fault(GLOB));
             }
+            let text = token.text;
             let (place, root) = if is_known {
                 (token.place, root.text)
             } else {
                 (line.place, "")
             };
-            names.push(Name {
-                text: token.text,
-                place,
-                root,
-            })?;
+            names.push(Name { text, place, root })?;
         }
         if is_own && root.is("enumset") && path.iter().any(|token| token.is_mark(':')) {
             self.source.names.append(&mut names)?;
@@ -120,8 +113,7 @@ impl<'a> Reader<'a> {
     /// Takes in what a line imports of the crate `enumset`: a path after its name, or some in brackets.
     fn read_names(&mut self, line: &Use<'a>, path: &[Token<'a>]) -> Done {
         if !line.attributes.is_empty() {
-            let text = line.attributes.trim_end();
-            self.source.leave_out(line.place, text, NO_MEANING)?;
+            self.leave_out(line.place, line.attributes.trim_end())?;
         }
         if !self.source.has_imports {
             self.source.has_imports = true;

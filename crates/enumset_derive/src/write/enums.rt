@@ -2,8 +2,9 @@
 
 use super::Written;
 use super::layout::{on_a_line, wrapped};
-use crate::plan::{EnumDeclaration, Number, Variant};
+use crate::plan::{Discriminant, EnumDeclaration, Number, Variant};
 use crate::source::Element;
+use crate::tokens::names_last;
 use std::alloc::Global;
 
 /// Why an enum has no discriminants.
@@ -27,33 +28,33 @@ pub(super) fn are_kept(variants: &[Variant]) -> bool {
 
 /// Writes the enum.
 pub(super) fn write_enum(out: &mut String, alloc: Global, element: &Element) -> Written {
-    let declaration = &element.declaration;
-    let has_discriminants = are_kept(&declaration.variants);
-    write_lines(out, "", &declaration.attributes)?;
-    if !has_discriminants {
-        out.push_str(DROPPED)?;
-    }
-    write_derives(out, alloc, declaration)?;
-    write_lines(out, "", &declaration.later_attributes)?;
-    let (visibility, restriction) = declaration.visibility;
-    let is_empty = declaration.variants.is_empty() && declaration.last_comments.is_empty();
+    let EnumDeclaration {
+        attributes,
+        later_attributes,
+        visibility: (visibility, restriction),
+        name,
+        variants,
+        last_comments,
+        ..
+    } = &element.declaration;
+    let has_discriminants = are_kept(variants);
+    let dropped = if has_discriminants { "" } else { DROPPED };
+    write!(out, "{attributes}{dropped}")?;
+    write_derives(out, alloc, &element.declaration)?;
     let gap = if visibility.is_empty() { "" } else { " " };
-    let end = if is_empty { "" } else { "\n" };
-    let name = declaration.name;
-    write!(out, "{visibility}{restriction}{gap}enum {name} {{{end}")?;
-    for variant in &declaration.variants {
+    let end = if variants.is_empty() && last_comments.is_empty() {
+        ""
+    } else {
+        "\n"
+    };
+    write!(
+        out,
+        "{later_attributes}{visibility}{restriction}{gap}enum {name} {{{end}"
+    )?;
+    for variant in variants {
         write_variant(out, variant, has_discriminants)?;
     }
-    write_lines(out, "    ", &declaration.last_comments)?;
-    out.push_str("}\n\n")
-}
-
-/// Writes texts, each on a line of its own.
-fn write_lines(out: &mut String, start: &str, texts: &[&str]) -> Written {
-    for text in texts {
-        write!(out, "{start}{text}\n")?;
-    }
-    Ok(())
+    write!(out, "{last_comments}}}\n\n")
 }
 
 /// Writes the derives, on a line or on a line each: those that an element type needs, and those of the source.
@@ -66,7 +67,8 @@ fn write_derives(out: &mut String, alloc: Global, declaration: &EnumDeclaration)
         }
     }
     for path in &declaration.derives {
-        if !is_full || !SUPERTRAITS.iter().any(|name| *name == path.as_str()) {
+        let mut names = SUPERTRAITS.iter();
+        if !is_full || !names.any(|name| names_last(path.as_str(), name)) {
             write!(words, "{path},\n")?;
         }
     }
@@ -83,20 +85,17 @@ fn write_derives(out: &mut String, alloc: Global, declaration: &EnumDeclaration)
 
 /// Writes a variant, with its discriminant where the enum has discriminants.
 fn write_variant(out: &mut String, variant: &Variant, has_discriminants: bool) -> Written {
-    write_lines(out, "    ", &variant.attributes)?;
-    let name = variant.name;
-    write!(out, "    {name}")?;
-    match &variant.discriminant {
-        Some(discriminant) if has_discriminants => {
-            let sign = discriminant.sign;
-            let literal = discriminant.literal;
-            write!(out, " = {sign}{literal}")?;
-        }
-        _ => {}
+    let Variant {
+        attributes,
+        name,
+        comments,
+        ..
+    } = variant;
+    write!(out, "{attributes}    {name}")?;
+    if let Some(Discriminant { sign, literal, .. }) = variant.discriminant
+        && has_discriminants
+    {
+        write!(out, " = {sign}{literal}")?;
     }
-    out.push(',')?;
-    for comment in &variant.comments {
-        write!(out, " {comment}")?;
-    }
-    out.push('\n')
+    write!(out, ",{comments}\n")
 }
