@@ -5,7 +5,6 @@
 //! With `-o FILE` after them the module goes into that file, once the source had no fault.
 #![tactic(auto)]
 
-mod arguments;
 mod fault;
 mod plan;
 mod program;

@@ -7,7 +7,6 @@ mod draft;
 mod enums;
 mod imports;
 mod items;
-mod literals;
 mod names;
 mod options;
 

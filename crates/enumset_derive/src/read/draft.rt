@@ -10,11 +10,7 @@ use crate::tokens::{Token, names_last};
 use std::alloc::Global;
 use std::mem;
 
-const NO_FORM: &str = "`serialize_deny_unknown` needs `serialize_repr`";
-
 const SERDE_ALONE: &str = "here nothing comes of the names: write `#[serde(..)]` alone";
-
-const NO_VARIANTS: &str = "`rt ci` refuses what this enum without variants has: nobody can call it";
 
 /// What is known of an enum that is to be an element type.
 #[derive(Drop)]
@@ -83,7 +79,7 @@ impl<'a, 'b> Draft<'a, 'b> {
         let options = &self.declaration.options;
         for given in &self.given {
             if options.serialized.is_none() && given.is("serialize_deny_unknown") {
-                return Err(given.fault(NO_FORM));
+                return Err(given.fault("`serialize_deny_unknown` needs `serialize_repr`"));
             }
         }
         match self.hidden_serde {
@@ -98,7 +94,7 @@ impl<'a, 'b> Reader<'a, 'b> {
     pub(super) fn read_element(&mut self, parts: &[Part<'a, 'b>]) -> Done {
         let mut draft = Draft::new(self.alloc);
         self.take(&mut draft, parts)?;
-        let name = self.read_enum(&mut draft)?;
+        self.read_enum(&mut draft)?;
         let plan = plan_enum(self.alloc, &draft.declaration)?;
         let json_names = draft.json_names(self.alloc)?;
         for serde in &draft.serde {
@@ -106,22 +102,16 @@ impl<'a, 'b> Reader<'a, 'b> {
                 self.leave_out(serde.attribute.place, serde.attribute.text)?;
             }
         }
-        self.source.name(name.text, name.place)?;
-        if draft.declaration.variants.is_empty() {
-            let note = String::from_str(self.alloc, NO_VARIANTS)?;
-            self.source.notes.push((name.place, note))?;
-        }
         let declaration = draft.declaration;
         self.source.has_enums = true;
         self.source.facade = declaration.options.crate_name.unwrap_or(self.source.facade);
-        Ok(
-            self.source.push(Form::Element(Element {
-                declaration,
-                plan,
-                json_names,
-                is_test: draft.is_test,
-            }))?,
-        )
+        let element = Element {
+            declaration,
+            plan,
+            json_names,
+            is_test: draft.is_test,
+        };
+        Ok(self.source.push(Form::Element(element))?)
     }
 
     /// Takes the comments and the attributes of the enum, or of a variant if the enum's name is known.

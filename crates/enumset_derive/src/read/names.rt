@@ -115,7 +115,7 @@ impl<'a, 'b> Serde<'a, 'b> {
                 let value = cursor.read_value()?;
                 let is_style = self.variant.is_some() || is_among(STYLES, value);
                 cursor.want(is_style, WRONG_STYLE)?;
-                cursor.want(value.trim_start_matches(is_plain).is_empty(), NOT_PLAIN)?;
+                cursor.want(value.chars().all(is_plain), NOT_PLAIN)?;
                 Some((cursor.token.place, value))
             }
             ("rename" | "rename_all_fields" | "deny_unknown_fields", None)

@@ -4,10 +4,6 @@ use super::{Kind, Token, UNCLOSED_BRACKET};
 use crate::fault::Place;
 use std::alloc::{AllocError, Global};
 
-const CARRIAGE_RETURN: &str = "a carriage return stands only before a line feed";
-
-const RAW_NAME: &str = "no raw names here: choose one that is no keyword";
-
 /// What a text or a character in quotes is that has no end.
 const UNCLOSED: (Kind, &str) = (Kind::Fault("this quote has no end"), "");
 
@@ -84,7 +80,10 @@ fn first_token(first: char, text: &str) -> (Kind, &str) {
         ' ' | '\t' | '\n' => (Kind::Space, rest.trim_start_matches(is_space)),
         '/' if rest.starts_with('/') => (comment_kind(text), rest.trim_start_matches(is_on_line)),
         '/' if rest.starts_with('*') => block_comment(text),
-        '\r' => (Kind::Fault(CARRIAGE_RETURN), ""),
+        '\r' => (
+            Kind::Fault("a carriage return stands only before a line feed"),
+            "",
+        ),
         '"' => after_quote(rest),
         '\'' => after_tick(rest),
         ':' => match rest.strip_prefix(':') {
@@ -186,7 +185,10 @@ fn after_raw_prefix(text: &str) -> (Kind, &str) {
         return UNCLOSED;
     }
     if rest.starts_with(is_word) {
-        (Kind::Fault(RAW_NAME), "")
+        (
+            Kind::Fault("no raw names here: choose one that is no keyword"),
+            "",
+        )
     } else {
         (Kind::Other, rest)
     }

@@ -5,7 +5,7 @@ use super::json::write_json;
 use super::layout::{list_of, write_call};
 use super::names::{write_display, write_names};
 use super::operators::write_operators;
-use super::stores::{StoreText, is_narrow, store_text};
+use super::stores::{is_narrow, store_text};
 use super::{Subject, Written};
 use crate::plan::{Number, Plan, Store};
 use std::alloc::AllocError;
@@ -61,12 +61,13 @@ fn write_impl(out: &mut String, of: &Subject) -> Written {
     let plan = &element.plan;
     let (width, count) = (plan.bit_width, plan.variants.len());
     let in_place = are_cast(of) && are_places(plan);
-    let StoreText {
-        repr,
-        bits,
-        all_bits,
-        law,
-    } = store_text(alloc, &plan.store)?;
+    let is_wide = matches!(plan.store, Store::Words(_));
+    let law = if is_wide {
+        "lawful_in_words"
+    } else {
+        "lawful_in_integer"
+    };
+    let [repr, bits, all_bits] = store_text(alloc, &plan.store)?;
     let (made, more, list, lawful) = if in_place {
         let lawful = format!(in alloc; "lawful_in_place the_type ({law} the_type _ tt)")?;
         ("in_place", ", lawful_in_place", String::new(alloc), lawful)
@@ -75,7 +76,7 @@ fn write_impl(out: &mut String, of: &Subject) -> Written {
         ("with_bits", "", bits_of(of)?, lawful)
     };
     write!(out, "{guard}impl EnumSetType for {name} {{\n")?;
-    if !in_place || has_values || matches!(plan.store, Store::Words(_)) {
+    if !in_place || has_values || is_wide {
         out.push_str("    ghost use Rattle.std.specs.Prelude.{◌∷◌, []};\n")?;
     }
     write!(
@@ -156,11 +157,8 @@ fn write_into_u32(out: &mut String, of: &Subject) -> Written {
     }
     out.push_str("        match self {\n")?;
     for (variant, named) in variants.iter().zip(of.element.plan.variants.iter()) {
-        write!(
-            out,
-            "            Self::{} => {},\n",
-            variant.name, named.bit
-        )?;
+        let (name, bit) = (variant.name, named.bit);
+        write!(out, "            Self::{name} => {bit},\n")?;
     }
     out.push_str("        }\n")
 }
@@ -179,11 +177,8 @@ fn write_from_u32(out: &mut String, of: &Subject) -> Written {
     }
     out.push_str("        match val {\n")?;
     for (variant, named) in variants.iter().zip(plan.variants.iter()) {
-        write!(
-            out,
-            "            {} => Self::{},\n",
-            named.bit, variant.name
-        )?;
+        let (bit, name) = (named.bit, variant.name);
+        write!(out, "            {bit} => Self::{name},\n")?;
     }
     let count = variants.len();
     if count > 32 {

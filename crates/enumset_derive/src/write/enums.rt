@@ -28,30 +28,22 @@ pub(super) fn are_kept(variants: &[Variant]) -> bool {
 
 /// Writes the enum.
 pub(super) fn write_enum(out: &mut String, alloc: Global, element: &Element) -> Written {
-    let EnumDeclaration {
-        attributes,
-        later_attributes,
-        visibility: (visibility, restriction),
-        name,
-        variants,
-        last_comments,
-        ..
-    } = &element.declaration;
-    let has_discriminants = are_kept(variants);
+    let declaration = &element.declaration;
+    let (before, after) = (&declaration.attributes, &declaration.later_attributes);
+    let (visibility, restriction) = declaration.visibility;
+    let (name, last_comments) = (declaration.name, &declaration.last_comments);
+    let has_discriminants = are_kept(&declaration.variants);
     let dropped = if has_discriminants { "" } else { DROPPED };
-    write!(out, "{attributes}{dropped}")?;
-    write_derives(out, alloc, &element.declaration)?;
+    write!(out, "{before}{dropped}")?;
+    write_derives(out, alloc, declaration)?;
     let gap = if visibility.is_empty() { "" } else { " " };
-    let end = if variants.is_empty() && last_comments.is_empty() {
-        ""
-    } else {
-        "\n"
-    };
+    let is_empty = declaration.variants.is_empty() && last_comments.is_empty();
+    let end = if is_empty { "" } else { "\n" };
     write!(
         out,
-        "{later_attributes}{visibility}{restriction}{gap}enum {name} {{{end}"
+        "{after}{visibility}{restriction}{gap}enum {name} {{{end}"
     )?;
-    for variant in variants {
+    for variant in &declaration.variants {
         write_variant(out, variant, has_discriminants)?;
     }
     write!(out, "{last_comments}}}\n\n")
@@ -85,16 +77,10 @@ fn write_derives(out: &mut String, alloc: Global, declaration: &EnumDeclaration)
 
 /// Writes a variant, with its discriminant where the enum has discriminants.
 fn write_variant(out: &mut String, variant: &Variant, has_discriminants: bool) -> Written {
-    let Variant {
-        attributes,
-        name,
-        comments,
-        ..
-    } = variant;
-    write!(out, "{attributes}    {name}")?;
-    if let Some(Discriminant { sign, literal, .. }) = variant.discriminant
-        && has_discriminants
-    {
+    let (before, name, comments) = (&variant.attributes, variant.name, &variant.comments);
+    write!(out, "{before}    {name}")?;
+    let given = variant.discriminant.filter(|_| has_discriminants);
+    if let Some(Discriminant { sign, literal, .. }) = given {
         write!(out, " = {sign}{literal}")?;
     }
     write!(out, ",{comments}\n")
