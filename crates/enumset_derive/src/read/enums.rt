@@ -24,10 +24,10 @@ impl<'a, 'b> Reader<'a, 'b> {
         let name = self.cursor.read_enum_name()?;
         draft.declaration.name = name.text;
         self.source.name(name.text, name.place)?;
-        draft.test_options()?;
         for _ in self.cursor.rest {
             let parts = self.cursor.read_parts(self.alloc)?;
             self.take(draft, parts.as_slice())?;
+            draft.test_options()?;
             let has_attribute = parts.iter().any(|part| matches!(part, Part::Attribute(_)));
             if self.cursor.token.is_mark('}') && !has_attribute {
                 break;
