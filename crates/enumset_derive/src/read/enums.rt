@@ -25,9 +25,9 @@ impl<'a, 'b> Reader<'a, 'b> {
         draft.declaration.name = name.text;
         self.source.name(name.text, name.place)?;
         for _ in self.cursor.rest {
+            draft.test_options()?;
             let parts = self.cursor.read_parts(self.alloc)?;
             self.take(draft, parts.as_slice())?;
-            draft.test_options()?;
             let has_attribute = parts.iter().any(|part| matches!(part, Part::Attribute(_)));
             if self.cursor.token.is_mark('}') && !has_attribute {
                 break;
