@@ -10,9 +10,9 @@ use Rattle.enumset_repr.specs.Number.{is_distinct}
 use Rattle.enumset_repr.specs.Lawful.{one_past_all}
 use Rattle.enumset_derive.specs.Numbers.{next_number, same_number, and_then}
 use Rattle.enumset_derive.specs.Variants.{bits_of, has_taken, named_variant, named_from}
-use Rattle.enumset_derive.specs.declared.plan.number.Number.{Number}
+use Rattle.enumset_derive.specs.declared.plan.declaration.Number.{Number}
 use Rattle.enumset_derive.specs.declared.plan.declaration.Variant.{Variant}
-use Rattle.enumset_derive.specs.declared.plan.options.Options.{Options}
+use Rattle.enumset_derive.specs.declared.plan.declaration.Options.{Options}
 use Rattle.enumset_derive.specs.declared.plan.NamedVariant.{NamedVariant}
 
 pub not_taken : (b : ℕ) (n : Number) (named : List NamedVariant) → find (has_taken b n) named ≡ None → is_in b (bits_of named) ≡ false

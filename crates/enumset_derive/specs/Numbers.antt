@@ -7,16 +7,16 @@
 --     bit_limit, json_limit      one past the greatest bit of what keeps a set;  of what a set is in JSON
 use Rattle.std.specs.Prelude.{ℕ, ◌+◌, ◌-◌, ◌^◌, ◌==◌, Bool, false, nat_lt, nat_le, Option, Some, None, Result, Ok, Err, if◌then◌else◌}
 use Rattle.std.specs.Int.{is_power_of_two, trailing_zeros, w128}
-use Rattle.enumset_derive.specs.declared.plan.options.IntegerType.{IntegerType}
-use Rattle.enumset_derive.specs.declared.plan.options.IntegerType.TheVariants.{U8, U16, U32, U64, U128}
-use Rattle.enumset_derive.specs.declared.plan.number.Number.{Number}
-use Rattle.enumset_derive.specs.declared.plan.number.Number.TheVariants.{Small, PowerOfTwo, Negative}
-use Rattle.enumset_derive.specs.declared.plan.options.Map.{Map}
-use Rattle.enumset_derive.specs.declared.plan.options.Map.TheVariants.{Lsb, Msb, Mask, Compact}
-use Rattle.enumset_derive.specs.declared.plan.options.Representation.{Representation}
-use Rattle.enumset_derive.specs.declared.plan.options.Representation.TheVariants as representation
-use Rattle.enumset_derive.specs.declared.plan.options.Serialized.{Serialized}
-use Rattle.enumset_derive.specs.declared.plan.options.Serialized.TheVariants as serialized
+use Rattle.enumset_derive.specs.declared.plan.declaration.IntegerType.{IntegerType}
+use Rattle.enumset_derive.specs.declared.plan.declaration.IntegerType.TheVariants.{U8, U16, U32, U64, U128}
+use Rattle.enumset_derive.specs.declared.plan.declaration.Number.{Number}
+use Rattle.enumset_derive.specs.declared.plan.declaration.Number.TheVariants.{Small, PowerOfTwo, Negative}
+use Rattle.enumset_derive.specs.declared.plan.declaration.Map.{Map}
+use Rattle.enumset_derive.specs.declared.plan.declaration.Map.TheVariants.{Lsb, Msb, Mask, Compact}
+use Rattle.enumset_derive.specs.declared.plan.declaration.Representation.{Representation}
+use Rattle.enumset_derive.specs.declared.plan.declaration.Representation.TheVariants as representation
+use Rattle.enumset_derive.specs.declared.plan.declaration.Serialized.{Serialized}
+use Rattle.enumset_derive.specs.declared.plan.declaration.Serialized.TheVariants as serialized
 use Rattle.enumset_derive.specs.declared.fault.Reason.{Reason}
 use Rattle.enumset_derive.specs.declared.fault.Reason.TheVariants.{PastGreatest, PastRepresentation, NotAMask}
 

@@ -12,9 +12,9 @@ use Rattle.enumset_repr.specs.Lawful.{IsLawfulNumber, IsLawfulWords}
 use Rattle.enumset_derive.specs.Numbers.{width}
 use Rattle.enumset_derive.specs.Variants.{named_variants, bits_of}
 use Rattle.enumset_derive.specs.declared.plan.declaration.EnumDeclaration.{EnumDeclaration}
-use Rattle.enumset_derive.specs.declared.plan.options.IntegerType.TheVariants.{U8, U16, U32, U64, U128}
-use Rattle.enumset_derive.specs.declared.plan.options.Representation.{Representation}
-use Rattle.enumset_derive.specs.declared.plan.options.Representation.TheVariants.{Integer, Words}
+use Rattle.enumset_derive.specs.declared.plan.declaration.IntegerType.TheVariants.{U8, U16, U32, U64, U128}
+use Rattle.enumset_derive.specs.declared.plan.declaration.Representation.{Representation}
+use Rattle.enumset_derive.specs.declared.plan.declaration.Representation.TheVariants.{Integer, Words}
 use Rattle.enumset_derive.specs.declared.plan.Plan.{Plan}
 use Rattle.enumset_derive.specs.declared.plan.Store.{Store}
 use Rattle.enumset_derive.specs.declared.plan.Store.TheVariants as store

@@ -1,63 +1,74 @@
-//! Why there is no module.
+//! Faults and their places.
 
 ghost use Rattle.std.specs.Prelude.{◌≡◌};
 ghost use Rattle.enumset_derive.specs.Variants.{fault_at};
 ghost use Rattle.enumset_derive.specs.declared.fault.DeriveError.TheVariants as kind;
 
-use crate::place::Place;
 use std::alloc::{AllocError, AllocFailed};
 use std::fmt;
+use thiserror::Error;
 
-/// Why the program wrote no module, or not all of it.
-#[derive(Drop)]
+/// Why the program wrote no module, or not all of it. Its text is what standard error says.
+#[derive(Debug, Drop, Error)]
 pub enum DeriveError {
     /// The source has a fault.
+    #[error("{0}")]
     Fault(Fault),
-    /// Memory ran out.
+    #[error("out of memory")]
     OutOfMemory,
-    /// The arguments are wrong, as this says.
+    /// The arguments are wrong.
+    #[error("{0}")]
     Arguments(&'static str),
-    /// Standard input or standard output failed, as this says.
+    /// Standard input or standard output failed.
+    #[error("{0}")]
     Stream(&'static str),
-    /// The file of this name could not be written, as this says.
+    /// The file of this name could not be written.
+    #[error("{0}: {1}")]
     File(String, &'static str),
 }
 
 /// A fault of a source text, and where it is.
-#[derive(Clone, Copy)]
+#[derive(Clone, Copy, Debug, Error)]
+#[error("{place}: {reason}")]
 pub struct Fault {
     pub place: Place,
     pub reason: Reason,
 }
 
-/// What is wrong. What `Display` writes of each says more.
-#[derive(Clone, Copy)]
+/// What is wrong.
+#[derive(Clone, Copy, Debug, Error)]
 pub enum Reason {
-    /// A fault of reading, in words.
+    /// A fault of reading.
+    #[error("{0}")]
     Text(&'static str),
-    /// The option was given before, there.
+    #[error("this option was given at {0}")]
     OptionTwice(Place),
-    /// The variant has the name in JSON of one before, there.
+    #[error("this name in JSON was given at {0}")]
     JsonNameTwice(Place),
     // of planning
+    #[error("`map = \"msb\"` needs `repr` to be an integer")]
     IntegerMissing,
-    /// The enum has more than 256 variants. The place is that of variant 257.
+    /// The place is that of variant 257.
+    #[error("an enum may have at most 256 variants")]
     TooManyVariants,
-    /// The variant has the name of one before, there.
+    #[error("this name was given at {0}")]
     NameTwice(Place),
+    #[error("a mask must be a power of two")]
     NotAMask,
-    /// The discriminant, or the bit of which it is the mask, is not from 0 to 4294967231.
+    /// The bit is the discriminant, or the bit of which it is the mask.
+    #[error("a bit must be from 0 to 4294967231")]
     PastGreatest,
+    #[error("the implied discriminant is past 2^128 - 1")]
     ImpliedTooLarge,
-    /// The bit is not below the width of the integer that `repr` names.
+    #[error("`repr` is too small: bit {bit}, width {width}")]
     PastRepresentation { bit: u32, width: u32 },
-    /// The bit is not below the width of the integer that `serialize_repr` names.
+    #[error("`serialize_repr` is too small: bit {bit}, width {width}")]
     PastSerialized { bit: u32, width: u32 },
-    /// The bit is past the words that a module takes, 1,024.
+    #[error("bit {0} is past 1024 words; `map = \"compact\"` takes the places as bits")]
     PastWords(u32),
-    /// The variant has the bit of one before, there.
+    #[error("this bit was taken at {0}")]
     BitTwice(Place),
-    /// The variant has the discriminant of one before, there.
+    #[error("this discriminant was taken at {0}")]
     DiscriminantTwice(Place),
 }
 
@@ -71,39 +82,32 @@ impl Reason {
     }
 }
 
-impl fmt::Display for Fault {
+/// A place in a text: its line, and the character in that line, both counted from 1.
+///
+/// A line feed ends a line. A character is a Unicode scalar value, so a tab is one.
+#[derive(Clone, Copy, Debug)]
+pub struct Place {
+    pub line: u64,
+    pub column: u64,
+}
+
+impl fmt::Display for Place {
     fn fmt<W: fmt::Write>(&self, f: &mut fmt::Formatter<W>) -> fmt::Result {
-        write!(f, "{}: {}", self.place, self.reason)
+        write!(f, "line {}, column {}", self.line, self.column)
     }
 }
 
-impl fmt::Display for Reason {
-    fn fmt<W: fmt::Write>(&self, f: &mut fmt::Formatter<W>) -> fmt::Result {
-        match *self {
-            Reason::Text(text) => f.write_str(text),
-            Reason::OptionTwice(first) => write!(f, "this option was given at {first}"),
-            Reason::JsonNameTwice(first) => write!(f, "this name in JSON was given at {first}"),
-            Reason::IntegerMissing => write!(f, "`map = \"msb\"` needs `repr` to be an integer"),
-            Reason::TooManyVariants => write!(f, "an enum may have at most 256 variants"),
-            Reason::NameTwice(first) => write!(f, "this name was given at {first}"),
-            Reason::NotAMask => write!(f, "a mask must be a power of two"),
-            Reason::PastGreatest => write!(f, "a bit must be from 0 to 4294967231"),
-            Reason::ImpliedTooLarge => write!(f, "the implied discriminant is past 2^128 - 1"),
-            Reason::PastRepresentation { bit, width } => {
-                write!(f, "`repr` is too small: bit {bit}, width {width}")
-            }
-            Reason::PastSerialized { bit, width } => {
-                write!(f, "`serialize_repr` is too small: bit {bit}, width {width}")
-            }
-            Reason::PastWords(bit) => write!(
-                f,
-                "bit {bit} is past 1024 words; `map = \"compact\"` takes the places as bits"
-            ),
-            Reason::BitTwice(first) => write!(f, "this bit was taken at {first}"),
-            Reason::DiscriminantTwice(first) => {
-                write!(f, "this discriminant was taken at {first}")
-            }
-        }
+impl Place {
+    /// The beginning of a text.
+    pub const BEGIN: Place = Place { line: 1, column: 1 };
+
+    /// The place after a character that is there.
+    pub fn after(self, character: char) -> Place {
+        let (line, column) = match character {
+            '\n' => (self.line.saturating_add(1), 1),
+            _ => (self.line, self.column.saturating_add(1)),
+        };
+        Place { line, column }
     }
 }
 
@@ -114,18 +118,6 @@ impl DeriveError {
             DeriveError::Arguments(_) => 2,
             DeriveError::OutOfMemory => 3,
             _ => 1,
-        }
-    }
-}
-
-/// What the program writes on standard error, without the line feed at its end.
-impl fmt::Display for DeriveError {
-    fn fmt<W: fmt::Write>(&self, f: &mut fmt::Formatter<W>) -> fmt::Result {
-        match self {
-            DeriveError::Fault(fault) => write!(f, "{fault}"),
-            DeriveError::OutOfMemory => f.write_str("out of memory"),
-            DeriveError::Arguments(text) | DeriveError::Stream(text) => f.write_str(text),
-            DeriveError::File(file, why) => write!(f, "{file}: {why}"),
         }
     }
 }

@@ -5,9 +5,7 @@
 //! With `-o FILE` after them the module goes into that file, once the source had no fault.
 #![tactic(auto)]
 
-mod arguments;
 mod fault;
-mod place;
 mod plan;
 mod program;
 mod read;

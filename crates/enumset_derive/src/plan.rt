@@ -6,16 +6,14 @@ ghost use Rattle.enumset_derive.specs.Plans.{IsPlanned, IsLawfulPlan, IsStoredAs
 
 mod constants;
 mod declaration;
-mod number;
-mod options;
 mod variants;
 
-use crate::fault::{DeriveError, Reason};
-use crate::place::Place;
+use crate::fault::{DeriveError, Place, Reason};
 use constants::{store_of, width_of};
-pub use declaration::{Discriminant, EnumDeclaration, Variant};
-pub use number::Number;
-pub use options::{IntegerType, Map, Options, Representation, Serialized};
+pub use declaration::{
+    Discriminant, EnumDeclaration, IntegerType, Map, Number, Options, Representation, Serialized,
+    Variant,
+};
 use std::alloc::Global;
 use variants::name_variants;
 

@@ -1,17 +1,34 @@
 //! What the program does: its arguments, its input and its output.
 
-use crate::arguments::{Request, arguments, request_of};
-use crate::fault::{DeriveError, Reason};
-use crate::place::Place;
+use crate::fault::{DeriveError, Place, Reason};
 use crate::read::read_source;
 use crate::source::Source;
-use crate::tokens::tokens_of;
+use crate::tokens::{is_digit, tokens_of};
 use crate::write::module_text;
 use std::alloc::Global;
-use std::env::Env;
+use std::env::{self, Env};
 use std::fs;
 use std::io::{self, ErrorKind, Input, Print, Read, Write};
 use std::rt::Files;
+
+/// The longest name has so many bytes.
+const NAME_LIMIT: usize = 256;
+
+const NOT_A_NAME: DeriveError = DeriveError::Arguments("an argument is no name");
+
+const WRONG: DeriveError = DeriveError::Arguments(
+    "two arguments: the names of the crate and of the module; and for a file in place of standard output, -o FILE",
+);
+
+/// What the program is to write, and where.
+#[derive(Drop)]
+pub struct Request<'a> {
+    pub crate_name: &'a str,
+    /// The names of the modules down to it, with dots between them.
+    pub module: String,
+    /// The file that it goes into, if not standard output.
+    pub file: Option<&'a str>,
+}
 
 /// Tests the arguments, reads the source and writes the module.
 pub fn answer<R: Env + Files + Input + Print + Eprint + AllocGlobal>(
@@ -21,6 +38,45 @@ pub fn answer<R: Env + Files + Input + Print + Eprint + AllocGlobal>(
     let request = request_of(rt.alloc(), &arguments)?;
     let module = derive(rt, &request)?;
     write_module(rt, module.as_str(), request.file)
+}
+
+/// The arguments, with the name of the program.
+fn arguments<R: Env + AllocGlobal>(rt: &R) -> Result<Vec<String>, DeriveError> {
+    match env::args(rt) {
+        Ok(arguments) => Ok(arguments.collect(rt.alloc())?),
+        Err(error) if error.kind() == ErrorKind::OutOfMemory => Err(DeriveError::OutOfMemory),
+        Err(_) => Err(NOT_A_NAME),
+    }
+}
+
+/// What the arguments ask for.
+fn request_of(alloc: Global, arguments: &[String]) -> Result<Request<'_>, DeriveError> {
+    let crate_name = arguments.get(1).ok_or(WRONG)?.as_str();
+    let path = arguments.get(2).ok_or(WRONG)?.as_str();
+    if !is_name(crate_name) || !path.split("::").all(is_name) {
+        return Err(NOT_A_NAME);
+    }
+    let module = path.replace(alloc, "::", ".")?;
+    let file = match arguments {
+        [_, _, _] => None,
+        [_, _, _, flag, file] if flag.as_str() == "-o" => Some(file.as_str()),
+        _ => return Err(WRONG),
+    };
+    Ok(Request {
+        crate_name,
+        module,
+        file,
+    })
+}
+
+/// Whether a text is a name: a small letter or `_`, and then small letters, digits and `_`.
+fn is_name(name: &str) -> bool {
+    !name.is_empty()
+        && name.len() <= NAME_LIMIT
+        && !name.starts_with(is_digit)
+        && name
+            .chars()
+            .all(|letter| matches!(letter, 'a'..='z' | '0'..='9' | '_'))
 }
 
 /// The module that the input stands for.

@@ -7,16 +7,15 @@ mod draft;
 mod enums;
 mod imports;
 mod items;
-mod literals;
 mod names;
 mod options;
 
-use crate::fault::DeriveError;
-use crate::source::{Form, Source};
+use crate::fault::{DeriveError, Place};
+use crate::source::Source;
 use crate::tokens::{Kind, Token};
-use attributes::{Attribute, Bearer, NO_MEANING, renamed_derive};
+use attributes::{Bearer, renamed_derive};
 use cursor::{Cursor, Done};
-use std::alloc::{AllocError, Global};
+use std::alloc::Global;
 use std::collections::BTreeSet;
 
 /// What a source text has of which these are the tokens, or the first fault, of reading or of planning.
@@ -25,33 +24,34 @@ pub fn read_source<'a>(
     text: &'a str,
     tokens: &[Token<'a>],
 ) -> Result<Source<'a>, DeriveError> {
+    let [token, rest @ ..] = tokens else {
+        return Ok(Source::new(alloc));
+    };
     let mut reader = Reader {
         alloc,
+        cursor: Cursor { text, token, rest },
         source: Source::new(alloc),
         derive: renamed_derive(tokens),
         is_in_head: true,
         words: BTreeSet::new(alloc),
         has_others: false,
     };
-    if let [token, rest @ ..] = tokens {
-        let mut cursor = Cursor { text, token, rest };
-        for _ in rest {
-            reader.read_token(&mut cursor)?;
-            cursor.advance()?;
-        }
+    for _ in rest {
+        reader.read_token()?;
+        reader.cursor.advance()?;
     }
     reader.settle_imports()?;
     let Reader { mut source, .. } = reader;
-    source
-        .notes
-        .sort_by_key(|(place, _)| (place.line, place.column))?;
+    let notes = &mut source.notes;
+    notes.sort_by_key(|(place, _)| (place.line, place.column))?;
     Ok(source)
 }
 
 /// A source, and what is known of it while it is read.
 #[derive(Drop)]
-struct Reader<'a> {
+struct Reader<'a, 'b> {
     alloc: Global,
+    cursor: Cursor<'a, 'b>,
     source: Source<'a>,
     /// The other name under which it imports `EnumSetType`, if there is one.
     derive: &'a str,
@@ -63,53 +63,42 @@ struct Reader<'a> {
     has_others: bool,
 }
 
-impl<'a> Reader<'a> {
+impl<'a, 'b> Reader<'a, 'b> {
     /// Reads an item, or a token between items. At the end of the text there is nothing to read.
-    fn read_token<'b>(&mut self, cursor: &mut Cursor<'a, 'b>) -> Done {
-        match cursor.token.kind {
-            Kind::Space => self.source.add_space(cursor.token.text),
-            Kind::Comment => self.source.push_text(cursor.token.text)?,
-            Kind::InnerDoc => {
-                self.source.push_text(cursor.token.text)?;
-                self.end_head();
-            }
-            Kind::Mark('#') if cursor.is_before('!') => {
-                self.read_inner_attribute(cursor)?;
-                self.end_head();
-            }
+    fn read_token(&mut self) -> Done {
+        let token = self.cursor.token;
+        let is_attribute = token.is_mark('#') && self.cursor.is_before('!');
+        match token.kind {
             Kind::End => {}
+            Kind::Space => self.source.add_space(token.text),
+            Kind::Comment | Kind::InnerDoc => self.source.push_text(token.text)?,
+            _ if is_attribute => self.read_inner_attribute()?,
             _ => {
                 self.is_in_head = false;
-                self.read_item(cursor)?;
+                self.read_item()?;
             }
         }
-        Ok(())
-    }
-
-    /// The head of the text ends here at the earliest, if there was no item.
-    fn end_head(&mut self) {
-        if self.is_in_head {
+        if self.is_in_head && (is_attribute || matches!(token.kind, Kind::InnerDoc)) {
             self.source.head = self.source.items.len();
         }
-    }
-
-    /// Leaves an attribute out.
-    fn leave_out(&mut self, attribute: &Attribute<'a, '_>) -> Result<(), AllocError> {
-        let Attribute { place, text, .. } = *attribute;
-        self.source.leave_out(place, text, NO_MEANING)
+        Ok(())
     }
 
     /// Reads an attribute of the text.
-    fn read_inner_attribute<'b>(&mut self, cursor: &mut Cursor<'a, 'b>) -> Done {
-        let begin = cursor.token;
-        cursor.advance()?;
-        let attribute = cursor.read_attribute()?;
-        let text = cursor.text_since(begin.begin);
+    fn read_inner_attribute(&mut self) -> Done {
+        let begin = self.cursor.token;
+        self.cursor.advance()?;
+        let attribute = self.cursor.read_attribute()?;
+        let text = self.cursor.text_since(begin.begin);
         if attribute.has_meaning(Bearer::Text)? {
-            self.source.push_text(text)?;
+            Ok(self.source.push_text(text)?)
         } else {
-            self.source.leave_out(begin.place, text, NO_MEANING)?;
+            self.leave_out(begin.place, text)
         }
-        Ok(())
+    }
+
+    /// Leaves out what means nothing here.
+    fn leave_out(&mut self, place: Place, text: &str) -> Done {
+        Ok(self.source.leave_out(place, text, "has no meaning here")?)
     }
 }

@@ -1,6 +1,6 @@
 //! What a source text has.
 
-use crate::place::Place;
+use crate::fault::Place;
 use crate::plan::{EnumDeclaration, Plan};
 use std::alloc::{AllocError, Global};
 use std::mem;
@@ -125,8 +125,7 @@ impl<'a> Source<'a> {
             1 => "\n",
             _ => "\n\n",
         };
-        self.items.push(Item { gap, form })?;
-        Ok(())
+        Ok(self.items.push(Item { gap, form })?)
     }
 
     /// Adds an item whose gap is known. Imports on lines of their own are in the order that `rt fmt` gives them.
@@ -145,16 +144,13 @@ impl<'a> Source<'a> {
         if let Some(next) = self.items.get_mut(at) {
             mem::swap(&mut item.gap, &mut next.gap);
         }
-        self.items.insert(at.min(self.items.len()), item)?;
-        Ok(())
+        Ok(self.items.insert(at.min(self.items.len()), item)?)
     }
 
     /// Whether both items are imports, and the first comes before the second one.
     fn is_import_before(&self, first: &Item, second: &Item) -> bool {
-        match (self.order_of(&first.form), self.order_of(&second.form)) {
-            (Some(first), Some(second)) => first < second,
-            _ => false,
-        }
+        let orders = self.order_of(&first.form).zip(self.order_of(&second.form));
+        orders.is_some_and(|(first, second)| first < second)
     }
 
     /// By what `rt fmt` orders imports: those of the crate itself come first.
@@ -204,13 +200,12 @@ impl<'a> Source<'a> {
     ) -> Result<(), AllocError> {
         self.gap.is_after_left_out = true;
         let note = format!(in self.alloc; "left out: {text} {why}")?;
-        self.notes.push((place, note))?;
-        Ok(())
+        Ok(self.notes.push((place, note))?)
     }
 
-    /// Adds a name.
-    pub fn name(&mut self, text: &'a str, place: Place, root: &'a str) -> Result<(), AllocError> {
-        self.names.push(Name { text, place, root })?;
-        Ok(())
+    /// Adds the name of an item.
+    pub fn name(&mut self, text: &'a str, place: Place) -> Result<(), AllocError> {
+        let root = "";
+        Ok(self.names.push(Name { text, place, root })?)
     }
 }

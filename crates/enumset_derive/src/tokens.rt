@@ -1,11 +1,8 @@
 //! The tokens of a source text.
 
-mod first;
 mod lexer;
-mod quotes;
 
-use crate::fault::{DeriveError, Reason};
-use crate::place::Place;
+use crate::fault::{DeriveError, Place, Reason};
 pub use lexer::tokens_of;
 
 /// What a token is.
@@ -101,27 +98,12 @@ pub fn is_among(words: &str, word: &str) -> bool {
     words.split(' ').any(|known| known == word)
 }
 
+/// Whether this name is the last in a path.
+pub fn names_last(path: &str, name: &str) -> bool {
+    let front = path.strip_suffix(name);
+    front.is_some_and(|front| front.is_empty() || front.ends_with("::"))
+}
+
 pub fn is_digit(character: char) -> bool {
     character.is_ascii_digit()
-}
-
-/// What stands in a text before the rest of it.
-pub fn before<'a>(text: &'a str, rest: &str) -> &'a str {
-    text.get(..text.len().saturating_sub(rest.len()))
-        .unwrap_or("")
-}
-
-/// The text after the ASCII character at an index.
-fn after(text: &str, at: usize) -> &str {
-    text.get(at.saturating_add(1)..).unwrap_or("")
-}
-
-/// Whether a character is a space, a tab or the end of a line.
-fn is_space(character: char) -> bool {
-    matches!(character, ' ' | '\t' | '\n')
-}
-
-/// Whether a character may stand in a word: a letter, a digit, `_`, or a character past ASCII.
-fn is_word(character: char) -> bool {
-    character == '_' || character.is_ascii_alphanumeric() || !character.is_ascii()
 }

@@ -9,8 +9,8 @@ mod names;
 mod operators;
 mod stores;
 
-use crate::arguments::Request;
 use crate::fault::DeriveError;
+use crate::program::Request;
 use crate::source::{Element, Form, Source};
 use element_type::write_element_type;
 use enums::write_enum;
@@ -80,12 +80,7 @@ pub fn module_text(
 
 /// Writes space, unless it is there.
 fn write_gap(text: &mut String, gap: &str) -> Written {
-    let written = if text.is_empty() || text.ends_with("\n\n") {
-        2
-    } else if text.ends_with('\n') {
-        1
-    } else {
-        0
-    };
+    let lines = text.len().saturating_sub(text.trim_end_matches('\n').len());
+    let written = if text.is_empty() { 2 } else { lines };
     text.push_str(gap.get(written..).unwrap_or(""))
 }

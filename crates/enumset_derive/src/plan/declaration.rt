@@ -1,17 +1,17 @@
-//! Declarations of enums, as a source text has them.
+//! What the derive of an enum is asked for: its variants with their discriminants, and its options.
 
-use crate::place::Place;
-use crate::plan::number::Number;
-use crate::plan::options::Options;
+ghost use Rattle.std.specs.Prelude.{◌≡◌};
+ghost use Rattle.enumset_derive.specs.Numbers.{next_number, width};
+
+use crate::fault::Place;
 
 /// An enum that is to be an element type.
 #[derive(Drop)]
 pub struct EnumDeclaration<'a> {
-    /// The comments and the attributes before its first derive, each as it is written, in their order.
-    pub attributes: Vec<&'a str>,
-    /// The comments and the attributes after that, each as it is written, in their order. The derives and the options
-    /// are not among them.
-    pub later_attributes: Vec<&'a str>,
+    /// The comments and the attributes before its first derive, each as it is written, on a line of its own.
+    pub attributes: String,
+    /// The comments and the attributes after that. The derives and the options are not among them.
+    pub later_attributes: String,
     /// What is derived beside `EnumSetType`, in its order, each as it is written.
     pub derives: Vec<String>,
     /// `pub` and what stands in brackets after it, as `(crate)`; empty if they are not there.
@@ -19,8 +19,8 @@ pub struct EnumDeclaration<'a> {
     pub name: &'a str,
     /// In the order of the declaration.
     pub variants: Vec<Variant<'a>>,
-    /// The comments after the last variant, each as it is written.
-    pub last_comments: Vec<&'a str>,
+    /// The comments after the last variant, a line each.
+    pub last_comments: String,
     pub options: Options<'a>,
 }
 
@@ -29,13 +29,13 @@ pub struct EnumDeclaration<'a> {
 pub struct Variant<'a> {
     /// Where the name is.
     pub place: Place,
-    /// The comments and the attributes before it, each as it is written, in their order.
-    pub attributes: Vec<&'a str>,
+    /// The comments and the attributes before it, a line each.
+    pub attributes: String,
     pub name: &'a str,
     /// The discriminant, if it is given.
     pub discriminant: Option<Discriminant<'a>>,
-    /// The comments among its tokens, and after it on its line.
-    pub comments: Vec<&'a str>,
+    /// The comments among its tokens, and after it on its line, each after a space.
+    pub comments: String,
 }
 
 /// A discriminant that is given.
@@ -48,4 +48,117 @@ pub struct Discriminant<'a> {
     /// As it is written, as `0x1F`, without the type after it.
     pub literal: &'a str,
     pub number: Number,
+}
+
+/// The number of a discriminant. Each number has one form: zero is `Small(0)`.
+///
+/// A literal past 2^128 - 1 names a bit only if it is the mask of the bit, a power of two. So no other number past
+/// 2^128 - 1 is kept.
+#[derive(Clone, Copy, PartialEq, Eq)]
+pub enum Number {
+    /// A number from 0 to 2^128 - 1.
+    Small(u128),
+    /// Two to this power, which is 128 or more.
+    PowerOfTwo(u32),
+    /// The negative of this number, which is 1 or more.
+    Negative(u128),
+}
+
+impl Number {
+    /// One more than the number, or `None` if that is past 2^128.
+    pub fn next(self) -> Option<Number>
+        ensures { result ≡ next_number self }
+    {
+        match self {
+            Number::Small(number) => match number.checked_add(1) {
+                Some(next) => Some(Number::Small(next)),
+                None => Some(Number::PowerOfTwo(128)),
+            },
+            Number::PowerOfTwo(_) => None,
+            Number::Negative(number) if number <= 1 => Some(Number::Small(0)),
+            Number::Negative(number) => Some(Number::Negative(number - 1)),
+        }
+    }
+}
+
+/// The options of an element type. By default none is given.
+#[derive(Clone, Copy, Default)]
+pub struct Options<'a> {
+    /// Which bit a discriminant names, by default `Lsb`: `map`, if it is given, and where its value is.
+    pub map: Option<(Map, Place)>,
+    /// What keeps a set: `repr`, if it is given.
+    pub representation: Option<Representation>,
+    /// What a set is in JSON: `serialize_repr`, if it is given.
+    pub serialized: Option<Serialized>,
+    /// Whether a set in JSON with an unknown bit is refused: `serialize_deny_unknown`.
+    pub denies_unknown: bool,
+    /// Whether the operators on elements are left out: `no_ops`.
+    pub leaves_out_operators: bool,
+    /// Whether the author writes `Copy`, `Clone`, `PartialEq` and `Eq`: `no_super_impls`.
+    pub leaves_out_supertraits: bool,
+    /// Whether `Display` by the variants' names is written: `display`.
+    pub has_display: bool,
+    /// The name of the crate `enumset` in the code that is written: `crate_name`, if it is given.
+    pub crate_name: Option<&'a str>,
+}
+
+impl Options<'_> {
+    /// Whether sets are written in JSON by the names of their elements.
+    pub fn are_named(&self) -> bool {
+        matches!(self.serialized, Some(Serialized::List | Serialized::Map))
+    }
+}
+
+/// Which bit a discriminant names.
+#[derive(Clone, Copy)]
+pub enum Map {
+    /// Its own number, counted from the least significant bit.
+    Lsb,
+    /// Its own number, counted from the most significant bit of the representation.
+    Msb,
+    /// The bit of which it is the mask.
+    Mask,
+    /// The variant's place in the declaration, whatever the discriminant.
+    Compact,
+}
+
+/// What keeps a set.
+#[derive(Clone, Copy)]
+pub enum Representation {
+    /// One integer.
+    Integer(IntegerType),
+    /// Words of 64 bits: `array`.
+    Words,
+}
+
+/// What a set is in JSON.
+#[derive(Clone, Copy)]
+pub enum Serialized {
+    /// A number of this type.
+    Integer(IntegerType),
+    /// A list of words: `array`.
+    Words,
+    /// A list of the elements' names: `list`.
+    List,
+    /// A map from the elements' names to whether they are members: `map`.
+    Map,
+}
+
+/// An unsigned integer type.
+#[derive(Clone, Copy)]
+pub enum IntegerType {
+    U8 = 8,
+    U16 = 16,
+    U32 = 32,
+    U64 = 64,
+    U128 = 128,
+}
+
+impl IntegerType {
+    /// How many bits the type has.
+    pub fn width(self) -> u32
+        ensures { result ≡ width self }
+    {
+        self as u32
+    }
 }

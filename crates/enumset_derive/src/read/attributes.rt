@@ -1,12 +1,10 @@
 //! Comments and attributes, and which attributes have a meaning in Rattle.
 
 use super::cursor::Cursor;
-use crate::fault::DeriveError;
-use crate::place::Place;
+use crate::fault::{DeriveError, Place};
 use crate::tokens::{Kind, Token, UNCLOSED_BRACKET, is_among};
 use std::alloc::Global;
-
-pub(super) const NO_MEANING: &str = "has no meaning here";
+use std::mem;
 
 const CONFIGURATION: &str =
     "`cfg(test)` is the only configuration here: remove the attribute, or what is under it too";
@@ -72,17 +70,13 @@ impl<'a, 'b> Attribute<'a, 'b> {
         let is_item = matches!(bearer, Bearer::Item);
         let is_type = is_item || matches!(bearer, Bearer::Enum);
         Ok(match name {
-            "doc" => self.is_written(&["(", "hidden", ")"]) || self.is_text(),
+            "doc" => self.is_written("( hidden )") || self.is_text(),
             "deprecated" | "non_exhaustive" => !matches!(bearer, Bearer::Text),
-            "repr" => {
-                let is_kept = self.is_written(&["(", "C", ")"]);
-                is_item && (is_kept || self.is_written(&["(", "transparent", ")"]))
-            }
+            "repr" => is_item && (self.is_written("( C )") || self.is_written("( transparent )")),
             "cfg" => {
                 let is_variant = matches!(bearer, Bearer::Variant);
                 self.name.want(!is_variant, ON_VARIANT)?;
-                let is_test = self.is_written(&["(", "test", ")"]);
-                self.name.want(is_test, CONFIGURATION)?;
+                self.name.want(self.is_written("( test )"), CONFIGURATION)?;
                 true
             }
             "cfg_attr" => {
@@ -97,21 +91,15 @@ impl<'a, 'b> Attribute<'a, 'b> {
     }
 
     /// Whether these words come after its name, and no others.
-    fn is_written(&self, words: &[&str]) -> bool {
-        let mut tokens = self.tokens.iter().filter(|token| !token.is_blank());
-        for word in words {
-            match tokens.next() {
-                Some(token) if token.is(word) => {}
-                _ => return false,
-            }
-        }
-        tokens.next().is_none()
+    fn is_written(&self, words: &str) -> bool {
+        let tokens = self.tokens.iter().filter(|token| !token.is_blank());
+        tokens.map(|token| token.text).eq(words.split(' '))
     }
 
     /// Whether `=` and a text in quotes come after its name, and nothing else.
     fn is_text(&self) -> bool {
         let mut tokens = self.tokens.iter().filter(|token| !token.is_blank());
-        let is_equal = matches!(tokens.next(), Some(token) if token.is_mark('='));
+        let is_equal = tokens.next().is_some_and(|token| token.is_mark('='));
         let is_quoted = matches!(tokens.next(), Some(token) if matches!(token.kind, Kind::Quoted));
         is_equal && is_quoted && tokens.next().is_none()
     }
@@ -119,13 +107,8 @@ impl<'a, 'b> Attribute<'a, 'b> {
     /// Whether this name stands in it before a bracket.
     pub fn calls(&self, name: &str) -> bool {
         let mut was_name = false;
-        for token in self.tokens {
-            if was_name && token.is_mark('(') {
-                return true;
-            }
-            was_name = token.is(name) || (was_name && token.is_blank());
-        }
-        false
+        let mut tokens = self.tokens.iter().filter(|token| !token.is_blank());
+        tokens.any(|token| mem::replace(&mut was_name, token.is(name)) && token.is_mark('('))
     }
 
     /// The place of the bracket before its arguments.

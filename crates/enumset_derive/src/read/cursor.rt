@@ -28,11 +28,6 @@ impl<'a, 'b> Cursor<'a, 'b> {
         }
     }
 
-    /// A value that the token gives, or a fault at it.
-    pub fn known<T: Drop>(&self, value: Option<T>, wanted: &'static str) -> Result<T, DeriveError> {
-        value.ok_or(self.token.fault(wanted))
-    }
-
     /// Goes on to the next token, if there is one. It fails at one from which on nothing can be read.
     pub fn advance(&mut self) -> Done {
         if let [next, rest @ ..] = self.rest {
@@ -41,14 +36,6 @@ impl<'a, 'b> Cursor<'a, 'b> {
             if let Kind::Fault(reason) = next.kind {
                 return Err(next.fault(reason));
             }
-        }
-        Ok(())
-    }
-
-    /// Goes on past spaces, of which the lexer makes one token.
-    pub fn skip_space(&mut self) -> Done {
-        if matches!(self.token.kind, Kind::Space) {
-            self.advance()?;
         }
         Ok(())
     }

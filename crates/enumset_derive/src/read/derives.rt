@@ -1,12 +1,11 @@
 //! What `#[derive(..)]` derives.
 
 use super::Reader;
-use super::attributes::{Attribute, NO_MEANING};
+use super::attributes::Attribute;
 use super::cursor::Cursor;
-use crate::fault::DeriveError;
-use crate::place::Place;
+use crate::fault::{DeriveError, Place};
 use crate::tokens::is_among;
-use std::alloc::{AllocError, Global};
+use std::alloc::Global;
 
 /// What std, `serde` and `thiserror` derive.
 const KNOWN: &str = "Clone Copy PartialEq Eq PartialOrd Ord Default Hash Debug Drop \
@@ -18,7 +17,7 @@ const ROOTS: &str = "std core fmt cmp hash clone marker default serde thiserror"
 /// A path that is derived.
 #[derive(Drop)]
 pub(super) struct Derive<'a> {
-    pub place: Place,
+    place: Place,
     /// The names in it.
     names: Vec<&'a str>,
 }
@@ -73,27 +72,25 @@ impl<'a> Cursor<'a, '_> {
     }
 }
 
-impl<'a> Reader<'a> {
+impl<'a> Reader<'a, '_> {
     /// The paths that are kept of some that are derived. The others are left out, but for `EnumSetType`.
-    pub(super) fn kept_of(&mut self, derives: Vec<Derive<'a>>) -> Result<Vec<String>, AllocError> {
+    pub(super) fn kept_of(&mut self, derives: Vec<Derive<'a>>) -> Result<Vec<String>, DeriveError> {
         let mut kept = Vec::new(self.alloc);
         for derive in derives {
             let path = derive.names.join(self.alloc, "::")?;
-            let is_ours = derive.names.last() == Some(&"EnumSetType")
-                || path.as_str() == self.derive;
-            if is_ours {
+            let last = derive.names.last().copied();
+            if last == Some("EnumSetType") || last == Some(self.derive) {
                 continue;
             }
-            if derive.is_known() {
-                for name in derive.names {
-                    self.words.insert(name)?;
-                }
-                kept.push(path)?;
-            } else {
+            if !derive.is_known() {
                 let text = format!(in self.alloc; "#[derive({path})]")?;
-                self.source
-                    .leave_out(derive.place, text.as_str(), NO_MEANING)?;
+                self.leave_out(derive.place, text.as_str())?;
+                continue;
             }
+            for name in derive.names {
+                self.words.insert(name)?;
+            }
+            kept.push(path)?;
         }
         Ok(kept)
     }

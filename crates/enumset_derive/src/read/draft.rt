@@ -2,28 +2,23 @@
 
 use super::Reader;
 use super::attributes::{Attribute, Bearer, Part};
-use super::cursor::{Cursor, Done};
+use super::cursor::Done;
 use super::names::Serde;
-use crate::fault::Reason;
 use crate::plan::{EnumDeclaration, Options, plan_enum};
 use crate::source::{Element, Form};
-use crate::tokens::Token;
+use crate::tokens::{Token, names_last};
 use std::alloc::Global;
 use std::mem;
 
-const NO_FORM: &str = "`serialize_deny_unknown` needs `serialize_repr`";
-
 const SERDE_ALONE: &str = "here nothing comes of the names: write `#[serde(..)]` alone";
-
-const NO_VARIANTS: &str = "`rt ci` refuses what this enum without variants has: nobody can call it";
 
 /// What is known of an enum that is to be an element type.
 #[derive(Drop)]
 pub(super) struct Draft<'a, 'b> {
     alloc: Global,
     pub declaration: EnumDeclaration<'a>,
-    /// The comments and the attributes that were read last.
-    pub pending: Vec<&'a str>,
+    /// The comments and the attributes that were read last, a line each.
+    pending: String,
     has_derive: bool,
     is_test: bool,
     /// The names of the options that are given, in their order.
@@ -36,19 +31,19 @@ pub(super) struct Draft<'a, 'b> {
 impl<'a, 'b> Draft<'a, 'b> {
     fn new(alloc: Global) -> Draft<'a, 'b> {
         let declaration = EnumDeclaration {
-            attributes: Vec::new(alloc),
-            later_attributes: Vec::new(alloc),
+            attributes: String::new(alloc),
+            later_attributes: String::new(alloc),
             derives: Vec::new(alloc),
             visibility: ("", ""),
             name: "",
             variants: Vec::new(alloc),
-            last_comments: Vec::new(alloc),
+            last_comments: String::new(alloc),
             options: Options::default(),
         };
         Draft {
             alloc,
             declaration,
-            pending: Vec::new(alloc),
+            pending: String::new(alloc),
             has_derive: false,
             is_test: false,
             given: Vec::new(alloc),
@@ -57,15 +52,26 @@ impl<'a, 'b> Draft<'a, 'b> {
         }
     }
 
+    /// Whether what is read stands before the enum, whose name is not known yet.
+    fn is_enum(&self) -> bool {
+        self.declaration.name.is_empty()
+    }
+
+    /// Adds a comment or an attribute.
+    fn push(&mut self, text: &str) -> Done {
+        let start = if self.is_enum() { "" } else { "    " };
+        Ok(write!(self.pending, "{start}{text}\n")?)
+    }
+
     /// Takes the comments and attributes that were read last.
-    pub fn comments(&mut self) -> Vec<&'a str> {
-        mem::replace(&mut self.pending, Vec::new(self.alloc))
+    pub fn comments(&mut self) -> String {
+        mem::replace(&mut self.pending, String::new(self.alloc))
     }
 
     /// Whether something of this name is derived.
     fn derives(&self, name: &str) -> bool {
         let mut derives = self.declaration.derives.iter();
-        derives.any(|path| path.ends_with(name))
+        derives.any(|path| names_last(path.as_str(), name))
     }
 
     /// A fault if an option or an attribute of the enum means nothing without another.
@@ -73,7 +79,7 @@ impl<'a, 'b> Draft<'a, 'b> {
         let options = &self.declaration.options;
         for given in &self.given {
             if options.serialized.is_none() && given.is("serialize_deny_unknown") {
-                return Err(given.fault(NO_FORM));
+                return Err(given.fault("`serialize_deny_unknown` needs `serialize_repr`"));
             }
         }
         match self.hidden_serde {
@@ -83,56 +89,45 @@ impl<'a, 'b> Draft<'a, 'b> {
     }
 }
 
-impl<'a> Reader<'a> {
+impl<'a, 'b> Reader<'a, 'b> {
     /// Reads an enum, whose comments and attributes are these, and plans it.
-    pub(super) fn read_element<'b>(
-        &mut self,
-        parts: &[Part<'a, 'b>],
-        cursor: &mut Cursor<'a, 'b>,
-    ) -> Done {
+    pub(super) fn read_element(&mut self, parts: &[Part<'a, 'b>]) -> Done {
         let mut draft = Draft::new(self.alloc);
-        for part in parts {
-            self.take(&mut draft, part)?;
-        }
-        let name = self.read_enum(&mut draft, cursor)?;
+        self.take(&mut draft, parts)?;
+        self.read_enum(&mut draft)?;
         let plan = plan_enum(self.alloc, &draft.declaration)?;
         let json_names = draft.json_names(self.alloc)?;
         for serde in &draft.serde {
             if !serde.is_kept && !draft.declaration.options.are_named() {
-                self.leave_out(&serde.attribute)?;
+                self.leave_out(serde.attribute.place, serde.attribute.text)?;
             }
         }
-        self.source.name(name.text, name.place, "")?;
-        if draft.declaration.variants.is_empty() {
-            let note = String::from_str(self.alloc, NO_VARIANTS)?;
-            self.source.notes.push((name.place, note))?;
-        }
-        let Draft {
-            declaration,
-            is_test,
-            ..
-        } = draft;
+        let declaration = draft.declaration;
         self.source.has_enums = true;
         self.source.facade = declaration.options.crate_name.unwrap_or(self.source.facade);
-        self.source.push(Form::Element(Element {
+        let element = Element {
             declaration,
             plan,
             json_names,
-            is_test,
-        }))?;
+            is_test: draft.is_test,
+        };
+        Ok(self.source.push(Form::Element(element))?)
+    }
+
+    /// Takes the comments and the attributes of the enum, or of a variant if the enum's name is known.
+    pub(super) fn take(&mut self, draft: &mut Draft<'a, 'b>, parts: &[Part<'a, 'b>]) -> Done {
+        for part in parts {
+            match part {
+                Part::Comment(text) => draft.push(text)?,
+                Part::Attribute(attribute) => self.take_attribute(draft, *attribute)?,
+            }
+        }
         Ok(())
     }
 
-    /// Takes a comment or an attribute of the enum, or of a variant if the enum's name is known.
-    pub(super) fn take<'b>(&mut self, draft: &mut Draft<'a, 'b>, part: &Part<'a, 'b>) -> Done {
-        let attribute = match part {
-            Part::Attribute(attribute) => *attribute,
-            Part::Comment(text) => {
-                draft.pending.push(text)?;
-                return Ok(());
-            }
-        };
-        let is_enum = draft.declaration.name.is_empty();
+    /// Takes an attribute.
+    fn take_attribute(&mut self, draft: &mut Draft<'a, 'b>, attribute: Attribute<'a, 'b>) -> Done {
+        let is_enum = draft.is_enum();
         let bearer = if is_enum {
             Bearer::Enum
         } else {
@@ -147,18 +142,17 @@ impl<'a> Reader<'a> {
             _ => attribute.has_meaning(bearer)?,
         };
         if is_kept {
-            draft.pending.push(attribute.text)?;
+            draft.push(attribute.text)?;
         }
         if attribute.is("serde") {
             let before = draft.declaration.variants.len();
-            let variant = if is_enum { None } else { Some(before) };
             draft.serde.push(Serde {
                 attribute,
-                variant,
+                variant: (!is_enum).then_some(before),
                 is_kept,
             })?;
         } else if !is_kept {
-            self.leave_out(&attribute)?;
+            self.leave_out(attribute.place, attribute.text)?;
         }
         if attribute.is("cfg_attr") && attribute.calls("serde") {
             draft.hidden_serde = draft.hidden_serde.or(Some(attribute));
@@ -168,13 +162,8 @@ impl<'a> Reader<'a> {
     }
 
     /// Takes what is derived.
-    fn take_derives<'b>(
-        &mut self,
-        draft: &mut Draft<'a, 'b>,
-        attribute: &Attribute<'a, 'b>,
-    ) -> Done {
-        if !draft.has_derive {
-            draft.has_derive = true;
+    fn take_derives(&mut self, draft: &mut Draft<'a, 'b>, attribute: &Attribute<'a, 'b>) -> Done {
+        if !mem::replace(&mut draft.has_derive, true) {
             draft.declaration.attributes = draft.comments();
         }
         let derives = attribute.derives(self.alloc)?;

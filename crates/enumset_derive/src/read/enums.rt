@@ -4,63 +4,66 @@ use super::Reader;
 use super::attributes::Part;
 use super::cursor::{Cursor, Done};
 use super::draft::Draft;
-use super::literals::{NOT_A_LITERAL, number_of};
 use crate::fault::{DeriveError, Reason};
-use crate::plan::{Discriminant, Variant};
-use crate::tokens::{Kind, Token};
+use crate::plan::{Discriminant, Number, Variant};
+use crate::tokens::{Kind, Token, is_digit};
 
-impl<'a> Reader<'a> {
-    /// Reads an enum from its visibility up to the `}` at its end. Gives its name.
-    pub(super) fn read_enum<'b>(
-        &mut self,
-        draft: &mut Draft<'a, 'b>,
-        cursor: &mut Cursor<'a, 'b>,
-    ) -> Result<&'b Token<'a>, DeriveError> {
-        draft.declaration.visibility = cursor.read_visibility()?;
+const NO_VARIANTS: &str = "`rt ci` refuses what this enum without variants has: nobody can call it";
+
+const NOT_A_LITERAL: &str = "a discriminant must be a literal of an integer";
+
+const TOO_LARGE: &str = "a literal past 2^128 - 1 must be a power of two, and not decimal";
+
+const TYPES: &str = "u8 u16 u32 u64 u128 usize i8 i16 i32 i64 i128 isize";
+
+impl<'a, 'b> Reader<'a, 'b> {
+    /// Reads an enum from its visibility up to the `}` at its end.
+    pub(super) fn read_enum(&mut self, draft: &mut Draft<'a, 'b>) -> Done {
+        draft.declaration.visibility = self.cursor.read_visibility()?;
         draft.declaration.later_attributes = draft.comments();
-        let name = cursor.read_enum_name()?;
+        let name = self.cursor.read_enum_name()?;
         draft.declaration.name = name.text;
-        draft.test_options()?;
-        for _ in cursor.rest {
-            let parts = cursor.read_parts(self.alloc)?;
-            for part in &parts {
-                self.take(draft, part)?;
-            }
+        self.source.name(name.text, name.place)?;
+        for _ in self.cursor.rest {
+            draft.test_options()?;
+            let parts = self.cursor.read_parts(self.alloc)?;
+            self.take(draft, parts.as_slice())?;
             let has_attribute = parts.iter().any(|part| matches!(part, Part::Attribute(_)));
-            if cursor.token.is_mark('}') && !has_attribute {
+            if self.cursor.token.is_mark('}') && !has_attribute {
                 break;
             }
-            draft.read_variant(cursor)?;
+            let variant = self.read_variant(draft.comments())?;
+            draft.declaration.variants.push(variant)?;
         }
         draft.declaration.last_comments = draft.comments();
-        Ok(name)
+        if draft.declaration.variants.is_empty() {
+            let note = String::from_str(self.alloc, NO_VARIANTS)?;
+            self.source.notes.push((name.place, note))?;
+        }
+        Ok(())
     }
-}
 
-impl<'a, 'b> Draft<'a, 'b> {
-    /// Reads a variant, up to what stands after the `,` and the comments on its line.
-    fn read_variant(&mut self, cursor: &mut Cursor<'a, 'b>) -> Done {
-        let begin = *cursor;
+    /// Reads a variant, of which the attributes are given, up to what stands after the `,` and the comments on its line.
+    fn read_variant(&mut self, attributes: String) -> Result<Variant<'a>, DeriveError> {
+        let begin = self.cursor;
         let is_name = begin.token.is_name();
-        cursor.want(is_name, "wanted: a name of a variant, or `}`")?;
-        cursor.advance_past_blanks()?;
-        let discriminant = cursor.read_discriminant()?;
-        cursor.end_variant(discriminant)?;
-        let attributes = self.comments();
-        for token in cursor.passed_since(&begin) {
+        begin.want(is_name, "wanted: a name of a variant, or `}`")?;
+        self.cursor.advance_past_blanks()?;
+        let discriminant = self.cursor.read_discriminant()?;
+        self.cursor.end_variant(discriminant)?;
+        let mut comments = String::new(self.alloc);
+        for token in self.cursor.passed_since(&begin) {
             if token.is_comment() {
-                self.pending.push(token.text)?;
+                write!(comments, " {}", token.text)?;
             }
         }
-        let comments = self.comments();
-        self.declaration.variants.push(Variant {
+        Ok(Variant {
             place: begin.token.place,
             attributes,
             name: begin.token.text,
             discriminant,
             comments,
-        })?;
-        Ok(())
+        })
     }
 }
 
@@ -130,5 +133,63 @@ impl<'a, 'b> Cursor<'a, 'b> {
             self.advance()?;
         }
         Ok(())
+    }
+}
+
+/// A literal without the type after it, and the number that it writes, or that a minus sign before it makes of it.
+fn number_of(literal: &str, is_negative: bool) -> Result<(&str, Number), &'static str> {
+    let mut types = TYPES.split(' ');
+    let untyped = types.find_map(|name| literal.strip_suffix(name));
+    let written = untyped.unwrap_or(literal).trim_end_matches('_');
+    let (radix, digits) = radix_of(written);
+    if digits.is_empty() || !written.starts_with(is_digit) {
+        return Err(NOT_A_LITERAL);
+    }
+    let mut value = Some(0u128);
+    let mut exponent = None;
+    for character in digits.chars() {
+        match character.to_digit(16) {
+            Some(digit) if digit < radix => {
+                exponent = power_with(value, exponent, radix, digit);
+                value = value_with(value, radix, digit);
+            }
+            _ if character == '_' => {}
+            _ => return Err(NOT_A_LITERAL),
+        }
+    }
+    let number = match (value, exponent) {
+        (Some(0), _) => Number::Small(0),
+        (Some(number), _) if is_negative => Number::Negative(number),
+        (Some(number), _) => Number::Small(number),
+        (None, Some(exponent)) if !is_negative => Number::PowerOfTwo(exponent),
+        _ => return Err(TOO_LARGE),
+    };
+    Ok((written, number))
+}
+
+/// The base of a literal, and its digits.
+fn radix_of(literal: &str) -> (u32, &str) {
+    for (prefix, radix) in [("0x", 16), ("0o", 8), ("0b", 2)] {
+        if let Some(digits) = literal.strip_prefix(prefix) {
+            return (radix, digits);
+        }
+    }
+    (10, literal)
+}
+
+/// The number of some digits and one more, unless it is past 2^128 - 1.
+fn value_with(value: Option<u128>, radix: u32, digit: u32) -> Option<u128> {
+    value?
+        .checked_mul(u128::from(radix))?
+        .checked_add(u128::from(digit))
+}
+
+/// Which power of two, up to 2^32 - 1, the number of some digits and one more is, unless the base is decimal.
+fn power_with(value: Option<u128>, exponent: Option<u32>, radix: u32, digit: u32) -> Option<u32> {
+    match (value, digit) {
+        (Some(0), 1 | 2 | 4 | 8) => Some(digit.trailing_zeros()),
+        (Some(0), _) => None,
+        (_, 0) if radix != 10 => exponent?.checked_add(radix.trailing_zeros()),
+        _ => None,
     }
 }

@@ -1,15 +1,12 @@
 //! What lines `use ..;` import.
 
 use super::Reader;
-use super::attributes::NO_MEANING;
 use super::cursor::{Cursor, Done};
-use crate::place::Place;
+use crate::fault::Place;
 use crate::source::{Form, Import, Name};
-use crate::tokens::{Kind, Token, is_among};
+use crate::tokens::{Token, is_among};
 use std::alloc::{AllocError, Global};
 use std::mem;
-
-const GLOB: &str = "`pub use` takes no `*` here: name what is exported";
 
 const UNUSED: &str = "is of a crate that may not be there, and nothing here names it";
 
@@ -28,19 +25,18 @@ struct Use<'a> {
     written: Option<&'a str>,
 }
 
-impl<'a> Reader<'a> {
-    /// Reads an import from its keyword on, of which the attributes are given. Its visibility begins at a cursor.
-    pub(super) fn read_use<'b>(
+impl<'a, 'b> Reader<'a, 'b> {
+    /// Reads an import from its keyword on, of which the attributes are given. Its visibility begins at `item`.
+    pub(super) fn read_use(
         &mut self,
         place: Place,
         attributes: String,
-        item: &Cursor<'a, 'b>,
-        cursor: &mut Cursor<'a, 'b>,
+        item: Cursor<'a, 'b>,
     ) -> Done {
-        let keyword = *cursor;
-        cursor.skip_to(";", 0)?;
+        let keyword = self.cursor;
+        self.cursor.skip_to(";", 0)?;
         let mut tokens = Vec::new(self.alloc);
-        for token in cursor.passed_since(&keyword) {
+        for token in self.cursor.passed_since(&keyword) {
             if !token.is_blank() {
                 if !token.is_name() && !token.is_one_of(":{},*") {
                     return Err(token.fault("wanted: a path, or `;`"));
@@ -48,23 +44,21 @@ impl<'a> Reader<'a> {
                 tokens.push(*token)?;
             }
         }
-        let is_path = matches!(tokens.first(), Some(root) if root.is_name() && !is_renamed(root));
+        let is_path = tokens.first().is_some_and(|root| {
+            root.is_name() && !is_among("core alloc", root.text)
+        });
         let visibility = item.text.get(item.token.begin..keyword.token.begin);
         let line = Use {
             place,
             attributes,
             visibility: visibility.unwrap_or("").trim_end(),
-            written: if is_path {
-                Some(cursor.text_since(item.token.begin))
-            } else {
-                None
-            },
+            written: is_path.then_some(self.cursor.text_since(item.token.begin)),
         };
         for (index, tree) in trees_of(self.alloc, tokens.as_slice())?.iter().enumerate() {
             if index > 0 {
                 self.source.add_space("\n");
             }
-            self.read_tree(&line, tree.as_slice())?;
+            self.read_tree(&line, tree)?;
         }
         Ok(())
     }
@@ -80,55 +74,44 @@ impl<'a> Reader<'a> {
         let mut names = Vec::new(self.alloc);
         for token in names_in(self.alloc, tree)? {
             if token.is_mark('*') && !is_own {
-                return Err(token.fault(GLOB));
+                return Err(token.fault("`pub use` takes no `*` here: name what is exported"));
             }
-            let (place, root) = if is_known {
-                (token.place, root.text)
-            } else {
-                (line.place, "")
-            };
-            names.push(Name {
-                text: token.text,
-                place,
-                root,
-            })?;
+            let place = if is_known { token.place } else { line.place };
+            let (text, root) = (token.text, root.text);
+            names.push(Name { text, place, root })?;
         }
         if is_own && root.is("enumset") && path.iter().any(|token| token.is_mark(':')) {
             self.source.names.append(&mut names)?;
             return self.read_names(line, path);
         }
         let path = spelled(self.alloc, tree)?;
-        let attributes = line.attributes.as_str();
+        let (attributes, visibility) = (line.attributes.as_str(), line.visibility);
+        let gap = if is_own { "" } else { " " };
         let text = match line.written {
             Some(written) => format!(in self.alloc; "{attributes}{written}")?,
-            None => {
-                let visibility = line.visibility;
-                let gap = if is_own { "" } else { " " };
-                format!(in self.alloc; "{attributes}{visibility}{gap}use {path};")?
-            }
+            None => format!(in self.alloc; "{attributes}{visibility}{gap}use {path};")?,
         };
-        self.source.push(Form::Import(Import {
-            place: line.place,
-            text,
-            path,
-            names,
-            is_known,
-        }))?;
-        Ok(())
+        Ok(
+            self.source.push(Form::Import(Import {
+                place: line.place,
+                text,
+                path,
+                names,
+                is_known,
+            }))?,
+        )
     }
 
     /// Takes in what a line imports of the crate `enumset`: a path after its name, or some in brackets.
     fn read_names(&mut self, line: &Use<'a>, path: &[Token<'a>]) -> Done {
         if !line.attributes.is_empty() {
-            let text = line.attributes.trim_end();
-            self.source.leave_out(line.place, text, NO_MEANING)?;
+            self.leave_out(line.place, line.attributes.trim_end())?;
         }
-        if !self.source.has_imports {
-            self.source.has_imports = true;
+        if !mem::replace(&mut self.source.has_imports, true) {
             self.source.push(Form::Imports)?;
         }
         for tree in trees_of(self.alloc, path)? {
-            match tree.as_slice() {
+            match tree {
                 [] => {}
                 [own] if own.is("self") => {}
                 [own, name @ ..] if own.is("self") => {
@@ -176,65 +159,47 @@ impl<'a> Reader<'a> {
     }
 }
 
-/// Whether a crate is another one here: Rust's `core` and `alloc` are `std`.
-fn is_renamed(root: &Token) -> bool {
-    root.is("core") || root.is("alloc")
-}
-
 /// The paths in the brackets that a path begins with, or the path alone, each without `::` at its beginning.
-fn trees_of<'a>(alloc: Global, path: &[Token<'a>]) -> Result<Vec<Vec<Token<'a>>>, AllocError> {
-    let mut trees = Vec::new(alloc);
-    let mut tree = Vec::new(alloc);
-    let mut depth = None;
-    for token in path {
-        let is_first = tree.is_empty();
-        let is_end = match depth {
-            Some(depth) if token.is_mark('}') => token.depth < depth,
-            Some(depth) => token.is_mark(',') && token.depth == depth,
-            None => false,
-        };
-        if is_end {
-            trees.push(mem::replace(&mut tree, Vec::new(alloc)))?;
-        } else if is_first && depth.is_none() && token.is_mark('{') {
-            depth = Some(token.depth);
-        } else if !is_first || !token.is_mark(':') {
-            tree.push(*token)?;
+fn trees_of<'a, 'b>(
+    alloc: Global,
+    path: &'b [Token<'a>],
+) -> Result<Vec<&'b [Token<'a>]>, AllocError> {
+    match after_root(path) {
+        [open, trees @ .., _] if open.is_mark('{') => {
+            let trees = trees.split(|token| token.is_mark(',') && token.depth == open.depth);
+            trees.map(after_root).collect(alloc)
         }
+        path => Ok(vec![in alloc; path]?),
     }
-    if depth.is_none() {
-        trees.push(tree)?;
-    }
-    Ok(trees)
 }
 
-/// The names that a path brings, and the `*`.
+/// A path without `::` at its beginning.
+fn after_root<'a, 'b>(path: &'b [Token<'a>]) -> &'b [Token<'a>] {
+    match path {
+        [root, path @ ..] if root.is_mark(':') => path,
+        path => path,
+    }
+}
+
+/// The names that a path brings, and the `*`: each is last before a `,`, a `}` or the end.
 fn names_in<'a, 'b>(
     alloc: Global,
     tree: &'b [Token<'a>],
 ) -> Result<Vec<&'b Token<'a>>, AllocError> {
     let mut names = Vec::new(alloc);
-    let mut last = None;
+    let mut name = None;
     let mut parent = None;
-    for token in tree {
-        match token.kind {
-            Kind::Mark('{') => {
-                parent = last;
-                last = None;
+    for (index, token) in tree.iter().enumerate() {
+        let next = tree.get(index.saturating_add(1));
+        if token.is_mark('{') {
+            parent = name;
+        } else if !token.is_one_of(":,}") {
+            let own = if token.is("self") { parent } else { None };
+            name = own.or(Some(token));
+            if next.is_none_or(|next| next.is_one_of(",}")) {
+                names.extend(name)?;
             }
-            Kind::Mark(',' | '}') => {
-                if let Some(name) = last {
-                    names.push(name)?;
-                }
-                last = None;
-            }
-            Kind::Mark('*') => last = Some(token),
-            Kind::Word if token.is("self") && parent.is_some() => last = parent,
-            Kind::Word if !token.is("as") => last = Some(token),
-            _ => {}
         }
-    }
-    if let Some(name) = last {
-        names.push(name)?;
     }
     Ok(names)
 }

@@ -3,8 +3,7 @@
 use super::attributes::Attribute;
 use super::cursor::Cursor;
 use super::draft::Draft;
-use crate::fault::{DeriveError, Reason};
-use crate::place::Place;
+use crate::fault::{DeriveError, Place, Reason};
 use crate::tokens::is_among;
 use std::alloc::{AllocError, Global};
 
@@ -87,8 +86,14 @@ impl<'a, 'b> Draft<'a, 'b> {
     ) -> Result<Vec<(Option<usize>, Place, &'a str)>, DeriveError> {
         let mut given = Vec::new(alloc);
         for serde in &self.serde {
-            if let Some((place, text)) = serde.read()? {
-                given.push((serde.variant, place, text))?;
+            let mut cursor = serde.attribute.arguments()?;
+            for _ in cursor.rest {
+                if !serde.attribute.go_to_argument(&mut cursor)? {
+                    break;
+                }
+                if let Some((place, text)) = serde.read_argument(&mut cursor)? {
+                    given.push((serde.variant, place, text))?;
+                }
             }
         }
         Ok(given)
@@ -96,19 +101,6 @@ impl<'a, 'b> Draft<'a, 'b> {
 }
 
 impl<'a, 'b> Serde<'a, 'b> {
-    /// The style of an enum's names or the name of a variant, and where it gives that.
-    fn read(&self) -> Result<Option<(Place, &'a str)>, DeriveError> {
-        let mut cursor = self.attribute.arguments()?;
-        let mut given = None;
-        for _ in cursor.rest {
-            if !self.attribute.go_to_argument(&mut cursor)? {
-                break;
-            }
-            given = self.read_argument(&mut cursor)?.or(given);
-        }
-        Ok(given)
-    }
-
     /// Reads an argument, up to what stands after it.
     fn read_argument(
         &self,
@@ -123,7 +115,7 @@ impl<'a, 'b> Serde<'a, 'b> {
                 let value = cursor.read_value()?;
                 let is_style = self.variant.is_some() || is_among(STYLES, value);
                 cursor.want(is_style, WRONG_STYLE)?;
-                cursor.want(value.trim_start_matches(is_plain).is_empty(), NOT_PLAIN)?;
+                cursor.want(value.chars().all(is_plain), NOT_PLAIN)?;
                 Some((cursor.token.place, value))
             }
             ("rename" | "rename_all_fields" | "deny_unknown_fields", None)

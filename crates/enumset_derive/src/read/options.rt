@@ -18,6 +18,8 @@ const WRONG_REPRESENTATION: &str =
 const WRONG_FORM: &str =
     "`serialize_repr` is \"u8\", \"u16\", \"u32\", \"u64\", \"u128\", \"array\", \"list\" or \"map\"";
 
+const OLD_LIST: &str = "`serialize_as_list` is written `serialize_repr = \"list\"`";
+
 impl<'a, 'b> Draft<'a, 'b> {
     /// Reads the options in an attribute.
     pub fn read_options(&mut self, attribute: &Attribute<'a, 'b>) -> Done {
@@ -44,28 +46,35 @@ impl<'a, 'b> Draft<'a, 'b> {
         let options = &mut self.declaration.options;
         match cursor.token.text {
             "map" => {
-                let map = map_named(cursor.read_value()?);
-                options.map = Some((cursor.known(map, WRONG_MAP)?, cursor.token.place));
+                let map = match cursor.read_value()? {
+                    "lsb" => Map::Lsb,
+                    "msb" => Map::Msb,
+                    "mask" => Map::Mask,
+                    "compact" => Map::Compact,
+                    _ => return cursor.want(false, WRONG_MAP),
+                };
+                options.map = Some((map, cursor.token.place));
             }
             "repr" => {
-                let representation = representation_named(cursor.read_value()?);
-                options.representation = Some(cursor.known(representation, WRONG_REPRESENTATION)?);
+                options.representation = Some(match cursor.read_value()? {
+                    "array" => Representation::Words,
+                    name => Representation::Integer(cursor.integer(name, WRONG_REPRESENTATION)?),
+                });
             }
             "serialize_repr" => {
-                let form = form_named(cursor.read_value()?);
-                options.serialized = Some(cursor.known(form, WRONG_FORM)?);
+                options.serialized = Some(match cursor.read_value()? {
+                    "array" => Serialized::Words,
+                    "list" => Serialized::List,
+                    "map" => Serialized::Map,
+                    name => Serialized::Integer(cursor.integer(name, WRONG_FORM)?),
+                });
             }
             "crate_name" => options.crate_name = Some(cursor.read_value()?),
             "serialize_deny_unknown" => options.denies_unknown = cursor.read_boolean()?,
             "no_ops" => options.leaves_out_operators = cursor.read_boolean()?,
             "no_super_impls" => options.leaves_out_supertraits = cursor.read_boolean()?,
             "display" => options.has_display = cursor.read_boolean()?,
-            "serialize_as_list" => {
-                cursor.want(
-                    false,
-                    "`serialize_as_list` is written `serialize_repr = \"list\"`",
-                )?;
-            }
+            "serialize_as_list" => cursor.want(false, OLD_LIST)?,
             _ => cursor.want(false, "there is no such option")?,
         }
         Ok(())
@@ -78,7 +87,7 @@ impl<'a> Cursor<'a, '_> {
         self.advance_past_blanks()?;
         self.want(self.token.is_mark('='), NO_VALUE)?;
         self.advance_past_blanks()?;
-        self.known(self.token.unquoted(), NO_VALUE)
+        self.token.unquoted().ok_or(self.token.fault(NO_VALUE))
     }
 
     /// Reads `=` and a value that is true or false, up to it, if there is one. Otherwise it is true.
@@ -96,41 +105,16 @@ impl<'a> Cursor<'a, '_> {
             _ => Err(self.token.fault("wanted: `true` or `false`")),
         }
     }
-}
 
-fn map_named(value: &str) -> Option<Map> {
-    match value {
-        "lsb" => Some(Map::Lsb),
-        "msb" => Some(Map::Msb),
-        "mask" => Some(Map::Mask),
-        "compact" => Some(Map::Compact),
-        _ => None,
-    }
-}
-
-fn representation_named(value: &str) -> Option<Representation> {
-    match value {
-        "array" => Some(Representation::Words),
-        _ => integer_named(value).map(Representation::Integer),
-    }
-}
-
-fn form_named(value: &str) -> Option<Serialized> {
-    match value {
-        "array" => Some(Serialized::Words),
-        "list" => Some(Serialized::List),
-        "map" => Some(Serialized::Map),
-        _ => integer_named(value).map(Serialized::Integer),
-    }
-}
-
-fn integer_named(value: &str) -> Option<IntegerType> {
-    match value {
-        "u8" => Some(IntegerType::U8),
-        "u16" => Some(IntegerType::U16),
-        "u32" => Some(IntegerType::U32),
-        "u64" => Some(IntegerType::U64),
-        "u128" => Some(IntegerType::U128),
-        _ => None,
+    /// The integer type of a name, which is the token's, or a fault at it.
+    fn integer(&self, name: &str, wanted: &'static str) -> Result<IntegerType, DeriveError> {
+        Ok(match name {
+            "u8" => IntegerType::U8,
+            "u16" => IntegerType::U16,
+            "u32" => IntegerType::U32,
+            "u64" => IntegerType::U64,
+            "u128" => IntegerType::U128,
+            _ => return Err(self.token.fault(wanted)),
+        })
     }
 }

@@ -1,9 +1,11 @@
 //! The tokens of a text, with the brackets that each is in.
 
-use super::first::first_token;
-use super::{Kind, Token, UNCLOSED_BRACKET, before};
-use crate::place::Place;
+use super::{Kind, Token, UNCLOSED_BRACKET};
+use crate::fault::Place;
 use std::alloc::{AllocError, Global};
+
+/// What a text or a character in quotes is that has no end.
+const UNCLOSED: (Kind, &str) = (Kind::Fault("this quote has no end"), "");
 
 /// The brackets that have begun: the character that is to end each, and where it is.
 type Open = Vec<(char, Place)>;
@@ -61,16 +63,154 @@ fn unclosed_by(
     mark: char,
     place: Place,
 ) -> Result<Option<(char, Place)>, AllocError> {
-    let end = match mark {
-        '(' => ')',
-        '[' => ']',
-        '{' => '}',
-        ')' | ']' | '}' => {
-            let last = open.pop();
-            return Ok(last.filter(|(end, _)| *end != mark));
-        }
-        _ => return Ok(None),
-    };
-    open.push((end, place))?;
+    match mark {
+        '(' => open.push((')', place))?,
+        '[' => open.push((']', place))?,
+        '{' => open.push(('}', place))?,
+        ')' | ']' | '}' => return Ok(open.pop().filter(|(end, _)| *end != mark)),
+        _ => {}
+    }
     Ok(None)
+}
+
+/// What the first token of a text is, and the text after it.
+fn first_token(first: char, text: &str) -> (Kind, &str) {
+    let rest = text.strip_prefix(first).unwrap_or("");
+    match first {
+        ' ' | '\t' | '\n' => (Kind::Space, rest.trim_start_matches(is_space)),
+        '/' if rest.starts_with('/') => (comment_kind(text), rest.trim_start_matches(is_on_line)),
+        '/' if rest.starts_with('*') => block_comment(text),
+        '\r' => (
+            Kind::Fault("a carriage return stands only before a line feed"),
+            "",
+        ),
+        '"' => after_quote(rest),
+        '\'' => after_tick(rest),
+        ':' => match rest.strip_prefix(':') {
+            Some(rest) => (Kind::Mark(':'), rest),
+            None => (Kind::Other, rest),
+        },
+        _ if is_word(first) => word(text),
+        _ => (Kind::Mark(first), rest),
+    }
+}
+
+fn is_on_line(character: char) -> bool {
+    character != '\n'
+}
+
+/// What the comment is that a text begins with.
+fn comment_kind(text: &str) -> Kind {
+    match text.as_bytes() {
+        [_, _, b'!', ..] => Kind::InnerDoc,
+        [_, b'/', b'/', b'/', ..] | [_, b'*', b'*', b'*' | b'/', ..] => Kind::Comment,
+        [_, b'/', b'/', ..] | [_, b'*', b'*', ..] => Kind::OuterDoc,
+        _ => Kind::Comment,
+    }
+}
+
+/// What the block comment is that a text begins with, and the text after it. Block comments may stand in it.
+fn block_comment(text: &str) -> (Kind, &str) {
+    let mut depth = 0usize;
+    let mut last = ' ';
+    for (at, character) in text.char_indices() {
+        if last == '/' && character == '*' {
+            depth = depth.saturating_add(1);
+            last = ' ';
+        } else if last == '*' && character == '/' {
+            depth = depth.saturating_sub(1);
+            last = ' ';
+        } else {
+            last = character;
+        }
+        if depth == 0 && last == ' ' {
+            return (comment_kind(text), after(text, at));
+        }
+    }
+    (Kind::Fault("this comment has no end"), "")
+}
+
+/// What a token is that begins as a word, and the text after it: a word, or a text in quotes.
+fn word(text: &str) -> (Kind, &str) {
+    let rest = text.trim_start_matches(is_word);
+    let next = rest.chars().next();
+    let after_next = after(rest, 0);
+    match (before(text, rest), next) {
+        ("r" | "br" | "cr", Some('#' | '"')) => after_raw_prefix(rest),
+        ("b" | "c", Some('"')) => after_quote(after_next),
+        ("b" | "c", Some('\'')) => after_tick(after_next),
+        (word, _) if !word.is_ascii() => (Kind::Fault("names are ASCII here"), rest),
+        _ => (Kind::Word, rest),
+    }
+}
+
+/// What a token is that begins with `"`, and the text after it.
+fn after_quote(text: &str) -> (Kind, &str) {
+    let mut is_escaped = false;
+    for (at, character) in text.char_indices() {
+        if character == '"' && !is_escaped {
+            return (Kind::Quoted, after(text, at));
+        }
+        is_escaped = character == '\\' && !is_escaped;
+    }
+    UNCLOSED
+}
+
+/// What a token is that begins with `'`, and the text after it: a character or a lifetime.
+fn after_tick(text: &str) -> (Kind, &str) {
+    let mut characters = text.chars();
+    let first = characters.next().unwrap_or(' ');
+    if is_word(first) && !characters.as_str().starts_with('\'') {
+        return (Kind::Other, text.trim_start_matches(is_word));
+    }
+    if first == '\\' {
+        let _ = characters.next();
+    }
+    match characters.as_str().split_once('\'') {
+        Some((_, rest)) => (Kind::Quoted, rest),
+        None => UNCLOSED,
+    }
+}
+
+/// What a raw text is, or a raw name, of which `r`, `br` or `cr` stands before this text, and the text after it.
+fn after_raw_prefix(text: &str) -> (Kind, &str) {
+    let rest = text.trim_start_matches('#');
+    let hashes = before(text, rest);
+    if let Some(quoted) = rest.strip_prefix('"') {
+        for (at, _) in quoted.match_indices('"') {
+            if let Some(rest) = after(quoted, at).strip_prefix(hashes) {
+                return (Kind::Quoted, rest);
+            }
+        }
+        return UNCLOSED;
+    }
+    if rest.starts_with(is_word) {
+        (
+            Kind::Fault("no raw names here: choose one that is no keyword"),
+            "",
+        )
+    } else {
+        (Kind::Other, rest)
+    }
+}
+
+/// What stands in a text before the rest of it.
+fn before<'a>(text: &'a str, rest: &str) -> &'a str {
+    text.get(..text.len().saturating_sub(rest.len()))
+        .unwrap_or("")
+}
+
+/// The text after the ASCII character at an index.
+fn after(text: &str, at: usize) -> &str {
+    text.get(at.saturating_add(1)..).unwrap_or("")
+}
+
+/// Whether a character is a space, a tab or the end of a line.
+fn is_space(character: char) -> bool {
+    matches!(character, ' ' | '\t' | '\n')
+}
+
+/// Whether a character may stand in a word: a letter, a digit, `_`, or a character past ASCII.
+fn is_word(character: char) -> bool {
+    character == '_' || character.is_ascii_alphanumeric() || !character.is_ascii()
 }

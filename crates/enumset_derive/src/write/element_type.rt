@@ -2,7 +2,7 @@
 
 use super::enums::are_kept;
 use super::json::write_json;
-use super::layout::{call_of, list_of};
+use super::layout::{list_of, write_call};
 use super::names::{write_display, write_names};
 use super::operators::write_operators;
 use super::stores::{is_narrow, store_text};
@@ -56,49 +56,57 @@ fn are_cast(of: &Subject) -> bool {
 /// Writes the implementation of an element type.
 fn write_impl(out: &mut String, of: &Subject) -> Written {
     let (alloc, crate_name, module) = (of.alloc, of.crate_name, of.module);
-    let (name, guard, plan) = (of.name, of.guard, &of.element.plan);
-    let has_values = of.element.declaration.options.has_display;
+    let (name, guard, element) = (of.name, of.guard, of.element);
+    let has_values = element.declaration.options.has_display;
+    let plan = &element.plan;
+    let (width, count) = (plan.bit_width, plan.variants.len());
     let in_place = are_cast(of) && are_places(plan);
-    let is_short = in_place && !has_values && matches!(plan.store, Store::Integer(_, _));
-    let lists_use = match is_short {
-        true => "",
-        false => "    ghost use Rattle.std.specs.Prelude.{◌∷◌, []};\n",
-    };
-    let store = store_text(alloc, &plan.store)?;
-    let law = store.law;
-    let (laws, elements, lawful) = if in_place {
-        (
-            format!(in alloc; "in_place, {law}, lawful_in_place")?,
-            String::from_str(alloc, "in_place the_type")?,
-            format!(in alloc; "lawful_in_place the_type ({law} the_type _ tt)")?,
-        )
+    let is_wide = matches!(plan.store, Store::Words(_));
+    let law = if is_wide {
+        "lawful_in_words"
     } else {
-        let bits = bits_of(of)?;
-        (
-            format!(in alloc; "with_bits, {law}")?,
-            format!(in alloc; "with_bits the_type ({bits})")?,
-            format!(in alloc; "{law} the_type _ tt")?,
-        )
+        "lawful_in_integer"
     };
-    let (values_use, values) = values_of(of)?;
-    let body_into = body_of_into(of)?;
-    let body_from = body_of_from(of)?;
-    let repr = store.repr.as_str();
-    let bits = store.bits.as_str();
-    let all_bits = store.all_bits.as_str();
-    let width = plan.bit_width;
-    let count = plan.variants.len();
+    let [repr, bits, all_bits] = store_text(alloc, &plan.store)?;
+    let (made, more, list, lawful) = if in_place {
+        let lawful = format!(in alloc; "lawful_in_place the_type ({law} the_type _ tt)")?;
+        ("in_place", ", lawful_in_place", String::new(alloc), lawful)
+    } else {
+        let lawful = format!(in alloc; "{law} the_type _ tt")?;
+        ("with_bits", "", bits_of(of)?, lawful)
+    };
+    write!(out, "{guard}impl EnumSetType for {name} {{\n")?;
+    if !in_place || has_values || is_wide {
+        out.push_str("    ghost use Rattle.std.specs.Prelude.{◌∷◌, []};\n")?;
+    }
     write!(
         out,
-        "{guard}impl EnumSetType for {name} {{
-{lists_use}    ghost use Rattle.enumset_sets.specs.Laws.Elements.{{{laws}}};
+        "    ghost use Rattle.enumset_sets.specs.Laws.Elements.{{{made}, {law}{more}}};
     ghost use Rattle.{crate_name}.specs.contracts.{module}.{name}.{{the_type}};
-{values_use}
+"
+    )?;
+    if has_values {
+        write!(
+            out,
+            "    ghost use Rattle.{crate_name}.specs.declared.{module}.{name}.TheVariants as variant;\n"
+        )?;
+    }
+    write!(
+        out,
+        "
     type Repr = {repr};
 
-    ghost elements = {{ {elements} }};
+    ghost elements = {{ {made} the_type{list} }};
 
-{values}    ghost ALL_BITS = {{ {bits} }};
+"
+    )?;
+    if has_values {
+        let values = values_of(of)?;
+        write!(out, "    ghost values = {{ {values} }};\n\n")?;
+    }
+    write!(
+        out,
+        "    ghost ALL_BITS = {{ {bits} }};
 
     const ALL_BITS: {repr} = {all_bits};
 
@@ -111,74 +119,52 @@ fn write_impl(out: &mut String, of: &Subject) -> Written {
     const VARIANT_COUNT: u32 = {count};
 
     fn enum_into_u32(self) -> u32 {{
-{body_into}    }}
-
-    fn enum_from_u32(val: u32) -> Self {{
-{body_from}
-    }}
-
-    ghost lawful = {{ {lawful} }};
-}}"
-    )
+"
+    )?;
+    write_into_u32(out, of)?;
+    out.push_str("    }\n\n    fn enum_from_u32(val: u32) -> Self {\n")?;
+    write_from_u32(out, of)?;
+    write!(out, "    }}\n\n    ghost lawful = {{ {lawful} }};\n}}")
 }
 
-/// The list of the variants' bits.
+/// The list of the variants' bits, as an argument.
 fn bits_of(of: &Subject) -> Result<String, AllocError> {
     let mut words = String::new(of.alloc);
     for named in &of.element.plan.variants {
         write!(words, "{} ∷\n", named.bit)?;
     }
-    list_of(of.alloc, 59, words.as_str())
+    let list = list_of(of.alloc, 59, words.as_str())?;
+    format!(in of.alloc; " ({list})")
 }
 
-/// What is written where contracts know the list of variants: its import, and the list.
-fn values_of(of: &Subject) -> Result<(String, String), AllocError> {
-    let alloc = of.alloc;
-    if !of.element.declaration.options.has_display {
-        return Ok((String::new(alloc), String::new(alloc)));
-    }
-    let mut words = String::new(alloc);
+/// The list of the variants.
+fn values_of(of: &Subject) -> Result<String, AllocError> {
+    let mut words = String::new(of.alloc);
     for variant in &of.element.declaration.variants {
         write!(words, "variant.{} ∷\n", variant.name)?;
     }
-    let values = list_of(alloc, 79, words.as_str())?;
-    let (crate_name, module, name) = (of.crate_name, of.module, of.name);
-    let import = format!(in alloc;
-        "    ghost use Rattle.{crate_name}.specs.declared.{module}.{name}.TheVariants as variant;\n"
-    )?;
-    Ok((
-        import,
-        format!(in alloc; "    ghost values = {{ {values} }};\n\n")?,
-    ))
+    list_of(of.alloc, 79, words.as_str())
 }
 
-/// The body that converts a variant to its bit.
-fn body_of_into(of: &Subject) -> Result<String, AllocError> {
-    let alloc = of.alloc;
+/// Writes the body that converts a variant to its bit.
+fn write_into_u32(out: &mut String, of: &Subject) -> Written {
     let variants = &of.element.declaration.variants;
+    if variants.is_empty() {
+        return out.push_str("        match self {}\n");
+    }
     if are_cast(of) {
-        let is_empty = variants.is_empty();
-        let value = if is_empty {
-            "match self {}"
-        } else {
-            "self as u32"
-        };
-        return format!(in alloc; "        {value}\n");
+        return out.push_str("        self as u32\n");
     }
-    let mut body = String::from_str(alloc, "        match self {\n")?;
+    out.push_str("        match self {\n")?;
     for (variant, named) in variants.iter().zip(of.element.plan.variants.iter()) {
-        write!(
-            body,
-            "            Self::{} => {},\n",
-            variant.name, named.bit
-        )?;
+        let (name, bit) = (variant.name, named.bit);
+        write!(out, "            Self::{name} => {bit},\n")?;
     }
-    body.push_str("        }\n")?;
-    Ok(body)
+    out.push_str("        }\n")
 }
 
-/// The body that converts a bit to its variant: a match over the bits, or the call of the macro that makes a table.
-fn body_of_from(of: &Subject) -> Result<String, AllocError> {
+/// Writes the body that converts a bit to its variant: a match over the bits, or the call of the macro that makes a table.
+fn write_from_u32(out: &mut String, of: &Subject) -> Written {
     let (alloc, facade, name) = (of.alloc, of.facade, of.name);
     let plan = &of.element.plan;
     let variants = &of.element.declaration.variants;
@@ -187,37 +173,33 @@ fn body_of_from(of: &Subject) -> Result<String, AllocError> {
         for (variant, named) in variants.iter().zip(plan.variants.iter()) {
             write!(words, "{} {}\n", named.bit, variant.name)?;
         }
-        return call_of(alloc, "variant_of!", words.as_str());
+        return write_call(out, alloc, "variant_of!", words.as_str());
     }
-    let mut body = String::from_str(alloc, "        match val {\n")?;
+    out.push_str("        match val {\n")?;
     for (variant, named) in variants.iter().zip(plan.variants.iter()) {
-        write!(
-            body,
-            "            {} => Self::{},\n",
-            named.bit, variant.name
-        )?;
+        let (bit, name) = (named.bit, variant.name);
+        write!(out, "            {bit} => Self::{name},\n")?;
     }
     let count = variants.len();
     if count > 32 {
         // A proof takes in no more bits by itself.
         write!(
-            body,
+            out,
             "            _ => {{
                 {facade}::variants::is_below(val, {count});
                 unreachable!()
             }}
-        }}"
-        )?;
+        }}
+"
+        )
     } else {
-        body.push_str("            _ => unreachable!(),\n        }")?;
+        out.push_str("            _ => unreachable!(),\n        }\n")
     }
-    Ok(body)
 }
 
 /// Writes the implementation of an element type of at most 128 bits.
 fn write_with_repr(out: &mut String, of: &Subject) -> Written {
-    let name = of.name;
-    let guard = of.guard;
+    let Subject { name, guard, .. } = *of;
     write!(
         out,
         "

@@ -2,8 +2,9 @@
 
 use super::Written;
 use super::layout::{on_a_line, wrapped};
-use crate::plan::{EnumDeclaration, Number, Variant};
+use crate::plan::{Discriminant, EnumDeclaration, Number, Variant};
 use crate::source::Element;
+use crate::tokens::names_last;
 use std::alloc::Global;
 
 /// Why an enum has no discriminants.
@@ -28,32 +29,24 @@ pub(super) fn are_kept(variants: &[Variant]) -> bool {
 /// Writes the enum.
 pub(super) fn write_enum(out: &mut String, alloc: Global, element: &Element) -> Written {
     let declaration = &element.declaration;
-    let has_discriminants = are_kept(&declaration.variants);
-    write_lines(out, "", &declaration.attributes)?;
-    if !has_discriminants {
-        out.push_str(DROPPED)?;
-    }
-    write_derives(out, alloc, declaration)?;
-    write_lines(out, "", &declaration.later_attributes)?;
+    let (before, after) = (&declaration.attributes, &declaration.later_attributes);
     let (visibility, restriction) = declaration.visibility;
-    let is_empty = declaration.variants.is_empty() && declaration.last_comments.is_empty();
+    let (name, last_comments) = (declaration.name, &declaration.last_comments);
+    let has_discriminants = are_kept(&declaration.variants);
+    let dropped = if has_discriminants { "" } else { DROPPED };
+    write!(out, "{before}{dropped}")?;
+    write_derives(out, alloc, declaration)?;
     let gap = if visibility.is_empty() { "" } else { " " };
+    let is_empty = declaration.variants.is_empty() && last_comments.is_empty();
     let end = if is_empty { "" } else { "\n" };
-    let name = declaration.name;
-    write!(out, "{visibility}{restriction}{gap}enum {name} {{{end}")?;
+    write!(
+        out,
+        "{after}{visibility}{restriction}{gap}enum {name} {{{end}"
+    )?;
     for variant in &declaration.variants {
         write_variant(out, variant, has_discriminants)?;
     }
-    write_lines(out, "    ", &declaration.last_comments)?;
-    out.push_str("}\n\n")
-}
-
-/// Writes texts, each on a line of its own.
-fn write_lines(out: &mut String, start: &str, texts: &[&str]) -> Written {
-    for text in texts {
-        write!(out, "{start}{text}\n")?;
-    }
-    Ok(())
+    write!(out, "{last_comments}}}\n\n")
 }
 
 /// Writes the derives, on a line or on a line each: those that an element type needs, and those of the source.
@@ -66,7 +59,8 @@ fn write_derives(out: &mut String, alloc: Global, declaration: &EnumDeclaration)
         }
     }
     for path in &declaration.derives {
-        if !is_full || !SUPERTRAITS.iter().any(|name| *name == path.as_str()) {
+        let mut names = SUPERTRAITS.iter();
+        if !is_full || !names.any(|name| names_last(path.as_str(), name)) {
             write!(words, "{path},\n")?;
         }
     }
@@ -83,20 +77,11 @@ fn write_derives(out: &mut String, alloc: Global, declaration: &EnumDeclaration)
 
 /// Writes a variant, with its discriminant where the enum has discriminants.
 fn write_variant(out: &mut String, variant: &Variant, has_discriminants: bool) -> Written {
-    write_lines(out, "    ", &variant.attributes)?;
-    let name = variant.name;
-    write!(out, "    {name}")?;
-    match &variant.discriminant {
-        Some(discriminant) if has_discriminants => {
-            let sign = discriminant.sign;
-            let literal = discriminant.literal;
-            write!(out, " = {sign}{literal}")?;
-        }
-        _ => {}
+    let (before, name, comments) = (&variant.attributes, variant.name, &variant.comments);
+    write!(out, "{before}    {name}")?;
+    let given = variant.discriminant.filter(|_| has_discriminants);
+    if let Some(Discriminant { sign, literal, .. }) = given {
+        write!(out, " = {sign}{literal}")?;
     }
-    out.push(',')?;
-    for comment in &variant.comments {
-        write!(out, " {comment}")?;
-    }
-    out.push('\n')
+    write!(out, ",{comments}\n")
 }

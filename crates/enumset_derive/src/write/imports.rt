@@ -19,41 +19,33 @@ pub(super) fn imports_of(source: &Source) -> Result<String, DeriveError> {
     for name in &source.imports {
         imports.insert(name.clone()?)?;
     }
-    let mut needed = BTreeSet::new(alloc);
     for item in &source.items {
         if let Form::Element(element) = &item.form {
             for (is_needed, name) in needed_by(element) {
-                if is_needed {
-                    needed.insert(name)?;
+                if is_needed && is_free(source, name)? {
+                    imports.insert(String::from_str(alloc, name)?)?;
                 }
             }
-        }
-    }
-    for name in &needed {
-        if is_free(source, name)? {
-            imports.insert(String::from_str(alloc, name)?)?;
         }
     }
     Ok(lines_of(source, &imports)?)
 }
 
-/// What the module of an element type may need of `enumset`, and whether it does.
+/// What the module of an element type may need of `enumset`, in order, and whether it does.
 fn needed_by(element: &Element) -> [(bool, &'static str); 8] {
     let options = &element.declaration.options;
     let is_named = options.are_named();
     let has_form = options.serialized.is_some();
+    let is_wide = matches!(element.plan.store, Store::Words(_));
     [
-        (true, "EnumSetType"),
-        (is_narrow(&element.plan), "EnumSetTypeWithRepr"),
         (has_form || !options.leaves_out_operators, "EnumSet"),
         (is_named, "EnumSetNames"),
+        (true, "EnumSetType"),
+        (is_narrow(&element.plan), "EnumSetTypeWithRepr"),
+        (is_wide, "internal::ArrayRepr"),
         (is_named, "names_of"),
         (has_form, "set_json"),
         (is_in_table(&element.plan), "variant_of"),
-        (
-            matches!(element.plan.store, Store::Words(_)),
-            "internal::ArrayRepr",
-        ),
     ]
 }
 

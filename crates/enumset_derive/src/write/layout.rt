@@ -1,5 +1,6 @@
 //! The layout of words in lines of at most 100 columns.
 
+use super::Written;
 use std::alloc::{AllocError, Global};
 
 /// How a new line of a list in an `impl` begins.
@@ -46,14 +47,14 @@ pub(super) fn list_of(alloc: Global, room: usize, words: &str) -> Result<String,
     wrapped(alloc, LIST_START, [room, LIST_ROOM], words.as_str())
 }
 
-/// The body of a function that calls a macro with words, on one line if it fits.
-pub(super) fn call_of(alloc: Global, macro_name: &str, words: &str) -> Result<String, AllocError> {
-    let is_short = words.len().saturating_add(macro_name.len()) <= 91;
+/// Writes the body of a function that calls a macro with words, on one line if it fits.
+pub(super) fn write_call(out: &mut String, alloc: Global, name: &str, words: &str) -> Written {
+    let is_short = words.len().saturating_add(name.len()) <= 91;
     let room = if is_short { LIST_ROOM } else { 88 };
     let words = wrapped(alloc, "\n            ", [room, 88], words)?;
     if is_short {
-        format!(in alloc; "        {macro_name}({words})")
+        write!(out, "        {name}({words})\n")
     } else {
-        format!(in alloc; "        {macro_name}(\n            {words}\n        )")
+        write!(out, "        {name}(\n            {words}\n        )\n")
     }
 }

@@ -1,30 +1,24 @@
 //! The names of variants: in JSON, and by `Display`.
 
-use super::layout::{call_of, list_of};
+use super::layout::{list_of, write_call};
 use super::{Subject, Written};
-use std::alloc::AllocError;
 
 /// Writes the names of the variants in JSON.
 pub(super) fn write_names(out: &mut String, of: &Subject) -> Written {
-    let (alloc, name, guard) = (of.alloc, of.name, of.guard);
+    let (alloc, name, guard, element) = (of.alloc, of.name, of.guard, of.element);
     let mut words = format!(in alloc; "{name}:\n")?;
     let mut codes = String::new(alloc);
-    let mut renamed = of.element.json_names.iter();
-    for variant in &of.element.declaration.variants {
+    for (index, variant) in element.declaration.variants.iter().enumerate() {
         let own = variant.name;
-        match renamed.next() {
-            None => {
-                write!(codes, "codes \"{own}\" ∷\n")?;
-                write!(words, "{own}\n")?;
-            }
-            Some((_, other)) => {
-                write!(codes, "codes \"{other}\" ∷\n")?;
-                write!(words, "{own} \"{other}\"\n")?;
-            }
+        let given = element.json_names.get(index);
+        let json = given.map_or(own, |(_, json)| json.as_str());
+        write!(codes, "codes \"{json}\" ∷\n")?;
+        match given {
+            Some(_) => write!(words, "{own} \"{json}\"\n")?,
+            None => write!(words, "{own}\n")?,
         }
     }
     let names = list_of(alloc, 80, codes.as_str())?;
-    let body = call_of(alloc, "names_of!", words.as_str())?;
     write!(
         out,
         "
@@ -35,24 +29,22 @@ pub(super) fn write_names(out: &mut String, of: &Subject) -> Written {
     ghost names = {{ {names} }};
 
     fn names() -> &'static [(Self, &'static str)] {{
-{body}
-    }}
-
-    ghost named = {{ tt }};
-}}"
-    )
+"
+    )?;
+    write_call(out, alloc, "names_of!", words.as_str())?;
+    out.push_str("    }\n\n    ghost named = { tt };\n}")
 }
 
 /// Writes the `Display` by the names of the variants.
 pub(super) fn write_display(out: &mut String, of: &Subject) -> Written {
     let (alloc, crate_name, module) = (of.alloc, of.crate_name, of.module);
-    let (name, guard) = (of.name, of.guard);
+    let (name, guard, element) = (of.name, of.guard, of.element);
+    let variants = &element.declaration.variants;
     let mut codes = String::new(alloc);
-    for variant in &of.element.declaration.variants {
+    for variant in variants {
         write!(codes, "codes \"{}\" ∷\n", variant.name)?;
     }
     let names = list_of(alloc, 90, codes.as_str())?;
-    let body = body_of_display(of)?;
     write!(
         out,
         "
@@ -69,25 +61,18 @@ pub(super) fn write_display(out: &mut String, of: &Subject) -> Written {
         (tag_of the_type v) []) }};
 
     fn fmt<W: std::fmt::Write>(&self, f: &mut std::fmt::Formatter<W>) -> std::fmt::Result {{
-{body}    }}
-}}"
-    )
-}
-
-/// The body that writes a variant's name.
-fn body_of_display(of: &Subject) -> Result<String, AllocError> {
-    let variants = &of.element.declaration.variants;
+"
+    )?;
     if variants.is_empty() {
-        return String::from_str(of.alloc, "        match *self {}\n");
+        return out.push_str("        match *self {}\n    }\n}");
     }
-    let mut body = String::from_str(of.alloc, "        match self {\n")?;
+    out.push_str("        match self {\n")?;
     for variant in variants {
         let name = variant.name;
         write!(
-            body,
+            out,
             "            Self::{name} => f.write_str(\"{name}\"),\n"
         )?;
     }
-    body.push_str("        }\n")?;
-    Ok(body)
+    out.push_str("        }\n    }\n}")
 }

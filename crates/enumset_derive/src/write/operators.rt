@@ -2,32 +2,27 @@
 
 use super::{Subject, Written};
 
-/// Of each operator with two operands the trait, the function, the sign, the operation in the model, and its name in words.
-const OPERATORS: [[&str; 5]; 4] = [
-    ["BitAnd", "bitand", "&", "intersection", "intersection"],
-    ["BitOr", "bitor", "|", "union", "union"],
-    [
-        "BitXor",
-        "bitxor",
-        "^",
-        "symmetric_difference",
-        "symmetric difference",
-    ],
-    ["Sub", "sub", "-", "difference", "difference"],
+/// Of each operator with two operands the trait, the function, the sign, and the operation in the model.
+const OPERATORS: [[&str; 4]; 4] = [
+    ["BitAnd", "bitand", "&", "intersection"],
+    ["BitOr", "bitor", "|", "union"],
+    ["BitXor", "bitxor", "^", "symmetric_difference"],
+    ["Sub", "sub", "-", "difference"],
 ];
 
 /// Writes the five operators.
 pub(super) fn write_operators(out: &mut String, of: &Subject) -> Written {
-    for operator in &OPERATORS {
+    for operator in OPERATORS {
         write_operator(out, of, operator)?;
     }
     write_complement(out, of)
 }
 
 /// Writes an operator between two elements, and between an element and a set.
-fn write_operator(out: &mut String, of: &Subject, operator: &[&str; 5]) -> Written {
-    let Subject { name, guard, .. } = *of;
-    let [trait_name, function, sign, operation, words] = *operator;
+fn write_operator(out: &mut String, of: &Subject, operator: [&str; 4]) -> Written {
+    let (alloc, name, guard) = (of.alloc, of.name, of.guard);
+    let [trait_name, function, sign, operation] = operator;
+    let words = operation.replace(alloc, "_", " ")?;
     write!(
         out,
         "
