@@ -14,14 +14,13 @@ pub fn may(granted: EnumSet<Right>, requested: EnumSet<Right>) -> bool
 }
 
 /// How many of the granted rights are requested and licensed.
-#[tactic(auto, using(enumset_repr::specs::Laws::Counting::len_kept_both))]
-pub fn usable_count<T: EnumSetType>(
-    granted: &EnumSet<T>,
-    requested: &EnumSet<T>,
-    licensed: &EnumSet<T>,
+#[tactic(auto, using(enumset_repr::specs::Laws::Places::chains_of_two))]
+pub fn usable_count(
+    granted: EnumSet<Right>,
+    requested: EnumSet<Right>,
+    licensed: EnumSet<Right>,
 ) -> usize
-    ensures { result
-        ≡ set.len (set.intersection (set.intersection granted.now requested.now) licensed.now) }
+    ensures { result ≡ set.len (set.intersection (set.intersection granted requested) licensed) }
 {
     granted
         .iter()
