@@ -250,6 +250,7 @@ impl<T: EnumSetType> EnumSet<T> {
     /// Returns the number of members. Each is a valid bit.
     pub fn len(&self) -> usize
         ensures members { result ≡ set.len self.now }
+        ensures fits { result < 2 ^ 32 }
         ensures valid { IsTrue (set.is_subset self.now (valid_bits T.elements)) }
     {
         self.repr.count_ones() as usize

@@ -1,13 +1,15 @@
 //! What this version makes of a frame's flags.
 
-ghost use Rattle.std.specs.Prelude.{◌≡◌};
+ghost use Rattle.std.specs.Prelude.{◌≡◌, ◌↔◌, true};
 ghost use Rattle.enumset_repr.specs.BitSet as set;
+ghost use Rattle.enumset_repr.specs.Number.{bits};
+ghost use Rattle.enumset_sets.specs.Elements.{valid_bits};
 ghost use Rattle.example_headers.specs.Frames.{bit, known, reserved};
 
 use crate::flag::Flag;
 use crate::newer_flag::NewerFlag;
 use enumset::set::MixedEnumSet;
-use enumset::{EnumSet, laws};
+use enumset::{EnumSet, EnumSetType, laws};
 
 /// What this version decides of the flags that it knows. It gives the receipt, and marks the frame as relayed.
 pub fn decide(flags: EnumSet<Flag>) -> EnumSet<Flag>
@@ -17,6 +19,23 @@ pub fn decide(flags: EnumSet<Flag>) -> EnumSet<Flag>
     decided.remove(Flag::WantsReceipt);
     decided.insert(Flag::Relayed);
     decided
+}
+
+/// The bits of a byte of flags that this version does not know.
+#[tactic(auto, using(enumset_repr::specs::Laws::Masks::masks))]
+pub fn reserved_bits(byte: u8) -> u8
+    ensures { bits result ≡ reserved (bits byte) }
+{
+    byte & !EnumSet::<Flag>::all().as_u8()
+}
+
+/// Whether this version knows every flag of a byte.
+#[tactic(auto, using(enumset_repr::specs::Laws::Masks::masks))]
+pub fn is_understood(byte: u8) -> bool
+    ensures { result ≡ true ↔ (set.is_subset (bits byte)
+        (valid_bits ⟦<Flag as EnumSetType>⟧.elements) ≡ true) }
+{
+    byte & !EnumSet::<Flag>::all().as_u8() == 0
 }
 
 /// The flags with others in place of those that this version knows. The reserved bits stay.

@@ -1,6 +1,6 @@
 //! Loops over sets.
 
-ghost use Rattle.std.specs.Prelude.{◌≡◌, not, count_by, false, true};
+ghost use Rattle.std.specs.Prelude.{◌≡◌, ◌<◌, ◌≤◌, ℕ, not, count_by, false, true, IfSome, IfNone};
 ghost use Rattle.std.specs.List.{find};
 ghost use Rattle.std.specs.Option.{option_map};
 ghost use Rattle.enumset_repr.specs.BitSet as set;
@@ -43,6 +43,24 @@ pub fn first_denied<T: EnumSetType>(granted: &EnumSet<T>, denied: &EnumSet<T>) -
 {
     for right in granted.iter() {
         if denied.contains(right) {
+            return Some(right);
+        }
+    }
+    None
+}
+
+/// The first of the granted rights after one.
+#[tactic(auto, using(enumset_repr::specs::Laws::Loops::searches))]
+pub fn next_granted<T: EnumSetType>(granted: &EnumSet<T>, past: T) -> Option<T>
+    ensures granted { IfSome result (λ right. set.contains granted.now (T.elements.bit right) ≡ true) }
+    ensures later { IfSome result (λ right. T.elements.bit past < T.elements.bit right) }
+    ensures least { IfSome result (λ right. (q : ℕ) → set.contains granted.now q ≡ true
+        → T.elements.bit past < q → T.elements.bit right ≤ q) }
+    ensures none { IfNone result ((q : ℕ) → set.contains granted.now q ≡ true → q ≤ T.elements.bit past) }
+{
+    let bit = EnumSet::bit_index(past);
+    for right in granted.iter() {
+        if EnumSet::bit_index(right) > bit {
             return Some(right);
         }
     }

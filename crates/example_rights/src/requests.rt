@@ -1,14 +1,41 @@
 //! Requests for rights.
 
-ghost use Rattle.std.specs.Prelude.{◌≡◌};
+ghost use Rattle.std.specs.Prelude.{◌≡◌, ◌≤◌, ℕ, true, IfSome, IfNone};
 ghost use Rattle.enumset_repr.specs.BitSet as set;
 
 use crate::rights::Right;
-use enumset::EnumSet;
+use enumset::{EnumSet, EnumSetType};
 
 /// Whether all requested rights are granted.
 pub fn may(granted: EnumSet<Right>, requested: EnumSet<Right>) -> bool
     ensures { result ≡ set.is_subset requested granted }
 {
     granted.is_superset(requested)
+}
+
+/// How many of the granted rights are requested and licensed.
+#[tactic(auto, using(enumset_repr::specs::Laws::Places::chains_of_two))]
+pub fn usable_count(
+    granted: EnumSet<Right>,
+    requested: EnumSet<Right>,
+    licensed: EnumSet<Right>,
+) -> usize
+    ensures { result ≡ set.len (set.intersection (set.intersection granted requested) licensed) }
+{
+    granted
+        .iter()
+        .filter(|right| requested.contains(*right) && licensed.contains(*right))
+        .count()
+}
+
+/// The first of the rights that are requested and not granted.
+#[tactic(auto, using(enumset_repr::specs::Laws::Found::found))]
+pub fn first_missing<T: EnumSetType>(granted: &EnumSet<T>, requested: &EnumSet<T>) -> Option<T>
+    ensures missing { IfSome result (λ right.
+        set.contains (set.difference requested.now granted.now) (T.elements.bit right) ≡ true) }
+    ensures least { IfSome result (λ right. (q : ℕ)
+        → set.contains (set.difference requested.now granted.now) q ≡ true → T.elements.bit right ≤ q) }
+    ensures none { IfNone result (set.difference requested.now granted.now ≡ set.empty) }
+{
+    requested.difference(granted.copied()).first()
 }

@@ -34,7 +34,7 @@ pub fn granted_by_valid<T: EnumSetType>(byte: u8) -> EnumSet<T>
     requires { IsTrue (set.is_subset (bits byte) (valid_bits T.elements)) }
     ensures { result ≡ bits byte }
 {
-    EnumSet::try_from_u8(byte).unwrap()
+    EnumSet::from_u8(byte)
 }
 
 /// Sends the granted set as a byte, and reads it again.

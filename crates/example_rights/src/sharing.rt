@@ -7,7 +7,6 @@ ghost use Rattle.enumset_sets.specs.Elements.{valid_bits};
 ghost use Rattle.enumset_mixed.specs.Mixed.{unknown_members};
 ghost use Rattle.enumset.specs.Folds.{intersection_all};
 
-use crate::rights::Right;
 use enumset::set::MixedEnumSet;
 use enumset::{EnumSet, EnumSetType, EnumSetTypeWithRepr, laws};
 
@@ -56,12 +55,4 @@ pub fn replaced<T: EnumSetTypeWithRepr>(rights: &mut MixedEnumSet<T>, old: T, ne
     laws::unknown_kept::<T>();
     rights.remove(old);
     rights.insert(new);
-}
-
-/// All rights, as the bits below 3.
-pub fn all_rights() -> EnumSet<Right>
-    ensures { result ≡ set.below 3 }
-{
-    laws::bits_below(3);
-    EnumSet::all()
 }

@@ -7,6 +7,8 @@ ghost use Rattle.enumset_repr.specs.Number.{bits, number};
 ghost use Rattle.enumset_repr.specs.Laws.Integers.{by_number};
 ghost use Rattle.enumset_repr.specs.Laws.Representations.{by_sets, by_list, no_asks};
 
+pub mod segment;
+
 use enumset_repr::{EnumSetTypeRepr, PrimitiveIter};
 use std::marker::Model;
 use std::ops::{BitAnd, BitOr, BitXor, Not};

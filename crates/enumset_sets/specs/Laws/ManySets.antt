@@ -1,11 +1,12 @@
 -- Folds of a list: only which items it has matters, neither their order nor repeats.
 --     contains-intersection_all, contains-union_all      which bits are in all the sets of a list;  in any of them
+--     contains_fold_intersection, contains_fold_union      the same where std's `fold` goes over the list
 --     intersection_all_more      one set more at the end of the list
 --     union_all_none, union_all_step      a set with all sets of a list, one after the other
 --     any_same      a test of the items
 --     from_list_same, union_all_same, intersection_all_same      lists with the same items make the same set
--- The ruleset `folds` has the first five.
-use Rattle.std.proofs.Common.{◌≡◌, ℕ, Bool, true, not, ◌&&◌, ◌||◌, List, [], ◌∷◌, ◌++◌, map, refl, sym, ap, ◌∙◌, arith, Contains, ◌↔◌}
+-- The ruleset `folds` has the first seven.
+use Rattle.std.proofs.Common.{◌≡◌, ℕ, Bool, true, not, ◌&&◌, ◌||◌, List, [], ◌∷◌, ◌++◌, map, fold, refl, sym, ap, ◌∙◌, arith, Contains, ◌↔◌}
 use Rattle.std.specs.Prelude.{◌==◌}
 use Rattle.std.specs.List.{list_all, list_any}
 use Rattle.std.proofs.lemmas.List.Folds.{Any-from_list_any, list_any_at}
@@ -23,6 +24,14 @@ pub contains-union_all : (ss : List BitSet) (q : ℕ) → contains (union_all ss
 unfolding union_all
 contains-union_all [] q = contains-empty q
 contains-union_all (s ∷ ss) q = contains-union s (union_all ss) q ∙ ap (λ b. contains s q || b) (contains-union_all ss q)
+
+pub contains_fold_intersection : (s : BitSet) (ts : List BitSet) (q : ℕ) → contains (fold intersection s ts) q ≡ (contains s q && list_all (λ t. contains t q) ts)
+contains_fold_intersection s [] q = grind arith
+contains_fold_intersection s (t ∷ ts) q = contains_fold_intersection (intersection s t) ts q ∙ grind (arith, members)
+
+pub contains_fold_union : (s : BitSet) (ts : List BitSet) (q : ℕ) → contains (fold union s ts) q ≡ (contains s q || list_any (λ t. contains t q) ts)
+contains_fold_union s [] q = grind arith
+contains_fold_union s (t ∷ ts) q = contains_fold_union (union s t) ts q ∙ grind (arith, members)
 
 pub intersection_all_more : (s : BitSet) (ts : List BitSet) (t : BitSet) → intersection_all s (ts ++ t ∷ []) ≡ intersection (intersection_all s ts) t
 intersection_all_more s [] t = refl
@@ -70,4 +79,4 @@ intersection_all_same s ts us same = same_set _ _ (λ q.
     ∙ ap (λ b. contains s q && b) (all_not_any (λ t. contains t q) ts ∙ ap not (any_same (λ t. not (contains t q)) ts us same) ∙ sym (all_not_any (λ t. contains t q) us))
     ∙ sym (contains-intersection_all s us q))
 
-pub ruleset folds = (contains-intersection_all, contains-union_all, intersection_all_more, union_all_none, union_all_step)
+pub ruleset folds = (contains-intersection_all, contains-union_all, contains_fold_intersection, contains_fold_union, intersection_all_more, union_all_none, union_all_step)

@@ -1,12 +1,8 @@
-use Rattle.std.proofs.Common.{refl, sym, ◌∙◌, arith}
+use Rattle.std.proofs.Common.{refl, arith}
 use Rattle.enumset_repr.specs.Laws.Members.{members, same_set, member_below}
 use Rattle.example_weekdays.specs.Week.{bit}
 use Rattle.example_weekdays.proofs.WeekLaws.{bit_small, wait_next, wait_small, wait_tells}
 use Rattle.example_weekdays.proofs.schedule.nearest_day.Goals as goal
-
-pub returns-then-contains-clause-nearest : goal.returns-then-contains-clause-nearest
-returns-then-contains-clause-nearest c =
-    (sym c.contains.ensures ∙ c.if-contains.true, λ q one. let far = c.loop.invariant.far c.loop-test.true in let none = c.loop.invariant.none q one in omega arith)
 
 pub loop-preserved : goal.loop-preserved
 loop-preserved c =

@@ -1,0 +1,8 @@
+use Rattle.std.proofs.Common.{◌≡◌, nat_lt}
+use Rattle.std.specs.List.{find}
+use Rattle.enumset_repr.specs.BitSet.{ascending}
+use Rattle.example_rights.proofs.loops.next_granted.Given as goal
+
+-- the first of those to come is the first of all
+abbrev pub invariant-loop-right : goal.invariant-loop-right
+invariant-loop-right g l = find (nat_lt l.bit) l.right-iterator.items ≡ find (nat_lt l.bit) (ascending l.granted)
