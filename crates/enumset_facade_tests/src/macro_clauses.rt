@@ -1,7 +1,9 @@
 //! The macros in functions with contracts, so that the check refuses a macro with another meaning: over sets of any
-//! enum and over mixed sets, with none, one, two, three and five operands.
+//! enum and over mixed sets, with none, one, two, three and five operands; and `variant_of!` with as many variants as it
+//! takes without bits.
 
-ghost use Rattle.std.specs.Prelude.{◌≡◌};
+ghost use Rattle.std.specs.Prelude.{◌≡◌, IsTrue};
+ghost use Rattle.std.specs.List.{range_with_len};
 ghost use Rattle.enumset_repr.specs.BitSet as set;
 ghost use Rattle.enumset_sets.specs.Elements.{valid_bits};
 
@@ -9,7 +11,9 @@ use enumset::set::MixedEnumSet;
 use enumset::{
     EnumSet, EnumSetType, EnumSetTypeWithRepr, enum_set, enum_set_complement, enum_set_difference,
     enum_set_intersection, enum_set_symmetric_difference, enum_set_union, mixed_enum_set,
+    variant_of,
 };
+use enumset_test_types::Of33;
 
 fn elements<T: EnumSetType>(
     a: T,
@@ -367,4 +371,11 @@ fn mixed_complement<T: EnumSetTypeWithRepr>(a: MixedEnumSet<T>) -> MixedEnumSet<
     ensures { result ≡ set.difference (valid_bits T.elements) a }
 {
     enum_set_complement!(a)
+}
+
+fn of_sixteen(bit: u32) -> Of33
+    requires { IsTrue (set.is_in bit (range_with_len 0 16)) }
+    ensures { ⟦<Of33 as EnumSetType>⟧.elements.bit result ≡ bit }
+{
+    variant_of!(bit, Of33: V0 V1 V2 V3 V4 V5 V6 V7 V8 V9 V10 V11 V12 V13 V14 V15)
 }

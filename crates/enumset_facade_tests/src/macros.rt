@@ -10,9 +10,9 @@ use enumset_worked::{Four, Letters, Marks};
 fn elements_make_sets(rt: HostRuntime) {
     let letters: [EnumSet<Letters>; 6] = [
         enum_set!(),
-        enum_set!(|),
+        enum_set!(| |),
         enum_set!(Letters::B | |),
-        enum_set!(Letters::A | Letters::C |),
+        enum_set!(Letters::A | Letters::C | |),
         enum_set!(Letters::A | Letters::C | Letters::G),
         enum_set!(Letters::A | Letters::A),
     ];
