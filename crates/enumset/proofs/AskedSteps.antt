@@ -4,7 +4,7 @@ use Rattle.std.proofs.lemmas.List.{drop_more, drop_all}
 use Rattle.enumset_repr.specs.Asks.{BoundsAsks}
 use Rattle.enumset_repr.specs.BitSet.{BitSet}
 use Rattle.enumset_repr.specs.Ends.{first, last, without_first, without_last}
-use Rattle.enumset_repr.specs.Laws.Steps.{last-push, without_last-push}
+use Rattle.enumset_repr.specs.Laws.Steps.{last_push, without_last_push}
 use Rattle.enumset_array.specs.declared.traversal.End.{End}
 use Rattle.enumset_array.specs.declared.traversal.End.TheVariants.{Front}
 use Rattle.enumset_array.specs.Walks.{answer, without_answer, answers, without_answers, items_among}
@@ -20,7 +20,7 @@ first_by bit xs (Some x) ys step = (ap (λ zs. is_some (first zs)) (sym step), s
 pub last_by : {A : Type 0} (bit : A → ℕ) (xs : List ℕ) (r : Option A) (ys : List ℕ) → MatchOption r ((xs ≡ []) × (ys ≡ [])) (λ x. xs ≡ ys ++ bit x ∷ []) → (is_some r ≡ is_some (last xs)) × (ys ≡ without_last xs)
 last_by bit xs None ys step = (ap (λ zs. is_some (last zs)) (sym step.0), step.1 ∙ sym (ap without_last step.0))
 last_by bit xs (Some x) ys step =
-    (sym (ap (λ zs. is_some (last zs)) step ∙ ap is_some (last-push ys (bit x))), sym (ap without_last step ∙ without_last-push ys (bit x)))
+    (sym (ap (λ zs. is_some (last zs)) step ∙ ap is_some (last_push ys (bit x))), sym (ap without_last step ∙ without_last_push ys (bit x)))
 
 -- the same of the items of a mixed set
 pub mixed_first_by : {A : Type 0} (item : A → ℕ × Bool) (valid : BitSet) (xs : List ℕ) (r : Option A) (ys : List ℕ) → MatchOption r ((with_validity valid xs ≡ []) × (with_validity valid ys ≡ [])) (λ x. with_validity valid xs ≡ item x ∷ with_validity valid ys) → (is_some r ≡ is_some (first xs)) × (ys ≡ without_first xs)

@@ -11,7 +11,7 @@ use Rattle.enumset_repr.specs.Words.{words, bits_of}
 use Rattle.enumset_repr.specs.Laws.Algebra.{intersection_within}
 use Rattle.enumset_repr.specs.Laws.Low.{low_within, is_subset_wider}
 use Rattle.enumset_sets.specs.Laws.Conversions.{words_within}
-use Rattle.enumset_repr.specs.Laws.Numbers.{bits-number, number-within}
+use Rattle.enumset_repr.specs.Laws.Numbers.{bits_number, number_within}
 use Rattle.serde_json.specs.Data.{Data}
 use Rattle.serde_json.specs.View.{items_of}
 use Rattle.enumset.specs.Json.{number_value, words_value, number_below, values_of, word_of, is_no_word, words_of, unless_fault, words_in, accepted, accepted_of, all_bits, set_of_number, set_of_words, kept_below, kept_of, mixed_set_of_number, mixed_set_of_words}
@@ -31,14 +31,14 @@ kept_within s width Refuse within = cond-true (is_subset s (below width)) (Ok s)
 -- ---- numbers
 
 number_read : (s : BitSet) (k : ℕ) → is_subset s (below k) ≡ true → number_below k (number_value (number s)) ≡ Ok (number s)
-number_read s k fits = cond-true _ (Ok (number s)) (Err OutOfRange) (lt-ltb _ _ (number-within s k fits))
+number_read s k fits = cond-true _ (Ok (number s)) (Err OutOfRange) (lt-ltb _ _ (number_within s k fits))
 
 pub number_accepted : (s valid : BitSet) (k : ℕ) (unknown : Unknown) → is_subset s (below k) ≡ true → set_of_number valid k unknown (number_value (number s)) ≡ accepted valid unknown s
 number_accepted s valid k unknown fits =
-    ap (accepted_of bits valid unknown) (number_read s k fits) ∙ ap (accepted valid unknown) (bits-number s)
+    ap (accepted_of bits valid unknown) (number_read s k fits) ∙ ap (accepted valid unknown) (bits_number s)
 
 pub mixed_number_and_back : (s : BitSet) (k : ℕ) → is_subset s (below k) ≡ true → mixed_set_of_number k (number_value (number s)) ≡ Ok s
-mixed_number_and_back s k fits = ap all_bits (number_read s k fits) ∙ ap Ok (bits-number s)
+mixed_number_and_back s k fits = ap all_bits (number_read s k fits) ∙ ap Ok (bits_number s)
 
 -- ---- words
 

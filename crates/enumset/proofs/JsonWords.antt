@@ -10,11 +10,11 @@ use Rattle.std.specs.Bool.{Decides}
 use Rattle.std.specs.Prelude.{◌==◌, nat_lt}
 use Rattle.enumset_repr.specs.BitSet.{BitSet, empty, contains, is_subset, below, low}
 use Rattle.enumset_repr.specs.Words.{word, with_word, bits_of}
-use Rattle.enumset_repr.specs.Laws.Members.{contains-low}
+use Rattle.enumset_repr.specs.Laws.Members.{contains_low}
 use Rattle.enumset_repr.specs.Laws.Numbers.{same_number}
 use Rattle.enumset_repr.specs.Laws.Low.{low_within, low_narrow, is_subset_wider}
-use Rattle.enumset_repr.specs.Laws.Words.{contains-bits-word}
-use Rattle.enumset_repr.specs.Laws.WordLists.{word-bits_of, put_next, bits_of-within}
+use Rattle.enumset_repr.specs.Laws.Words.{contains_bits_word}
+use Rattle.enumset_repr.specs.Laws.WordLists.{word_bits_of, put_next, bits_of_within}
 use Rattle.enumset_repr.specs.Laws.Filled.{none_put, all_kept}
 use Rattle.serde_json.specs.Data.{Data}
 use Rattle.serde_json.specs.Find.{as_array}
@@ -73,10 +73,10 @@ one_more P place before here w under = elim (cases_lt w place) [
 
 word-low : (s : BitSet) (width w : ℕ) → word (low (low s (64 * (w + 1))) width) w ≡ word (low s width) w
 word-low s width w = same_number _ _ (λ b.
-    contains-bits-word _ w b
-    ∙ ap (λ t. t && nat_lt b 64) (contains-low _ width (64 * w + b) ∙ ap (λ t. t && nat_lt (64 * w + b) width) (contains-low s (64 * (w + 1)) (64 * w + b)))
+    contains_bits_word _ w b
+    ∙ ap (λ t. t && nat_lt b 64) (contains_low _ width (64 * w + b) ∙ ap (λ t. t && nat_lt (64 * w + b) width) (contains_low s (64 * (w + 1)) (64 * w + b)))
     ∙ under (contains s (64 * w + b)) b
-    ∙ sym (contains-bits-word _ w b ∙ ap (λ t. t && nat_lt b 64) (contains-low s width (64 * w + b))))
+    ∙ sym (contains_bits_word _ w b ∙ ap (λ t. t && nat_lt b 64) (contains_low s width (64 * w + b))))
   where
     under : (c : Bool) (b : ℕ) → (((c && nat_lt (64 * w + b) (64 * (w + 1))) && nat_lt (64 * w + b) width) && nat_lt b 64) ≡ ((c && nat_lt (64 * w + b) width) && nat_lt b 64)
     under c b = grind (arith, nat_tests)
@@ -124,7 +124,7 @@ module _ (ws : List ℕ) (place width : ℕ) (s : BitSet) (is_whole : Bool) (bef
 
   pub all_read : length ws ≤ place → (s ≡ low (bits_of ws) width) × (is_whole ≡ is_subset (bits_of ws) (below width))
   all_read past = (
-    before.put (bits_of ws) has ∙ ap (λ t. low t width) (low_within _ _ (is_subset_wider _ (64 * length ws) (64 * place) (omega (arith, past)) (bits_of-within ws fit))),
+    before.put (bits_of ws) has ∙ ap (λ t. low t width) (low_within _ _ (is_subset_wider _ (64 * length ws) (64 * place) (omega (arith, past)) (bits_of_within ws fit))),
     same_from_decides _ _ (before.whole (bits_of ws) has) (
       λ within w under. ap (λ t. word t w) (low_within _ _ within) ∙ has w under,
       λ kept. all_kept ws width fit (λ w under. kept w (omega (arith, under, past))),
@@ -138,4 +138,4 @@ module _ (ws : List ℕ) (place width : ℕ) (s : BitSet) (is_whole : Bool) (bef
       ]
 
       has : (w : ℕ) → w < place → word (bits_of ws) w ≡ slice_index ws w
-      has w under = word-bits_of ws w fit
+      has w under = word_bits_of ws w fit

@@ -5,7 +5,7 @@ use Rattle.std.specs.List.{cons_option, position_from}
 use Rattle.std.specs.Ordering.{nat_cmp, match_ordering}
 use Rattle.std.specs.Cmp.Lexicographic.{slice_cmp}
 use Rattle.std.proofs.lemmas.Iterator.Adapters.{position_from-zero}
-use Rattle.enumset_repr.specs.Laws.Algebra.{insert_comm, contains_insert}
+use Rattle.enumset_repr.specs.Laws.Algebra.{insert_comm, contains_inserted}
 use Rattle.enumset_repr.specs.Laws.Members.{members}
 use Rattle.std.proofs.lemmas.Bool.Decides.{nat_tests}
 use Rattle.enumset_repr.specs.BitSet.{BitSet, empty, contains, insert, from_list}
@@ -100,7 +100,7 @@ module _ (names : Names) where
     done = put name (boolean b) so_far.0
 
     each_done : Each (IsSeen (insert seen c)) done
-    each_done = each_put (IsSeen (insert seen c)) name (boolean b) so_far.0 ((b, refl), (c, is, contains_insert seen c)) (each_more seen c so_far.0 so_far.1)
+    each_done = each_put (IsSeen (insert seen c)) name (boolean b) so_far.0 ((b, refl), (c, is, contains_inserted seen c)) (each_more seen c so_far.0 so_far.1)
 
     set_done : set_in done ≡ cond b (insert s c) s
     set_done = set_put seen name b c so_far.0 is new so_far.1 ∙ ap (λ t. cond b (insert t c) t) so_far.2

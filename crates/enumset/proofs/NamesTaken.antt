@@ -13,7 +13,7 @@ use Rattle.std.proofs.lemmas.List.Recursion.{same_from_clauses}
 use Rattle.std.proofs.lemmas.Map.Text.{is_eq-slice_cmp}
 use Rattle.std.proofs.lemmas.Slice.Eq.{bytes_eq-Decides}
 use Rattle.enumset_repr.specs.BitSet.{BitSet, is_in, contains, insert, intersection, from_list, ascending, is_subset}
-use Rattle.enumset_repr.specs.Laws.Members.{same_set, contains-from_list, contains-ascending, contains-is_subset, is_subset-contains, list_all-any, list_all-each}
+use Rattle.enumset_repr.specs.Laws.Members.{same_set, contains_from_list, contains_ascending, contains_is_subset, is_subset_contains, list_all_any, list_all_each}
 use Rattle.enumset_repr.specs.Laws.Algebra.{from_list_ascending, insert_inside, empty_intersection, intersection_within}
 use Rattle.enumset_repr.specs.Laws.Sets.{intersection_insert}
 use Rattle.enumset_sets.specs.Laws.Elements.{AreBitsOf-ascending}
@@ -63,8 +63,8 @@ module _ (valid : BitSet) where
 
   all_valid : (bs : List ℕ) → list_all (contains valid) bs ≡ is_subset (from_list bs) valid
   all_valid bs = same_from_decides {P = (q : ℕ) → is_in q bs ≡ true → contains valid q ≡ true} _ _
-      (λ all q one. list_all-any (contains valid) bs q all one, list_all-each (contains valid) bs)
-      (λ within q one. is_subset-contains (from_list bs) valid within q (contains-from_list bs q ∙ one), λ all. contains-is_subset (from_list bs) valid (λ q one. all q (sym (contains-from_list bs q) ∙ one)))
+      (λ all q one. list_all_any (contains valid) bs q all one, list_all_each (contains valid) bs)
+      (λ within q one. is_subset_contains (from_list bs) valid within q (contains_from_list bs q ∙ one), λ all. contains_is_subset (from_list bs) valid (λ q one. all q (sym (contains_from_list bs q) ∙ one)))
 
   accepted : (unknown : Unknown) (s : BitSet) (bs : List ℕ) → from_list bs ≡ s → taken unknown (map known bs) ≡ accepted_by_name valid unknown s bs
   accepted Drop s bs is = ap Ok (kept bs ∙ ap (λ t. intersection t valid) is)
@@ -185,15 +185,15 @@ module _ (readers writers : Names) (valid : BitSet) (bs : List ℕ) (back : (b :
       (λ j. unless_fault NotABoolean ((position_from-zero is_no_boolean (members_in ms) ∙ plain.0) j) (named_set readers unknown (names_in (members_in ms)) (plain.1 j)))
       ∙ by_bits readers unknown (names_in (members_in ms))
       ∙ ap (taken unknown) (names_known ms each)
-      ∙ accepted valid unknown s (in_map writers s) (same_set _ _ (λ q. contains-from_list (in_map writers s) q ∙ all_written q (ascending s) no_members inside ∙ sym (contains-ascending s q)))
+      ∙ accepted valid unknown s (in_map writers s) (same_set _ _ (λ q. contains_from_list (in_map writers s) q ∙ all_written q (ascending s) no_members inside ∙ sym (contains_ascending s q)))
 
 -- ---- the names of element types
 
 -- a type reads what it wrote
 pub own_known : (bs : List ℕ) (names : List (List ℕ)) → AreNames bs names → (b : ℕ) → is_in b bs ≡ true → bit_named (zip bs names) (name_of (zip bs names) b) ≡ known (from_list bs) b
-own_known bs names are b one = name_back bs names b are one ∙ sym (cond-true (contains (from_list bs) b) (Some b) None (contains-from_list bs b ∙ one))
+own_known bs names are b one = name_back bs names b are one ∙ sym (cond-true (contains (from_list bs) b) (Some b) None (contains_from_list bs b ∙ one))
 
 -- a type reads what another wrote, whose names agree with its own
 pub other_known : (os : List ℕ) (olds : List (List ℕ)) (bs : List ℕ) (names : List (List ℕ)) → AreNames os olds → AreNames bs names → names_agree (zip os olds) (zip bs names) ≡ true
     → (b : ℕ) → is_in b bs ≡ true → bit_named (zip os olds) (name_of (zip bs names) b) ≡ known (from_list os) b
-other_known os olds bs names old are agree b one = agree_at os olds bs names b old are agree one ∙ ap (λ t. cond t (Some b) None) (sym (contains-from_list os b))
+other_known os olds bs names old are agree b one = agree_at os olds bs names b old are agree one ∙ ap (λ t. cond t (Some b) None) (sym (contains_from_list os b))

@@ -11,7 +11,7 @@ use Rattle.serde_json.specs.View.{items_of}
 use Rattle.serde_json.specs.Written.{compact_text, items_text, comma_if}
 use Rattle.enumset_repr.specs.BitSet.{BitSet}
 use Rattle.enumset_repr.specs.Words.{word, words}
-use Rattle.enumset_repr.specs.Laws.WordLists.{words-none, words-more, length-words, word-small}
+use Rattle.enumset_repr.specs.Laws.WordLists.{words_none, words_more, length_words, word_small}
 use Rattle.enumset.specs.Json.{number_value, words_value}
 use Rattle.enumset.proofs.JsonDigits.{Ends}
 use Rattle.enumset.proofs.JsonNumbers.{next_number, last_number}
@@ -54,16 +54,16 @@ module _ (s : BitSet) where
   AreWords bytes i = (bytes ≡ begun (words s i)) × IsAscii bytes
 
   pub none_written : (bytes : List ℕ) → bytes ≡ 91 ∷ [] → AreWords bytes 0
-  none_written bytes is = (is ∙ ap begun (sym (words-none s)), subst IsAscii (sym is) (IsAscii-cons 91 [] (omega arith) IsAscii-nil))
+  none_written bytes is = (is ∙ ap begun (sym (words_none s)), subst IsAscii (sym is) (IsAscii-cons 91 [] (omega arith) IsAscii-nil))
 
   pub one_written : (old new : List ℕ) (i n : ℕ) → AreWords old i → n ≡ word s i → new ≡ old ++ (comma_if (nat_lt 0 i) ++ decimal n) → AreWords new (i + 1)
   one_written old new i n so_far is put = (
-    put ∙ (λ j. so_far.0 j ++ (comma_if (nat_lt 0 (count j)) ++ decimal (is j))) ∙ sym (ap begun (words-more s i) ∙ begun_more (words s i) (word s i)),
-    subst IsAscii (sym put) (IsAscii-append old _ so_far.1 (IsAscii-append _ (decimal n) (comma (nat_lt 0 i)) (IsAscii-decimal n (subst (λ n. n < 2 ^ 64) (sym is) (word-small s i))))),
+    put ∙ (λ j. so_far.0 j ++ (comma_if (nat_lt 0 (count j)) ++ decimal (is j))) ∙ sym (ap begun (words_more s i) ∙ begun_more (words s i) (word s i)),
+    subst IsAscii (sym put) (IsAscii-append old _ so_far.1 (IsAscii-append _ (decimal n) (comma (nat_lt 0 i)) (IsAscii-decimal n (subst (λ n. n < 2 ^ 64) (sym is) (word_small s i))))),
   )
     where
       count : i ≡ length (words s i)
-      count = sym (length-words s i)
+      count = sym (length_words s i)
 
       comma : (later : Bool) → IsAscii (comma_if later)
       comma true = IsAscii-cons 44 [] (omega arith) IsAscii-nil
@@ -94,7 +94,7 @@ array_reads (n ∷ m ∷ ns) small =
 
 are_small : (s : BitSet) (ns : List ℕ) → AreSmall (map (word s) ns)
 are_small s [] = tt
-are_small s (n ∷ ns) = (word-small s n, are_small s ns)
+are_small s (n ∷ ns) = (word_small s n, are_small s ns)
 
 pub words_reads : (s : BitSet) (n : ℕ) → read (compact_text (words_value (words s n))) ≡ Some (words_value (words s n))
 unfolding words

@@ -3,7 +3,7 @@ use Rattle.std.proofs.Common.{◌≡◌, ℕ, ◌≤◌, true, false, List, [], 
 use Rattle.std.proofs.lemmas.Bool.{or_from}
 use Rattle.enumset_repr.specs.BitSet.{BitSet, ascending}
 use Rattle.enumset_repr.specs.Laws.Algebra.{from_list_ascending}
-use Rattle.enumset_repr.specs.Laws.Members.{is_subset-itself}
+use Rattle.enumset_repr.specs.Laws.Members.{is_subset_itself}
 use Rattle.enumset_sets.specs.Laws.Elements.{AreBitsOf-ascending}
 use Rattle.serde_json.specs.Data.{Data, Members, string, boolean, no_members, member, depth, items_depth, members_depth}
 use Rattle.serde_json.specs.Read.{max_depth}
@@ -35,5 +35,5 @@ flat_members (member t d ms) each =
 
 pub map_flat : (names : Names) (s : BitSet) → IsFlat (map_value names s)
 map_flat names s =
-    let flat = flat_members _ (each_written (λ t d. d ≡ boolean true) names (ascending s) (ascending s) no_members (λ b one. refl) (AreBitsOf-ascending (ascending s) s s (sym (from_list_ascending s)) (is_subset-itself s)) tt) in
+    let flat = flat_members _ (each_written (λ t d. d ≡ boolean true) names (ascending s) (ascending s) no_members (λ b one. refl) (AreBitsOf-ascending (ascending s) s s (sym (from_list_ascending s)) (is_subset_itself s)) tt) in
     (flat.0, omega (arith, flat.1))

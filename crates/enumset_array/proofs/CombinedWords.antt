@@ -10,12 +10,12 @@ use Rattle.std.proofs.lemmas.Simd.{length-zip2, get_or-zip2}
 use Rattle.std.specs.Simd.Lanes.{zip2}
 use Rattle.enumset_repr.specs.BitSet.{BitSet, contains, empty, below, difference}
 use Rattle.enumset_repr.specs.Number.{bits}
-use Rattle.enumset_repr.specs.Laws.Members.{contains-below, contains-difference}
-use Rattle.enumset_repr.specs.Laws.Numbers.{bits-not}
+use Rattle.enumset_repr.specs.Laws.Members.{contains_below, contains_difference}
+use Rattle.enumset_repr.specs.Laws.Numbers.{bits_not}
 use Rattle.enumset_array.specs.Operations.{IsOnBits}
 use Rattle.enumset_array.specs.ArrayWords.{in_use, words_in_use, set_of, IsArrayRepr}
-use Rattle.enumset_array.specs.Laws.ArrayWords.{contains-set_of, set_is, past_is, empty_past, none_iff}
-use Rattle.enumset_repr.specs.Laws.WordLists.{contains-zero}
+use Rattle.enumset_array.specs.Laws.ArrayWords.{contains_set_of, set_is, past_is, empty_past, none_iff}
+use Rattle.enumset_repr.specs.Laws.WordLists.{contains_zero}
 
 module _ (op : ℕ → ℕ → ℕ) (of_sets : BitSet → BitSet → BitSet) (on : IsOnBits op of_sets) (n : ℕ) (a b : List ℕ) (first : IsArrayRepr n a) (second : IsArrayRepr n b) where
   none_past : (k : ℕ) → in_use n ≤ k → op (slice_index a k) (slice_index b k) ≡ 0
@@ -41,7 +41,7 @@ module _ (op : ℕ → ℕ → ℕ) (of_sets : BitSet → BitSet → BitSet) (on
   pub made_set : set_of n (zip2 op a b) ≡ of_sets (set_of n a) (set_of n b)
   made_set = set_is n (zip2 op a b) _ made_repr (λ w q small.
       ap (λ x. contains (bits x) q) (each w) ∙ ap (λ s. contains s q) (on.same _ _ (first.fit w) (second.fit w)) ∙ on.member _ _ q
-      ∙ (λ i. on.test (sym (contains-set_of n a w q first small) i) (sym (contains-set_of n b w q second small) i))
+      ∙ (λ i. on.test (sym (contains_set_of n a w q first small) i) (sym (contains_set_of n b w q second small) i))
       ∙ sym (on.member (set_of n a) (set_of n b) (64 * w + q)))
 
   -- the result is empty exactly if each of its words is 0
@@ -85,6 +85,6 @@ module _ (n : ℕ) (a : List ℕ) (first : IsArrayRepr n a) where
   pub inverted_set : set_of n (inverted n a) ≡ difference (below (64 * in_use n)) (set_of n a)
   inverted_set = set_is n (inverted n a) _ inverted_repr (λ w q small.
       let low : w < in_use n → contains (bits (slice_index (inverted n a) w)) q ≡ contains (difference (below 64) (bits (slice_index a w))) q
-      = λ under. ap (λ x. contains (bits x) q) (turned w under) ∙ ap (λ s. contains s q) (bits-not 64 (slice_index a w) (first.fit w)) in
-      let past : in_use n ≤ w → contains (bits (slice_index (inverted n a) w)) q ≡ false = λ over. contains-zero _ q (none w over) in
-      grind (arith, nat_tests, contains-difference, contains-below, contains-set_of n a w q first small))
+      = λ under. ap (λ x. contains (bits x) q) (turned w under) ∙ ap (λ s. contains s q) (bits_not 64 (slice_index a w) (first.fit w)) in
+      let past : in_use n ≤ w → contains (bits (slice_index (inverted n a) w)) q ≡ false = λ over. contains_zero _ q (none w over) in
+      grind (arith, nat_tests, contains_difference, contains_below, contains_set_of n a w q first small))

@@ -10,7 +10,7 @@ use Rattle.std.specs.Simd.Lanes.{zip2, chunk}
 use Rattle.std.proofs.lemmas.Bool.Decides.{nat_tests}
 use Rattle.std.proofs.lemmas.Simd.{length-chunk, chunk-drop}
 use Rattle.enumset_array.specs.Order.{highest_first}
-use Rattle.enumset_array.specs.Laws.Order.{highest_first-cons, highest_first-total}
+use Rattle.enumset_array.specs.Laws.Order.{highest_first_cons, highest_first_total}
 use Rattle.enumset_array.proofs.WordLanes.{none_in, none_apart}
 
 -- ---- what decides
@@ -19,7 +19,7 @@ use Rattle.enumset_array.proofs.WordLanes.{none_in, none_apart}
 pub all_equal : (a b : List ℕ) (i : ℕ) → i ≡ 0 → drop i a ≡ drop i b → Equal ≡ highest_first a b
 all_equal a b i none same =
     let whole : a ≡ b = ap (λ n. drop n a) (sym none) ∙ same ∙ ap (λ n. drop n b) none in
-    sym (ap (highest_first a) (sym whole) ∙ tied_itself highest_first-total a)
+    sym (ap (highest_first a) (sym whole) ∙ tied_itself highest_first_total a)
 
 kept : (o p : Ordering) (u v : ℕ) → MatchOrdering o (u < v) (u ≡ v) (v < u) → u ≢ v → ordering_then o p ≡ o
 kept o p u v h apart = grind (arith, nat_tests, h, apart)
@@ -28,9 +28,9 @@ kept o p u v h apart = grind (arith, nat_tests, h, apart)
 pub decided : (a b : List ℕ) (i : ℕ) → length a ≡ length b → i < length a → slice_index a i ≢ slice_index b i → drop (suc i) a ≡ drop (suc i) b
     → highest_first a b ≡ nat_cmp (slice_index a i) (slice_index b i)
 decided (x ∷ a) (y ∷ b) zero long under apart same =
-    highest_first-cons x y a b (omega (arith, long)) ∙ ap (λ o. ordering_then o (nat_cmp x y)) (sym (all_equal a b 0 refl same))
+    highest_first_cons x y a b (omega (arith, long)) ∙ ap (λ o. ordering_then o (nat_cmp x y)) (sym (all_equal a b 0 refl same))
 decided (x ∷ a) (y ∷ b) (suc i) long under apart same =
-    highest_first-cons x y a b (omega (arith, long))
+    highest_first_cons x y a b (omega (arith, long))
     ∙ ap (λ o. ordering_then o (nat_cmp x y)) (decided a b i (omega (arith, long)) (omega (arith, under)) apart same)
     ∙ kept _ (nat_cmp x y) _ _ (ranks (slice_index a i) (slice_index b i)) apart
 decided a b i long under apart same = absurd (omega (arith, long, under))

@@ -12,12 +12,12 @@ use Rattle.std.proofs.lemmas.List.{get_or-set_same, get_or-set_other, drop-set-l
 use Rattle.enumset_repr.specs.BitSet.{BitSet, contains, insert, remove}
 use Rattle.enumset_repr.specs.Number.{bits}
 use Rattle.enumset_repr.specs.Words.{with_word}
-use Rattle.enumset_repr.specs.Laws.Members.{contains-insert, contains-remove}
-use Rattle.enumset_repr.specs.Laws.Numbers.{bits-set, bits-clear, bits-test}
-use Rattle.enumset_repr.specs.Laws.Words.{contains-with_word}
+use Rattle.enumset_repr.specs.Laws.Members.{contains_insert, contains_remove}
+use Rattle.enumset_repr.specs.Laws.Numbers.{bits_set, bits_clear, bits_test}
+use Rattle.enumset_repr.specs.Laws.Words.{contains_with_word}
 use Rattle.enumset_array.specs.ArrayWords.{in_use, set_of, IsArrayRepr}
-use Rattle.enumset_repr.specs.Laws.WordLists.{contains-bits_above}
-use Rattle.enumset_array.specs.Laws.ArrayWords.{contains-set_of, set_is}
+use Rattle.enumset_repr.specs.Laws.WordLists.{contains_bits_above}
+use Rattle.enumset_array.specs.Laws.ArrayWords.{contains_set_of, set_is}
 
 -- what holds of one place, and of each other, holds of all
 pub at_or_apart : (P : ℕ → Type 0) (i : ℕ) → P i → ((j : ℕ) → j ≢ i → P j) → (j : ℕ) → P j
@@ -47,7 +47,7 @@ module _ (n : ℕ) (ws : List ℕ) (i x : ℕ) (is_repr : IsArrayRepr n ws) (low
     set_repr,
     set_is n (set ws i x) s set_repr (at_or_apart (λ w. (b : ℕ) → b < 64 → contains (bits (slice_index (set ws i x) w)) b ≡ contains s (64 * w + b)) i
         (λ b small. ap (λ y. contains (bits y) b) placed ∙ here b small)
-        (λ w apart b small. ap (λ y. contains (bits y) b) (kept w apart) ∙ sym (contains-set_of n ws w b is_repr small) ∙ elsewhere w b apart small)),
+        (λ w apart b small. ap (λ y. contains (bits y) b) (kept w apart) ∙ sym (contains_set_of n ws w b is_repr small) ∙ elsewhere w b apart small)),
   )
 
 module _ (n : ℕ) (ws : List ℕ) (bit : ℕ) (is_repr : IsArrayRepr n ws) where
@@ -59,24 +59,24 @@ module _ (n : ℕ) (ws : List ℕ) (bit : ℕ) (is_repr : IsArrayRepr n ws) wher
 
   pub insert_bit : bit < 64 * in_use n → let made = set ws i (bit_or (slice_index ws i) one) in IsArrayRepr n made × (set_of n made ≡ insert (set_of n ws) bit)
   insert_bit within = set_at n ws i _ is_repr (omega arith) (or_lt 64 _ _ (is_repr.fit i) (omega arith)) (insert (set_of n ws) bit)
-      (λ b under. ap (λ s. contains s b) (bits-set 64 (slice_index ws i) (bit % 64) (omega arith))
-      ∙ grind (arith, nat_tests, contains-insert (bits (slice_index ws i)) (bit % 64) b, contains-set_of n ws i b is_repr under, contains-insert (set_of n ws) bit (64 * i + b)))
-      (λ w b apart under. grind (arith, nat_tests, contains-insert (set_of n ws) bit (64 * w + b)))
+      (λ b under. ap (λ s. contains s b) (bits_set 64 (slice_index ws i) (bit % 64) (omega arith))
+      ∙ grind (arith, nat_tests, contains_insert (bits (slice_index ws i)) (bit % 64) b, contains_set_of n ws i b is_repr under, contains_insert (set_of n ws) bit (64 * i + b)))
+      (λ w b apart under. grind (arith, nat_tests, contains_insert (set_of n ws) bit (64 * w + b)))
 
   pub remove_bit : bit < 64 * in_use n → let made = set ws i (bit_and (slice_index ws i) (bit_not w64 one)) in IsArrayRepr n made × (set_of n made ≡ remove (set_of n ws) bit)
   remove_bit within = set_at n ws i _ is_repr (omega arith) (and_lt 64 _ _ (is_repr.fit i) (ones_sub-lt 64 one)) (remove (set_of n ws) bit)
-      (λ b under. ap (λ s. contains s b) (bits-clear 64 (slice_index ws i) (bit % 64) (is_repr.fit i) (omega arith))
-      ∙ grind (arith, nat_tests, contains-remove (bits (slice_index ws i)) (bit % 64) b, contains-set_of n ws i b is_repr under, contains-remove (set_of n ws) bit (64 * i + b)))
-      (λ w b apart under. grind (arith, nat_tests, contains-remove (set_of n ws) bit (64 * w + b)))
+      (λ b under. ap (λ s. contains s b) (bits_clear 64 (slice_index ws i) (bit % 64) (is_repr.fit i) (omega arith))
+      ∙ grind (arith, nat_tests, contains_remove (bits (slice_index ws i)) (bit % 64) b, contains_set_of n ws i b is_repr under, contains_remove (set_of n ws) bit (64 * i + b)))
+      (λ w b apart under. grind (arith, nat_tests, contains_remove (set_of n ws) bit (64 * w + b)))
 
   pub test_bit : not (bit_and (slice_index ws i) one == 0) ≡ contains (set_of n ws) bit
   test_bit =
-      sym (bits-test 64 (slice_index ws i) (bit % 64) (omega arith)) ∙ sym (contains-set_of n ws i (bit % 64) is_repr (omega arith))
+      sym (bits_test 64 (slice_index ws i) (bit % 64) (omega arith)) ∙ sym (contains_set_of n ws i (bit % 64) is_repr (omega arith))
       ∙ ap (contains (set_of n ws)) (div-add-mod bit 64)
 
 pub put_word : (n : ℕ) (ws : List ℕ) (i x : ℕ) → IsArrayRepr n ws → i < in_use n → x < 2 ^ 64 → set_of n (set ws i x) ≡ with_word (set_of n ws) (64 * in_use n) i x
 put_word n ws i x is_repr low fits = (set_at n ws i x is_repr low fits (with_word (set_of n ws) (64 * in_use n) i x)
-    (λ b under. let place : 64 * i + b - 64 * i ≡ b = omega arith in grind (arith, nat_tests, contains-with_word (set_of n ws) (64 * in_use n) i x (64 * i + b)))
+    (λ b under. let place : 64 * i + b - 64 * i ≡ b = omega arith in grind (arith, nat_tests, contains_with_word (set_of n ws) (64 * in_use n) i x (64 * i + b)))
     (λ w b apart under.
-    let above = contains-bits_above x 64 (64 * w + b - 64 * i) fits in
-    grind (arith, nat_tests, contains-with_word (set_of n ws) (64 * in_use n) i x (64 * w + b)))).1
+    let above = contains_bits_above x 64 (64 * w + b - 64 * i) fits in
+    grind (arith, nat_tests, contains_with_word (set_of n ws) (64 * in_use n) i x (64 * w + b)))).1

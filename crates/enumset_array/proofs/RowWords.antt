@@ -8,7 +8,7 @@ use Rattle.std.proofs.lemmas.List.Sums.{sum_by-append}
 use Rattle.std.proofs.lemmas.List.{length-take, get_or-set_same}
 use Rattle.enumset_repr.specs.BitSet.{len, ascending}
 use Rattle.enumset_repr.specs.Number.{bits}
-use Rattle.enumset_repr.specs.Laws.Numbers.{len-bits}
+use Rattle.enumset_repr.specs.Laws.Numbers.{len_bits}
 use Rattle.enumset_array.specs.ArrayWords.{in_use, words_in_use, IsArrayRepr}
 use Rattle.enumset_array.proofs.ReplacedWord.{set_repr}
 use Rattle.enumset_array.proofs.TakenOut.{by_first, by_last, small}
@@ -49,12 +49,12 @@ pub one_more : (ws : List ℕ) (i j : ℕ) → j ≡ i + 1 → i < length ws →
 one_more ws i j next low =
     ap (λ k. bits_in (take k ws)) (next ∙ add-one i) ∙ ap bits_in (take-suc ws i 0 low)
     ∙ sum_by-append (λ w. len (bits w)) (take i ws) (slice_index ws i ∷ [])
-    ∙ ap (λ m. bits_in (take i ws) + m) (zero-add (len (bits (slice_index ws i))) ∙ len-bits (slice_index ws i))
+    ∙ ap (λ m. bits_in (take i ws) + m) (zero-add (len (bits (slice_index ws i))) ∙ len_bits (slice_index ws i))
 
 -- four words, as a chunk
 pub four_ones : (ws : List ℕ) → length ws ≡ 4
     → bits_in ws ≡ count_ones (slice_index ws 0) + count_ones (slice_index ws 1) + count_ones (slice_index ws 2) + count_ones (slice_index ws 3)
-four_ones (a ∷ b ∷ c ∷ d ∷ []) e = omega (arith, len-bits a, len-bits b, len-bits c, len-bits d)
+four_ones (a ∷ b ∷ c ∷ d ∷ []) e = omega (arith, len_bits a, len_bits b, len_bits c, len_bits d)
 four_ones ws e = absurd (omega (arith, e))
 
 pub four_more : (ws : List ℕ) (i j : ℕ) → j ≡ i + 4 → bits_in (take j ws) ≡ bits_in (take i ws) + bits_in (chunk i 4 ws)

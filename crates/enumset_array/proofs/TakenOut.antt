@@ -7,11 +7,11 @@ use Rattle.enumset_repr.specs.BitSet.{BitSet, contains, ascending, remove, from_
 use Rattle.enumset_repr.specs.Number.{bits}
 use Rattle.enumset_repr.specs.Words.{bits_of}
 use Rattle.enumset_repr.specs.Laws.Algebra.{from_list_ascending}
-use Rattle.enumset_repr.specs.Laws.Ascending.{ascending-first, ascending-last, ascending-empty}
-use Rattle.enumset_repr.specs.Laws.Firsts.{first-member, first-least, first-rest, last-member, last-greatest, last-rest}
-use Rattle.enumset_repr.specs.Laws.Members.{same_set, contains-remove, remove-is_subset, member_below}
-use Rattle.enumset_repr.specs.Laws.Numbers.{bits-within, number-bits, number-within}
-use Rattle.enumset_repr.specs.Laws.WordLists.{contains-bits_of, by_word, contains-zero, bits_of-zeros}
+use Rattle.enumset_repr.specs.Laws.Ascending.{ascending_first, ascending_last, ascending_empty}
+use Rattle.enumset_repr.specs.Laws.Firsts.{first_member, first_least, first_rest, last_member, last_greatest, last_rest}
+use Rattle.enumset_repr.specs.Laws.Members.{same_set, contains_remove, remove_is_subset, member_below}
+use Rattle.enumset_repr.specs.Laws.Numbers.{bits_within, number_bits, number_within}
+use Rattle.enumset_repr.specs.Laws.WordLists.{contains_bits_of, by_word, contains_zero, bits_of_zeros}
 use Rattle.enumset_array.specs.Cursors.{Reach, Covers}
 use Rattle.enumset_array.specs.OneStep.{TakesOut}
 use Rattle.enumset_array.proofs.ReplacedWord.{at_or_apart}
@@ -25,15 +25,15 @@ same_list : (s t : BitSet) → ascending s ≡ ascending t → s ≡ t
 same_list s t same = sym (from_list_ascending s) ∙ ap from_list same ∙ from_list_ascending t
 
 pub by_first : (s t : BitSet) (b : ℕ) → ascending s ≡ b ∷ ascending t → IsTaken s b t
-by_first s t b first = record { was = first-member s b _ first; rest = same_list t _ (first-rest s b _ first) }
+by_first s t b first = record { was = first_member s b _ first; rest = same_list t _ (first_rest s b _ first) }
 
 pub by_last : (s t : BitSet) (b : ℕ) → ascending s ≡ ascending t ++ b ∷ [] → IsTaken s b t
-by_last s t b last = record { was = last-member s b _ last; rest = same_list t _ (last-rest s b _ last) }
+by_last s t b last = record { was = last_member s b _ last; rest = same_list t _ (last_rest s b _ last) }
 
 -- ---- a word of k bits with one bit taken out is a word of k bits
 
 pub small : (n m k b : ℕ) → n < 2 ^ k → IsTaken (bits n) b (bits m) → m < 2 ^ k
-small n m k b fits taken = omega (arith, number-bits m, number-within (bits m) k (rw taken.rest (remove-is_subset _ _ b (bits-within n k fits))))
+small n m k b fits taken = omega (arith, number_bits m, number_within (bits m) k (rw taken.rest (remove_is_subset _ _ b (bits_within n k fits))))
 
 -- ---- a bit taken out of the word at i
 
@@ -46,18 +46,18 @@ module _ (us ws vs : List ℕ) (i b : ℕ) (fit : (j : ℕ) → slice_index ws j
     taken_fit = at_or_apart (λ j. slice_index vs j < 2 ^ 64) i (small (slice_index ws i) (slice_index vs i) 64 b (fit i) taken) (λ j apart. omega (arith, same_word j apart, fit j))
 
     low_bit : b < 64
-    low_bit = member_below (bits (slice_index ws i)) 64 b (bits-within (slice_index ws i) 64 (fit i)) taken.was
+    low_bit = member_below (bits (slice_index ws i)) 64 b (bits_within (slice_index ws i) 64 (fit i)) taken.was
 
     was_there : contains (bits_of ws) (64 * i + b) ≡ true
-    was_there = contains-bits_of ws i b fit low_bit ∙ taken.was
+    was_there = contains_bits_of ws i b fit low_bit ∙ taken.was
 
     taken_set : bits_of vs ≡ remove (bits_of ws) (64 * i + b)
     taken_set = same_set _ _ (by_word (λ q. contains (bits_of vs) q ≡ contains (remove (bits_of ws) (64 * i + b)) q) (λ w r under.
         let low = low_bit in
-        let here = ap (λ s. contains s r) taken.rest ∙ contains-remove (bits (slice_index ws i)) b r in
+        let here = ap (λ s. contains s r) taken.rest ∙ contains_remove (bits (slice_index ws i)) b r in
         let other : w ≢ i → slice_index vs w ≡ slice_index ws w = same_word w in
-        contains-bits_of vs w r taken_fit under
-        ∙ grind (arith, nat_tests, contains-bits_of ws w r fit under, contains-remove (bits_of ws) (64 * i + b) (64 * w + r))))
+        contains_bits_of vs w r taken_fit under
+        ∙ grind (arith, nat_tests, contains_bits_of ws w r fit under, contains_remove (bits_of ws) (64 * i + b) (64 * w + r))))
 
     taken_out : TakesOut us (Some (64 * i + b)) vs
     taken_out = record { set = taken_set ∙ ap (λ l. remove (bits_of l) (64 * i + b)) same; len = ap length others ∙ length-set ws i _ ∙ ap length same }
@@ -69,10 +69,10 @@ module _ (us ws vs : List ℕ) (i b : ℕ) (fit : (j : ℕ) → slice_index ws j
       let taken = by_first _ _ b first in
       let low = low_bit taken in (
         low,
-        ap (λ l. ascending (bits_of l)) (sym same) ∙ ascending-first (bits_of ws) (64 * i + b) (was_there taken) (by_word (λ q. q < 64 * i + b → contains (bits_of ws) q ≡ false) (λ w r small under.
-            let least = first-least (bits (slice_index ws i)) b _ r first in
-            let before : w < i → contains (bits (slice_index ws w)) r ≡ false = λ h. contains-zero _ r (lower w h) in
-            contains-bits_of ws w r fit small ∙ grind (arith, nat_tests))) ∙ ap (λ s. (64 * i + b) ∷ ascending s) (sym (taken_set taken)),
+        ap (λ l. ascending (bits_of l)) (sym same) ∙ ascending_first (bits_of ws) (64 * i + b) (was_there taken) (by_word (λ q. q < 64 * i + b → contains (bits_of ws) q ≡ false) (λ w r small under.
+            let least = first_least (bits (slice_index ws i)) b _ r first in
+            let before : w < i → contains (bits (slice_index ws w)) r ≡ false = λ h. contains_zero _ r (lower w h) in
+            contains_bits_of ws w r fit small ∙ grind (arith, nat_tests))) ∙ ap (λ s. (64 * i + b) ∷ ascending s) (sym (taken_set taken)),
         taken_out taken,
       )
 
@@ -83,10 +83,10 @@ module _ (us ws vs : List ℕ) (i b : ℕ) (fit : (j : ℕ) → slice_index ws j
       let taken = by_last _ _ b last in
       let low = low_bit taken in (
         low,
-        ap (λ l. ascending (bits_of l)) (sym same) ∙ ascending-last (bits_of ws) (64 * i + b) (was_there taken) (by_word (λ q. 64 * i + b < q → contains (bits_of ws) q ≡ false) (λ w r small over.
-            let greatest = last-greatest (bits (slice_index ws i)) b _ r last in
-            let past : i < w → contains (bits (slice_index ws w)) r ≡ false = λ h. contains-zero _ r (higher w h) in
-            contains-bits_of ws w r fit small ∙ grind (arith, nat_tests))) ∙ ap (λ s. ascending s ++ (64 * i + b) ∷ []) (sym (taken_set taken)),
+        ap (λ l. ascending (bits_of l)) (sym same) ∙ ascending_last (bits_of ws) (64 * i + b) (was_there taken) (by_word (λ q. 64 * i + b < q → contains (bits_of ws) q ≡ false) (λ w r small over.
+            let greatest = last_greatest (bits (slice_index ws i)) b _ r last in
+            let past : i < w → contains (bits (slice_index ws w)) r ≡ false = λ h. contains_zero _ r (higher w h) in
+            contains_bits_of ws w r fit small ∙ grind (arith, nat_tests))) ∙ ap (λ s. ascending s ++ (64 * i + b) ∷ []) (sym (taken_set taken)),
         taken_out taken,
       )
 
@@ -94,5 +94,5 @@ module _ (us ws vs : List ℕ) (i b : ℕ) (fit : (j : ℕ) → slice_index ws j
 pub none_left : (us ws : List ℕ) (c : Reach) → Covers ws c → c.back ≤ c.front → ws ≡ us → (ascending (bits_of us) ≡ []) × (ascending (bits_of ws) ≡ [])
 none_left us ws c covers met same =
     let none : (i : ℕ) → slice_index ws i ≡ 0 = λ i. let before = covers.before i in let past = covers.past i in grind (arith, met) in
-    let empty = ap ascending (bits_of-zeros ws (λ i. subst (λ n. n < 2 ^ 64) (sym (none i)) (lit< tt)) none) ∙ ascending-empty in
+    let empty = ap ascending (bits_of_zeros ws (λ i. subst (λ n. n < 2 ^ 64) (sym (none i)) (lit< tt)) none) ∙ ascending_empty in
     (ap (λ l. ascending (bits_of l)) (sym same) ∙ empty, empty)

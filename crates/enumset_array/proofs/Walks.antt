@@ -4,8 +4,8 @@ use Rattle.std.specs.List.{cons_option}
 use Rattle.std.proofs.lemmas.List.{take_more}
 use Rattle.std.proofs.lemmas.List.Elements.{filter_map-append, Contains-push_cases}
 use Rattle.enumset_repr.specs.BitSet.{BitSet, remove, difference, from_list}
-use Rattle.enumset_repr.specs.Laws.Members.{members, same_set, contains-from_list}
-use Rattle.enumset_repr.specs.Laws.Ascending.{is_in-push}
+use Rattle.enumset_repr.specs.Laws.Members.{members, same_set, contains_from_list}
+use Rattle.enumset_repr.specs.Laws.Ascending.{is_in_push}
 use Rattle.enumset_array.specs.declared.traversal.End.{End}
 use Rattle.enumset_array.specs.declared.traversal.End.TheVariants.{Front}
 use Rattle.enumset_array.specs.Walks.{answer, without_answer, answers, without_answers, items_among}
@@ -45,10 +45,10 @@ length-answers xs (e ∷ es) = ap suc (length-answers (without_answer e xs) es)
 
 pub difference-none : (s : BitSet) → s ≡ difference s (from_list (items_among []))
 unfolding items_among
-difference-none s = same_set s _ (λ q. grind (arith, members, contains-from_list [] q))
+difference-none s = same_set s _ (λ q. grind (arith, members, contains_from_list [] q))
 
 difference-push : (s : BitSet) (bs : List ℕ) (b : ℕ) → remove (difference s (from_list bs)) b ≡ difference s (from_list (bs ++ b ∷ []))
-difference-push s bs b = same_set _ _ (λ q. grind (arith, members, contains-from_list, is_in-push))
+difference-push s bs b = same_set _ _ (λ q. grind (arith, members, contains_from_list, is_in_push))
 
 -- the set after a step that yielded r
 pub difference-step : (s t u : BitSet) (rs : List (Option ℕ)) (r : Option ℕ) → t ≡ difference s (from_list (items_among rs)) → MatchOption r (u ≡ t) (λ b. u ≡ remove t b) → u ≡ difference s (from_list (items_among (rs ++ r ∷ [])))

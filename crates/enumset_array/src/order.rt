@@ -4,7 +4,7 @@ ghost use Rattle.std.specs.Prelude.{◌≡◌, Some, length, refl};
 ghost use Rattle.enumset_repr.specs.Order.{compare};
 ghost use Rattle.enumset_array.specs.Order.{highest_first};
 ghost use Rattle.enumset_array.specs.ArrayWords.{set_of};
-ghost use Rattle.enumset_array.specs.Laws.Order.{highest_first-total, highest_first-partial, highest_first-ties};
+ghost use Rattle.enumset_array.specs.Laws.Order.{highest_first_total, highest_first_partial, highest_first_ties};
 
 use crate::array_repr::ArrayRepr;
 use crate::lanes::equal_from;
@@ -13,7 +13,7 @@ use std::cmp::Ordering;
 impl<const N: usize> PartialOrd for ArrayRepr<N> {
     ghost partial_cmp = { λ a b. Some (highest_first a b) };
 
-    ghost laws = { highest_first-partial };
+    ghost laws = { highest_first_partial };
 
     fn partial_cmp(&self, other: &ArrayRepr<N>) -> Option<Ordering> {
         Some(self.cmp(other))
@@ -23,11 +23,11 @@ impl<const N: usize> PartialOrd for ArrayRepr<N> {
 impl<const N: usize> Ord for ArrayRepr<N> {
     ghost cmp = { highest_first };
 
-    ghost total = { highest_first-total };
+    ghost total = { highest_first_total };
 
     ghost matches_partial_cmp = { λ _ _. refl };
 
-    ghost matches_eq = { highest_first-ties };
+    ghost matches_eq = { highest_first_ties };
 
     /// The highest word that differs decides. So the greater set is the one that has the greatest number that is in
     /// exactly one of the two.

@@ -7,7 +7,7 @@ use Rattle.std.proofs.lemmas.Bool.Decides.{nat_tests}
 use Rattle.enumset_repr.specs.BitSet.{is_in, insert, from_list}
 use Rattle.enumset_repr.specs.Number.{number, bits, is_distinct, lists_bits}
 use Rattle.enumset_repr.specs.Words.{in_first_word, in_later_words, lists_words}
-use Rattle.enumset_repr.specs.Laws.Numbers.{number-bits, bits-set}
+use Rattle.enumset_repr.specs.Laws.Numbers.{number_bits, bits_set}
 use Rattle.enumset_repr.specs.Laws.Listed.{bits_listed}
 use Rattle.enumset_derive.specs.Variants.{bits_of}
 use Rattle.enumset_derive.specs.declared.plan.NamedVariant.{NamedVariant}
@@ -18,8 +18,8 @@ unfolding from_list
 lists_bits-cons w bs b n small new lists =
     let sum = sum_by (λ c. 2 ^ c) (b ∷ bs) in
     let apart : is_distinct (b ∷ bs) ≡ true = and_from _ _ (ap not new) (and_parts _ _ lists).0 in
-    let same : bits (bit_or n (1 * 2 ^ b % 2 ^ w)) ≡ bits sum = bits-set w n b small ∙ ap (λ s. insert s b) (bits_listed bs n lists) ∙ sym (bits_listed (b ∷ bs) sum (and_from _ _ apart (eq-eqb sum sum refl))) in
-    and_from _ _ apart (eq-eqb sum _ (sym (number-bits sum) ∙ ap number (sym same) ∙ number-bits _))
+    let same : bits (bit_or n (1 * 2 ^ b % 2 ^ w)) ≡ bits sum = bits_set w n b small ∙ ap (λ s. insert s b) (bits_listed bs n lists) ∙ sym (bits_listed (b ∷ bs) sum (and_from _ _ apart (eq-eqb sum sum refl))) in
+    and_from _ _ apart (eq-eqb sum _ (sym (number_bits sum) ∙ ap number (sym same) ∙ number_bits _))
 
 -- ---- words
 

@@ -5,7 +5,7 @@ use Rattle.std.proofs.Math.Nat.{min-le_left, min-le_right}
 use Rattle.enumset_repr.specs.BitSet.{BitSet, contains, only, below, intersection, is_subset}
 use Rattle.enumset_repr.specs.Number.{bits}
 use Rattle.enumset_repr.specs.Words.{bits_of}
-use Rattle.enumset_repr.specs.Laws.Members.{members, is_subset-contains}
+use Rattle.enumset_repr.specs.Laws.Members.{members, is_subset_contains}
 use Rattle.enumset_repr.specs.Laws.Algebra.{intersection_within}
 use Rattle.enumset_repr.specs.Laws.Low.{is_subset_wider}
 use Rattle.enumset_commands.specs.declared.command.Command.{Command}
@@ -22,7 +22,7 @@ both true b h = (refl, h)
 both false b h = absurd (cc)
 
 bit_within : (bit n : ℕ) → is_subset (only bit) (below n) ≡ true → contains (below n) bit ≡ true
-bit_within bit n within = is_subset-contains (only bit) (below n) within bit (grind (arith, members))
+bit_within bit n within = is_subset_contains (only bit) (below n) within bit (grind (arith, members))
 
 -- plans that are refused alike, reply alike and leave the same state
 unless_same : (refused : Option Refusal) (a b : Rules) (s : State) (p : Plan) → p.reply a s ≡ p.reply b s → p.after a s ≡ p.after b s → outcome_unless refused a s p ≡ outcome_unless refused b s p

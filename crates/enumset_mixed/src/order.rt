@@ -2,7 +2,7 @@
 
 ghost use Rattle.std.specs.Prelude.{Some, refl};
 ghost use Rattle.enumset_repr.specs.Order.{compare};
-ghost use Rattle.enumset_repr.specs.Laws.Order.{compare-partial, compare-total, same-compare};
+ghost use Rattle.enumset_repr.specs.Laws.Order.{compare_partial, compare_total, same_compare};
 
 use crate::mixed_enum_set::MixedEnumSet;
 use enumset_repr::order_of;
@@ -12,7 +12,7 @@ use std::cmp::Ordering;
 impl<T: EnumSetTypeWithRepr> PartialOrd for MixedEnumSet<T> {
     ghost partial_cmp = { λ s t. Some (compare s t) };
 
-    ghost laws = { compare-partial };
+    ghost laws = { compare_partial };
 
     fn partial_cmp(&self, other: &MixedEnumSet<T>) -> Option<Ordering> {
         Some(self.cmp(other))
@@ -24,11 +24,11 @@ impl<T: EnumSetTypeWithRepr> PartialOrd for MixedEnumSet<T> {
 impl<T: EnumSetTypeWithRepr> Ord for MixedEnumSet<T> {
     ghost cmp = { compare };
 
-    ghost total = { compare-total };
+    ghost total = { compare_total };
 
     ghost matches_partial_cmp = { λ _ _. refl };
 
-    ghost matches_eq = { same-compare };
+    ghost matches_eq = { same_compare };
 
     fn cmp(&self, other: &MixedEnumSet<T>) -> Ordering {
         order_of(&self.repr, &other.repr)

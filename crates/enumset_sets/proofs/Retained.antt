@@ -4,12 +4,12 @@ use Rattle.std.specs.Fn.{Mut, Called}
 use Rattle.std.specs.List.{FoldsTo}
 use Rattle.std.proofs.lemmas.Bool.Decides.{nat_tests}
 use Rattle.enumset_repr.specs.BitSet.{BitSet, is_in, contains, remove, retain}
-use Rattle.enumset_repr.specs.Laws.Members.{same_set, contains-remove, contains-retain, contains-ascending}
+use Rattle.enumset_repr.specs.Laws.Members.{same_set, contains_remove, contains_retain, contains_ascending}
 use Rattle.enumset_sets.specs.Retained.{Keeps, Retains, IsConstantTest, IsTest}
 
 one_kept : (s t : BitSet) (b : Bool) (m q : ℕ) → t ≡ cond b s (remove s m) → contains t q ≡ (contains s q && (not (q == m) || b))
 one_kept s t true m q is = ap (λ u. contains u q) is ∙ grind (arith, nat_tests)
-one_kept s t false m q is = ap (λ u. contains u q) is ∙ contains-remove s m q ∙ grind (arith, nat_tests)
+one_kept s t false m q is = ap (λ u. contains u q) is ∙ contains_remove s m q ∙ grind (arith, nat_tests)
 
 -- `Usual` holds of the closure at each call
 module _ {T F : Type 0} (bit : T → ℕ) (g : Mut F (T × Unit {0}) Bool) (p : ℕ → Bool) (Usual : F → Type 0)
@@ -27,8 +27,8 @@ module _ {T F : Type 0} (bit : T → ℕ) (g : Mut F (T × Unit {0}) Bool) (p : 
   pub kept : (f : F) (s t : BitSet) → Usual f → Retains bit g f s t → t ≡ retain s p
   kept f s t begun calls = same_set t (retain s p) (λ q.
       let each = each_kept calls.0 (f, s) (calls.1, t) q begun calls.3 in
-      let listed = contains-ascending s q ∙ ap (is_in q) (sym calls.2) in
-      grind (arith, nat_tests, contains-retain s p q))
+      let listed = contains_ascending s q ∙ ap (is_in q) (sym calls.2) in
+      grind (arith, nat_tests, contains_retain s p q))
 
 module _ {T F : Type 0} (bit : T → ℕ) (g : Mut F (T × Unit {0}) Bool) (f : F) (p : ℕ → Bool) (s t : BitSet) (calls : Retains bit g f s t) where
   pub kept_unchanged : IsConstantTest bit g f p → t ≡ retain s p

@@ -3,12 +3,12 @@ use Rattle.std.proofs.Common.{◌≡◌, ℕ, Bool, true, false, cond, not, refl
 use Rattle.std.proofs.lemmas.Bool.Decides.{nat_tests}
 use Rattle.enumset_repr.specs.BitSet.{BitSet, contains, insert, only, remove, symmetric_difference}
 use Rattle.enumset_repr.specs.Laws.Algebra.{toggled}
-use Rattle.enumset_repr.specs.Laws.Members.{contains-insert, contains-remove}
+use Rattle.enumset_repr.specs.Laws.Members.{contains_insert, contains_remove}
 
 module _ (s t : BitSet) (b : ℕ) where
   pub contains_now : (now : Bool) → t ≡ cond now (insert s b) (remove s b) → now ≡ contains t b
-  contains_now true is = sym (ap (λ u. contains u b) is ∙ contains-insert s b b ∙ grind (arith, nat_tests))
-  contains_now false is = sym (ap (λ u. contains u b) is ∙ contains-remove s b b ∙ grind (arith, nat_tests))
+  contains_now true is = sym (ap (λ u. contains u b) is ∙ contains_insert s b b ∙ grind (arith, nat_tests))
+  contains_now false is = sym (ap (λ u. contains u b) is ∙ contains_remove s b b ∙ grind (arith, nat_tests))
 
   swapped : (x : Bool) (u v : BitSet) → cond (not x) u v ≡ cond x v u
   swapped true u v = refl

@@ -8,7 +8,7 @@ use Rattle.std.specs.Prelude.{All}
 use Rattle.std.proofs.lemmas.Bool.{and_parts, and_from}
 use Rattle.std.proofs.lemmas.List.Elements.{All-head, All-tail}
 use Rattle.enumset_repr.specs.BitSet.{BitSet, contains, union, only, is_subset, is_disjoint}
-use Rattle.enumset_repr.specs.Laws.Members.{members, subsets, is_subset-contains, is_disjoint-contains, contains-is_disjoint}
+use Rattle.enumset_repr.specs.Laws.Members.{members, subsets, is_subset_contains, is_disjoint_contains, contains_is_disjoint}
 use Rattle.enumset_repr.specs.Laws.Algebra.{on_subsets, union_left, is_subset_trans}
 use Rattle.example_door.specs.declared.machine.Transition.{Transition}
 use Rattle.example_door.specs.declared.machine.Rule.{Rule}
@@ -25,11 +25,11 @@ same_after : (t : Transition) (s c : BitSet) (q : ℕ) → allows t s ≡ true �
 same_after t s c q allowed also same = rw (allowed, also) (grind (arith, members))
 
 allowed_too : (t : Transition) (s c : BitSet) → allows t s ≡ true → is_subset t.required c ≡ true → is_subset c s ≡ true → allows t c ≡ true
-allowed_too t s c allowed above within = and_from _ _ above (contains-is_disjoint _ _ (λ q one.
-    let free = is_disjoint-contains t.forbidden s (and_parts (is_subset t.required s) (is_disjoint t.forbidden s) allowed).1 q one in let inside = is_subset-contains c s within q in grind arith))
+allowed_too t s c allowed above within = and_from _ _ above (contains_is_disjoint _ _ (λ q one.
+    let free = is_disjoint_contains t.forbidden s (and_parts (is_subset t.required s) (is_disjoint t.forbidden s) allowed).1 q one in let inside = is_subset_contains c s within q in grind arith))
 
 same_inside : (s c : BitSet) (q : ℕ) → is_subset c s ≡ true → (contains s q ≡ true → contains c q ≡ true) → contains c q ≡ contains s q
-same_inside s c q within also = let inside = is_subset-contains c s within q in grind arith
+same_inside s c q within also = let inside = is_subset_contains c s within q in grind arith
 
 module _ (rule : Rule) (t : Transition) (s : BitSet) (allowed : allows t s ≡ true) where
   tried : (c : BitSet) → is_subset t.required c ≡ true → is_subset c s ≡ true → (contains s (bit (first rule)) ≡ true → contains c (bit (first rule)) ≡ true)

@@ -4,7 +4,7 @@ use Rattle.std.proofs.lemmas.Bool.{and_parts}
 use Rattle.enumset_repr.specs.BitSet.{BitSet}
 use Rattle.enumset_repr.specs.Laws.Members.{members}
 use Rattle.enumset_repr.specs.Laws.Firsts.{written_out}
-use Rattle.enumset_repr.specs.Laws.Loops.{is_subset-list, is_disjoint-list}
+use Rattle.enumset_repr.specs.Laws.Loops.{is_subset_list, is_disjoint_list}
 use Rattle.example_door.specs.declared.flag.Flag.TheVariants.{Open, Locked, Alarmed, Powered}
 use Rattle.example_door.specs.declared.event.Event.{Event}
 use Rattle.example_door.specs.declared.event.Event.TheVariants as event
@@ -15,14 +15,14 @@ use Rattle.example_door.proofs.Kept.{kept_iff}
 
 -- each row keeps the three rules, by the test of the four states
 kept : (e : Event) → (keeps_from_least (NeverBoth Open Locked) (row e) && (keeps_from_least (Implies Locked Powered) (row e) && keeps_from_least (Implies Alarmed Powered) (row e))) ≡ true
-kept event.Open = simp (members, written_out, is_subset-list, is_disjoint-list)
-kept event.Close = simp (members, written_out, is_subset-list, is_disjoint-list)
-kept event.Lock = simp (members, written_out, is_subset-list, is_disjoint-list)
-kept event.Unlock = simp (members, written_out, is_subset-list, is_disjoint-list)
-kept event.Force = simp (members, written_out, is_subset-list, is_disjoint-list)
-kept event.Reset = simp (members, written_out, is_subset-list, is_disjoint-list)
-kept event.PowerOn = simp (members, written_out, is_subset-list, is_disjoint-list)
-kept event.PowerOff = simp (members, written_out, is_subset-list, is_disjoint-list)
+kept event.Open = simp (members, written_out, is_subset_list, is_disjoint_list)
+kept event.Close = simp (members, written_out, is_subset_list, is_disjoint_list)
+kept event.Lock = simp (members, written_out, is_subset_list, is_disjoint_list)
+kept event.Unlock = simp (members, written_out, is_subset_list, is_disjoint_list)
+kept event.Force = simp (members, written_out, is_subset_list, is_disjoint_list)
+kept event.Reset = simp (members, written_out, is_subset_list, is_disjoint_list)
+kept event.PowerOn = simp (members, written_out, is_subset_list, is_disjoint_list)
+kept event.PowerOff = simp (members, written_out, is_subset_list, is_disjoint_list)
 
 pub row_safe : (e : Event) (s : BitSet) → IsSafe s → IsSafe (after (row e) s)
 row_safe e s safe =

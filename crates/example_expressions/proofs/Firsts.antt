@@ -9,7 +9,7 @@ use Rattle.std.proofs.lemmas.Bool.Decides.{nat_tests, same_from_decides}
 use denote.Enum.Bare.{tag_one}
 use Rattle.enumset_repr.specs.BitSet.{BitSet, is_in, contains, empty, insert, remove, union, intersection, from_list, is_subset}
 use Rattle.enumset_repr.specs.Laws.Algebra.{intersection_right}
-use Rattle.enumset_repr.specs.Laws.Members.{members, same_set, contains-from_list, contains-union, contains-is_subset}
+use Rattle.enumset_repr.specs.Laws.Members.{members, same_set, contains_from_list, contains_union, contains_is_subset}
 use Rattle.enumset_sets.specs.Elements.{valid_bits, in_place}
 use Rattle.example_expressions.specs.contracts.part.Part.{the_type}
 use Rattle.example_expressions.specs.declared.part.Part.{Part}
@@ -36,13 +36,13 @@ one_part : (part other : Part) → part_bit part ≡ part_bit other → part ≡
 one_part = tag_one the_type tt
 
 is_part : (part : Part) → contains (valid_bits (in_place the_type)) (part_bit part) ≡ true
-is_part Sum = contains-from_list _ _
-is_part Product = contains-from_list _ _
-is_part Operand = contains-from_list _ _
+is_part Sum = contains_from_list _ _
+is_part Product = contains_from_list _ _
+is_part Operand = contains_from_list _ _
 
 pub at_first : (whole : Part) → IsWorklist whole empty (valid_bits (in_place the_type)) (insert empty (part_bit whole))
 at_first whole = record {
-  inside = contains-is_subset _ _ (λ q one. let valid = is_part whole in grind (arith, members, nat_tests));
+  inside = contains_is_subset _ _ (λ q one. let valid = is_part whole in grind (arith, members, nat_tests));
   reached = grind (arith, members, nat_tests);
   taken = λ part gone. absurd (true≢false (sym (is_part part) ∙ gone));
   kinds_sound = λ kind one. absurd (true≢false (sym one ∙ grind (arith, members)));
@@ -70,13 +70,13 @@ module _ (whole part : Part) (kinds left pending : BitSet) (list : IsWorklist wh
 
   taken_now : IsTaken new_kinds now_left now_pending part
   taken_now = record {
-    brings_kinds = λ kind is. contains-union kinds _ kind ∙ or_right _ _ (contains-from_list _ kind ∙ is);
-    brings_parts = λ first is. reached_now first (contains-from_list _ first ∙ is);
+    brings_kinds = λ kind is. contains_union kinds _ kind ∙ or_right _ _ (contains_from_list _ kind ∙ is);
+    brings_parts = λ first is. reached_now first (contains_from_list _ first ∙ is);
   }
 
   taken : (other : Part) (is_left : Bool) → contains left (part_bit other) ≡ is_left → contains now_left (part_bit other) ≡ false → IsTaken new_kinds now_left now_pending other
   taken other false is gone = let before = list.taken other is in record {
-    brings_kinds = λ kind is. contains-union kinds _ kind ∙ or_left _ _ (before.brings_kinds kind is);
+    brings_kinds = λ kind is. contains_union kinds _ kind ∙ or_left _ _ (before.brings_kinds kind is);
     brings_parts = λ first is. still_reached first (before.brings_parts first is);
   }
   taken other true is gone = let same = one_part other part (grind (arith, members, nat_tests)) in rw same taken_now
@@ -86,13 +86,13 @@ module _ (whole part : Part) (kinds left pending : BitSet) (list : IsWorklist wh
     inside = intersection_right _ _;
     reached = still_reached _ list.reached;
     taken = λ other. taken other _ refl;
-    kinds_sound = λ kind one. elim (or_cases _ _ (sym (contains-union kinds _ kind) ∙ one)) [
+    kinds_sound = λ kind one. elim (or_cases _ _ (sym (contains_union kinds _ kind) ∙ one)) [
       | inl old ↦ list.kinds_sound kind old
-      | inr new ↦ list.parts_sound part here kind (at_once (sym (contains-from_list _ kind) ∙ new))
+      | inr new ↦ list.parts_sound part here kind (at_once (sym (contains_from_list _ kind) ∙ new))
     ];
     parts_sound = λ other one kind begins. elim (or_cases (contains pending (part_bit other)) (contains first_parts (part_bit other)) (grind (arith, members, nat_tests))) [
       | inl old ↦ list.parts_sound other old kind begins
-      | inr new ↦ list.parts_sound part here kind (by_part other (sym (contains-from_list _ _) ∙ new) begins)
+      | inr new ↦ list.parts_sound part here kind (by_part other (sym (contains_from_list _ _) ∙ new) begins)
     ];
   }
 
@@ -116,6 +116,6 @@ begins_operand part kind (by_part first is begins) = begins_operand first kind b
 
 pub sum_begins : (s : BitSet) → ((kind : ℕ) → IsTrue (contains s kind) ↔ CanBegin Sum kind) → s ≡ from_list (map bit (kinds_at Operand))
 sum_begins s tells = same_set _ _ (λ kind. same_from_decides _ _ (tells kind) (
-  λ is. by_part Product refl (by_part Operand refl (at_once (sym (contains-from_list _ kind) ∙ is))),
-  λ begins. contains-from_list _ kind ∙ begins_operand Sum kind begins,
+  λ is. by_part Product refl (by_part Operand refl (at_once (sym (contains_from_list _ kind) ∙ is))),
+  λ begins. contains_from_list _ kind ∙ begins_operand Sum kind begins,
 ))

@@ -7,7 +7,7 @@ use Rattle.std.proofs.Common.{◌≡◌, ℕ, zero, suc, ◌+◌, ◌<◌, ◌�
 use Rattle.std.proofs.lemmas.Bool.{and_parts}
 use Rattle.std.proofs.lemmas.List.{append_cancel_right, take_more, take_all, get_or-map, get_or_past, length-map}
 use Rattle.enumset_repr.specs.BitSet.{is_in, contains}
-use Rattle.enumset_repr.specs.Laws.Members.{contains-from_list}
+use Rattle.enumset_repr.specs.Laws.Members.{contains_from_list}
 use Rattle.example_expressions.specs.declared.kind.Kind.{Kind}
 use Rattle.example_expressions.specs.declared.kind.Kind.TheVariants.{Number, Open, Minus, Plus, Times, Divide, Close, End}
 use Rattle.example_expressions.specs.declared.token.Token.{Token}
@@ -96,7 +96,7 @@ may_come p place depth k read = (
 )
 
 comes : (r : Reader) (k : Kind) → contains (next_kinds r) (bit k) ≡ may (place_after r.last) r.depth k
-comes r k = contains-from_list _ _
+comes r k = contains_from_list _ _
 
 pub closes_open : (r : Reader) → contains (next_kinds r) (bit Close) ≡ true → 0 < r.depth
 closes_open r h = deep (place_after r.last) r.depth (sym (comes r Close) ∙ h) where

@@ -10,21 +10,21 @@ use Rattle.std.specs.List.{range_with_len}
 use Rattle.std.proofs.lemmas.Bool.Decides.{nat_tests}
 use Rattle.enumset_repr.specs.BitSet.{BitSet, is_in, from_list, below}
 use Rattle.enumset_repr.specs.Number.{bits, number}
-use Rattle.enumset_repr.specs.Laws.Members.{same_set, contains-below, contains-from_list, contains-ascending}
-use Rattle.enumset_repr.specs.Laws.Numbers.{bits-number, number-bits, bits-within, number-within}
+use Rattle.enumset_repr.specs.Laws.Members.{same_set, contains_below, contains_from_list, contains_ascending}
+use Rattle.enumset_repr.specs.Laws.Numbers.{bits_number, number_bits, bits_within, number_within}
 use Rattle.enumset_repr.specs.Laws.Listed.{bits_listed, words_listed}
 pub use Rattle.enumset_repr.specs.Laws.Ordering.{number_max, number_min}
 
 pub bits_tell : (m n : ℕ) → bits m ≡ bits n → m ≡ n
-bits_tell m n same = sym (number-bits m) ∙ ap number same ∙ number-bits n
+bits_tell m n same = sym (number_bits m) ∙ ap number same ∙ number_bits n
 
 in_range : (q a n : ℕ) → is_in q (range_with_len a n) ≡ (nat_le a q && nat_lt q (a + n))
 in_range q a zero = grind (arith, nat_tests)
 in_range q a (suc n) = ap (λ t. (q == a) || t) (in_range q (a + 1) n) ∙ grind (arith, nat_tests)
 
 pub bits_in_order : (n : ℕ) → from_list (range_with_len 0 n) ≡ below n
-bits_in_order n = same_set _ _ (λ q. contains-from_list (range_with_len 0 n) q ∙ in_range q 0 n ∙ grind (arith, nat_tests) ∙ sym (contains-below n q))
+bits_in_order n = same_set _ _ (λ q. contains_from_list (range_with_len 0 n) q ∙ in_range q 0 n ∙ grind (arith, nat_tests) ∙ sym (contains_below n q))
 
-pub ruleset numbers = (bits-number, number-bits, bits-within, number-within, bits_tell)
+pub ruleset numbers = (bits_number, number_bits, bits_within, number_within, bits_tell)
 
-pub ruleset listed = (bits_listed, words_listed, contains-from_list, contains-ascending)
+pub ruleset listed = (bits_listed, words_listed, contains_from_list, contains_ascending)

@@ -10,8 +10,8 @@ use Rattle.std.proofs.lemmas.Bool.Decides.{nat_tests}
 use Rattle.std.proofs.lemmas.List.Elements.{Contains-append_cases}
 use Rattle.enumset_repr.specs.BitSet.{is_in}
 use Rattle.enumset_repr.specs.Number.{is_distinct}
-use Rattle.enumset_repr.specs.Laws.Steps.{last-push, without_last-push, cases_last, none_last}
-use Rattle.enumset_repr.specs.Laws.Ascending.{AscendsFrom, is_in-from, is_in-push, before_last}
+use Rattle.enumset_repr.specs.Laws.Steps.{last_push, without_last_push, cases_last, none_last}
+use Rattle.enumset_repr.specs.Laws.Ascending.{AscendsFrom, is_in_from, is_in_push, before_last}
 use Rattle.enumset_array.specs.declared.traversal.End.{End}
 use Rattle.enumset_array.specs.declared.traversal.End.TheVariants.{Front, Back}
 use Rattle.enumset_array.specs.Walks.{answer, without_answer, answers, without_answers, items_among}
@@ -23,7 +23,7 @@ both xs es = from_front xs es ++ without_answers xs es ++ reverse (from_back xs 
 both-back : (xs : List ℕ) (x : ℕ) (es : List End) → both (xs ++ x ∷ []) (Back ∷ es) ≡ both xs es ++ x ∷ []
 unfolding from_front without_answers from_back
 both-back xs x es =
-    rw (last-push xs x, without_last-push xs x)
+    rw (last_push xs x, without_last_push xs x)
     (ap (λ l. from_front xs es ++ without_answers xs es ++ l) (reverse_onto (from_back xs es) x [])
     ∙ sym (append_assoc (from_front xs es ++ without_answers xs es) (reverse (from_back xs es)) (x ∷ [])))
 
@@ -84,7 +84,7 @@ items xs es = items_among (answers xs es)
 
 items-back : (xs : List ℕ) (x : ℕ) (es : List End) → items (xs ++ x ∷ []) (Back ∷ es) ≡ x ∷ items xs es
 unfolding answers items_among
-items-back xs x es = rw (last-push xs x, without_last-push xs x) refl
+items-back xs x es = rw (last_push xs x, without_last_push xs x) refl
 
 -- what came is of the list
 came : (xs : List ℕ) (es : List End) (q : ℕ) → is_in q (items xs es) ≡ true → is_in q xs ≡ true
@@ -97,7 +97,7 @@ came xs (Back ∷ es) q one = elim (cases_last xs) [
   | inr some ↦
       let parts = ap (is_in q) (sym (ap (λ l. items l (Back ∷ es)) some.2 ∙ items-back some.0 some.1 es)) ∙ one in
       let later = came some.0 es q in
-      ap (is_in q) some.2 ∙ is_in-push q some.1 some.0 ∙ grind (arith, nat_tests)
+      ap (is_in q) some.2 ∙ is_in_push q some.1 some.0 ∙ grind (arith, nat_tests)
 ]
 
 ascends-front : (k : ℕ) (xs : List ℕ) (x : ℕ) → AscendsFrom k (xs ++ x ∷ []) → AscendsFrom k xs
@@ -112,7 +112,7 @@ unfolding answers items_among
 apart k xs [] ascends = refl
 apart k [] (Front ∷ es) ascends = apart k [] es ascends
 apart k (x ∷ xs) (Front ∷ es) ascends =
-    and_from _ _ (absent x (items xs es) (λ one. is_in-from (suc x) x xs ascends.1 (came xs es x one))) (apart (suc x) xs es ascends.1)
+    and_from _ _ (absent x (items xs es) (λ one. is_in_from (suc x) x xs ascends.1 (came xs es x one))) (apart (suc x) xs es ascends.1)
 apart k xs (Back ∷ es) ascends = elim (cases_last xs) [
   | inl none ↦ ap (λ l. is_distinct (items l (Back ∷ es))) none ∙ apart k [] es tt
   | inr some ↦

@@ -1,7 +1,7 @@
 -- The laws of the words of an `ArrayRepr`.
 --     past_is, empty_past      the words past those in use are 0
 --     used_is, used_fit      the words in use
---     contains-set_of      64 w + b is a member exactly if b is a bit of word w
+--     contains_set_of      64 w + b is a member exactly if b is a bit of word w
 --     set_is      the set, by the bits of each word
 --     word_is, inverse      the words of the set are the words
 --     within      each member is below 64 times the number of words in use
@@ -19,9 +19,9 @@ use Rattle.std.proofs.lemmas.List.{get_or-take, get_or-drop, get_or_past, length
 use Rattle.enumset_repr.specs.BitSet.{BitSet, contains, empty, below, is_subset}
 use Rattle.enumset_repr.specs.Number.{bits}
 use Rattle.enumset_repr.specs.Words.{word, words}
-use Rattle.enumset_repr.specs.Laws.Members.{same_set, contains-empty}
+use Rattle.enumset_repr.specs.Laws.Members.{same_set, contains_empty}
 use Rattle.enumset_array.specs.ArrayWords.{in_use, words_in_use, set_of, is_empty_past, IsArrayRepr}
-use Rattle.enumset_repr.specs.Laws.WordLists.{bits_of-within, contains-bits_of, by_word, contains-zero, word-bits_of, words-bits_of, word-empty}
+use Rattle.enumset_repr.specs.Laws.WordLists.{bits_of_within, contains_bits_of, by_word, contains_zero, word_bits_of, words_bits_of, word_empty}
 
 -- ---- lists of zeros
 
@@ -62,22 +62,22 @@ empty_past n ws none = all_zero (drop (in_use n) ws) (λ i. get_or-drop (in_use 
 pub used_fit : (n : ℕ) (ws : List ℕ) → IsArrayRepr n ws → (w : ℕ) → slice_index (words_in_use n ws) w < 2 ^ 64
 used_fit n ws is_repr w = subst (λ x. x < 2 ^ 64) (sym (used_is n ws w is_repr.past)) (is_repr.fit w)
 
-pub contains-set_of : (n : ℕ) (ws : List ℕ) (w b : ℕ) → IsArrayRepr n ws → b < 64 → contains (set_of n ws) (64 * w + b) ≡ contains (bits (slice_index ws w)) b
-contains-set_of n ws w b is_repr small = contains-bits_of (words_in_use n ws) w b (used_fit n ws is_repr) small ∙ ap (λ x. contains (bits x) b) (used_is n ws w is_repr.past)
+pub contains_set_of : (n : ℕ) (ws : List ℕ) (w b : ℕ) → IsArrayRepr n ws → b < 64 → contains (set_of n ws) (64 * w + b) ≡ contains (bits (slice_index ws w)) b
+contains_set_of n ws w b is_repr small = contains_bits_of (words_in_use n ws) w b (used_fit n ws is_repr) small ∙ ap (λ x. contains (bits x) b) (used_is n ws w is_repr.past)
 
 pub set_is : (n : ℕ) (ws : List ℕ) (s : BitSet) → IsArrayRepr n ws → ((w b : ℕ) → b < 64 → contains (bits (slice_index ws w)) b ≡ contains s (64 * w + b)) → set_of n ws ≡ s
-set_is n ws s is_repr each = same_set (set_of n ws) s (by_word (λ q. contains (set_of n ws) q ≡ contains s q) (λ w b small. contains-set_of n ws w b is_repr small ∙ each w b small))
+set_is n ws s is_repr each = same_set (set_of n ws) s (by_word (λ q. contains (set_of n ws) q ≡ contains s q) (λ w b small. contains_set_of n ws w b is_repr small ∙ each w b small))
 
 pub word_is : (n : ℕ) (ws : List ℕ) (w : ℕ) → IsArrayRepr n ws → word (set_of n ws) w ≡ slice_index ws w
-word_is n ws w is_repr = word-bits_of (words_in_use n ws) w (used_fit n ws is_repr) ∙ used_is n ws w is_repr.past
+word_is n ws w is_repr = word_bits_of (words_in_use n ws) w (used_fit n ws is_repr) ∙ used_is n ws w is_repr.past
 
 pub inverse : (n : ℕ) (ws : List ℕ) → IsArrayRepr n ws → words (set_of n ws) n ≡ ws
-inverse n ws is_repr = ap (words (set_of n ws)) (sym is_repr.long) ∙ words-bits_of (words_in_use n ws) ws (used_fit n ws is_repr) (λ w. used_is n ws w is_repr.past)
+inverse n ws is_repr = ap (words (set_of n ws)) (sym is_repr.long) ∙ words_bits_of (words_in_use n ws) ws (used_fit n ws is_repr) (λ w. used_is n ws w is_repr.past)
 
 pub within : (n : ℕ) (ws : List ℕ) → IsArrayRepr n ws → IsTrue (is_subset (set_of n ws) (below (64 * in_use n)))
 within n ws is_repr =
     let long : length (words_in_use n ws) ≡ in_use n = omega (arith, length-take (in_use n) ws, is_repr.long) in
-    subst (λ m. IsTrue (is_subset (set_of n ws) (below (64 * m)))) long (bits_of-within (words_in_use n ws) (used_fit n ws is_repr))
+    subst (λ m. IsTrue (is_subset (set_of n ws) (below (64 * m)))) long (bits_of_within (words_in_use n ws) (used_fit n ws is_repr))
 
 -- ---- no bits
 
@@ -90,8 +90,8 @@ repr_of_none n = record {
 
 pub none_iff : (n : ℕ) (ws : List ℕ) → IsArrayRepr n ws → IsTrue (list_all (λ w. w == 0) ws) ↔ (set_of n ws ≡ empty)
 none_iff n ws is_repr = (
-  λ none. set_is n ws empty is_repr (λ w b small. contains-zero _ b (each_zero ws w none) ∙ sym (contains-empty _)),
-  λ none. all_zero ws (λ w. sym (word_is n ws w is_repr) ∙ ap (λ s. word s w) none ∙ word-empty w),
+  λ none. set_is n ws empty is_repr (λ w b small. contains_zero _ b (each_zero ws w none) ∙ sym (contains_empty _)),
+  λ none. all_zero ws (λ w. sym (word_is n ws w is_repr) ∙ ap (λ s. word s w) none ∙ word_empty w),
 )
 
 pub set_of_none : (n : ℕ) → set_of n (replicate n 0) ≡ empty

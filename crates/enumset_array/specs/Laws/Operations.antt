@@ -7,18 +7,18 @@ use Rattle.std.specs.Int.Bits.{and_lt}
 use Rattle.std.proofs.lemmas.Nat.{or_lt, xor_lt}
 use Rattle.std.proofs.Math.Pow.{ones_sub-lt}
 use Rattle.enumset_repr.specs.BitSet.{intersection, union, difference, symmetric_difference}
-use Rattle.enumset_repr.specs.Laws.Members.{contains-intersection, contains-union, contains-difference, contains-symmetric_difference}
-use Rattle.enumset_repr.specs.Laws.Numbers.{bits-and, bits-or, bits-xor, bits-and_not}
+use Rattle.enumset_repr.specs.Laws.Members.{contains_intersection, contains_union, contains_difference, contains_symmetric_difference}
+use Rattle.enumset_repr.specs.Laws.Numbers.{bits_and, bits_or, bits_xor, bits_and_not}
 use Rattle.enumset_array.specs.Operations.{IsOnBits}
 
 pub on_and : IsOnBits bit_and intersection
-on_and = record { none = refl; fits = and_lt 64; same = λ x y _ _. bits-and x y; test = λ p q. p && q; member = contains-intersection }
+on_and = record { none = refl; fits = and_lt 64; same = λ x y _ _. bits_and x y; test = λ p q. p && q; member = contains_intersection }
 
 pub on_or : IsOnBits bit_or union
-on_or = record { none = refl; fits = or_lt 64; same = λ x y _ _. bits-or x y; test = λ p q. p || q; member = contains-union }
+on_or = record { none = refl; fits = or_lt 64; same = λ x y _ _. bits_or x y; test = λ p q. p || q; member = contains_union }
 
 pub on_xor : IsOnBits bit_xor symmetric_difference
-on_xor = record { none = refl; fits = xor_lt 64; same = λ x y _ _. bits-xor x y; test = λ p q. (p && not q) || (q && not p); member = contains-symmetric_difference }
+on_xor = record { none = refl; fits = xor_lt 64; same = λ x y _ _. bits_xor x y; test = λ p q. (p && not q) || (q && not p); member = contains_symmetric_difference }
 
 pub on_and_not : IsOnBits (λ x y. bit_and x (bit_not w64 y)) difference
-on_and_not = record { none = refl; fits = λ x y p _. and_lt 64 x (bit_not w64 y) p (ones_sub-lt 64 y); same = bits-and_not 64; test = λ p q. p && not q; member = contains-difference }
+on_and_not = record { none = refl; fits = λ x y p _. and_lt 64 x (bit_not w64 y) p (ones_sub-lt 64 y); same = bits_and_not 64; test = λ p q. p && not q; member = contains_difference }

@@ -10,7 +10,7 @@
 use Rattle.std.proofs.Common.{◌≡◌, ℕ, true, false, cond, List, [], ◌∷◌, refl, sym, ap, ◌∙◌, arith, ◌↔◌}
 use Rattle.std.proofs.lemmas.Bool.Decides.{nat_tests, same_from_decides}
 use Rattle.enumset_repr.specs.BitSet.{BitSet, contains, ascending, empty, insert, only, remove, from_list, insert_each, union, intersection, difference, symmetric_difference, is_subset, is_disjoint}
-use Rattle.enumset_repr.specs.Laws.Members.{members, subsets, same_set, contains-ascending, contains-from_list, contains-insert_each, contains-is_subset, is_subset-contains, contains-is_disjoint, is_disjoint-contains, is_subset_iff, is_disjoint_iff}
+use Rattle.enumset_repr.specs.Laws.Members.{members, subsets, same_set, contains_ascending, contains_from_list, contains_insert_each, contains_is_subset, is_subset_contains, contains_is_disjoint, is_disjoint_contains, is_subset_iff, is_disjoint_iff}
 
 -- ---- union
 
@@ -146,11 +146,11 @@ remove_insert s b none = same_set _ _ (λ q. grind (arith, members, nat_tests))
 pub insert_remove : (s : BitSet) (b : ℕ) → contains s b ≡ true → insert (remove s b) b ≡ s
 insert_remove s b one = same_set _ _ (λ q. grind (arith, members, nat_tests))
 
-pub contains_insert : (s : BitSet) (b : ℕ) → contains (insert s b) b ≡ true
-contains_insert s b = grind (arith, members, nat_tests)
+pub contains_inserted : (s : BitSet) (b : ℕ) → contains (insert s b) b ≡ true
+contains_inserted s b = grind (arith, members, nat_tests)
 
-pub contains_remove : (s : BitSet) (b : ℕ) → contains (remove s b) b ≡ false
-contains_remove s b = grind (arith, members, nat_tests)
+pub contains_removed : (s : BitSet) (b : ℕ) → contains (remove s b) b ≡ false
+contains_removed s b = grind (arith, members, nat_tests)
 
 pub union_only : (s : BitSet) (b : ℕ) → union s (only b) ≡ insert s b
 union_only s b = same_set _ _ (λ q. grind (arith, members))
@@ -187,100 +187,100 @@ difference_inserted s t b none = same_set _ _ (λ q. grind (arith, members, nat_
 pub insert_inside : (s t : BitSet) (b : ℕ) → contains t b ≡ true → intersection (insert s b) t ≡ insert (intersection s t) b
 insert_inside s t b one = same_set _ _ (λ q. grind (arith, members, nat_tests))
 
-pub ruleset on_one_number = (contains_insert, contains_remove, insert_twice, insert_present, remove_twice, remove_absent, remove_insert, insert_remove, union_only, difference_only)
+pub ruleset on_one_number = (contains_inserted, contains_removed, insert_twice, insert_present, remove_twice, remove_absent, remove_insert, insert_remove, union_only, difference_only)
 
 -- ---- the complement of a set within a set v
 
 pub complement_twice : (v s : BitSet) → is_subset s v ≡ true → difference v (difference v s) ≡ s
-complement_twice v s within = same_set _ _ (λ q. let each = is_subset-contains s v within q in grind (arith, members))
+complement_twice v s within = same_set _ _ (λ q. let each = is_subset_contains s v within q in grind (arith, members))
 
 pub complement_union : (v s : BitSet) → is_subset s v ≡ true → union s (difference v s) ≡ v
-complement_union v s within = same_set _ _ (λ q. let each = is_subset-contains s v within q in grind (arith, members))
+complement_union v s within = same_set _ _ (λ q. let each = is_subset_contains s v within q in grind (arith, members))
 
 pub complement_intersection : (v s : BitSet) → intersection s (difference v s) ≡ empty
 complement_intersection v s = same_set _ _ (λ q. grind (arith, members))
 
 pub complement_apart : (v s : BitSet) → is_disjoint s (difference v s) ≡ true
-complement_apart v s = contains-is_disjoint _ _ (λ q one. grind (arith, members))
+complement_apart v s = contains_is_disjoint _ _ (λ q one. grind (arith, members))
 
 pub ruleset on_complements = (complement_twice, complement_union, complement_intersection, complement_apart)
 
 -- ---- sets with no common member
 
 apart_back : (s t : BitSet) → is_disjoint s t ≡ true → is_disjoint t s ≡ true
-apart_back s t apart = contains-is_disjoint t s (λ q one. let none = is_disjoint-contains s t apart q in grind arith)
+apart_back s t apart = contains_is_disjoint t s (λ q one. let none = is_disjoint_contains s t apart q in grind arith)
 
 pub is_disjoint_comm : (s t : BitSet) → is_disjoint s t ≡ is_disjoint t s
 is_disjoint_comm s t = same_from_decides _ _ (apart_back s t, apart_back t s) (λ h. h, λ h. h)
 
 pub is_disjoint_empty : (s : BitSet) → is_disjoint s empty ≡ true
-is_disjoint_empty s = contains-is_disjoint _ _ (λ q one. grind (arith, members))
+is_disjoint_empty s = contains_is_disjoint _ _ (λ q one. grind (arith, members))
 
 pub is_disjoint_difference : (s t : BitSet) → is_disjoint (difference s t) t ≡ true
-is_disjoint_difference s t = contains-is_disjoint _ _ (λ q one. grind (arith, members))
+is_disjoint_difference s t = contains_is_disjoint _ _ (λ q one. grind (arith, members))
 
 -- ---- subsets
 
 pub is_subset_trans : (s t u : BitSet) → is_subset s t ≡ true → is_subset t u ≡ true → is_subset s u ≡ true
-is_subset_trans s t u first second = contains-is_subset s u (λ q one. is_subset-contains t u second q (is_subset-contains s t first q one))
+is_subset_trans s t u first second = contains_is_subset s u (λ q one. is_subset_contains t u second q (is_subset_contains s t first q one))
 
 pub is_subset_antisymm : (s t : BitSet) → is_subset s t ≡ true → is_subset t s ≡ true → s ≡ t
-is_subset_antisymm s t first second = same_set s t (λ q. let there = is_subset-contains s t first q in let back = is_subset-contains t s second q in grind arith)
+is_subset_antisymm s t first second = same_set s t (λ q. let there = is_subset_contains s t first q in let back = is_subset_contains t s second q in grind arith)
 
 pub union_left : (s t : BitSet) → is_subset s (union s t) ≡ true
-union_left s t = contains-is_subset _ _ (λ q one. grind (arith, members))
+union_left s t = contains_is_subset _ _ (λ q one. grind (arith, members))
 
 pub union_right : (s t : BitSet) → is_subset t (union s t) ≡ true
-union_right s t = contains-is_subset _ _ (λ q one. grind (arith, members))
+union_right s t = contains_is_subset _ _ (λ q one. grind (arith, members))
 
 pub intersection_left : (s t : BitSet) → is_subset (intersection s t) s ≡ true
-intersection_left s t = contains-is_subset _ _ (λ q one. grind (arith, members))
+intersection_left s t = contains_is_subset _ _ (λ q one. grind (arith, members))
 
 pub intersection_right : (s t : BitSet) → is_subset (intersection s t) t ≡ true
-intersection_right s t = contains-is_subset _ _ (λ q one. grind (arith, members))
+intersection_right s t = contains_is_subset _ _ (λ q one. grind (arith, members))
 
 pub difference_left : (s t : BitSet) → is_subset (difference s t) s ≡ true
-difference_left s t = contains-is_subset _ _ (λ q one. grind (arith, members))
+difference_left s t = contains_is_subset _ _ (λ q one. grind (arith, members))
 
 pub insert_grows : (s : BitSet) (b : ℕ) → is_subset s (insert s b) ≡ true
-insert_grows s b = contains-is_subset _ _ (λ q one. grind (arith, members))
+insert_grows s b = contains_is_subset _ _ (λ q one. grind (arith, members))
 
 pub remove_shrinks : (s : BitSet) (b : ℕ) → is_subset (remove s b) s ≡ true
-remove_shrinks s b = contains-is_subset _ _ (λ q one. grind (arith, members))
+remove_shrinks s b = contains_is_subset _ _ (λ q one. grind (arith, members))
 
 pub union_within : (s t : BitSet) → is_subset s t ≡ true → union s t ≡ t
-union_within s t within = same_set _ _ (λ q. let each = is_subset-contains s t within q in grind (arith, members))
+union_within s t within = same_set _ _ (λ q. let each = is_subset_contains s t within q in grind (arith, members))
 
 pub intersection_within : (s t : BitSet) → is_subset s t ≡ true → intersection s t ≡ s
-intersection_within s t within = same_set _ _ (λ q. let each = is_subset-contains s t within q in grind (arith, members))
+intersection_within s t within = same_set _ _ (λ q. let each = is_subset_contains s t within q in grind (arith, members))
 
 pub difference_within : (s t : BitSet) → is_subset s t ≡ true → difference s t ≡ empty
-difference_within s t within = same_set _ _ (λ q. let each = is_subset-contains s t within q in grind (arith, members))
+difference_within s t within = same_set _ _ (λ q. let each = is_subset_contains s t within q in grind (arith, members))
 
 pub intersection_difference : (s t v : BitSet) → is_subset s v ≡ true → intersection s (difference v t) ≡ difference s t
-intersection_difference s t v within = same_set _ _ (λ q. let each = is_subset-contains s v within q in grind (arith, members))
+intersection_difference s t v within = same_set _ _ (λ q. let each = is_subset_contains s v within q in grind (arith, members))
 
 pub symmetric_difference_within : (s t : BitSet) → is_subset s t ≡ true → symmetric_difference s t ≡ difference t s
-symmetric_difference_within s t within = same_set _ _ (λ q. let each = is_subset-contains s t within q in grind (arith, members))
+symmetric_difference_within s t within = same_set _ _ (λ q. let each = is_subset_contains s t within q in grind (arith, members))
 
 pub difference_none : (s t : BitSet) → difference s t ≡ empty → is_subset s t ≡ true
 difference_none s t none = (is_subset_iff s t).1 none
 
 pub intersection_apart : (s t : BitSet) → is_disjoint s t ≡ true → intersection s t ≡ empty
-intersection_apart s t apart = same_set _ _ (λ q. let each = is_disjoint-contains s t apart q in grind (arith, members))
+intersection_apart s t apart = same_set _ _ (λ q. let each = is_disjoint_contains s t apart q in grind (arith, members))
 
 pub difference_apart : (s t : BitSet) → is_disjoint s t ≡ true → difference s t ≡ s
-difference_apart s t apart = same_set _ _ (λ q. let each = is_disjoint-contains s t apart q in grind (arith, members))
+difference_apart s t apart = same_set _ _ (λ q. let each = is_disjoint_contains s t apart q in grind (arith, members))
 
 pub ruleset on_subsets = (is_disjoint_empty, is_disjoint_difference, union_left, union_right, intersection_left, intersection_right, difference_left, insert_grows, remove_shrinks, union_within, intersection_within, difference_within, intersection_apart, difference_apart)
 
 -- ---- subsets and disjoint sets by members, and where a search meets a difference or an intersection
 
 pub is_subset_each : (s t : BitSet) → (is_subset s t ≡ true) ↔ ((q : ℕ) → contains s q ≡ true → contains t q ≡ true)
-is_subset_each s t = (is_subset-contains s t, contains-is_subset s t)
+is_subset_each s t = (is_subset_contains s t, contains_is_subset s t)
 
 pub is_disjoint_each : (s t : BitSet) → (is_disjoint s t ≡ true) ↔ ((q : ℕ) → contains s q ≡ true → contains t q ≡ false)
-is_disjoint_each s t = (is_disjoint-contains s t, contains-is_disjoint s t)
+is_disjoint_each s t = (is_disjoint_contains s t, contains_is_disjoint s t)
 
 -- the first part is always true: it shows the search where to take the law
 pub difference_tells : (s t : BitSet) → (difference s t ≡ difference s t) × (difference s t ≡ empty → is_subset s t ≡ true)
@@ -292,7 +292,7 @@ intersection_tells s t = (refl, (is_disjoint_iff s t).1)
 -- ---- a set from a list of its members
 
 pub from_list_ascending : (s : BitSet) → from_list (ascending s) ≡ s
-from_list_ascending s = same_set _ _ (λ q. contains-from_list (ascending s) q ∙ sym (contains-ascending s q))
+from_list_ascending s = same_set _ _ (λ q. contains_from_list (ascending s) q ∙ sym (contains_ascending s q))
 
 pub insert_each_ascending : (s : BitSet) → insert_each empty (ascending s) ≡ s
 unfolding union
@@ -305,7 +305,7 @@ insert_each_union s t = refl
 
 -- a step of a loop that inserts the numbers of a list in turn: it inserts the first and leaves the others
 pub insert_each_insert : (s : BitSet) (b : ℕ) (bs : List ℕ) → insert_each (insert s b) bs ≡ insert_each s (b ∷ bs)
-insert_each_insert s b bs = same_set _ _ (λ q. grind (arith, members, contains-insert_each))
+insert_each_insert s b bs = same_set _ _ (λ q. grind (arith, members, contains_insert_each))
 
 pub insert_each_none : (s : BitSet) → insert_each s [] ≡ s
 unfolding insert_each

@@ -1,8 +1,8 @@
 -- The list of a set's members, each once, ascending.
 --     AscendsFrom      a list is ascending, and its first number is at least a given one
 --     ascending_is      an ascending list of a set's members is `ascending` of that set
---     ascending-..      `ascending` of a set with a least or a greatest member
---     len-..      `len` of each set
+--     ascending_..      `ascending` of a set with a least or a greatest member
+--     len_..      `len` of each set
 use Rattle.std.proofs.Common.{◌≡◌, ◌<◌, ◌≤◌, ℕ, suc, ◌+◌, ◌-◌, true, false, cond, ◌||◌, List, [], ◌∷◌, ◌++◌, refl, sym, ap, subst, ◌∙◌, length, arith, T, map, ◌↔◌}
 use Rattle.std.specs.Prelude.{◌==◌}
 use Rattle.std.specs.Ordering.{nat_cmp}
@@ -13,7 +13,7 @@ use Rattle.std.specs.FinMap.{is_sorted}
 use Rattle.std.proofs.lemmas.Bool.{eqb-true, or_right}
 use Rattle.std.proofs.lemmas.Bool.Decides.{nat_tests}
 use Rattle.enumset_repr.specs.BitSet.{is_in, BitSet, contains, ascending, len, is_empty, empty, insert, remove, is_subset, below}
-use Rattle.enumset_repr.specs.Laws.Members.{members, same_set, contains-empty, contains-ascending, member_below}
+use Rattle.enumset_repr.specs.Laws.Members.{members, same_set, contains_empty, contains_ascending, member_below}
 
 -- the list is ascending, and its first number is at least k
 abbrev pub AscendsFrom : ℕ → List ℕ → Type 0
@@ -28,13 +28,13 @@ entries-rise : (es : List (ℕ × Unit {0})) → T (is_sorted nat_cmp es) → As
 entries-rise [] h = tt
 entries-rise (e ∷ es) h = (omega arith, keys-rise e es h)
 
-pub ascending-ascends : (s : BitSet) → AscendsFrom 0 (ascending s)
+pub ascending_ascends : (s : BitSet) → AscendsFrom 0 (ascending s)
 unfolding ascending
-ascending-ascends s = entries-rise (fin.entries s) (fin.entries_sorted s)
+ascending_ascends s = entries-rise (fin.entries s) (fin.entries_sorted s)
 
-pub is_in-below : (k q : ℕ) (xs : List ℕ) → AscendsFrom k xs → q < k → is_in q xs ≡ false
-is_in-below k q [] ascends low = refl
-is_in-below k q (x ∷ xs) ascends low = let later = is_in-below (suc x) q xs ascends.1 in grind (arith, nat_tests, ascends.0, later)
+pub is_in_below : (k q : ℕ) (xs : List ℕ) → AscendsFrom k xs → q < k → is_in q xs ≡ false
+is_in_below k q [] ascends low = refl
+is_in_below k q (x ∷ xs) ascends low = let later = is_in_below (suc x) q xs ascends.1 in grind (arith, nat_tests, ascends.0, later)
 
 pub ascends_lower : (j k : ℕ) (xs : List ℕ) → j ≤ k → AscendsFrom k xs → AscendsFrom j xs
 ascends_lower j k [] less ascends = tt
@@ -45,72 +45,72 @@ ascends_higher j k [] ascends from = tt
 ascends_higher j k (x ∷ xs) ascends from = (grind (arith, nat_tests, from x), ascends.1)
 
 -- a number in a list that ascends from k is at least k
-pub is_in-from : (k q : ℕ) (xs : List ℕ) → AscendsFrom k xs → is_in q xs ≡ true → k ≤ q
-is_in-from k q [] ascends one = grind arith
-is_in-from k q (x ∷ xs) ascends one = let later = is_in-from (suc x) q xs ascends.1 in grind (arith, nat_tests, ascends.0, later)
+pub is_in_from : (k q : ℕ) (xs : List ℕ) → AscendsFrom k xs → is_in q xs ≡ true → k ≤ q
+is_in_from k q [] ascends one = grind arith
+is_in_from k q (x ∷ xs) ascends one = let later = is_in_from (suc x) q xs ascends.1 in grind (arith, nat_tests, ascends.0, later)
 
 pub same_list : (k : ℕ) (xs ys : List ℕ) → AscendsFrom k xs → AscendsFrom k ys → ((q : ℕ) → is_in q xs ≡ is_in q ys) → xs ≡ ys
 same_list k [] [] p q same = refl
 same_list k [] (y ∷ ys) p q same = let here = same y in absurd (grind (arith, nat_tests))
 same_list k (x ∷ xs) [] p q same = let here = same x in absurd (grind (arith, nat_tests))
 same_list k (x ∷ xs) (y ∷ ys) p q same =
-    let from_y = is_in-from (suc y) x ys q.1 in
-    let from_x = is_in-from (suc x) y xs p.1 in
+    let from_y = is_in_from (suc y) x ys q.1 in
+    let from_x = is_in_from (suc x) y xs p.1 in
     let at_x = same x in
     let at_y = same y in
     let head : x ≡ y = grind (arith, nat_tests) in
-    let rest : (r : ℕ) → is_in r xs ≡ is_in r ys = λ r. let at_r = same r in let low = is_in-below (suc x) r xs p.1 in let under = is_in-below (suc y) r ys q.1 in grind (arith, nat_tests) in
+    let rest : (r : ℕ) → is_in r xs ≡ is_in r ys = λ r. let at_r = same r in let low = is_in_below (suc x) r xs p.1 in let under = is_in_below (suc y) r ys q.1 in grind (arith, nat_tests) in
     (λ i. head i ∷ same_list (suc x) xs ys p.1 (subst (λ h. AscendsFrom (suc h) ys) (sym head) q.1) rest i)
 
 -- an ascending list of a set's members is `ascending` of that set
 pub ascending_is : (s : BitSet) (xs : List ℕ) → AscendsFrom 0 xs → ((q : ℕ) → contains s q ≡ is_in q xs) → ascending s ≡ xs
-ascending_is s xs ascends is = same_list 0 (ascending s) xs (ascending-ascends s) ascends (λ q. sym (contains-ascending s q) ∙ is q)
+ascending_is s xs ascends is = same_list 0 (ascending s) xs (ascending_ascends s) ascends (λ q. sym (contains_ascending s q) ∙ is q)
 
-pub ascending-empty : ascending empty ≡ []
-ascending-empty = ascending_is empty [] tt contains-empty
+pub ascending_empty : ascending empty ≡ []
+ascending_empty = ascending_is empty [] tt contains_empty
 
-pub len-ascending : (s : BitSet) → len s ≡ length (ascending s)
+pub len_ascending : (s : BitSet) → len s ≡ length (ascending s)
 unfolding len ascending
-len-ascending s = fin.len-entries s ∙ sym (length-map (fin.entries s) (λ e. e.0))
+len_ascending s = fin.len-entries s ∙ sym (length-map (fin.entries s) (λ e. e.0))
 
-pub len-empty : len empty ≡ 0
+pub len_empty : len empty ≡ 0
 unfolding len empty
-len-empty = fin.len-empty nat_cmp (Unit {0})
+len_empty = fin.len-empty nat_cmp (Unit {0})
 
-pub len-insert : (s : BitSet) (b : ℕ) → len (insert s b) ≡ cond (contains s b) (len s) (len s + 1)
+pub len_insert : (s : BitSet) (b : ℕ) → len (insert s b) ≡ cond (contains s b) (len s) (len s + 1)
 unfolding len insert contains
-len-insert s b = fin.len-insert nat_cmp_total s b tt
+len_insert s b = fin.len-insert nat_cmp_total s b tt
 
-pub len-remove : (s : BitSet) (b : ℕ) → len (remove s b) ≡ cond (contains s b) (len s - 1) (len s)
+pub len_remove : (s : BitSet) (b : ℕ) → len (remove s b) ≡ cond (contains s b) (len s - 1) (len s)
 unfolding len remove contains
-len-remove s b = fin.len-remove nat_cmp_total s b
+len_remove s b = fin.len-remove nat_cmp_total s b
 
 ascends-push : (k m : ℕ) (xs : List ℕ) → k ≤ m → AscendsFrom k xs → ((q : ℕ) → is_in q xs ≡ true → q < m) → AscendsFrom k (xs ++ m ∷ [])
 ascends-push k m [] within ascends small = (within, tt)
 ascends-push k m (x ∷ xs) within ascends small = (ascends.0, ascends-push (suc x) m xs (grind (arith, nat_tests, small x)) ascends.1 (λ q one. small q (or_right (q == x) _ one)))
 
-pub is_in-push : (q m : ℕ) (xs : List ℕ) → is_in q (xs ++ m ∷ []) ≡ ((q == m) || is_in q xs)
-is_in-push q m [] = refl
-is_in-push q m (x ∷ xs) = grind (arith, nat_tests, is_in-push q m xs)
+pub is_in_push : (q m : ℕ) (xs : List ℕ) → is_in q (xs ++ m ∷ []) ≡ ((q == m) || is_in q xs)
+is_in_push q m [] = refl
+is_in_push q m (x ∷ xs) = grind (arith, nat_tests, is_in_push q m xs)
 
 -- each number before the last is less
 pub before_last : (k : ℕ) (xs : List ℕ) (m q : ℕ) → AscendsFrom k (xs ++ m ∷ []) → is_in q xs ≡ true → q < m
 before_last k [] m q ascends one = absurd (grind arith)
 before_last k (x ∷ xs) m q ascends one =
-    let over = is_in-from (suc x) m (xs ++ m ∷ []) ascends.1 in
-    let later = before_last (suc x) xs m q ascends.1 in grind (arith, nat_tests, is_in-push m m xs)
+    let over = is_in_from (suc x) m (xs ++ m ∷ []) ascends.1 in
+    let later = before_last (suc x) xs m q ascends.1 in grind (arith, nat_tests, is_in_push m m xs)
 
 -- the least member comes first, before the members of the set without it
-pub ascending-first : (s : BitSet) (m : ℕ) → contains s m ≡ true → ((q : ℕ) → q < m → contains s q ≡ false) → ascending s ≡ m ∷ ascending (remove s m)
-ascending-first s m one least = ascending_is s _
-    (omega arith, ascends_higher 0 (suc m) _ (ascending-ascends (remove s m)) (λ q h. let none = least q in grind (arith, members, nat_tests, contains-ascending (remove s m) q)))
-    (λ q. grind (arith, members, nat_tests, contains-ascending (remove s m) q))
+pub ascending_first : (s : BitSet) (m : ℕ) → contains s m ≡ true → ((q : ℕ) → q < m → contains s q ≡ false) → ascending s ≡ m ∷ ascending (remove s m)
+ascending_first s m one least = ascending_is s _
+    (omega arith, ascends_higher 0 (suc m) _ (ascending_ascends (remove s m)) (λ q h. let none = least q in grind (arith, members, nat_tests, contains_ascending (remove s m) q)))
+    (λ q. grind (arith, members, nat_tests, contains_ascending (remove s m) q))
 
 -- the greatest member comes last, after the members of the set without it
-pub ascending-last : (s : BitSet) (m : ℕ) → contains s m ≡ true → ((q : ℕ) → m < q → contains s q ≡ false) → ascending s ≡ ascending (remove s m) ++ m ∷ []
-ascending-last s m one greatest = ascending_is s _
-    (ascends-push 0 m _ (omega arith) (ascending-ascends (remove s m)) (λ q h. let none = greatest q in grind (arith, members, nat_tests, contains-ascending (remove s m) q)))
-    (λ q. grind (arith, members, nat_tests, is_in-push q m (ascending (remove s m)), contains-ascending (remove s m) q))
+pub ascending_last : (s : BitSet) (m : ℕ) → contains s m ≡ true → ((q : ℕ) → m < q → contains s q ≡ false) → ascending s ≡ ascending (remove s m) ++ m ∷ []
+ascending_last s m one greatest = ascending_is s _
+    (ascends-push 0 m _ (omega arith) (ascending_ascends (remove s m)) (λ q h. let none = greatest q in grind (arith, members, nat_tests, contains_ascending (remove s m) q)))
+    (λ q. grind (arith, members, nat_tests, is_in_push q m (ascending (remove s m)), contains_ascending (remove s m) q))
 
 pub empty_of_len : (s : BitSet) → len s ≡ 0 → s ≡ empty
 unfolding len empty
@@ -118,7 +118,7 @@ empty_of_len s e = fin.empty_of_len s e
 
 -- a set whose list is empty has no member
 pub empty_of_ascending : (s : BitSet) → ascending s ≡ [] → s ≡ empty
-empty_of_ascending s e = same_set s empty (λ q. contains-ascending s q ∙ ap (is_in q) e ∙ sym (contains-empty q))
+empty_of_ascending s e = same_set s empty (λ q. contains_ascending s q ∙ ap (is_in q) e ∙ sym (contains_empty q))
 
 length-ascends : (k n : ℕ) (xs : List ℕ) → AscendsFrom k xs → k ≤ n → ((q : ℕ) → is_in q xs ≡ true → q < n) → length xs + k ≤ n
 length-ascends k n [] ascends within small = omega (arith, within)
@@ -127,14 +127,14 @@ length-ascends k n (x ∷ xs) ascends within small =
     omega (arith, ascends.0, length-ascends (suc x) n xs ascends.1 first (λ q one. small q (or_right (q == x) _ one)))
 
 -- a set of numbers below n has at most n members
-pub len-below : (s : BitSet) (n : ℕ) → is_subset s (below n) ≡ true → len s ≤ n
-len-below s n sub =
-    omega (arith, len-ascending s, length-ascends 0 n (ascending s) (ascending-ascends s) (omega arith) (λ q one. member_below s n q sub (contains-ascending s q ∙ one)))
+pub len_below : (s : BitSet) (n : ℕ) → is_subset s (below n) ≡ true → len s ≤ n
+len_below s n sub =
+    omega (arith, len_ascending s, length-ascends 0 n (ascending s) (ascending_ascends s) (omega arith) (λ q one. member_below s n q sub (contains_ascending s q ∙ one)))
 
 -- a set has no member exactly if it is the empty set
 pub is_empty_iff : (s : BitSet) → (is_empty s ≡ true) ↔ (s ≡ empty)
 unfolding is_empty
 is_empty_iff s = (
   λ none. empty_of_len s (eqb-true (len s) 0 none),
-  λ e. ap (λ n. n == 0) (ap len e ∙ len-empty),
+  λ e. ap (λ n. n == 0) (ap len e ∙ len_empty),
 )

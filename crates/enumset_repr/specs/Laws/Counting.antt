@@ -1,17 +1,17 @@
 -- How many members sets have.
---     ascending-intersection, ascending-difference      the members of s that are in t, and that are not, ascending
+--     ascending_intersection, ascending_difference      the members of s that are in t, and that are not, ascending
 --     is_empty_difference, is_empty_intersection      tests of subsets and of disjoint sets
---     len-parts      the members of s outside t and those inside t are all of s
+--     len_parts      the members of s outside t and those inside t are all of s
 --     len_union_more, len_union_same      a union has the members of the one set, and those of the other outside it;
 --         it has as many as the one exactly if the other is a subset
---     len-union      a union and an intersection have together as many members as the two sets
---     len-intersection, len-difference, len-subset      a part has no more members
---     len-inserted, len-removed      one more, and one less
+--     len_union      a union and an intersection have together as many members as the two sets
+--     len_intersection, len_difference, len_subset      a part has no more members
+--     len_inserted, len_removed      one more, and one less
 --     len_zero_iff      a set has no member exactly if it is the empty set
 --     kept_count, left_count      the numbers of the list of s that are in t, and that are not, kept in a list
---     len-kept, len-left      the same, counted
+--     len_kept, len_left      the same, counted
 --     len_kept_both      the members of s that are in two other sets, counted
---     length-ascending      the list of the members is as long as the set
+--     length_ascending      the list of the members is as long as the set
 -- The ruleset `counting` has those that a tactic can apply by itself.
 use Rattle.std.proofs.Common.{◌≡◌, ◌≤◌, ◌+◌, ◌-◌, ℕ, suc, zero, Bool, true, false, cond, not, ◌&&◌, List, [], ◌∷◌, length, filter, count_by, refl, sym, ap, ◌∙◌, arith, ◌↔◌}
 use Rattle.std.specs.Prelude.{◌==◌}
@@ -19,9 +19,9 @@ use Rattle.std.proofs.lemmas.Bool.Decides.{nat_tests, same_from_decides}
 use Rattle.std.proofs.lemmas.List.Filters.{length-filter_both}
 use Rattle.std.proofs.lemmas.List.Sums.{length-filter}
 use Rattle.enumset_repr.specs.BitSet.{BitSet, is_in, contains, ascending, len, is_empty, empty, insert, remove, union, intersection, difference, is_subset, is_disjoint}
-use Rattle.enumset_repr.specs.Laws.Members.{contains-empty, contains-ascending, contains-intersection, contains-difference, is_subset_iff, is_disjoint_iff}
+use Rattle.enumset_repr.specs.Laws.Members.{contains_empty, contains_ascending, contains_intersection, contains_difference, is_subset_iff, is_disjoint_iff}
 use Rattle.enumset_repr.specs.Laws.Algebra.{intersection_comm, intersection_assoc, intersection_union, intersection_within, union_comm, union_difference}
-use Rattle.enumset_repr.specs.Laws.Ascending.{AscendsFrom, ascends_lower, ascending-ascends, ascending_is, len-ascending, len-below, len-empty, len-insert, len-remove, empty_of_len, is_empty_iff}
+use Rattle.enumset_repr.specs.Laws.Ascending.{AscendsFrom, ascends_lower, ascending_ascends, ascending_is, len_ascending, len_below, len_empty, len_insert, len_remove, empty_of_len, is_empty_iff}
 
 module _ (p : ℕ → Bool) where
   ascends-filter : (k : ℕ) (xs : List ℕ) → AscendsFrom k xs → AscendsFrom k (filter p xs)
@@ -35,15 +35,15 @@ module _ (p : ℕ → Bool) where
   is_in-filter q [] = refl
   is_in-filter q (x ∷ xs) = grind (arith, nat_tests, is_in-filter q xs)
 
-pub ascending-intersection : (s t : BitSet) → ascending (intersection s t) ≡ filter (contains t) (ascending s)
-ascending-intersection s t = ascending_is (intersection s t) (filter (contains t) (ascending s))
-    (ascends-filter (contains t) 0 (ascending s) (ascending-ascends s))
-    (λ q. grind (arith, contains-intersection s t q, contains-ascending s q, is_in-filter (contains t) q (ascending s)))
+pub ascending_intersection : (s t : BitSet) → ascending (intersection s t) ≡ filter (contains t) (ascending s)
+ascending_intersection s t = ascending_is (intersection s t) (filter (contains t) (ascending s))
+    (ascends-filter (contains t) 0 (ascending s) (ascending_ascends s))
+    (λ q. grind (arith, contains_intersection s t q, contains_ascending s q, is_in-filter (contains t) q (ascending s)))
 
-pub ascending-difference : (s t : BitSet) → ascending (difference s t) ≡ filter (λ b. not (contains t b)) (ascending s)
-ascending-difference s t = ascending_is (difference s t) (filter (λ b. not (contains t b)) (ascending s))
-    (ascends-filter (λ b. not (contains t b)) 0 (ascending s) (ascending-ascends s))
-    (λ q. grind (arith, contains-difference s t q, contains-ascending s q, is_in-filter (λ b. not (contains t b)) q (ascending s)))
+pub ascending_difference : (s t : BitSet) → ascending (difference s t) ≡ filter (λ b. not (contains t b)) (ascending s)
+ascending_difference s t = ascending_is (difference s t) (filter (λ b. not (contains t b)) (ascending s))
+    (ascends-filter (λ b. not (contains t b)) 0 (ascending s) (ascending_ascends s))
+    (λ q. grind (arith, contains_difference s t q, contains_ascending s q, is_in-filter (λ b. not (contains t b)) q (ascending s)))
 
 pub is_empty_difference : (s t : BitSet) → is_empty (difference s t) ≡ is_subset s t
 is_empty_difference s t = same_from_decides _ _ (is_empty_iff _) (is_subset_iff s t)
@@ -51,33 +51,33 @@ is_empty_difference s t = same_from_decides _ _ (is_empty_iff _) (is_subset_iff 
 pub is_empty_intersection : (s t : BitSet) → is_empty (intersection s t) ≡ is_disjoint s t
 is_empty_intersection s t = same_from_decides _ _ (is_empty_iff _) (is_disjoint_iff s t)
 
-pub len-parts : (s t : BitSet) → len (difference s t) + len (intersection s t) ≡ len s
-len-parts s t =
-    let out = len-ascending (difference s t) ∙ ap length (ascending-difference s t) in
-    let inside = len-ascending (intersection s t) ∙ ap length (ascending-intersection s t) in
+pub len_parts : (s t : BitSet) → len (difference s t) + len (intersection s t) ≡ len s
+len_parts s t =
+    let out = len_ascending (difference s t) ∙ ap length (ascending_difference s t) in
+    let inside = len_ascending (intersection s t) ∙ ap length (ascending_intersection s t) in
     let both = length-filter_both (λ b. not (contains t b)) (contains t) (λ x. grind (arith, nat_tests)) (ascending s) in
-    omega (arith, out, inside, both, len-ascending s)
+    omega (arith, out, inside, both, len_ascending s)
 
-pub len-intersection : (s t : BitSet) → len (intersection s t) ≤ len s
-len-intersection s t = omega (arith, len-parts s t)
+pub len_intersection : (s t : BitSet) → len (intersection s t) ≤ len s
+len_intersection s t = omega (arith, len_parts s t)
 
-pub len-intersection_right : (s t : BitSet) → len (intersection s t) ≤ len t
-len-intersection_right s t = omega (arith, len-intersection t s, ap len (intersection_comm s t))
+pub len_intersection_right : (s t : BitSet) → len (intersection s t) ≤ len t
+len_intersection_right s t = omega (arith, len_intersection t s, ap len (intersection_comm s t))
 
-pub len-difference : (s t : BitSet) → len (difference s t) ≤ len s
-len-difference s t = omega (arith, len-parts s t)
+pub len_difference : (s t : BitSet) → len (difference s t) ≤ len s
+len_difference s t = omega (arith, len_parts s t)
 
-pub len-union : (s t : BitSet) → len (union s t) + len (intersection s t) ≡ len s + len t
-len-union s t =
-    let parts = len-parts (union s t) t in
+pub len_union : (s t : BitSet) → len (union s t) + len (intersection s t) ≡ len s + len t
+len_union s t =
+    let parts = len_parts (union s t) t in
     let outside = ap len (union_difference s t) in
     let inside = ap len (intersection_comm (union s t) t ∙ ap (intersection t) (union_comm s t) ∙ intersection_union t s) in
-    omega (arith, parts, outside, inside, len-parts s t)
+    omega (arith, parts, outside, inside, len_parts s t)
 
 pub len_union_more : (s t : BitSet) → len (union s t) ≡ len s + len (difference t s)
 len_union_more s t =
     let outside : intersection t s ≡ intersection s t = intersection_comm t s in
-    omega (arith, len-union s t, len-parts t s, ap len outside)
+    omega (arith, len_union s t, len_parts t s, ap len outside)
 
 none_more : (s t : BitSet) → (len (difference t s) == 0) ≡ is_subset t s
 unfolding is_empty
@@ -86,41 +86,41 @@ none_more s t = is_empty_difference t s
 pub len_union_same : (s t : BitSet) → (len (union s t) == len s) ≡ is_subset t s
 len_union_same s t = let more = len_union_more s t in let none = none_more s t in grind (arith, nat_tests)
 
-pub len-subset : (s t : BitSet) → is_subset s t ≡ true → len s ≤ len t
-len-subset s t within = omega (arith, ap len (intersection_within s t within), len-intersection_right s t)
+pub len_subset : (s t : BitSet) → is_subset s t ≡ true → len s ≤ len t
+len_subset s t within = omega (arith, ap len (intersection_within s t within), len_intersection_right s t)
 
 pub len_zero_iff : (s : BitSet) → (len s ≡ 0) ↔ (s ≡ empty)
-len_zero_iff s = (empty_of_len s, λ e. ap len e ∙ len-empty)
+len_zero_iff s = (empty_of_len s, λ e. ap len e ∙ len_empty)
 
-pub len-inserted : (s : BitSet) (b : ℕ) → contains s b ≡ false → len (insert s b) ≡ len s + 1
-len-inserted s b none = len-insert s b ∙ ap (λ t. cond t (len s) (len s + 1)) none
+pub len_inserted : (s : BitSet) (b : ℕ) → contains s b ≡ false → len (insert s b) ≡ len s + 1
+len_inserted s b none = len_insert s b ∙ ap (λ t. cond t (len s) (len s + 1)) none
 
-pub len-some : (s : BitSet) (b : ℕ) → contains s b ≡ true → 1 ≤ len s
-len-some s b one = some (len s) refl where
+pub len_some : (s : BitSet) (b : ℕ) → contains s b ≡ true → 1 ≤ len s
+len_some s b one = some (len s) refl where
   some : (n : ℕ) → len s ≡ n → 1 ≤ n
-  some zero none = let no = ap (λ t. contains t b) (empty_of_len s none) in grind (arith, contains-empty)
+  some zero none = let no = ap (λ t. contains t b) (empty_of_len s none) in grind (arith, contains_empty)
   some (suc n) is = omega arith
 
-pub len-removed : (s : BitSet) (b : ℕ) → contains s b ≡ true → len (remove s b) + 1 ≡ len s
-len-removed s b one = omega (arith, len-some s b one, len-remove s b ∙ ap (λ t. cond t (len s - 1) (len s)) one)
+pub len_removed : (s : BitSet) (b : ℕ) → contains s b ≡ true → len (remove s b) + 1 ≡ len s
+len_removed s b one = omega (arith, len_some s b one, len_remove s b ∙ ap (λ t. cond t (len s - 1) (len s)) one)
 
 -- as many members of s are in t as numbers of its list
 pub kept_count : (s t : BitSet) → length (filter (contains t) (ascending s)) ≡ len (intersection s t)
-kept_count s t = ap length (sym (ascending-intersection s t)) ∙ sym (len-ascending (intersection s t))
+kept_count s t = ap length (sym (ascending_intersection s t)) ∙ sym (len_ascending (intersection s t))
 
 pub left_count : (s t : BitSet) → length (filter (λ b. not (contains t b)) (ascending s)) ≡ len (difference s t)
-left_count s t = ap length (sym (ascending-difference s t)) ∙ sym (len-ascending (difference s t))
+left_count s t = ap length (sym (ascending_difference s t)) ∙ sym (len_ascending (difference s t))
 
-pub len-kept : (s t : BitSet) → len (intersection s t) ≡ count_by (contains t) (ascending s)
-len-kept s t = sym (kept_count s t) ∙ length-filter (contains t) (ascending s)
+pub len_kept : (s t : BitSet) → len (intersection s t) ≡ count_by (contains t) (ascending s)
+len_kept s t = sym (kept_count s t) ∙ length-filter (contains t) (ascending s)
 
-pub len-left : (s t : BitSet) → len (difference s t) ≡ count_by (λ b. not (contains t b)) (ascending s)
-len-left s t = sym (left_count s t) ∙ length-filter (λ b. not (contains t b)) (ascending s)
+pub len_left : (s t : BitSet) → len (difference s t) ≡ count_by (λ b. not (contains t b)) (ascending s)
+len_left s t = sym (left_count s t) ∙ length-filter (λ b. not (contains t b)) (ascending s)
 
 pub len_kept_both : (s t u : BitSet) → len (intersection (intersection s t) u) ≡ count_by (λ b. contains t b && contains u b) (ascending s)
-len_kept_both s t u = ap len (intersection_assoc s t u) ∙ len-kept s (intersection t u) ∙ ap (λ (p : ℕ → Bool). count_by p (ascending s)) (λ i b. contains-intersection t u b i)
+len_kept_both s t u = ap len (intersection_assoc s t u) ∙ len_kept s (intersection t u) ∙ ap (λ (p : ℕ → Bool). count_by p (ascending s)) (λ i b. contains_intersection t u b i)
 
-pub length-ascending : (s : BitSet) → length (ascending s) ≡ len s
-length-ascending s = sym (len-ascending s)
+pub length_ascending : (s : BitSet) → length (ascending s) ≡ len s
+length_ascending s = sym (len_ascending s)
 
-pub ruleset counting = (len-empty, len-parts, len-union, len-intersection, len-intersection_right, len-difference, len-subset, len_zero_iff, len-inserted, len-removed, len-below, kept_count, left_count, length-ascending)
+pub ruleset counting = (len_empty, len_parts, len_union, len_intersection, len_intersection_right, len_difference, len_subset, len_zero_iff, len_inserted, len_removed, len_below, kept_count, left_count, length_ascending)

@@ -1,11 +1,11 @@
 -- The least and the greatest member.
---     least-is, greatest-is      a member with none before it is the least;  one with none past it is the greatest
---     least-empty, greatest-empty      the empty set has neither
+--     least_is, greatest_is      a member with none before it is the least;  one with none past it is the greatest
+--     least_empty, greatest_empty      the empty set has neither
 --     greatest_facts      the greatest is a member, and none is past it
---     least-below, greatest-below      both are below a bound of all members
---     ascending-least, ascending-greatest      the least comes first in the list, and the greatest last
---     trailing-least, leading-greatest      what `trailing_zeros` and `leading_zeros` count, at each number of bits
---     clear-least, least-positive      `n & (n - 1)`;  a number with a least member is not 0
+--     least_below, greatest_below      both are below a bound of all members
+--     ascending_least, ascending_greatest      the least comes first in the list, and the greatest last
+--     trailing_least, leading_greatest      what `trailing_zeros` and `leading_zeros` count, at each number of bits
+--     clear_least, least_positive      `n & (n - 1)`;  a number with a least member is not 0
 --     at_the_ends      the ends of a set, for a tactic's `using`
 use Rattle.std.proofs.Common.{◌≡◌, ◌<◌, ◌≤◌, ℕ, suc, zero, ◌+◌, ◌-◌, ◌^◌, true, false, List, [], ◌∷◌, ◌++◌, Some, None, refl, sym, ap, subst, ◌∙◌, arith, true≢false, length, length-append, inl, inr}
 use Rattle.std.specs.Prelude.{◌==◌, MatchOption, IfSome, IsSome, is_some}
@@ -16,21 +16,21 @@ use Rattle.std.proofs.lemmas.Bool.{eq-eqb, or_left, false_from_ne_true}
 use Rattle.std.proofs.lemmas.Bool.Decides.{nat_tests}
 use Rattle.enumset_repr.specs.BitSet.{is_in, BitSet, contains, ascending, empty, remove, is_subset, below}
 use Rattle.enumset_repr.specs.Ends.{last, least, greatest}
-use Rattle.enumset_repr.specs.Laws.Steps.{last-push, cases_last, none_last}
-use Rattle.enumset_repr.specs.Laws.Members.{contains-ascending, member_below}
-use Rattle.enumset_repr.specs.Laws.Ascending.{len-ascending, AscendsFrom, ascending-ascends, ascending-empty, is_in-below, is_in-push, before_last, ascending-first, ascending-last}
+use Rattle.enumset_repr.specs.Laws.Steps.{last_push, cases_last, none_last}
+use Rattle.enumset_repr.specs.Laws.Members.{contains_ascending, member_below}
+use Rattle.enumset_repr.specs.Laws.Ascending.{len_ascending, AscendsFrom, ascending_ascends, ascending_empty, is_in_below, is_in_push, before_last, ascending_first, ascending_last}
 use Rattle.enumset_repr.specs.Number.{bits}
-use Rattle.enumset_repr.specs.Laws.Numbers.{lt_pow, bits-zero, bits-within, bits-clear_least, least-bits, greatest-bits}
+use Rattle.enumset_repr.specs.Laws.Numbers.{lt_pow, bits_zero, bits_within, bits_clear_least, least_bits, greatest_bits}
 
 -- ---- the least
 
-pub least-is : (s : BitSet) (m : ℕ) → contains s m ≡ true → ((q : ℕ) → q < m → contains s q ≡ false) → least s ≡ Some m
+pub least_is : (s : BitSet) (m : ℕ) → contains s m ≡ true → ((q : ℕ) → q < m → contains s q ≡ false) → least s ≡ Some m
 unfolding least
-least-is s m one none = ap (λ xs. slice_get xs 0) (ascending-first s m one none)
+least_is s m one none = ap (λ xs. slice_get xs 0) (ascending_first s m one none)
 
-pub least-empty : least empty ≡ None
+pub least_empty : least empty ≡ None
 unfolding least
-least-empty = ap (λ xs. slice_get xs 0) ascending-empty
+least_empty = ap (λ xs. slice_get xs 0) ascending_empty
 
 -- the form of a list that has a first item
 first_item : (xs : List ℕ) (m : ℕ) → slice_get xs 0 ≡ Some m → (ys : List ℕ) × (xs ≡ m ∷ ys)
@@ -46,94 +46,94 @@ pub least_facts : (s : BitSet) (m : ℕ) → least s ≡ Some m → (contains s 
 unfolding least
 least_facts s m first =
     let parts = first_item (ascending s) m first in
-    let ascends : AscendsFrom 0 (m ∷ parts.0) = subst (AscendsFrom 0) parts.1 (ascending-ascends s) in (
-      contains-ascending s m ∙ ap (is_in m) parts.1 ∙ or_left (m == m) _ (eq-eqb m m refl),
-      λ q under. contains-ascending s q ∙ ap (is_in q) parts.1 ∙ is_in-below m q (m ∷ parts.0) (omega arith, ascends.1) under,
+    let ascends : AscendsFrom 0 (m ∷ parts.0) = subst (AscendsFrom 0) parts.1 (ascending_ascends s) in (
+      contains_ascending s m ∙ ap (is_in m) parts.1 ∙ or_left (m == m) _ (eq-eqb m m refl),
+      λ q under. contains_ascending s q ∙ ap (is_in q) parts.1 ∙ is_in_below m q (m ∷ parts.0) (omega arith, ascends.1) under,
     )
 
 -- the least member comes first
-pub ascending-least : (s : BitSet) (m : ℕ) → least s ≡ Some m → ascending s ≡ m ∷ ascending (remove s m)
-ascending-least s m first = let facts = least_facts s m first in ascending-first s m facts.0 facts.1
+pub ascending_least : (s : BitSet) (m : ℕ) → least s ≡ Some m → ascending s ≡ m ∷ ascending (remove s m)
+ascending_least s m first = let facts = least_facts s m first in ascending_first s m facts.0 facts.1
 
-pub ascending-no_least : (s : BitSet) → least s ≡ None → ascending s ≡ []
+pub ascending_no_least : (s : BitSet) → least s ≡ None → ascending s ≡ []
 unfolding least
-ascending-no_least s none = no_first (ascending s) none
+ascending_no_least s none = no_first (ascending s) none
 
 -- ---- the greatest
 
-pub greatest-is : (s : BitSet) (m : ℕ) → contains s m ≡ true → ((q : ℕ) → m < q → contains s q ≡ false) → greatest s ≡ Some m
+pub greatest_is : (s : BitSet) (m : ℕ) → contains s m ≡ true → ((q : ℕ) → m < q → contains s q ≡ false) → greatest s ≡ Some m
 unfolding greatest
-greatest-is s m one none = ap last (ascending-last s m one none) ∙ last-push (ascending (remove s m)) m
+greatest_is s m one none = ap last (ascending_last s m one none) ∙ last_push (ascending (remove s m)) m
 
-pub greatest-empty : greatest empty ≡ None
+pub greatest_empty : greatest empty ≡ None
 unfolding greatest
-greatest-empty = ap (last_or None) ascending-empty
+greatest_empty = ap (last_or None) ascending_empty
 
 last_facts : (k : ℕ) (xs : List ℕ) (m : ℕ) → AscendsFrom k xs → last xs ≡ Some m → (is_in m xs ≡ true) × ((q : ℕ) → is_in q xs ≡ true → q ≤ m)
 last_facts k xs m ascends end = elim (cases_last xs) [
   | inl none ↦ let lost : None ≡ Some m = sym (ap last none) ∙ end in absurd (cc)
   | inr some ↦
-      let found : Some some.1 ≡ Some m = sym (ap last some.2 ∙ last-push some.0 some.1) ∙ end in
+      let found : Some some.1 ≡ Some m = sym (ap last some.2 ∙ last_push some.0 some.1) ∙ end in
       let same : some.1 ≡ m = cc in
       let before = λ (q : ℕ). before_last k some.0 some.1 q (subst (AscendsFrom k) some.2 ascends) in
-      let parts = λ (q : ℕ). ap (is_in q) some.2 ∙ is_in-push q some.1 some.0 in
+      let parts = λ (q : ℕ). ap (is_in q) some.2 ∙ is_in_push q some.1 some.0 in
       (grind (arith, nat_tests, parts m), λ q one. let low = before q in grind (arith, nat_tests, parts q))
 ]
 
 pub greatest_facts : (s : BitSet) (m : ℕ) → greatest s ≡ Some m → (contains s m ≡ true) × ((q : ℕ) → m < q → contains s q ≡ false)
 unfolding greatest
 greatest_facts s m last =
-    let facts = last_facts 0 (ascending s) m (ascending-ascends s) last in (
-      contains-ascending s m ∙ facts.0,
-      λ q over. false_from_ne_true (contains s q) (λ one. let near : q ≤ m = facts.1 q (sym (contains-ascending s q) ∙ one) in omega arith),
+    let facts = last_facts 0 (ascending s) m (ascending_ascends s) last in (
+      contains_ascending s m ∙ facts.0,
+      λ q over. false_from_ne_true (contains s q) (λ one. let near : q ≤ m = facts.1 q (sym (contains_ascending s q) ∙ one) in omega arith),
     )
 
 -- the greatest member comes last
-pub ascending-greatest : (s : BitSet) (m : ℕ) → greatest s ≡ Some m → ascending s ≡ ascending (remove s m) ++ m ∷ []
-ascending-greatest s m last = let facts = greatest_facts s m last in ascending-last s m facts.0 facts.1
+pub ascending_greatest : (s : BitSet) (m : ℕ) → greatest s ≡ Some m → ascending s ≡ ascending (remove s m) ++ m ∷ []
+ascending_greatest s m last = let facts = greatest_facts s m last in ascending_last s m facts.0 facts.1
 
 -- ---- both are below a bound of all members
 
-pub least-below : (s : BitSet) (width m : ℕ) → is_subset s (below width) ≡ true → least s ≡ Some m → m < width
-least-below s width m within is = member_below s width m within (least_facts s m is).0
+pub least_below : (s : BitSet) (width m : ℕ) → is_subset s (below width) ≡ true → least s ≡ Some m → m < width
+least_below s width m within is = member_below s width m within (least_facts s m is).0
 
-pub greatest-below : (s : BitSet) (width m : ℕ) → is_subset s (below width) ≡ true → greatest s ≡ Some m → m < width
-greatest-below s width m within is = member_below s width m within (greatest_facts s m is).0
+pub greatest_below : (s : BitSet) (width m : ℕ) → is_subset s (below width) ≡ true → greatest s ≡ Some m → m < width
+greatest_below s width m within is = member_below s width m within (greatest_facts s m is).0
 
 -- the set without its greatest member has fewer members
-pub fewer-greatest : (s : BitSet) (m : ℕ) → greatest s ≡ Some m → length (ascending (remove s m)) < length (ascending s)
-fewer-greatest s m last = omega (arith, ap length (ascending-greatest s m last), length-append (ascending (remove s m)) (m ∷ []))
+pub fewer_greatest : (s : BitSet) (m : ℕ) → greatest s ≡ Some m → length (ascending (remove s m)) < length (ascending s)
+fewer_greatest s m last = omega (arith, ap length (ascending_greatest s m last), length-append (ascending (remove s m)) (m ∷ []))
 
-pub ascending-no_greatest : (s : BitSet) → greatest s ≡ None → ascending s ≡ []
+pub ascending_no_greatest : (s : BitSet) → greatest s ≡ None → ascending s ≡ []
 unfolding greatest
-ascending-no_greatest s none = none_last (ascending s) none
+ascending_no_greatest s none = none_last (ascending s) none
 
 -- ---- the ends of a number's set
 
 -- `n.trailing_zeros()` is the least member, or the width if there is none
-pub trailing-least : (w n : ℕ) → n < 2 ^ w → MatchOption (least (bits n)) (count_trailing_zeros w n ≡ w) (λ m. (count_trailing_zeros w n ≡ m) × (m < w))
-trailing-least w zero fits = rw (bits-zero, least-empty) (trailing_of_zero w)
-trailing-least w (suc n) fits =
-    let facts = least-bits w (suc n) (omega arith) fits in
-    rw (least-is _ _ facts.0 facts.1) (refl, member_below (bits (suc n)) w _ (bits-within (suc n) w fits) facts.0)
+pub trailing_least : (w n : ℕ) → n < 2 ^ w → MatchOption (least (bits n)) (count_trailing_zeros w n ≡ w) (λ m. (count_trailing_zeros w n ≡ m) × (m < w))
+trailing_least w zero fits = rw (bits_zero, least_empty) (trailing_of_zero w)
+trailing_least w (suc n) fits =
+    let facts = least_bits w (suc n) (omega arith) fits in
+    rw (least_is _ _ facts.0 facts.1) (refl, member_below (bits (suc n)) w _ (bits_within (suc n) w fits) facts.0)
 
 -- `n.leading_zeros()` counts the bits above the greatest member, and is the width if there is none
-pub leading-greatest : (w n : ℕ) → n < 2 ^ w → MatchOption (greatest (bits n)) (count_leading_zeros w n ≡ w) (λ m. count_leading_zeros w n + m + 1 ≡ w)
-leading-greatest w zero fits = rw (bits-zero, greatest-empty) (leading_of_zero w)
-leading-greatest w (suc n) fits =
-    let facts = greatest-bits w (suc n) (omega arith) fits in
-    rw (greatest-is _ _ facts.1 facts.2) (omega (arith, facts.0))
+pub leading_greatest : (w n : ℕ) → n < 2 ^ w → MatchOption (greatest (bits n)) (count_leading_zeros w n ≡ w) (λ m. count_leading_zeros w n + m + 1 ≡ w)
+leading_greatest w zero fits = rw (bits_zero, greatest_empty) (leading_of_zero w)
+leading_greatest w (suc n) fits =
+    let facts = greatest_bits w (suc n) (omega arith) fits in
+    rw (greatest_is _ _ facts.1 facts.2) (omega (arith, facts.0))
 
 -- `n & (n - 1)` is without the least member
-pub clear-least : (n : ℕ) → IfSome (least (bits n)) (λ m. bits (bit_and n (n - 1)) ≡ remove (bits n) m)
-clear-least zero = rw (bits-zero, least-empty) tt
-clear-least (suc n) =
-    let facts = least-bits (suc n) (suc n) (omega arith) (lt_pow (suc n)) in
-    rw (least-is _ _ facts.0 facts.1) (bits-clear_least (suc n) (suc n) (omega arith) (lt_pow (suc n)))
+pub clear_least : (n : ℕ) → IfSome (least (bits n)) (λ m. bits (bit_and n (n - 1)) ≡ remove (bits n) m)
+clear_least zero = rw (bits_zero, least_empty) tt
+clear_least (suc n) =
+    let facts = least_bits (suc n) (suc n) (omega arith) (lt_pow (suc n)) in
+    rw (least_is _ _ facts.0 facts.1) (bits_clear_least (suc n) (suc n) (omega arith) (lt_pow (suc n)))
 
 -- a number with a least member is not 0
-pub least-positive : (n : ℕ) → IsSome (least (bits n)) → 0 < n
-least-positive zero some = absurd (true≢false (sym some ∙ ap is_some (ap least bits-zero ∙ least-empty)))
-least-positive (suc n) some = omega arith
+pub least_positive : (n : ℕ) → IsSome (least (bits n)) → 0 < n
+least_positive zero some = absurd (true≢false (sym some ∙ ap is_some (ap least bits_zero ∙ least_empty)))
+least_positive (suc n) some = omega arith
 
-pub ruleset at_the_ends = (ascending-least, ascending-no_least, ascending-greatest, ascending-no_greatest, fewer-greatest, len-ascending)
+pub ruleset at_the_ends = (ascending_least, ascending_no_least, ascending_greatest, ascending_no_greatest, fewer_greatest, len_ascending)

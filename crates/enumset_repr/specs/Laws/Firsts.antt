@@ -1,59 +1,59 @@
 -- The first and the last member of a set, as an iterator yields them, and the list of a set that is written out.
---     first-member, first-least, first-rest      the first of the members in their order is a member, and the least;
+--     first_member, first_least, first_rest      the first of the members in their order is a member, and the least;
 --         those after it are the set without it
---     last-member, last-greatest, last-rest      the last is a member, and the greatest;  those before it are the set
+--     last_member, last_greatest, last_rest      the last is a member, and the greatest;  those before it are the set
 --         without it
---     first-is_least, last-is_greatest      they are `least` and `greatest`
+--     first_is_least, last_is_greatest      they are `least` and `greatest`
 --     ascending_empty_iff      a set has no first member exactly if it is empty
---     insert_sorted, ascending-insert      the list of a set with a number inserted
+--     insert_sorted, ascending_insert      the list of a set with a number inserted
 -- The rulesets `firsts` and `written_out` have those that a tactic can apply by itself.
 use Rattle.std.proofs.Common.{◌≡◌, ◌≤◌, ℕ, suc, Bool, true, false, cond, ◌||◌, List, [], ◌∷◌, ◌++◌, Some, refl, sym, ap, subst, ◌∙◌, arith, ◌↔◌}
 use Rattle.std.specs.Prelude.{◌==◌, nat_lt}
 use Rattle.std.proofs.lemmas.Bool.Decides.{nat_tests}
 use Rattle.enumset_repr.specs.BitSet.{BitSet, is_in, contains, ascending, empty, insert, remove, from_list}
 use Rattle.enumset_repr.specs.Ends.{first, last, without_first, without_last, least, greatest}
-use Rattle.enumset_repr.specs.Laws.Members.{contains-ascending, contains-insert}
+use Rattle.enumset_repr.specs.Laws.Members.{contains_ascending, contains_insert}
 use Rattle.enumset_repr.specs.Laws.Algebra.{union_only}
-use Rattle.enumset_repr.specs.Laws.Ascending.{AscendsFrom, ascending-ascends, ascending_is, ascending-empty, empty_of_ascending, is_in-from}
-use Rattle.enumset_repr.specs.Laws.Ends.{ascending-least, ascending-greatest, least_facts, greatest_facts}
-use Rattle.enumset_repr.specs.Laws.Steps.{last-push, without_last-push}
+use Rattle.enumset_repr.specs.Laws.Ascending.{AscendsFrom, ascending_ascends, ascending_is, ascending_empty, empty_of_ascending, is_in_from}
+use Rattle.enumset_repr.specs.Laws.Ends.{ascending_least, ascending_greatest, least_facts, greatest_facts}
+use Rattle.enumset_repr.specs.Laws.Steps.{last_push, without_last_push}
 
 pub ascending_empty_iff : (s : BitSet) → (ascending s ≡ []) ↔ (s ≡ empty)
-ascending_empty_iff s = (empty_of_ascending s, λ e. ap ascending e ∙ ascending-empty)
+ascending_empty_iff s = (empty_of_ascending s, λ e. ap ascending e ∙ ascending_empty)
 
 -- ---- the first
 
-pub first-is_least : (s : BitSet) (m : ℕ) (xs : List ℕ) → ascending s ≡ m ∷ xs → least s ≡ Some m
+pub first_is_least : (s : BitSet) (m : ℕ) (xs : List ℕ) → ascending s ≡ m ∷ xs → least s ≡ Some m
 unfolding least
-first-is_least s m xs is = ap first is
+first_is_least s m xs is = ap first is
 
-pub first-member : (s : BitSet) (m : ℕ) (xs : List ℕ) → ascending s ≡ m ∷ xs → contains s m ≡ true
-first-member s m xs is = (least_facts s m (first-is_least s m xs is)).0
+pub first_member : (s : BitSet) (m : ℕ) (xs : List ℕ) → ascending s ≡ m ∷ xs → contains s m ≡ true
+first_member s m xs is = (least_facts s m (first_is_least s m xs is)).0
 
-pub first-least : (s : BitSet) (m : ℕ) (xs : List ℕ) (q : ℕ) → ascending s ≡ m ∷ xs → contains s q ≡ true → m ≤ q
-first-least s m xs q is one =
-    let ascends : AscendsFrom 0 (m ∷ xs) = subst (AscendsFrom 0) is (ascending-ascends s) in
-    is_in-from m q (m ∷ xs) (omega arith, ascends.1) (sym (contains-ascending s q ∙ ap (is_in q) is) ∙ one)
+pub first_least : (s : BitSet) (m : ℕ) (xs : List ℕ) (q : ℕ) → ascending s ≡ m ∷ xs → contains s q ≡ true → m ≤ q
+first_least s m xs q is one =
+    let ascends : AscendsFrom 0 (m ∷ xs) = subst (AscendsFrom 0) is (ascending_ascends s) in
+    is_in_from m q (m ∷ xs) (omega arith, ascends.1) (sym (contains_ascending s q ∙ ap (is_in q) is) ∙ one)
 
-pub first-rest : (s : BitSet) (m : ℕ) (xs : List ℕ) → ascending s ≡ m ∷ xs → xs ≡ ascending (remove s m)
-first-rest s m xs is = ap without_first (sym is ∙ ascending-least s m (first-is_least s m xs is))
+pub first_rest : (s : BitSet) (m : ℕ) (xs : List ℕ) → ascending s ≡ m ∷ xs → xs ≡ ascending (remove s m)
+first_rest s m xs is = ap without_first (sym is ∙ ascending_least s m (first_is_least s m xs is))
 
 -- ---- the last
 
-pub last-is_greatest : (s : BitSet) (m : ℕ) (xs : List ℕ) → ascending s ≡ xs ++ m ∷ [] → greatest s ≡ Some m
+pub last_is_greatest : (s : BitSet) (m : ℕ) (xs : List ℕ) → ascending s ≡ xs ++ m ∷ [] → greatest s ≡ Some m
 unfolding greatest
-last-is_greatest s m xs is = ap last is ∙ last-push xs m
+last_is_greatest s m xs is = ap last is ∙ last_push xs m
 
-pub last-member : (s : BitSet) (m : ℕ) (xs : List ℕ) → ascending s ≡ xs ++ m ∷ [] → contains s m ≡ true
-last-member s m xs is = (greatest_facts s m (last-is_greatest s m xs is)).0
+pub last_member : (s : BitSet) (m : ℕ) (xs : List ℕ) → ascending s ≡ xs ++ m ∷ [] → contains s m ≡ true
+last_member s m xs is = (greatest_facts s m (last_is_greatest s m xs is)).0
 
-pub last-greatest : (s : BitSet) (m : ℕ) (xs : List ℕ) (q : ℕ) → ascending s ≡ xs ++ m ∷ [] → contains s q ≡ true → q ≤ m
-last-greatest s m xs q is one = let none = (greatest_facts s m (last-is_greatest s m xs is)).1 q in grind (arith, nat_tests)
+pub last_greatest : (s : BitSet) (m : ℕ) (xs : List ℕ) (q : ℕ) → ascending s ≡ xs ++ m ∷ [] → contains s q ≡ true → q ≤ m
+last_greatest s m xs q is one = let none = (greatest_facts s m (last_is_greatest s m xs is)).1 q in grind (arith, nat_tests)
 
-pub last-rest : (s : BitSet) (m : ℕ) (xs : List ℕ) → ascending s ≡ xs ++ m ∷ [] → xs ≡ ascending (remove s m)
-last-rest s m xs is = sym (without_last-push xs m) ∙ ap without_last (sym is ∙ ascending-greatest s m (last-is_greatest s m xs is)) ∙ without_last-push _ m
+pub last_rest : (s : BitSet) (m : ℕ) (xs : List ℕ) → ascending s ≡ xs ++ m ∷ [] → xs ≡ ascending (remove s m)
+last_rest s m xs is = sym (without_last_push xs m) ∙ ap without_last (sym is ∙ ascending_greatest s m (last_is_greatest s m xs is)) ∙ without_last_push _ m
 
-pub ruleset firsts = (ascending_empty_iff, first-is_least, first-member, first-least, first-rest, last-is_greatest, last-member, last-greatest, last-rest)
+pub ruleset firsts = (ascending_empty_iff, first_is_least, first_member, first_least, first_rest, last_is_greatest, last_member, last_greatest, last_rest)
 
 -- ---- the list of a set that is written out
 
@@ -75,17 +75,17 @@ is_in-insert : (q b : ℕ) (xs : List ℕ) → is_in q (insert_sorted b xs) ≡ 
 is_in-insert q b [] = refl
 is_in-insert q b (x ∷ xs) = grind (arith, nat_tests, is_in-insert q b xs)
 
-pub ascending-insert : (s : BitSet) (b : ℕ) → ascending (insert s b) ≡ insert_sorted b (ascending s)
-ascending-insert s b = ascending_is (insert s b) (insert_sorted b (ascending s))
-    (ascends-insert 0 b (ascending s) (omega arith) (ascending-ascends s))
-    (λ q. contains-insert s b q ∙ ap (λ t. (q == b) || t) (contains-ascending s q) ∙ sym (is_in-insert q b (ascending s)))
+pub ascending_insert : (s : BitSet) (b : ℕ) → ascending (insert s b) ≡ insert_sorted b (ascending s)
+ascending_insert s b = ascending_is (insert s b) (insert_sorted b (ascending s))
+    (ascends-insert 0 b (ascending s) (omega arith) (ascending_ascends s))
+    (λ q. contains_insert s b q ∙ ap (λ t. (q == b) || t) (contains_ascending s q) ∙ sym (is_in-insert q b (ascending s)))
 
-pub from_list-none : from_list [] ≡ empty
+pub from_list_empty : from_list [] ≡ empty
 unfolding from_list
-from_list-none = refl
+from_list_empty = refl
 
-pub from_list-more : (b : ℕ) (bs : List ℕ) → from_list (b ∷ bs) ≡ insert (from_list bs) b
+pub from_list_next : (b : ℕ) (bs : List ℕ) → from_list (b ∷ bs) ≡ insert (from_list bs) b
 unfolding from_list
-from_list-more b bs = refl
+from_list_next b bs = refl
 
-pub ruleset written_out = (ascending-empty, ascending-insert, union_only, from_list-none, from_list-more)
+pub ruleset written_out = (ascending_empty, ascending_insert, union_only, from_list_empty, from_list_next)

@@ -10,9 +10,9 @@ use Rattle.std.proofs.lemmas.Bool.{or_left, or_right, eq-eqb}
 use Rattle.std.proofs.lemmas.Bool.Decides.{nat_tests}
 use Rattle.enumset_repr.specs.BitSet.{BitSet, is_in, contains, ascending, empty}
 use Rattle.enumset_repr.specs.Ends.{least, greatest}
-use Rattle.enumset_repr.specs.Laws.Members.{contains-ascending}
-use Rattle.enumset_repr.specs.Laws.Ascending.{AscendsFrom, ascending-ascends, empty_of_ascending, is_in-from}
-use Rattle.enumset_repr.specs.Laws.Ends.{least_facts, greatest_facts, ascending-no_least, ascending-no_greatest}
+use Rattle.enumset_repr.specs.Laws.Members.{contains_ascending}
+use Rattle.enumset_repr.specs.Laws.Ascending.{AscendsFrom, ascending_ascends, empty_of_ascending, is_in_from}
+use Rattle.enumset_repr.specs.Laws.Ends.{least_facts, greatest_facts, ascending_no_least, ascending_no_greatest}
 
 -- what `find` finds, where `inside` tells which numbers are in the list
 abbrev pub IsLeast : (ℕ → Bool) → (ℕ → Bool) → Option ℕ → Type 0
@@ -21,7 +21,7 @@ IsLeast inside p o = MatchOption o ((q : ℕ) → inside q ≡ true → p q ≡ 
 least_found : (p : ℕ → Bool) (k : ℕ) (xs : List ℕ) → AscendsFrom k xs → IsLeast (λ q. is_in q xs) p (find p xs)
 least_found p k [] ascends = λ q one. grind arith
 least_found p k (x ∷ xs) ascends = elim (p x) as (λ t. p x ≡ t → IsLeast (λ q. is_in q (x ∷ xs)) p (cond t (Some x) (find p xs))) [
-  | true ↦ λ here. (or_left (x == x) _ (eq-eqb x x refl), here, λ q one passes. is_in-from x q (x ∷ xs) (omega arith, ascends.1) one)
+  | true ↦ λ here. (or_left (x == x) _ (eq-eqb x x refl), here, λ q one passes. is_in_from x q (x ∷ xs) (omega arith, ascends.1) one)
   | false ↦ λ other. later (find p xs) (least_found p (suc x) xs ascends.1) other
 ] refl
   where
@@ -30,20 +30,20 @@ least_found p k (x ∷ xs) ascends = elim (p x) as (λ t. p x ≡ t → IsLeast 
     later (Some m) some other = (or_right (m == x) _ some.0, some.1, λ q one passes. let rest = some.2 q in grind (arith, nat_tests))
 
 pub found_tells : (p : ℕ → Bool) (s : BitSet) → (find p (ascending s) ≡ find p (ascending s)) × IsLeast (contains s) p (find p (ascending s))
-found_tells p s = (refl, subst (λ inside. IsLeast inside p (find p (ascending s))) (λ i q. sym (contains-ascending s q) i) (least_found p 0 (ascending s) (ascending-ascends s)))
+found_tells p s = (refl, subst (λ inside. IsLeast inside p (find p (ascending s))) (λ i q. sym (contains_ascending s q) i) (least_found p 0 (ascending s) (ascending_ascends s)))
 
 -- ---- the ends
 
 pub least_tells : (s : BitSet) → (least s ≡ least s) × MatchOption (least s) (s ≡ empty) (λ m. (contains s m ≡ true) × ((q : ℕ) → contains s q ≡ true → m ≤ q))
 least_tells s = (refl, by (least s) refl) where
   by : (o : Option ℕ) → least s ≡ o → MatchOption o (s ≡ empty) (λ m. (contains s m ≡ true) × ((q : ℕ) → contains s q ≡ true → m ≤ q))
-  by None none = empty_of_ascending s (ascending-no_least s none)
+  by None none = empty_of_ascending s (ascending_no_least s none)
   by (Some m) is = let facts = least_facts s m is in (facts.0, λ q one. let low = facts.1 q in grind (arith, nat_tests))
 
 pub greatest_tells : (s : BitSet) → (greatest s ≡ greatest s) × MatchOption (greatest s) (s ≡ empty) (λ m. (contains s m ≡ true) × ((q : ℕ) → contains s q ≡ true → q ≤ m))
 greatest_tells s = (refl, by (greatest s) refl) where
   by : (o : Option ℕ) → greatest s ≡ o → MatchOption o (s ≡ empty) (λ m. (contains s m ≡ true) × ((q : ℕ) → contains s q ≡ true → q ≤ m))
-  by None none = empty_of_ascending s (ascending-no_greatest s none)
+  by None none = empty_of_ascending s (ascending_no_greatest s none)
   by (Some m) is = let facts = greatest_facts s m is in (facts.0, λ q one. let high = facts.1 q in grind (arith, nat_tests))
 
 pub ruleset found = (found_tells, least_tells, greatest_tells)

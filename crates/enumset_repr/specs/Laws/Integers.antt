@@ -1,7 +1,7 @@
 -- An integer as a representation, at every number of bits.
 --     by_number      a number represents the set of its bits, if these are below a width
 --     integer_operators      `&`, `|`, `^` and `!` of an integer type
---     word-.., with_word-..      a word, and a number with a word replaced, at a width of up to 64 bits and at 128
+--     word_.., with_word_..      a word, and a number with a word replaced, at a width of up to 64 bits and at 128
 --     on_integers      what the calls of an integer need, and those of a representation in its lowest bits, for a
 --         tactic's `using`
 -- In premises, `m ≡ 2 ^ low_zeros 128 m` says that m is a power of two. It computes at a written-out number.
@@ -20,24 +20,24 @@ use Rattle.enumset_repr.specs.Representations.{IsRepresentation, AreSetOperators
 use Rattle.enumset_repr.specs.Number.{number, bits}
 use Rattle.enumset_repr.specs.Words.{word, with_word}
 use Rattle.enumset_repr.specs.Laws.Algebra.{union_only, difference_only, intersection_right, symmetric_difference_within}
-use Rattle.enumset_repr.specs.Laws.Members.{subsets, contains-below}
-use Rattle.enumset_repr.specs.Laws.Numbers.{number-bits, number-within, bits_full, bits-within, bits-and, bits-or, bits-xor, bits-not, bits-and_not, bits-one, bits-test, bits-zero, on_numbers}
-use Rattle.enumset_repr.specs.Laws.Order.{compare-bits}
-use Rattle.enumset_repr.specs.Laws.Ends.{trailing-least, leading-greatest, clear-least, least-positive}
-use Rattle.enumset_repr.specs.Laws.Words.{word-bits, bits-put_low, bits-put_word}
+use Rattle.enumset_repr.specs.Laws.Members.{subsets, contains_below}
+use Rattle.enumset_repr.specs.Laws.Numbers.{number_bits, number_within, bits_full, bits_within, bits_and, bits_or, bits_xor, bits_not, bits_and_not, bits_one_shifted, bits_test, bits_zero, on_numbers}
+use Rattle.enumset_repr.specs.Laws.Order.{compare_bits}
+use Rattle.enumset_repr.specs.Laws.Ends.{trailing_least, leading_greatest, clear_least, least_positive}
+use Rattle.enumset_repr.specs.Laws.Words.{word_bits, bits_put_low, bits_put_word}
 
 pub by_number : (width : ℕ) → IsRepresentation bits number (λ n. IsTrue (is_subset (bits n) (below width))) 0 width ((width + 63) / 64) (λ a b. a == b) nat_cmp
 by_number width = record {
-  no_member = bits-zero;
+  no_member = bits_zero;
   within = λ _ is. is;
-  inverse = λ a _. number-bits a;
+  inverse = λ a _. number_bits a;
   word_count = refl;
-  equal = λ a b _ _. (λ same. ap bits (eqb-true a b same), λ same. eq-eqb a b (sym (number-bits a) ∙ ap number same ∙ number-bits b));
-  ordered = λ a b _ _. compare-bits a b;
+  equal = λ a b _ _. (λ same. ap bits (eqb-true a b same), λ same. eq-eqb a b (sym (number_bits a) ∙ ap number same ∙ number_bits b));
+  ordered = λ a b _ _. compare_bits a b;
 }
 
 below_power : (width n : ℕ) → IsTrue (is_subset (bits n) (below width)) → n < 2 ^ width
-below_power width n within = omega (arith, number-bits n, number-within (bits n) width within)
+below_power width n within = omega (arith, number_bits n, number_within (bits n) width within)
 
 -- the operators of the integer type of a width
 pub integer_operators : (w : Width) → AreSetOperators bits (λ n. IsTrue (is_subset (bits n) (below (width_bits w)))) (width_bits w)
@@ -48,62 +48,62 @@ integer_operators w = record {
   can_bitor = λ _ _. tt;
   can_bitxor = λ _ _. tt;
   can_turn = λ _. tt;
-  bitand = λ a b r e. ap bits e ∙ bits-and a b;
-  bitor = λ a b r e. ap bits e ∙ bits-or a b;
-  bitxor = λ a b r e. ap bits e ∙ bits-xor a b;
-  turned = λ a r within e. ap bits e ∙ bits-not (width_bits w) a (below_power (width_bits w) a within);
+  bitand = λ a b r e. ap bits e ∙ bits_and a b;
+  bitor = λ a b r e. ap bits e ∙ bits_or a b;
+  bitxor = λ a b r e. ap bits e ∙ bits_xor a b;
+  turned = λ a r within e. ap bits e ∙ bits_not (width_bits w) a (below_power (width_bits w) a within);
 }
 
 -- ---- words
 
 -- `n` at a width of at most 64 bits: its one word
-pub word-whole : (n i : ℕ) → n < 2 ^ 64 → i < 1 → word (bits n) i ≡ n
-word-whole n i fits first =
+pub word_whole : (n i : ℕ) → n < 2 ^ 64 → i < 1 → word (bits n) i ≡ n
+word_whole n i fits first =
     let place : i ≡ 0 = omega (arith, first) in
     let one : n / 1 ≡ n = omega arith in
     let whole : n % 2 ^ 64 ≡ n = omega (arith, fits) in
-    ap (word (bits n)) place ∙ word-bits n 0 ∙ ap (λ m. m % 2 ^ 64) one ∙ whole
+    ap (word (bits n)) place ∙ word_bits n 0 ∙ ap (λ m. m % 2 ^ 64) one ∙ whole
 
 -- `x & MAX` at a width of at most 64 bits
-pub with_word-narrow : (width n i x : ℕ) → width ≤ 64 → is_subset (bits n) (below width) ≡ true → i < 1 → with_word (bits n) width i x ≡ bits (bit_and x (2 ^ width - 1))
-with_word-narrow width n i x narrow within first =
+pub with_word_narrow : (width n i x : ℕ) → width ≤ 64 → is_subset (bits n) (below width) ≡ true → i < 1 → with_word (bits n) width i x ≡ bits (bit_and x (2 ^ width - 1))
+with_word_narrow width n i x narrow within first =
     let place : i ≡ 0 = omega (arith, first) in
-    ap (λ j. with_word (bits n) width j x) place ∙ sym (bits-put_low width n x narrow within) ∙ ap bits (sym (and_mask x width))
+    ap (λ j. with_word (bits n) width j x) place ∙ sym (bits_put_low width n x narrow within) ∙ ap bits (sym (and_mask x width))
 
 -- `x` at 64 bits
-pub with_word-whole : (n i x : ℕ) → n < 2 ^ 64 → i < 1 → x < 2 ^ 64 → with_word (bits n) 64 i x ≡ bits x
-with_word-whole n i x fits first small =
+pub with_word_whole : (n i x : ℕ) → n < 2 ^ 64 → i < 1 → x < 2 ^ 64 → with_word (bits n) 64 i x ≡ bits x
+with_word_whole n i x fits first small =
     let same : x % 2 ^ 64 ≡ x = omega (arith, small) in
     let place : i ≡ 0 = omega (arith, first) in
-    ap (λ j. with_word (bits n) 64 j x) place ∙ sym (bits-put_low 64 n x (omega arith) (bits-within n 64 fits)) ∙ ap bits same
+    ap (λ j. with_word (bits n) 64 j x) place ∙ sym (bits_put_low 64 n x (omega arith) (bits_within n 64 fits)) ∙ ap bits same
 
 -- `(n >> 64 * i) & u64::MAX`
-pub word-shifted : (n i : ℕ) → word (bits n) i ≡ bit_and (n / 2 ^ (64 * i)) 18446744073709551615
-word-shifted n i = word-bits n i ∙ sym (and_mask (n / 2 ^ (64 * i)) 64)
+pub word_shifted : (n i : ℕ) → word (bits n) i ≡ bit_and (n / 2 ^ (64 * i)) 18446744073709551615
+word_shifted n i = word_bits n i ∙ sym (and_mask (n / 2 ^ (64 * i)) 64)
 
 -- `n & !(u64::MAX << 64 * i) | x << 64 * i` at 128 bits
-pub with_word-wide : (n i x : ℕ) → n < 2 ^ 128 → with_word (bits n) 128 i x ≡ bits (bit_or (bit_and n (bit_not w128 (18446744073709551615 * 2 ^ (64 * i) % 2 ^ 128))) (x * 2 ^ (64 * i) % 2 ^ 128))
-with_word-wide n i x fits = sym (bits-put_word 128 n x i fits)
+pub with_word_wide : (n i x : ℕ) → n < 2 ^ 128 → with_word (bits n) 128 i x ≡ bits (bit_or (bit_and n (bit_not w128 (18446744073709551615 * 2 ^ (64 * i) % 2 ^ 128))) (x * 2 ^ (64 * i) % 2 ^ 128))
+with_word_wide n i x fits = sym (bits_put_word 128 n x i fits)
 
-pub ruleset words_narrow = (word-whole, with_word-narrow, with_word-whole)
+pub ruleset words_narrow = (word_whole, with_word_narrow, with_word_whole)
 
-pub ruleset words_wide = (word-shifted, with_word-wide)
+pub ruleset words_wide = (word_shifted, with_word_wide)
 
 -- ---- what the calls of an integer need. A tactic reads no width off a numeral: it computes `low_zeros` of it.
 
 -- `1 << k`
 pub bits_one : (k m : ℕ) → m ≡ 2 ^ low_zeros 128 m → k < low_zeros 128 m → bits (1 * 2 ^ k % m) ≡ only k
-bits_one k m e within = ap (λ j. bits (1 * 2 ^ k % j)) e ∙ bits-one (low_zeros 128 m) k within
+bits_one k m e within = ap (λ j. bits (1 * 2 ^ k % j)) e ∙ bits_one_shifted (low_zeros 128 m) k within
 
 -- `n & (1 << k) != 0`
 pub tests_bit : (n k m : ℕ) → m ≡ 2 ^ low_zeros 128 m → k < low_zeros 128 m → (bit_and n (1 * 2 ^ k % m) == 0) ≡ not (contains (bits n) k)
-tests_bit n k m e within = ap (λ j. bit_and n (1 * 2 ^ k % j) == 0) e ∙ grind (arith, nat_tests, bits-test (low_zeros 128 m) n k within)
+tests_bit n k m e within = ap (λ j. bit_and n (1 * 2 ^ k % j) == 0) e ∙ grind (arith, nat_tests, bits_test (low_zeros 128 m) n k within)
 
 -- `a & !b`
 pub and_not : (a b m : ℕ) → suc m ≡ 2 ^ low_zeros 128 (suc m) → a ≤ m → b ≤ m → bits (bit_and a (m - b)) ≡ difference (bits a) (bits b)
 and_not a b m e p q =
     let ones : m ≡ 2 ^ low_zeros 128 (suc m) - 1 = omega (arith, e) in
-    ap (λ j. bits (bit_and a (j - b))) ones ∙ bits-and_not (low_zeros 128 (suc m)) a b (omega (arith, e, p)) (omega (arith, e, q))
+    ap (λ j. bits (bit_and a (j - b))) ones ∙ bits_and_not (low_zeros 128 (suc m)) a b (omega (arith, e, p)) (omega (arith, e, q))
 
 -- `n & 0x7f`
 pub and_below : (a b m : ℕ) → a < m → bit_and a b < m
@@ -113,4 +113,4 @@ and_below a b m fits = omega (arith, fits, and_le_l a b)
 pub bits_ones : (m : ℕ) → suc m ≡ 2 ^ low_zeros 128 (suc m) → bits m ≡ below (low_zeros 128 (suc m))
 bits_ones m e = let ones : m ≡ 2 ^ low_zeros 128 (suc m) - 1 = omega (arith, e) in ap bits ones ∙ bits_full (low_zeros 128 (suc m))
 
-pub ruleset on_integers = (on_numbers, subsets, contains-below, nat_tests, union_only, difference_only, intersection_right, symmetric_difference_within, bits-within, bits_one, bits_ones, tests_bit, and_not, and_below, least-positive, clear-least, trailing-least, leading-greatest, words_narrow, words_wide)
+pub ruleset on_integers = (on_numbers, subsets, contains_below, nat_tests, union_only, difference_only, intersection_right, symmetric_difference_within, bits_within, bits_one, bits_ones, tests_bit, and_not, and_below, least_positive, clear_least, trailing_least, leading_greatest, words_narrow, words_wide)

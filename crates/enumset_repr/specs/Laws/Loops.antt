@@ -1,6 +1,6 @@
 -- The steps of a loop over a set's iterator, whose list of numbers still to come loses its first.
---     find-more, list_any-more, list_all-more      tests of such a list
---     is_subset-list, is_disjoint-list      a subset and disjoint sets as tests of a list
+--     find_next, list_any_next, list_all_next      tests of such a list
+--     is_subset_list, is_disjoint_list      a subset and disjoint sets as tests of a list
 -- The ruleset `loops` has what the invariant of such a loop needs, and `searches` what a loop needs that returns the member
 -- that it finds.
 use Rattle.std.proofs.Common.{◌≡◌, ℕ, Bool, true, false, cond, not, ◌&&◌, ◌||◌, List, [], ◌∷◌, Some, refl, arith}
@@ -10,30 +10,30 @@ use Rattle.std.proofs.lemmas.List.Sums.{sum_by-cons}
 use Rattle.enumset_repr.specs.BitSet.{BitSet, contains, ascending, insert, intersection, difference, is_subset, is_disjoint}
 use Rattle.enumset_repr.specs.Laws.Members.{members, same_set}
 use Rattle.enumset_repr.specs.Laws.Algebra.{on_unions, on_differences, on_intersections, on_lists, insert_union, union_insert, insert_inside, difference_inserted}
-use Rattle.enumset_repr.specs.Laws.Counting.{len-kept, len-left}
+use Rattle.enumset_repr.specs.Laws.Counting.{len_kept, len_left}
 use Rattle.enumset_repr.specs.Laws.Found.{found_tells}
-use Rattle.enumset_repr.specs.Laws.Firsts.{from_list-none, from_list-more}
+use Rattle.enumset_repr.specs.Laws.Firsts.{from_list_empty, from_list_next}
 
-pub find-more : (p : ℕ → Bool) (b : ℕ) (bs : List ℕ) → find p (b ∷ bs) ≡ cond (p b) (Some b) (find p bs)
-find-more p b bs = refl
+pub find_next : (p : ℕ → Bool) (b : ℕ) (bs : List ℕ) → find p (b ∷ bs) ≡ cond (p b) (Some b) (find p bs)
+find_next p b bs = refl
 
-pub list_any-more : (p : ℕ → Bool) (b : ℕ) (bs : List ℕ) → list_any p (b ∷ bs) ≡ (p b || list_any p bs)
-list_any-more p b bs = refl
+pub list_any_next : (p : ℕ → Bool) (b : ℕ) (bs : List ℕ) → list_any p (b ∷ bs) ≡ (p b || list_any p bs)
+list_any_next p b bs = refl
 
-pub list_all-more : (p : ℕ → Bool) (b : ℕ) (bs : List ℕ) → list_all p (b ∷ bs) ≡ (p b && list_all p bs)
-list_all-more p b bs = refl
+pub list_all_next : (p : ℕ → Bool) (b : ℕ) (bs : List ℕ) → list_all p (b ∷ bs) ≡ (p b && list_all p bs)
+list_all_next p b bs = refl
 
-pub is_subset-list : (s t : BitSet) → is_subset s t ≡ list_all (contains t) (ascending s)
+pub is_subset_list : (s t : BitSet) → is_subset s t ≡ list_all (contains t) (ascending s)
 unfolding is_subset
-is_subset-list s t = refl
+is_subset_list s t = refl
 
 not_all : (p : ℕ → Bool) (xs : List ℕ) → list_all (λ b. not (p b)) xs ≡ not (list_any p xs)
 not_all p [] = refl
 not_all p (x ∷ xs) = grind (arith, nat_tests, not_all p xs)
 
-pub is_disjoint-list : (s t : BitSet) → is_disjoint s t ≡ not (list_any (contains t) (ascending s))
+pub is_disjoint_list : (s t : BitSet) → is_disjoint s t ≡ not (list_any (contains t) (ascending s))
 unfolding is_disjoint
-is_disjoint-list s t = not_all (contains t) (ascending s)
+is_disjoint_list s t = not_all (contains t) (ascending s)
 
 -- a number of t changes nothing of s outside t
 pub difference_passed : (s t : BitSet) (b : ℕ) → contains t b ≡ true → difference (insert s b) t ≡ difference s t
@@ -43,6 +43,6 @@ difference_passed s t b one = same_set _ _ (λ q. grind (arith, members, nat_tes
 pub intersection_passed : (s t : BitSet) (b : ℕ) → contains t b ≡ false → intersection (insert s b) t ≡ intersection s t
 intersection_passed s t b none = same_set _ _ (λ q. grind (arith, members, nat_tests))
 
-pub ruleset loops = (on_unions, on_differences, on_intersections, on_lists, from_list-none, from_list-more, find-more, list_any-more, list_all-more, is_subset-list, is_disjoint-list, sum_by-cons, len-kept, len-left, insert_union, union_insert, insert_inside, intersection_passed, difference_inserted, difference_passed)
+pub ruleset loops = (on_unions, on_differences, on_intersections, on_lists, from_list_empty, from_list_next, find_next, list_any_next, list_all_next, is_subset_list, is_disjoint_list, sum_by-cons, len_kept, len_left, insert_union, union_insert, insert_inside, intersection_passed, difference_inserted, difference_passed)
 
-pub ruleset searches = (found_tells, find-more, nat_tests)
+pub ruleset searches = (found_tells, find_next, nat_tests)

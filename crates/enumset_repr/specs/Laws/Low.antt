@@ -1,6 +1,6 @@
 -- Laws of `low`, which cuts a set at a width, and of sets and numbers that fit a width. A set is below a width if each
 -- of its members is.
---     low-is_subset, low_part      a cut set is below the width;  it is a subset of the set
+--     low_is_subset, low_part      a cut set is below the width;  it is a subset of the set
 --     low_within, low_inside      a cut changes neither a set below the width nor a subset of such a set
 --     within_from_low      a set that a cut does not change is below the width
 --     low_narrow      two cuts, the second at a width that is no greater, are the second alone
@@ -8,7 +8,7 @@
 --         set
 --     is_subset_wider      a set below a width is below each greater width
 --     number_low, number_cut      the number of a cut set, as a remainder
---     fits_number      a set is below a width if its number fits;  the converse is `number-within`
+--     fits_number      a set is below a width if its number fits;  the converse is `number_within`
 --     cut_to, fits_in      the same for a tactic, at each width
 -- The ruleset `cuts` has what a proof about sets and their numbers needs. A crate above cites it by
 -- `#[tactic(auto, using(enumset_repr::specs::Laws::Low::cuts))]`. `cuts_to` has what calls to and
@@ -22,52 +22,52 @@ use Rattle.std.specs.Int.RustNames.{bit_and}
 use Rattle.std.proofs.lemmas.Nat.{and_mask}
 use Rattle.enumset_repr.specs.BitSet.{BitSet, empty, intersection, is_subset, below, low}
 use Rattle.enumset_repr.specs.Number.{number}
-use Rattle.enumset_repr.specs.Laws.Members.{members, same_set, is_subset-contains, contains-is_subset}
+use Rattle.enumset_repr.specs.Laws.Members.{members, same_set, is_subset_contains, contains_is_subset}
 use Rattle.enumset_repr.specs.Laws.Algebra.{is_subset_trans, intersection_right, difference_within, difference_none}
 use Rattle.enumset_repr.specs.Laws.Counting.{is_empty_difference, is_empty_intersection}
-use Rattle.enumset_repr.specs.Laws.Numbers.{bits-low, bits-number, number-bits, bits-within, number-within}
+use Rattle.enumset_repr.specs.Laws.Numbers.{bits_low, bits_number, number_bits, bits_within, number_within}
 
 -- ---- the cut set
 
-pub low-is_subset : (s : BitSet) (n : ℕ) → is_subset (low s n) (below n) ≡ true
-low-is_subset s n = contains-is_subset _ _ (λ q one. grind (arith, members))
+pub low_is_subset : (s : BitSet) (n : ℕ) → is_subset (low s n) (below n) ≡ true
+low_is_subset s n = contains_is_subset _ _ (λ q one. grind (arith, members))
 
 pub low_part : (s : BitSet) (n : ℕ) → is_subset (low s n) s ≡ true
-low_part s n = contains-is_subset _ _ (λ q one. grind (arith, members))
+low_part s n = contains_is_subset _ _ (λ q one. grind (arith, members))
 
 pub low_within : (s : BitSet) (n : ℕ) → is_subset s (below n) ≡ true → low s n ≡ s
-low_within s n within = same_set _ _ (λ q. let each = is_subset-contains s (below n) within q in grind (arith, members))
+low_within s n within = same_set _ _ (λ q. let each = is_subset_contains s (below n) within q in grind (arith, members))
 
 pub low_inside : (s v : BitSet) (n : ℕ) → is_subset s v ≡ true → is_subset v (below n) ≡ true → low s n ≡ s
 low_inside s v n part within = low_within s n (is_subset_trans s v (below n) part within)
 
 pub within_from_low : (s : BitSet) (n : ℕ) → low s n ≡ s → is_subset s (below n) ≡ true
-within_from_low s n same = subst (λ t. is_subset t (below n) ≡ true) same (low-is_subset s n)
+within_from_low s n same = subst (λ t. is_subset t (below n) ≡ true) same (low_is_subset s n)
 
 pub low_narrow : (s : BitSet) (m n : ℕ) → n ≤ m → low (low s m) n ≡ low s n
 low_narrow s m n less = same_set _ _ (λ q. grind (arith, members, nat_tests, less))
 
 pub low_intersection : (s v : BitSet) (n : ℕ) → is_subset v (below n) ≡ true → intersection (low s n) v ≡ intersection s v
-low_intersection s v n within = same_set _ _ (λ q. let each = is_subset-contains v (below n) within q in grind (arith, members))
+low_intersection s v n within = same_set _ _ (λ q. let each = is_subset_contains v (below n) within q in grind (arith, members))
 
 pub low_empty : (n : ℕ) → low empty n ≡ empty
 low_empty n = same_set _ _ (λ q. grind (arith, members))
 
 pub is_subset_wider : (s : BitSet) (m n : ℕ) → m ≤ n → is_subset s (below m) ≡ true → is_subset s (below n) ≡ true
-is_subset_wider s m n less within = contains-is_subset s (below n) (λ q one. let each = is_subset-contains s (below m) within q one in grind (arith, members, nat_tests, less, each))
+is_subset_wider s m n less within = contains_is_subset s (below n) (λ q one. let each = is_subset_contains s (below m) within q one in grind (arith, members, nat_tests, less, each))
 
 -- ---- its number
 
 pub number_low : (s : BitSet) (n : ℕ) → number (low s n) ≡ number s % 2 ^ n
-number_low s n = ap number (ap (λ t. low t n) (sym (bits-number s)) ∙ sym (bits-low (number s) n)) ∙ number-bits _
+number_low s n = ap number (ap (λ t. low t n) (sym (bits_number s)) ∙ sym (bits_low (number s) n)) ∙ number_bits _
 
 pub number_cut : (s : BitSet) (m n : ℕ) → n ≤ m → number (low s m) % 2 ^ n ≡ number (low s n)
 number_cut s m n less = sym (number_low (low s m) n) ∙ ap number (low_narrow s m n less)
 
 pub fits_number : (s : BitSet) (n : ℕ) → number s < 2 ^ n → is_subset s (below n) ≡ true
-fits_number s n small = subst (λ t. is_subset t (below n) ≡ true) (bits-number s) (bits-within (number s) n small)
+fits_number s n small = subst (λ t. is_subset t (below n) ≡ true) (bits_number s) (bits_within (number s) n small)
 
-pub ruleset cuts = (low-is_subset, low_part, low_within, low_inside, within_from_low, low_intersection, low_empty, bits-number, number-bits, intersection_right, difference_within, difference_none)
+pub ruleset cuts = (low_is_subset, low_part, low_within, low_inside, within_from_low, low_intersection, low_empty, bits_number, number_bits, intersection_right, difference_within, difference_none)
 
 -- ---- what a call to or from an integer needs. A tactic reads no width off a numeral: it computes `low_zeros` of it.
 
@@ -78,6 +78,6 @@ cut_to s m e less =
     ap (bit_and (number (low s 128))) ones ∙ and_mask _ _ ∙ number_cut s 128 _ less
 
 pub fits_in : (s : BitSet) (n : ℕ) → is_subset s (below n) ≡ nat_lt (number s) (2 ^ n)
-fits_in s n = same_from_decides _ _ (number-within s n, fits_number s n) (ltb-true _ _, lt-ltb _ _)
+fits_in s n = same_from_decides _ _ (number_within s n, fits_number s n) (ltb-true _ _, lt-ltb _ _)
 
 pub ruleset cuts_to = (cut_to, fits_in, nat_tests, is_empty_difference, is_empty_intersection)

@@ -11,12 +11,12 @@ use Rattle.enumset_repr.specs.Number.{bits}
 use Rattle.enumset_repr.specs.Laws.Algebra.{intersection_within}
 use Rattle.enumset_repr.specs.Laws.Counting.{is_empty_difference}
 use Rattle.enumset_repr.specs.Laws.Integers.{and_not}
-use Rattle.enumset_repr.specs.Laws.Numbers.{bits-and, bits-or, bits-xor, bits-number, number-bits, bits-within, bits-is_empty}
+use Rattle.enumset_repr.specs.Laws.Numbers.{bits_and, bits_or, bits_xor, bits_number, number_bits, bits_within, bits_is_empty}
 
 -- the first part is always true: it shows the search where to take the law
 pub masked_tells : (a b m : ℕ) → suc m ≡ 2 ^ low_zeros 128 (suc m) → a ≤ m → b ≤ m → (bit_and a (m - b) ≡ bit_and a (m - b)) × ((bit_and a (m - b) ≡ 0) ↔ (is_subset (bits a) (bits b) ≡ true))
 masked_tells a b m e p q =
-    let same : (bit_and a (m - b) == 0) ≡ is_subset (bits a) (bits b) = bits-is_empty _ ∙ ap is_empty (and_not a b m e p q) ∙ is_empty_difference (bits a) (bits b) in
+    let same : (bit_and a (m - b) == 0) ≡ is_subset (bits a) (bits b) = bits_is_empty _ ∙ ap is_empty (and_not a b m e p q) ∙ is_empty_difference (bits a) (bits b) in
     (refl, (λ none. grind (arith, nat_tests), λ within. grind (arith, nat_tests)))
 
-pub ruleset masks = (masked_tells, and_not, bits-and, bits-or, bits-xor, bits-number, number-bits, bits-within, intersection_within)
+pub ruleset masks = (masked_tells, and_not, bits_and, bits_or, bits_xor, bits_number, number_bits, bits_within, intersection_within)

@@ -1,8 +1,8 @@
 -- The set of a number, and what the operations on numbers do to it. Each law holds for every width or place.
---     contains-bits, bits-.., len-bits      the set of a number, and of the result of an operator
---     bits-number, number-bits      from a set to its number and back;  from a number to its set and back
+--     contains_bits, bits_.., len_bits      the set of a number, and of the result of an operator
+--     bits_number, number_bits      from a set to its number and back;  from a number to its set and back
 --     same_number      numbers with the same bits are equal
---     least-bits, greatest-bits      `trailing_zeros` and `leading_zeros`
+--     least_bits, greatest_bits      `trailing_zeros` and `leading_zeros`
 --     bits_full      a number of n ones
 --     on_numbers      the laws that name no width, for a tactic's `using`
 use Rattle.std.proofs.Common.{◌≡◌, ◌<◌, ◌≤◌, ℕ, suc, zero, ◌+◌, ◌-◌, ◌*◌, ◌/◌, ◌%◌, ◌^◌, true, false, not, List, [], ◌∷◌, refl, sym, ap, ◌∙◌, length, arith, inl, inr, pow-suc, pow-add, one-mul, zero-mul, subst}
@@ -18,9 +18,9 @@ use Rattle.std.proofs.lemmas.Nat.{pow_pos, le-div, div_below, pow_below, one_shl
 use Rattle.std.proofs.lemmas.Nat.Bits.{and_pow, bit_at_and, bit_at_or, bit_at_xor, bit_at-pow_same, bit_at-pow_other, bit_at-zero, bit_at_above, bit_at-lt, bit_at_cat_low, bit_at_cat_high, bit_at-suc, bit_at_lowest, bit_at_ones, bit_at_ones_above, same_from_bits}
 use Rattle.enumset_repr.specs.BitSet.{is_in, BitSet, contains, ascending, len, is_empty, empty, insert, only, remove, union, intersection, difference, symmetric_difference, is_subset, below, low}
 use Rattle.enumset_repr.specs.Number.{number, bits}
-use Rattle.enumset_repr.specs.Laws.Members.{same_set, contains-empty, contains-ascending, contains-retain, contains-remove, contains-insert, contains-union, contains-intersection, contains-difference, contains-symmetric_difference, contains-below, contains-low, is_subset-contains, contains-is_subset}
+use Rattle.enumset_repr.specs.Laws.Members.{same_set, contains_empty, contains_ascending, contains_retain, contains_remove, contains_insert, contains_union, contains_intersection, contains_difference, contains_symmetric_difference, contains_below, contains_low, is_subset_contains, contains_is_subset}
 use Rattle.enumset_repr.specs.Laws.Algebra.{intersection_difference, union_only, difference_only}
-use Rattle.enumset_repr.specs.Laws.Ascending.{AscendsFrom, ascending-ascends, ascending-empty, is_in-below, len-ascending, is_empty_iff}
+use Rattle.enumset_repr.specs.Laws.Ascending.{AscendsFrom, ascending_ascends, ascending_empty, is_in_below, len_ascending, is_empty_iff}
 
 -- ---- the members of a number's set
 
@@ -28,17 +28,17 @@ pub lt_pow : (n : ℕ) → n < 2 ^ n
 lt_pow zero = omega arith
 lt_pow (suc n) = omega (arith, lt_pow n, pow-suc 2 n)
 
-pub contains-bits : (n b : ℕ) → contains (bits n) b ≡ (bit_at n b == 1)
+pub contains_bits : (n b : ℕ) → contains (bits n) b ≡ (bit_at n b == 1)
 unfolding bits
-contains-bits n b = let none = bit_at_above n b b in contains-retain (below n) _ b ∙ grind (arith, nat_tests, contains-below n b, lt_pow b)
+contains_bits n b = let none = bit_at_above n b b in contains_retain (below n) _ b ∙ grind (arith, nat_tests, contains_below n b, lt_pow b)
 
 -- a set with the bits of a number is the set of that number
 bits_is : (n : ℕ) (s : BitSet) → ((q : ℕ) → (bit_at n q == 1) ≡ contains s q) → bits n ≡ s
-bits_is n s is = same_set (bits n) s (λ q. contains-bits n q ∙ is q)
+bits_is n s is = same_set (bits n) s (λ q. contains_bits n q ∙ is q)
 
 -- no member of a number's set is at or past its width
-pub bits-within : (n w : ℕ) → n < 2 ^ w → is_subset (bits n) (below w) ≡ true
-bits-within n w fits = contains-is_subset (bits n) (below w) (λ q one. let none = bit_at_above n w q fits in grind (arith, nat_tests, contains-bits n q, contains-below w q))
+pub bits_within : (n w : ℕ) → n < 2 ^ w → is_subset (bits n) (below w) ≡ true
+bits_within n w fits = contains_is_subset (bits n) (below w) (λ q one. let none = bit_at_above n w q fits in grind (arith, nat_tests, contains_bits n q, contains_below w q))
 
 -- ---- the worth of a list: the sum of the powers of two at its numbers
 
@@ -83,7 +83,7 @@ worth-bit k (x ∷ xs) ascends q =
     let parts = worth-parts k x xs ascends in elim (cases_lt q (suc x)) [
       | inl under ↦
           ap (λ n. bit_at n q == 1) parts.2 ∙ ap (λ d. d == 1) (bit_at_cat_low parts.0 (suc x) (2 ^ x) q under)
-          ∙ grind (arith, nat_tests, pow_bit x q, is_in-below (suc x) q xs ascends.1 under)
+          ∙ grind (arith, nat_tests, pow_bit x q, is_in_below (suc x) q xs ascends.1 under)
       | inr over ↦
           ap (λ n. bit_at n q == 1) parts.2
           ∙ ap (λ d. d == 1) (bit_at_cat_high parts.0 (suc x) (2 ^ x) q (pow_below x (suc x) (omega arith)) over ∙ sym (bit_at_cat_high parts.0 (suc x) 0 q (pow_pos (suc x)) over))
@@ -102,17 +102,17 @@ worth-ones k (x ∷ xs) ascends =
 
 -- ---- the operations
 
-pub bits-zero : bits 0 ≡ empty
-bits-zero = bits_is 0 empty (λ q. ap (λ d. d == 1) (bit_at-zero q) ∙ sym (contains-empty q))
+pub bits_zero : bits 0 ≡ empty
+bits_zero = bits_is 0 empty (λ q. ap (λ d. d == 1) (bit_at-zero q) ∙ sym (contains_empty q))
 
-pub bits-and : (a b : ℕ) → bits (bit_and a b) ≡ intersection (bits a) (bits b)
-bits-and a b = bits_is _ _ (λ q. grind (arith, nat_tests, bit_at_and a b q, bit_at-lt a q, bit_at-lt b q, contains-bits a q, contains-bits b q, contains-intersection (bits a) (bits b) q))
+pub bits_and : (a b : ℕ) → bits (bit_and a b) ≡ intersection (bits a) (bits b)
+bits_and a b = bits_is _ _ (λ q. grind (arith, nat_tests, bit_at_and a b q, bit_at-lt a q, bit_at-lt b q, contains_bits a q, contains_bits b q, contains_intersection (bits a) (bits b) q))
 
-pub bits-or : (a b : ℕ) → bits (bit_or a b) ≡ union (bits a) (bits b)
-bits-or a b = bits_is _ _ (λ q. grind (arith, nat_tests, bit_at_or a b q, bit_at-lt a q, bit_at-lt b q, contains-bits a q, contains-bits b q, contains-union (bits a) (bits b) q))
+pub bits_or : (a b : ℕ) → bits (bit_or a b) ≡ union (bits a) (bits b)
+bits_or a b = bits_is _ _ (λ q. grind (arith, nat_tests, bit_at_or a b q, bit_at-lt a q, bit_at-lt b q, contains_bits a q, contains_bits b q, contains_union (bits a) (bits b) q))
 
-pub bits-xor : (a b : ℕ) → bits (bit_xor a b) ≡ symmetric_difference (bits a) (bits b)
-bits-xor a b = bits_is _ _ (λ q. grind (arith, nat_tests, bit_at_xor a b q, bit_at-lt a q, bit_at-lt b q, contains-bits a q, contains-bits b q, contains-symmetric_difference (bits a) (bits b) q))
+pub bits_xor : (a b : ℕ) → bits (bit_xor a b) ≡ symmetric_difference (bits a) (bits b)
+bits_xor a b = bits_is _ _ (λ q. grind (arith, nat_tests, bit_at_xor a b q, bit_at-lt a q, bit_at-lt b q, contains_bits a q, contains_bits b q, contains_symmetric_difference (bits a) (bits b) q))
 
 -- `!n` at a width
 abbrev complement : ℕ → ℕ → ℕ
@@ -125,59 +125,59 @@ bit_at_complement (suc w) n (suc q) fits within =
     let half : complement (suc w) n / 2 ≡ complement w (n / 2) = omega (arith, pow-suc 2 w) in
     omega (arith, bit_at-suc (complement (suc w) n) q ∙ ap (λ m. bit_at m q) half, bit_at_complement w (n / 2) q (omega (arith, pow-suc 2 w)) (omega arith), bit_at-suc n q)
 
-pub bits-not : (w n : ℕ) → n < 2 ^ w → bits (complement w n) ≡ difference (below w) (bits n)
-bits-not w n fits = bits_is _ _ (λ q.
+pub bits_not : (w n : ℕ) → n < 2 ^ w → bits (complement w n) ≡ difference (below w) (bits n)
+bits_not w n fits = bits_is _ _ (λ q.
     let under = bit_at_complement w n q fits in
     let none = bit_at_above (complement w n) w q (omega (arith, pow_pos w)) in
-    grind (arith, nat_tests, bit_at-lt n q, contains-bits n q, contains-below w q, contains-difference (below w) (bits n) q))
+    grind (arith, nat_tests, bit_at-lt n q, contains_bits n q, contains_below w q, contains_difference (below w) (bits n) q))
 
 -- ---- a set and its number
 
-pub bits-number : (s : BitSet) → bits (number s) ≡ s
+pub bits_number : (s : BitSet) → bits (number s) ≡ s
 unfolding number worth
-bits-number s = bits_is (number s) s (λ q. worth-bit 0 (ascending s) (ascending-ascends s) q ∙ sym (contains-ascending s q))
+bits_number s = bits_is (number s) s (λ q. worth-bit 0 (ascending s) (ascending_ascends s) q ∙ sym (contains_ascending s q))
 
-pub number-bits : (n : ℕ) → number (bits n) ≡ n
-number-bits n = same_from_bits (number (bits n)) n (λ q.
-    let same = ap (λ s. contains s q) (bits-number (bits n)) in grind (arith, nat_tests, bit_at-lt (number (bits n)) q, bit_at-lt n q, contains-bits (number (bits n)) q, contains-bits n q))
+pub number_bits : (n : ℕ) → number (bits n) ≡ n
+number_bits n = same_from_bits (number (bits n)) n (λ q.
+    let same = ap (λ s. contains s q) (bits_number (bits n)) in grind (arith, nat_tests, bit_at-lt (number (bits n)) q, bit_at-lt n q, contains_bits (number (bits n)) q, contains_bits n q))
 
 -- numbers with the same bits are equal
 pub same_number : (n k : ℕ) → ((q : ℕ) → contains (bits n) q ≡ contains (bits k) q) → n ≡ k
-same_number n k same = sym (number-bits n) ∙ ap number (same_set _ _ same) ∙ number-bits k
+same_number n k same = sym (number_bits n) ∙ ap number (same_set _ _ same) ∙ number_bits k
 
 number-empty : number empty ≡ 0
 unfolding number
-number-empty = ap (sum_by (λ b. 2 ^ b)) ascending-empty
+number-empty = ap (sum_by (λ b. 2 ^ b)) ascending_empty
 
 pub bits_empty : (n : ℕ) → bits n ≡ empty → n ≡ 0
-bits_empty n none = sym (number-bits n) ∙ ap number none ∙ number-empty
+bits_empty n none = sym (number_bits n) ∙ ap number none ∙ number-empty
 
 -- `n == 0`
-pub bits-is_empty : (n : ℕ) → (n == 0) ≡ is_empty (bits n)
-bits-is_empty n = same_from_decides _ _ (λ zero. ap bits (eqb-true n 0 zero) ∙ bits-zero, λ none. eq-eqb n 0 (bits_empty n none)) (is_empty_iff (bits n))
+pub bits_is_empty : (n : ℕ) → (n == 0) ≡ is_empty (bits n)
+bits_is_empty n = same_from_decides _ _ (λ zero. ap bits (eqb-true n 0 zero) ∙ bits_zero, λ none. eq-eqb n 0 (bits_empty n none)) (is_empty_iff (bits n))
 
 -- `n.count_ones()`
-pub len-bits : (n : ℕ) → len (bits n) ≡ count_ones n
+pub len_bits : (n : ℕ) → len (bits n) ≡ count_ones n
 unfolding number worth
-len-bits n = len-ascending (bits n) ∙ sym (worth-ones 0 (ascending (bits n)) (ascending-ascends (bits n))) ∙ ap count_ones (number-bits n)
+len_bits n = len_ascending (bits n) ∙ sym (worth-ones 0 (ascending (bits n)) (ascending_ascends (bits n))) ∙ ap count_ones (number_bits n)
 
 -- ---- `a & !b`, and one bit
 
-pub bits-and_not : (w a b : ℕ) → a < 2 ^ w → b < 2 ^ w → bits (bit_and a (complement w b)) ≡ difference (bits a) (bits b)
-bits-and_not w a b fits_a fits_b = bits-and a _ ∙ ap (intersection (bits a)) (bits-not w b fits_b) ∙ intersection_difference _ _ _ (bits-within a w fits_a)
+pub bits_and_not : (w a b : ℕ) → a < 2 ^ w → b < 2 ^ w → bits (bit_and a (complement w b)) ≡ difference (bits a) (bits b)
+bits_and_not w a b fits_a fits_b = bits_and a _ ∙ ap (intersection (bits a)) (bits_not w b fits_b) ∙ intersection_difference _ _ _ (bits_within a w fits_a)
 
-pub bits-pow : (k : ℕ) → bits (2 ^ k) ≡ only k
-bits-pow k = bits_is _ _ (λ q. pow_bit k q ∙ grind (arith, nat_tests, contains-insert empty k q, contains-empty q))
+pub bits_pow : (k : ℕ) → bits (2 ^ k) ≡ only k
+bits_pow k = bits_is _ _ (λ q. pow_bit k q ∙ grind (arith, nat_tests, contains_insert empty k q, contains_empty q))
 
 -- `1 << k`
-pub bits-one : (w k : ℕ) → k < w → bits (1 * 2 ^ k % 2 ^ w) ≡ only k
-bits-one w k within = ap bits (one_shl k w within) ∙ bits-pow k
+pub bits_one_shifted : (w k : ℕ) → k < w → bits (1 * 2 ^ k % 2 ^ w) ≡ only k
+bits_one_shifted w k within = ap bits (one_shl k w within) ∙ bits_pow k
 
-pub bits-set : (w n k : ℕ) → k < w → bits (bit_or n (1 * 2 ^ k % 2 ^ w)) ≡ insert (bits n) k
-bits-set w n k within = bits-or n _ ∙ ap (union (bits n)) (bits-one w k within) ∙ union_only _ k
+pub bits_set : (w n k : ℕ) → k < w → bits (bit_or n (1 * 2 ^ k % 2 ^ w)) ≡ insert (bits n) k
+bits_set w n k within = bits_or n _ ∙ ap (union (bits n)) (bits_one_shifted w k within) ∙ union_only _ k
 
-pub bits-clear : (w n k : ℕ) → n < 2 ^ w → k < w → bits (bit_and n (complement w (1 * 2 ^ k % 2 ^ w))) ≡ remove (bits n) k
-bits-clear w n k fits within = bits-and_not w n _ fits (mod_below _ (2 ^ w) (pow_pos w)) ∙ ap (difference (bits n)) (bits-one w k within) ∙ difference_only _ k
+pub bits_clear : (w n k : ℕ) → n < 2 ^ w → k < w → bits (bit_and n (complement w (1 * 2 ^ k % 2 ^ w))) ≡ remove (bits n) k
+bits_clear w n k fits within = bits_and_not w n _ fits (mod_below _ (2 ^ w) (pow_pos w)) ∙ ap (difference (bits n)) (bits_one_shifted w k within) ∙ difference_only _ k
 
 -- `n.trailing_zeros()` is the place of the lowest 1; n - 1 has not that bit, and those above it stay
 IsLowest : ℕ → ℕ → ℕ → Type 0
@@ -210,62 +210,62 @@ lowest_set zero n some fits = absurd (omega arith)
 lowest_set (suc w) n some fits = lowest_by w n (count_trailing_zeros w (n / 2)) (n % 2) refl some (λ rest. lowest_set w (n / 2) rest (omega (arith, pow-suc 2 w)))
 
 -- `n & (n - 1)`
-pub bits-clear_least : (w n : ℕ) → 0 < n → n < 2 ^ w → bits (bit_and n (n - 1)) ≡ remove (bits n) (count_trailing_zeros w n)
+pub bits_clear_least : (w n : ℕ) → 0 < n → n < 2 ^ w → bits (bit_and n (n - 1)) ≡ remove (bits n) (count_trailing_zeros w n)
 unfolding IsLowest
-bits-clear_least w n some fits =
+bits_clear_least w n some fits =
     let lowest = lowest_set w n some fits in
     bits_is _ _ (λ q.
     let before = lowest.2 q in
     let above = lowest.4 q in
-    grind (arith, nat_tests, lowest.1, lowest.3, bit_at_and n (n - 1) q, bit_at-lt n q, contains-bits n q, contains-remove (bits n) (count_trailing_zeros w n) q))
+    grind (arith, nat_tests, lowest.1, lowest.3, bit_at_and n (n - 1) q, bit_at-lt n q, contains_bits n q, contains_remove (bits n) (count_trailing_zeros w n) q))
 
-pub bits-test : (w n k : ℕ) → k < w → contains (bits n) k ≡ not (bit_and n (1 * 2 ^ k % 2 ^ w) == 0)
-bits-test w n k within =
+pub bits_test : (w n k : ℕ) → k < w → contains (bits n) k ≡ not (bit_and n (1 * 2 ^ k % 2 ^ w) == 0)
+bits_test w n k within =
     let p = pow_pos k in
     let clear : bit_at n k ≡ 0 → bit_at n k * 2 ^ k ≡ 0 = λ e. ap (λ d. d * 2 ^ k) e ∙ zero-mul (2 ^ k) in
     let one : bit_at n k ≡ 1 → bit_at n k * 2 ^ k ≡ 2 ^ k = λ e. ap (λ d. d * 2 ^ k) e ∙ one-mul (2 ^ k) in
-    contains-bits n k ∙ grind (arith, nat_tests, bit_at-lt n k, and_pow n k, ap (bit_and n) (one_shl k w within))
+    contains_bits n k ∙ grind (arith, nat_tests, bit_at-lt n k, and_pow n k, ap (bit_and n) (one_shl k w within))
 
 -- ---- the least and the greatest
 
 -- `n.trailing_zeros()` is the least member, `WIDTH - 1 - n.leading_zeros()` the greatest
-pub least-bits : (w n : ℕ) → 0 < n → n < 2 ^ w → (contains (bits n) (count_trailing_zeros w n) ≡ true) × ((q : ℕ) → q < count_trailing_zeros w n → contains (bits n) q ≡ false)
+pub least_bits : (w n : ℕ) → 0 < n → n < 2 ^ w → (contains (bits n) (count_trailing_zeros w n) ≡ true) × ((q : ℕ) → q < count_trailing_zeros w n → contains (bits n) q ≡ false)
 unfolding IsLowest
-least-bits w n some fits =
+least_bits w n some fits =
     let lowest = lowest_set w n some fits in
-    (contains-bits n _ ∙ ap (λ d. d == 1) lowest.1, λ q under. contains-bits n q ∙ ap (λ d. d == 1) (lowest.2 q under))
+    (contains_bits n _ ∙ ap (λ d. d == 1) lowest.1, λ q under. contains_bits n q ∙ ap (λ d. d == 1) (lowest.2 q under))
 
 top_bit : (n j : ℕ) → 2 ^ j ≤ n → n < 2 ^ suc j → bit_at n j ≡ 1
 top_bit n j from fits = omega (arith, le-div 1 n (2 ^ j) (pow_pos j) (omega (arith, from)), div_below n (2 ^ j) 2 (pow_pos j) (omega (arith, fits, pow-suc 2 j)))
 
-pub greatest-bits : (w n : ℕ) → 0 < n → n < 2 ^ w → (count_leading_zeros w n < w) × (contains (bits n) (w - 1 - count_leading_zeros w n) ≡ true) × ((q : ℕ) → w - 1 - count_leading_zeros w n < q → contains (bits n) q ≡ false)
-greatest-bits w n some fits =
+pub greatest_bits : (w n : ℕ) → 0 < n → n < 2 ^ w → (count_leading_zeros w n < w) × (contains (bits n) (w - 1 - count_leading_zeros w n) ≡ true) × ((q : ℕ) → w - 1 - count_leading_zeros w n < q → contains (bits n) q ≡ false)
+greatest_bits w n some fits =
     let top = leading_top w n some fits in
     let place : w - 1 - count_leading_zeros w n ≡ top.0 = omega (arith, top.1) in (
       omega (arith, top.1),
-      ap (contains (bits n)) place ∙ contains-bits n top.0 ∙ ap (λ d. d == 1) (top_bit n top.0 top.2 top.3),
-      λ q over. contains-bits n q ∙ ap (λ d. d == 1) (bit_at_above n (suc top.0) q top.3 (omega (arith, place, over))),
+      ap (contains (bits n)) place ∙ contains_bits n top.0 ∙ ap (λ d. d == 1) (top_bit n top.0 top.2 top.3),
+      λ q over. contains_bits n q ∙ ap (λ d. d == 1) (bit_at_above n (suc top.0) q top.3 (omega (arith, place, over))),
     )
 
 -- ---- the low bits, and those from a place on
 
 -- `n % 2 ^ k`
-pub bits-low : (n k : ℕ) → bits (n % 2 ^ k) ≡ low (bits n) k
-bits-low n k = bits_is _ _ (λ q.
+pub bits_low : (n k : ℕ) → bits (n % 2 ^ k) ≡ low (bits n) k
+bits_low n k = bits_is _ _ (λ q.
     let under = bit_at_cat_low (n / 2 ^ k) k (n % 2 ^ k) q in
     let over = bit_at_above (n % 2 ^ k) k q (mod_below n (2 ^ k) (pow_pos k)) in
     let whole = ap (λ m. bit_at m q) (shr_split n k) in
-    grind (arith, nat_tests, contains-bits n q, contains-low (bits n) k q))
+    grind (arith, nat_tests, contains_bits n q, contains_low (bits n) k q))
 
-pub number-within : (s : BitSet) (w : ℕ) → is_subset s (below w) ≡ true → number s < 2 ^ w
-number-within s w sub =
-    let cut : number s % 2 ^ w ≡ number s = sym (number-bits _) ∙ ap number (bits-low (number s) w ∙ ap (λ t. low t w) (bits-number s)
-    ∙ same_set _ _ (λ q. let each = is_subset-contains s (below w) sub q in grind (arith, contains-low s w q, contains-below w q))) in
+pub number_within : (s : BitSet) (w : ℕ) → is_subset s (below w) ≡ true → number s < 2 ^ w
+number_within s w sub =
+    let cut : number s % 2 ^ w ≡ number s = sym (number_bits _) ∙ ap number (bits_low (number s) w ∙ ap (λ t. low t w) (bits_number s)
+    ∙ same_set _ _ (λ q. let each = is_subset_contains s (below w) sub q in grind (arith, contains_low s w q, contains_below w q))) in
     omega (arith, cut, mod_below (number s) (2 ^ w) (pow_pos w))
 
 -- n / 2 ^ k has the bits of n from k on, each less k
-pub contains-bits-shifted : (n k b : ℕ) → contains (bits (n / 2 ^ k)) b ≡ contains (bits n) (k + b)
-contains-bits-shifted n k b = contains-bits (n / 2 ^ k) b ∙ ap (λ m. m % 2 == 1) (shr-shr n k b) ∙ sym (contains-bits n (k + b))
+pub contains_bits_shifted : (n k b : ℕ) → contains (bits (n / 2 ^ k)) b ≡ contains (bits n) (k + b)
+contains_bits_shifted n k b = contains_bits (n / 2 ^ k) b ∙ ap (λ m. m % 2 == 1) (shr-shr n k b) ∙ sym (contains_bits n (k + b))
 
 -- ---- a number of n ones
 
@@ -273,7 +273,7 @@ pub bits_full : (n : ℕ) → bits (2 ^ n - 1) ≡ below n
 bits_full n = same_set _ _ (λ q.
     let under = bit_at_ones n q in
     let past = bit_at_ones_above n q in
-    grind (arith, nat_tests, contains-bits (2 ^ n - 1) q, contains-below n q))
+    grind (arith, nat_tests, contains_bits (2 ^ n - 1) q, contains_below n q))
 
 -- What a proof about the set of a number needs, at any width.
-pub ruleset on_numbers = (bits-and, bits-or, bits-xor, len-bits, bits-low, contains-bits-shifted, bits-zero, bits_empty, bits-is_empty)
+pub ruleset on_numbers = (bits_and, bits_or, bits_xor, len_bits, bits_low, contains_bits_shifted, bits_zero, bits_empty, bits_is_empty)

@@ -10,31 +10,31 @@ use Rattle.enumset_repr.specs.BitSet.{BitSet, is_subset, is_same}
 use Rattle.enumset_repr.specs.Number.{number}
 use Rattle.enumset_repr.specs.Order.{compare}
 use Rattle.enumset_repr.specs.Laws.Members.{is_same_iff}
-use Rattle.enumset_repr.specs.Laws.Order.{compare-itself, compare-same, compare-subset, compare-ranks, compare-number}
+use Rattle.enumset_repr.specs.Laws.Order.{compare_itself, compare_same, compare_subset, compare_ranks, compare_number}
 
 module _ (s t : BitSet) (within : is_subset s t ≡ true) where
   less_or_same : (number s < number t) ⊎ (s ≡ t)
   less_or_same = by (is_same s t) refl where
     by : (b : Bool) → is_same s t ≡ b → (number s < number t) ⊎ (s ≡ t)
     by true same = inr ((is_same_iff s t).0 same)
-    by false other = inl (subst (λ o. MatchOrdering o (number s < number t) (s ≡ t) (number t < number s)) (compare-subset s t within (λ e. true≢false (sym ((is_same_iff s t).1 e) ∙ other))) (compare-ranks s t))
+    by false other = inl (subst (λ o. MatchOrdering o (number s < number t) (s ≡ t) (number t < number s)) (compare_subset s t within (λ e. true≢false (sym ((is_same_iff s t).1 e) ∙ other))) (compare_ranks s t))
 
   pub max_superset : ord_max compare s t ≡ t
-  max_superset = let either = less_or_same in let order = compare-number t s in grind (arith, nat_tests)
+  max_superset = let either = less_or_same in let order = compare_number t s in grind (arith, nat_tests)
 
   pub min_subset : ord_min compare s t ≡ s
-  min_subset = let either = less_or_same in let order = compare-number t s in grind (arith, nat_tests)
+  min_subset = let either = less_or_same in let order = compare_number t s in grind (arith, nat_tests)
 
   pub superset_max : ord_max compare t s ≡ t
-  superset_max = let either = less_or_same in let order = compare-number s t in grind (arith, nat_tests)
+  superset_max = let either = less_or_same in let order = compare_number s t in grind (arith, nat_tests)
 
   pub subset_min : ord_min compare t s ≡ s
-  subset_min = let either = less_or_same in let order = compare-number s t in grind (arith, nat_tests)
+  subset_min = let either = less_or_same in let order = compare_number s t in grind (arith, nat_tests)
 
 pub number_max : (s t : BitSet) → number (ord_max compare s t) ≡ max (number s) (number t)
-number_max s t = let order = compare-number t s in let back = compare-number s t in grind (arith, nat_tests)
+number_max s t = let order = compare_number t s in let back = compare_number s t in grind (arith, nat_tests)
 
 pub number_min : (s t : BitSet) → number (ord_min compare s t) ≡ min (number s) (number t)
-number_min s t = let order = compare-number t s in let back = compare-number s t in grind (arith, nat_tests)
+number_min s t = let order = compare_number t s in let back = compare_number s t in grind (arith, nat_tests)
 
-pub ruleset ordering = (max_superset, superset_max, min_subset, subset_min, compare-subset, compare-itself, compare-same)
+pub ruleset ordering = (max_superset, superset_max, min_subset, subset_min, compare_subset, compare_itself, compare_same)

@@ -16,9 +16,9 @@ use Rattle.std.proofs.Common.{◌≡◌, ◌+◌, ◌*◌, ℕ, true, false, ◌
 use Rattle.std.proofs.lemmas.Bool.{and_parts, and_from}
 use Rattle.std.proofs.lemmas.Bool.Decides.{nat_tests, same_from_decides}
 use Rattle.enumset_repr.specs.BitSet.{BitSet, contains, len, empty, insert, remove, union, intersection, difference, symmetric_difference, is_subset, is_disjoint}
-use Rattle.enumset_repr.specs.Laws.Members.{members, same_set, is_subset-contains, contains-is_subset, contains-is_disjoint, is_disjoint-contains}
+use Rattle.enumset_repr.specs.Laws.Members.{members, same_set, is_subset_contains, contains_is_subset, contains_is_disjoint, is_disjoint_contains}
 use Rattle.enumset_repr.specs.Laws.Algebra.{union_comm, union_left, union_within, intersection_assoc, intersection_right, intersection_within, difference_apart, is_disjoint_comm, is_disjoint_difference}
-use Rattle.enumset_repr.specs.Laws.Counting.{len-parts, len-union}
+use Rattle.enumset_repr.specs.Laws.Counting.{len_parts, len_union}
 
 -- ---- one number
 
@@ -55,7 +55,7 @@ pub intersection_over_symmetric_difference : (s t u : BitSet) → intersection s
 intersection_over_symmetric_difference s t u = same_set _ _ (λ q. grind (arith, members))
 
 pub parts_apart : (s t : BitSet) → is_disjoint (difference s t) (intersection s t) ≡ true
-parts_apart s t = contains-is_disjoint _ _ (λ q one. grind (arith, members))
+parts_apart s t = contains_is_disjoint _ _ (λ q one. grind (arith, members))
 
 pub parts_apart_back : (s t : BitSet) → is_disjoint (intersection s t) (difference s t) ≡ true
 parts_apart_back s t = is_disjoint_comm (intersection s t) (difference s t) ∙ parts_apart s t
@@ -68,7 +68,7 @@ union_covers s t within = union_comm s t ∙ union_within t s within
 pub len_symmetric_difference : (s t : BitSet) → len (symmetric_difference s t) + 2 * len (intersection s t) ≡ len s + len t
 len_symmetric_difference s t =
     let inside : intersection (union s t) (intersection s t) ≡ intersection s t = same_set _ _ (λ q. grind (arith, members)) in
-    omega (arith, len-union s t, len-parts (union s t) (intersection s t), ap len (symmetric_parts s t), ap len inside)
+    omega (arith, len_union s t, len_parts (union s t) (intersection s t), ap len (symmetric_parts s t), ap len inside)
 
 pub len_regrouped : (s t u : BitSet) → len (intersection (intersection s t) u) ≡ len (intersection s (intersection t u))
 len_regrouped s t u = ap len (intersection_assoc s t u)
@@ -78,14 +78,14 @@ len_regrouped s t u = ap len (intersection_assoc s t u)
 pub is_disjoint_union : (s t u : BitSet) → is_disjoint s (union t u) ≡ (is_disjoint s t && is_disjoint s u)
 is_disjoint_union s t u = same_from_decides _ _ (
   λ apart. (
-    contains-is_disjoint s t (λ q one. let none = is_disjoint-contains s (union t u) apart q in grind (arith, members)),
-    contains-is_disjoint s u (λ q one. let none = is_disjoint-contains s (union t u) apart q in grind (arith, members)),
+    contains_is_disjoint s t (λ q one. let none = is_disjoint_contains s (union t u) apart q in grind (arith, members)),
+    contains_is_disjoint s u (λ q one. let none = is_disjoint_contains s (union t u) apart q in grind (arith, members)),
   ),
-  λ both. contains-is_disjoint s (union t u) (λ q one. let a = is_disjoint-contains s t both.0 q in let b = is_disjoint-contains s u both.1 q in grind (arith, members)),
+  λ both. contains_is_disjoint s (union t u) (λ q one. let a = is_disjoint_contains s t both.0 q in let b = is_disjoint_contains s u both.1 q in grind (arith, members)),
 ) (and_parts _ _, λ both. and_from _ _ both.0 both.1)
 
 pub is_disjoint_part : (s t u : BitSet) → is_disjoint s u ≡ true → is_disjoint (difference s t) u ≡ true
-is_disjoint_part s t u apart = contains-is_disjoint _ u (λ q one. let none = is_disjoint-contains s u apart q in grind (arith, members))
+is_disjoint_part s t u apart = contains_is_disjoint _ u (λ q one. let none = is_disjoint_contains s u apart q in grind (arith, members))
 
 pub is_subset_union_iff : (s t : BitSet) → (is_subset s t ≡ true) ↔ (union s t ≡ t)
 is_subset_union_iff s t = (union_within s t, λ same. subst (λ u. is_subset s u ≡ true) same (union_left s t))
@@ -97,10 +97,10 @@ pub is_disjoint_difference_iff : (s t : BitSet) → (is_disjoint s t ≡ true) �
 is_disjoint_difference_iff s t = (difference_apart s t, λ same. subst (λ u. is_disjoint u t ≡ true) same (is_disjoint_difference s t))
 
 pub union_least : (s t u : BitSet) → is_subset s u ≡ true → is_subset t u ≡ true → is_subset (union s t) u ≡ true
-union_least s t u first second = contains-is_subset _ _ (λ q one. let a = is_subset-contains s u first q in let b = is_subset-contains t u second q in grind (arith, members))
+union_least s t u first second = contains_is_subset _ _ (λ q one. let a = is_subset_contains s u first q in let b = is_subset_contains t u second q in grind (arith, members))
 
 pub intersection_greatest : (s t u : BitSet) → is_subset u s ≡ true → is_subset u t ≡ true → is_subset u (intersection s t) ≡ true
-intersection_greatest s t u first second = contains-is_subset _ _ (λ q one. let a = is_subset-contains u s first q in let b = is_subset-contains u t second q in grind (arith, members))
+intersection_greatest s t u first second = contains_is_subset _ _ (λ q one. let a = is_subset_contains u s first q in let b = is_subset_contains u t second q in grind (arith, members))
 
 -- ---- complements within a set v
 
@@ -109,16 +109,16 @@ complement_of_complement v s = same_set _ _ (λ q. grind (arith, members))
 
 -- the complement within v, from that within a greater set
 pub complement_within : (v w s : BitSet) → is_subset v w ≡ true → intersection (difference w s) v ≡ difference v s
-complement_within v w s within = same_set _ _ (λ q. let each = is_subset-contains v w within q in grind (arith, members))
+complement_within v w s within = same_set _ _ (λ q. let each = is_subset_contains v w within q in grind (arith, members))
 
 pub complement_outside : (v s : BitSet) → difference (difference v s) v ≡ empty
 complement_outside v s = same_set _ _ (λ q. grind (arith, members))
 
 pub difference_insert_all : (s t u : BitSet) → is_subset u t ≡ true → difference (union s u) t ≡ difference s t
-difference_insert_all s t u within = same_set _ _ (λ q. let each = is_subset-contains u t within q in grind (arith, members))
+difference_insert_all s t u within = same_set _ _ (λ q. let each = is_subset_contains u t within q in grind (arith, members))
 
 pub difference_remove_all : (s t u : BitSet) → is_subset u t ≡ true → difference (difference s u) t ≡ difference s t
-difference_remove_all s t u within = same_set _ _ (λ q. let each = is_subset-contains u t within q in grind (arith, members))
+difference_remove_all s t u within = same_set _ _ (λ q. let each = is_subset_contains u t within q in grind (arith, members))
 
 -- What a proof about the parts of sets inside and outside one set needs, beside `algebra`:
 -- `#[tactic(auto, using(enumset_repr::specs::Laws::Sets::in_parts))]`.

@@ -1,9 +1,9 @@
 -- Words of 64 bits: laws of `word`, `upward_shift` and `with_word`, at every width and place.
---     contains-upward_shift, contains-with_word      their members
---     contains-bits-word      the bits of a word of a set
---     word-bits      a word of a number's set
---     bits-shifted_up      the set of `n << k`
---     bits-put_low, bits-put_word      the set of a number after one of its words was replaced
+--     contains_upward_shift, contains_with_word      their members
+--     contains_bits_word      the bits of a word of a set
+--     word_bits      a word of a number's set
+--     bits_shifted_up      the set of `n << k`
+--     bits_put_low, bits_put_word      the set of a number after one of its words was replaced
 use Rattle.std.proofs.Common.{◌≡◌, ◌<◌, ◌≤◌, ℕ, suc, ◌+◌, ◌-◌, ◌*◌, ◌/◌, ◌%◌, ◌^◌, Bool, true, false, not, ◌&&◌, ◌||◌, List, [], ◌∷◌, refl, sym, ap, ◌∙◌, arith, map, cond}
 use Rattle.std.specs.Prelude.{nat_lt, nat_le, sum_by, filter}
 use Rattle.std.specs.Int.{bit_at}
@@ -15,9 +15,9 @@ use Rattle.std.proofs.lemmas.Nat.Bits.{bit_at_cat_low, bit_at_cat_high, bit_at-z
 use Rattle.enumset_repr.specs.BitSet.{is_in, BitSet, contains, ascending, from_list, union, is_subset, below, low}
 use Rattle.enumset_repr.specs.Number.{number, bits}
 use Rattle.enumset_repr.specs.Words.{is_in_word, word, upward_shift, with_word}
-use Rattle.enumset_repr.specs.Laws.Members.{same_set, contains-ascending, contains-retain, contains-from_list, contains-union, contains-difference, contains-low, contains-below, member_below}
-use Rattle.enumset_repr.specs.Laws.Ascending.{AscendsFrom, ascends_lower, ascending-ascends, ascending_is}
-use Rattle.enumset_repr.specs.Laws.Numbers.{contains-bits, bits-number, same_number, bits_full, bits-within, bits-low, bits-or, bits-and_not, contains-bits-shifted}
+use Rattle.enumset_repr.specs.Laws.Members.{same_set, contains_ascending, contains_retain, contains_from_list, contains_union, contains_difference, contains_low, contains_below, member_below}
+use Rattle.enumset_repr.specs.Laws.Ascending.{AscendsFrom, ascends_lower, ascending_ascends, ascending_is}
+use Rattle.enumset_repr.specs.Laws.Numbers.{contains_bits, bits_number, same_number, bits_full, bits_within, bits_low, bits_or, bits_and_not, contains_bits_shifted}
 
 -- ---- a set shifted upward
 
@@ -25,15 +25,15 @@ is_in-upward_shift : (k q : ℕ) (bs : List ℕ) → is_in q (map (λ b. k + b) 
 is_in-upward_shift k q [] = grind (arith, nat_tests)
 is_in-upward_shift k q (b ∷ bs) = grind (arith, nat_tests, is_in-upward_shift k q bs)
 
-pub contains-upward_shift : (s : BitSet) (k q : ℕ) → contains (upward_shift s k) q ≡ (nat_le k q && contains s (q - k))
+pub contains_upward_shift : (s : BitSet) (k q : ℕ) → contains (upward_shift s k) q ≡ (nat_le k q && contains s (q - k))
 unfolding upward_shift
-contains-upward_shift s k q = contains-from_list _ q ∙ is_in-upward_shift k q (ascending s) ∙ ap (λ t. nat_le k q && t) (sym (contains-ascending s (q - k)))
+contains_upward_shift s k q = contains_from_list _ q ∙ is_in-upward_shift k q (ascending s) ∙ ap (λ t. nat_le k q && t) (sym (contains_ascending s (q - k)))
 
-pub contains-with_word : (s : BitSet) (width w n q : ℕ) → contains (with_word s width w n) q ≡ ((contains s q && not (is_in_word w q)) || ((nat_le (64 * w) q && contains (bits n) (q - 64 * w)) && nat_lt q width))
+pub contains_with_word : (s : BitSet) (width w n q : ℕ) → contains (with_word s width w n) q ≡ ((contains s q && not (is_in_word w q)) || ((nat_le (64 * w) q && contains (bits n) (q - 64 * w)) && nat_lt q width))
 unfolding with_word
-contains-with_word s width w n q =
-    contains-union _ _ q
-    ∙ (λ i. contains-retain s (λ b. not (is_in_word w b)) q i || (contains-low (upward_shift (bits n) (64 * w)) width q ∙ ap (λ t. t && nat_lt q width) (contains-upward_shift (bits n) (64 * w) q)) i)
+contains_with_word s width w n q =
+    contains_union _ _ q
+    ∙ (λ i. contains_retain s (λ b. not (is_in_word w b)) q i || (contains_low (upward_shift (bits n) (64 * w)) width q ∙ ap (λ t. t && nat_lt q width) (contains_upward_shift (bits n) (64 * w) q)) i)
 
 -- ---- the members in a word
 
@@ -62,48 +62,48 @@ sum_by-map f g (x ∷ xs) = sum_by-cons f (g x) (map g xs) ∙ ap (λ n. f (g x)
 word-number : (s : BitSet) (w : ℕ) → word s w ≡ number (from_list (cut w (ascending s)))
 unfolding word number cut
 word-number s w =
-    let list : ascending (from_list (cut w (ascending s))) ≡ cut w (ascending s) = ascending_is _ _ (ascends_lower 0 (0 - 64 * w) _ (omega arith) (cut-ascends w 0 (ascending s) (ascending-ascends s))) (λ q. contains-from_list _ q) in
+    let list : ascending (from_list (cut w (ascending s))) ≡ cut w (ascending s) = ascending_is _ _ (ascends_lower 0 (0 - 64 * w) _ (omega arith) (cut-ascends w 0 (ascending s) (ascending_ascends s))) (λ q. contains_from_list _ q) in
     sym (sum_by-map (λ b. 2 ^ b) (λ b. b - 64 * w) (filter (is_in_word w) (ascending s))) ∙ ap (sum_by (λ b. 2 ^ b)) (sym list)
 
-pub contains-bits-word : (s : BitSet) (w q : ℕ) → contains (bits (word s w)) q ≡ (contains s (64 * w + q) && nat_lt q 64)
-contains-bits-word s w q =
-    ap (λ n. contains (bits n) q) (word-number s w) ∙ ap (λ t. contains t q) (bits-number _) ∙ contains-from_list _ q
-    ∙ is_in-cut w q (ascending s) ∙ ap (λ t. t && nat_lt q 64) (sym (contains-ascending s (64 * w + q)))
+pub contains_bits_word : (s : BitSet) (w q : ℕ) → contains (bits (word s w)) q ≡ (contains s (64 * w + q) && nat_lt q 64)
+contains_bits_word s w q =
+    ap (λ n. contains (bits n) q) (word-number s w) ∙ ap (λ t. contains t q) (bits_number _) ∙ contains_from_list _ q
+    ∙ is_in-cut w q (ascending s) ∙ ap (λ t. t && nat_lt q 64) (sym (contains_ascending s (64 * w + q)))
 
-pub word-bits : (n w : ℕ) → word (bits n) w ≡ n / 2 ^ (64 * w) % 2 ^ 64
-word-bits n w = same_number _ _ (λ q.
-    contains-bits-word (bits n) w q ∙ ap (λ t. t && nat_lt q 64) (sym (contains-bits-shifted n (64 * w) q))
-    ∙ sym (contains-low (bits (n / 2 ^ (64 * w))) 64 q) ∙ ap (λ t. contains t q) (sym (bits-low (n / 2 ^ (64 * w)) 64)))
+pub word_bits : (n w : ℕ) → word (bits n) w ≡ n / 2 ^ (64 * w) % 2 ^ 64
+word_bits n w = same_number _ _ (λ q.
+    contains_bits_word (bits n) w q ∙ ap (λ t. t && nat_lt q 64) (sym (contains_bits_shifted n (64 * w) q))
+    ∙ sym (contains_low (bits (n / 2 ^ (64 * w))) 64 q) ∙ ap (λ t. contains t q) (sym (bits_low (n / 2 ^ (64 * w)) 64)))
 
 -- ---- one word replaced
 
 -- `n << k` at a width: the bits of n shifted upward, without those that pass the width
-pub bits-shifted_up : (width n k : ℕ) → bits (n * 2 ^ k % 2 ^ width) ≡ low (upward_shift (bits n) k) width
-bits-shifted_up width n k = bits-low (n * 2 ^ k) width ∙ ap (λ s. low s width) (same_set _ _ (λ q.
+pub bits_shifted_up : (width n k : ℕ) → bits (n * 2 ^ k % 2 ^ width) ≡ low (upward_shift (bits n) k) width
+bits_shifted_up width n k = bits_low (n * 2 ^ k) width ∙ ap (λ s. low s width) (same_set _ _ (λ q.
     let under = bit_at_cat_low n k 0 q in
     let over = bit_at_cat_high n k 0 q (pow_pos k) in
     let whole : bit_at (n * 2 ^ k) q ≡ bit_at (n * 2 ^ k + 0) q = ap (λ m. bit_at m q) (omega arith) in
-    grind (arith, nat_tests, bit_at-zero q, contains-bits (n * 2 ^ k) q, contains-bits n (q - k), contains-upward_shift (bits n) k q)))
+    grind (arith, nat_tests, bit_at-zero q, contains_bits (n * 2 ^ k) q, contains_bits n (q - k), contains_upward_shift (bits n) k q)))
 
 contains-ones : (q : ℕ) → contains (bits 18446744073709551615) q ≡ nat_lt q 64
-contains-ones q = ap (λ s. contains s q) (bits_full 64) ∙ contains-below 64 q
+contains-ones q = ap (λ s. contains s q) (bits_full 64) ∙ contains_below 64 q
 
 contains-mask : (width i q : ℕ) → contains (bits (18446744073709551615 * 2 ^ (64 * i) % 2 ^ width)) q ≡ ((nat_le (64 * i) q && nat_lt (q - 64 * i) 64) && nat_lt q width)
 contains-mask width i q =
-    ap (λ s. contains s q) (bits-shifted_up width 18446744073709551615 (64 * i)) ∙ contains-low _ width q
-    ∙ ap (λ t. t && nat_lt q width) (contains-upward_shift _ (64 * i) q ∙ ap (λ t. nat_le (64 * i) q && t) (contains-ones (q - 64 * i)))
+    ap (λ s. contains s q) (bits_shifted_up width 18446744073709551615 (64 * i)) ∙ contains_low _ width q
+    ∙ ap (λ t. t && nat_lt q width) (contains_upward_shift _ (64 * i) q ∙ ap (λ t. nat_le (64 * i) q && t) (contains-ones (q - 64 * i)))
 
 -- any word, at any width: `n & !(u64::MAX << k) | x << k`, where k is 64 times the place
-pub bits-put_word : (w n x i : ℕ) → n < 2 ^ w → bits (bit_or (bit_and n (2 ^ w - 1 - (18446744073709551615 * 2 ^ (64 * i) % 2 ^ w))) (x * 2 ^ (64 * i) % 2 ^ w)) ≡ with_word (bits n) w i x
-bits-put_word w n x i fits =
-    bits-or _ _
-    ∙ (λ j. union (bits-and_not w n (18446744073709551615 * 2 ^ (64 * i) % 2 ^ w) fits (mod_below _ (2 ^ w) (pow_pos w)) j) (bits-shifted_up w x (64 * i) j))
+pub bits_put_word : (w n x i : ℕ) → n < 2 ^ w → bits (bit_or (bit_and n (2 ^ w - 1 - (18446744073709551615 * 2 ^ (64 * i) % 2 ^ w))) (x * 2 ^ (64 * i) % 2 ^ w)) ≡ with_word (bits n) w i x
+bits_put_word w n x i fits =
+    bits_or _ _
+    ∙ (λ j. union (bits_and_not w n (18446744073709551615 * 2 ^ (64 * i) % 2 ^ w) fits (mod_below _ (2 ^ w) (pow_pos w)) j) (bits_shifted_up w x (64 * i) j))
     ∙ same_set _ _ (λ q.
-    let within = member_below (bits n) w q (bits-within n w fits) in
-    contains-union _ _ q ∙ grind (arith, nat_tests, contains-difference (bits n) (bits (18446744073709551615 * 2 ^ (64 * i) % 2 ^ w)) q, contains-mask w i q, contains-low (upward_shift (bits x) (64 * i)) w q, contains-upward_shift (bits x) (64 * i) q, contains-with_word (bits n) w i x q))
+    let within = member_below (bits n) w q (bits_within n w fits) in
+    contains_union _ _ q ∙ grind (arith, nat_tests, contains_difference (bits n) (bits (18446744073709551615 * 2 ^ (64 * i) % 2 ^ w)) q, contains-mask w i q, contains_low (upward_shift (bits x) (64 * i)) w q, contains_upward_shift (bits x) (64 * i) q, contains_with_word (bits n) w i x q))
 
 -- the lowest word, at a width of at most 64 bits
-pub bits-put_low : (width n x : ℕ) → width ≤ 64 → is_subset (bits n) (below width) ≡ true → bits (x % 2 ^ width) ≡ with_word (bits n) width 0 x
-bits-put_low width n x narrow within = bits-low x width ∙ same_set _ _ (λ q.
+pub bits_put_low : (width n x : ℕ) → width ≤ 64 → is_subset (bits n) (below width) ≡ true → bits (x % 2 ^ width) ≡ with_word (bits n) width 0 x
+bits_put_low width n x narrow within = bits_low x width ∙ same_set _ _ (λ q.
     let under = member_below (bits n) width q within in
-    contains-low (bits x) width q ∙ grind (arith, nat_tests) ∙ sym (contains-with_word (bits n) width 0 x q))
+    contains_low (bits x) width q ∙ grind (arith, nat_tests) ∙ sym (contains_with_word (bits n) width 0 x q))

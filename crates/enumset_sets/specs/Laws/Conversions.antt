@@ -1,5 +1,5 @@
 -- What becomes of a set that is cut at a width, and of one that is taken through words.
---     number_within      the number of a set below a width, after a cut there
+--     number_uncut      the number of a set below a width, after a cut there
 --     low_held      a set of valid bits below the width is not changed by a cut that it fits
 --     low_part_within      a subset of v is still one after a cut
 --     bits_masked      the bits that a number shares with that of a set, after a cut at the number's width
@@ -10,15 +10,15 @@ use Rattle.std.proofs.Common.{◌≡◌, ◌<◌, ℕ, ◌+◌, ◌*◌, ◌/◌
 use Rattle.std.proofs.lemmas.Bool.{cases_lt}
 use Rattle.enumset_repr.specs.BitSet.{BitSet, intersection, is_subset, below, low}
 use Rattle.enumset_repr.specs.Number.{bits, number}
-use Rattle.enumset_repr.specs.Laws.Members.{same_set, is_subset-contains, members}
-use Rattle.enumset_repr.specs.Laws.Numbers.{bits-and, bits-number, bits-within}
+use Rattle.enumset_repr.specs.Laws.Members.{same_set, is_subset_contains, members}
+use Rattle.enumset_repr.specs.Laws.Numbers.{bits_and, bits_number, bits_within}
 use Rattle.enumset_repr.specs.Laws.Algebra.{is_subset_trans}
 use Rattle.enumset_repr.specs.Words.{words, bits_of}
 use Rattle.enumset_repr.specs.Laws.Low.{low_part, low_within, low_inside, low_intersection, is_subset_wider}
-use Rattle.enumset_repr.specs.Laws.WordLists.{bits_of-words}
+use Rattle.enumset_repr.specs.Laws.WordLists.{bits_of_words}
 
-pub number_within : (s : BitSet) (n : ℕ) → is_subset s (below n) ≡ true → number (low s n) ≡ number s
-number_within s n within = ap number (low_within s n within)
+pub number_uncut : (s : BitSet) (n : ℕ) → is_subset s (below n) ≡ true → number (low s n) ≡ number s
+number_uncut s n within = ap number (low_within s n within)
 
 -- a subset of v, where v is below a width, is not changed by a cut there, nor by a narrower one that it is below
 pub low_held : (s v : BitSet) (width n : ℕ) → is_subset s v ≡ true → is_subset v (below width) ≡ true → (n < width → is_subset s (below n) ≡ true) → low s n ≡ s
@@ -32,14 +32,14 @@ low_part_within s v n within = is_subset_trans (low s n) s v (low_part s n) with
 
 pub bits_masked : (v : ℕ) (s : BitSet) (n : ℕ) → v < 2 ^ n → bits (bit_and v (number (low s n))) ≡ intersection (bits v) s
 bits_masked v s n small =
-    bits-and v (number (low s n)) ∙ ap (intersection (bits v)) (bits-number (low s n))
-    ∙ same_set _ _ (λ q. let each = is_subset-contains (bits v) (below n) (bits-within v n small) q in grind (arith, members))
+    bits_and v (number (low s n)) ∙ ap (intersection (bits v)) (bits_number (low s n))
+    ∙ same_set _ _ (λ q. let each = is_subset_contains (bits v) (below n) (bits_within v n small) q in grind (arith, members))
 
 pub words_within : (s : BitSet) (n : ℕ) → is_subset s (below (64 * n)) ≡ true → bits_of (words s n) ≡ s
-words_within s n within = bits_of-words s n ∙ low_within s (64 * n) within
+words_within s n within = bits_of_words s n ∙ low_within s (64 * n) within
 
 pub words_of_repr : (s v : BitSet) (n width : ℕ) → n ≡ (width + 63) / 64 → is_subset v (below width) ≡ true → is_subset s v ≡ true → bits_of (words s n) ≡ s
 words_of_repr s v n width is bound part =
     words_within s n (is_subset_wider s width (64 * n) (omega (arith, is)) (is_subset_trans s v (below width) part bound))
 
-pub ruleset conversions = (number_within, low_part_within, low_held, low_inside, low_intersection)
+pub ruleset conversions = (number_uncut, low_part_within, low_held, low_inside, low_intersection)

@@ -17,9 +17,9 @@ use Rattle.std.proofs.lemmas.List.FromFn.{get_or-range_with_len}
 use Rattle.enumset_repr.specs.BitSet.{BitSet, is_in, contains, insert, from_list, ascending, len, is_subset}
 use Rattle.enumset_repr.specs.Number.{bits, is_distinct}
 use Rattle.enumset_repr.specs.Ends.{greatest}
-use Rattle.enumset_repr.specs.Laws.Members.{contains-empty, contains-insert, contains-from_list, contains-ascending, list_all-each, is_subset-contains}
-use Rattle.enumset_repr.specs.Laws.Ascending.{len-empty, len-insert, empty_of_ascending}
-use Rattle.enumset_repr.specs.Laws.Ends.{greatest-is, greatest-empty, greatest_facts, ascending-no_greatest}
+use Rattle.enumset_repr.specs.Laws.Members.{contains_empty, contains_insert, contains_from_list, contains_ascending, list_all_each, is_subset_contains}
+use Rattle.enumset_repr.specs.Laws.Ascending.{len_empty, len_insert, empty_of_ascending}
+use Rattle.enumset_repr.specs.Laws.Ends.{greatest_is, greatest_empty, greatest_facts, ascending_no_greatest}
 use Rattle.enumset_repr.specs.Laws.Places.{read_in}
 use Rattle.enumset_repr.specs.Words.{bits_of, lists_words}
 use Rattle.enumset_repr.specs.Laws.Listed.{bits_listed, words_listed}
@@ -39,8 +39,8 @@ distinct_places (b ∷ bs) apart (suc i) (suc j) p q same = ap suc (distinct_pla
 
 len-from_list : (bs : List ℕ) → is_distinct bs ≡ true → len (from_list bs) ≡ length bs
 unfolding from_list
-len-from_list [] apart = len-empty
-len-from_list (b ∷ bs) apart = grind (arith, nat_tests, contains-from_list bs b, len-insert (from_list bs) b, len-from_list bs)
+len-from_list [] apart = len_empty
+len-from_list (b ∷ bs) apart = grind (arith, nat_tests, contains_from_list bs b, len_insert (from_list bs) b, len-from_list bs)
 
 -- ---- one past the greatest
 
@@ -49,21 +49,21 @@ one_past-insert s b = at (greatest s) refl
   where
     -- where m is in the set with b, and nothing past m is
     is_last : (m : ℕ) → contains (insert s b) m ≡ true → ((q : ℕ) → m < q → contains s q ≡ false) → b ≤ m → one_past_greatest (insert s b) ≡ suc m
-    is_last m one none from = ap one_past (greatest-is (insert s b) m one (λ q over. let gone = none q over in contains-insert s b q ∙ grind (arith, nat_tests)))
+    is_last m one none from = ap one_past (greatest_is (insert s b) m one (λ q over. let gone = none q over in contains_insert s b q ∙ grind (arith, nat_tests)))
 
     here : contains (insert s b) b ≡ true
-    here = contains-insert s b b ∙ or_left (b == b) _ (eq-eqb b b refl)
+    here = contains_insert s b b ∙ or_left (b == b) _ (eq-eqb b b refl)
 
     at : (o : Option ℕ) → greatest s ≡ o → one_past_greatest (insert s b) ≡ max (suc b) (one_past o)
-    at None none = let gone = empty_of_ascending s (ascending-no_greatest s none) in is_last b here (λ q _. ap (λ t. contains t q) gone ∙ contains-empty q) (omega arith) ∙ omega arith
+    at None none = let gone = empty_of_ascending s (ascending_no_greatest s none) in is_last b here (λ q _. ap (λ t. contains t q) gone ∙ contains_empty q) (omega arith) ∙ omega arith
     at (Some m) some = let facts = greatest_facts s m some in elim (cases_lt b m) [
-      | inl less ↦ is_last m (contains-insert s b m ∙ or_right (m == b) _ facts.0) facts.1 (omega (arith, less)) ∙ omega (arith, less)
+      | inl less ↦ is_last m (contains_insert s b m ∙ or_right (m == b) _ facts.0) facts.1 (omega (arith, less)) ∙ omega (arith, less)
       | inr from ↦ is_last b here (λ q over. facts.1 q (omega (arith, from, over))) (omega arith) ∙ omega (arith, from)
     ]
 
 one_past_greatest-from_list : (bs : List ℕ) → one_past_greatest (from_list bs) ≡ one_past_all bs
 unfolding from_list
-one_past_greatest-from_list [] = ap one_past greatest-empty
+one_past_greatest-from_list [] = ap one_past greatest_empty
 one_past_greatest-from_list (b ∷ bs) = one_past-insert (from_list bs) b ∙ ap (max (suc b)) (one_past_greatest-from_list bs)
 
 -- ---- the bits of an enum's variants
@@ -130,7 +130,7 @@ laws D bs test all width count valid p =
     record {
       valid = valid;
       distinct = p.distinct;
-      bit_is_valid = λ v. ap (λ s. contains s ((with_bits D bs).bit v)) valid ∙ contains-from_list bs _ ∙ bit-is_in D p.bare bs p.variants p.distinct v;
+      bit_is_valid = λ v. ap (λ s. contains s ((with_bits D bs).bit v)) valid ∙ contains_from_list bs _ ∙ bit-is_in D p.bare bs p.variants p.distinct v;
       bit_tells = tells;
       eq_tells = λ v w. (λ e. ap (with_bits D bs).bit (same_true D p.bare v w (sym (derived_eq-same D v w) ∙ e)), λ e. derived_eq-same D v w ∙ true_same D v w (tells v w e));
       width_is = sym p.width_is ∙ sym (one_past_greatest-from_list bs) ∙ ap one_past_greatest (sym valid);
@@ -178,8 +178,8 @@ lawful_in_place D {eq} {all} l =
 -- the members of a set of valid bits are bits of variants
 pub AreBitsOf-ascending : (bs : List ℕ) (all s : BitSet) → all ≡ from_list bs → is_subset s all ≡ true → AreBitsOf (ascending s) bs
 AreBitsOf-ascending bs all s valid sub =
-    list_all-each (λ b. is_in b bs) (ascending s) (λ q one. sym (contains-from_list bs q) ∙ sym (ap (λ t. contains t q) valid) ∙ is_subset-contains s all sub q (contains-ascending s q ∙ one))
+    list_all_each (λ b. is_in b bs) (ascending s) (λ q one. sym (contains_from_list bs q) ∙ sym (ap (λ t. contains t q) valid) ∙ is_subset_contains s all sub q (contains_ascending s q ∙ one))
 
 -- the valid bits are the bits of the variants
-pub contains-is_in : (bs : List ℕ) (all : BitSet) (b : ℕ) → all ≡ from_list bs → contains all b ≡ is_in b bs
-contains-is_in bs all b valid = ap (λ s. contains s b) valid ∙ contains-from_list bs b
+pub contains_is_in : (bs : List ℕ) (all : BitSet) (b : ℕ) → all ≡ from_list bs → contains all b ≡ is_in b bs
+contains_is_in bs all b valid = ap (λ s. contains s b) valid ∙ contains_from_list bs b

@@ -1,5 +1,5 @@
 -- Folds of a list: only which items it has matters, neither their order nor repeats.
---     contains-intersection_all, contains-union_all      which bits are in all the sets of a list;  in any of them
+--     contains_intersection_all, contains_union_all      which bits are in all the sets of a list;  in any of them
 --     contains_fold_intersection, contains_fold_union      the same where std's `fold` goes over the list
 --     intersection_all_more      one set more at the end of the list
 --     union_all_none, union_all_step      a set with all sets of a list, one after the other
@@ -12,18 +12,18 @@ use Rattle.std.specs.List.{list_all, list_any}
 use Rattle.std.proofs.lemmas.List.Folds.{Any-from_list_any, list_any_at}
 use Rattle.std.proofs.lemmas.Bool.Decides.{same_from_decides}
 use Rattle.enumset_repr.specs.BitSet.{BitSet, is_in, contains, union, intersection, from_list}
-use Rattle.enumset_repr.specs.Laws.Members.{members, same_set, contains-from_list, contains-empty, contains-union}
+use Rattle.enumset_repr.specs.Laws.Members.{members, same_set, contains_from_list, contains_empty, contains_union}
 use Rattle.enumset_repr.specs.Laws.Algebra.{union_empty, union_assoc}
 use Rattle.enumset_sets.specs.Folds.{union_all, intersection_all}
 
-pub contains-intersection_all : (s : BitSet) (ts : List BitSet) (q : ℕ) → contains (intersection_all s ts) q ≡ (contains s q && list_all (λ t. contains t q) ts)
-contains-intersection_all s [] q = grind arith
-contains-intersection_all s (t ∷ ts) q = contains-intersection_all (intersection s t) ts q ∙ grind (arith, members)
+pub contains_intersection_all : (s : BitSet) (ts : List BitSet) (q : ℕ) → contains (intersection_all s ts) q ≡ (contains s q && list_all (λ t. contains t q) ts)
+contains_intersection_all s [] q = grind arith
+contains_intersection_all s (t ∷ ts) q = contains_intersection_all (intersection s t) ts q ∙ grind (arith, members)
 
-pub contains-union_all : (ss : List BitSet) (q : ℕ) → contains (union_all ss) q ≡ list_any (λ s. contains s q) ss
+pub contains_union_all : (ss : List BitSet) (q : ℕ) → contains (union_all ss) q ≡ list_any (λ s. contains s q) ss
 unfolding union_all
-contains-union_all [] q = contains-empty q
-contains-union_all (s ∷ ss) q = contains-union s (union_all ss) q ∙ ap (λ b. contains s q || b) (contains-union_all ss q)
+contains_union_all [] q = contains_empty q
+contains_union_all (s ∷ ss) q = contains_union s (union_all ss) q ∙ ap (λ b. contains s q || b) (contains_union_all ss q)
 
 pub contains_fold_intersection : (s : BitSet) (ts : List BitSet) (q : ℕ) → contains (fold intersection s ts) q ≡ (contains s q && list_all (λ t. contains t q) ts)
 contains_fold_intersection s [] q = grind arith
@@ -64,10 +64,10 @@ is_in-any f q (x ∷ xs) = ap (λ b. (q == f x) || b) (is_in-any f q xs)
 
 pub from_list_same : {A : Type 0} (f : A → ℕ) (xs ys : List A) → ((x : A) → Contains xs x ↔ Contains ys x) → from_list (map f xs) ≡ from_list (map f ys)
 from_list_same f xs ys same = same_set _ _ (λ q.
-    contains-from_list (map f xs) q ∙ is_in-any f q xs ∙ any_same (λ x. q == f x) xs ys same ∙ sym (is_in-any f q ys) ∙ sym (contains-from_list (map f ys) q))
+    contains_from_list (map f xs) q ∙ is_in-any f q xs ∙ any_same (λ x. q == f x) xs ys same ∙ sym (is_in-any f q ys) ∙ sym (contains_from_list (map f ys) q))
 
 pub union_all_same : (ss ts : List BitSet) → ((s : BitSet) → Contains ss s ↔ Contains ts s) → union_all ss ≡ union_all ts
-union_all_same ss ts same = same_set _ _ (λ q. contains-union_all ss q ∙ any_same (λ s. contains s q) ss ts same ∙ sym (contains-union_all ts q))
+union_all_same ss ts same = same_set _ _ (λ q. contains_union_all ss q ∙ any_same (λ s. contains s q) ss ts same ∙ sym (contains_union_all ts q))
 
 all_not_any : {A : Type 0} (p : A → Bool) (xs : List A) → list_all p xs ≡ not (list_any (λ x. not (p x)) xs)
 all_not_any p [] = refl
@@ -75,8 +75,8 @@ all_not_any p (x ∷ xs) = grind (arith, all_not_any p xs)
 
 pub intersection_all_same : (s : BitSet) (ts us : List BitSet) → ((t : BitSet) → Contains ts t ↔ Contains us t) → intersection_all s ts ≡ intersection_all s us
 intersection_all_same s ts us same = same_set _ _ (λ q.
-    contains-intersection_all s ts q
+    contains_intersection_all s ts q
     ∙ ap (λ b. contains s q && b) (all_not_any (λ t. contains t q) ts ∙ ap not (any_same (λ t. not (contains t q)) ts us same) ∙ sym (all_not_any (λ t. contains t q) us))
-    ∙ sym (contains-intersection_all s us q))
+    ∙ sym (contains_intersection_all s us q))
 
-pub ruleset folds = (contains-intersection_all, contains-union_all, contains_fold_intersection, contains_fold_union, intersection_all_more, union_all_none, union_all_step)
+pub ruleset folds = (contains_intersection_all, contains_union_all, contains_fold_intersection, contains_fold_union, intersection_all_more, union_all_none, union_all_step)

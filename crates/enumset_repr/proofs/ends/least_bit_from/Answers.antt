@@ -4,8 +4,8 @@ use Rattle.std.proofs.Math.Nat.{div-le_self}
 use Rattle.enumset_repr.specs.BitSet.{BitSet, below, difference}
 use Rattle.enumset_repr.specs.Ends.{least}
 use Rattle.enumset_repr.specs.Words.{word}
-use Rattle.enumset_repr.specs.Laws.Ends.{least-below}
-use Rattle.enumset_repr.specs.Laws.Members.{difference-is_subset}
+use Rattle.enumset_repr.specs.Laws.Ends.{least_below}
+use Rattle.enumset_repr.specs.Laws.Members.{difference_is_subset}
 use Rattle.enumset_repr.proofs.EndWords.{least_at, least_past}
 use Rattle.enumset_repr.proofs.ends.least_bit_from.Goals as goal
 
@@ -20,7 +20,7 @@ past_word s from w is none =
 
 pub overflow_add-result : goal.overflow_add-result
 overflow_add-result g c =
-    let low = least-below _ g.R.EnumSetTypeRepr.WIDTH _ (difference-is_subset _ _ (below c.args.from) c.learn_width.ensures.within) (sym (found _ _ _ c.word_or_zero.ensures c.word_or_zero.type_inv c.if-word-ne0.true)) in
+    let low = least_below _ g.R.EnumSetTypeRepr.WIDTH _ (difference_is_subset _ _ (below c.args.from) c.learn_width.ensures.within) (sym (found _ _ _ c.word_or_zero.ensures c.word_or_zero.type_inv c.if-word-ne0.true)) in
     omega (arith, low, c.learn_width.ensures.fits)
 
 pub returns-then-word-ne0 : goal.returns-then-word-ne0

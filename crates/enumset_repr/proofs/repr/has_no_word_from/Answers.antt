@@ -2,7 +2,7 @@ use Rattle.std.proofs.Common.{sym, ◌∙◌, arith, true≢false}
 use Rattle.std.proofs.lemmas.Bool.{false_from_ne_true}
 use Rattle.std.specs.Cmp.{both_ways}
 use Rattle.enumset_repr.specs.BitSet.{BitSet}
-use Rattle.enumset_repr.specs.Laws.WordLists.{word-past, within_words}
+use Rattle.enumset_repr.specs.Laws.WordLists.{word_past, within_words}
 use Rattle.enumset_repr.specs.Laws.Filled.{word_past_repr}
 use Rattle.enumset_repr.proofs.repr.has_no_word_from.Goals as goal
 
@@ -13,12 +13,12 @@ returns-then-len-from g c =
 
 pub returns-then-word-ne0 : goal.returns-then-word-ne0
 returns-then-word-ne0 g c =
-    sym (false_from_ne_true _ (λ within. c.if-word-ne0.true (c.word.ensures ∙ word-past _ _ c.args.from within (omega arith))))
+    sym (false_from_ne_true _ (λ within. c.if-word-ne0.true (c.word.ensures ∙ word_past _ _ c.args.from within (omega arith))))
 
 pub returns-then-not-are_zero : goal.returns-then-not-are_zero
 returns-then-not-are_zero g c =
     sym (false_from_ne_true _ (λ within. true≢false (
-    sym (c.are_zero.ensures.1 (λ w from under. word-past _ _ w within (omega (arith, from)))) ∙ c.if-not-are_zero.true)))
+    sym (c.are_zero.ensures.1 (λ w from under. word_past _ _ w within (omega (arith, from)))) ∙ c.if-not-are_zero.true)))
 
 pub returns : goal.returns
 returns g c =
@@ -29,4 +29,4 @@ returns g c =
     let rest = c.are_zero-2.ensures.0 zero w in
     let beyond = word_past_repr _ _ _ w (g.met.R.EnumSetTypeRepr.represents.within c.args.repr.now c.learn_is_value.ensures) g.met.R.EnumSetTypeRepr.represents.word_count in
     grind (arith, c.loop-k-test.false, c.PREFERRED_ARRAY_LEN-len.ensures)))
-    (λ within. c.are_zero-2.ensures.1 (λ w from under. word-past s _ w within (omega (arith, from))))
+    (λ within. c.are_zero-2.ensures.1 (λ w from under. word_past s _ w within (omega (arith, from))))

@@ -8,8 +8,8 @@ use Rattle.enumset_repr.specs.BitSet.{BitSet, contains, empty, retain, differenc
 use Rattle.enumset_repr.specs.Number.{bits}
 use Rattle.enumset_repr.specs.Words.{word, with_word}
 use Rattle.enumset_repr.specs.Laws.Members.{members, same_set, member_below}
-use Rattle.enumset_repr.specs.Laws.Numbers.{bits-and, bits-and_not}
-use Rattle.enumset_repr.specs.Laws.Words.{contains-bits-word, contains-with_word}
+use Rattle.enumset_repr.specs.Laws.Numbers.{bits_and, bits_and_not}
+use Rattle.enumset_repr.specs.Laws.Words.{contains_bits_word, contains_with_word}
 use Rattle.enumset_sets.proofs.between.between.Goals as goal
 
 module _ (s : BitSet) (first last : ℕ) where
@@ -28,13 +28,13 @@ module _ (s : BitSet) (first last : ℕ) where
       let x : ℕ = bit_and (bit_and w before) (bit_not w64 past) in
       let b : ℕ = q - 64 * i in
       let there = λ (start : 64 * i ≤ q). (let e : 64 * i + b ≡ q = omega (arith, start) in ap (contains s) e) in
-      let cut = ap (λ t. contains t b) (bits-and_not 64 (bit_and w before) past (omega (arith, fits, and_le_l w before)) fits_past ∙ ap (λ t. difference t (bits past)) (bits-and w before)) in
-      let here = ap (λ n. contains (bits n) b) is ∙ contains-bits-word s i b in
+      let cut = ap (λ t. contains t b) (bits_and_not 64 (bit_and w before) past (omega (arith, fits, and_le_l w before)) fits_past ∙ ap (λ t. difference t (bits past)) (bits_and w before)) in
+      let here = ap (λ n. contains (bits n) b) is ∙ contains_bits_word s i b in
       let lower = ap (λ t. contains t b) from in
       let upper = ap (λ t. contains t b) to in
       let old = ap (λ t. contains t q) begun in
       let under = member_below s width q within in
-      contains-with_word u width i x q ∙ grind (arith, nat_tests, members))
+      contains_with_word u width i x q ∙ grind (arith, nat_tests, members))
 
 pub loop-i-init : goal.loop-i-init
 loop-i-init g c = ap g.R.EnumSetTypeRepr.members c.EMPTY-between.ensures ∙ g.met.R.EnumSetTypeRepr.represents.no_member ∙ none _ _ _ _ (omega arith)

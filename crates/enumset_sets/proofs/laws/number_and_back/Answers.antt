@@ -1,5 +1,5 @@
-use Rattle.enumset_repr.specs.Laws.Numbers.{bits-number}
+use Rattle.enumset_repr.specs.Laws.Numbers.{bits_number}
 use Rattle.enumset_sets.proofs.laws.number_and_back.Goals as goal
 
 pub returns : goal.returns
-returns g c = record { back = bits-number _; valid = rw (← c.set.view_is) c.set.invariant.valid_only }
+returns g c = record { back = bits_number _; valid = rw (← c.set.view_is) c.set.invariant.valid_only }

@@ -1,6 +1,6 @@
 use Rattle.std.proofs.Common.{ap, subst, ◌∙◌}
 use Rattle.enumset_repr.specs.BitSet.{contains}
-use Rattle.enumset_repr.specs.Laws.Algebra.{contains_insert}
+use Rattle.enumset_repr.specs.Laws.Algebra.{contains_inserted}
 use Rattle.example_expressions.specs.First.{part_bit}
 use Rattle.example_expressions.proofs.Firsts.{IsWorklist, step, at_end}
 use Rattle.example_expressions.proofs.first.first_kinds.Goals as goal
@@ -8,7 +8,7 @@ use Rattle.example_expressions.proofs.first.first_kinds.Goals as goal
 pub loop-part-preserved : goal.loop-part-preserved
 loop-part-preserved c =
     let popped = c.in-Some.ensures in
-    let here = ap (λ s. contains s (part_bit c.in-Some.part)) popped.put_back ∙ contains_insert _ _ in
+    let here = ap (λ s. contains s (part_bit c.in-Some.part)) popped.put_back ∙ contains_inserted _ _ in
     rw (c.intersect_with.ensures.intersection, c.union_with-in-Some.ensures.union, c.union_with.ensures.union, c.leading_kinds.ensures, c.leading_parts.ensures, c.remove.ensures.removed, popped.removed) (step _ c.in-Some.part _ _ _ c.loop-part.invariant here)
 
 pub returns : goal.returns

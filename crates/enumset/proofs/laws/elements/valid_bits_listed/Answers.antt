@@ -1,5 +1,5 @@
 use Rattle.std.proofs.Common.{sym, ap, ◌∙◌}
-use Rattle.enumset_repr.specs.Laws.Members.{contains-from_list}
+use Rattle.enumset_repr.specs.Laws.Members.{contains_from_list}
 use Rattle.enumset_repr.specs.BitSet.{len}
 use Rattle.enumset_sets.specs.Elements.{one_past_greatest}
 use Rattle.enumset.proofs.laws.elements.valid_bits_listed.Goals as goal
@@ -8,7 +8,7 @@ pub returns : goal.returns
 returns g c =
     let lawful = g.met.T.EnumSetType.lawful in
     record {
-      listed = contains-from_list g.T.EnumSetType.elements.bit_list;
+      listed = contains_from_list g.T.EnumSetType.elements.bit_list;
       each_once = lawful.distinct;
       all_bits = lawful.valid;
       count = ap len (sym lawful.valid) ∙ sym lawful.count_is;

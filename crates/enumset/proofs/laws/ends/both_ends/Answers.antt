@@ -1,4 +1,4 @@
-use Rattle.enumset_repr.specs.Laws.Ascending.{ascending-ascends}
+use Rattle.enumset_repr.specs.Laws.Ascending.{ascending_ascends}
 use Rattle.enumset_repr.specs.BitSet.{ascending}
 use Rattle.enumset.specs.Laws.BothEnds.{both_ends, both_ends_whole, ended_answer, none_twice}
 use Rattle.enumset.proofs.laws.ends.both_ends.Goals as goal
@@ -8,5 +8,5 @@ returns c = record {
   so_far = λ s. both_ends (ascending s);
   whole = λ s. both_ends_whole (ascending s);
   ended = λ s. ended_answer (ascending s);
-  once = λ s ends. none_twice (ascending s) ends (ascending-ascends s);
+  once = λ s ends. none_twice (ascending s) ends (ascending_ascends s);
 }

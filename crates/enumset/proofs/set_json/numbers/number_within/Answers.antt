@@ -1,7 +1,7 @@
 use Rattle.std.proofs.Common.{◌<◌, ◌^◌, refl, sym, subst, ◌∙◌, true≢false}
 use Rattle.std.proofs.lemmas.Bool.{ltb-true, lt-ltb}
 use Rattle.enumset_repr.specs.Laws.Low.{fits_number, is_subset_wider}
-use Rattle.enumset_repr.specs.Laws.Numbers.{number-within}
+use Rattle.enumset_repr.specs.Laws.Numbers.{number_within}
 use Rattle.enumset.specs.Json.{width_of}
 use Rattle.enumset.proofs.set_json.numbers.number_within.Goals as goal
 
@@ -19,5 +19,5 @@ returns-then-fits-clause-fits g c =
 pub returns-else-fits-clause-fits : goal.returns-else-fits-clause-fits
 returns-else-fits-clause-fits g c = (
   λ ok. absurd (true≢false (sym ok)),
-  λ within. absurd (true≢false (sym (lt-ltb _ _ (subst (λ k. c.in-Some.number < 2 ^ k) (sym c.bits-bits.ensures.bits) (subst (λ n. n < 2 ^ width_of c.args.width) (sym c.in-Some.ensures.value) (number-within _ (width_of c.args.width) within)))) ∙ sym c.fits.ensures ∙ c.if-fits.false)),
+  λ within. absurd (true≢false (sym (lt-ltb _ _ (subst (λ k. c.in-Some.number < 2 ^ k) (sym c.bits-bits.ensures.bits) (subst (λ n. n < 2 ^ width_of c.args.width) (sym c.in-Some.ensures.value) (number_within _ (width_of c.args.width) within)))) ∙ sym c.fits.ensures ∙ c.if-fits.false)),
 )

@@ -1,7 +1,7 @@
 use Rattle.std.proofs.Common.{◌≡◌, true, rules, arith}
 use Rattle.std.proofs.lemmas.Bool.Decides.{nat_tests}
 use Rattle.enumset_repr.specs.BitSet.{contains, below}
-use Rattle.enumset_repr.specs.Laws.Members.{contains-below}
+use Rattle.enumset_repr.specs.Laws.Members.{contains_below}
 use Rattle.enumset_machine.specs.Runs.{mixed_plan}
 use Rattle.enumset_machine.proofs.mixed_commands.MixedEnumSetRun.carry_out.Goals as goal
 
@@ -9,4 +9,4 @@ pub insert_bit-truth-requires : goal.insert_bit-truth-requires
 unfolding mixed_plan
 insert_bit-truth-requires g c =
     let allowed : contains (below g.T.Repr.EnumSetTypeRepr.WIDTH) c.in-InsertBit.bit ≡ true = search rules in
-    grind (arith, nat_tests, contains-below, allowed)
+    grind (arith, nat_tests, contains_below, allowed)

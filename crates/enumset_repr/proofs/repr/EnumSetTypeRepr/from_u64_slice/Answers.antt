@@ -1,6 +1,6 @@
 use Rattle.std.proofs.Common.{sym, ◌∙◌, arith, ap}
 use Rattle.enumset_repr.specs.Words.{bits_of, with_word}
-use Rattle.enumset_repr.specs.Laws.WordLists.{word-bits_of, put_next}
+use Rattle.enumset_repr.specs.Laws.WordLists.{word_bits_of, put_next}
 use Rattle.enumset_repr.specs.Laws.Filled.{all_put, none_put}
 use Rattle.enumset_repr.proofs.repr.EnumSetTypeRepr.from_u64_slice.Goals as goal
 
@@ -10,7 +10,7 @@ loop-i-init g c = ap g.Self.EnumSetTypeRepr.members c.EMPTY-repr.ensures ∙ g.m
 pub loop-i-preserved : goal.loop-i-preserved
 loop-i-preserved g c =
     c.put_word.ensures
-    ∙ (λ j. with_word (c.loop-i.invariant j) g.Self.EnumSetTypeRepr.WIDTH c.loop-i.i (sym (word-bits_of c.args.v.now c.loop-i.i (λ k. (c.type_inv.v k).fits)) j))
+    ∙ (λ j. with_word (c.loop-i.invariant j) g.Self.EnumSetTypeRepr.WIDTH c.loop-i.i (sym (word_bits_of c.args.v.now c.loop-i.i (λ k. (c.type_inv.v k).fits)) j))
     ∙ put_next (bits_of c.args.v.now) g.Self.EnumSetTypeRepr.WIDTH c.loop-i.i
 
 pub returns : goal.returns

@@ -1,7 +1,7 @@
 use Rattle.std.proofs.Common.{refl, sym, ap, ◌∙◌, arith, true≢false}
 use Rattle.enumset_repr.specs.Words.{word}
 use Rattle.enumset_repr.specs.Laws.Low.{low_within}
-use Rattle.enumset_repr.specs.Laws.WordLists.{word-bits_of}
+use Rattle.enumset_repr.specs.Laws.WordLists.{word_bits_of}
 use Rattle.enumset_repr.specs.Laws.Filled.{all_kept}
 use Rattle.enumset_repr.proofs.repr.EnumSetTypeRepr.try_from_u64_slice.Goals as goal
 
@@ -9,7 +9,7 @@ pub returns-then-word_or_zero-v-clause-fits : goal.returns-then-word_or_zero-v-c
 returns-then-word_or_zero-v-clause-fits g c = (
   λ some. absurd (true≢false (sym some)),
   λ within. absurd (c.if-word_or_zero-v.true (
-      c.word_or_zero.ensures ∙ ap (λ s. word s c.loop-i.i) (c.from_u64_slice-repr.ensures ∙ low_within _ _ within) ∙ word-bits_of c.args.v.now c.loop-i.i (λ k. (c.type_inv.v k).fits))),
+      c.word_or_zero.ensures ∙ ap (λ s. word s c.loop-i.i) (c.from_u64_slice-repr.ensures ∙ low_within _ _ within) ∙ word_bits_of c.args.v.now c.loop-i.i (λ k. (c.type_inv.v k).fits))),
 )
 
 pub returns-clause-fits : goal.returns-clause-fits

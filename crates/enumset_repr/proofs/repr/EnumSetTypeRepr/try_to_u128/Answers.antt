@@ -1,10 +1,10 @@
 use Rattle.std.proofs.Common.{refl, ap, ◌∙◌}
 use Rattle.enumset_repr.specs.Number.{number}
 use Rattle.enumset_repr.specs.Laws.Low.{low_within}
-use Rattle.enumset_repr.specs.Laws.WordLists.{number-words}
+use Rattle.enumset_repr.specs.Laws.WordLists.{number_words}
 use Rattle.enumset_repr.proofs.repr.EnumSetTypeRepr.try_to_u128.Goals as goal
 
 pub returns-clause-value : goal.returns-clause-value
 returns-clause-value g c =
-    c.join_halves.ensures ∙ number-words _ _ (c.in_ok-try_to_u64_slice.ensures.words refl)
+    c.join_halves.ensures ∙ number_words _ _ (c.in_ok-try_to_u64_slice.ensures.words refl)
     ∙ ap number (low_within _ 128 (c.in_ok-try_to_u64_slice.ensures.fits.0 refl))

@@ -1,18 +1,18 @@
 use Rattle.std.proofs.Common.{refl, sym, ◌∙◌, arith}
 use Rattle.std.proofs.lemmas.Bool.{le-ltb}
-use Rattle.enumset_repr.specs.Laws.Members.{contains-past}
-use Rattle.enumset_sets.specs.Laws.Elements.{contains-is_in}
+use Rattle.enumset_repr.specs.Laws.Members.{contains_past}
+use Rattle.enumset_sets.specs.Laws.Elements.{contains_is_in}
 use Rattle.enumset_sets.proofs.enum_set.EnumSet+T.is_bit_valid.Goals as goal
 
 pub returns-else-bit-WIDTH-clause-valid : goal.returns-else-bit-WIDTH-clause-valid
 returns-else-bit-WIDTH-clause-valid g c =
     le-ltb _ _ c.if-bit-WIDTH.false
-    ∙ sym (contains-past _ _ _ c.valid_repr-all.ensures.within (omega (arith, c.if-bit-WIDTH.false, c.WIDTH.ensures)))
+    ∙ sym (contains_past _ _ _ c.valid_repr-all.ensures.within (omega (arith, c.if-bit-WIDTH.false, c.WIDTH.ensures)))
 
 pub returns-else-bit-WIDTH-clause-of_a_variant : goal.returns-else-bit-WIDTH-clause-of_a_variant
 returns-else-bit-WIDTH-clause-of_a_variant g c =
-    returns-else-bit-WIDTH-clause-valid g c ∙ contains-is_in _ _ _ refl
+    returns-else-bit-WIDTH-clause-valid g c ∙ contains_is_in _ _ _ refl
 
 pub returns-then-bit-WIDTH-clause-of_a_variant : goal.returns-then-bit-WIDTH-clause-of_a_variant
 returns-then-bit-WIDTH-clause-of_a_variant g c =
-    rw (c.has_bit.ensures, c.valid_repr-all.ensures.members) (contains-is_in _ _ _ refl)
+    rw (c.has_bit.ensures, c.valid_repr-all.ensures.members) (contains_is_in _ _ _ refl)
