@@ -3,8 +3,8 @@
 //! Each mirrors the macro of its name of Rust's `enumset`. They are expressions in the body of a function; elements and
 //! sets are named by paths.
 
-/// The [`EnumSet`](crate::EnumSet) of elements joined by `|`, as `enum_set!(Right::Read | Right::Share)`, or the empty
-/// set where there are none. The elements are of one type. Any number of single `|` may follow.
+/// Gives the [`EnumSet`](crate::EnumSet) of elements joined by `|`, as `enum_set!(Right::Read | Right::Share)`, or the
+/// empty set where there are none. The elements are of one type. Any number of single `|` may follow.
 #[macro_export]
 macro_rules! enum_set {
     ($(|)*) => {
@@ -18,7 +18,7 @@ macro_rules! enum_set {
     };
 }
 
-/// The union of sets joined by commas: `a | b | c`. One comma may follow.
+/// Gives the union of sets joined by commas: `a | b | c`. One comma may follow.
 #[macro_export]
 macro_rules! enum_set_union {
     ($first:path $(, $rest:path)* $(,)?) => {
@@ -26,7 +26,7 @@ macro_rules! enum_set_union {
     };
 }
 
-/// The intersection of sets joined by commas: `a & b & c`. One comma may follow.
+/// Gives the intersection of sets joined by commas: `a & b & c`. One comma may follow.
 #[macro_export]
 macro_rules! enum_set_intersection {
     ($first:path $(, $rest:path)* $(,)?) => {
@@ -34,7 +34,8 @@ macro_rules! enum_set_intersection {
     };
 }
 
-/// What is in the first of sets joined by commas and in none of the others: `a & !b & !c`. One comma may follow.
+/// Gives the set of what is in the first of sets joined by commas and in none of the others: `a & !b & !c`. One comma
+/// may follow.
 #[macro_export]
 macro_rules! enum_set_difference {
     ($first:path $(, $rest:path)* $(,)?) => {
@@ -42,7 +43,7 @@ macro_rules! enum_set_difference {
     };
 }
 
-/// The symmetric difference of sets joined by commas: `a ^ b ^ c`. One comma may follow.
+/// Gives the symmetric difference of sets joined by commas: `a ^ b ^ c`. One comma may follow.
 #[macro_export]
 macro_rules! enum_set_symmetric_difference {
     ($first:path $(, $rest:path)* $(,)?) => {
@@ -50,7 +51,7 @@ macro_rules! enum_set_symmetric_difference {
     };
 }
 
-/// The complement of a set: `!a`. One comma may follow.
+/// Gives the complement of a set: `!a`. One comma may follow.
 #[macro_export]
 macro_rules! enum_set_complement {
     ($set:path $(,)?) => {
