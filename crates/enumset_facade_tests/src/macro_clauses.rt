@@ -7,13 +7,13 @@ ghost use Rattle.std.specs.List.{range_with_len};
 ghost use Rattle.enumset_repr.specs.BitSet as set;
 ghost use Rattle.enumset_sets.specs.Elements.{valid_bits};
 
+use crate::types::Of64;
 use enumset::set::MixedEnumSet;
 use enumset::{
     EnumSet, EnumSetType, EnumSetTypeWithRepr, enum_set, enum_set_complement, enum_set_difference,
     enum_set_intersection, enum_set_symmetric_difference, enum_set_union, mixed_enum_set,
     variant_of,
 };
-use enumset_test_types::Of33;
 
 fn elements<T: EnumSetType>(
     a: T,
@@ -373,9 +373,9 @@ fn mixed_complement<T: EnumSetTypeWithRepr>(a: MixedEnumSet<T>) -> MixedEnumSet<
     enum_set_complement!(a)
 }
 
-fn of_sixteen(bit: u32) -> Of33
+fn of_sixteen(bit: u32) -> Of64
     requires { IsTrue (set.is_in bit (range_with_len 0 16)) }
-    ensures { ⟦<Of33 as EnumSetType>⟧.elements.bit result ≡ bit }
+    ensures { ⟦<Of64 as EnumSetType>⟧.elements.bit result ≡ bit }
 {
-    variant_of!(bit, Of33: V0 V1 V2 V3 V4 V5 V6 V7 V8 V9 V10 V11 V12 V13 V14 V15)
+    variant_of!(bit, Of64: V0 V1 V2 V3 V4 V5 V6 V7 V8 V9 V10 V11 V12 V13 V14 V15)
 }
