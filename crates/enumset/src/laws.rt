@@ -87,7 +87,7 @@ pub fn json_mixed_words_and_back<T: EnumSetTypeWithRepr>(set: &MixedEnumSet<T>, 
     set.as_repr().learn_is_value();
 }
 
-/// A value's name is the name of that value, and no other text is.
+/// From a value to its name and back: `of_name` of the name is the value, and of no other text.
 pub fn name_and_back<T: EnumSetNames>(element: T, text: &str)
     ensures back { bit_named (names_of T.elements T.names)
         (name_of (names_of T.elements T.names) (T.elements.bit element))

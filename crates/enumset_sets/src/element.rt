@@ -8,8 +8,8 @@ use enumset_repr::EnumSetTypeRepr;
 
 /// An enum whose variants are the elements of an `EnumSet`. Each variant has a bit of its own.
 ///
-/// It mirrors `EnumSetType` and `EnumSetTypePrivate` of Rust's `enumset`. There a derive implements them; here an
-/// author writes the `impl`, and its laws are proved.
+/// It mirrors `EnumSetType` and `EnumSetTypePrivate` of Rust's `enumset`. There a derive implements them; here the
+/// program `enumset_derive` or an author writes the `impl`, and its laws are proved.
 pub trait EnumSetType: Copy + Eq {
     /// The representation of its sets.
     type Repr: EnumSetTypeRepr;

@@ -24,7 +24,7 @@ impl<T: EnumSetTypeWithRepr> EnumSet<T> {
         self.repr
     }
 
-    /// Returns the set that a value represents. Every bit of it must be valid:
+    /// Returns the set that a value represents. Every bit of it must be valid: a variant has it.
     /// [`try_from_repr`](EnumSet::try_from_repr) is the test. Rust's call panics instead.
     pub fn from_repr(repr: T::Repr) -> EnumSet<T>
         requires valid { IsTrue (set.is_subset (T.Repr.members repr) (valid_bits T.elements)) }
@@ -33,7 +33,8 @@ impl<T: EnumSetTypeWithRepr> EnumSet<T> {
         Self::of_repr(repr)
     }
 
-    /// Returns the set that a value represents, if every bit of it is valid, else `None`.
+    /// Returns the set that a value represents, if every bit of it is valid, which means that a variant has it, else
+    /// `None`.
     pub fn try_from_repr(repr: T::Repr) -> Option<EnumSet<T>>
         ensures valid { IsSome result
             ↔ IsTrue (set.is_subset (T.Repr.members repr) (valid_bits T.elements)) }
@@ -42,7 +43,7 @@ impl<T: EnumSetTypeWithRepr> EnumSet<T> {
         validated(repr)
     }
 
-    /// Returns the set of the valid bits of a value.
+    /// Returns the set of the valid bits of a value, those that variants have.
     pub fn from_repr_truncated(repr: T::Repr) -> EnumSet<T>
         ensures { result ≡ set.intersection (T.Repr.members repr) (valid_bits T.elements) }
     {

@@ -10,7 +10,8 @@ use super::into_sets::sum_set_refs;
 use enumset_mixed::{MixedEnumSet, convert_mixed};
 use enumset_sets::{EnumSet, EnumSetTypeWithRepr};
 
-/// Makes each member of each set a member. It stands for Rust's `Extend<EnumSet<T>>`.
+/// Adds each member of each set that an iterator yields. The iterator must end. It stands for Rust's
+/// `Extend<EnumSet<T>>`.
 pub fn mixed_extend_enumsets<T: EnumSetTypeWithRepr, I: Iterator<Item = EnumSet<T>> + Drop>(
     set: &mut MixedEnumSet<T>,
     items: I,
@@ -22,7 +23,8 @@ pub fn mixed_extend_enumsets<T: EnumSetTypeWithRepr, I: Iterator<Item = EnumSet<
     set.insert_all(mixed_sum_enumsets(items));
 }
 
-/// Makes each member of each set a member. It stands for Rust's `Extend<&EnumSet<T>>`.
+/// Adds each member of each set that an iterator yields. The iterator must end. It stands for Rust's
+/// `Extend<&EnumSet<T>>`.
 pub fn mixed_extend_enumset_refs<
     'a,
     T: EnumSetTypeWithRepr + 'a,
@@ -36,7 +38,8 @@ pub fn mixed_extend_enumset_refs<
     set.insert_all(mixed_sum_enumset_refs(items));
 }
 
-/// Returns the members of any of the sets. It stands for Rust's `FromIterator<EnumSet<T>>`.
+/// Returns the union of the sets that an iterator yields. The iterator must end. It stands for Rust's
+/// `FromIterator<EnumSet<T>>`.
 pub fn mixed_from_enumsets<T: EnumSetTypeWithRepr, I: Iterator<Item = EnumSet<T>> + Drop>(
     items: I,
 ) -> MixedEnumSet<T>
@@ -47,7 +50,8 @@ pub fn mixed_from_enumsets<T: EnumSetTypeWithRepr, I: Iterator<Item = EnumSet<T>
     mixed_sum_enumsets(items)
 }
 
-/// Returns the members of any of the sets. It stands for Rust's `FromIterator<&EnumSet<T>>`.
+/// Returns the union of the sets that an iterator yields. The iterator must end. It stands for Rust's
+/// `FromIterator<&EnumSet<T>>`.
 pub fn mixed_from_enumset_refs<
     'a,
     T: EnumSetTypeWithRepr + 'a,
@@ -60,7 +64,8 @@ pub fn mixed_from_enumset_refs<
     mixed_sum_enumset_refs(items)
 }
 
-/// Returns the members of any of the sets. It stands for Rust's `Sum<EnumSet<T>>`.
+/// Returns the union of the sets that an iterator yields. The iterator must end. It stands for Rust's
+/// `Sum<EnumSet<T>>`.
 pub fn mixed_sum_enumsets<T: EnumSetTypeWithRepr, I: Iterator<Item = EnumSet<T>> + Drop>(
     items: I,
 ) -> MixedEnumSet<T>
@@ -71,7 +76,8 @@ pub fn mixed_sum_enumsets<T: EnumSetTypeWithRepr, I: Iterator<Item = EnumSet<T>>
     convert_mixed(items.sum())
 }
 
-/// Returns the members of any of the sets. It stands for Rust's `Sum<&EnumSet<T>>`.
+/// Returns the union of the sets that an iterator yields. The iterator must end. It stands for Rust's
+/// `Sum<&EnumSet<T>>`.
 pub fn mixed_sum_enumset_refs<
     'a,
     T: EnumSetTypeWithRepr + 'a,

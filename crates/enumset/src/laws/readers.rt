@@ -18,9 +18,9 @@ use enumset_repr::EnumSetTypeRepr;
 use enumset_sets::laws::{all_words_and_back, number_and_back};
 use enumset_sets::{EnumSet, EnumSetType, EnumSetTypeWithRepr};
 
-/// What a writer of one element type wrote of a set, a reader of another reads as exactly the members that it knows
-/// under `Drop`, and under `Refuse` exactly where there is no other: as numbers at a width that the members are below,
-/// and as words.
+/// What a writer of one element type wrote of a set, a reader of another reads under `Drop` as the members that it
+/// knows. Under `Refuse` it reads the whole set, or reports `UnknownBits` if there is a member that it does not know. So
+/// it is of words, and of a number at a width that the members are below.
 pub fn older_reader<Old: EnumSetType, New: EnumSetType>(
     set: &EnumSet<New>,
     width: JsonWidth,

@@ -13,8 +13,8 @@ use enumset_repr::EnumSetTypeRepr;
 
 #[tactic(auto, using(crate::specs::Laws::Conversions::conversions))]
 impl<T: EnumSetType> EnumSet<T> {
-    /// Returns the set as a number. Every member must be below 128, which is so where the representation has no more
-    /// bits: [`try_as_u128`](EnumSet::try_as_u128) is the test. Rust's call panics instead.
+    /// Returns the number whose bits are the members. Every member must be below 128, which is so where the
+    /// representation has no more bits: [`try_as_u128`](EnumSet::try_as_u128) is the test. Rust's call panics instead.
     pub fn as_u128(&self) -> u128
         requires fits { u128.BITS < T.Repr.WIDTH
             → IsTrue (set.is_subset self.now (set.below u128.BITS)) }
@@ -24,7 +24,7 @@ impl<T: EnumSetType> EnumSet<T> {
         self.as_u128_truncated()
     }
 
-    /// Returns the set as a number, if every member is below 128, else `None`.
+    /// Returns the number whose bits are the members, if every member is below 128, else `None`.
     pub fn try_as_u128(&self) -> Option<u128>
         ensures fits { IsSome result ↔ IsTrue (set.is_subset self.now (set.below u128.BITS)) }
         ensures value { IfSome result (λ n. n ≡ number self.now) }
@@ -32,15 +32,15 @@ impl<T: EnumSetType> EnumSet<T> {
         self.repr.try_to_u128()
     }
 
-    /// Returns the members below 128, as a number.
+    /// Returns the number whose bits are the members below 128.
     pub fn as_u128_truncated(&self) -> u128
         ensures { result ≡ number (set.low self.now u128.BITS) }
     {
         self.repr.to_u128()
     }
 
-    /// Returns the set of a number. Every bit of it must be valid: [`try_from_u128`](EnumSet::try_from_u128) is the
-    /// test. Rust's call panics instead.
+    /// Returns the set with the bits of a number. Every bit must be valid: a variant has it.
+    /// [`try_from_u128`](EnumSet::try_from_u128) is the test. Rust's call panics instead.
     pub fn from_u128(value: u128) -> EnumSet<T>
         requires valid { IsTrue (set.is_subset (bits value) (valid_bits T.elements)) }
         ensures { result ≡ bits value }
@@ -48,7 +48,8 @@ impl<T: EnumSetType> EnumSet<T> {
         exact(T::Repr::from_u128(value))
     }
 
-    /// Returns the set of a number, if every bit of it is valid, else `None`.
+    /// Returns the set with the bits of a number, if every bit is valid, which means that a variant has it, else
+    /// `None`.
     #[tactic(auto, using(enumset_repr::specs::Laws::Algebra::is_subset_trans))]
     pub fn try_from_u128(value: u128) -> Option<EnumSet<T>>
         ensures valid { IsSome result
@@ -58,15 +59,15 @@ impl<T: EnumSetType> EnumSet<T> {
         validated_low(T::Repr::try_from_u128(value))
     }
 
-    /// Returns the set of the valid bits of a number.
+    /// Returns the set with the valid bits of a number, those that variants have.
     pub fn from_u128_truncated(value: u128) -> EnumSet<T>
         ensures { result ≡ set.intersection (bits value) (valid_bits T.elements) }
     {
         Self::from_u128(value & Self::all().as_u128_truncated())
     }
 
-    /// Returns the set of a number. Every bit of it must be valid, as for [`from_u128`](EnumSet::from_u128). Rust's
-    /// call is unsafe.
+    /// Returns the set with the bits of a number. Every bit must be valid, as for [`from_u128`](EnumSet::from_u128).
+    /// Rust's call is unsafe.
     pub fn from_u128_unchecked(value: u128) -> EnumSet<T>
         requires valid { IsTrue (set.is_subset (bits value) (valid_bits T.elements)) }
         ensures { result ≡ bits value }

@@ -12,8 +12,8 @@ use enumset_repr::EnumSetTypeRepr;
 
 #[tactic(auto, using(crate::specs::Laws::Conversions::conversions))]
 impl<T: EnumSetType> EnumSet<T> {
-    /// Returns the set as a number. Every member must be below 64, which is so where the representation has no more
-    /// bits: [`try_as_u64`](EnumSet::try_as_u64) is the test. Rust's call panics instead.
+    /// Returns the number whose bits are the members. Every member must be below 64, which is so where the
+    /// representation has no more bits: [`try_as_u64`](EnumSet::try_as_u64) is the test. Rust's call panics instead.
     pub fn as_u64(&self) -> u64
         requires fits { u64.BITS < T.Repr.WIDTH
             → IsTrue (set.is_subset self.now (set.below u64.BITS)) }
@@ -23,7 +23,7 @@ impl<T: EnumSetType> EnumSet<T> {
         self.as_u64_truncated()
     }
 
-    /// Returns the set as a number, if every member is below 64, else `None`.
+    /// Returns the number whose bits are the members, if every member is below 64, else `None`.
     pub fn try_as_u64(&self) -> Option<u64>
         ensures fits { IsSome result ↔ IsTrue (set.is_subset self.now (set.below u64.BITS)) }
         ensures value { IfSome result (λ n. n ≡ number self.now) }
@@ -31,15 +31,15 @@ impl<T: EnumSetType> EnumSet<T> {
         self.repr.try_to_u64()
     }
 
-    /// Returns the members below 64, as a number.
+    /// Returns the number whose bits are the members below 64.
     pub fn as_u64_truncated(&self) -> u64
         ensures { result ≡ number (set.low self.now u64.BITS) }
     {
         self.repr.to_u64()
     }
 
-    /// Returns the set of a number. Every bit of it must be valid: [`try_from_u64`](EnumSet::try_from_u64) is the test.
-    /// Rust's call panics instead.
+    /// Returns the set with the bits of a number. Every bit must be valid: a variant has it.
+    /// [`try_from_u64`](EnumSet::try_from_u64) is the test. Rust's call panics instead.
     pub fn from_u64(value: u64) -> EnumSet<T>
         requires valid { IsTrue (set.is_subset (bits value) (valid_bits T.elements)) }
         ensures { result ≡ bits value }
@@ -47,7 +47,8 @@ impl<T: EnumSetType> EnumSet<T> {
         Self::from_u128(value as u128)
     }
 
-    /// Returns the set of a number, if every bit of it is valid, else `None`.
+    /// Returns the set with the bits of a number, if every bit is valid, which means that a variant has it, else
+    /// `None`.
     pub fn try_from_u64(value: u64) -> Option<EnumSet<T>>
         ensures valid { IsSome result
             ↔ IsTrue (set.is_subset (bits value) (valid_bits T.elements)) }
@@ -56,15 +57,15 @@ impl<T: EnumSetType> EnumSet<T> {
         Self::try_from_u128(value as u128)
     }
 
-    /// Returns the set of the valid bits of a number.
+    /// Returns the set with the valid bits of a number, those that variants have.
     pub fn from_u64_truncated(value: u64) -> EnumSet<T>
         ensures { result ≡ set.intersection (bits value) (valid_bits T.elements) }
     {
         Self::from_u128_truncated(value as u128)
     }
 
-    /// Returns the set of a number. Every bit of it must be valid, as for [`from_u64`](EnumSet::from_u64). Rust's call
-    /// is unsafe.
+    /// Returns the set with the bits of a number. Every bit must be valid, as for [`from_u64`](EnumSet::from_u64).
+    /// Rust's call is unsafe.
     pub fn from_u64_unchecked(value: u64) -> EnumSet<T>
         requires valid { IsTrue (set.is_subset (bits value) (valid_bits T.elements)) }
         ensures { result ≡ bits value }

@@ -12,8 +12,9 @@ use enumset_repr::EnumSetTypeRepr;
 
 #[tactic(auto, using(crate::specs::Laws::Conversions::conversions))]
 impl<T: EnumSetType> EnumSet<T> {
-    /// Returns the set as a number. Every member must be below 64, which is so where the representation has no more
-    /// bits: [`try_as_usize`](EnumSet::try_as_usize) is the test. Rust's call panics instead.
+    /// Returns the number whose bits are the members. Every member must be below 64, which is so where the
+    /// representation has no more bits: [`try_as_usize`](EnumSet::try_as_usize) is the test. Rust's call panics
+    /// instead.
     pub fn as_usize(&self) -> usize
         requires fits { usize.BITS < T.Repr.WIDTH
             → IsTrue (set.is_subset self.now (set.below usize.BITS)) }
@@ -23,7 +24,7 @@ impl<T: EnumSetType> EnumSet<T> {
         self.as_usize_truncated()
     }
 
-    /// Returns the set as a number, if every member is below 64, else `None`.
+    /// Returns the number whose bits are the members, if every member is below 64, else `None`.
     pub fn try_as_usize(&self) -> Option<usize>
         ensures fits { IsSome result ↔ IsTrue (set.is_subset self.now (set.below usize.BITS)) }
         ensures value { IfSome result (λ n. n ≡ number self.now) }
@@ -31,15 +32,15 @@ impl<T: EnumSetType> EnumSet<T> {
         self.repr.try_to_usize()
     }
 
-    /// Returns the members below 64, as a number.
+    /// Returns the number whose bits are the members below 64.
     pub fn as_usize_truncated(&self) -> usize
         ensures { result ≡ number (set.low self.now usize.BITS) }
     {
         self.repr.to_usize()
     }
 
-    /// Returns the set of a number. Every bit of it must be valid: [`try_from_usize`](EnumSet::try_from_usize) is the
-    /// test. Rust's call panics instead.
+    /// Returns the set with the bits of a number. Every bit must be valid: a variant has it.
+    /// [`try_from_usize`](EnumSet::try_from_usize) is the test. Rust's call panics instead.
     pub fn from_usize(value: usize) -> EnumSet<T>
         requires valid { IsTrue (set.is_subset (bits value) (valid_bits T.elements)) }
         ensures { result ≡ bits value }
@@ -47,7 +48,8 @@ impl<T: EnumSetType> EnumSet<T> {
         Self::from_u128(value as u128)
     }
 
-    /// Returns the set of a number, if every bit of it is valid, else `None`.
+    /// Returns the set with the bits of a number, if every bit is valid, which means that a variant has it, else
+    /// `None`.
     pub fn try_from_usize(value: usize) -> Option<EnumSet<T>>
         ensures valid { IsSome result
             ↔ IsTrue (set.is_subset (bits value) (valid_bits T.elements)) }
@@ -56,15 +58,15 @@ impl<T: EnumSetType> EnumSet<T> {
         Self::try_from_u128(value as u128)
     }
 
-    /// Returns the set of the valid bits of a number.
+    /// Returns the set with the valid bits of a number, those that variants have.
     pub fn from_usize_truncated(value: usize) -> EnumSet<T>
         ensures { result ≡ set.intersection (bits value) (valid_bits T.elements) }
     {
         Self::from_u128_truncated(value as u128)
     }
 
-    /// Returns the set of a number. Every bit of it must be valid, as for [`from_usize`](EnumSet::from_usize). Rust's
-    /// call is unsafe.
+    /// Returns the set with the bits of a number. Every bit must be valid, as for [`from_usize`](EnumSet::from_usize).
+    /// Rust's call is unsafe.
     pub fn from_usize_unchecked(value: usize) -> EnumSet<T>
         requires valid { IsTrue (set.is_subset (bits value) (valid_bits T.elements)) }
         ensures { result ≡ bits value }

@@ -12,8 +12,9 @@ use enumset_repr::{from_u64_array, to_u64_array, try_from_u64_array, try_to_u64_
 
 #[tactic(auto, using(crate::specs::Laws::Conversions::conversions))]
 impl<T: EnumSetType> EnumSet<T> {
-    /// Returns the words of the set. Every member must be in one of them, which is so where they have the width of the
-    /// representation: [`try_as_array`](EnumSet::try_as_array) is the test. Rust's call panics instead.
+    /// Returns the words of the set, of 64 bits each, the lowest first. Words past the last of the representation are
+    /// 0. Every member must be below `64 * O`, which is so where the representation has no more bits:
+    /// [`try_as_array`](EnumSet::try_as_array) is the test. Rust's call panics instead.
     pub fn as_array<const O: usize>(&self) -> [u64; O]
         requires fits { 64 * O < T.Repr.WIDTH → IsTrue (set.is_subset self.now (set.below (64 * O))) }
         ensures { result ≡ words self.now O }
@@ -21,7 +22,8 @@ impl<T: EnumSetType> EnumSet<T> {
         self.as_array_truncated()
     }
 
-    /// Returns the words of the set, if every member is in one of them, else `None`.
+    /// Returns the words of the set, of 64 bits each, the lowest first, if every member is below `64 * O`, else `None`.
+    /// Words past the last of the representation are 0.
     pub fn try_as_array<const O: usize>(&self) -> Option<[u64; O]>
         ensures fits { IsSome result ↔ IsTrue (set.is_subset self.now (set.below (64 * O))) }
         ensures value { IfSome result (λ ws. ws ≡ words self.now O) }
@@ -29,15 +31,16 @@ impl<T: EnumSetType> EnumSet<T> {
         try_to_u64_array(&self.repr)
     }
 
-    /// Returns the words of the set, without the members that are in none of them.
+    /// Returns the words of the set, of 64 bits each, the lowest first, without the members at or past `64 * O`. Words
+    /// past the last of the representation are 0.
     pub fn as_array_truncated<const O: usize>(&self) -> [u64; O]
         ensures { result ≡ words self.now O }
     {
         to_u64_array(&self.repr)
     }
 
-    /// Returns the set of words. Every bit of them must be valid: [`try_from_array`](EnumSet::try_from_array) is the
-    /// test. Rust's call panics instead.
+    /// Returns the set with the bits of words of 64 bits, the lowest first. Every bit must be valid: a variant has it.
+    /// [`try_from_array`](EnumSet::try_from_array) is the test. Rust's call panics instead.
     pub fn from_array<const O: usize>(array: [u64; O]) -> EnumSet<T>
         requires valid { IsTrue (set.is_subset (bits_of array) (valid_bits T.elements)) }
         ensures { result ≡ bits_of array.entry }
@@ -45,7 +48,8 @@ impl<T: EnumSetType> EnumSet<T> {
         exact(from_u64_array(array))
     }
 
-    /// Returns the set of words, if every bit of them is valid, else `None`.
+    /// Returns the set with the bits of words of 64 bits, the lowest first, if every bit is valid, which means that a
+    /// variant has it, else `None`.
     #[tactic(auto, using(enumset_repr::specs::Laws::Algebra::is_subset_trans))]
     pub fn try_from_array<const O: usize>(array: [u64; O]) -> Option<EnumSet<T>>
         ensures valid { IsSome result
@@ -55,15 +59,15 @@ impl<T: EnumSetType> EnumSet<T> {
         validated_low(try_from_u64_array(array))
     }
 
-    /// Returns the set of the valid bits of words.
+    /// Returns the set with the valid bits of words of 64 bits, the lowest first: those that variants have.
     pub fn from_array_truncated<const O: usize>(array: [u64; O]) -> EnumSet<T>
         ensures { result ≡ set.intersection (bits_of array.entry) (valid_bits T.elements) }
     {
         truncated(from_u64_array(array))
     }
 
-    /// Returns the set of words. Every bit of them must be valid, as for [`from_array`](EnumSet::from_array). Rust's
-    /// call is unsafe.
+    /// Returns the set with the bits of words of 64 bits, the lowest first. Every bit must be valid, as for
+    /// [`from_array`](EnumSet::from_array). Rust's call is unsafe.
     pub fn from_array_unchecked<const O: usize>(array: [u64; O]) -> EnumSet<T>
         requires valid { IsTrue (set.is_subset (bits_of array) (valid_bits T.elements)) }
         ensures { result ≡ bits_of array.entry }

@@ -12,8 +12,9 @@ use enumset_repr::EnumSetTypeRepr;
 
 #[tactic(auto, using(crate::specs::Laws::Conversions::conversions))]
 impl<T: EnumSetType> EnumSet<T> {
-    /// Writes the words of the set to a slice. Every member must be in one of them, which is so where they have the
-    /// width of the representation: [`try_copy_into_slice`](EnumSet::try_copy_into_slice) is the test. Rust's call
+    /// Writes the words of the set to a slice, of 64 bits each, the lowest first. Words past the last of the
+    /// representation are 0. Every member must be below 64 times the length of the slice, which is so where the
+    /// representation has no more bits: [`try_copy_into_slice`](EnumSet::try_copy_into_slice) is the test. Rust's call
     /// panics instead.
     pub fn copy_into_slice(&self, slice: &mut [u64])
         requires fits { 64 * length slice.old < T.Repr.WIDTH
@@ -23,8 +24,9 @@ impl<T: EnumSetType> EnumSet<T> {
         self.copy_into_slice_truncated(slice);
     }
 
-    /// Writes the words of the set to a slice, if every member is in one of them. Otherwise returns `None` and leaves
-    /// the slice unchanged.
+    /// Writes the words of the set to a slice, of 64 bits each, the lowest first, if every member is below 64 times the
+    /// length of the slice. Otherwise returns `None` and leaves the slice unchanged. Words past the last of the
+    /// representation are 0.
     pub fn try_copy_into_slice(&self, slice: &mut [u64]) -> Option<()>
         ensures fits { IsSome result
             ↔ IsTrue (set.is_subset self.now (set.below (64 * length slice.old))) }
@@ -34,15 +36,16 @@ impl<T: EnumSetType> EnumSet<T> {
         self.repr.try_to_u64_slice(slice)
     }
 
-    /// Writes the words of the set to a slice, without the members that are in none of them.
+    /// Writes the words of the set to a slice, of 64 bits each, the lowest first, without the members at or past 64
+    /// times the length of the slice. Words past the last of the representation are 0.
     pub fn copy_into_slice_truncated(&self, slice: &mut [u64])
         ensures { slice.new ≡ words self.now (length slice.old) }
     {
         self.repr.to_u64_slice(slice);
     }
 
-    /// Returns the set of words. Every bit of them must be valid: [`try_from_slice`](EnumSet::try_from_slice) is the
-    /// test. Rust's call panics instead.
+    /// Returns the set with the bits of words of 64 bits, the lowest first. Every bit must be valid: a variant has it.
+    /// [`try_from_slice`](EnumSet::try_from_slice) is the test. Rust's call panics instead.
     pub fn from_slice(slice: &[u64]) -> EnumSet<T>
         requires valid { IsTrue (set.is_subset (bits_of slice.now) (valid_bits T.elements)) }
         ensures { result ≡ bits_of slice.now }
@@ -50,7 +53,8 @@ impl<T: EnumSetType> EnumSet<T> {
         exact(T::Repr::from_u64_slice(slice))
     }
 
-    /// Returns the set of words, if every bit of them is valid, else `None`.
+    /// Returns the set with the bits of words of 64 bits, the lowest first, if every bit is valid, which means that a
+    /// variant has it, else `None`.
     #[tactic(auto, using(enumset_repr::specs::Laws::Algebra::is_subset_trans))]
     pub fn try_from_slice(slice: &[u64]) -> Option<EnumSet<T>>
         ensures valid { IsSome result
@@ -60,15 +64,15 @@ impl<T: EnumSetType> EnumSet<T> {
         validated_low(T::Repr::try_from_u64_slice(slice))
     }
 
-    /// Returns the set of the valid bits of words.
+    /// Returns the set with the valid bits of words of 64 bits, the lowest first: those that variants have.
     pub fn from_slice_truncated(slice: &[u64]) -> EnumSet<T>
         ensures { result ≡ set.intersection (bits_of slice.now) (valid_bits T.elements) }
     {
         truncated(T::Repr::from_u64_slice(slice))
     }
 
-    /// Returns the set of words. Every bit of them must be valid, as for [`from_slice`](EnumSet::from_slice). Rust's
-    /// call is unsafe.
+    /// Returns the set with the bits of words of 64 bits, the lowest first. Every bit must be valid, as for
+    /// [`from_slice`](EnumSet::from_slice). Rust's call is unsafe.
     pub fn from_slice_unchecked(slice: &[u64]) -> EnumSet<T>
         requires valid { IsTrue (set.is_subset (bits_of slice.now) (valid_bits T.elements)) }
         ensures { result ≡ bits_of slice.now }
