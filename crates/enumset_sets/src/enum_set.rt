@@ -23,8 +23,8 @@ use std::marker::{Model, PhantomData};
 ///
 /// It mirrors `EnumSet` of Rust's `enumset`, and its calls keep their names, except for
 /// [`eq_element`](EnumSet::eq_element). [`copied`](EnumSet::copied), and the calls whose texts say so, have no
-/// counterpart there. Contracts see a set as the set of its elements' bits, its members. A bit is valid if a variant has
-/// it. The parameter `R` is always the representation of `T`: write `EnumSet<T>`.
+/// counterpart there. Contracts see a set as the set of its elements' bits, its members. A bit is valid if a variant
+/// has it. The parameter `R` is always the representation of `T`: write `EnumSet<T>`.
 ///
 /// # Numbers
 ///

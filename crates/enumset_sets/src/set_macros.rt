@@ -4,7 +4,8 @@
 //! sets are named by paths.
 
 /// Gives the [`EnumSet`](crate::EnumSet) of elements joined by `|`, as `enum_set!(Right::Read | Right::Share)`, or the
-/// empty set where there are none. The elements are of one type. Any number of single `|` may follow.
+/// empty set where there are none. The elements are paths, of one type. Any number of single `|` may follow. Rust's
+/// macro also takes the names of sets, and may stand in a constant.
 #[macro_export]
 macro_rules! enum_set {
     ($(|)*) => {
@@ -18,7 +19,8 @@ macro_rules! enum_set {
     };
 }
 
-/// Gives the union of sets joined by commas: `a | b | c`. One comma may follow.
+/// Gives the union of sets joined by commas: `a | b | c`. Each is a path, as the name of a variable. One comma may
+/// follow. Rust's macro also takes elements, and may stand in a constant.
 #[macro_export]
 macro_rules! enum_set_union {
     ($first:path $(, $rest:path)* $(,)?) => {
@@ -26,7 +28,8 @@ macro_rules! enum_set_union {
     };
 }
 
-/// Gives the intersection of sets joined by commas: `a & b & c`. One comma may follow.
+/// Gives the intersection of sets joined by commas: `a & b & c`. Each is a path, as the name of a variable. One comma
+/// may follow. Rust's macro also takes elements, and may stand in a constant.
 #[macro_export]
 macro_rules! enum_set_intersection {
     ($first:path $(, $rest:path)* $(,)?) => {
@@ -34,8 +37,9 @@ macro_rules! enum_set_intersection {
     };
 }
 
-/// Gives the set of what is in the first of sets joined by commas and in none of the others: `a & !b & !c`. One comma
-/// may follow.
+/// Gives the set of what is in the first of sets joined by commas and in none of the others: `a & !b & !c`. Each is a
+/// path, as the name of a variable. One comma may follow. Rust's macro also takes elements, and may stand in a
+/// constant.
 #[macro_export]
 macro_rules! enum_set_difference {
     ($first:path $(, $rest:path)* $(,)?) => {
@@ -43,7 +47,8 @@ macro_rules! enum_set_difference {
     };
 }
 
-/// Gives the symmetric difference of sets joined by commas: `a ^ b ^ c`. One comma may follow.
+/// Gives the symmetric difference of sets joined by commas: `a ^ b ^ c`. Each is a path, as the name of a variable. One
+/// comma may follow. Rust's macro also takes elements, and may stand in a constant.
 #[macro_export]
 macro_rules! enum_set_symmetric_difference {
     ($first:path $(, $rest:path)* $(,)?) => {
@@ -51,7 +56,8 @@ macro_rules! enum_set_symmetric_difference {
     };
 }
 
-/// Gives the complement of a set: `!a`. One comma may follow.
+/// Gives the complement of a set: `!a`. The set is a path, as the name of a variable. One comma may follow. Rust's
+/// macro also takes an element, and may stand in a constant.
 #[macro_export]
 macro_rules! enum_set_complement {
     ($set:path $(,)?) => {
