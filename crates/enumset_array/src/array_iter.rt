@@ -100,6 +100,7 @@ impl<const N: usize> ExactSizeIterator for ArrayIter<N> {
     }
 }
 
+/// An iterator with the same items left, always `Ok`.
 impl<const N: usize> Clone for ArrayIter<N> {
     ghost is_clone = { λ it copy. copy ≡ it };
 

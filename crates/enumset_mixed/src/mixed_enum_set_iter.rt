@@ -48,6 +48,7 @@ impl<T: EnumSetType> MixedEnumSetIter<T> {
     }
 }
 
+/// An iterator with the same members left, always `Ok`.
 impl<T: EnumSetType> Clone for MixedEnumSetIter<T> {
     ghost use Rattle.std.specs.Prelude.{◌≡◌, ⊤};
 

@@ -13,6 +13,7 @@ use std::alloc::AllocError;
 #[derive(Copy, Debug)]
 pub struct PrimitiveIter<T: Primitive>(pub T);
 
+/// An iterator with the same bits left, always `Ok`.
 impl<T: Primitive> Clone for PrimitiveIter<T> {
     ghost is_clone = { λ it copy. copy ≡ it };
 

@@ -49,6 +49,7 @@ impl<T: EnumSetType> EnumSetIter<T> {
     }
 }
 
+/// An iterator with the same elements left, always `Ok`.
 impl<T: EnumSetType> Clone for EnumSetIter<T> {
     ghost use Rattle.std.specs.Prelude.{◌≡◌, ⊤};
 
