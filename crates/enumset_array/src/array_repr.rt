@@ -25,7 +25,7 @@ pub(crate) const WORD_LIMIT: usize = 67108864;
 /// Only the first [`LEN`](ArrayRepr::LEN) words are in use, and the others are 0. Code that builds a value must prove
 /// that these are 0. Up to 67108863 words all are in use, so there is nothing to prove.
 ///
-/// It mirrors `ArrayRepr` of Rust's `enumset`.
+/// It mirrors `ArrayRepr` of Rust's `enumset`, where `N` must not be 0 and the width overflows from 67108864 words on.
 #[derive(Clone, Copy, Debug, Hash)]
 pub struct ArrayRepr<const N: usize>(pub [u64; N]);
 

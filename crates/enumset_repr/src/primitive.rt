@@ -10,9 +10,10 @@ use std::fmt::Debug;
 /// An integer of [`BITS`](Primitive::BITS) bits. It represents the set of the numbers of its bits that are 1, counted
 /// from the lowest, which is 0.
 ///
-/// It mirrors `Primitive` of Rust's `enumset`. There the iterator also needs `WIDTH`, `count_ones` and `remove_bit` of
-/// a representation. Here [`BITS`](Primitive::BITS), [`ones`](Primitive::ones), [`without`](Primitive::without) and
-/// [`without_least`](Primitive::without_least) take their place, so the iterator needs no representation.
+/// It mirrors `Primitive` of Rust's `enumset`. There the iterator also needs `WIDTH`, `is_empty`, `count_ones` and
+/// `remove_bit` of a representation. Here [`BITS`](Primitive::BITS), [`ones`](Primitive::ones),
+/// [`without`](Primitive::without) and [`without_least`](Primitive::without_least) take their place, so the iterator
+/// needs no representation.
 pub trait Primitive: Copy + Debug {
     // The set that the integer represents.
     ghost set_of: { Self → BitSet };

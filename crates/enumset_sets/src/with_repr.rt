@@ -10,7 +10,8 @@ use crate::validated::{truncated, validated};
 
 /// An element type whose sets each fit a `u128`: its representation has at most 128 bits.
 ///
-/// It mirrors `EnumSetTypeWithRepr` of Rust's `enumset`, except that `Repr` is an item of [`EnumSetType`] here.
+/// It mirrors `EnumSetTypeWithRepr` of Rust's `enumset`, except that `Repr` is an item of [`EnumSetType`] here, and that
+/// Rust's derive implements the trait only for an integer that the option `repr` names.
 pub trait EnumSetTypeWithRepr: EnumSetType {
     // The representation has at most 128 bits.
     ghost narrow: { Self.Repr.WIDTH ≤ 128 };
