@@ -21,11 +21,12 @@ use std::marker::{Model, PhantomData};
 /// A set of elements that also keeps unknown bits, as a value of a representation. So a program can pass on what a
 /// newer peer sent, and loses nothing of it.
 ///
+/// Calls with another set take a mixed set. In Rust they also take an element or an [`EnumSet`], as operators do here.
+///
 /// It mirrors `MixedEnumSet` of Rust's `enumset`, and its calls keep their names, except for
 /// [`eq_enumset`](MixedEnumSet::eq_enumset) and [`eq_element`](MixedEnumSet::eq_element).
-/// [`copied`](MixedEnumSet::copied), and the calls whose texts say so, have no counterpart there. Calls with another
-/// set take a mixed set; in Rust they also take an element or an [`EnumSet`], which operators take here too. A bit is
-/// valid if a variant has it, and unknown otherwise. The parameter `R` is always the representation of `T`: write
+/// [`copied`](MixedEnumSet::copied), and the calls whose texts say so, have no counterpart there. A bit is valid if a
+/// variant has it, and unknown otherwise. The parameter `R` is always the representation of `T`: write
 /// `MixedEnumSet<T>`.
 pub struct MixedEnumSet<T: EnumSetTypeWithRepr, R: EnumSetTypeRepr = <T as EnumSetType>::Repr> {
     pub(crate) repr: R,

@@ -21,10 +21,11 @@ use std::marker::{Model, PhantomData};
 
 /// A set of elements, kept as a value of a representation.
 ///
+/// Contracts see it as the set of its elements' bits, which are its members. A bit is valid if a variant has it.
+///
 /// It mirrors `EnumSet` of Rust's `enumset`, and its calls keep their names, except for
 /// [`eq_element`](EnumSet::eq_element). [`copied`](EnumSet::copied), and the calls whose texts say so, have no
-/// counterpart there. Contracts see a set as the set of its elements' bits, its members. A bit is valid if a variant
-/// has it. The parameter `R` is always the representation of `T`: write `EnumSet<T>`.
+/// counterpart there. The parameter `R` is always the representation of `T`: write `EnumSet<T>`.
 ///
 /// # Numbers
 ///
