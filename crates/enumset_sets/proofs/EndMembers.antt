@@ -1,11 +1,12 @@
 -- The least and the greatest member of a set of valid bits, and the set without it.
 use Rattle.std.proofs.Common.{◌≡◌, ◌<◌, ℕ, true, List, ◌∷◌, [], ◌++◌, Some, None, sym, ap, ◌∙◌, refl, length, arith}
-use Rattle.enumset_repr.specs.BitSet.{BitSet, is_in, contains, ascending, empty, insert, remove, len, from_list, is_subset}
+use Rattle.std.proofs.lemmas.Bool.Decides.{nat_tests}
+use Rattle.enumset_repr.specs.BitSet.{BitSet, is_in, contains, ascending, empty, insert, remove, len, from_list, is_subset, difference, below}
 use Rattle.enumset_repr.specs.Ends.{least, greatest}
-use Rattle.enumset_repr.specs.Laws.Algebra.{insert_remove}
+use Rattle.enumset_repr.specs.Laws.Algebra.{insert_remove, toggled}
 use Rattle.enumset_repr.specs.Laws.Ascending.{len_ascending, empty_of_ascending}
 use Rattle.enumset_repr.specs.Laws.Ends.{least_facts, greatest_facts, ascending_least, ascending_greatest, fewer_greatest, ascending_no_least, ascending_no_greatest}
-use Rattle.enumset_repr.specs.Laws.Members.{is_subset_contains}
+use Rattle.enumset_repr.specs.Laws.Members.{members, subsets, is_subset_contains, difference_is_subset}
 use Rattle.enumset_sets.specs.Laws.Elements.{contains_is_in}
 
 -- a set without an end is empty
@@ -41,3 +42,11 @@ module _ (s : BitSet) (b : ℕ) where
       put_back (greatest_facts s b (sym is)).0,
       omega (arith, fewer_greatest s b (sym is), ap len rest, len_ascending s, len_ascending (remove s b)),
     )
+
+pub least_from_valid : (s : BitSet) (b : ℕ) (bs : List ℕ) (from : ℕ) → is_subset s (from_list bs) ≡ true → Some b ≡ least (difference s (below from)) → is_in b bs ≡ true
+least_from_valid s b bs from sub = least_valid (difference s (below from)) b bs (difference_is_subset _ s (below from) sub)
+
+-- what the calls of the ends need to name an element, and what `toggle` needs
+pub ruleset valid_ends = (subsets, least_valid, least_from_valid, greatest_valid)
+
+pub ruleset toggles = (members, nat_tests, toggled)

@@ -392,18 +392,15 @@ impl<T: EnumSetType> EnumSet<T> {
 }
 
 /// Calls that Rust's `enumset` does not have.
-#[tactic(auto, using(enumset_repr::specs::Laws::Members::subsets))]
+#[tactic(auto, using(crate::proofs::EndMembers::valid_ends))]
 impl<T: EnumSetType> EnumSet<T> {
     /// Returns the variants from `from` to `to` by their bits, both included, or none if `to` has the lesser bit.
     pub fn range(from: T, to: T) -> EnumSet<T>
         ensures { result ≡ set.retain (valid_bits T.elements)
             (λ q. nat_le (T.elements.bit from) q && nat_le q (T.elements.bit to)) }
     {
-        Self::of_repr(between(
-            &valid_repr::<T>(),
-            Self::bit_index(from),
-            Self::bit_index(to),
-        ))
+        let (first, last) = (Self::bit_index(from), Self::bit_index(to));
+        Self::of_repr(between(&valid_repr::<T>(), first, last))
     }
 
     /// As [`is_disjoint`](EnumSet::is_disjoint), without a copy of its argument.
@@ -452,6 +449,7 @@ impl<T: EnumSetType> EnumSet<T> {
     }
 
     /// Adds an element if it is absent, else removes it, and returns whether it is a member now.
+    #[tactic(auto, using(crate::proofs::EndMembers::toggles))]
     pub fn toggle(&mut self, value: T) -> bool
         ensures toggled { self.new
             ≡ set.symmetric_difference self.old (set.only (T.elements.bit value)) }

@@ -1,13 +1,10 @@
 use Rattle.std.proofs.Common.{sym, rules}
 use Rattle.enumset_repr.specs.Laws.Ends.{least_below}
-use Rattle.enumset_sets.proofs.EndMembers.{least_valid, least_taken, no_least}
+use Rattle.enumset_sets.proofs.EndMembers.{least_taken, no_least}
 use Rattle.enumset_sets.proofs.enum_set.EnumSet+T.pop_first.Goals as goal
 
 pub remove_bit-requires : goal.remove_bit-requires
 remove_bit-requires g c = least_below _ g.T.Repr.EnumSetTypeRepr.WIDTH _ (g.met.T.Repr.EnumSetTypeRepr.represents.within _ c.self.invariant.is_value) (sym c.in_ok-bit.ensures)
-
-pub enum_from_u32-requires : goal.enum_from_u32-requires
-enum_from_u32-requires g c = least_valid _ _ _ c.self.invariant.valid_only c.in_ok-bit.ensures
 
 pub returns : goal.returns
 returns g c = rw (← c.self.view_is) (let taken = least_taken _ _ _ _ c.remove_bit.ensures.members c.enum_from_u32.ensures c.in_ok-bit.ensures in record { first = taken.0; removed = search rules; put_back = taken.1; fewer = taken.2; none = search rules })
