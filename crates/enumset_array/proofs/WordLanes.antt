@@ -10,10 +10,10 @@ use Rattle.std.specs.Simd.Lanes.{zip2, chunk, put_chunk, fold_l}
 use Rattle.std.proofs.Math.Bool.{and-true, and_assoc}
 use Rattle.std.proofs.Math.Seq.{take-add}
 use Rattle.std.proofs.lemmas.Bool.Decides.{nat_tests}
-use Rattle.std.proofs.lemmas.List.{take-append-drop, take_all, take_at, drop_at, drop_all, drop_more, drop-drop, set_split, append-nil, append_assoc, length-append, length-drop, length-take-le}
+use Rattle.std.proofs.lemmas.List.{take-append-drop, get_or-drop, take_all, take_at, drop_at, drop_all, drop_more, drop-drop, set_split, append-nil, append_assoc, length-append, length-drop, length-take-le}
 use Rattle.std.proofs.lemmas.List.Folds.{list_all-append, list_all_more}
 use Rattle.std.proofs.lemmas.Nat.{le_or_l, le_or_r}
-use Rattle.std.proofs.lemmas.Simd.{length-chunk, length-zip2, put_chunk_is}
+use Rattle.std.proofs.lemmas.Simd.{length-chunk, length-zip2, get_or-zip2, put_chunk_is}
 use lib.Bits.{xor_assoc, xor_self}
 
 -- ---- parts of a list of results
@@ -135,6 +135,28 @@ pub one_none : (ws : List ℕ) (any w i j : ℕ) → w ≡ slice_index ws i → 
 one_none ws any w i j is next low before =
     ap (λ v. bit_or any v == 0) is
     ∙ or_none any (slice_index ws i) ∙ ap (λ t. t && (slice_index ws i == 0)) before ∙ sym (ap (λ k. none_in (take k ws)) next ∙ list_all_more (λ w. w == 0) ws i 0 low)
+
+-- steps of a loop over chunks of four words, and of one over the words past them
+module _ (op : ℕ → ℕ → ℕ) (a b : List ℕ) (e : length a ≡ length b) where
+  pub next_chunk : (us vs : List (List ℕ)) (lanes x y r : List ℕ) (k n : ℕ) → us ≡ first_chunks 4 (length a / 4) a → length us ≡ length a / 4 → vs ≡ first_chunks 4 (length b / 4) b → length vs ≡ length b / 4
+      → k < length us → k < length vs → x ≡ get_or us k [] → y ≡ get_or vs k [] → r ≡ zip2 op x y → n ≡ k + 1 → length lanes ≡ 4
+      → none_in lanes ≡ none_in (take (4 * k) (zip2 op a b)) → none_in (zip2 bit_or lanes r) ≡ none_in (take (4 * n) (zip2 op a b))
+  next_chunk us vs lanes x y r k n front long front_b long_b low low_b at at_b is next four before =
+      let first = chunk_here a us x k front long low at in
+      let second = chunk_here b vs y k front_b long_b low_b at_b in
+      joined_none (zip2 op a b) lanes r (4 * k) (4 * n) (is ∙ (λ i. zip2 op (first.0 i) (second.0 i)) ∙ sym (chunk-zip2 op (4 * k) 4 a b)) (omega (arith, next)) (omega (arith, next, low, long, length-zip2 op a b e)) four before
+
+  pub next_word : (us vs : List ℕ) (any x y r k n : ℕ) → us ≡ drop (length a / 4 * 4) a → vs ≡ drop (length b / 4 * 4) b → k < length us → x ≡ slice_index us k → y ≡ slice_index vs k → r ≡ op x y → n ≡ k + 1
+      → (any == 0) ≡ none_in (take (length a / 4 * 4 + k) (zip2 op a b)) → (bit_or any r == 0) ≡ none_in (take (length a / 4 * 4 + n) (zip2 op a b))
+  next_word us vs any x y r k n rest rest_b low at at_b is next before =
+      let i : ℕ = length a / 4 * 4 + k in
+      let under : i < length a = omega (arith, low, ap length rest, length-drop (length a / 4 * 4) a) in
+      let first = at ∙ ap (λ ws. slice_index ws k) rest ∙ get_or-drop (length a / 4 * 4) a k 0 in
+      let second = at_b ∙ ap (λ ws. slice_index ws k) rest_b ∙ get_or-drop (length b / 4 * 4) b k 0 ∙ ap (λ m. slice_index b (m / 4 * 4 + k)) (sym e) in
+      one_none (zip2 op a b) any r i (length a / 4 * 4 + n) (is ∙ (λ j. op (first j) (second j)) ∙ sym (get_or-zip2 op a b i 0 0 0 under (omega (arith, under, e)))) (omega (arith, next)) (omega (arith, under, length-zip2 op a b e)) before
+
+  pub ended_words : (any n : ℕ) → length a ≤ n → (any == 0) ≡ none_in (take n (zip2 op a b)) → (any == 0) ≡ none_in (zip2 op a b)
+  ended_words any n past before = before ∙ ap none_in (take_all n (zip2 op a b) (omega (arith, past, length-zip2 op a b e)))
 
 -- `^` yields 0 only for equal words
 xor_none : (x y : ℕ) → (bit_xor x y == 0) ≡ nat_eq x y

@@ -25,9 +25,8 @@ use std::marker::{Model, PhantomData};
 ///
 /// It mirrors `MixedEnumSet` of Rust's `enumset`, and its calls keep their names, except for
 /// [`eq_enumset`](MixedEnumSet::eq_enumset) and [`eq_element`](MixedEnumSet::eq_element).
-/// [`copied`](MixedEnumSet::copied), and the calls whose texts say so, have no counterpart there. A bit is valid if a
-/// variant has it, and unknown otherwise. The parameter `R` is always the representation of `T`: write
-/// `MixedEnumSet<T>`.
+/// [`copied`](MixedEnumSet::copied) and the last block of calls have no counterpart there. A bit is valid if a variant
+/// has it, and unknown otherwise. The parameter `R` is always the representation of `T`: write `MixedEnumSet<T>`.
 pub struct MixedEnumSet<T: EnumSetTypeWithRepr, R: EnumSetTypeRepr = <T as EnumSetType>::Repr> {
     pub(crate) repr: R,
     of: PhantomData<T>,
@@ -311,36 +310,6 @@ impl<T: EnumSetTypeWithRepr> MixedEnumSet<T> {
         self.repr.is_subset_of(&other.repr)
     }
 
-    /// Returns whether no bit is a member of both sets, as [`is_disjoint`](MixedEnumSet::is_disjoint), which copies its
-    /// argument.
-    ///
-    /// Rust's `enumset` has no such call.
-    pub fn is_disjoint_from(&self, other: &MixedEnumSet<T>) -> bool
-        ensures { result ≡ set.is_disjoint self.now other.now }
-    {
-        self.repr.is_disjoint_from(&other.repr)
-    }
-
-    /// Returns whether every member of `other` is a member of this set, as [`is_superset`](MixedEnumSet::is_superset),
-    /// which copies its argument.
-    ///
-    /// Rust's `enumset` has no such call.
-    pub fn is_superset_of(&self, other: &MixedEnumSet<T>) -> bool
-        ensures { result ≡ set.is_subset other.now self.now }
-    {
-        other.repr.is_subset_of(&self.repr)
-    }
-
-    /// Returns whether every member of this set is a member of `other`, as [`is_subset`](MixedEnumSet::is_subset),
-    /// which copies its argument.
-    ///
-    /// Rust's `enumset` has no such call.
-    pub fn is_subset_of(&self, other: &MixedEnumSet<T>) -> bool
-        ensures { result ≡ set.is_subset self.now other.now }
-    {
-        self.repr.is_subset_of(&other.repr)
-    }
-
     /// Returns the members of either set.
     pub fn union(&self, other: MixedEnumSet<T>) -> MixedEnumSet<T>
         ensures { result ≡ set.union self.now other }
@@ -410,56 +379,6 @@ impl<T: EnumSetTypeWithRepr> MixedEnumSet<T> {
         self.repr.and_not_with(&other.repr);
     }
 
-    /// Adds every member of `other`, and returns whether one of them was absent.
-    ///
-    /// Rust's `enumset` has no such call.
-    pub fn union_with(&mut self, other: &MixedEnumSet<T>) -> bool
-        ensures union { self.new ≡ set.union self.old other.now }
-        ensures changed { result ≡ not (set.is_subset other.now self.old) }
-    {
-        self.repr.or_changes(&other.repr)
-    }
-
-    /// Removes every member that is not in `other`, and returns whether there was one.
-    ///
-    /// Rust's `enumset` has no such call.
-    pub fn intersect_with(&mut self, other: &MixedEnumSet<T>) -> bool
-        ensures intersection { self.new ≡ set.intersection self.old other.now }
-        ensures changed { result ≡ not (set.is_subset self.old other.now) }
-    {
-        self.repr.and_changes(&other.repr)
-    }
-
-    /// Removes every member of `other`, and returns whether one of them was present.
-    ///
-    /// Rust's `enumset` has no such call.
-    pub fn difference_with(&mut self, other: &MixedEnumSet<T>) -> bool
-        ensures difference { self.new ≡ set.difference self.old other.now }
-        ensures changed { result ≡ not (set.is_disjoint self.old other.now) }
-    {
-        self.repr.and_not_changes(&other.repr)
-    }
-
-    /// Returns the member with the least bit, valid or unknown, or `None` if the set is empty.
-    ///
-    /// Rust's `enumset` has no such call.
-    pub fn first(&self) -> Option<MixedValue<T>>
-        ensures { option_map (bit_with_validity T.elements.bit) result
-            ≡ option_map (λ b. (b, set.contains (valid_bits T.elements) b)) (least self.now) }
-    {
-        Some(value_of(least_bit(&self.repr)?))
-    }
-
-    /// Returns the member with the greatest bit, valid or unknown, or `None` if the set is empty.
-    ///
-    /// Rust's `enumset` has no such call.
-    pub fn last(&self) -> Option<MixedValue<T>>
-        ensures { option_map (bit_with_validity T.elements.bit) result
-            ≡ option_map (λ b. (b, set.contains (valid_bits T.elements) b)) (greatest self.now) }
-    {
-        Some(value_of(greatest_bit(&self.repr)?))
-    }
-
     /// Returns an iterator over the members, each once, ascending by bit, from both ends: the element for a valid bit,
     /// the number for an unknown one. Later changes to the set do not affect it. Each member of the set is below the
     /// width of the representation.
@@ -470,5 +389,69 @@ impl<T: EnumSetTypeWithRepr> MixedEnumSet<T> {
         ensures within { IsTrue (set.is_subset self.now (set.below T.Repr.WIDTH)) }
     {
         MixedEnumSetIter::over(self.repr)
+    }
+}
+
+/// Calls that Rust's `enumset` does not have.
+impl<T: EnumSetTypeWithRepr> MixedEnumSet<T> {
+    /// As [`is_disjoint`](MixedEnumSet::is_disjoint), without a copy of its argument.
+    pub fn is_disjoint_from(&self, other: &MixedEnumSet<T>) -> bool
+        ensures { result ≡ set.is_disjoint self.now other.now }
+    {
+        self.repr.is_disjoint_from(&other.repr)
+    }
+
+    /// As [`is_superset`](MixedEnumSet::is_superset), without a copy of its argument.
+    pub fn is_superset_of(&self, other: &MixedEnumSet<T>) -> bool
+        ensures { result ≡ set.is_subset other.now self.now }
+    {
+        other.repr.is_subset_of(&self.repr)
+    }
+
+    /// As [`is_subset`](MixedEnumSet::is_subset), without a copy of its argument.
+    pub fn is_subset_of(&self, other: &MixedEnumSet<T>) -> bool
+        ensures { result ≡ set.is_subset self.now other.now }
+    {
+        self.repr.is_subset_of(&other.repr)
+    }
+
+    /// Adds every member of `other`, and returns whether one of them was absent.
+    pub fn union_with(&mut self, other: &MixedEnumSet<T>) -> bool
+        ensures union { self.new ≡ set.union self.old other.now }
+        ensures changed { result ≡ not (set.is_subset other.now self.old) }
+    {
+        self.repr.or_changes(&other.repr)
+    }
+
+    /// Removes every member that is not in `other`, and returns whether there was one.
+    pub fn intersect_with(&mut self, other: &MixedEnumSet<T>) -> bool
+        ensures intersection { self.new ≡ set.intersection self.old other.now }
+        ensures changed { result ≡ not (set.is_subset self.old other.now) }
+    {
+        self.repr.and_changes(&other.repr)
+    }
+
+    /// Removes every member of `other`, and returns whether one of them was present.
+    pub fn difference_with(&mut self, other: &MixedEnumSet<T>) -> bool
+        ensures difference { self.new ≡ set.difference self.old other.now }
+        ensures changed { result ≡ not (set.is_disjoint self.old other.now) }
+    {
+        self.repr.and_not_changes(&other.repr)
+    }
+
+    /// Returns the member with the least bit, valid or unknown, or `None` if the set is empty.
+    pub fn first(&self) -> Option<MixedValue<T>>
+        ensures { option_map (bit_with_validity T.elements.bit) result
+            ≡ option_map (λ b. (b, set.contains (valid_bits T.elements) b)) (least self.now) }
+    {
+        Some(value_of(least_bit(&self.repr)?))
+    }
+
+    /// Returns the member with the greatest bit, valid or unknown, or `None` if the set is empty.
+    pub fn last(&self) -> Option<MixedValue<T>>
+        ensures { option_map (bit_with_validity T.elements.bit) result
+            ≡ option_map (λ b. (b, set.contains (valid_bits T.elements) b)) (greatest self.now) }
+    {
+        Some(value_of(greatest_bit(&self.repr)?))
     }
 }

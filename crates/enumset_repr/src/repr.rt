@@ -24,6 +24,9 @@ use std::ops::{BitAnd, BitOr, BitXor, Not};
 /// `and_changes`, `and_not_changes`, `word`, `put_word`, `items_left`, `same_iter` and `learn_is_value`. The conversions
 /// to and from arrays are functions of [`arrays`](crate::arrays), and the ends of a set are functions of
 /// [`ends`](crate::ends).
+///
+/// The default bodies of calls with two sets build values or go over both twice. A representation of many words should
+/// have its own.
 #[tactic(auto, using(crate::specs::Laws::Low::cuts_to))]
 pub trait EnumSetTypeRepr: Copy
     + Eq
@@ -122,57 +125,44 @@ pub trait EnumSetTypeRepr: Copy
     }
 
     /// Adds every member of `other`, in place.
-    ///
-    /// The default body copies both values. A representation of many words should have its own.
     fn or_with(&mut self, other: &Self)
         ensures members { members self.new ≡ set.union (members self.old) (members other.now) }
         ensures value { is_value self.new }
     {
         *self = *self | *other;
-        // The clause `value` needs it.
+        // The clause `value` needs it, here and below.
         self.learn_is_value();
     }
 
     /// Removes every member that is not in `other`, in place.
-    ///
-    /// The default body copies both values. A representation of many words should have its own.
     fn and_with(&mut self, other: &Self)
         ensures members { members self.new ≡ set.intersection (members self.old) (members other.now) }
         ensures value { is_value self.new }
     {
         *self = *self & *other;
-        // The clause `value` needs it.
         self.learn_is_value();
     }
 
     /// Toggles every member of `other`, in place: adds it if it is absent, else removes it.
-    ///
-    /// The default body copies both values. A representation of many words should have its own.
     fn xor_with(&mut self, other: &Self)
         ensures members { members self.new
             ≡ set.symmetric_difference (members self.old) (members other.now) }
         ensures value { is_value self.new }
     {
         *self = *self ^ *other;
-        // The clause `value` needs it.
         self.learn_is_value();
     }
 
     /// Removes every member of `other`, in place.
-    ///
-    /// The default body copies both values. A representation of many words should have its own.
     fn and_not_with(&mut self, other: &Self)
         ensures members { members self.new ≡ set.difference (members self.old) (members other.now) }
         ensures value { is_value self.new }
     {
         *self = self.and_not(*other);
-        // The clause `value` needs it.
         self.learn_is_value();
     }
 
     /// Returns whether every member is also in `other`.
-    ///
-    /// The default body builds a value. A representation of many words should have its own.
     fn is_subset_of(&self, other: &Self) -> bool
         ensures { result ≡ set.is_subset (members self.now) (members other.now) }
     {
@@ -180,8 +170,6 @@ pub trait EnumSetTypeRepr: Copy
     }
 
     /// Returns whether no bit is a member of both sets.
-    ///
-    /// The default body builds a value. A representation of many words should have its own.
     fn is_disjoint_from(&self, other: &Self) -> bool
         ensures { result ≡ set.is_disjoint (members self.now) (members other.now) }
     {
@@ -189,8 +177,6 @@ pub trait EnumSetTypeRepr: Copy
     }
 
     /// Adds every member of `other`, in place, and returns whether one of them was absent.
-    ///
-    /// The default body goes over both values twice. A representation of many words should have its own.
     fn or_changes(&mut self, other: &Self) -> bool
         ensures members { members self.new ≡ set.union (members self.old) (members other.now) }
         ensures value { is_value self.new }
@@ -202,8 +188,6 @@ pub trait EnumSetTypeRepr: Copy
     }
 
     /// Removes every member that is not in `other`, in place, and returns whether there was one.
-    ///
-    /// The default body goes over both values twice. A representation of many words should have its own.
     fn and_changes(&mut self, other: &Self) -> bool
         ensures members { members self.new ≡ set.intersection (members self.old) (members other.now) }
         ensures value { is_value self.new }
@@ -215,8 +199,6 @@ pub trait EnumSetTypeRepr: Copy
     }
 
     /// Removes every member of `other`, in place, and returns whether one of them was present.
-    ///
-    /// The default body goes over both values twice. A representation of many words should have its own.
     fn and_not_changes(&mut self, other: &Self) -> bool
         ensures members { members self.new ≡ set.difference (members self.old) (members other.now) }
         ensures value { is_value self.new }

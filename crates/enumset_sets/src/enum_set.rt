@@ -9,10 +9,9 @@ ghost use Rattle.enumset_repr.specs.Ends.{least, greatest};
 ghost use Rattle.enumset_sets.specs.Elements.{one_past_greatest, valid_bits};
 ghost use Rattle.enumset_sets.specs.Retained.{IsConstantTest, IsTest, Retains};
 
-use crate::between::between;
 use crate::element::EnumSetType;
 use crate::enum_set_iter::EnumSetIter;
-use crate::representation::valid_repr;
+use crate::representation::{between, valid_repr};
 use crate::text::write_separator;
 use enumset_repr::{EnumSetTypeRepr, are_same, greatest_bit, least_bit, least_bit_from};
 use std::alloc::AllocError;
@@ -24,7 +23,7 @@ use std::marker::{Model, PhantomData};
 /// Contracts see it as the set of its elements' bits, which are its members. A bit is valid if a variant has it.
 ///
 /// It mirrors `EnumSet` of Rust's `enumset`, and its calls keep their names, except for
-/// [`eq_element`](EnumSet::eq_element). [`copied`](EnumSet::copied), and the calls whose texts say so, have no
+/// [`eq_element`](EnumSet::eq_element). [`copied`](EnumSet::copied), and the calls of the last block, have no
 /// counterpart there. The parameter `R` is always the representation of `T`: write `EnumSet<T>`.
 ///
 /// # Numbers
@@ -194,18 +193,6 @@ impl<T: EnumSetType> EnumSet<T> {
         Self::of_repr(repr)
     }
 
-    /// Returns the variants whose bits lie from the bit of `from` to that of `to`, both included. There is none if `to`
-    /// has the lesser bit.
-    ///
-    /// Rust's `enumset` has no such call.
-    pub fn range(from: T, to: T) -> EnumSet<T>
-        ensures { result ≡ set.retain (valid_bits T.elements)
-            (λ q. nat_le (T.elements.bit from) q && nat_le q (T.elements.bit to)) }
-    {
-        let (first, last) = (Self::bit_index(from), Self::bit_index(to));
-        Self::of_repr(between(&valid_repr::<T>(), first, last))
-    }
-
     /// Returns one past the greatest valid bit, or 0 if there is none.
     pub fn bit_width() -> u32
         ensures { result ≡ one_past_greatest (valid_bits T.elements) }
@@ -322,36 +309,6 @@ impl<T: EnumSetType> EnumSet<T> {
         self.repr.is_subset_of(&other.repr)
     }
 
-    /// Returns whether no element is a member of both sets, as [`is_disjoint`](EnumSet::is_disjoint), which copies its
-    /// argument.
-    ///
-    /// Rust's `enumset` has no such call.
-    pub fn is_disjoint_from(&self, other: &EnumSet<T>) -> bool
-        ensures { result ≡ set.is_disjoint self.now other.now }
-    {
-        self.repr.is_disjoint_from(&other.repr)
-    }
-
-    /// Returns whether every member of `other` is a member of this set, as [`is_superset`](EnumSet::is_superset), which
-    /// copies its argument.
-    ///
-    /// Rust's `enumset` has no such call.
-    pub fn is_superset_of(&self, other: &EnumSet<T>) -> bool
-        ensures { result ≡ set.is_subset other.now self.now }
-    {
-        other.repr.is_subset_of(&self.repr)
-    }
-
-    /// Returns whether every member of this set is a member of `other`, as [`is_subset`](EnumSet::is_subset), which
-    /// copies its argument.
-    ///
-    /// Rust's `enumset` has no such call.
-    pub fn is_subset_of(&self, other: &EnumSet<T>) -> bool
-        ensures { result ≡ set.is_subset self.now other.now }
-    {
-        self.repr.is_subset_of(&other.repr)
-    }
-
     /// Returns the members of either set.
     pub fn union(&self, other: EnumSet<T>) -> EnumSet<T>
         ensures { result ≡ set.union self.now other }
@@ -411,159 +368,6 @@ impl<T: EnumSetType> EnumSet<T> {
         self.repr.and_not_with(&other.repr);
     }
 
-    /// Adds every member of `other`, and returns whether one of them was absent.
-    ///
-    /// Rust's `enumset` has no such call.
-    pub fn union_with(&mut self, other: &EnumSet<T>) -> bool
-        ensures union { self.new ≡ set.union self.old other.now }
-        ensures changed { result ≡ not (set.is_subset other.now self.old) }
-    {
-        self.repr.or_changes(&other.repr)
-    }
-
-    /// Removes every member that is not in `other`, and returns whether there was one.
-    ///
-    /// Rust's `enumset` has no such call.
-    pub fn intersect_with(&mut self, other: &EnumSet<T>) -> bool
-        ensures intersection { self.new ≡ set.intersection self.old other.now }
-        ensures changed { result ≡ not (set.is_subset self.old other.now) }
-    {
-        self.repr.and_changes(&other.repr)
-    }
-
-    /// Removes every member of `other`, and returns whether one of them was present.
-    ///
-    /// Rust's `enumset` has no such call.
-    pub fn difference_with(&mut self, other: &EnumSet<T>) -> bool
-        ensures difference { self.new ≡ set.difference self.old other.now }
-        ensures changed { result ≡ not (set.is_disjoint self.old other.now) }
-    {
-        self.repr.and_not_changes(&other.repr)
-    }
-
-    /// Adds an element if it is absent, else removes it, and returns whether it is a member now.
-    ///
-    /// Rust's `enumset` has no such call.
-    pub fn toggle(&mut self, value: T) -> bool
-        ensures toggled { self.new
-            ≡ set.symmetric_difference self.old (set.only (T.elements.bit value)) }
-        ensures is_member { result ≡ set.contains self.new (T.elements.bit value) }
-        ensures was_absent { result ≡ not (set.contains self.old (T.elements.bit value)) }
-    {
-        let is_member = !self.contains(value);
-        self.set(value, is_member);
-        is_member
-    }
-
-    /// Adds an element if `is_member` is true, else removes it. So `is_member` says whether it is a member now.
-    ///
-    /// Rust's `enumset` has no such call.
-    pub fn set(&mut self, value: T, is_member: bool)
-        ensures { self.new ≡ (if is_member
-            then set.insert self.old (T.elements.bit value)
-            else set.remove self.old (T.elements.bit value)) }
-    {
-        let bit = Self::bit_index(value);
-        if is_member {
-            self.repr.add_bit(bit);
-        } else {
-            self.repr.remove_bit(bit);
-        }
-    }
-
-    /// Returns the element with the least bit, or `None` if the set is empty.
-    ///
-    /// Rust's `enumset` has no such call.
-    pub fn first(&self) -> Option<T>
-        ensures { option_map T.elements.bit result ≡ least self.now }
-    {
-        Some(T::enum_from_u32(least_bit(&self.repr)?))
-    }
-
-    /// Returns the element with the greatest bit, or `None` if the set is empty.
-    ///
-    /// Rust's `enumset` has no such call.
-    pub fn last(&self) -> Option<T>
-        ensures { option_map T.elements.bit result ≡ greatest self.now }
-    {
-        Some(T::enum_from_u32(greatest_bit(&self.repr)?))
-    }
-
-    /// Returns the element with the least bit at or past `bit`, or `None` if there is none. So
-    /// `set.first_from(bit).or(set.first())` goes round the set.
-    ///
-    /// Rust's `enumset` has no such call.
-    pub fn first_from(&self, bit: u32) -> Option<T>
-        ensures { option_map T.elements.bit result
-            ≡ least (set.difference self.now (set.below bit)) }
-    {
-        Some(T::enum_from_u32(least_bit_from(&self.repr, bit)?))
-    }
-
-    /// Takes out the element with the least bit and returns it, or returns `None` if the set is empty.
-    ///
-    /// Rust's `enumset` has no such call.
-    pub fn pop_first(&mut self) -> Option<T>
-        ensures first { YieldsFirstBy T.elements.bit set.ascending self.old result self.new }
-        ensures removed { IfSome result (λ t. self.new ≡ set.remove self.old (T.elements.bit t)) }
-        ensures put_back { IfSome result (λ t. self.old ≡ set.insert self.new (T.elements.bit t)) }
-        ensures fewer { IfSome result (λ _. set.len self.new < set.len self.old) }
-        ensures none { IfNone result ((self.old ≡ set.empty) × (self.new ≡ set.empty)) }
-    {
-        match least_bit(&self.repr) {
-            Some(bit) => {
-                self.repr.remove_bit(bit);
-                Some(T::enum_from_u32(bit))
-            }
-            None => None,
-        }
-    }
-
-    /// Takes out the element with the greatest bit and returns it, or returns `None` if the set is empty.
-    ///
-    /// Rust's `enumset` has no such call.
-    pub fn pop_last(&mut self) -> Option<T>
-        ensures last { YieldsLastBy T.elements.bit set.ascending self.old result self.new }
-        ensures removed { IfSome result (λ t. self.new ≡ set.remove self.old (T.elements.bit t)) }
-        ensures put_back { IfSome result (λ t. self.old ≡ set.insert self.new (T.elements.bit t)) }
-        ensures fewer { IfSome result (λ _. set.len self.new < set.len self.old) }
-        ensures none { IfNone result ((self.old ≡ set.empty) × (self.new ≡ set.empty)) }
-    {
-        match greatest_bit(&self.repr) {
-            Some(bit) => {
-                self.repr.remove_bit(bit);
-                Some(T::enum_from_u32(bit))
-            }
-            None => None,
-        }
-    }
-
-    /// Removes each element for which `keep` returns false. It is called once for each, ascending by bit.
-    ///
-    /// If `keep` tests the bit of the element, the elements that pass stay. The test may read what `keep` captured, if no
-    /// call changes it. Rust's `enumset` has no such call.
-    pub fn retain<F: FnMut(T) -> bool>(&mut self, keep: F)
-        requires { F.IsAlwaysCallable keep }
-        ensures calls { Retains T.elements.bit F.FnMut keep self.old self.new }
-        ensures kept { (p : ℕ → Bool) → IsTest T.elements.bit F.FnMut p → self.new ≡ set.retain self.old p }
-        ensures kept_unchanged { (p : ℕ → Bool) → IsConstantTest T.elements.bit F.FnMut keep p
-            → self.new ≡ set.retain self.old p }
-    {
-        self.ask_each(keep);
-    }
-
-    // The loop of `retain`.
-    fn ask_each<F: FnMut(T) -> bool>(&mut self, mut keep: F)
-        requires { F.IsAlwaysCallable keep }
-        ensures { Retains T.elements.bit F.FnMut keep self.old self.new }
-    {
-        for element in self.iter() {
-            if !keep(element) {
-                self.remove(element);
-            }
-        }
-    }
-
     /// Returns an iterator over the elements, each once, ascending by bit, from both ends. Later changes to the set do
     /// not affect it. Each member of the set is a valid bit.
     pub fn iter(&self) -> EnumSetIter<T>
@@ -586,5 +390,156 @@ impl<T: EnumSetType> EnumSet<T> {
         ensures { result ≡ set.is_same self.now (set.only (T.elements.bit value)) }
     {
         are_same(&self.repr, &Self::only(value).repr)
+    }
+}
+
+/// Calls that Rust's `enumset` does not have.
+#[tactic(auto, using(crate::proofs::EndMembers::valid_ends))]
+impl<T: EnumSetType> EnumSet<T> {
+    /// Returns the variants from `from` to `to` by their bits, both included, or none if `to` has the lesser bit.
+    pub fn range(from: T, to: T) -> EnumSet<T>
+        ensures { result ≡ set.retain (valid_bits T.elements)
+            (λ q. nat_le (T.elements.bit from) q && nat_le q (T.elements.bit to)) }
+    {
+        let (first, last) = (Self::bit_index(from), Self::bit_index(to));
+        Self::of_repr(between(&valid_repr::<T>(), first, last))
+    }
+
+    /// As [`is_disjoint`](EnumSet::is_disjoint), without a copy of its argument.
+    pub fn is_disjoint_from(&self, other: &EnumSet<T>) -> bool
+        ensures { result ≡ set.is_disjoint self.now other.now }
+    {
+        self.repr.is_disjoint_from(&other.repr)
+    }
+
+    /// As [`is_superset`](EnumSet::is_superset), without a copy of its argument.
+    pub fn is_superset_of(&self, other: &EnumSet<T>) -> bool
+        ensures { result ≡ set.is_subset other.now self.now }
+    {
+        other.repr.is_subset_of(&self.repr)
+    }
+
+    /// As [`is_subset`](EnumSet::is_subset), without a copy of its argument.
+    pub fn is_subset_of(&self, other: &EnumSet<T>) -> bool
+        ensures { result ≡ set.is_subset self.now other.now }
+    {
+        self.repr.is_subset_of(&other.repr)
+    }
+
+    /// Adds every member of `other`, and returns whether one of them was absent.
+    pub fn union_with(&mut self, other: &EnumSet<T>) -> bool
+        ensures union { self.new ≡ set.union self.old other.now }
+        ensures changed { result ≡ not (set.is_subset other.now self.old) }
+    {
+        self.repr.or_changes(&other.repr)
+    }
+
+    /// Removes every member that is not in `other`, and returns whether there was one.
+    pub fn intersect_with(&mut self, other: &EnumSet<T>) -> bool
+        ensures intersection { self.new ≡ set.intersection self.old other.now }
+        ensures changed { result ≡ not (set.is_subset self.old other.now) }
+    {
+        self.repr.and_changes(&other.repr)
+    }
+
+    /// Removes every member of `other`, and returns whether one of them was present.
+    pub fn difference_with(&mut self, other: &EnumSet<T>) -> bool
+        ensures difference { self.new ≡ set.difference self.old other.now }
+        ensures changed { result ≡ not (set.is_disjoint self.old other.now) }
+    {
+        self.repr.and_not_changes(&other.repr)
+    }
+
+    /// Adds an element if it is absent, else removes it, and returns whether it is a member now.
+    #[tactic(auto, using(crate::proofs::EndMembers::toggles))]
+    pub fn toggle(&mut self, value: T) -> bool
+        ensures toggled { self.new
+            ≡ set.symmetric_difference self.old (set.only (T.elements.bit value)) }
+        ensures is_member { result ≡ set.contains self.new (T.elements.bit value) }
+        ensures was_absent { result ≡ not (set.contains self.old (T.elements.bit value)) }
+    {
+        let is_member = !self.contains(value);
+        self.set(value, is_member);
+        is_member
+    }
+
+    /// Adds an element if `is_member` is true, else removes it. So `is_member` says whether it is a member now.
+    pub fn set(&mut self, value: T, is_member: bool)
+        ensures { self.new ≡ (if is_member
+            then set.insert self.old (T.elements.bit value)
+            else set.remove self.old (T.elements.bit value)) }
+    {
+        let bit = Self::bit_index(value);
+        if is_member {
+            self.repr.add_bit(bit);
+        } else {
+            self.repr.remove_bit(bit);
+        }
+    }
+
+    /// Returns the element with the least bit, or `None` if the set is empty.
+    pub fn first(&self) -> Option<T>
+        ensures { option_map T.elements.bit result ≡ least self.now }
+    {
+        Some(T::enum_from_u32(least_bit(&self.repr)?))
+    }
+
+    /// Returns the element with the greatest bit, or `None` if the set is empty.
+    pub fn last(&self) -> Option<T>
+        ensures { option_map T.elements.bit result ≡ greatest self.now }
+    {
+        Some(T::enum_from_u32(greatest_bit(&self.repr)?))
+    }
+
+    /// Returns the element with the least bit at or past `bit`, or `None` if there is none. So
+    /// `set.first_from(bit).or(set.first())` goes round the set.
+    pub fn first_from(&self, bit: u32) -> Option<T>
+        ensures { option_map T.elements.bit result
+            ≡ least (set.difference self.now (set.below bit)) }
+    {
+        Some(T::enum_from_u32(least_bit_from(&self.repr, bit)?))
+    }
+
+    /// Takes out the element with the least bit and returns it, or returns `None` if the set is empty.
+    pub fn pop_first(&mut self) -> Option<T>
+        ensures first { YieldsFirstBy T.elements.bit set.ascending self.old result self.new }
+        ensures removed { IfSome result (λ t. self.new ≡ set.remove self.old (T.elements.bit t)) }
+        ensures put_back { IfSome result (λ t. self.old ≡ set.insert self.new (T.elements.bit t)) }
+        ensures fewer { IfSome result (λ _. set.len self.new < set.len self.old) }
+        ensures none { IfNone result ((self.old ≡ set.empty) × (self.new ≡ set.empty)) }
+    {
+        let bit = least_bit(&self.repr)?;
+        self.repr.remove_bit(bit);
+        Some(T::enum_from_u32(bit))
+    }
+
+    /// Takes out the element with the greatest bit and returns it, or returns `None` if the set is empty.
+    pub fn pop_last(&mut self) -> Option<T>
+        ensures last { YieldsLastBy T.elements.bit set.ascending self.old result self.new }
+        ensures removed { IfSome result (λ t. self.new ≡ set.remove self.old (T.elements.bit t)) }
+        ensures put_back { IfSome result (λ t. self.old ≡ set.insert self.new (T.elements.bit t)) }
+        ensures fewer { IfSome result (λ _. set.len self.new < set.len self.old) }
+        ensures none { IfNone result ((self.old ≡ set.empty) × (self.new ≡ set.empty)) }
+    {
+        let bit = greatest_bit(&self.repr)?;
+        self.repr.remove_bit(bit);
+        Some(T::enum_from_u32(bit))
+    }
+
+    /// Removes each element for which `keep` returns false. It is called once for each, ascending by bit. If it tests the
+    /// bit, the elements that pass stay; the test may read what `keep` captured, if no call changes it.
+    pub fn retain<F: FnMut(T) -> bool>(&mut self, keep: F)
+        requires { F.IsAlwaysCallable keep }
+        ensures calls { Retains T.elements.bit F.FnMut keep self.old self.new }
+        ensures kept { (p : ℕ → Bool) → IsTest T.elements.bit F.FnMut p → self.new ≡ set.retain self.old p }
+        ensures kept_unchanged { (p : ℕ → Bool) → IsConstantTest T.elements.bit F.FnMut keep p
+            → self.new ≡ set.retain self.old p }
+    {
+        let mut keeps = keep;
+        for element in self.iter() {
+            if !keeps(element) {
+                self.remove(element);
+            }
+        }
     }
 }

@@ -4,7 +4,6 @@
 //! them. Contracts see a set as the finite set of its members' bit numbers.
 #![tactic(auto)]
 
-mod between;
 pub mod element;
 mod element_operators;
 pub mod enum_set;

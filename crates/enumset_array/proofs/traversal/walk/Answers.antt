@@ -46,3 +46,7 @@ returns-clause-bound g c =
     let many : length c.loop-end.answers.items ≡ length (take c.loop-end.end-index c.args.ends.now) = ap length c.loop-end.invariant.items ∙ length-answers _ _ in
     let most : length (take c.loop-end.end-index c.args.ends.now) ≤ length c.args.ends.now = grind (arith, common_steps) in
     omega (arith, c.loop-end.invariant.asks)
+
+-- there is room for every answer
+pub returns-in_err-push : goal.returns-in_err-push
+returns-in_err-push g c = absurd (omega (arith, c.in_err-push.ensures.full, c.loop-end.invariant.room, c.loop-end.invariant.count))

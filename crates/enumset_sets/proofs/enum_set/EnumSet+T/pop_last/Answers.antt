@@ -1,25 +1,13 @@
-use Rattle.std.proofs.Common.{sym, ◌∙◌}
-use Rattle.enumset_repr.specs.Laws.Ends.{greatest_below, ascending_no_greatest}
-use Rattle.enumset_sets.proofs.EndMembers.{greatest_valid, greatest_taken, greatest_put_back, greatest_fewer, no_greatest}
+use Rattle.std.proofs.Common.{sym, rules}
+use Rattle.enumset_repr.specs.Laws.Ends.{greatest_below}
+use Rattle.enumset_sets.proofs.EndMembers.{greatest_taken, no_greatest}
 use Rattle.enumset_sets.proofs.enum_set.EnumSet+T.pop_last.Goals as goal
 
 pub remove_bit-requires : goal.remove_bit-requires
-remove_bit-requires g c = greatest_below _ g.T.Repr.EnumSetTypeRepr.WIDTH _ (g.met.T.Repr.EnumSetTypeRepr.represents.within _ c.self.invariant.is_value) (sym c.greatest_bit.ensures ∙ c.in-Some.is)
+remove_bit-requires g c = greatest_below _ g.T.Repr.EnumSetTypeRepr.WIDTH _ (g.met.T.Repr.EnumSetTypeRepr.represents.within _ c.self.invariant.is_value) (sym c.in_ok-bit.ensures)
 
-pub enum_from_u32-requires : goal.enum_from_u32-requires
-enum_from_u32-requires g c = greatest_valid _ _ _ c.self.invariant.valid_only (sym c.in-Some.is ∙ c.greatest_bit.ensures)
+pub returns : goal.returns
+returns g c = rw (← c.self.view_is) (let taken = greatest_taken _ _ _ _ c.remove_bit.ensures.members c.enum_from_u32.ensures c.in_ok-bit.ensures in record { last = taken.0; removed = search rules; put_back = taken.1; fewer = taken.2; none = search rules })
 
-pub returns-in-Some-clause-last : goal.returns-in-Some-clause-last
-returns-in-Some-clause-last g c = rw (← c.self.view_is) (greatest_taken _ _ _ _ (sym c.in-Some.is ∙ c.greatest_bit.ensures) c.remove_bit.ensures.members c.enum_from_u32.ensures)
-
-pub returns-in-Some-clause-put_back : goal.returns-in-Some-clause-put_back
-returns-in-Some-clause-put_back g c = rw (← c.self.view_is) (greatest_put_back _ _ _ _ (sym c.in-Some.is ∙ c.greatest_bit.ensures) c.remove_bit.ensures.members c.enum_from_u32.ensures)
-
-pub returns-in-Some-clause-fewer : goal.returns-in-Some-clause-fewer
-returns-in-Some-clause-fewer g c = rw (← c.self.view_is) (greatest_fewer _ _ _ (sym c.in-Some.is ∙ c.greatest_bit.ensures) c.remove_bit.ensures.members)
-
-pub returns-in-None-clause-last : goal.returns-in-None-clause-last
-returns-in-None-clause-last g c = rw (← c.self.view_is) (let none = ascending_no_greatest _ (sym c.greatest_bit.ensures ∙ c.in-None.is) in (none, none))
-
-pub returns-in-None-clause-none : goal.returns-in-None-clause-none
-returns-in-None-clause-none g c = rw (← c.self.view_is) (let none = no_greatest _ (sym c.in-None.is ∙ c.greatest_bit.ensures) in (none, none))
+pub returns-in_err-bit : goal.returns-in_err-bit
+returns-in_err-bit g c = rw (c.from_residual.ensures, ← c.self.view_is) (let none = no_greatest _ c.in_err-bit.ensures in record { last = (none.0, none.0); removed = search rules; put_back = search rules; fewer = search rules; none = (none.1, none.1) })

@@ -10,7 +10,7 @@ use Rattle.enumset_repr.specs.Words.{word, with_word}
 use Rattle.enumset_repr.specs.Laws.Members.{members, same_set, member_below}
 use Rattle.enumset_repr.specs.Laws.Numbers.{bits_and, bits_and_not}
 use Rattle.enumset_repr.specs.Laws.Words.{contains_bits_word, contains_with_word}
-use Rattle.enumset_sets.proofs.between.between.Goals as goal
+use Rattle.enumset_sets.proofs.representation.between.Goals as goal
 
 module _ (s : BitSet) (first last : ℕ) where
   abbrev so_far : ℕ → BitSet

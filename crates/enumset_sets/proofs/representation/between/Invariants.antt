@@ -1,7 +1,7 @@
 use Rattle.std.proofs.Common.{◌≡◌, ◌*◌, ◌&&◌}
 use Rattle.std.specs.Prelude.{nat_le, nat_lt}
 use Rattle.enumset_repr.specs.BitSet.{retain}
-use Rattle.enumset_sets.proofs.between.between.Given as goal
+use Rattle.enumset_sets.proofs.representation.between.Given as goal
 
 -- the members in the words so far
 abbrev pub invariant-loop-i : goal.invariant-loop-i
