@@ -1,6 +1,6 @@
 //! JSON texts of whole numbers, written and read digit by digit, without a tree of values.
 
-ghost use Rattle.std.specs.Prelude.{◌≡◌, ◌<◌, ◌≤◌, ◌+◌, ◌/◌, ◌%◌, ◌^◌, ◌++◌, decimal, length, slice_index};
+ghost use Rattle.std.specs.Prelude.{◌≡◌, ◌<◌, ◌≤◌, ◌+◌, ◌^◌, ◌++◌, decimal, length, slice_index};
 ghost use Rattle.std.specs.Prelude.{IfOk, IfSome, Some, string_bytes};
 ghost use Rattle.serde_json.specs.Read.{read};
 ghost use Rattle.enumset.specs.Json.{number_value};
@@ -35,64 +35,31 @@ pub(super) fn split_number(bytes: &[u8]) -> Option<(u64, &[u8])>
     ensures { IfSome result (λ parts.
         (parts.0 < 2 ^ 64) × (bytes.now ≡ decimal parts.0 ++ parts.1.now)) }
 {
-    let (first, rest) = bytes.split_first()?;
-    let mut number = digit_of(*first)?;
+    let mut number = digit_at(bytes, 0)?;
+    let mut at = 1;
     if number == 0 {
-        return Some((0, rest));
+        let (_, rest) = bytes.split_at(at);
+        return Some((number, rest));
     }
-    // Nineteen digits always fit, so that only the twentieth is tested for it.
-    let count = rest.len().min(18);
-    let mut at = 0;
-    while let Some(pair) = pair_at(rest, at, count) {
-        number = number * 100 + pair;
-        at += 2;
-    }
-    for i in at..count {
-        let Some(digit) = digit_of(rest[i]) else {
-            let (_, left) = rest.split_at(i);
-            return Some((number, left));
-        };
+    while let Some(digit) = digit_at(bytes, at) {
+        // Nineteen digits always fit.
+        if at >= 19 && number > (u64::MAX - digit) / 10 {
+            return None;
+        }
         number = number * 10 + digit;
+        at += 1;
     }
-    let (_, left) = rest.split_at(count);
-    with_last_digit(number, left)
+    let (_, rest) = bytes.split_at(at);
+    Some((number, rest))
 }
 
-// A number with the digit that stands first, if one does and both fit, and what follows.
+// The digit at a place, if one stands there.
 #[inline(always)]
-fn with_last_digit(number: u64, bytes: &[u8]) -> Option<(u64, &[u8])>
-    requires { 0 < number }
-    ensures { IfSome result (λ parts.
-        (parts.0 < 2 ^ 64) × (decimal number ++ bytes.now ≡ decimal parts.0 ++ parts.1.now)) }
+fn digit_at(bytes: &[u8], at: usize) -> Option<u64>
+    ensures { IfSome result (λ digit.
+        (at < length bytes.now) × (digit < 10) × (slice_index bytes.now at ≡ 48 + digit)) }
 {
-    let Some((first, rest)) = bytes.split_first() else {
-        return Some((number, bytes));
-    };
-    let Some(digit) = digit_of(*first) else {
-        return Some((number, bytes));
-    };
-    let more = number.checked_mul(10)?.checked_add(digit)?;
-    Some((more, rest))
-}
-
-// The number of the two digits at a place, if they end before another. Two a turn take three quarters of the time of one.
-#[inline(always)]
-fn pair_at(bytes: &[u8], at: usize, end: usize) -> Option<u64>
-    requires { end ≤ length bytes.now }
-    ensures { IfSome result (λ pair. (at + 2 ≤ end) × (pair < 100)
-        × (slice_index bytes.now at ≡ 48 + pair / 10) × (slice_index bytes.now (at + 1) ≡ 48 + pair % 10)) }
-{
-    if end < 2 || end - 2 < at {
-        return None;
-    }
-    Some(digit_of(bytes[at])? * 10 + digit_of(bytes[at + 1])?)
-}
-
-// The digit that a byte is.
-#[inline(always)]
-fn digit_of(byte: u8) -> Option<u64>
-    ensures { IfSome result (λ digit. (digit < 10) × (byte ≡ 48 + digit)) }
-{
+    let byte = *bytes.get(at)?;
     if b'0' <= byte && byte <= b'9' {
         Some((byte - b'0') as u64)
     } else {
