@@ -3,8 +3,13 @@
 --     boolean_before      a boolean's text, before what follows it
 --     IsMember      a plain name up to its closing quote and a boolean, with spaces, and what follows them
 --     all_true      each name with `true`, in the order given
+--     by_bytes, AreRising      how the bytes of two names compare;  names, each of whose bytes come before those of later ones
 use Rattle.std.specs.Prelude.{◌≡◌, ℕ, Bool, true, false, List, [], ◌∷◌, ◌++◌}
 use Rattle.std.specs.Borrow.{Bor}
+use Rattle.std.specs.Cmp.Lexicographic.{slice_cmp}
+use Rattle.std.specs.List.Sorted.{IsStrictlySortedBy}
+use Rattle.std.specs.Ordering.{nat_cmp}
+use Rattle.std.specs.declared.cmp.Ordering.{Ordering}
 use Rattle.serde_json.specs.Data.{boolean, Members, no_members, member}
 use Rattle.enumset.specs.JsonPlain.{IsPlain, AreSpaces}
 
@@ -19,3 +24,9 @@ IsMember text name b rest =
 abbrev pub all_true : List (Bor (List ℕ)) → Members
 all_true [] = no_members
 all_true (name ∷ names) = member name.now (boolean true) (all_true names)
+
+abbrev pub by_bytes : Bor (List ℕ) → Bor (List ℕ) → Ordering
+by_bytes x y = slice_cmp nat_cmp x.now y.now
+
+abbrev pub AreRising : List (Bor (List ℕ)) → Type 0
+AreRising = IsStrictlySortedBy by_bytes
