@@ -21,15 +21,17 @@ pub enum JsonFault {
     NotAWord(usize),
     /// The value is not a JSON object.
     NotAnObject,
-    /// The element at this place, counted from 0, is the first that is not a text.
+    /// The element at this place, counted from 0, is the first that is not a string.
     NotAText(usize),
-    /// The name at this place, counted from 0 in the order of the names, is the first whose value is not a boolean.
+    /// The name at this place, counted from 0 in the order of the names' bytes, is the first whose value is not a
+    /// boolean.
     NotABoolean(usize),
     /// A bit is not valid, and such bits are refused.
     UnknownBits,
-    /// The name at this place, counted from 0, is the first of no variant, and such names are refused.
+    /// The name at this place, counted from 0, in an object in the order of the names' bytes, is the first of no
+    /// variant, and such names are refused.
     UnknownName(usize),
-    /// The text is not JSON. The parser found the error at this line, counted from 1.
+    /// The string is not JSON. The parser found the error at this line, counted from 1.
     NotJson(usize),
     /// Memory was refused.
     OutOfMemory,

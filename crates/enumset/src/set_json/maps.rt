@@ -32,7 +32,8 @@ pub fn to_map<T: EnumSetNames>(alloc: Global, set: &EnumSet<T>) -> Result<Value,
 ///
 /// The errors are [`JsonFault::NotAnObject`], [`JsonFault::NotABoolean`] of the first name whose value is no boolean
 /// and, where unknown names are refused, [`JsonFault::UnknownName`] of the first, with `true` or with `false`, tested
-/// in this order. It takes no memory. It reads the form of `serialize_repr = "map"` of Rust's `enumset`.
+/// in this order. The first is that of the names in the order of their bytes. It takes no memory. It reads the form of
+/// `serialize_repr = "map"` of Rust's `enumset`.
 pub fn from_map<T: EnumSetNames>(value: &Value, unknown: Unknown) -> Result<EnumSet<T>, JsonFault>
     ensures { result ≡ set_of_map (names_of T.elements T.names) unknown (view value.now) }
 {

@@ -20,7 +20,8 @@ use serde_json::Value;
 use std::alloc::Global;
 
 /// Returns the set's number, unknown bits included. The representation may have 64 bits at most. It takes no memory,
-/// and always succeeds. It is what Rust's `enumset` writes of a `MixedEnumSet`.
+/// and always succeeds; the allocator and the `Result` are those of the other writers. It is what Rust's `enumset`
+/// writes of a `MixedEnumSet`.
 pub fn mixed_to_number<T: EnumSetTypeWithRepr>(
     _alloc: Global,
     set: &MixedEnumSet<T>,
@@ -86,7 +87,8 @@ pub fn mixed_to_words<T: EnumSetTypeWithRepr>(
 /// at and past the representation's width are left out, or refused.
 ///
 /// The errors are [`JsonFault::NotAnArray`], [`JsonFault::NotAWord`] of the first element that is none and, where bits
-/// past the width are refused, [`JsonFault::OutOfRange`], tested in this order. It takes no memory.
+/// past the width are refused, [`JsonFault::OutOfRange`], tested in this order. It takes no memory. Rust's `enumset`
+/// reads a number of 128 bits instead.
 pub fn mixed_from_words<T: EnumSetTypeWithRepr>(
     value: &Value,
     past: Unknown,

@@ -24,7 +24,7 @@ use serde_json::Value;
 use std::alloc::Global;
 
 /// Writes the digits of the set's number, unknown bits included. The representation may have 64 bits at most. The only
-/// fault is [`JsonFault::OutOfMemory`].
+/// fault is [`JsonFault::OutOfMemory`]. `serde_json` writes this string of a `MixedEnumSet` of Rust's `enumset`.
 pub fn mixed_to_number_text<T: EnumSetTypeWithRepr>(
     alloc: Global,
     set: &MixedEnumSet<T>,
@@ -38,7 +38,9 @@ pub fn mixed_to_number_text<T: EnumSetTypeWithRepr>(
     Ok(number_text(alloc, mixed_number(set))?)
 }
 
-/// Writes a set as the text of the value that [`mixed_to_words`] writes. The only fault is [`JsonFault::OutOfMemory`].
+/// Writes the set's words of 64 bits as an array without spaces, the lowest first, as many as its representation has,
+/// unknown bits included. The only fault is [`JsonFault::OutOfMemory`]. Rust's `enumset` writes a number of 128 bits
+/// instead.
 pub fn mixed_to_words_text<T: EnumSetTypeWithRepr>(
     alloc: Global,
     set: &MixedEnumSet<T>,
@@ -52,9 +54,10 @@ pub fn mixed_to_words_text<T: EnumSetTypeWithRepr>(
     Ok(words_text(alloc, &set.as_repr())?)
 }
 
-/// Reads a set from a string of JSON, as [`mixed_from_number`] reads it from the string's value. The representation may
-/// have 64 bits at most. It has the faults of [`mixed_from_number`] and two more: [`JsonFault::NotJson`] if the string
-/// is not JSON, and [`JsonFault::OutOfMemory`], since the parser takes memory.
+/// Reads a set from a string of JSON that is a number, as [`mixed_from_number`] reads it from the number. The
+/// representation may have 64 bits at most. It has the faults of [`mixed_from_number`] and two more:
+/// [`JsonFault::NotJson`] if the string is not JSON, and [`JsonFault::OutOfMemory`], since other strings than whole
+/// numbers are parsed in memory.
 pub fn mixed_from_number_text<T: EnumSetTypeWithRepr>(
     alloc: Global,
     text: &str,
@@ -68,9 +71,9 @@ pub fn mixed_from_number_text<T: EnumSetTypeWithRepr>(
     }
 }
 
-/// Reads a set from a string of JSON, as [`mixed_from_words`] reads it from the string's value. It has the faults of
-/// [`mixed_from_words`] and two more: [`JsonFault::NotJson`] if the string is not JSON, and [`JsonFault::OutOfMemory`],
-/// since the parser takes memory.
+/// Reads a set from a string of JSON that is an array of words of 64 bits, as [`mixed_from_words`] reads it from the
+/// array. It has the faults of [`mixed_from_words`] and two more: [`JsonFault::NotJson`] if the string is not JSON, and
+/// [`JsonFault::OutOfMemory`], since other strings than arrays of whole numbers are parsed in memory.
 pub fn mixed_from_words_text<T: EnumSetTypeWithRepr>(
     alloc: Global,
     text: &str,
