@@ -63,7 +63,7 @@ pub(crate) fn find_name<T: EnumSetNames>(text: &[u8], next: &mut usize) -> Optio
         ≡ bit_named (names_of T.elements T.names) text.now }
 {
     let names = T::names();
-    let start = if *next < names.len() { *next } else { 0 };
+    let start = (*next).min(names.len());
     if let Some((place, value)) = find_from(names, start, text) {
         *next = place + 1;
         return Some(value);
