@@ -11,7 +11,7 @@ ghost use Rattle.enumset.specs.declared.set_json.fault.JsonFault.TheVariants.{Ou
 
 use super::fault::JsonFault;
 use super::unknown::Unknown;
-use super::whole::{below_power, whole_number};
+use super::whole::number_below;
 use super::words::{read_words, words_of};
 use enumset_mixed::MixedEnumSet;
 use enumset_repr::EnumSetTypeRepr;
@@ -53,17 +53,7 @@ pub fn mixed_from_number<T: EnumSetTypeWithRepr>(
     requires narrow { T.Repr.WIDTH ≤ 64 }
     ensures { result ≡ mixed_set_of_number T.Repr.WIDTH (view value.now) }
 {
-    mixed_set_of_number(whole_number(value)?)
-}
-
-// The set of all bits of a number below two to the representation's width.
-pub(super) fn mixed_set_of_number<T: EnumSetTypeWithRepr>(
-    number: u64,
-) -> Result<MixedEnumSet<T>, JsonFault>
-    requires narrow { T.Repr.WIDTH ≤ 64 }
-    ensures { result ≡ mixed_set_of_number T.Repr.WIDTH (number_value number) }
-{
-    let bits = below_power(number, <T::Repr as EnumSetTypeRepr>::WIDTH)?;
+    let bits = number_below(value, <T::Repr as EnumSetTypeRepr>::WIDTH)?;
     Ok(MixedEnumSet::from_repr(T::Repr::from_u64(bits)))
 }
 
