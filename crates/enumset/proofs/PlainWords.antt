@@ -1,7 +1,8 @@
 -- What the loop of the reader of plain words keeps.
-use Rattle.std.proofs.Common.{◌≡◌, ◌<◌, ◌+◌, ◌/◌, ◌^◌, ℕ, Bool, true, ◌&&◌, if◌then◌else◌, Some, List, [], ◌∷◌, ◌++◌, length, length-append, decimal, refl, sym, ap, subst, ◌∙◌, append_assoc, arith, slice_index}
+use Rattle.std.proofs.Common.{◌≡◌, ◌<◌, ◌+◌, ◌/◌, ◌^◌, ℕ, Bool, true, false, ◌&&◌, if◌then◌else◌, Option, Some, IfSome, List, [], ◌∷◌, ◌++◌, length, length-append, decimal, refl, sym, ap, subst, ◌∙◌, append_assoc, arith, slice_index}
 use Rattle.std.proofs.Math.Seq.{get_or-append_seam}
 use Rattle.std.proofs.lemmas.List.{get_or_append_left}
+use Rattle.std.specs.Bool.{then_some}
 use Rattle.std.specs.Prelude.{◌==◌, nat_lt}
 use Rattle.enumset_repr.specs.BitSet.{BitSet, empty, is_subset, below, low}
 use Rattle.enumset_repr.specs.Words.{word, with_word, bits_of}
@@ -11,6 +12,11 @@ use Rattle.enumset.specs.JsonPlain.{AreSpaces, Passed}
 use Rattle.enumset.proofs.JsonLists.{no_strings}
 use Rattle.enumset.proofs.JsonNumbers.{IsNumberFirst, before_comma, before_bracket, first_number, next_number, last_number}
 use Rattle.enumset.proofs.JsonWords.{AreRead, none_read, taken, same_before, all_read}
+
+-- what a value that is kept under a condition has
+pub kept_if : {A : Type 0} (P : A → Type 0) (o : Option A) (b : Bool) (v : A) → o ≡ then_some b v → (b ≡ true → P v) → IfSome o P
+kept_if P o true v is has = subst (λ o. IfSome o P) (sym is) (has refl)
+kept_if P o false v is has = subst (λ o. IfSome o P) (sym is) tt
 
 module _ (text : List ℕ) (width : ℕ) where
   -- the words before a place were read, and what is left goes on the array

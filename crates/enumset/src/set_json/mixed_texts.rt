@@ -11,7 +11,7 @@ ghost use Rattle.enumset.specs.JsonReads.{IsReadOf};
 ghost use Rattle.enumset.specs.declared.set_json.fault.JsonFault.TheVariants.{OutOfMemory};
 
 use super::fault::JsonFault;
-use super::mixed::{kept_below, mixed_from_number, mixed_from_words, mixed_number};
+use super::mixed::{kept_below, mixed_from_number, mixed_from_words, mixed_to_number};
 use super::plain_numbers::{number_text, number_value_of};
 use super::plain_words::{plain_words, words_text};
 use super::unknown::Unknown;
@@ -33,7 +33,7 @@ pub fn mixed_to_number_text<T: EnumSetTypeWithRepr>(
         read (string_bytes text) ≡ Some (number_value (number set.now))) }
     ensures fault { IfErr result (λ fault. fault ≡ OutOfMemory) }
 {
-    Ok(number_text(alloc, mixed_number(set))?)
+    Ok(number_text(alloc, &mixed_to_number(alloc, set)?)?)
 }
 
 /// Writes a set as the text of the value that [`mixed_to_words`] writes. The only fault is [`JsonFault::OutOfMemory`].
@@ -74,7 +74,7 @@ pub fn mixed_from_words_text<T: EnumSetTypeWithRepr>(
     ensures { IsReadOf (mixed_set_of_words T.Repr.WIDTH past) text.now result }
 {
     match plain_words(text) {
-        Some((repr, is_whole)) => kept_below(repr, is_whole, past),
+        Some(found) => kept_below(found, past),
         None => mixed_from_words(&Value::from_str(alloc, text)?, past),
     }
 }

@@ -27,21 +27,9 @@ pub fn to_number<T: EnumSetType>(
     ensures value { IfOk result (λ value. view value ≡ number_value (number set.now)) }
     ensures fault { IfErr result (λ fault. fault ≡ TooWide) }
 {
-    Ok(Value::from(number_within(set, width)?))
-}
-
-// The set's number, if each member is below the width.
-pub(super) fn number_within<T: EnumSetType>(
-    set: &EnumSet<T>,
-    width: JsonWidth,
-) -> Result<u64, JsonFault>
-    ensures fits { IsOk result ↔ IsTrue (is_subset set.now (below (width_of width))) }
-    ensures value { IfOk result (λ n. n ≡ number set.now) }
-    ensures fault { IfErr result (λ fault. fault ≡ TooWide) }
-{
     let bits = width.bits();
     match set.try_as_u64() {
-        Some(number) if fits(number, bits) => Ok(number),
+        Some(number) if fits(number, bits) => Ok(Value::from(number)),
         _ => Err(JsonFault::TooWide),
     }
 }

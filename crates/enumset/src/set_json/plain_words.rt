@@ -55,22 +55,14 @@ pub(super) fn plain_words<R: EnumSetTypeRepr>(text: &str) -> Option<(R, bool)>
     let mut repr = R::EMPTY;
     let mut is_whole = true;
     if let Some(end) = after_byte(rest, b']') {
-        return if are_spaces(end) {
-            Some((repr, is_whole))
-        } else {
-            None
-        };
+        return are_spaces(end).then_some((repr, is_whole));
     }
     let (_, mut left) = split_spaces(rest);
     for place in 0..text.len() {
         let (word, rest) = split_number(left)?;
-        take_word(&mut repr, &mut is_whole, place, word);
+        is_whole &= take_word(&mut repr, place, word);
         if let Some(end) = after_byte(rest, b']') {
-            return if are_spaces(end) {
-                Some((repr, is_whole))
-            } else {
-                None
-            };
+            return are_spaces(end).then_some((repr, is_whole));
         }
         let (_, next) = split_spaces(after_byte(rest, b',')?);
         left = next;

@@ -20,7 +20,7 @@ use super::lists::{from_list, to_list};
 use super::map_scan::plain_map_set;
 use super::map_texts::plain_map;
 use super::maps::{from_map, to_map};
-use super::numbers::{from_number, number_within};
+use super::numbers::{from_number, to_number};
 use super::plain_lists::{plain_list, plain_set};
 use super::plain_numbers::{number_text, number_value_of};
 use super::plain_words::{plain_words, words_text};
@@ -45,7 +45,7 @@ pub fn to_number_text<T: EnumSetType>(
     ensures too_wide { (result ≡ Err TooWide) ↔ (is_subset set.now (below (width_of width)) ≡ false) }
     ensures fault { IfErr result (λ fault. (fault ≡ TooWide) ⊎ (fault ≡ OutOfMemory)) }
 {
-    Ok(number_text(alloc, number_within(set, width)?)?)
+    Ok(number_text(alloc, &to_number(alloc, set, width)?)?)
 }
 
 /// Writes a set as the text of the value that [`to_words`] writes. The only fault is [`JsonFault::OutOfMemory`].
@@ -112,7 +112,7 @@ pub fn from_words_text<T: EnumSetType>(
     ensures { IsReadOf (set_of_words (valid_bits T.elements) unknown) text.now result }
 {
     match plain_words(text) {
-        Some((repr, is_whole)) => accepted(repr, is_whole, unknown),
+        Some(found) => accepted(found, unknown),
         None => from_words(&Value::from_str(alloc, text)?, unknown),
     }
 }

@@ -3,13 +3,8 @@ use Rattle.std.proofs.lemmas.Bool.{ltb-true, lt-ltb}
 use Rattle.enumset_repr.specs.Laws.Low.{fits_number, is_subset_wider}
 use Rattle.enumset_repr.specs.Laws.Numbers.{number_within}
 use Rattle.enumset.specs.Json.{width_of}
-use Rattle.enumset.proofs.set_json.numbers.number_within.Goals as goal
-
-pub returns-in_default-2-clause-fits : goal.returns-in_default-2-clause-fits
-returns-in_default-2-clause-fits g c = (
-  λ ok. absurd (true≢false (sym ok)),
-  λ within. absurd (true≢false (sym (c.in_default.ensures.fits.1 (is_subset_wider _ (width_of c.args.width) 64 c.bits-bits.ensures.narrow within)))),
-)
+use Rattle.enumset.proofs.set_json.numbers.to_number.Goals.{in_default-via-in-Some+else-fits, in_default-via-in_default}
+use Rattle.enumset.proofs.set_json.numbers.to_number.Goals as goal
 
 pub returns-in-Some-clause-fits : goal.returns-in-Some-clause-fits
 returns-in-Some-clause-fits g c =
@@ -19,5 +14,10 @@ returns-in-Some-clause-fits g c =
 pub returns-in_default-clause-fits : goal.returns-in_default-clause-fits
 returns-in_default-clause-fits g c = (
   λ ok. absurd (true≢false (sym ok)),
-  λ within. absurd (true≢false (sym (lt-ltb _ _ (subst (λ k. c.in-Some.number < 2 ^ k) (sym c.bits-bits.ensures.bits) (subst (λ n. n < 2 ^ width_of c.args.width) (sym c.in-Some.ensures.value) (number_within _ (width_of c.args.width) within)))) ∙ sym c.fits.ensures ∙ c.if-fits.false)),
+  λ within. elim c.in_default.branch [
+    | in_default-via-in-Some+else-fits w ↦
+        let small = subst (λ n. n < 2 ^ width_of c.args.width) (sym w.in-Some.ensures.value) (number_within _ (width_of c.args.width) within) in
+        absurd (true≢false (sym (lt-ltb _ _ (subst (λ k. w.in-Some.number < 2 ^ k) (sym c.bits-bits.ensures.bits) small)) ∙ sym w.fits.ensures ∙ w.if-fits.false))
+    | in_default-via-in_default w ↦ absurd (true≢false (sym (w.in_default.ensures.fits.1 (is_subset_wider _ (width_of c.args.width) 64 c.bits-bits.ensures.narrow within))))
+  ],
 )
