@@ -26,21 +26,13 @@ pub(super) fn words_text<R: EnumSetTypeRepr>(alloc: Global, repr: &R) -> Result<
     let mut bytes = Vec::with_capacity(alloc, room)?;
     bytes.push(b'[')?;
     for i in 0..R::PREFERRED_ARRAY_LEN {
-        push_word(&mut bytes, repr.word(i), i > 0)?;
+        if i > 0 {
+            bytes.push(b',')?;
+        }
+        push_digits(&mut bytes, repr.word(i))?;
     }
     bytes.push(b']')?;
     Ok(ascii_text(bytes))
-}
-
-// One more word of an array.
-#[inline(always)]
-fn push_word(bytes: &mut Vec<u8>, word: u64, later: bool) -> Result<(), AllocError>
-    ensures { OnOk result (bytes.new.items ≡ bytes.old.items ++ (comma_if later ++ decimal word)) }
-{
-    if later {
-        bytes.push(b',')?;
-    }
-    push_digits(bytes, word)
 }
 
 // The set of the bits of an array's words below the representation's width, and whether these are all their bits. The
