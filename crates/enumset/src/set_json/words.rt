@@ -68,13 +68,8 @@ pub(super) fn accepted<T: EnumSetType>(
     let all = representation::valid_repr::<T>();
     match unknown {
         Unknown::Drop => Ok(raw::new(found.0 & all)),
-        Unknown::Refuse => {
-            if found.1 && found.0.is_subset_of(&all) {
-                Ok(raw::new(found.0))
-            } else {
-                Err(JsonFault::UnknownBits)
-            }
-        }
+        Unknown::Refuse if found.1 && found.0.is_subset_of(&all) => Ok(raw::new(found.0)),
+        Unknown::Refuse => Err(JsonFault::UnknownBits),
     }
 }
 
