@@ -10,7 +10,7 @@ use Rattle.serde_json.specs.Read.{read}
 use Rattle.enumset.specs.Json.{words_value}
 use Rattle.enumset.specs.JsonPlain.{AreSpaces, Passed}
 use Rattle.enumset.proofs.JsonLists.{no_strings}
-use Rattle.enumset.proofs.JsonNumbers.{IsNumberFirst, before_comma, before_bracket, first_number, next_number, last_number}
+use Rattle.enumset.proofs.JsonNumbers.{IsNumberFirst, before_stop, comma_stops, bracket_stops, first_number, next_number, last_number}
 use Rattle.enumset.proofs.JsonWords.{AreRead, none_read, taken, same_before, all_read}
 
 -- what a value that is kept under a condition has
@@ -61,7 +61,7 @@ module _ (text : List ℕ) (width : ℕ) where
       one_more,
       λ more first e.
           let all = split ∙ ap (λ t. decimal x ++ t) (is ∙ ap (λ t. f ++ 44 ∷ t) here) in
-          so_far.3 (x ∷ more) (subst IsNumberFirst (sym all) (before_comma x f (g ++ next) fits fs)) (ap (λ l. read (91 ∷ l)) all ∙ next_number x f g next _ fits fs gs first e)
+          so_far.3 (x ∷ more) (subst IsNumberFirst (sym all) (before_stop x f (44 ∷ (g ++ next)) fits fs (comma_stops (g ++ next)))) (ap (λ l. read (91 ∷ l)) all ∙ next_number x f g next _ fits fs gs first e)
           ∙ ap (λ ws. Some (words_value ws)) (sym (append_assoc so_far.0 (x ∷ []) more)),
     )
 
@@ -70,7 +70,7 @@ module _ (text : List ℕ) (width : ℕ) where
         let text = split ∙ ap (λ t. decimal x ++ t) is in
         let all = all_read done (place + 1) width r kept one_more (omega (arith, length-append so_far.0 (x ∷ []), so_far.1)) in (
           done,
-          so_far.3 (x ∷ []) (subst IsNumberFirst (sym text) (before_bracket x f end fits fs)) (ap (λ l. read (91 ∷ l)) text ∙ last_number x f end fits fs gs),
+          so_far.3 (x ∷ []) (subst IsNumberFirst (sym text) (before_stop x f (93 ∷ end) fits fs (bracket_stops end))) (ap (λ l. read (91 ∷ l)) text ∙ last_number x f end fits fs gs),
           all.0,
           all.1,
         )
