@@ -28,14 +28,11 @@ IsOther x =
     × ((x == 32) ≡ false) × ((x == 9) ≡ false) × ((x == 10) ≡ false) × ((x == 13) ≡ false)
     × ((x == 116) ≡ false) × ((x == 102) ≡ false) × ((x == 110) ≡ false) × ((x == 45) ≡ false) × (is_ascii_digit x ≡ true)
 
-other_than : (x k : ℕ) → IsDigit x → (nat_lt k 48 || nat_lt 57 k) ≡ true → (x == k) ≡ false
-other_than x k digit far = grind (arith, nat_tests, digit)
-
 is_other : (x : ℕ) → IsDigit x → IsOther x
 is_other x digit = (o 34 refl, o 92 refl, o 123 refl, o 125 refl, o 91 refl, o 93 refl, o 58 refl, o 44 refl, o 32 refl, o 9 refl, o 10 refl, o 13 refl, o 116 refl, o 102 refl, o 110 refl, o 45 refl, grind (arith, nat_tests, digit))
   where
     o : (k : ℕ) → (nat_lt k 48 || nat_lt 57 k) ≡ true → (x == k) ≡ false
-    o k far = other_than x k digit far
+    o k far = grind (arith, nat_tests, digit)
 
 not_zero : (n : ℕ) → (suc n == 0) ≡ false
 not_zero n = grind arith
@@ -65,10 +62,6 @@ comma_ends z ts e = ap (drop 1) e
 pub bracket_ends : (z : List ℕ) (ts : Tokens) → tokens (34 ∷ 34 ∷ 93 ∷ z) ≡ text_token false [] ∷ ts → Before (93 ∷ z) ts
 unfolding serde_json_on_literals
 bracket_ends z ts e = ap (drop 1) e
-
-pub nothing_ends : Before [] []
-unfolding serde_json_on_literals
-nothing_ends = refl
 
 pub space_ends : (x : ℕ) (z : List ℕ) (ts : Tokens) → is_space x ≡ true → tokens (34 ∷ 34 ∷ x ∷ z) ≡ text_token false [] ∷ ts → Before (x ∷ z) ts
 unfolding serde_json_on_literals

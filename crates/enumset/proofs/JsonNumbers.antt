@@ -11,7 +11,7 @@ use Rattle.enumset.specs.JsonPlain.{is_space, AreSpaces}
 use Rattle.enumset.proofs.JsonTokens.{tokens, Tokens}
 use Rattle.enumset.proofs.JsonSteps.{quote_end, empty_list}
 use Rattle.enumset.proofs.JsonSpaces.{at_space, same_read, spaces_first, spaces_after_bracket, spaces_after_string, spaces_after_comma, spaces_after_last}
-use Rattle.enumset.proofs.JsonDigits.{Ends, Before, comma_ends, bracket_ends, nothing_ends, space_ends, decimal_before}
+use Rattle.enumset.proofs.JsonDigits.{Ends, Before, comma_ends, bracket_ends, space_ends, decimal_before}
 use Rattle.enumset.proofs.MapHandles.{value, whole}
 
 -- ---- after a number
@@ -42,7 +42,7 @@ number_before n g e ts fits spaces stop is =
 
 end_stops : IsStop []
 unfolding serde_json_on_literals
-end_stops = ((refl, refl, refl, refl, refl), λ ts e. nothing_ends ∙ ap (drop 1) e)
+end_stops = ((refl, refl, refl, refl, refl), λ ts e. ap (drop 1) e)
 
 nothing_left : tokens (34 ∷ 34 ∷ []) ≡ text_token false [] ∷ []
 unfolding serde_json_on_literals
