@@ -12,7 +12,7 @@ ghost use Rattle.enumset.specs.declared.set_json.fault.JsonFault.TheVariants.{Ou
 
 use super::fault::JsonFault;
 use super::mixed::{kept_below, mixed_from_number, mixed_from_words, mixed_to_number};
-use super::plain_numbers::{number_text, number_value_of};
+use super::plain_numbers::{number_text, plain_number};
 use super::plain_words::{plain_words, words_text};
 use super::unknown::Unknown;
 use enumset_mixed::MixedEnumSet;
@@ -60,7 +60,10 @@ pub fn mixed_from_number_text<T: EnumSetTypeWithRepr>(
     requires narrow { T.Repr.WIDTH ≤ 64 }
     ensures { IsReadOf (mixed_set_of_number T.Repr.WIDTH) text.now result }
 {
-    mixed_from_number(&number_value_of(alloc, text)?)
+    match plain_number(text) {
+        Some(number) => mixed_from_number(&Value::from(number)),
+        None => mixed_from_number(&Value::from_str(alloc, text)?),
+    }
 }
 
 /// Reads a set from a string of JSON, as [`mixed_from_words`] reads it from the string's value. It has the faults of

@@ -1,15 +1,14 @@
 //! JSON texts of whole numbers, written and read digit by digit, without a tree of values.
 
 ghost use Rattle.std.specs.Prelude.{◌≡◌, ◌<◌, ◌≤◌, ◌+◌, ◌^◌, ◌++◌, ℕ, decimal, length, slice_index};
-ghost use Rattle.std.specs.Prelude.{IfOk, IfErr, IfSome, Some, None, string_bytes};
-ghost use Rattle.serde_json.specs.Errors.{IsMemory};
+ghost use Rattle.std.specs.Prelude.{IfOk, IfSome, Some, string_bytes};
 ghost use Rattle.serde_json.specs.Read.{read};
 ghost use Rattle.serde_json.specs.View.{view};
 ghost use Rattle.enumset.specs.Json.{number_value};
 
 use super::digits::{ascii_text, push_digits};
 use super::scan::{are_spaces, split_spaces};
-use serde_json::{Error, Value};
+use serde_json::Value;
 use std::alloc::{AllocError, Global};
 
 // The digits of the number that a value holds.
@@ -24,16 +23,13 @@ pub(super) fn number_text(alloc: Global, value: &Value) -> Result<String, AllocE
     Ok(ascii_text(bytes))
 }
 
-// The value that a text is. No tree is made of a whole number below 2^64 with nothing but spaces at its ends.
-pub(super) fn number_value_of(alloc: Global, text: &str) -> Result<Value, Error>
-    ensures ok { IfOk result (λ value. read text.now ≡ Some (view value)) }
-    ensures err { IfErr result (λ error. ¬ IsMemory error → read text.now ≡ None) }
+// The whole number below 2^64 that a text is, but for spaces at its ends. No other text is read.
+pub(super) fn plain_number(text: &str) -> Option<u64>
+    ensures { IfSome result (λ number. read text.now ≡ Some (number_value number)) }
 {
     let (_, rest) = split_spaces(text.as_bytes());
-    match split_number(rest) {
-        Some((number, end)) if are_spaces(end) => Ok(Value::from(number)),
-        _ => Value::from_str(alloc, text),
-    }
+    let (number, end) = split_number(rest)?;
+    if are_spaces(end) { Some(number) } else { None }
 }
 
 // The whole number below 2^64 whose digits stand first, and what follows them.

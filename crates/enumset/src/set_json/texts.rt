@@ -22,7 +22,7 @@ use super::map_texts::plain_map;
 use super::maps::{from_map, to_map};
 use super::numbers::{from_number, to_number};
 use super::plain_lists::{plain_list, plain_set};
-use super::plain_numbers::{number_text, number_value_of};
+use super::plain_numbers::{number_text, plain_number};
 use super::plain_words::{plain_words, words_text};
 use super::unknown::Unknown;
 use super::width::JsonWidth;
@@ -98,7 +98,10 @@ pub fn from_number_text<T: EnumSetType>(
 ) -> Result<EnumSet<T>, JsonFault>
     ensures { IsReadOf (set_of_number (valid_bits T.elements) (width_of width) unknown) text.now result }
 {
-    from_number(&number_value_of(alloc, text)?, width, unknown)
+    match plain_number(text) {
+        Some(number) => from_number(&Value::from(number), width, unknown),
+        None => from_number(&Value::from_str(alloc, text)?, width, unknown),
+    }
 }
 
 /// Reads a set from a string of JSON, as [`from_words`] reads it from the string's value. It has the faults of
