@@ -1,4 +1,4 @@
-use Rattle.std.proofs.Common.{◌&&◌, ap, subst, refl, ◌∙◌}
+use Rattle.std.proofs.Common.{◌&&◌, ap, subst, ◌∙◌}
 use Rattle.enumset.specs.JsonPlain.{Passed}
 use Rattle.enumset.proofs.PlainWords.{kept_if, no_words, goes_on_from, goes_on, ends}
 use Rattle.enumset.proofs.set_json.plain_words.plain_words.Goals as goal
