@@ -6,6 +6,7 @@ use Rattle.std.proofs.lemmas.Bool.{cases_lt}
 use Rattle.std.proofs.lemmas.Grind.{common_steps}
 use Rattle.std.proofs.lemmas.List.{take_more_set}
 use Rattle.std.proofs.lemmas.Fmt.{decimal_digit, decimal_step}
+pub use Rattle.std.proofs.lemmas.Str.{IsUtf8-from_ascii}
 use Rattle.enumset.specs.JsonPlain.{digits_or_none}
 use Rattle.enumset.specs.declared.set_json.digits.TheConstants.{PAIRS}
 
@@ -72,4 +73,4 @@ put_last_four row one two front at n some fits before first then =
     let d : at + 2 + 2 ≡ at + 4 = omega arith in
     rw (← d) (put_last_two one two front (at + 2) n (omega (arith, some)) fits (put_last_two row one front at (n / 100) (omega (arith, some)) (omega (arith, fits)) (rw a at before) (rw b at first)) (rw c at then))
 
-pub ruleset digit_laws = (pairs_are, put_digit, put_both, put_only, put_last_two, put_last_four)
+pub ruleset digit_laws = (pairs_are, put_digit, put_both, put_only, put_last_two, put_last_four, IsUtf8-from_ascii)

@@ -1,5 +1,6 @@
 -- What serde_json reads of the digits of a number, digit by digit, before what ends it.
 use Rattle.std.proofs.Common.{◌≡◌, ◌≤◌, ◌<◌, ◌^◌, ℕ, zero, suc, ◌+◌, ◌-◌, List, [], ◌∷◌, ◌++◌, length, take, drop, get_or, cond, refl, ap, ◌∙◌, ◌⊎◌, inl, inr, decimal, arith, length-append}
+use Rattle.std.proofs.Math.Seq.{take-append_seam}
 use Rattle.std.proofs.lemmas.Fmt.{decimal_is_IsNumeral, decimal_digit, first_decimal}
 use Rattle.std.proofs.lemmas.Str.Parse.{digit_from_value}
 use Rattle.std.specs.Str.Parse.{AllDigits}
@@ -27,14 +28,11 @@ IsOther x =
     × ((x == 32) ≡ false) × ((x == 9) ≡ false) × ((x == 10) ≡ false) × ((x == 13) ≡ false)
     × ((x == 116) ≡ false) × ((x == 102) ≡ false) × ((x == 110) ≡ false) × ((x == 45) ≡ false) × (is_ascii_digit x ≡ true)
 
-other_than : (x k : ℕ) → IsDigit x → (nat_lt k 48 || nat_lt 57 k) ≡ true → (x == k) ≡ false
-other_than x k digit far = grind (arith, nat_tests, digit)
-
 is_other : (x : ℕ) → IsDigit x → IsOther x
 is_other x digit = (o 34 refl, o 92 refl, o 123 refl, o 125 refl, o 91 refl, o 93 refl, o 58 refl, o 44 refl, o 32 refl, o 9 refl, o 10 refl, o 13 refl, o 116 refl, o 102 refl, o 110 refl, o 45 refl, grind (arith, nat_tests, digit))
   where
     o : (k : ℕ) → (nat_lt k 48 || nat_lt 57 k) ≡ true → (x == k) ≡ false
-    o k far = other_than x k digit far
+    o k far = grind (arith, nat_tests, digit)
 
 not_zero : (n : ℕ) → (suc n == 0) ≡ false
 not_zero n = grind arith
@@ -53,9 +51,6 @@ Ends e =
 abbrev pub Before : List ℕ → Tokens → Type 0
 Before xs ts = drop 1 (tokens (49 ∷ xs)) ≡ ts
 
-one_byte : (x : ℕ) (e : List ℕ) → take (suc (length e) - length e) (x ∷ e) ≡ x ∷ []
-one_byte x e = let one : suc (length e) - length e ≡ 1 = omega arith in ap (λ n. take n (x ∷ e)) one
-
 no_digits : (e : List ℕ) → is_ascii_digit (first_of e) ≡ false → prefix_len is_ascii_digit e ≡ 0
 no_digits [] none = refl
 no_digits (c ∷ e) none = ap (λ b. cond b (1 + prefix_len is_ascii_digit e) 0) none
@@ -67,10 +62,6 @@ comma_ends z ts e = ap (drop 1) e
 pub bracket_ends : (z : List ℕ) (ts : Tokens) → tokens (34 ∷ 34 ∷ 93 ∷ z) ≡ text_token false [] ∷ ts → Before (93 ∷ z) ts
 unfolding serde_json_on_literals
 bracket_ends z ts e = ap (drop 1) e
-
-pub nothing_ends : Before [] []
-unfolding serde_json_on_literals
-nothing_ends = refl
 
 pub space_ends : (x : ℕ) (z : List ℕ) (ts : Tokens) → is_space x ≡ true → tokens (34 ∷ 34 ∷ x ∷ z) ≡ text_token false [] ∷ ts → Before (x ∷ z) ts
 unfolding serde_json_on_literals
@@ -85,6 +76,11 @@ IsRun xs e = (n : ℕ) × (1 + prefix_len is_ascii_digit xs ≡ suc n) × (drop 
 -- they and the byte before them
 abbrev whole : ℕ → List ℕ → List ℕ → List ℕ
 whole x xs e = take (suc (length xs) - length e) (x ∷ xs)
+
+whole_is : (x : ℕ) (ds e : List ℕ) → whole x (ds ++ e) e ≡ x ∷ ds
+whole_is x ds e =
+    let count : suc (length (ds ++ e)) - length e ≡ suc (length ds) = omega (arith, length-append ds e) in
+    ap (λ n. take n (x ∷ (ds ++ e))) count ∙ take-append_seam (x ∷ ds) e
 
 -- a number with no leading zero
 further : (x : ℕ) (xs s z : List ℕ) → IsOther x → (x == 48) ≡ false → IsRun xs z → whole x xs z ≡ s → Ends z → tokens (x ∷ xs) ≡ number_token false s ∷ drop 1 (tokens (49 ∷ xs))
@@ -105,7 +101,7 @@ longer x xs z (a, b, c, d, e, f, g, h, i, j, k, l, m, n, o, p, q) (u, count, res
 
 nought : (z : List ℕ) → Ends z → tokens (48 ∷ z) ≡ number_token false (48 ∷ []) ∷ drop 1 (tokens (49 ∷ z))
 unfolding serde_json_on_literals
-nought z (dot, lower, upper, none, ends) = rw (no_digits z none, dot, lower, upper, ends, one_byte 48 z)
+nought z (dot, lower, upper, none, ends) = rw (no_digits z none, dot, lower, upper, ends, whole_is 48 [] z)
 
 comma_nought : (z : List ℕ) → Ends z → tokens (34 ∷ 34 ∷ 44 ∷ 48 ∷ z) ≡ text_token false [] ∷ tokens (48 ∷ z)
 unfolding serde_json_on_literals
@@ -121,15 +117,6 @@ run [] e p ends = (0, omega (arith, no_digits e ends.3), refl)
 run (x ∷ ds) e p ends =
     let (n, count, rest) = run ds e p.1 ends in
     (suc n, omega (arith, starts_digit (is_ascii_digit x) (prefix_len is_ascii_digit (ds ++ e)) (is_other x p.0).16, count), rest)
-
-all_taken : (ds e : List ℕ) → take (length ds) (ds ++ e) ≡ ds
-all_taken [] e = refl
-all_taken (x ∷ ds) e = ap (λ l. x ∷ l) (all_taken ds e)
-
-whole_is : (x : ℕ) (ds e : List ℕ) → whole x (ds ++ e) e ≡ x ∷ ds
-whole_is x ds e =
-    let count : suc (length (ds ++ e)) - length e ≡ suc (length ds) = omega (arith, length-append ds e) in
-    ap (λ n. take n (x ∷ (ds ++ e))) count ∙ all_taken (x ∷ ds) e
 
 after_digits : (ds e : List ℕ) → AreDigits ds → Ends e → drop 1 (tokens (49 ∷ (ds ++ e))) ≡ drop 1 (tokens (49 ∷ e))
 after_digits [] e p ends = refl
@@ -158,8 +145,5 @@ short_before s e (inr (x, ds, is, first, digit, p)) ends = rw is (
   comma_further x (ds ++ e) e (is_other x digit) first (run ds e p ends) ends,
 )
 
-pub decimal_before : (n : ℕ) (e : List ℕ) (ts : Tokens) → n < 2 ^ 64 → Ends e → Before e ts → tokens (decimal n ++ e) ≡ number_token false (decimal n) ∷ ts
-decimal_before n e ts fits ends before = (short_before (decimal n) e (short n fits) ends).0 ∙ ap (λ ts. number_token false (decimal n) ∷ ts) before
-
-pub comma_decimal : (n : ℕ) (e : List ℕ) → n < 2 ^ 64 → Ends e → tokens (34 ∷ 34 ∷ 44 ∷ (decimal n ++ e)) ≡ text_token false [] ∷ tokens (decimal n ++ e)
-comma_decimal n e fits ends = (short_before (decimal n) e (short n fits) ends).1
+pub decimal_before : (n : ℕ) (e : List ℕ) → n < 2 ^ 64 → Ends e → (tokens (decimal n ++ e) ≡ number_token false (decimal n) ∷ drop 1 (tokens (49 ∷ e))) × (tokens (34 ∷ 34 ∷ 44 ∷ (decimal n ++ e)) ≡ text_token false [] ∷ tokens (decimal n ++ e))
+decimal_before n e fits ends = short_before (decimal n) e (short n fits) ends

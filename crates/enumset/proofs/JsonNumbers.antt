@@ -11,7 +11,7 @@ use Rattle.enumset.specs.JsonPlain.{is_space, AreSpaces}
 use Rattle.enumset.proofs.JsonTokens.{tokens, Tokens}
 use Rattle.enumset.proofs.JsonSteps.{quote_end, empty_list}
 use Rattle.enumset.proofs.JsonSpaces.{at_space, same_read, spaces_first, spaces_after_bracket, spaces_after_string, spaces_after_comma, spaces_after_last}
-use Rattle.enumset.proofs.JsonDigits.{Ends, Before, comma_ends, bracket_ends, nothing_ends, space_ends, decimal_before, comma_decimal}
+use Rattle.enumset.proofs.JsonDigits.{Ends, Before, comma_ends, bracket_ends, space_ends, decimal_before}
 use Rattle.enumset.proofs.MapHandles.{value, whole}
 
 -- ---- after a number
@@ -20,29 +20,29 @@ space_is_end : (z : List ℕ) (x : ℕ) → is_space x ≡ true → Ends (x ∷ 
 space_is_end z = at_space (λ x. Ends (x ∷ z)) (refl, refl, refl, refl, refl) (refl, refl, refl, refl, refl) (refl, refl, refl, refl, refl) (refl, refl, refl, refl, refl)
 
 -- e ends a number, after which stand the tokens that stand after a string
-abbrev IsStop : List ℕ → Type 0
+abbrev pub IsStop : List ℕ → Type 0
 IsStop e = Ends e × ((ts : Tokens) → tokens (34 ∷ 34 ∷ e) ≡ text_token false [] ∷ ts → Before e ts)
 
 spaces_stop : (g e : List ℕ) → AreSpaces g → IsStop e → IsStop (g ++ e)
 spaces_stop [] e h stop = stop
 spaces_stop (x ∷ g) e h stop = (space_is_end (g ++ e) x h.0, λ ts. space_ends x (g ++ e) ts h.0)
 
-comma_stops : (z : List ℕ) → IsStop (44 ∷ z)
+pub comma_stops : (z : List ℕ) → IsStop (44 ∷ z)
 comma_stops z = ((refl, refl, refl, refl, refl), comma_ends z)
 
-bracket_stops : (z : List ℕ) → IsStop (93 ∷ z)
+pub bracket_stops : (z : List ℕ) → IsStop (93 ∷ z)
 bracket_stops z = ((refl, refl, refl, refl, refl), bracket_ends z)
 
 number_before : (n : ℕ) (g e : List ℕ) (ts : Tokens) → n < 2 ^ 64 → AreSpaces g → IsStop e → tokens (34 ∷ 34 ∷ e) ≡ text_token false [] ∷ ts → tokens (decimal n ++ (g ++ e)) ≡ number_token false (decimal n) ∷ ts
 number_before n g e ts fits spaces stop is =
     let (ends, before) = spaces_stop g e spaces stop in
-    decimal_before n (g ++ e) ts fits ends (before ts (spaces_after_string g e spaces ∙ is))
+    (decimal_before n (g ++ e) fits ends).0 ∙ ap (λ ts. number_token false (decimal n) ∷ ts) (before ts (spaces_after_string g e spaces ∙ is))
 
 -- ---- a number alone
 
 end_stops : IsStop []
 unfolding serde_json_on_literals
-end_stops = ((refl, refl, refl, refl, refl), λ ts e. nothing_ends ∙ ap (drop 1) e)
+end_stops = ((refl, refl, refl, refl, refl), λ ts e. ap (drop 1) e)
 
 nothing_left : tokens (34 ∷ 34 ∷ []) ≡ text_token false [] ∷ []
 unfolding serde_json_on_literals
@@ -60,25 +60,18 @@ number_alone n g h fits gs hs =
 -- ---- a list, from its end to its front
 
 -- the depth is a variable, so that no tactic computes the reader of each depth
-item_step_at : (d : ℕ) → suc (suc d) ≡ 127 → (ys zs s : List ℕ) (n : Num) (ds : Items)
+item_step : (d : ℕ) → suc (suc d) ≡ 127 → (ys zs s : List ℕ) (n : Num) (ds : Items)
     → tokens ys ≡ number_token false s ∷ tokens zs → number_of s ≡ Some n → read (91 ∷ zs) ≡ Some (array ds) → read (91 ∷ ys) ≡ Some (array (item (number n) ds))
-item_step_at d e ys zs s n ds t is h =
+item_step d e ys zs s n ds t is h =
     let h' = rw (← e) at h in
     rw (← e) (unfold serde_json_on_literals in grind (arith, t, is, h'))
-
--- one more number at the front of a list
-item_step : (n : ℕ) (ys zs : List ℕ) (ds : Items) → n < 2 ^ 64 → tokens ys ≡ number_token false (decimal n) ∷ tokens zs → read (91 ∷ zs) ≡ Some (array ds) → read (91 ∷ ys) ≡ Some (array (item (number (unsigned n)) ds))
-item_step n ys zs ds fits t h = item_step_at 125 refl ys zs (decimal n) (unsigned n) ds t (number_of-decimal n fits) h
 
 -- a number stands first, and something ends it
 abbrev pub IsNumberFirst : List ℕ → Type 0
 IsNumberFirst text = (n : ℕ) × (e : List ℕ) × (n < 2 ^ 64) × Ends e × (text ≡ decimal n ++ e)
 
-pub before_comma : (n : ℕ) (g rest : List ℕ) → n < 2 ^ 64 → AreSpaces g → IsNumberFirst (decimal n ++ (g ++ 44 ∷ rest))
-before_comma n g rest fits gs = (n, g ++ 44 ∷ rest, fits, (spaces_stop g (44 ∷ rest) gs (comma_stops rest)).0, refl)
-
-pub before_bracket : (n : ℕ) (g rest : List ℕ) → n < 2 ^ 64 → AreSpaces g → IsNumberFirst (decimal n ++ (g ++ 93 ∷ rest))
-before_bracket n g rest fits gs = (n, g ++ 93 ∷ rest, fits, (spaces_stop g (93 ∷ rest) gs (bracket_stops rest)).0, refl)
+pub before_stop : (n : ℕ) (g e : List ℕ) → n < 2 ^ 64 → AreSpaces g → IsStop e → IsNumberFirst (decimal n ++ (g ++ e))
+before_stop n g e fits gs stop = (n, g ++ e, fits, (spaces_stop g e gs stop).0, refl)
 
 pub first_number : (f g left : List ℕ) → AreSpaces f → AreSpaces g → read (f ++ 91 ∷ (g ++ left)) ≡ read (91 ∷ left)
 first_number f g left fs gs = same_read (f ++ 91 ∷ (g ++ left)) (91 ∷ left) (spaces_first f _ fs ∙ spaces_after_bracket g left gs)
@@ -86,10 +79,11 @@ first_number f g left fs gs = same_read (f ++ 91 ∷ (g ++ left)) (91 ∷ left) 
 pub next_number : (n : ℕ) (g h next : List ℕ) (ds : Items) → n < 2 ^ 64 → AreSpaces g → AreSpaces h → IsNumberFirst next → read (91 ∷ next) ≡ Some (array ds)
     → read (91 ∷ (decimal n ++ (g ++ 44 ∷ (h ++ next)))) ≡ Some (array (item (number (unsigned n)) ds))
 next_number n g h next ds fits gs hs (m, e, small, ends, is) =
-    item_step n (decimal n ++ (g ++ 44 ∷ (h ++ next))) next ds fits
+    item_step 125 refl (decimal n ++ (g ++ 44 ∷ (h ++ next))) next (decimal n) (unsigned n) ds
     (number_before n g (44 ∷ (h ++ next)) (tokens next) fits gs (comma_stops (h ++ next))
-    (spaces_after_comma h next hs ∙ ap (λ t. tokens (34 ∷ 34 ∷ 44 ∷ t)) is ∙ comma_decimal m e small ends ∙ ap (λ t. text_token false [] ∷ tokens t) (sym is)))
+    (spaces_after_comma h next hs ∙ ap (λ t. tokens (34 ∷ 34 ∷ 44 ∷ t)) is ∙ (decimal_before m e small ends).1 ∙ ap (λ t. text_token false [] ∷ tokens t) (sym is)))
+    (number_of-decimal n fits)
 
 pub last_number : (n : ℕ) (g h : List ℕ) → n < 2 ^ 64 → AreSpaces g → AreSpaces h → read (91 ∷ (decimal n ++ (g ++ 93 ∷ h))) ≡ Some (array (item (number (unsigned n)) no_items))
 last_number n g h fits gs hs =
-    item_step n (decimal n ++ (g ++ 93 ∷ h)) (93 ∷ []) no_items fits (number_before n g (93 ∷ h) (tokens (93 ∷ [])) fits gs (bracket_stops h) (spaces_after_last h hs ∙ quote_end)) empty_list
+    item_step 125 refl (decimal n ++ (g ++ 93 ∷ h)) (93 ∷ []) (decimal n) (unsigned n) no_items (number_before n g (93 ∷ h) (tokens (93 ∷ [])) fits gs (bracket_stops h) (spaces_after_last h hs ∙ quote_end)) (number_of-decimal n fits) empty_list

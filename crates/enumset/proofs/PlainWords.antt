@@ -1,7 +1,8 @@
 -- What the loop of the reader of plain words keeps.
-use Rattle.std.proofs.Common.{◌≡◌, ◌<◌, ◌+◌, ◌/◌, ◌^◌, ℕ, Bool, true, ◌&&◌, if◌then◌else◌, Some, List, [], ◌∷◌, ◌++◌, length, length-append, decimal, refl, sym, ap, subst, ◌∙◌, append_assoc, arith, slice_index}
+use Rattle.std.proofs.Common.{◌≡◌, ◌<◌, ◌+◌, ◌/◌, ◌^◌, ℕ, Bool, true, false, ◌&&◌, if◌then◌else◌, Option, Some, IfSome, List, [], ◌∷◌, ◌++◌, length, length-append, decimal, refl, sym, ap, subst, ◌∙◌, append_assoc, arith, slice_index}
 use Rattle.std.proofs.Math.Seq.{get_or-append_seam}
 use Rattle.std.proofs.lemmas.List.{get_or_append_left}
+use Rattle.std.specs.Bool.{then_some}
 use Rattle.std.specs.Prelude.{◌==◌, nat_lt}
 use Rattle.enumset_repr.specs.BitSet.{BitSet, empty, is_subset, below, low}
 use Rattle.enumset_repr.specs.Words.{word, with_word, bits_of}
@@ -9,8 +10,13 @@ use Rattle.serde_json.specs.Read.{read}
 use Rattle.enumset.specs.Json.{words_value}
 use Rattle.enumset.specs.JsonPlain.{AreSpaces, Passed}
 use Rattle.enumset.proofs.JsonLists.{no_strings}
-use Rattle.enumset.proofs.JsonNumbers.{IsNumberFirst, before_comma, before_bracket, first_number, next_number, last_number}
+use Rattle.enumset.proofs.JsonNumbers.{IsNumberFirst, before_stop, comma_stops, bracket_stops, first_number, next_number, last_number}
 use Rattle.enumset.proofs.JsonWords.{AreRead, none_read, taken, same_before, all_read}
+
+-- what a value that is kept under a condition has
+pub kept_if : {A : Type 0} (P : A → Type 0) (o : Option A) (b : Bool) (v : A) → o ≡ then_some b v → (b ≡ true → P v) → IfSome o P
+kept_if P o true v is has = subst (λ o. IfSome o P) (sym is) (has refl)
+kept_if P o false v is has = subst (λ o. IfSome o P) (sym is) tt
 
 module _ (text : List ℕ) (width : ℕ) where
   -- the words before a place were read, and what is left goes on the array
@@ -55,7 +61,7 @@ module _ (text : List ℕ) (width : ℕ) where
       one_more,
       λ more first e.
           let all = split ∙ ap (λ t. decimal x ++ t) (is ∙ ap (λ t. f ++ 44 ∷ t) here) in
-          so_far.3 (x ∷ more) (subst IsNumberFirst (sym all) (before_comma x f (g ++ next) fits fs)) (ap (λ l. read (91 ∷ l)) all ∙ next_number x f g next _ fits fs gs first e)
+          so_far.3 (x ∷ more) (subst IsNumberFirst (sym all) (before_stop x f (44 ∷ (g ++ next)) fits fs (comma_stops (g ++ next)))) (ap (λ l. read (91 ∷ l)) all ∙ next_number x f g next _ fits fs gs first e)
           ∙ ap (λ ws. Some (words_value ws)) (sym (append_assoc so_far.0 (x ∷ []) more)),
     )
 
@@ -64,7 +70,7 @@ module _ (text : List ℕ) (width : ℕ) where
         let text = split ∙ ap (λ t. decimal x ++ t) is in
         let all = all_read done (place + 1) width r kept one_more (omega (arith, length-append so_far.0 (x ∷ []), so_far.1)) in (
           done,
-          so_far.3 (x ∷ []) (subst IsNumberFirst (sym text) (before_bracket x f end fits fs)) (ap (λ l. read (91 ∷ l)) text ∙ last_number x f end fits fs gs),
+          so_far.3 (x ∷ []) (subst IsNumberFirst (sym text) (before_stop x f (93 ∷ end) fits fs (bracket_stops end))) (ap (λ l. read (91 ∷ l)) text ∙ last_number x f end fits fs gs),
           all.0,
           all.1,
         )

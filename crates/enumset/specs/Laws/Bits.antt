@@ -8,7 +8,7 @@ use Rattle.std.proofs.Common.{◌≡◌, ℕ, suc, zero, ◌+◌, ◌&&◌, ◌|
 use Rattle.std.specs.Prelude.{◌==◌, nat_le, nat_lt}
 use Rattle.std.specs.List.{range_with_len}
 use Rattle.std.proofs.lemmas.Bool.Decides.{nat_tests}
-use Rattle.enumset_repr.specs.BitSet.{BitSet, is_in, from_list, below}
+use Rattle.enumset_repr.specs.BitSet.{is_in, from_list, below}
 use Rattle.enumset_repr.specs.Number.{bits, number}
 use Rattle.enumset_repr.specs.Laws.Members.{same_set, contains_below, contains_from_list, contains_ascending}
 use Rattle.enumset_repr.specs.Laws.Numbers.{bits_number, number_bits, bits_within, number_within}

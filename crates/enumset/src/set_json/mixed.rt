@@ -11,7 +11,7 @@ ghost use Rattle.enumset.specs.declared.set_json.fault.JsonFault.TheVariants.{Ou
 
 use super::fault::JsonFault;
 use super::unknown::Unknown;
-use super::whole::{below_power, whole_number};
+use super::whole::number_below;
 use super::words::{read_words, words_of};
 use enumset_mixed::MixedEnumSet;
 use enumset_repr::EnumSetTypeRepr;
@@ -30,18 +30,10 @@ pub fn mixed_to_number<T: EnumSetTypeWithRepr>(
     ensures succeeds { IsOk result }
     ensures value { IfOk result (λ value. view value ≡ number_value (number set.now)) }
 {
-    Ok(Value::from(mixed_number(set)))
-}
-
-// The set's number, unknown bits included.
-pub(super) fn mixed_number<T: EnumSetTypeWithRepr>(set: &MixedEnumSet<T>) -> u64
-    requires narrow { T.Repr.WIDTH ≤ 64 }
-    ensures { result ≡ number set.now }
-{
     let repr = set.as_repr();
     // That the members are below the width is a law of values.
     repr.learn_is_value();
-    repr.to_u64()
+    Ok(Value::from(repr.to_u64()))
 }
 
 /// Returns the set of all bits of a number below two to the representation's width, which may be 64 at most.
@@ -54,17 +46,7 @@ pub fn mixed_from_number<T: EnumSetTypeWithRepr>(
     requires narrow { T.Repr.WIDTH ≤ 64 }
     ensures { result ≡ mixed_set_of_number T.Repr.WIDTH (view value.now) }
 {
-    mixed_set_of_number(whole_number(value)?)
-}
-
-// The set of all bits of a number below two to the representation's width.
-pub(super) fn mixed_set_of_number<T: EnumSetTypeWithRepr>(
-    number: u64,
-) -> Result<MixedEnumSet<T>, JsonFault>
-    requires narrow { T.Repr.WIDTH ≤ 64 }
-    ensures { result ≡ mixed_set_of_number T.Repr.WIDTH (number_value number) }
-{
-    let bits = below_power(number, <T::Repr as EnumSetTypeRepr>::WIDTH)?;
+    let bits = number_below(value, <T::Repr as EnumSetTypeRepr>::WIDTH)?;
     Ok(MixedEnumSet::from_repr(T::Repr::from_u64(bits)))
 }
 
@@ -95,22 +77,20 @@ pub fn mixed_from_words<T: EnumSetTypeWithRepr>(
 ) -> Result<MixedEnumSet<T>, JsonFault>
     ensures { result ≡ mixed_set_of_words T.Repr.WIDTH past (view value.now) }
 {
-    let (repr, is_whole): (T::Repr, bool) = read_words(value)?;
-    kept_below(repr, is_whole, past)
+    kept_below(read_words(value)?, past)
 }
 
 // The set of the bits below the representation's width, unless there are others and such bits are refused.
 pub(super) fn kept_below<T: EnumSetTypeWithRepr>(
-    repr: T::Repr,
-    is_whole: bool,
+    found: (T::Repr, bool),
     past: Unknown,
 ) -> Result<MixedEnumSet<T>, JsonFault>
-    ensures { (bits : BitSet) → (T.Repr.members repr ≡ low bits T.Repr.WIDTH)
-        → (is_whole ≡ is_subset bits (below T.Repr.WIDTH))
+    ensures { (bits : BitSet) → (T.Repr.members found.0 ≡ low bits T.Repr.WIDTH)
+        → (found.1 ≡ is_subset bits (below T.Repr.WIDTH))
         → result ≡ kept_below T.Repr.WIDTH past bits }
 {
     match past {
-        Unknown::Refuse if !is_whole => Err(JsonFault::OutOfRange),
-        _ => Ok(MixedEnumSet::from_repr(repr)),
+        Unknown::Refuse if !found.1 => Err(JsonFault::OutOfRange),
+        _ => Ok(MixedEnumSet::from_repr(found.0)),
     }
 }

@@ -11,9 +11,7 @@ ghost use Rattle.enumset.specs.JsonReads.{IsReadOf};
 ghost use Rattle.enumset.specs.declared.set_json.fault.JsonFault.TheVariants.{OutOfMemory};
 
 use super::fault::JsonFault;
-use super::mixed::{
-    kept_below, mixed_from_number, mixed_from_words, mixed_number, mixed_set_of_number,
-};
+use super::mixed::{kept_below, mixed_from_number, mixed_from_words, mixed_to_number};
 use super::plain_numbers::{number_text, plain_number};
 use super::plain_words::{plain_words, words_text};
 use super::unknown::Unknown;
@@ -35,7 +33,7 @@ pub fn mixed_to_number_text<T: EnumSetTypeWithRepr>(
         read (string_bytes text) ≡ Some (number_value (number set.now))) }
     ensures fault { IfErr result (λ fault. fault ≡ OutOfMemory) }
 {
-    Ok(number_text(alloc, mixed_number(set))?)
+    Ok(number_text(alloc, &mixed_to_number(alloc, set)?)?)
 }
 
 /// Writes the set's words of 64 bits as an array without spaces, the lowest first, as many as its representation has,
@@ -66,7 +64,7 @@ pub fn mixed_from_number_text<T: EnumSetTypeWithRepr>(
     ensures { IsReadOf (mixed_set_of_number T.Repr.WIDTH) text.now result }
 {
     match plain_number(text) {
-        Some(number) => mixed_set_of_number(number),
+        Some(number) => mixed_from_number(&Value::from(number)),
         None => mixed_from_number(&Value::from_str(alloc, text)?),
     }
 }
@@ -82,7 +80,7 @@ pub fn mixed_from_words_text<T: EnumSetTypeWithRepr>(
     ensures { IsReadOf (mixed_set_of_words T.Repr.WIDTH past) text.now result }
 {
     match plain_words(text) {
-        Some((repr, is_whole)) => kept_below(repr, is_whole, past),
+        Some(found) => kept_below(found, past),
         None => mixed_from_words(&Value::from_str(alloc, text)?, past),
     }
 }

@@ -1,22 +1,25 @@
 //! JSON texts of whole numbers, written and read digit by digit, without a tree of values.
 
-ghost use Rattle.std.specs.Prelude.{◌≡◌, ◌<◌, ◌≤◌, ◌+◌, ◌^◌, ◌++◌, decimal, length, slice_index};
+ghost use Rattle.std.specs.Prelude.{◌≡◌, ◌<◌, ◌≤◌, ◌+◌, ◌^◌, ◌++◌, ℕ, decimal, length, slice_index};
 ghost use Rattle.std.specs.Prelude.{IfOk, IfSome, Some, string_bytes};
 ghost use Rattle.serde_json.specs.Read.{read};
+ghost use Rattle.serde_json.specs.View.{view};
 ghost use Rattle.enumset.specs.Json.{number_value};
 
 use super::digits::{ascii_text, push_digits};
 use super::scan::{are_spaces, split_spaces};
+use serde_json::Value;
 use std::alloc::{AllocError, Global};
 
-// The digits of a number.
-pub(super) fn number_text(alloc: Global, number: u64) -> Result<String, AllocError>
-    ensures text { IfOk result (λ text. string_bytes text ≡ decimal number) }
-    ensures reads { IfOk result (λ text.
-        read (string_bytes text) ≡ Some (number_value number)) }
+// The digits of the number that a value holds.
+pub(super) fn number_text(alloc: Global, value: &Value) -> Result<String, AllocError>
+    ensures text { (number : ℕ) → (view value.now ≡ number_value number)
+        → IfOk result (λ text. string_bytes text ≡ decimal number) }
+    ensures reads { (number : ℕ) → (view value.now ≡ number_value number)
+        → IfOk result (λ text. read (string_bytes text) ≡ Some (number_value number)) }
 {
     let mut bytes = Vec::with_capacity(alloc, 20)?;
-    push_digits(&mut bytes, number)?;
+    push_digits(&mut bytes, value.as_u64().unwrap_or(0))?;
     Ok(ascii_text(bytes))
 }
 

@@ -26,21 +26,13 @@ pub(super) fn words_text<R: EnumSetTypeRepr>(alloc: Global, repr: &R) -> Result<
     let mut bytes = Vec::with_capacity(alloc, room)?;
     bytes.push(b'[')?;
     for i in 0..R::PREFERRED_ARRAY_LEN {
-        push_word(&mut bytes, repr.word(i), i > 0)?;
+        if i > 0 {
+            bytes.push(b',')?;
+        }
+        push_digits(&mut bytes, repr.word(i))?;
     }
     bytes.push(b']')?;
     Ok(ascii_text(bytes))
-}
-
-// One more word of an array.
-#[inline(always)]
-fn push_word(bytes: &mut Vec<u8>, word: u64, later: bool) -> Result<(), AllocError>
-    ensures { OnOk result (bytes.new.items ≡ bytes.old.items ++ (comma_if later ++ decimal word)) }
-{
-    if later {
-        bytes.push(b',')?;
-    }
-    push_digits(bytes, word)
 }
 
 // The set of the bits of an array's words below the representation's width, and whether these are all their bits. The
@@ -55,22 +47,14 @@ pub(super) fn plain_words<R: EnumSetTypeRepr>(text: &str) -> Option<(R, bool)>
     let mut repr = R::EMPTY;
     let mut is_whole = true;
     if let Some(end) = after_byte(rest, b']') {
-        return if are_spaces(end) {
-            Some((repr, is_whole))
-        } else {
-            None
-        };
+        return are_spaces(end).then_some((repr, is_whole));
     }
     let (_, mut left) = split_spaces(rest);
     for place in 0..text.len() {
         let (word, rest) = split_number(left)?;
-        take_word(&mut repr, &mut is_whole, place, word);
+        is_whole &= take_word(&mut repr, place, word);
         if let Some(end) = after_byte(rest, b']') {
-            return if are_spaces(end) {
-                Some((repr, is_whole))
-            } else {
-                None
-            };
+            return are_spaces(end).then_some((repr, is_whole));
         }
         let (_, next) = split_spaces(after_byte(rest, b',')?);
         left = next;

@@ -20,7 +20,7 @@ use super::lists::{from_list, to_list};
 use super::map_scan::plain_map_set;
 use super::map_texts::plain_map;
 use super::maps::{from_map, to_map};
-use super::numbers::{from_number, number_within, set_of_number};
+use super::numbers::{from_number, to_number};
 use super::plain_lists::{plain_list, plain_set};
 use super::plain_numbers::{number_text, plain_number};
 use super::plain_words::{plain_words, words_text};
@@ -46,7 +46,7 @@ pub fn to_number_text<T: EnumSetType>(
     ensures too_wide { (result ≡ Err TooWide) ↔ (is_subset set.now (below (width_of width)) ≡ false) }
     ensures fault { IfErr result (λ fault. (fault ≡ TooWide) ⊎ (fault ≡ OutOfMemory)) }
 {
-    Ok(number_text(alloc, number_within(set, width)?)?)
+    Ok(number_text(alloc, &to_number(alloc, set, width)?)?)
 }
 
 /// Writes the set's words of 64 bits as an array without spaces, the lowest first, as many as its representation has.
@@ -106,7 +106,7 @@ pub fn from_number_text<T: EnumSetType>(
     ensures { IsReadOf (set_of_number (valid_bits T.elements) (width_of width) unknown) text.now result }
 {
     match plain_number(text) {
-        Some(number) => set_of_number(number, width, unknown),
+        Some(number) => from_number(&Value::from(number), width, unknown),
         None => from_number(&Value::from_str(alloc, text)?, width, unknown),
     }
 }
@@ -122,7 +122,7 @@ pub fn from_words_text<T: EnumSetType>(
     ensures { IsReadOf (set_of_words (valid_bits T.elements) unknown) text.now result }
 {
     match plain_words(text) {
-        Some((repr, is_whole)) => accepted(repr, is_whole, unknown),
+        Some(found) => accepted(found, unknown),
         None => from_words(&Value::from_str(alloc, text)?, unknown),
     }
 }

@@ -1,7 +1,7 @@
 //! Sets as JSON arrays of words.
 
 ghost use Rattle.std.specs.Prelude.{◌≡◌, ℕ, List, Ok, Err, IfOk, IfErr, IsOk, if◌then◌else◌};
-ghost use Rattle.std.specs.Prelude.{nat_lt, ◌&&◌, ◌==◌};
+ghost use Rattle.std.specs.Prelude.{nat_lt, ◌==◌};
 ghost use Rattle.enumset_repr.specs.BitSet.{BitSet, low, is_subset, below};
 ghost use Rattle.enumset_repr.specs.Words.{word as word_of, words, with_word, bits_of};
 ghost use Rattle.serde_json.specs.View.{view};
@@ -52,31 +52,24 @@ pub(super) fn words_of<R: EnumSetTypeRepr>(alloc: Global, repr: &R) -> Result<Va
 pub fn from_words<T: EnumSetType>(value: &Value, unknown: Unknown) -> Result<EnumSet<T>, JsonFault>
     ensures { result ≡ set_of_words (valid_bits T.elements) unknown (view value.now) }
 {
-    let (repr, is_whole): (T::Repr, bool) = read_words(value)?;
-    accepted(repr, is_whole, unknown)
+    accepted(read_words(value)?, unknown)
 }
 
 // The set of the valid bits of words, where the representation has those below its width, unless there are others and
 // such bits are refused.
 pub(super) fn accepted<T: EnumSetType>(
-    repr: T::Repr,
-    is_whole: bool,
+    found: (T::Repr, bool),
     unknown: Unknown,
 ) -> Result<EnumSet<T>, JsonFault>
-    ensures { (bits : BitSet) → (T.Repr.members repr ≡ low bits T.Repr.WIDTH)
-        → (is_whole ≡ is_subset bits (below T.Repr.WIDTH))
+    ensures { (bits : BitSet) → (T.Repr.members found.0 ≡ low bits T.Repr.WIDTH)
+        → (found.1 ≡ is_subset bits (below T.Repr.WIDTH))
         → result ≡ accepted (valid_bits T.elements) unknown bits }
 {
     let all = representation::valid_repr::<T>();
     match unknown {
-        Unknown::Drop => Ok(raw::new(repr & all)),
-        Unknown::Refuse => {
-            if is_whole && repr.is_subset_of(&all) {
-                Ok(raw::new(repr))
-            } else {
-                Err(JsonFault::UnknownBits)
-            }
-        }
+        Unknown::Drop => Ok(raw::new(found.0 & all)),
+        Unknown::Refuse if found.1 && found.0.is_subset_of(&all) => Ok(raw::new(found.0)),
+        Unknown::Refuse => Err(JsonFault::UnknownBits),
     }
 }
 
@@ -93,26 +86,20 @@ pub(super) fn read_words<R: EnumSetTypeRepr>(value: &Value) -> Result<(R, bool),
     let mut is_whole = true;
     for (place, item) in items.iter().enumerate() {
         let word = item.as_u64().ok_or(JsonFault::NotAWord(place))?;
-        take_word(&mut repr, &mut is_whole, place, word);
+        is_whole &= take_word(&mut repr, place, word);
     }
     Ok((repr, is_whole))
 }
 
-// Writes a word of an array to its place. Bits at or past the width are not kept.
+// Writes a word of an array to its place, and returns whether no bit of it is at or past the width.
 #[inline(always)]
-pub(super) fn take_word<R: EnumSetTypeRepr>(
-    repr: &mut R,
-    is_whole: &mut bool,
-    place: usize,
-    word: u64,
-)
+pub(super) fn take_word<R: EnumSetTypeRepr>(repr: &mut R, place: usize, word: u64) -> bool
     ensures put { R.members repr.new ≡ (if nat_lt place R.PREFERRED_ARRAY_LEN
         then with_word (R.members repr.old) R.WIDTH place word else R.members repr.old) }
-    ensures whole { is_whole.new
-        ≡ (is_whole.old && (word_of (R.members repr.new) place == word)) }
+    ensures whole { result ≡ (word_of (R.members repr.new) place == word) }
 {
     if place < R::PREFERRED_ARRAY_LEN {
         repr.put_word(place, word);
     }
-    *is_whole &= word_or_zero(repr, place) == word;
+    word_or_zero(repr, place) == word
 }

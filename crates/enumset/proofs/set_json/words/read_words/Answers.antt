@@ -1,4 +1,4 @@
-use Rattle.std.proofs.Common.{◌≡◌, ◌+◌, None, Some, Err, true, option_map, map, refl, sym, ap, subst, ◌∙◌, arith, rules, is_none, if◌then◌else◌}
+use Rattle.std.proofs.Common.{◌≡◌, ◌+◌, ◌&&◌, None, Some, Err, true, option_map, map, refl, sym, ap, subst, ◌∙◌, arith, rules, is_none, if◌then◌else◌}
 use Rattle.std.specs.List.{position_from}
 use Rattle.std.proofs.lemmas.List.{drop_all}
 use Rattle.serde_json.specs.View.{view, items_view}
@@ -27,7 +27,7 @@ loop-place-preserved g c =
     let here = other_at vs place c.item-item.result c.as_u64.result c.loop-place-test.true c.item-item.is c.as_u64.ensures in
     let is = word_here vs place c.item-item.result c.as_u64.result c.loop-place-test.true c.item-item.is c.as_u64.ensures c.in_ok-word.word c.in_ok-word.ensures.ok_part in (
       sym (here ∙ ap (λ o. if is_none o then Some place else other_from vs (place + 1)) c.in_ok-word.ensures.ok_part) ∙ c.loop-place.invariant.0,
-      taken _ place _ _ _ c.loop-place.invariant.1 g.R.EnumSetTypeRepr.PREFERRED_ARRAY_LEN c.in_ok-word.word _ _ g.met.R.EnumSetTypeRepr.represents.word_count is (omega arith) c.take_word.ensures.put c.take_word.ensures.whole,
+      taken _ place _ _ _ c.loop-place.invariant.1 g.R.EnumSetTypeRepr.PREFERRED_ARRAY_LEN c.in_ok-word.word _ _ g.met.R.EnumSetTypeRepr.represents.word_count is (omega arith) c.take_word-is_whole.ensures.put (ap (λ b. c.loop-place.is_whole && b) c.take_word-is_whole.ensures.whole),
     )
 
 pub returns-clause-read : goal.returns-clause-read

@@ -1,4 +1,4 @@
-use Rattle.std.proofs.Common.{ap, sym, ◌∙◌, ◌&&◌, if◌then◌else◌, arith}
+use Rattle.std.proofs.Common.{ap, sym, ◌∙◌, if◌then◌else◌, arith}
 use Rattle.std.specs.Prelude.{◌==◌}
 use Rattle.std.proofs.lemmas.Bool.{lt-ltb, le-ltb}
 use Rattle.enumset_repr.specs.Words.{with_word}
@@ -16,4 +16,4 @@ returns-clause-put g c =
     ]
 
 pub returns-clause-whole : goal.returns-clause-whole
-returns-clause-whole g c = ap (λ n. c.args.is_whole.now && (n == c.args.word)) c.word_or_zero.ensures
+returns-clause-whole g c = ap (λ n. n == c.args.word) c.word_or_zero.ensures

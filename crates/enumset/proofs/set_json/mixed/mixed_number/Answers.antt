@@ -1,9 +1,0 @@
-use Rattle.std.proofs.Common.{ap, ◌∙◌}
-use Rattle.enumset_repr.specs.Number.{number}
-use Rattle.enumset_repr.specs.Laws.Low.{low_within, is_subset_wider}
-use Rattle.enumset.proofs.set_json.mixed.mixed_number.Goals as goal
-
-pub returns : goal.returns
-returns g c =
-    c.to_u64.ensures
-    ∙ ap number (low_within _ 64 (is_subset_wider _ g.T.Repr.EnumSetTypeRepr.WIDTH 64 c.requires.narrow (g.met.T.Repr.EnumSetTypeRepr.represents.within _ c.learn_is_value.ensures)) ∙ c.as_repr-repr.ensures)
