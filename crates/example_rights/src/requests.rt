@@ -1,6 +1,7 @@
 //! Requests for rights.
 
-ghost use Rattle.std.specs.Prelude.{◌≡◌, ◌≤◌, ℕ, true, IfSome, IfNone};
+ghost use Rattle.std.specs.Prelude.{◌≡◌, ◌<◌, ◌≤◌, ℕ, true, nat_le, IfSome, IfNone};
+ghost use Rattle.std.specs.List.{list_all};
 ghost use Rattle.enumset_repr.specs.BitSet as set;
 
 use crate::rights::Right;
@@ -38,4 +39,25 @@ pub fn first_missing<T: EnumSetType>(granted: &EnumSet<T>, requested: &EnumSet<T
     ensures none { IfNone result (set.difference requested.now granted.now ≡ set.empty) }
 {
     requested.difference(granted.copied()).first()
+}
+
+/// The first of the granted rights past a bit.
+#[tactic(auto, using(enumset_repr::specs::Laws::Tests::tests))]
+pub fn first_past<T: EnumSetType>(granted: &EnumSet<T>, bit: u32) -> Option<T>
+    ensures granted { IfSome result (λ right. set.contains granted.now (T.elements.bit right) ≡ true) }
+    ensures least { IfSome result (λ right. (q : ℕ) → set.contains granted.now q ≡ true
+        → bit < q → T.elements.bit right ≤ q) }
+    ensures none { IfNone result ((q : ℕ) → set.contains granted.now q ≡ true → q ≤ bit) }
+{
+    granted
+        .iter()
+        .find(|right| EnumSet::bit_index(*right) > bit)
+}
+
+/// Whether no granted right is past a bit.
+#[tactic(auto, using(enumset_repr::specs::Laws::Tests::tests))]
+pub fn is_none_past<T: EnumSetType>(granted: &EnumSet<T>, bit: u32) -> bool
+    ensures { result ≡ list_all (λ q. nat_le q bit) (set.ascending granted.now) }
+{
+    granted.iter().all(|right| EnumSet::bit_index(right) <= bit)
 }
