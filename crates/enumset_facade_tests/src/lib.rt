@@ -17,7 +17,7 @@ mod faults;
 #[cfg(test)]
 mod folds;
 #[cfg(test)]
-mod forms;
+mod form;
 #[cfg(test)]
 mod macro_clauses;
 #[cfg(test)]

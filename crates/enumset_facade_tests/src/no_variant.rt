@@ -1,7 +1,7 @@
 //! Sets of an enum without variants, over no word.
 
 use crate::expect::expect;
-use crate::forms::{Form, read, write};
+use crate::form::{Form, read, write};
 use enumset::internal::ArrayRepr;
 use enumset::{EnumSet, EnumSetNames, EnumSetType, names_of, variant_of};
 use std::alloc::Global;

@@ -4,7 +4,7 @@
 //! `scripts/refused-memory` refuses each allocation in turn, and knows how each test must end.
 
 use crate::expect::expect;
-use crate::forms::{Form, read, write};
+use crate::form::{Form, read, write};
 use crate::types::{Letters, Priority, Wide};
 use enumset::EnumSet;
 use enumset::set::MixedEnumSet;
@@ -15,14 +15,15 @@ use enumset::set_json::{
 use enumset_array::{ArrayRepr, End, ShownRow, walk};
 use enumset_worked::{Marks, Sparse};
 use std::alloc::Global;
+use std::fmt;
 use std::process::Abort;
 use std::test::Fail;
 
 // What a call returns once there is memory, and the fault that came before it.
-fn returned<V, F: Fn() -> Result<V, JsonFault>>(
+fn returned<V, E: fmt::Debug, F: Fn() -> Result<V, E>>(
     rt: &impl Abort,
     call: F,
-) -> (V, Result<(), JsonFault>)
+) -> (V, Result<(), E>)
     requires { F.IsAlwaysCallable call }
 {
     match call() {
@@ -31,10 +32,15 @@ fn returned<V, F: Fn() -> Result<V, JsonFault>>(
     }
 }
 
-// Writes the set of one letter in a form.
-fn expect_written(rt: &impl Abort, alloc: Global, form: Form, wanted: &str) -> Result<(), Fail> {
-    let set = EnumSet::only(Letters::G);
-    let (text, written) = returned(rt, || write(alloc, form, &set));
+// Writes a text by a call.
+fn expect_text<F: Fn() -> Result<String, JsonFault>>(
+    rt: &impl Abort,
+    wanted: &str,
+    call: F,
+) -> Result<(), Fail>
+    requires { F.IsAlwaysCallable call }
+{
+    let (text, written) = returned(rt, call);
     expect(rt, "write", text.as_str(), wanted);
     Ok(written?)
 }
@@ -47,46 +53,34 @@ fn expect_read(rt: &impl Abort, alloc: Global, form: Form, text: &str) -> Result
 }
 
 #[test]
-fn written_numbers(rt: HostRuntime) -> Result<(), Fail> {
-    expect_written(&rt, rt.alloc(), Form::Number, "64")
+fn written_texts(rt: HostRuntime) -> Result<(), Fail> {
+    let (alloc, set) = (rt.alloc(), EnumSet::only(Letters::G));
+    for (form, wanted) in [
+        (Form::Number, "64"),
+        (Form::Words, "[64]"),
+        (Form::List, "[\"G\"]"),
+        (Form::Map, "{\"G\":true}"),
+    ] {
+        expect_text(&rt, wanted, || write(alloc, form, &set))?;
+    }
+    Ok(())
 }
 
 #[test]
-fn numbers_that_are_read(rt: HostRuntime) -> Result<(), Fail> {
-    expect_read(&rt, rt.alloc(), Form::Number, " 64\n")
-}
-
-#[test]
-fn written_words(rt: HostRuntime) -> Result<(), Fail> {
-    expect_written(&rt, rt.alloc(), Form::Words, "[64]")
-}
-
-#[test]
-fn words_that_are_read(rt: HostRuntime) -> Result<(), Fail> {
-    expect_read(&rt, rt.alloc(), Form::Words, " [ 64,\t0 ] ")
-}
-
-#[test]
-fn written_names(rt: HostRuntime) -> Result<(), Fail> {
-    expect_written(&rt, rt.alloc(), Form::List, "[\"G\"]")
-}
-
-#[test]
-fn written_maps(rt: HostRuntime) -> Result<(), Fail> {
-    expect_written(&rt, rt.alloc(), Form::Map, "{\"G\":true}")
-}
-
-#[test]
-fn names_with_escapes_that_are_written(rt: HostRuntime) -> Result<(), Fail> {
-    let (alloc, set) = (rt.alloc(), EnumSet::only(Priority::Normal));
-    let (text, written) = returned(&rt, || to_list_text(alloc, &set));
-    expect(&rt, "write", text.as_str(), "[\"\\\"\\\\\"]");
-    Ok(written?)
-}
-
-#[test]
-fn names_that_are_read(rt: HostRuntime) -> Result<(), Fail> {
-    expect_read(&rt, rt.alloc(), Form::List, " [ \"G\",\n \"G\" ] ")
+fn texts_that_are_read(rt: HostRuntime) -> Result<(), Fail> {
+    for (form, text) in [
+        (Form::Number, " 64\n"),
+        (Form::Words, " [ 64,\t0 ] "),
+        (Form::List, " [ \"G\",\n \"G\" ] "),
+        (Form::Map, "{\"G\":true}"),
+        (
+            Form::Map,
+            "\r\n{\t\"A\" :false,\n\t\"G\"\r:\ttrue\n, \"B\": false }\t",
+        ),
+    ] {
+        expect_read(&rt, rt.alloc(), form, text)?;
+    }
+    Ok(())
 }
 
 #[test]
@@ -95,69 +89,48 @@ fn names_with_escapes_that_are_read(rt: HostRuntime) -> Result<(), Fail> {
 }
 
 #[test]
-fn maps_that_are_read(rt: HostRuntime) -> Result<(), Fail> {
-    expect_read(&rt, rt.alloc(), Form::Map, "{\"G\":true}")
-}
-
-#[test]
-fn maps_with_spaces_that_are_read(rt: HostRuntime) -> Result<(), Fail> {
-    let text = "\r\n{\t\"A\" :false,\n\t\"G\"\r:\ttrue\n, \"B\": false }\t";
-    expect_read(&rt, rt.alloc(), Form::Map, text)
-}
-
-#[test]
 fn maps_with_escapes_that_are_read(rt: HostRuntime) -> Result<(), Fail> {
     expect_read(&rt, rt.alloc(), Form::Map, "{\"\\u0047\":true}")
 }
 
 #[test]
+fn names_with_escapes_that_are_written(rt: HostRuntime) -> Result<(), Fail> {
+    let (alloc, set) = (rt.alloc(), EnumSet::only(Priority::Normal));
+    expect_text(&rt, "[\"\\\"\\\\\"]", || to_list_text(alloc, &set))
+}
+
+#[test]
 fn maps_with_escapes_that_are_written(rt: HostRuntime) -> Result<(), Fail> {
     let (alloc, set) = (rt.alloc(), EnumSet::only(Priority::Low));
-    let (text, written) = returned(&rt, || to_map_text(alloc, &set));
-    expect(&rt, "write", text.as_str(), "{\"é\\u0001\":true}");
-    Ok(written?)
+    expect_text(&rt, "{\"é\\u0001\":true}", || to_map_text(alloc, &set))
 }
 
 // A map has its names in the order of their bytes, which is not that of the bits.
 #[test]
 fn maps_whose_order_changes(rt: HostRuntime) -> Result<(), Fail> {
     let (alloc, set) = (rt.alloc(), EnumSet::<Wide>::all());
-    let (text, written) = returned(&rt, || to_map_text(alloc, &set));
     let wanted = "{\"Re\":true,\"Read\":true,\"Reader\":true}";
-    expect(&rt, "write", text.as_str(), wanted);
-    Ok(written?)
+    expect_text(&rt, wanted, || to_map_text(alloc, &set))
 }
 
 #[test]
-fn mixed_numbers(rt: HostRuntime) -> Result<(), Fail> {
+fn mixed_texts(rt: HostRuntime) -> Result<(), Fail> {
     let (alloc, set) = (rt.alloc(), MixedEnumSet::<Marks>::from_repr(9));
-    let (text, written) = returned(&rt, || mixed_to_number_text(alloc, &set));
-    expect(&rt, "write", text.as_str(), "9");
+    expect_text(&rt, "9", || mixed_to_number_text(alloc, &set))?;
+    expect_text(&rt, "[9]", || mixed_to_words_text(alloc, &set))?;
     let (same, was_read) = returned(&rt, || mixed_from_number_text(alloc, "9"));
-    expect(&rt, "read", same, set);
-    Ok(written.and(was_read)?)
-}
-
-#[test]
-fn mixed_words(rt: HostRuntime) -> Result<(), Fail> {
-    let (alloc, set) = (rt.alloc(), MixedEnumSet::<Marks>::from_repr(9));
-    let (text, written) = returned(&rt, || mixed_to_words_text(alloc, &set));
-    expect(&rt, "write", text.as_str(), "[9]");
+    was_read?;
+    expect(&rt, "number", same, set);
     let (same, was_read) = returned(&rt, || mixed_from_words_text(alloc, "[9]", Unknown::Refuse));
-    expect(&rt, "read", same, set);
-    Ok(written.and(was_read)?)
+    was_read?;
+    expect(&rt, "words", same, set);
+    Ok(())
 }
 
 #[test]
 fn vectors_of_words(rt: HostRuntime) -> Result<(), Fail> {
-    let set = EnumSet::<Sparse>::all();
-    let (words, ended) = match set.to_vec(rt.alloc()) {
-        Ok(words) => (words, Ok(())),
-        Err(refused) => {
-            let again = set.to_vec(rt.alloc()).expect(&rt, "refused once more");
-            (again, Err(refused))
-        }
-    };
+    let (alloc, set) = (rt.alloc(), EnumSet::<Sparse>::all());
+    let (words, ended) = returned(&rt, || set.to_vec(alloc));
     let wanted = [1074791424, 9223372036854775808];
     expect(&rt, "to_vec", words.as_slice(), &wanted);
     Ok(ended?)

@@ -9,10 +9,8 @@
 
 pub mod far_bits;
 pub mod forms;
-pub mod gaps_in_u128;
 pub mod named;
 pub mod of_256;
-pub mod of_256_names;
 pub mod of_64;
 pub mod priority;
 pub mod priority_names;
@@ -21,7 +19,6 @@ pub mod wide_names;
 
 pub use far_bits::In17Words;
 pub use forms::{In32Bits, InWords, Numbered};
-pub use gaps_in_u128::GapsInU128;
 pub use named::{LaterLetters, Letters, Sparse};
 pub use of_64::Of64;
 pub use of_256::Of256;

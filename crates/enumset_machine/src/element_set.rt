@@ -8,7 +8,6 @@ use crate::run_set::RunSet;
 use enumset_commands::Reply;
 use enumset_repr::EnumSetTypeRepr;
 use enumset_sets::{EnumSet, EnumSetIter, EnumSetType};
-use std::cmp::Ordering;
 
 /// The element of a valid bit.
 pub(crate) fn element_of<T: EnumSetType>(bit: u32) -> T
@@ -39,89 +38,6 @@ impl<T: EnumSetType> RunSet for EnumSet<T> {
 
     fn new() -> Self {
         EnumSet::new()
-    }
-
-    fn all() -> Self {
-        EnumSet::all()
-    }
-
-    fn only(bit: u32) -> Self {
-        EnumSet::only(element_of(bit))
-    }
-
-    fn insert(&mut self, bit: u32) -> bool {
-        self.insert(element_of(bit))
-    }
-
-    fn remove(&mut self, bit: u32) -> bool {
-        self.remove(element_of(bit))
-    }
-
-    fn contains(&self, bit: u32) -> bool {
-        self.contains(element_of(bit))
-    }
-
-    fn clear(mut self) -> Self {
-        EnumSet::clear(&mut self);
-        self
-    }
-
-    fn len(&self) -> usize {
-        self.len()
-    }
-
-    fn is_empty(&self) -> bool {
-        self.is_empty()
-    }
-
-    fn union(&self, other: Self) -> Self {
-        self.union(other)
-    }
-
-    fn intersection(&self, other: Self) -> Self {
-        self.intersection(other)
-    }
-
-    fn difference(&self, other: Self) -> Self {
-        self.difference(other)
-    }
-
-    fn symmetric_difference(&self, other: Self) -> Self {
-        self.symmetric_difference(other)
-    }
-
-    fn complement(&self) -> Self {
-        self.complement()
-    }
-
-    fn insert_all(mut self, other: Self) -> Self {
-        EnumSet::insert_all(&mut self, other);
-        self
-    }
-
-    fn remove_all(mut self, other: Self) -> Self {
-        EnumSet::remove_all(&mut self, other);
-        self
-    }
-
-    fn is_disjoint(&self, other: Self) -> bool {
-        self.is_disjoint(other)
-    }
-
-    fn is_superset(&self, other: Self) -> bool {
-        self.is_superset(other)
-    }
-
-    fn is_subset(&self, other: Self) -> bool {
-        self.is_subset(other)
-    }
-
-    fn is_same(&self, other: Self) -> bool {
-        self == &other
-    }
-
-    fn compare(&self, other: Self) -> Ordering {
-        self.cmp(&other)
     }
 
     fn number(&self, width: u32) -> Option<u128> {

@@ -3,9 +3,13 @@
 ghost use Rattle.std.specs.Prelude.{◌≡◌, false, IfOk, IsOk, OnErr};
 ghost use Rattle.enumset_sets.specs.Elements.{valid_bits};
 
-use crate::runner::{Runner, refusal};
+use crate::element_set::element_of;
+use crate::numbers::{number_of, words_cut_of, words_of};
+use crate::run_set::RunSet;
+use crate::runner::{Runner, carry_out, change, refusal};
 use crate::steps::{Run, step};
-use enumset_commands::{Command, Refusal, Reply};
+use enumset_commands::Command::{self, *};
+use enumset_commands::{Refusal, Reply};
 use enumset_repr::EnumSetTypeRepr;
 use enumset_sets::{EnumSet, EnumSetType};
 use std::alloc::{AllocError, Global};
@@ -48,11 +52,12 @@ impl<T: EnumSetType> Run for EnumSet<T> {
         refusal::<EnumSet<T>>(command)
     }
 
+    #[tactic(auto, unfolding(crate::specs::Runs::plan))]
     fn carry_out(
         runner: &mut Runner<EnumSet<T>>,
         alloc: Global,
         command: &Command,
     ) -> Result<Reply, AllocError> {
-        runner.carry_out(alloc, command)
+        Ok(carry_out!(runner, alloc, command, EnumSet<T>))
     }
 }

@@ -10,7 +10,6 @@ use enumset_commands::Reply;
 use enumset_mixed::{MixedEnumSet, MixedEnumSetIter, MixedValue};
 use enumset_repr::EnumSetTypeRepr;
 use enumset_sets::{EnumSetType, EnumSetTypeWithRepr};
-use std::cmp::Ordering;
 
 impl<T: EnumSetTypeWithRepr> RunSet for MixedEnumSet<T> {
     ghost use Rattle.enumset_machine.specs.Plans.{width_rules};
@@ -37,89 +36,6 @@ impl<T: EnumSetTypeWithRepr> RunSet for MixedEnumSet<T> {
 
     fn new() -> Self {
         MixedEnumSet::new()
-    }
-
-    fn all() -> Self {
-        MixedEnumSet::all()
-    }
-
-    fn only(bit: u32) -> Self {
-        MixedEnumSet::only(element_of(bit))
-    }
-
-    fn insert(&mut self, bit: u32) -> bool {
-        self.insert(element_of(bit))
-    }
-
-    fn remove(&mut self, bit: u32) -> bool {
-        self.remove(element_of(bit))
-    }
-
-    fn contains(&self, bit: u32) -> bool {
-        self.contains(element_of(bit))
-    }
-
-    fn clear(mut self) -> Self {
-        MixedEnumSet::clear(&mut self);
-        self
-    }
-
-    fn len(&self) -> usize {
-        self.len()
-    }
-
-    fn is_empty(&self) -> bool {
-        self.is_empty()
-    }
-
-    fn union(&self, other: Self) -> Self {
-        self.union(other)
-    }
-
-    fn intersection(&self, other: Self) -> Self {
-        self.intersection(other)
-    }
-
-    fn difference(&self, other: Self) -> Self {
-        self.difference(other)
-    }
-
-    fn symmetric_difference(&self, other: Self) -> Self {
-        self.symmetric_difference(other)
-    }
-
-    fn complement(&self) -> Self {
-        self.complement()
-    }
-
-    fn insert_all(mut self, other: Self) -> Self {
-        MixedEnumSet::insert_all(&mut self, other);
-        self
-    }
-
-    fn remove_all(mut self, other: Self) -> Self {
-        MixedEnumSet::remove_all(&mut self, other);
-        self
-    }
-
-    fn is_disjoint(&self, other: Self) -> bool {
-        self.is_disjoint(other)
-    }
-
-    fn is_superset(&self, other: Self) -> bool {
-        self.is_superset(other)
-    }
-
-    fn is_subset(&self, other: Self) -> bool {
-        self.is_subset(other)
-    }
-
-    fn is_same(&self, other: Self) -> bool {
-        self == &other
-    }
-
-    fn compare(&self, other: Self) -> Ordering {
-        self.cmp(&other)
     }
 
     fn number(&self, width: u32) -> Option<u128> {

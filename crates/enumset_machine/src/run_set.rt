@@ -1,18 +1,16 @@
 //! The sets of a run.
 
-ghost use Rattle.std.specs.Prelude.{◌≡◌, ◌↔◌, ◌<◌, ◌*◌, ◌^◌, ℕ, List, not, length, true, IsTrue, IsSome, IfSome};
+ghost use Rattle.std.specs.Prelude.{◌≡◌, ◌↔◌, ◌<◌, ◌*◌, ◌^◌, ℕ, List, length, true, IsTrue, IsSome, IfSome};
 ghost use Rattle.enumset_repr.specs.BitSet as set;
 ghost use Rattle.enumset_repr.specs.BitSet.{BitSet};
 ghost use Rattle.enumset_repr.specs.Number.{number as number_of, bits};
 ghost use Rattle.enumset_repr.specs.Words.{words as words_of, bits_of};
 ghost use Rattle.enumset_repr.specs.Ends.{first, last, without_first, without_last};
-ghost use Rattle.enumset_repr.specs.Order.{compare};
 ghost use Rattle.enumset_machine.specs.Plans.{Rules, is_width};
 
 use enumset_commands::Reply;
-use std::cmp::Ordering;
 
-/// A set of a run. Its elements are named by their bits, so a run knows no element type.
+/// A set of a run: its members, and the calls that the kinds of sets make each in a way of its own.
 pub trait RunSet: Copy {
     // The members' bits.
     ghost members: { Self → BitSet };
@@ -37,92 +35,6 @@ pub trait RunSet: Copy {
     /// Returns the empty set.
     fn new() -> Self
         ensures { members result ≡ set.empty };
-
-    /// Returns the set of all elements.
-    fn all() -> Self
-        ensures { members result ≡ rules.valid };
-
-    /// Returns the set of one element.
-    fn only(bit: u32) -> Self
-        requires { set.contains rules.valid bit ≡ true }
-        ensures { members result ≡ set.only bit };
-
-    /// Makes an element a member, and says whether it was absent.
-    fn insert(&mut self, bit: u32) -> bool
-        requires { set.contains rules.valid bit ≡ true }
-        ensures inserted { members self.new ≡ set.insert (members self.old) bit }
-        ensures was_absent { result ≡ not (set.contains (members self.old) bit) };
-
-    /// Takes an element out, and says whether it was present.
-    fn remove(&mut self, bit: u32) -> bool
-        requires { set.contains rules.valid bit ≡ true }
-        ensures removed { members self.new ≡ set.remove (members self.old) bit }
-        ensures was_present { result ≡ set.contains (members self.old) bit };
-
-    /// Returns whether an element is a member.
-    fn contains(&self, bit: u32) -> bool
-        requires { set.contains rules.valid bit ≡ true }
-        ensures { result ≡ set.contains (members self.now) bit };
-
-    /// Returns the same set without its members.
-    fn clear(self) -> Self
-        ensures { members result ≡ set.empty };
-
-    /// Returns how many members there are.
-    fn len(&self) -> usize
-        ensures { result ≡ set.len (members self.now) };
-
-    /// Returns whether the set is empty.
-    fn is_empty(&self) -> bool
-        ensures { result ≡ set.is_empty (members self.now) };
-
-    /// Returns the members of either.
-    fn union(&self, other: Self) -> Self
-        ensures { members result ≡ set.union (members self.now) (members other) };
-
-    /// Returns the members of both.
-    fn intersection(&self, other: Self) -> Self
-        ensures { members result ≡ set.intersection (members self.now) (members other) };
-
-    /// Returns the members of this that are not in the other.
-    fn difference(&self, other: Self) -> Self
-        ensures { members result ≡ set.difference (members self.now) (members other) };
-
-    /// Returns the members of exactly one of the two.
-    fn symmetric_difference(&self, other: Self) -> Self
-        ensures { members result ≡ set.symmetric_difference (members self.now) (members other) };
-
-    /// Returns the valid bits that are not members.
-    fn complement(&self) -> Self
-        ensures { members result ≡ set.difference rules.valid (members self.now) };
-
-    /// Returns the set into which each member of the other is put.
-    fn insert_all(self, other: Self) -> Self
-        ensures { members result ≡ set.union (members self) (members other) };
-
-    /// Returns the set out of which each member of the other is taken.
-    fn remove_all(self, other: Self) -> Self
-        ensures { members result ≡ set.difference (members self) (members other) };
-
-    /// Returns whether no element is a member of both.
-    fn is_disjoint(&self, other: Self) -> bool
-        ensures { result ≡ set.is_disjoint (members self.now) (members other) };
-
-    /// Returns whether each member of the other is one of this.
-    fn is_superset(&self, other: Self) -> bool
-        ensures { result ≡ set.is_subset (members other) (members self.now) };
-
-    /// Returns whether each member of this is one of the other.
-    fn is_subset(&self, other: Self) -> bool
-        ensures { result ≡ set.is_subset (members self.now) (members other) };
-
-    /// Returns whether both have the same members.
-    fn is_same(&self, other: Self) -> bool
-        ensures { result ≡ set.is_same (members self.now) (members other) };
-
-    /// Returns how this compares with the other: the greatest bit that exactly one of them has decides.
-    fn compare(&self, other: Self) -> Ordering
-        ensures { result ≡ compare (members self.now) (members other) };
 
     /// Returns the number of the set, if each member is below a width.
     fn number(&self, width: u32) -> Option<u128>

@@ -1,20 +1,19 @@
 //! A run over sets of any kind: its registers, and its step.
 
-ghost use Rattle.std.specs.Prelude.{◌≡◌, ◌^◌, ◌&&◌, nat_lt, Some, None, if◌then◌else◌, true, false, IsOk, IfOk, OnOk, OnErr};
-ghost use Rattle.enumset_commands.specs.declared.reply.Reply.TheVariants.{Done, Truth};
-ghost use Rattle.enumset_machine.specs.States.{start, is_set_register, is_iterator_register, set_at, put_set, put_list};
+ghost use Rattle.std.specs.Prelude.{◌≡◌, ◌^◌, ◌&&◌, nat_lt, length, Some, None, if◌then◌else◌, true};
+ghost use Rattle.enumset_commands.specs.declared.reply.Reply.TheVariants.{Done, Truth, Count};
+ghost use Rattle.enumset_machine.specs.States.{start, is_set_register, is_iterator_register, set_at, list_at, put_set, put_list};
 ghost use Rattle.enumset_repr.specs.BitSet.{ascending};
-ghost use Rattle.enumset_machine.specs.Plans.{is_width, refusal, step_reply, takes_memory};
+ghost use Rattle.enumset_repr.specs.Ends.{first, last, without_first, without_last};
+ghost use Rattle.enumset_machine.specs.Plans.{is_width, refusal, step_reply};
 ghost use Rattle.enumset_machine.specs.Runs.{plan};
 
 use crate::iterators::{IteratorRegisters, is_iterator_register};
-use crate::numbers::{number_of, words_cut_of, words_of};
 use crate::registers::{Registers, are_set_registers, is_set_register};
 use crate::run_set::RunSet;
 use enumset_commands::Command::{self, *};
 use enumset_commands::Refusal::{self, NoRegister, NotABit, NotAWidth};
 use enumset_commands::Reply;
-use std::alloc::{AllocError, Global};
 use std::marker::Model;
 
 /// Four set registers and two iterator registers.
@@ -34,24 +33,76 @@ impl<S: RunSet> Model for Runner<S> {
     ghost view = { λ m. record { sets = m.sets; lists = m.iterators } };
 }
 
-/// Puts into a register what a call gives of the sets in others. The set is made first, since a runner cannot be borrowed
-/// for the change while its registers are read.
-macro_rules! put {
-    ($runner:ident, $to:ident, $call:ident of $a:ident $(, $b:ident)*) => {{
-        let set = $runner.get($a).$call($($runner.get($b)),*);
-        $runner.put($to, set)
-    }};
-}
-
-/// Changes the set in a register by a call on a bit, and replies what the call says.
+/// Changes the set in a register by a call on a bit or an element, and replies what the call says.
 macro_rules! change {
-    ($runner:ident, $r:ident, $call:ident, $bit:ident) => {{
+    ($runner:ident, $r:ident, $call:ident, $argument:expr) => {{
         let mut set = $runner.get($r);
-        let truth = set.$call($bit);
+        let truth = set.$call($argument);
         $runner.replace($r, set, truth)
     }};
 }
 
+/// Carries out a command that every run has and that is not refused, on sets of a kind. A set is made before it is put
+/// into a register, since a runner cannot be borrowed for the change while its registers are read.
+macro_rules! carry_out {
+    ($runner:ident, $alloc:ident, $command:expr, $kind:ty) => {
+        match *$command {
+            New { r } => $runner.put(r, <$kind>::new()),
+            All { r } => $runner.put(r, <$kind>::all()),
+            Only { r, bit } => $runner.put(r, <$kind>::only(element_of(bit))),
+            Insert { r, bit } => change!($runner, r, insert, element_of(bit)),
+            Remove { r, bit } => change!($runner, r, remove, element_of(bit)),
+            Contains { r, bit } => Reply::Truth($runner.get(r).contains(element_of(bit))),
+            Clear { r } => {
+                let mut set = $runner.get(r);
+                set.clear();
+                $runner.put(r, set)
+            }
+            Len { r } => Reply::Count($runner.get(r).len() as u64),
+            IsEmpty { r } => Reply::Truth($runner.get(r).is_empty()),
+            Union { to, a, b } => $runner.put(to, $runner.get(a).union($runner.get(b))),
+            Intersection { to, a, b } => $runner.put(to, $runner.get(a).intersection($runner.get(b))),
+            Difference { to, a, b } => $runner.put(to, $runner.get(a).difference($runner.get(b))),
+            SymmetricDifference { to, a, b } => {
+                $runner.put(to, $runner.get(a).symmetric_difference($runner.get(b)))
+            }
+            Complement { to, a } => $runner.put(to, $runner.get(a).complement()),
+            InsertAll { r, a } => {
+                let mut set = $runner.get(r);
+                set.insert_all($runner.get(a));
+                $runner.put(r, set)
+            }
+            RemoveAll { r, a } => {
+                let mut set = $runner.get(r);
+                set.remove_all($runner.get(a));
+                $runner.put(r, set)
+            }
+            Disjoint { a, b } => Reply::Truth($runner.get(a).is_disjoint($runner.get(b))),
+            Superset { a, b } => Reply::Truth($runner.get(a).is_superset($runner.get(b))),
+            Subset { a, b } => Reply::Truth($runner.get(a).is_subset($runner.get(b))),
+            Equal { a, b } => Reply::Truth($runner.get(a) == $runner.get(b)),
+            Compare { a, b } => Reply::Order($runner.get(a).cmp(&$runner.get(b))),
+            Number { r, width } => number_of($runner.get(r), width),
+            NumberCut { r, width } => Reply::Number($runner.get(r).number_cut(width)),
+            FromNumber { r, width, value } => $runner.put_number(r, width, value),
+            FromNumberCut { r, width, value } => {
+                $runner.put(r, <$kind>::from_number_cut(width, value))
+            }
+            Words { r, count } => words_of($alloc, $runner.get(r), count)?,
+            WordsCut { r, count } => words_cut_of($alloc, $runner.get(r), count)?,
+            FromWords { r, ref words } => $runner.put_words(r, words),
+            FromWordsCut { r, ref words } => {
+                $runner.put(r, <$kind>::from_words_cut(words.as_slice()))
+            }
+            Iter { i, r } => $runner.iterate(i, r),
+            Next { i } => $runner.next(i),
+            NextBack { i } => $runner.next_back(i),
+            Left { i } => $runner.left(i),
+        }
+    };
+}
+
+pub(crate) use carry_out;
 pub(crate) use change;
 
 impl<S: RunSet> Runner<S> {
@@ -73,58 +124,30 @@ impl<S: RunSet> Runner<S> {
         self.sets.get(r)
     }
 
-    /// Carries out a command that is not refused.
-    #[tactic(auto, unfolding(crate::specs::Runs::plan))]
-    pub(crate) fn carry_out(
-        &mut self,
-        alloc: Global,
-        command: &Command,
-    ) -> Result<Reply, AllocError>
-        requires registers { (plan command.now).registers ≡ true }
-        requires widths { (plan command.now).widths ≡ true }
-        requires bits { (plan command.now).bits S.rules ≡ true }
-        ensures succeeds { takes_memory ((plan command.now).reply S.rules self.old)
-            ≡ false → IsOk result }
-        ensures reply { IfOk result (λ reply.
-            reply ≡ (plan command.now).reply S.rules self.old) }
-        ensures state { OnOk result (self.new ≡ (plan command.now).after S.rules self.old) }
-        ensures err { OnErr result (self.new ≡ self.old) }
+    /// Takes a step of an iterator from the front.
+    pub(crate) fn next(&mut self, i: u8) -> Reply
+        requires { is_iterator_register i ≡ true }
+        ensures reply { result ≡ step_reply S.rules (first (list_at self.old i)) }
+        ensures state { self.new ≡ put_list self.old i (without_first (list_at self.old i)) }
     {
-        Ok(match *command {
-            New { r } => self.put(r, S::new()),
-            All { r } => self.put(r, S::all()),
-            Only { r, bit } => self.put(r, S::only(bit)),
-            Insert { r, bit } => change!(self, r, insert, bit),
-            Remove { r, bit } => change!(self, r, remove, bit),
-            Contains { r, bit } => Reply::Truth(self.get(r).contains(bit)),
-            Clear { r } => put!(self, r, clear of r),
-            Len { r } => Reply::Count(self.get(r).len() as u64),
-            IsEmpty { r } => Reply::Truth(self.get(r).is_empty()),
-            Union { to, a, b } => put!(self, to, union of a, b),
-            Intersection { to, a, b } => put!(self, to, intersection of a, b),
-            Difference { to, a, b } => put!(self, to, difference of a, b),
-            SymmetricDifference { to, a, b } => put!(self, to, symmetric_difference of a, b),
-            Complement { to, a } => put!(self, to, complement of a),
-            InsertAll { r, a } => put!(self, r, insert_all of r, a),
-            RemoveAll { r, a } => put!(self, r, remove_all of r, a),
-            Disjoint { a, b } => Reply::Truth(self.get(a).is_disjoint(self.get(b))),
-            Superset { a, b } => Reply::Truth(self.get(a).is_superset(self.get(b))),
-            Subset { a, b } => Reply::Truth(self.get(a).is_subset(self.get(b))),
-            Equal { a, b } => Reply::Truth(self.get(a).is_same(self.get(b))),
-            Compare { a, b } => Reply::Order(self.get(a).compare(self.get(b))),
-            Number { r, width } => number_of(self.get(r), width),
-            NumberCut { r, width } => Reply::Number(self.get(r).number_cut(width)),
-            FromNumber { r, width, value } => self.put_number(r, width, value),
-            FromNumberCut { r, width, value } => self.put(r, S::from_number_cut(width, value)),
-            Words { r, count } => words_of(alloc, self.get(r), count)?,
-            WordsCut { r, count } => words_cut_of(alloc, self.get(r), count)?,
-            FromWords { r, ref words } => self.put_words(r, words),
-            FromWordsCut { r, ref words } => self.put(r, S::from_words_cut(words.as_slice())),
-            Iter { i, r } => self.iterate(i, r),
-            Next { i } => step_reply::<S>(self.iterators.next(i)),
-            NextBack { i } => step_reply::<S>(self.iterators.next_back(i)),
-            Left { i } => Reply::Count(self.iterators.items_left(i) as u64),
-        })
+        step_reply::<S>(self.iterators.next(i))
+    }
+
+    /// Takes a step of an iterator from the back.
+    pub(crate) fn next_back(&mut self, i: u8) -> Reply
+        requires { is_iterator_register i ≡ true }
+        ensures reply { result ≡ step_reply S.rules (last (list_at self.old i)) }
+        ensures state { self.new ≡ put_list self.old i (without_last (list_at self.old i)) }
+    {
+        step_reply::<S>(self.iterators.next_back(i))
+    }
+
+    /// How many items are left in an iterator.
+    pub(crate) fn left(&self, i: u8) -> Reply
+        requires { is_iterator_register i ≡ true }
+        ensures { result ≡ Count (length (list_at self.now i)) }
+    {
+        Reply::Count(self.iterators.items_left(i) as u64)
     }
 
     /// Puts a changed set into its register, with the reply to the change.
@@ -138,7 +161,7 @@ impl<S: RunSet> Runner<S> {
     }
 
     /// Puts an iterator over the members of a set into a register.
-    fn iterate(&mut self, i: u8, r: u8) -> Reply
+    pub(crate) fn iterate(&mut self, i: u8, r: u8) -> Reply
         requires iterator { is_iterator_register i ≡ true }
         requires set { is_set_register r ≡ true }
         ensures reply { result ≡ Done }

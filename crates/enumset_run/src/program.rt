@@ -1,9 +1,10 @@
 //! What the program does: its argument, its input and its output.
 
-ghost use Rattle.std.specs.Prelude.{◌≡◌, ◌≢◌, ◌⊎◌, ◌+◌, ◌<◌, ◌≤◌, ℕ, List, [], length, take, None, IfOk, IfErr, IfSome, OnOk, OnErr, IsOk, IsOkAnd, vec_capacity};
+ghost use Rattle.std.specs.Prelude.{◌≡◌, ◌≢◌, ◌⊎◌, ◌+◌, ◌≤◌, [], length, take, nat_lt, true, IfOk, IfErr, IfSome, OnOk, OnErr, IsOk, IsOkAnd, vec_capacity};
+ghost use Rattle.std.specs.List.{list_all};
 ghost use Rattle.std.specs.Io.KnownBytes.{Appends};
 ghost use Rattle.enumset_run.specs.Faults.{type_of_arguments, IsFaultOver, AppendsFrontOf};
-ghost use Rattle.enumset_machine.specs.Kinds.{worked_of, answer_over};
+ghost use Rattle.enumset_machine.specs.Kinds.{names, answer_over};
 
 use crate::fault::ProgramFault;
 use enumset_commands::TextFault;
@@ -45,9 +46,9 @@ fn read_arguments<E: Env>(env: &E) -> Result<Worked, ProgramFault>
     type_of_arguments(first, &name, second)
 }
 
-/// What has more bytes than [`NAME_LIMIT`] is the name of no type. The call does nothing at run time.
+/// No name of a type has more bytes than [`NAME_LIMIT`]. The call does nothing at run time.
 fn names_fit()
-    ensures { (name : List ℕ) → NAME_LIMIT < length name → worked_of name ≡ None }
+    ensures { list_all (λ row. nat_lt (length row.0) (NAME_LIMIT + 1)) names ≡ true }
 {}
 
 /// The type that the arguments name, by what looking up the first and the second found. `name` begins with the bytes

@@ -20,20 +20,12 @@ fn all_are_empty(rt: &impl Abort, replies: &[Reply]) {
 
 #[test]
 fn many_commands_are_run(rt: HostRuntime) -> Result<(), Fail> {
-    let mut commands = Vec::new(rt.alloc());
+    let (mut commands, mut mixed) = (Vec::new(rt.alloc()), Vec::new(rt.alloc()));
     for _ in 0..COMMANDS {
         commands.push(Command::Len { r: 0 })?;
+        mixed.push(MixedCommand::Common(Command::Len { r: 0 }))?;
     }
     all_are_empty(&rt, &run::<Letters>(rt.alloc(), &commands)?);
-    Ok(())
-}
-
-#[test]
-fn many_mixed_commands_are_run(rt: HostRuntime) -> Result<(), Fail> {
-    let mut commands = Vec::new(rt.alloc());
-    for _ in 0..COMMANDS {
-        commands.push(MixedCommand::Common(Command::Len { r: 0 }))?;
-    }
-    all_are_empty(&rt, &run_mixed::<Marks>(rt.alloc(), &commands)?);
+    all_are_empty(&rt, &run_mixed::<Marks>(rt.alloc(), &mixed)?);
     Ok(())
 }

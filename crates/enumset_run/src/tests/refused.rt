@@ -13,22 +13,22 @@ use std::alloc::Global;
 use std::process::Abort;
 use std::test::Fail;
 
-// Whether a reply is these words.
-fn is_words(reply: &Reply, wanted: &[u64]) -> bool {
-    match reply {
-        Reply::Words(words) => words.as_slice() == wanted,
+// Whether the last of these replies is these words.
+fn ends_in_words(replies: &[Reply], wanted: &[u64]) -> bool {
+    match replies.last() {
+        Some(Reply::Words(words)) => words.as_slice() == wanted,
         _ => false,
     }
 }
 
 // What a call gives, made again if it is refused, and how it ended.
 macro_rules! made_again {
-    ($rt:ident, $call:expr) => {
+    ($rt:expr, $call:expr) => {
         match $call {
             Ok(given) => (given, Ok(())),
             Err(refused) => {
                 let again = $call;
-                (again.expect(&$rt, "refused once more"), Err(refused))
+                (again.expect($rt, "refused once more"), Err(refused))
             }
         }
     };
@@ -39,53 +39,37 @@ fn a_step_leaves_its_machine(rt: HostRuntime) -> Result<(), Fail> {
     let mut machine = Machine::<Letters>::new();
     machine.step(rt.alloc(), &Command::Insert { r: 0, bit: 2 })?;
     let words = Command::Words { r: 0, count: 2 };
-    let (reply, ended) = made_again!(rt, machine.step(rt.alloc(), &words));
-    assert!(rt; is_words(&reply, [4, 0].as_slice()));
-    Ok(ended?)
-}
-
-#[test]
-fn a_mixed_step_leaves_its_machine(rt: HostRuntime) -> Result<(), Fail> {
+    let (reply, ended) = made_again!(&rt, machine.step(rt.alloc(), &words));
+    assert!(rt; ends_in_words(&[reply], &[4, 0]));
+    ended?;
     let mut machine = MixedMachine::<Marks>::new();
     machine.step(rt.alloc(), &MixedCommand::InsertBit { r: 0, bit: 7 })?;
-    let words = MixedCommand::Common(Command::Words { r: 0, count: 2 });
-    let (reply, ended) = made_again!(rt, machine.step(rt.alloc(), &words));
-    assert!(rt; is_words(&reply, [128, 0].as_slice()));
+    let words = MixedCommand::Common(words);
+    let (reply, ended) = made_again!(&rt, machine.step(rt.alloc(), &words));
+    assert!(rt; ends_in_words(&[reply], &[128, 0]));
     Ok(ended?)
 }
 
 #[test]
 fn runs(rt: HostRuntime) -> Result<(), Fail> {
-    let commands = [
-        Command::Insert { r: 0, bit: 2 },
-        Command::WordsCut { r: 0, count: 1 },
-    ];
-    let (replies, ended) = made_again!(rt, run::<Letters>(rt.alloc(), &commands));
-    assert!(rt; replies.len() == 2 && is_words(&replies[1], [4].as_slice()));
-    Ok(ended?)
-}
-
-#[test]
-fn mixed_runs(rt: HostRuntime) -> Result<(), Fail> {
+    let words = || Command::WordsCut { r: 0, count: 1 };
+    let commands = [Command::Insert { r: 0, bit: 2 }, words()];
+    let (replies, ended) = made_again!(&rt, run::<Letters>(rt.alloc(), &commands));
+    assert!(rt; replies.len() == 2 && ends_in_words(&replies, &[4]));
+    ended?;
     let commands = [
         MixedCommand::InsertBit { r: 0, bit: 7 },
-        MixedCommand::Common(Command::WordsCut { r: 0, count: 1 }),
+        MixedCommand::Common(words()),
     ];
-    let (replies, ended) = made_again!(rt, run_mixed::<Marks>(rt.alloc(), &commands));
-    assert!(rt; replies.len() == 2 && is_words(&replies[1], [128].as_slice()));
+    let (replies, ended) = made_again!(&rt, run_mixed::<Marks>(rt.alloc(), &commands));
+    assert!(rt; replies.len() == 2 && ends_in_words(&replies, &[128]));
     Ok(ended?)
 }
 
 // Serves two lines over a type.
 fn expect_replies(rt: &impl Abort, alloc: Global, kind: Worked) -> Result<(), Fail> {
     let input = b"from_words 0 5\nwords 0 2\n".as_slice();
-    let (text, ended) = match serve_worked(alloc, kind, input) {
-        Ok(text) => (text, Ok(())),
-        Err(refused) => {
-            let again = serve_worked(alloc, kind, input);
-            (again.expect(rt, "refused once more"), Err(refused))
-        }
-    };
+    let (text, ended) = made_again!(rt, serve_worked(alloc, kind, input));
     assert!(rt; text.as_slice() == b"ok\nwords 5 0\n".as_slice());
     Ok(ended?)
 }

@@ -1,19 +1,17 @@
-//! The law of runs of mixed sets, as users' code calls it.
+//! The law of runs of mixed sets, as users' code calls it. Replies over both types are among the transcripts.
 
 ghost use Rattle.std.specs.Prelude.{◌≡◌, IsTrue, IfOk, min};
 ghost use Rattle.std.specs.List.{list_all};
 ghost use Rattle.enumset_machine.specs.Runs.{is_within};
 ghost use Rattle.enumset_sets.specs.Elements.{valid_bits};
 
-use enumset_commands::{Command, MixedCommand, Reply};
+use enumset_commands::{MixedCommand, Reply};
 use enumset_machine::laws::mixed_transcript;
 use enumset_machine::run_mixed;
 use enumset_repr::EnumSetTypeRepr;
 use enumset_sets::{EnumSetType, EnumSetTypeWithRepr};
 use enumset_worked::{PairNumber, PairWords};
 use std::alloc::{AllocError, Global};
-use std::cmp::Ordering;
-use std::test::Fail;
 
 // The replies over mixed sets of two types with the same valid bits. They do not depend on the representations.
 fn replies_over_both<T: EnumSetTypeWithRepr, U: EnumSetTypeWithRepr>(
@@ -39,42 +37,4 @@ fn replies_over_pairs(
     ensures { IfOk result (λ both. both.0.items ≡ both.1.items) }
 {
     replies_over_both::<PairWords, PairNumber>(alloc, commands)
-}
-
-// Commands whose bits are all below 128.
-fn commands() -> [MixedCommand; 7]
-    ensures { IsTrue (list_all (is_within 128) result) }
-{
-    [
-        MixedCommand::Common(Command::All { r: 0 }),
-        MixedCommand::InsertBit { r: 1, bit: 63 },
-        MixedCommand::InsertBit { r: 2, bit: 64 },
-        MixedCommand::Common(Command::Compare { a: 1, b: 2 }),
-        MixedCommand::Common(Command::Compare { a: 0, b: 2 }),
-        MixedCommand::Common(Command::Compare { a: 2, b: 2 }),
-        MixedCommand::Unknown { r: 1 },
-    ]
-}
-
-#[test]
-fn the_representation_shows_in_no_reply(rt: HostRuntime) -> Result<(), Fail> {
-    let alloc = rt.alloc();
-    let (words, number) = replies_over_pairs(alloc, &commands())?;
-    for replies in [&words, &number] {
-        assert!(rt;
-            matches!(
-                replies.as_slice(),
-                [
-                    Reply::Done,
-                    Reply::Truth(true),
-                    Reply::Truth(true),
-                    Reply::Order(Ordering::Less),
-                    Reply::Order(Ordering::Greater),
-                    Reply::Order(Ordering::Equal),
-                    Reply::Truth(true),
-                ]
-            )
-        );
-    }
-    Ok(())
 }

@@ -5,7 +5,7 @@ use std::fmt;
 
 /// A variant for each bit of four words. An enum may have no more variants than these 256.
 #[derive(EnumSetType)]
-#[enumset(no_ops, crate_name = "enumset_sets")]
+#[enumset(no_ops, serialize_repr = "list")]
 pub enum Of256 {
     V0,
     V1,
