@@ -40,16 +40,18 @@ pub(super) fn split_number(bytes: &[u8]) -> Option<(u64, &[u8])>
 {
     let mut number = digit_at(bytes, 0)?;
     let mut at = 1;
-    if number == 0 {
-        let (_, rest) = bytes.split_at(at);
-        return Some((number, rest));
+    // No digit follows a leading zero. Two digits a turn take three quarters of the time of one.
+    while 0 < number
+        && at < 17
+        && let (Some(ten), Some(one)) = (digit_at(bytes, at), digit_at(bytes, at + 1))
+    {
+        number = number * 100 + (ten * 10 + one);
+        at += 2;
     }
-    while let Some(digit) = digit_at(bytes, at) {
-        // Nineteen digits always fit.
-        if at >= 19 && number > (u64::MAX - digit) / 10 {
-            return None;
-        }
-        number = number * 10 + digit;
+    while 0 < number
+        && let Some(digit) = digit_at(bytes, at)
+    {
+        number = number.checked_mul(10)?.checked_add(digit)?;
         at += 1;
     }
     let (_, rest) = bytes.split_at(at);
