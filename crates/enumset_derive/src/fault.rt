@@ -27,6 +27,9 @@ pub enum DeriveError {
     File(String, &'static str),
 }
 
+/// What comes of a part of the program, if it does not fail.
+pub type Outcome<T> = Result<T, DeriveError>;
+
 /// A fault of a source text, and where it is.
 #[derive(Clone, Copy, Debug, Error)]
 #[error("{place}: {reason}")]

@@ -1,6 +1,6 @@
 //! What the program does: its arguments, its input and its output.
 
-use crate::fault::{DeriveError, Place, Reason};
+use crate::fault::{DeriveError, Outcome, Place, Reason};
 use crate::read::read_source;
 use crate::source::Source;
 use crate::tokens::{is_digit, tokens_of};
@@ -31,17 +31,15 @@ pub struct Request<'a> {
 }
 
 /// Tests the arguments, reads the source and writes the module.
-pub fn answer<R: Env + Files + Input + Print + Eprint + AllocGlobal>(
-    rt: &R,
-) -> Result<(), DeriveError> {
+pub fn answer<R: Env + Files + Input + Print + Eprint + AllocGlobal>(rt: &R) -> Outcome<()> {
     let arguments = arguments(rt)?;
     let request = request_of(rt.alloc(), &arguments)?;
     let module = derive(rt, &request)?;
-    write_module(rt, module.as_str(), request.file)
+    write_module(rt, &request, module.as_str())
 }
 
 /// The arguments, with the name of the program.
-fn arguments<R: Env + AllocGlobal>(rt: &R) -> Result<Vec<String>, DeriveError> {
+fn arguments<R: Env + AllocGlobal>(rt: &R) -> Outcome<Vec<String>> {
     match env::args(rt) {
         Ok(arguments) => Ok(arguments.collect(rt.alloc())?),
         Err(error) if error.kind() == ErrorKind::OutOfMemory => Err(DeriveError::OutOfMemory),
@@ -50,7 +48,7 @@ fn arguments<R: Env + AllocGlobal>(rt: &R) -> Result<Vec<String>, DeriveError> {
 }
 
 /// What the arguments ask for.
-fn request_of(alloc: Global, arguments: &[String]) -> Result<Request<'_>, DeriveError> {
+fn request_of(alloc: Global, arguments: &[String]) -> Outcome<Request<'_>> {
     let crate_name = arguments.get(1).ok_or(WRONG)?.as_str();
     let path = arguments.get(2).ok_or(WRONG)?.as_str();
     if !is_name(crate_name) || !path.split("::").all(is_name) {
@@ -71,19 +69,14 @@ fn request_of(alloc: Global, arguments: &[String]) -> Result<Request<'_>, Derive
 
 /// Whether a text is a name: a small letter or `_`, and then small letters, digits and `_`.
 fn is_name(name: &str) -> bool {
-    !name.is_empty()
-        && name.len() <= NAME_LIMIT
-        && !name.starts_with(is_digit)
-        && name
-            .chars()
-            .all(|letter| matches!(letter, 'a'..='z' | '0'..='9' | '_'))
+    let mut letters = name.chars();
+    let is_short = matches!(name.len(), 1..=NAME_LIMIT);
+    let is_plain = letters.all(|letter| matches!(letter, 'a'..='z' | '0'..='9' | '_'));
+    is_short && is_plain && !name.starts_with(is_digit)
 }
 
 /// The module that the input stands for.
-fn derive<R: Input + Eprint + AllocGlobal>(
-    rt: &R,
-    request: &Request,
-) -> Result<String, DeriveError> {
+fn derive<R: Input + Eprint + AllocGlobal>(rt: &R, request: &Request) -> Outcome<String> {
     let alloc = rt.alloc();
     let input = read_input(alloc, rt.reader())?;
     let text = text_of(&input)?.replace(alloc, "\r\n", "\n")?;
@@ -106,12 +99,8 @@ fn report<R: Eprint>(rt: &R, source: &Source) {
 }
 
 /// Writes a text to a file, or to standard output.
-fn write_module<R: Files + Print + AllocGlobal>(
-    rt: &R,
-    text: &str,
-    file: Option<&str>,
-) -> Result<(), DeriveError> {
-    let Some(file) = file else {
+fn write_module<R: Files + Print + AllocGlobal>(rt: &R, to: &Request, text: &str) -> Outcome<()> {
+    let Some(file) = to.file else {
         let written = io::writer(rt).write_all(text.as_bytes());
         return written.map_err(|_| DeriveError::Stream("writing failed"));
     };
@@ -125,7 +114,7 @@ fn write_module<R: Files + Print + AllocGlobal>(
 }
 
 /// The bytes of a reader until its end.
-fn read_input<R: Read + Drop>(alloc: Global, reader: R) -> Result<Vec<u8>, DeriveError> {
+fn read_input<R: Read + Drop>(alloc: Global, reader: R) -> Outcome<Vec<u8>> {
     let mut input = Vec::new(alloc);
     let mut reader = reader;
     match reader.read_to_end(&mut input) {
@@ -136,7 +125,7 @@ fn read_input<R: Read + Drop>(alloc: Global, reader: R) -> Result<Vec<u8>, Deriv
 }
 
 /// The text that bytes are, without a byte order mark, or the fault where they are no text.
-fn text_of(input: &[u8]) -> Result<&str, DeriveError> {
+fn text_of(input: &[u8]) -> Outcome<&str> {
     let error = match str::from_utf8(input) {
         Ok(text) => return Ok(without_mark(text)),
         Err(error) => error,

@@ -133,7 +133,9 @@ impl<'a> Source<'a> {
         let mut item = item;
         let mut at = self.items.len();
         for (index, earlier) in self.items.iter().enumerate().rev() {
-            if item.gap != "\n" || !self.is_import_before(&item, earlier) {
+            let orders = self.order_of(&item.form).zip(self.order_of(&earlier.form));
+            let is_before = orders.is_some_and(|(own, other)| own < other);
+            if item.gap != "\n" || !is_before {
                 break;
             }
             at = index;
@@ -145,12 +147,6 @@ impl<'a> Source<'a> {
             mem::swap(&mut item.gap, &mut next.gap);
         }
         Ok(self.items.insert(at.min(self.items.len()), item)?)
-    }
-
-    /// Whether both items are imports, and the first comes before the second one.
-    fn is_import_before(&self, first: &Item, second: &Item) -> bool {
-        let orders = self.order_of(&first.form).zip(self.order_of(&second.form));
-        orders.is_some_and(|(first, second)| first < second)
     }
 
     /// By what `rt fmt` orders imports: those of the crate itself come first.
@@ -192,12 +188,7 @@ impl<'a> Source<'a> {
     }
 
     /// Says that a text at a place is left out, and why.
-    pub fn leave_out(
-        &mut self,
-        place: Place,
-        text: &str,
-        why: &'static str,
-    ) -> Result<(), AllocError> {
+    pub fn leave_out(&mut self, place: Place, text: &str, why: &str) -> Result<(), AllocError> {
         self.gap.is_after_left_out = true;
         let note = format!(in self.alloc; "left out: {text} {why}")?;
         Ok(self.notes.push((place, note))?)

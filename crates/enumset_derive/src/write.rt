@@ -7,18 +7,32 @@ mod json;
 mod layout;
 mod names;
 mod operators;
-mod stores;
 
-use crate::fault::DeriveError;
+use crate::fault::{Outcome, Reason};
+use crate::plan::{
+    Discriminant, EnumDeclaration, IntegerType, Number, Plan, Serialized, Store, Variant,
+};
 use crate::program::Request;
 use crate::source::{Element, Form, Source};
-use element_type::write_element_type;
-use enums::write_enum;
+use crate::tokens::names_last;
+use element_type::{is_in_table, is_narrow, write_element_type};
+use enums::{are_kept, write_enum};
 use imports::imports_of;
+use json::write_json;
+use layout::{
+    LIST_ROOM, LIST_START, list_by_names, list_of, on_a_line, wrapped, write_arm, write_call,
+    write_head,
+};
+use names::{write_display, write_names};
+use operators::write_operators;
 use std::alloc::{AllocError, Global};
+use std::collections::BTreeSet;
 
 /// Nothing, unless memory ran out.
 type Written = Result<(), AllocError>;
+
+/// A text, unless memory ran out.
+type Text = Result<String, AllocError>;
 
 /// The attribute of what is there for tests alone. In one piece it would have the toolchain look for tests here.
 const FOR_TESTS: &str = concat!("#", "[cfg(test)]\n");
@@ -40,13 +54,8 @@ struct Subject<'a> {
 /// The text of the module that a source stands for, or the fault of a name that the module needs itself.
 ///
 /// The imports stand where the first of the source stand, or after its head.
-pub fn module_text(
-    alloc: Global,
-    request: &Request,
-    source: &Source,
-) -> Result<String, DeriveError> {
+pub fn module_text(alloc: Global, request: &Request, source: &Source) -> Outcome<String> {
     let imports = imports_of(source)?;
-    let imports = imports.as_str();
     let mut text = String::new(alloc);
     for (index, item) in source.items.iter().enumerate() {
         write_gap(&mut text, item.gap)?;
@@ -56,7 +65,7 @@ pub fn module_text(
         match &item.form {
             Form::Text(other) => text.push_str(other.as_str())?,
             Form::Import(import) => text.push_str(import.text.as_str())?,
-            Form::Imports => text.push_str(imports)?,
+            Form::Imports => text.push_str(imports.as_str())?,
             Form::Element(element) => {
                 write_enum(&mut text, alloc, element)?;
                 let subject = Subject {

@@ -1,10 +1,6 @@
-//! Comments and attributes, and which attributes have a meaning in Rattle.
+//! Comments, attributes and derives, and which have a meaning in Rattle.
 
-use super::cursor::Cursor;
-use crate::fault::{DeriveError, Place};
-use crate::tokens::{Kind, Token, UNCLOSED_BRACKET, is_among};
-use std::alloc::Global;
-use std::mem;
+use super::*;
 
 const CONFIGURATION: &str =
     "`cfg(test)` is the only configuration here: remove the attribute, or what is under it too";
@@ -26,12 +22,12 @@ const OF_TYPES: &str = "must_use rattlefmt cycle derive_where";
 const OF_ITEMS: &str = "inline cold test ignore should_panic macro_export macro_use macro_derive \
     unsafe error serde";
 
-/// What stands before an item or a variant.
-#[derive(Clone, Copy)]
-pub(super) enum Part<'a, 'b> {
-    Comment(&'a str),
-    Attribute(Attribute<'a, 'b>),
-}
+/// What std, `serde` and `thiserror` derive.
+const KNOWN: &str = "Clone Copy PartialEq Eq PartialOrd Ord Default Hash Debug Drop \
+    Serialize Deserialize Error";
+
+/// The first names of paths to these derives.
+const ROOTS: &str = "std core fmt cmp hash clone marker default serde thiserror";
 
 /// What an attribute stands before or in.
 #[derive(Clone, Copy)]
@@ -44,17 +40,17 @@ pub(super) enum Bearer {
     Variant,
 }
 
-/// An attribute.
+/// An attribute, or a comment.
 #[derive(Clone, Copy)]
 pub(super) struct Attribute<'a, 'b> {
-    /// Where its `#` is.
+    /// Where it begins.
     pub place: Place,
     bracket: &'b Token<'a>,
     /// As it is written.
     pub text: &'a str,
-    /// The place of its name.
+    /// The place of its name, or of the comment.
     pub name: Cursor<'a, 'b>,
-    /// The tokens after its name, up to the `]` at its end.
+    /// The tokens after its name, up to the `]` at its end; none after a comment.
     pub tokens: &'b [Token<'a>],
 }
 
@@ -64,8 +60,12 @@ impl<'a, 'b> Attribute<'a, 'b> {
         self.name.token.is(name)
     }
 
+    pub fn is_comment(&self) -> bool {
+        self.name.token.is_comment()
+    }
+
     /// Whether it is kept. It is a fault if nothing right would come of keeping it or of leaving it out.
-    pub fn has_meaning(&self, bearer: Bearer) -> Result<bool, DeriveError> {
+    pub fn has_meaning(&self, bearer: Bearer) -> Outcome<bool> {
         let name = self.name.token.text;
         let is_item = matches!(bearer, Bearer::Item);
         let is_type = is_item || matches!(bearer, Bearer::Enum);
@@ -85,6 +85,7 @@ impl<'a, 'b> Attribute<'a, 'b> {
                 self.name.want(!self.calls("enumset"), OPTIONS_ALONE)?;
                 false
             }
+            _ if self.is_comment() => true,
             _ if is_item && is_among(OF_ITEMS, name) => true,
             _ => is_among(EVERYWHERE, name) || (is_type && is_among(OF_TYPES, name)),
         })
@@ -112,7 +113,7 @@ impl<'a, 'b> Attribute<'a, 'b> {
     }
 
     /// The place of the bracket before its arguments.
-    pub fn arguments(&self) -> Result<Cursor<'a, 'b>, DeriveError> {
+    pub fn arguments(&self) -> Outcome<Cursor<'a, 'b>> {
         let mut cursor = self.name;
         cursor.advance_past_blanks()?;
         cursor.want(cursor.token.is_mark('('), "wanted: `(`")?;
@@ -121,7 +122,7 @@ impl<'a, 'b> Attribute<'a, 'b> {
 
     /// Goes on from the bracket before the arguments, or from what stands after an argument, to the next one or to the
     /// bracket at their end. Tells whether there is one.
-    pub fn go_to_argument(&self, cursor: &mut Cursor<'a, 'b>) -> Result<bool, DeriveError> {
+    pub fn go_to_argument(&self, cursor: &mut Cursor<'a, 'b>) -> Outcome<bool> {
         let depth = self.name.token.depth.saturating_add(1);
         let is_before = cursor.token.is_one_of("(,") && cursor.token.depth == depth;
         if is_before {
@@ -171,13 +172,13 @@ pub(super) fn renamed_derive<'a>(tokens: &[Token<'a>]) -> &'a str {
 
 impl<'a, 'b> Cursor<'a, 'b> {
     /// Reads the comments and attributes that come next, up to what stands after them.
-    pub fn read_parts(&mut self, alloc: Global) -> Result<Vec<Part<'a, 'b>>, DeriveError> {
+    pub fn read_parts(&mut self, alloc: Global) -> Outcome<Vec<Attribute<'a, 'b>>> {
         let mut parts = Vec::new(alloc);
         for _ in self.rest {
             match self.token.kind {
                 Kind::Space => {}
-                Kind::Mark('#') => parts.push(Part::Attribute(self.read_attribute()?))?,
-                _ if self.token.is_comment() => parts.push(Part::Comment(self.token.text))?,
+                Kind::Mark('#') => parts.push(self.read_attribute()?)?,
+                _ if self.token.is_comment() => parts.push(self.part_since(self.token, *self))?,
                 _ => break,
             }
             self.advance()?;
@@ -186,7 +187,7 @@ impl<'a, 'b> Cursor<'a, 'b> {
     }
 
     /// Reads an attribute from its `#` or the `!` after it on, up to the `]` at its end.
-    pub fn read_attribute(&mut self) -> Result<Attribute<'a, 'b>, DeriveError> {
+    pub fn read_attribute(&mut self) -> Outcome<Attribute<'a, 'b>> {
         let begin = self.token;
         self.advance_past_blanks()?;
         let bracket = self.token;
@@ -195,16 +196,44 @@ impl<'a, 'b> Cursor<'a, 'b> {
         let name = *self;
         self.skip_to("]", begin.depth)?;
         Ok(Attribute {
-            place: begin.place,
             bracket,
-            text: self.text_since(begin.begin),
-            name,
-            tokens: self.passed_since(&name),
+            ..self.part_since(begin, name)
         })
     }
 
+    /// The attribute or the comment from a token on, up to this one, with the place of its name.
+    fn part_since(&self, begin: &'b Token<'a>, name: Cursor<'a, 'b>) -> Attribute<'a, 'b> {
+        Attribute {
+            place: begin.place,
+            bracket: begin,
+            text: self.text_since(begin.begin),
+            name,
+            tokens: self.passed_since(&name),
+        }
+    }
+
+    /// Reads a path, up to what stands after it.
+    fn read_path(&mut self, alloc: Global) -> Outcome<String> {
+        let mut path = String::new(alloc);
+        let mut was_name = false;
+        for _ in self.rest {
+            let is_name = self.token.is_name();
+            let is_part = is_name || self.token.is_mark(':');
+            if !is_part || (is_name == was_name && !path.is_empty()) {
+                break;
+            }
+            if is_name || !path.is_empty() {
+                path.push_str(self.token.text)?;
+            }
+            was_name = is_name;
+            self.advance_past_blanks()?;
+        }
+        self.want(was_name, "wanted: a path, or `)`")?;
+        Ok(path)
+    }
+
     /// Reads a visibility, as `pub` or `pub(crate)`, if there is one: `pub` and what stands in brackets after it.
-    pub fn read_visibility(&mut self) -> Result<(&'a str, &'a str), DeriveError> {
+    pub fn read_visibility(&mut self) -> Outcome<(&'a str, &'a str)> {
         if !self.token.is("pub") {
             return Ok(("", ""));
         }
@@ -217,5 +246,46 @@ impl<'a, 'b> Cursor<'a, 'b> {
         let restriction = self.text_since(begin.begin);
         self.advance_past_blanks()?;
         Ok(("pub", restriction))
+    }
+}
+
+/// Whether a path is derived by std, by `serde` or `thiserror`, or by a macro of the crate itself.
+fn is_known(path: &str) -> bool {
+    match path.split_once("::") {
+        Some(("crate" | "self" | "super", _)) => true,
+        Some((root, _)) if !is_among(ROOTS, root) => false,
+        _ => KNOWN.split(' ').any(|name| names_last(path, name)),
+    }
+}
+
+impl<'a, 'b> Reader<'a, 'b> {
+    /// The paths that an attribute derives and that are kept, and whether all are. The others are left out, but for
+    /// `EnumSetType`.
+    pub(super) fn kept_of(&mut self, part: &Attribute<'a, 'b>) -> Outcome<(Vec<String>, bool)> {
+        let mut kept = Vec::new(self.alloc);
+        let mut is_whole = true;
+        let mut cursor = part.arguments()?;
+        for _ in cursor.rest {
+            if !part.go_to_argument(&mut cursor)? {
+                break;
+            }
+            let begin = cursor;
+            let path = cursor.read_path(self.alloc)?;
+            let names = ["EnumSetType", self.derive];
+            let is_own = names.iter().any(|name| names_last(path.as_str(), name));
+            is_whole = is_whole && is_known(path.as_str());
+            if is_own {
+                continue;
+            }
+            if is_known(path.as_str()) {
+                self.words.insert(begin.token.text)?;
+                self.add_words(cursor.passed_since(&begin))?;
+                kept.push(path)?;
+            } else {
+                let text = format!(in self.alloc; "#[derive({path})]")?;
+                self.leave_out(begin.token.place, text.as_str())?;
+            }
+        }
+        Ok((kept, is_whole))
     }
 }

@@ -1,14 +1,6 @@
 //! Enums that are to be element types.
 
-use super::Reader;
-use super::attributes::{Attribute, Bearer, Part};
-use super::cursor::Done;
-use super::names::Serde;
-use crate::plan::{EnumDeclaration, Options, plan_enum};
-use crate::source::{Element, Form};
-use crate::tokens::{Token, names_last};
-use std::alloc::Global;
-use std::mem;
+use super::*;
 
 const SERDE_ALONE: &str = "here nothing comes of the names: write `#[serde(..)]` alone";
 
@@ -29,40 +21,6 @@ pub(super) struct Draft<'a, 'b> {
 }
 
 impl<'a, 'b> Draft<'a, 'b> {
-    fn new(alloc: Global) -> Draft<'a, 'b> {
-        let declaration = EnumDeclaration {
-            attributes: String::new(alloc),
-            later_attributes: String::new(alloc),
-            derives: Vec::new(alloc),
-            visibility: ("", ""),
-            name: "",
-            variants: Vec::new(alloc),
-            last_comments: String::new(alloc),
-            options: Options::default(),
-        };
-        Draft {
-            alloc,
-            declaration,
-            pending: String::new(alloc),
-            has_derive: false,
-            is_test: false,
-            given: Vec::new(alloc),
-            serde: Vec::new(alloc),
-            hidden_serde: None,
-        }
-    }
-
-    /// Whether what is read stands before the enum, whose name is not known yet.
-    fn is_enum(&self) -> bool {
-        self.declaration.name.is_empty()
-    }
-
-    /// Adds a comment or an attribute.
-    fn push(&mut self, text: &str) -> Done {
-        let start = if self.is_enum() { "" } else { "    " };
-        Ok(write!(self.pending, "{start}{text}\n")?)
-    }
-
     /// Takes the comments and attributes that were read last.
     pub fn comments(&mut self) -> String {
         mem::replace(&mut self.pending, String::new(self.alloc))
@@ -70,17 +28,19 @@ impl<'a, 'b> Draft<'a, 'b> {
 
     /// Whether something of this name is derived.
     fn derives(&self, name: &str) -> bool {
-        let mut derives = self.declaration.derives.iter();
-        derives.any(|path| names_last(path.as_str(), name))
+        let derives = &self.declaration.derives;
+        derives.iter().any(|path| names_last(path.as_str(), name))
     }
 
     /// A fault if an option or an attribute of the enum means nothing without another.
     pub fn test_options(&self) -> Done {
         let options = &self.declaration.options;
-        for given in &self.given {
-            if options.serialized.is_none() && given.is("serialize_deny_unknown") {
-                return Err(given.fault("`serialize_deny_unknown` needs `serialize_repr`"));
-            }
+        let mut denies = self
+            .given
+            .iter()
+            .filter(|given| given.is("serialize_deny_unknown"));
+        if let (Some(given), None) = (denies.next(), options.serialized) {
+            return Err(given.fault("`serialize_deny_unknown` needs `serialize_repr`"));
         }
         match self.hidden_serde {
             Some(attribute) => attribute.name.want(!options.are_named(), SERDE_ALONE),
@@ -91,8 +51,28 @@ impl<'a, 'b> Draft<'a, 'b> {
 
 impl<'a, 'b> Reader<'a, 'b> {
     /// Reads an enum, whose comments and attributes are these, and plans it.
-    pub(super) fn read_element(&mut self, parts: &[Part<'a, 'b>]) -> Done {
-        let mut draft = Draft::new(self.alloc);
+    pub(super) fn read_element(&mut self, parts: &[Attribute<'a, 'b>]) -> Done {
+        let alloc = self.alloc;
+        let declaration = EnumDeclaration {
+            attributes: String::new(alloc),
+            later_attributes: String::new(alloc),
+            derives: Vec::new(alloc),
+            visibility: ("", ""),
+            name: "",
+            variants: Vec::new(alloc),
+            last_comments: String::new(alloc),
+            options: Options::default(),
+        };
+        let mut draft = Draft {
+            alloc,
+            declaration,
+            pending: String::new(alloc),
+            has_derive: false,
+            is_test: false,
+            given: Vec::new(alloc),
+            serde: Vec::new(alloc),
+            hidden_serde: None,
+        };
         self.take(&mut draft, parts)?;
         self.read_enum(&mut draft)?;
         let plan = plan_enum(self.alloc, &draft.declaration)?;
@@ -115,34 +95,34 @@ impl<'a, 'b> Reader<'a, 'b> {
     }
 
     /// Takes the comments and the attributes of the enum, or of a variant if the enum's name is known.
-    pub(super) fn take(&mut self, draft: &mut Draft<'a, 'b>, parts: &[Part<'a, 'b>]) -> Done {
+    pub(super) fn take(&mut self, draft: &mut Draft<'a, 'b>, parts: &[Attribute<'a, 'b>]) -> Done {
         for part in parts {
-            match part {
-                Part::Comment(text) => draft.push(text)?,
-                Part::Attribute(attribute) => self.take_attribute(draft, *attribute)?,
-            }
+            self.take_part(draft, *part)?;
         }
         Ok(())
     }
 
-    /// Takes an attribute.
-    fn take_attribute(&mut self, draft: &mut Draft<'a, 'b>, attribute: Attribute<'a, 'b>) -> Done {
-        let is_enum = draft.is_enum();
-        let bearer = if is_enum {
-            Bearer::Enum
-        } else {
-            Bearer::Variant
-        };
+    /// Takes a comment or an attribute.
+    fn take_part(&mut self, draft: &mut Draft<'a, 'b>, attribute: Attribute<'a, 'b>) -> Done {
+        let is_enum = draft.declaration.name.is_empty();
+        let start = if is_enum { "" } else { "    " };
         let is_kept = match attribute.name.token.text {
-            "derive" if is_enum => return self.take_derives(draft, &attribute),
+            "derive" if is_enum => {
+                if !mem::replace(&mut draft.has_derive, true) {
+                    draft.declaration.attributes = draft.comments();
+                }
+                let (mut derives, _) = self.kept_of(&attribute)?;
+                return Ok(draft.declaration.derives.append(&mut derives)?);
+            }
             "enumset" if is_enum => return draft.read_options(&attribute),
             "serde" => draft.derives("Serialize") || draft.derives("Deserialize"),
             "default" if !is_enum => draft.derives("Default"),
             "error" => draft.derives("Error"),
-            _ => attribute.has_meaning(bearer)?,
+            _ if is_enum => attribute.has_meaning(Bearer::Enum)?,
+            _ => attribute.has_meaning(Bearer::Variant)?,
         };
         if is_kept {
-            draft.push(attribute.text)?;
+            write!(draft.pending, "{start}{}\n", attribute.text)?;
         }
         if attribute.is("serde") {
             let before = draft.declaration.variants.len();
@@ -158,18 +138,6 @@ impl<'a, 'b> Reader<'a, 'b> {
             draft.hidden_serde = draft.hidden_serde.or(Some(attribute));
         }
         draft.is_test = draft.is_test || attribute.is("cfg");
-        Ok(())
-    }
-
-    /// Takes what is derived.
-    fn take_derives(&mut self, draft: &mut Draft<'a, 'b>, attribute: &Attribute<'a, 'b>) -> Done {
-        if !mem::replace(&mut draft.has_derive, true) {
-            draft.declaration.attributes = draft.comments();
-        }
-        let derives = attribute.derives(self.alloc)?;
-        for path in self.kept_of(derives)? {
-            draft.declaration.derives.push(path)?;
-        }
         Ok(())
     }
 }

@@ -1,12 +1,6 @@
 //! An enum from its keyword on.
 
-use super::Reader;
-use super::attributes::Part;
-use super::cursor::{Cursor, Done};
-use super::draft::Draft;
-use crate::fault::{DeriveError, Reason};
-use crate::plan::{Discriminant, Number, Variant};
-use crate::tokens::{Kind, Token, is_digit};
+use super::*;
 
 const NO_VARIANTS: &str = "`rt ci` refuses what this enum without variants has: nobody can call it";
 
@@ -28,7 +22,7 @@ impl<'a, 'b> Reader<'a, 'b> {
             draft.test_options()?;
             let parts = self.cursor.read_parts(self.alloc)?;
             self.take(draft, parts.as_slice())?;
-            let has_attribute = parts.iter().any(|part| matches!(part, Part::Attribute(_)));
+            let has_attribute = parts.iter().any(|part| !part.is_comment());
             if self.cursor.token.is_mark('}') && !has_attribute {
                 break;
             }
@@ -44,7 +38,7 @@ impl<'a, 'b> Reader<'a, 'b> {
     }
 
     /// Reads a variant, of which the attributes are given, up to what stands after the `,` and the comments on its line.
-    fn read_variant(&mut self, attributes: String) -> Result<Variant<'a>, DeriveError> {
+    fn read_variant(&mut self, attributes: String) -> Outcome<Variant<'a>> {
         let begin = self.cursor;
         let is_name = begin.token.is_name();
         begin.want(is_name, "wanted: a name of a variant, or `}`")?;
@@ -69,7 +63,7 @@ impl<'a, 'b> Reader<'a, 'b> {
 
 impl<'a, 'b> Cursor<'a, 'b> {
     /// Reads the keyword and the name of an enum, and the `{` after them.
-    fn read_enum_name(&mut self) -> Result<&'b Token<'a>, DeriveError> {
+    fn read_enum_name(&mut self) -> Outcome<&'b Token<'a>> {
         let is_end = matches!(self.token.kind, Kind::End);
         self.want(!is_end, "wanted: an item")?;
         self.want(self.token.is("enum"), "`EnumSetType` is for enums alone")?;
@@ -85,7 +79,7 @@ impl<'a, 'b> Cursor<'a, 'b> {
     }
 
     /// Reads `=` and a discriminant, if they are there, up to what stands after them.
-    fn read_discriminant(&mut self) -> Result<Option<Discriminant<'a>>, DeriveError> {
+    fn read_discriminant(&mut self) -> Outcome<Option<Discriminant<'a>>> {
         if !self.token.is_mark('=') {
             return Ok(None);
         }
@@ -95,10 +89,8 @@ impl<'a, 'b> Cursor<'a, 'b> {
         if is_negative {
             self.advance_past_blanks()?;
         }
-        let (literal, number) = match number_of(self.token.text, is_negative) {
-            Ok(read) => read,
-            Err(text) => return Err(begin.fault(text)),
-        };
+        let read = number_of(self.token.text, is_negative);
+        let (literal, number) = read.map_err(|text| begin.fault(text))?;
         self.advance_past_blanks()?;
         Ok(Some(Discriminant {
             place: begin.place,
@@ -147,13 +139,13 @@ fn number_of(literal: &str, is_negative: bool) -> Result<(&str, Number), &'stati
     }
     let mut value = Some(0u128);
     let mut exponent = None;
-    for character in digits.chars() {
+    for character in digits.chars().filter(|character| *character != '_') {
         match character.to_digit(16) {
             Some(digit) if digit < radix => {
                 exponent = power_with(value, exponent, radix, digit);
-                value = value_with(value, radix, digit);
+                let tens = value.and_then(|value| value.checked_mul(u128::from(radix)));
+                value = tens.and_then(|tens| tens.checked_add(u128::from(digit)));
             }
-            _ if character == '_' => {}
             _ => return Err(NOT_A_LITERAL),
         }
     }
@@ -175,13 +167,6 @@ fn radix_of(literal: &str) -> (u32, &str) {
         }
     }
     (10, literal)
-}
-
-/// The number of some digits and one more, unless it is past 2^128 - 1.
-fn value_with(value: Option<u128>, radix: u32, digit: u32) -> Option<u128> {
-    value?
-        .checked_mul(u128::from(radix))?
-        .checked_add(u128::from(digit))
 }
 
 /// Which power of two, up to 2^32 - 1, the number of some digits and one more is, unless the base is decimal.

@@ -1,12 +1,6 @@
 //! What lines `use ..;` import.
 
-use super::Reader;
-use super::cursor::{Cursor, Done};
-use crate::fault::Place;
-use crate::source::{Form, Import, Name};
-use crate::tokens::{Token, is_among};
-use std::alloc::{AllocError, Global};
-use std::mem;
+use super::*;
 
 const UNUSED: &str = "is of a crate that may not be there, and nothing here names it";
 
@@ -27,22 +21,16 @@ struct Use<'a> {
 
 impl<'a, 'b> Reader<'a, 'b> {
     /// Reads an import from its keyword on, of which the attributes are given. Its visibility begins at `item`.
-    pub(super) fn read_use(
-        &mut self,
-        place: Place,
-        attributes: String,
-        item: Cursor<'a, 'b>,
-    ) -> Done {
+    pub(super) fn read_use(&mut self, place: Place, before: String, item: Cursor<'a, 'b>) -> Done {
         let keyword = self.cursor;
         self.cursor.skip_to(";", 0)?;
         let mut tokens = Vec::new(self.alloc);
-        for token in self.cursor.passed_since(&keyword) {
-            if !token.is_blank() {
-                if !token.is_name() && !token.is_one_of(":{},*") {
-                    return Err(token.fault("wanted: a path, or `;`"));
-                }
-                tokens.push(*token)?;
+        let passed = self.cursor.passed_since(&keyword).iter();
+        for token in passed.filter(|token| !token.is_blank()) {
+            if !token.is_name() && !token.is_one_of(":{},*") {
+                return Err(token.fault("wanted: a path, or `;`"));
             }
+            tokens.push(*token)?;
         }
         let is_path = tokens.first().is_some_and(|root| {
             root.is_name() && !is_among("core alloc", root.text)
@@ -50,7 +38,7 @@ impl<'a, 'b> Reader<'a, 'b> {
         let visibility = item.text.get(item.token.begin..keyword.token.begin);
         let line = Use {
             place,
-            attributes,
+            attributes: before,
             visibility: visibility.unwrap_or("").trim_end(),
             written: is_path.then_some(self.cursor.text_since(item.token.begin)),
         };
@@ -91,15 +79,14 @@ impl<'a, 'b> Reader<'a, 'b> {
             Some(written) => format!(in self.alloc; "{attributes}{written}")?,
             None => format!(in self.alloc; "{attributes}{visibility}{gap}use {path};")?,
         };
-        Ok(
-            self.source.push(Form::Import(Import {
-                place: line.place,
-                text,
-                path,
-                names,
-                is_known,
-            }))?,
-        )
+        let import = Import {
+            place: line.place,
+            text,
+            path,
+            names,
+            is_known,
+        };
+        Ok(self.source.push(Form::Import(import))?)
     }
 
     /// Takes in what a line imports of the crate `enumset`: a path after its name, or some in brackets.
@@ -160,14 +147,11 @@ impl<'a, 'b> Reader<'a, 'b> {
 }
 
 /// The paths in the brackets that a path begins with, or the path alone, each without `::` at its beginning.
-fn trees_of<'a, 'b>(
-    alloc: Global,
-    path: &'b [Token<'a>],
-) -> Result<Vec<&'b [Token<'a>]>, AllocError> {
+fn trees_of<'a, 'b>(alloc: Global, path: &'b [Token<'a>]) -> Outcome<Vec<&'b [Token<'a>]>> {
     match after_root(path) {
         [open, trees @ .., _] if open.is_mark('{') => {
             let trees = trees.split(|token| token.is_mark(',') && token.depth == open.depth);
-            trees.map(after_root).collect(alloc)
+            Ok(trees.map(after_root).collect(alloc)?)
         }
         path => Ok(vec![in alloc; path]?),
     }
@@ -182,10 +166,7 @@ fn after_root<'a, 'b>(path: &'b [Token<'a>]) -> &'b [Token<'a>] {
 }
 
 /// The names that a path brings, and the `*`: each is last before a `,`, a `}` or the end.
-fn names_in<'a, 'b>(
-    alloc: Global,
-    tree: &'b [Token<'a>],
-) -> Result<Vec<&'b Token<'a>>, AllocError> {
+fn names_in<'a, 'b>(alloc: Global, tree: &'b [Token<'a>]) -> Outcome<Vec<&'b Token<'a>>> {
     let mut names = Vec::new(alloc);
     let mut name = None;
     let mut parent = None;

@@ -1,12 +1,6 @@
 //! Items that are no element types, and what stands before each.
 
-use super::Reader;
-use super::attributes::{Attribute, Bearer, Part, place_of_derive};
-use super::cursor::{Cursor, Done};
-use super::derives::Derive;
-use crate::fault::{DeriveError, Reason};
-use crate::source::Form;
-use crate::tokens::{Kind, is_among};
+use super::*;
 
 const INSIDE: &str =
     "an enum in a module, a function or a macro has no element type: write it outside";
@@ -46,46 +40,40 @@ impl<'a, 'b> Reader<'a, 'b> {
         if let Some(place) = place_of_derive(tokens, self.derive) {
             return Err(Reason::Text(INSIDE).at(place).into());
         }
-        for token in tokens {
-            if matches!(token.kind, Kind::Word) {
-                self.words.insert(token.text)?;
-            }
-        }
+        self.add_words(tokens)?;
         self.has_others = true;
         self.write_item(&mut text, item)?;
         Ok(self.source.push(Form::Text(text))?)
     }
 
-    /// What is kept of the comments and attributes of an item that is no element type, a line each.
-    fn kept_parts(&mut self, parts: &[Part<'a, 'b>]) -> Result<String, DeriveError> {
-        let mut text = String::new(self.alloc);
-        for part in parts {
-            match part {
-                Part::Comment(comment) => write!(text, "{comment}\n")?,
-                Part::Attribute(attribute) => self.write_attribute(&mut text, attribute)?,
+    /// Takes in the words among tokens.
+    pub(super) fn add_words(&mut self, tokens: &[Token<'a>]) -> Done {
+        for token in tokens {
+            if matches!(token.kind, Kind::Word) {
+                self.words.insert(token.text)?;
             }
-        }
-        Ok(text)
-    }
-
-    /// Writes what is kept of an attribute.
-    fn write_attribute(&mut self, out: &mut String, attribute: &Attribute<'a, 'b>) -> Done {
-        let text = attribute.text;
-        if attribute.is("derive") {
-            let derives = attribute.derives(self.alloc)?;
-            let is_whole = derives.iter().all(Derive::is_known);
-            let kept = self.kept_of(derives)?.join(self.alloc, ", ")?;
-            if is_whole {
-                write!(out, "{text}\n")?;
-            } else if !kept.is_empty() {
-                write!(out, "#[derive({kept})]\n")?;
-            }
-        } else if attribute.has_meaning(Bearer::Item)? {
-            write!(out, "{text}\n")?;
-        } else {
-            self.leave_out(attribute.place, text)?;
         }
         Ok(())
+    }
+
+    /// What is kept of the comments and attributes of an item that is no element type, a line each.
+    fn kept_parts(&mut self, parts: &[Attribute<'a, 'b>]) -> Outcome<String> {
+        let mut out = String::new(self.alloc);
+        for part in parts {
+            let text = part.text;
+            if part.is("derive") {
+                match self.kept_of(part)? {
+                    (_, true) => write!(out, "{text}\n")?,
+                    (kept, _) if kept.is_empty() => {}
+                    (kept, _) => write!(out, "#[derive({})]\n", kept.join(self.alloc, ", ")?)?,
+                }
+            } else if part.has_meaning(Bearer::Item)? {
+                write!(out, "{text}\n")?;
+            } else {
+                self.leave_out(part.place, text)?;
+            }
+        }
+        Ok(out)
     }
 
     /// Writes an item up to the cursor, without the attributes in it that have no meaning. A macro is as it is.

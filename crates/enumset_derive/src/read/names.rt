@@ -1,11 +1,6 @@
 //! The names of variants in JSON, as attributes of `serde` give them.
 
-use super::attributes::Attribute;
-use super::cursor::Cursor;
-use super::draft::Draft;
-use crate::fault::{DeriveError, Place, Reason};
-use crate::tokens::is_among;
-use std::alloc::{AllocError, Global};
+use super::*;
 
 const OTHER: &str = "names in JSON follow `rename_all = \"..\"` on the enum and `rename = \"..\"` \
     on a variant, and no other attribute of `serde`";
@@ -58,7 +53,7 @@ pub(super) struct Serde<'a, 'b> {
 impl<'a, 'b> Draft<'a, 'b> {
     /// The names of the variants in JSON, and where each is given, if sets are written by names and one may not be the
     /// variant's own.
-    pub fn json_names(&self, alloc: Global) -> Result<Vec<(Place, String)>, DeriveError> {
+    pub fn json_names(&self, alloc: Global) -> Outcome<Vec<(Place, String)>> {
         let mut names: Vec<(Place, String)> = Vec::new(alloc);
         if !self.declaration.options.are_named() || self.serde.is_empty() {
             return Ok(names);
@@ -80,10 +75,7 @@ impl<'a, 'b> Draft<'a, 'b> {
     }
 
     /// What the attributes of `serde` give: of each the variant that it stands before, the place and the text.
-    fn given_names(
-        &self,
-        alloc: Global,
-    ) -> Result<Vec<(Option<usize>, Place, &'a str)>, DeriveError> {
+    fn given_names(&self, alloc: Global) -> Outcome<Vec<(Option<usize>, Place, &'a str)>> {
         let mut given = Vec::new(alloc);
         for serde in &self.serde {
             let mut cursor = serde.attribute.arguments()?;
@@ -102,10 +94,7 @@ impl<'a, 'b> Draft<'a, 'b> {
 
 impl<'a, 'b> Serde<'a, 'b> {
     /// Reads an argument, up to what stands after it.
-    fn read_argument(
-        &self,
-        cursor: &mut Cursor<'a, 'b>,
-    ) -> Result<Option<(Place, &'a str)>, DeriveError> {
+    fn read_argument(&self, cursor: &mut Cursor<'a, 'b>) -> Outcome<Option<(Place, &'a str)>> {
         let name = cursor.token;
         let given = match (name.text, self.variant) {
             ("rename_all", None) | ("rename", Some(_)) => {
@@ -115,6 +104,7 @@ impl<'a, 'b> Serde<'a, 'b> {
                 let value = cursor.read_value()?;
                 let is_style = self.variant.is_some() || is_among(STYLES, value);
                 cursor.want(is_style, WRONG_STYLE)?;
+                let is_plain = |letter| matches!(letter, ' '..='!' | '#'..='[' | ']'..='~');
                 cursor.want(value.chars().all(is_plain), NOT_PLAIN)?;
                 Some((cursor.token.place, value))
             }
@@ -132,8 +122,4 @@ impl<'a, 'b> Serde<'a, 'b> {
         }
         Ok(given)
     }
-}
-
-fn is_plain(character: char) -> bool {
-    matches!(character, ' '..='~') && !matches!(character, '"' | '\\')
 }

@@ -1,11 +1,6 @@
 //! What stands in `#[enumset(..)]`.
 
-use super::attributes::Attribute;
-use super::cursor::{Cursor, Done};
-use super::draft::Draft;
-use crate::fault::{DeriveError, Reason};
-use crate::plan::{IntegerType, Map, Representation, Serialized};
-use crate::tokens::Kind;
+use super::*;
 
 const NO_VALUE: &str = "wanted: `=` and a text in quotes";
 
@@ -83,7 +78,7 @@ impl<'a, 'b> Draft<'a, 'b> {
 
 impl<'a> Cursor<'a, '_> {
     /// Reads `=` and a value, up to its text.
-    pub fn read_value(&mut self) -> Result<&'a str, DeriveError> {
+    pub fn read_value(&mut self) -> Outcome<&'a str> {
         self.advance_past_blanks()?;
         self.want(self.token.is_mark('='), NO_VALUE)?;
         self.advance_past_blanks()?;
@@ -91,7 +86,7 @@ impl<'a> Cursor<'a, '_> {
     }
 
     /// Reads `=` and a value that is true or false, up to it, if there is one. Otherwise it is true.
-    fn read_boolean(&mut self) -> Result<bool, DeriveError> {
+    fn read_boolean(&mut self) -> Outcome<bool> {
         let mut ahead = *self;
         ahead.advance_past_blanks()?;
         if !ahead.token.is_mark('=') {
@@ -107,7 +102,7 @@ impl<'a> Cursor<'a, '_> {
     }
 
     /// The integer type of a name, which is the token's, or a fault at it.
-    fn integer(&self, name: &str, wanted: &'static str) -> Result<IntegerType, DeriveError> {
+    fn integer(&self, name: &str, wanted: &'static str) -> Outcome<IntegerType> {
         Ok(match name {
             "u8" => IntegerType::U8,
             "u16" => IntegerType::U16,

@@ -1,8 +1,8 @@
 //! The tokens of a text, with the brackets that each is in.
 
 use super::{Kind, Token, UNCLOSED_BRACKET};
-use crate::fault::Place;
-use std::alloc::{AllocError, Global};
+use crate::fault::{Outcome, Place};
+use std::alloc::Global;
 
 /// What a text or a character in quotes is that has no end.
 const UNCLOSED: (Kind, &str) = (Kind::Fault("this quote has no end"), "");
@@ -11,7 +11,7 @@ const UNCLOSED: (Kind, &str) = (Kind::Fault("this quote has no end"), "");
 type Open = Vec<(char, Place)>;
 
 /// The tokens of a text: a space of no length at its beginning, those that it has, and its end.
-pub fn tokens_of(alloc: Global, text: &str) -> Result<Vec<Token<'_>>, AllocError> {
+pub fn tokens_of(alloc: Global, text: &str) -> Outcome<Vec<Token<'_>>> {
     let mut tokens = Vec::new(alloc);
     let mut open = Vec::new(alloc);
     let mut place = Place::BEGIN;
@@ -37,7 +37,7 @@ fn token_of<'a>(
     text: &'a str,
     begin: usize,
     place: Place,
-) -> Result<Token<'a>, AllocError> {
+) -> Outcome<Token<'a>> {
     let unclosed = match kind {
         Kind::Mark(mark) => unclosed_by(open, mark, place)?,
         Kind::End => open.first().copied(),
@@ -58,11 +58,7 @@ fn token_of<'a>(
 }
 
 /// Takes in a mark. Gives the bracket that it leaves without its end.
-fn unclosed_by(
-    open: &mut Open,
-    mark: char,
-    place: Place,
-) -> Result<Option<(char, Place)>, AllocError> {
+fn unclosed_by(open: &mut Open, mark: char, place: Place) -> Outcome<Option<(char, Place)>> {
     match mark {
         '(' => open.push((')', place))?,
         '[' => open.push((']', place))?,
@@ -77,8 +73,11 @@ fn unclosed_by(
 fn first_token(first: char, text: &str) -> (Kind, &str) {
     let rest = text.strip_prefix(first).unwrap_or("");
     match first {
-        ' ' | '\t' | '\n' => (Kind::Space, rest.trim_start_matches(is_space)),
-        '/' if rest.starts_with('/') => (comment_kind(text), rest.trim_start_matches(is_on_line)),
+        ' ' | '\t' | '\n' => (Kind::Space, rest.trim_start_matches([' ', '\t', '\n'])),
+        '/' if rest.starts_with('/') => (
+            comment_kind(text),
+            rest.trim_start_matches(|c| c != '\n'),
+        ),
         '/' if rest.starts_with('*') => block_comment(text),
         '\r' => (
             Kind::Fault("a carriage return stands only before a line feed"),
@@ -93,10 +92,6 @@ fn first_token(first: char, text: &str) -> (Kind, &str) {
         _ if is_word(first) => word(text),
         _ => (Kind::Mark(first), rest),
     }
-}
-
-fn is_on_line(character: char) -> bool {
-    character != '\n'
 }
 
 /// What the comment is that a text begins with.
@@ -203,11 +198,6 @@ fn before<'a>(text: &'a str, rest: &str) -> &'a str {
 /// The text after the ASCII character at an index.
 fn after(text: &str, at: usize) -> &str {
     text.get(at.saturating_add(1)..).unwrap_or("")
-}
-
-/// Whether a character is a space, a tab or the end of a line.
-fn is_space(character: char) -> bool {
-    matches!(character, ' ' | '\t' | '\n')
 }
 
 /// Whether a character may stand in a word: a letter, a digit, `_`, or a character past ASCII.

@@ -1,21 +1,19 @@
 //! What makes an enum an element type.
 
-use super::enums::are_kept;
-use super::json::write_json;
-use super::layout::{list_of, write_call};
-use super::names::{write_display, write_names};
-use super::operators::write_operators;
-use super::stores::{is_narrow, store_text};
-use super::{Subject, Written};
-use crate::plan::{Number, Plan, Store};
-use std::alloc::AllocError;
+use super::*;
 
 /// Writes what makes an enum an element type.
 pub(super) fn write_element_type(out: &mut String, of: &Subject) -> Written {
     let options = &of.element.declaration.options;
     write_impl(out, of)?;
     if is_narrow(&of.element.plan) {
-        write_with_repr(out, of)?;
+        write_head(out, of, "", "EnumSetTypeWithRepr")?;
+        out.push_str(
+            "    ghost use Rattle.std.proofs.Common.{rules};
+
+    ghost narrow = { Prim.search rules };
+}",
+        )?;
     }
     if options.are_named() {
         write_names(out, of)?;
@@ -55,27 +53,39 @@ fn are_cast(of: &Subject) -> bool {
 
 /// Writes the implementation of an element type.
 fn write_impl(out: &mut String, of: &Subject) -> Written {
-    let (alloc, crate_name, module) = (of.alloc, of.crate_name, of.module);
-    let (name, guard, element) = (of.name, of.guard, of.element);
-    let has_values = element.declaration.options.has_display;
-    let plan = &element.plan;
+    let (alloc, crate_name, module, name) = (of.alloc, of.crate_name, of.module, of.name);
+    let plan = &of.element.plan;
     let (width, count) = (plan.bit_width, plan.variants.len());
-    let in_place = are_cast(of) && are_places(plan);
-    let is_wide = matches!(plan.store, Store::Words(_));
-    let law = if is_wide {
-        "lawful_in_words"
-    } else {
-        "lawful_in_integer"
-    };
     let [repr, bits, all_bits] = store_text(alloc, &plan.store)?;
+    let (law, is_wide) = match plan.store {
+        Store::Integer(_, _) => ("lawful_in_integer", false),
+        Store::Words(_) => ("lawful_in_words", true),
+    };
+    let lawful = format!(in alloc; "{law} the_type _ tt")?;
+    let in_place = are_cast(of) && are_places(plan);
     let (made, more, list, lawful) = if in_place {
-        let lawful = format!(in alloc; "lawful_in_place the_type ({law} the_type _ tt)")?;
+        let lawful = format!(in alloc; "lawful_in_place the_type ({lawful})")?;
         ("in_place", ", lawful_in_place", String::new(alloc), lawful)
     } else {
-        let lawful = format!(in alloc; "{law} the_type _ tt")?;
-        ("with_bits", "", bits_of(of)?, lawful)
+        let mut words = String::new(alloc);
+        for named in &plan.variants {
+            write!(words, "{} ∷\n", named.bit)?;
+        }
+        let list = list_of(alloc, 59, words.as_str())?;
+        ("with_bits", "", format!(in alloc; " ({list})")?, lawful)
     };
-    write!(out, "{guard}impl EnumSetType for {name} {{\n")?;
+    let has_values = of.element.declaration.options.has_display;
+    let (variants, values) = if has_values {
+        let list = list_by_names(of, 79, "variant.", "")?;
+        let path = format!(in alloc; "Rattle.{crate_name}.specs.declared.{module}.{name}")?;
+        (
+            format!(in alloc; "    ghost use {path}.TheVariants as variant;\n")?,
+            format!(in alloc; "    ghost values = {{ {list} }};\n\n")?,
+        )
+    } else {
+        (String::new(alloc), String::new(alloc))
+    };
+    write_head(out, of, "", "EnumSetType")?;
     if !in_place || has_values || is_wide {
         out.push_str("    ghost use Rattle.std.specs.Prelude.{◌∷◌, []};\n")?;
     }
@@ -83,30 +93,12 @@ fn write_impl(out: &mut String, of: &Subject) -> Written {
         out,
         "    ghost use Rattle.enumset_sets.specs.Laws.Elements.{{{made}, {law}{more}}};
     ghost use Rattle.{crate_name}.specs.contracts.{module}.{name}.{{the_type}};
-"
-    )?;
-    if has_values {
-        write!(
-            out,
-            "    ghost use Rattle.{crate_name}.specs.declared.{module}.{name}.TheVariants as variant;\n"
-        )?;
-    }
-    write!(
-        out,
-        "
+{variants}
     type Repr = {repr};
 
     ghost elements = {{ {made} the_type{list} }};
 
-"
-    )?;
-    if has_values {
-        let values = values_of(of)?;
-        write!(out, "    ghost values = {{ {values} }};\n\n")?;
-    }
-    write!(
-        out,
-        "    ghost ALL_BITS = {{ {bits} }};
+{values}    ghost ALL_BITS = {{ {bits} }};
 
     const ALL_BITS: {repr} = {all_bits};
 
@@ -127,25 +119,6 @@ fn write_impl(out: &mut String, of: &Subject) -> Written {
     write!(out, "    }}\n\n    ghost lawful = {{ {lawful} }};\n}}")
 }
 
-/// The list of the variants' bits, as an argument.
-fn bits_of(of: &Subject) -> Result<String, AllocError> {
-    let mut words = String::new(of.alloc);
-    for named in &of.element.plan.variants {
-        write!(words, "{} ∷\n", named.bit)?;
-    }
-    let list = list_of(of.alloc, 59, words.as_str())?;
-    format!(in of.alloc; " ({list})")
-}
-
-/// The list of the variants.
-fn values_of(of: &Subject) -> Result<String, AllocError> {
-    let mut words = String::new(of.alloc);
-    for variant in &of.element.declaration.variants {
-        write!(words, "variant.{} ∷\n", variant.name)?;
-    }
-    list_of(of.alloc, 79, words.as_str())
-}
-
 /// Writes the body that converts a variant to its bit.
 fn write_into_u32(out: &mut String, of: &Subject) -> Written {
     let variants = &of.element.declaration.variants;
@@ -157,8 +130,8 @@ fn write_into_u32(out: &mut String, of: &Subject) -> Written {
     }
     out.push_str("        match self {\n")?;
     for (variant, named) in variants.iter().zip(of.element.plan.variants.iter()) {
-        let (name, bit) = (variant.name, named.bit);
-        write!(out, "            Self::{name} => {bit},\n")?;
+        let arm = format!(in of.alloc; "Self::{} => {}", variant.name, named.bit)?;
+        write_arm(out, of.alloc, arm.as_str())?;
     }
     out.push_str("        }\n")
 }
@@ -167,20 +140,25 @@ fn write_into_u32(out: &mut String, of: &Subject) -> Written {
 fn write_from_u32(out: &mut String, of: &Subject) -> Written {
     let (alloc, facade, name) = (of.alloc, of.facade, of.name);
     let plan = &of.element.plan;
-    let variants = &of.element.declaration.variants;
+    let variants = of
+        .element
+        .declaration
+        .variants
+        .iter()
+        .zip(plan.variants.iter());
     if is_in_table(plan) {
         let mut words = format!(in alloc; "val, {name}:\n")?;
-        for (variant, named) in variants.iter().zip(plan.variants.iter()) {
+        for (variant, named) in variants {
             write!(words, "{} {}\n", named.bit, variant.name)?;
         }
         return write_call(out, alloc, "variant_of!", words.as_str());
     }
     out.push_str("        match val {\n")?;
-    for (variant, named) in variants.iter().zip(plan.variants.iter()) {
-        let (bit, name) = (named.bit, variant.name);
-        write!(out, "            {bit} => Self::{name},\n")?;
+    for (variant, named) in variants {
+        let arm = format!(in alloc; "{} => Self::{}", named.bit, variant.name)?;
+        write_arm(out, alloc, arm.as_str())?;
     }
-    let count = variants.len();
+    let count = plan.variants.len();
     if count > 32 {
         // A proof takes in no more bits by itself.
         write!(
@@ -197,17 +175,43 @@ fn write_from_u32(out: &mut String, of: &Subject) -> Written {
     }
 }
 
-/// Writes the implementation of an element type of at most 128 bits.
-fn write_with_repr(out: &mut String, of: &Subject) -> Written {
-    let Subject { name, guard, .. } = *of;
-    write!(
-        out,
-        "
+/// Whether what keeps a set has at most 128 bits.
+pub(super) fn is_narrow(plan: &Plan) -> bool {
+    match &plan.store {
+        Store::Integer(_, _) => true,
+        Store::Words(words) => words.len() <= 2,
+    }
+}
 
-{guard}impl EnumSetTypeWithRepr for {name} {{
-    ghost use Rattle.std.proofs.Common.{{rules}};
+/// What keeps a set, as a module writes it: the type, and the set of all bits in a clause and in code.
+fn store_text(alloc: Global, store: &Store) -> Result<[String; 3], AllocError> {
+    match store {
+        Store::Integer(integer, number) => Ok([
+            format!(in alloc; "u{}", integer.width())?,
+            number.to_string(alloc)?,
+            number.to_string(alloc)?,
+        ]),
+        Store::Words(words) => text_of_words(alloc, words),
+    }
+}
 
-    ghost narrow = {{ Prim.search rules }};
-}}"
-    )
+/// The text of words: on one line if it fits, on filled lines, or on a line each if one has over ten digits.
+fn text_of_words(alloc: Global, all: &[u64]) -> Result<[String; 3], AllocError> {
+    let repr = format!(in alloc; "ArrayRepr<{}>", all.len())?;
+    let mut items = String::new(alloc);
+    let mut words = String::new(alloc);
+    for word in all {
+        write!(items, "{word} ∷\n")?;
+        write!(words, "{word},\n")?;
+    }
+    let is_wide = all.iter().any(|word| *word >= 10_000_000_000);
+    let room = if is_wide { 0 } else { LIST_ROOM };
+    let line = on_a_line(alloc, words.as_str())?;
+    let all_bits = if line.len().saturating_add(repr.len()) < 64 {
+        format!(in alloc; "ArrayRepr([{line}])")?
+    } else {
+        let lines = wrapped(alloc, LIST_START, [room, room], words.as_str())?;
+        format!(in alloc; "ArrayRepr([\n        {lines}\n    ])")?
+    };
+    Ok([repr, list_of(alloc, 77, items.as_str())?, all_bits])
 }

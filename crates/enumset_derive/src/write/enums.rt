@@ -1,11 +1,6 @@
 //! The enum itself.
 
-use super::Written;
-use super::layout::{on_a_line, wrapped};
-use crate::plan::{Discriminant, EnumDeclaration, Number, Variant};
-use crate::source::Element;
-use crate::tokens::names_last;
-use std::alloc::Global;
+use super::*;
 
 /// Why an enum has no discriminants.
 const DROPPED: &str =
@@ -16,13 +11,11 @@ const SUPERTRAITS: [&str; 4] = ["Clone", "Copy", "PartialEq", "Eq"];
 
 /// Whether Rattle takes all discriminants that are given.
 pub(super) fn are_kept(variants: &[Variant]) -> bool {
-    variants.iter().all(|variant| match variant.discriminant {
-        None => true,
-        Some(discriminant) => match discriminant.number {
-            Number::Small(number) => number < 1 << 63,
-            Number::Negative(number) => number <= 1 << 63,
-            Number::PowerOfTwo(_) => false,
-        },
+    let mut given = variants.iter().filter_map(|variant| variant.discriminant);
+    given.all(|discriminant| match discriminant.number {
+        Number::Small(number) => number < 1 << 63,
+        Number::Negative(number) => number <= 1 << 63,
+        Number::PowerOfTwo(_) => false,
     })
 }
 
@@ -44,9 +37,15 @@ pub(super) fn write_enum(out: &mut String, alloc: Global, element: &Element) -> 
         "{after}{visibility}{restriction}{gap}enum {name} {{{end}"
     )?;
     for variant in &declaration.variants {
-        write_variant(out, variant, has_discriminants)?;
+        let (before, comments) = (&variant.attributes, &variant.comments);
+        write!(out, "{before}    {}", variant.name)?;
+        let given = variant.discriminant.filter(|_| has_discriminants);
+        if let Some(Discriminant { sign, literal, .. }) = given {
+            write!(out, " = {sign}{literal}")?;
+        }
+        write!(out, ",{comments}\n")?;
     }
-    write!(out, "{last_comments}}}\n\n")
+    write!(out, "{last_comments}}}")
 }
 
 /// Writes the derives, on a line or on a line each: those that an element type needs, and those of the source.
@@ -73,15 +72,4 @@ fn write_derives(out: &mut String, alloc: Global, declaration: &EnumDeclaration)
             write!(out, "#[derive(\n    {lines}\n)]\n")
         }
     }
-}
-
-/// Writes a variant, with its discriminant where the enum has discriminants.
-fn write_variant(out: &mut String, variant: &Variant, has_discriminants: bool) -> Written {
-    let (before, name, comments) = (&variant.attributes, variant.name, &variant.comments);
-    write!(out, "{before}    {name}")?;
-    let given = variant.discriminant.filter(|_| has_discriminants);
-    if let Some(Discriminant { sign, literal, .. }) = given {
-        write!(out, " = {sign}{literal}")?;
-    }
-    write!(out, ",{comments}\n")
 }

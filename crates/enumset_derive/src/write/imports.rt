@@ -1,19 +1,12 @@
 //! What a module imports.
 
-use super::element_type::is_in_table;
-use super::layout::{on_a_line, wrapped};
-use super::stores::is_narrow;
-use crate::fault::{DeriveError, Reason};
-use crate::plan::Store;
-use crate::source::{Element, Form, Source};
-use std::alloc::{AllocError, Global};
-use std::collections::BTreeSet;
+use super::*;
 
 const TAKEN: &str = "the module needs this name for what it imports of `enumset`: choose another";
 
 /// What a module imports of `enumset`, in order, each once. Paths have lines of their own. It is a fault if the source
 /// gives a needed name to something else.
-pub(super) fn imports_of(source: &Source) -> Result<String, DeriveError> {
+pub(super) fn imports_of(source: &Source) -> Outcome<String> {
     let alloc = source.alloc;
     let mut imports = BTreeSet::new(alloc);
     for name in &source.imports {
@@ -51,24 +44,21 @@ fn needed_by(element: &Element) -> [(bool, &'static str); 8] {
 
 /// Whether a source has not imported a path of `enumset` itself, be it through its own crate. It is a fault if it gives the
 /// name to something else.
-fn is_free(source: &Source, path: &str) -> Result<bool, DeriveError> {
+fn is_free(source: &Source, path: &str) -> Outcome<bool> {
     let name = path.strip_prefix("internal::").unwrap_or(path);
-    for other in &source.names {
-        if other.text == name {
-            let is_inside = matches!(other.root, "crate" | "self" | "super");
-            if is_inside || other.root == source.facade || other.root.starts_with("enumset") {
-                return Ok(false);
-            }
-            return Err(Reason::Text(TAKEN).at(other.place).into());
-        }
+    let Some(other) = source.names.iter().find(|other| other.text == name) else {
+        return Ok(true);
+    };
+    match other.root {
+        "crate" | "self" | "super" => Ok(false),
+        root if root == source.facade || root.starts_with("enumset") => Ok(false),
+        _ => Err(Reason::Text(TAKEN).at(other.place).into()),
     }
-    Ok(true)
 }
 
 /// The lines that import these.
-fn lines_of(source: &Source, imports: &BTreeSet<String>) -> Result<String, AllocError> {
-    let alloc = source.alloc;
-    let facade = source.facade;
+fn lines_of(source: &Source, imports: &BTreeSet<String>) -> Text {
+    let (alloc, facade) = (source.alloc, source.facade);
     let is_ours = facade == "enumset_sets";
     let mut words = String::new(alloc);
     let mut paths = String::new(alloc);
@@ -95,7 +85,7 @@ fn lines_of(source: &Source, imports: &BTreeSet<String>) -> Result<String, Alloc
 }
 
 /// The line that imports these names, or the lines.
-fn names_of(alloc: Global, facade: &str, words: &str) -> Result<String, AllocError> {
+fn names_of(alloc: Global, facade: &str, words: &str) -> Text {
     let line = on_a_line(alloc, words)?;
     if line.is_empty() {
         return Ok(line);
@@ -104,9 +94,10 @@ fn names_of(alloc: Global, facade: &str, words: &str) -> Result<String, AllocErr
         return format!(in alloc; "use {facade}::{line};\n");
     }
     let whole = format!(in alloc; "use {facade}::{{{line}}};\n")?;
-    if whole.len() <= 101 {
+    if whole.len() <= 99 {
         return Ok(whole);
     }
-    let lines = wrapped(alloc, "\n    ", [96, 96], words)?;
+    let room = if line.len() <= 95 { 96 } else { 95 };
+    let lines = wrapped(alloc, "\n    ", [room, 95], words)?;
     format!(in alloc; "use {facade}::{{\n    {lines}\n}};\n")
 }

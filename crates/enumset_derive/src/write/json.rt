@@ -1,17 +1,18 @@
 //! The calls that write the sets of an element type in JSON and read them.
 
-use super::{Subject, Written};
-use crate::plan::{IntegerType, Serialized, Store};
+use super::*;
 
 const LIST: &str = "array of the names of the set's members, in ascending order of their bits.";
 
 const MAP: &str = "object with the name of each of the set's members and `true`.";
 
+const WORDS: &str = "array of the set's words of 64 bits, the lowest first.";
+
 /// Writes the calls. They name `Result` by its path, since the module may have another.
 ///
 /// A value in JSON holds no number of 128 bits, so it is of 64, or words.
 pub(super) fn write_json(out: &mut String, of: &Subject, serialized: Serialized) -> Written {
-    let Subject { name, guard, .. } = *of;
+    let (name, guard) = (of.name, of.guard);
     let is_narrow = of.element.plan.bit_width <= 64;
     write!(out, "\n\n{guard}impl {name} {{\n")?;
     match serialized {
@@ -25,110 +26,88 @@ pub(super) fn write_json(out: &mut String, of: &Subject, serialized: Serialized)
 
 /// Writes the calls where a set is a number of so many bits.
 fn write_number(out: &mut String, of: &Subject, size: u32) -> Written {
-    write!(
-        out,
-        "    ghost use Rattle.std.specs.Prelude.{{◌≡◌, ◌↔◌, IsOk, IfOk, IfErr, IsTrue}};
-    ghost use Rattle.enumset_repr.specs.BitSet.{{is_subset, below}};
-    ghost use Rattle.enumset_repr.specs.Number.{{number}};
-    ghost use Rattle.enumset_sets.specs.Elements.{{valid_bits}};
-    ghost use Rattle.serde_json.specs.View.{{view}};
-    ghost use Rattle.enumset.specs.Json.{{number_value, set_of_number}};
-    ghost use Rattle.enumset.specs.declared.set_json.fault.JsonFault.TheVariants.{{TooWide}};
-    ghost use Rattle.enumset.specs.declared.set_json.unknown.Unknown.TheVariants as unknown;
-
-    /// The set's number, which JSON takes as a `u{size}`.
+    let (alloc, name) = (of.alloc, of.name);
+    out.push_str(
+        "    ghost use Rattle.std.specs.Prelude.{◌≡◌, ◌↔◌, IsOk, IfOk, IfErr, IsTrue};
+    ghost use Rattle.enumset_repr.specs.BitSet.{is_subset, below};
+    ghost use Rattle.enumset_repr.specs.Number.{number};
+    ghost use Rattle.enumset_sets.specs.Elements.{valid_bits};
+    ghost use Rattle.serde_json.specs.View.{view};
+    ghost use Rattle.enumset.specs.Json.{number_value, set_of_number};
+",
+    )?;
+    let doc = format!(in alloc;
+        "set's number, which JSON takes as a `u{size}`.
     ///
-    /// The only fault is [`set_json::JsonFault::TooWide`], of a member that is past its bits. It takes no memory.
-    pub fn to_json(
-        alloc: std::alloc::Global,
-        set: &EnumSet<Self>,
-    ) -> std::result::Result<serde_json::Value, set_json::JsonFault>
-        ensures fits {{ IsOk result ↔ IsTrue (is_subset set.now (below {size})) }}
-        ensures value {{ IfOk result (λ value. view value ≡ number_value (number set.now)) }}
-        ensures fault {{ IfErr result (λ fault. fault ≡ TooWide) }}
-    {{
-        set_json::to_number(alloc, set, set_json::JsonWidth::U{size})
-    }}
-"
+    /// The only fault is [`set_json::JsonFault::TooWide`], of a member that is past its bits. It takes no memory."
     )?;
-    let valid = format!(in of.alloc;
-        "(valid_bits ⟦<{} as EnumSetType>⟧.elements) {size}",
-        of.name
+    let fits = format!(in alloc;
+        "\n        ensures fits {{ IsOk result ↔ IsTrue (is_subset set.now (below {size})) }}"
     )?;
-    let width = format!(in of.alloc; ", set_json::JsonWidth::U{size}")?;
-    write_from_json(out, of, "number", [valid.as_str(), width.as_str()])
+    let valid = format!(in alloc; "(valid_bits ⟦<{name} as EnumSetType>⟧.elements) {size}")?;
+    let width = format!(in alloc; ", set_json::JsonWidth::U{size}")?;
+    let said = [doc.as_str(), fits.as_str()];
+    let model = ["number_value (number set.now)", valid.as_str()];
+    write_calls(out, of, ["number", width.as_str()], said, model)
 }
 
 /// Writes the calls where a set is an array of words.
 fn write_words(out: &mut String, of: &Subject) -> Written {
+    let (alloc, name) = (of.alloc, of.name);
     let size = match &of.element.plan.store {
         Store::Integer(IntegerType::U128, _) => 2,
         Store::Integer(_, _) => 1,
         Store::Words(words) => words.len(),
     };
-    write!(
-        out,
-        "    ghost use Rattle.std.specs.Prelude.{{◌≡◌, IfOk, IfErr}};
-    ghost use Rattle.enumset_repr.specs.Words.{{words}};
-    ghost use Rattle.enumset_sets.specs.Elements.{{valid_bits}};
-    ghost use Rattle.serde_json.specs.View.{{view}};
-    ghost use Rattle.enumset.specs.Json.{{words_value, set_of_words}};
-    ghost use Rattle.enumset.specs.declared.set_json.fault.JsonFault.TheVariants.{{OutOfMemory}};
-    ghost use Rattle.enumset.specs.declared.set_json.unknown.Unknown.TheVariants as unknown;
-
-    /// The array of the set's words of 64 bits, the lowest first. The only fault is
-    /// [`set_json::JsonFault::OutOfMemory`].
-    pub fn to_json(
-        alloc: std::alloc::Global,
-        set: &EnumSet<Self>,
-    ) -> std::result::Result<serde_json::Value, set_json::JsonFault>
-        ensures value {{ IfOk result (λ value. view value ≡ words_value (words set.now {size})) }}
-        ensures fault {{ IfErr result (λ fault. fault ≡ OutOfMemory) }}
-    {{
-        set_json::to_words(alloc, set)
-    }}
-"
+    out.push_str(
+        "    ghost use Rattle.std.specs.Prelude.{◌≡◌, IfOk, IfErr};
+    ghost use Rattle.enumset_repr.specs.Words.{words};
+    ghost use Rattle.enumset_sets.specs.Elements.{valid_bits};
+    ghost use Rattle.serde_json.specs.View.{view};
+    ghost use Rattle.enumset.specs.Json.{words_value, set_of_words};
+",
     )?;
-    let valid = format!(in of.alloc; "(valid_bits ⟦<{} as EnumSetType>⟧.elements)", of.name)?;
-    write_from_json(out, of, "words", [valid.as_str(), ""])
+    let value = format!(in alloc; "words_value (words set.now {size})")?;
+    let valid = format!(in alloc; "(valid_bits ⟦<{name} as EnumSetType>⟧.elements)")?;
+    let model = [value.as_str(), valid.as_str()];
+    write_calls(out, of, ["words", ""], [WORDS, ""], model)
 }
 
 /// Writes the calls where a set is a list of names or a map of names, of which this is the text.
 fn write_by_names(out: &mut String, of: &Subject, form: &str, doc: &str) -> Written {
-    let name = of.name;
-    let names = format!(in of.alloc;
-        "(names_of ⟦<{name} as EnumSetType>⟧.elements ⟦<{name} as EnumSetNames>⟧.names)"
-    )?;
+    let (alloc, name) = (of.alloc, of.name);
     write!(
         out,
         "    ghost use Rattle.std.specs.Prelude.{{◌≡◌, IfOk, IfErr}};
     ghost use Rattle.serde_json.specs.View.{{view}};
     ghost use Rattle.enumset.specs.Names.{{names_of}};
     ghost use Rattle.enumset.specs.JsonNames.{{{form}_value, set_of_{form}}};
-    ghost use Rattle.enumset.specs.declared.set_json.fault.JsonFault.TheVariants.{{OutOfMemory}};
-    ghost use Rattle.enumset.specs.declared.set_json.unknown.Unknown.TheVariants as unknown;
-
-    /// The {doc} The only fault is
-    /// [`set_json::JsonFault::OutOfMemory`].
-    pub fn to_json(
-        alloc: std::alloc::Global,
-        set: &EnumSet<Self>,
-    ) -> std::result::Result<serde_json::Value, set_json::JsonFault>
-        ensures value {{ IfOk result (λ value. view value ≡ {form}_value
-            {names} set.now) }}
-        ensures fault {{ IfErr result (λ fault. fault ≡ OutOfMemory) }}
-    {{
-        set_json::to_{form}(alloc, set)
-    }}
 "
     )?;
-    write_from_json(out, of, form, [names.as_str(), ""])
+    let names = format!(in alloc;
+        "(names_of ⟦<{name} as EnumSetType>⟧.elements ⟦<{name} as EnumSetNames>⟧.names)"
+    )?;
+    let value = format!(in alloc; "{form}_value\n            {names} set.now")?;
+    let model = [value.as_str(), names.as_str()];
+    write_calls(out, of, [form, ""], [doc, ""], model)
 }
 
-/// Writes the call that reads a form. In its contract and in its body these are the arguments of the form.
-fn write_from_json(out: &mut String, of: &Subject, form: &str, arguments: [&str; 2]) -> Written {
-    let [read_by, argument] = arguments;
+/// Writes the calls of a form and its argument. What is said of `to_json` is a comment and a clause, where that takes no
+/// memory; and in the model the value that it gives, and the arguments by which `from_json` reads it.
+fn write_calls(
+    out: &mut String,
+    of: &Subject,
+    [form, argument]: [&str; 2],
+    [doc, fits]: [&str; 2],
+    [value, read_by]: [&str; 2],
+) -> Written {
     let options = &of.element.declaration.options;
+    let (fault, more) = if fits.is_empty() {
+        let more = " The only fault is\n    /// [`set_json::JsonFault::OutOfMemory`].";
+        ("OutOfMemory", more)
+    } else {
+        ("TooWide", "")
+    };
     let (unknown, unknown_doc) = match (options.denies_unknown, options.are_named()) {
         (true, true) => ("Refuse", "A name that no variant has is a fault."),
         (true, false) => ("Refuse", "A bit that no variant has is a fault."),
@@ -137,7 +116,20 @@ fn write_from_json(out: &mut String, of: &Subject, form: &str, arguments: [&str;
     };
     write!(
         out,
-        "
+        "    ghost use Rattle.enumset.specs.declared.set_json.fault.JsonFault.TheVariants.{{{fault}}};
+    ghost use Rattle.enumset.specs.declared.set_json.unknown.Unknown.TheVariants as unknown;
+
+    /// The {doc}{more}
+    pub fn to_json(
+        alloc: std::alloc::Global,
+        set: &EnumSet<Self>,
+    ) -> std::result::Result<serde_json::Value, set_json::JsonFault>{fits}
+        ensures value {{ IfOk result (λ value. view value ≡ {value}) }}
+        ensures fault {{ IfErr result (λ fault. fault ≡ {fault}) }}
+    {{
+        set_json::to_{form}(alloc, set{argument})
+    }}
+
     /// The set that `to_json` writes so. {unknown_doc}
     ///
     /// The faults are those of [`set_json::from_{form}`], in their order. It takes no memory.

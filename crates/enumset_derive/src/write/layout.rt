@@ -1,7 +1,6 @@
 //! The layout of words in lines of at most 100 columns.
 
-use super::Written;
-use std::alloc::{AllocError, Global};
+use super::*;
 
 /// How a new line of a list in an `impl` begins.
 pub(super) const LIST_START: &str = "\n        ";
@@ -11,12 +10,7 @@ pub(super) const LIST_ROOM: usize = 92;
 
 /// The lines of a text as words with spaces between them. Where the next word would pass the last column, a new line
 /// begins, by the text `start`. `rooms` is how many columns are left on the first line, and on the others after `start`.
-pub(super) fn wrapped(
-    alloc: Global,
-    start: &str,
-    rooms: [usize; 2],
-    words: &str,
-) -> Result<String, AllocError> {
+pub(super) fn wrapped(alloc: Global, start: &str, rooms: [usize; 2], words: &str) -> Text {
     let [mut room, room_of_line] = rooms;
     let mut out = String::new(alloc);
     for word in words.lines() {
@@ -36,15 +30,24 @@ pub(super) fn wrapped(
 }
 
 /// The words, each with a comma, on one line without the comma at its end.
-pub(super) fn on_a_line(alloc: Global, words: &str) -> Result<String, AllocError> {
+pub(super) fn on_a_line(alloc: Global, words: &str) -> Text {
     let words = words.strip_suffix(",\n").unwrap_or("");
     wrapped(alloc, "", [usize::MAX, 0], words)
 }
 
 /// A list in a clause, of which these are the words but the last. Its first line has this room.
-pub(super) fn list_of(alloc: Global, room: usize, words: &str) -> Result<String, AllocError> {
+pub(super) fn list_of(alloc: Global, room: usize, words: &str) -> Text {
     let words = format!(in alloc; "{words}[]")?;
     wrapped(alloc, LIST_START, [room, LIST_ROOM], words.as_str())
+}
+
+/// The list of the names of the variants, each with what is before and after it.
+pub(super) fn list_by_names(of: &Subject, room: usize, before: &str, after: &str) -> Text {
+    let mut words = String::new(of.alloc);
+    for variant in &of.element.declaration.variants {
+        write!(words, "{before}{}{after} ∷\n", variant.name)?;
+    }
+    list_of(of.alloc, room, words.as_str())
 }
 
 /// Writes the body of a function that calls a macro with words, on one line if it fits.
@@ -57,4 +60,21 @@ pub(super) fn write_call(out: &mut String, alloc: Global, name: &str, words: &st
     } else {
         write!(out, "        {name}(\n            {words}\n        )\n")
     }
+}
+
+/// Writes an arm of a match, of which the value has a line of its own where that line would be too long.
+pub(super) fn write_arm(out: &mut String, alloc: Global, arm: &str) -> Written {
+    if arm.len() <= 87 {
+        return write!(out, "            {arm},\n");
+    }
+    let arm = arm.replace(alloc, " => ", " =>\n                ")?;
+    write!(out, "            {arm},\n")
+}
+
+/// Writes the head of an implementation of a trait, after an empty line and the comment of its own.
+pub(super) fn write_head(out: &mut String, of: &Subject, doc: &str, form: &str) -> Written {
+    let (name, guard) = (of.name, of.guard);
+    let is_short = form.len().saturating_add(name.len()) <= 88;
+    let gap = if is_short { " " } else { "\n    " };
+    write!(out, "\n\n{doc}{guard}impl {form}{gap}for {name} {{\n")
 }

@@ -1,11 +1,10 @@
 //! The names of variants: in JSON, and by `Display`.
 
-use super::layout::{list_of, write_call};
-use super::{Subject, Written};
+use super::*;
 
 /// Writes the names of the variants in JSON.
 pub(super) fn write_names(out: &mut String, of: &Subject) -> Written {
-    let (alloc, name, guard, element) = (of.alloc, of.name, of.guard, of.element);
+    let (alloc, name, element) = (of.alloc, of.name, of.element);
     let mut words = format!(in alloc; "{name}:\n")?;
     let mut codes = String::new(alloc);
     for (index, variant) in element.declaration.variants.iter().enumerate() {
@@ -19,12 +18,10 @@ pub(super) fn write_names(out: &mut String, of: &Subject) -> Written {
         }
     }
     let names = list_of(alloc, 80, codes.as_str())?;
+    write_head(out, of, "", "EnumSetNames")?;
     write!(
         out,
-        "
-
-{guard}impl EnumSetNames for {name} {{
-    ghost use Rattle.std.specs.Prelude.{{codes, ◌∷◌, []}};
+        "    ghost use Rattle.std.specs.Prelude.{{codes, ◌∷◌, []}};
 
     ghost names = {{ {names} }};
 
@@ -37,21 +34,14 @@ pub(super) fn write_names(out: &mut String, of: &Subject) -> Written {
 
 /// Writes the `Display` by the names of the variants.
 pub(super) fn write_display(out: &mut String, of: &Subject) -> Written {
-    let (alloc, crate_name, module) = (of.alloc, of.crate_name, of.module);
-    let (name, guard, element) = (of.name, of.guard, of.element);
-    let variants = &element.declaration.variants;
-    let mut codes = String::new(alloc);
-    for variant in variants {
-        write!(codes, "codes \"{}\" ∷\n", variant.name)?;
-    }
-    let names = list_of(alloc, 90, codes.as_str())?;
+    let (crate_name, module, name) = (of.crate_name, of.module, of.name);
+    let variants = &of.element.declaration.variants;
+    let names = list_by_names(of, 90, "codes \"", "\"")?;
+    let doc = "/// The name of the variant.\n";
+    write_head(out, of, doc, "std::fmt::Display")?;
     write!(
         out,
-        "
-
-/// The name of the variant.
-{guard}impl std::fmt::Display for {name} {{
-    ghost use Rattle.std.specs.Prelude.{{Some, ◌∷◌, [], codes}};
+        "    ghost use Rattle.std.specs.Prelude.{{Some, ◌∷◌, [], codes}};
     ghost use Rattle.std.specs.List.{{slice_index_or}};
     ghost use denote.Enum.Declared.{{tag_of}};
     ghost use Rattle.{crate_name}.specs.contracts.{module}.{name}.{{the_type}};
@@ -69,9 +59,12 @@ pub(super) fn write_display(out: &mut String, of: &Subject) -> Written {
     out.push_str("        match self {\n")?;
     for variant in variants {
         let name = variant.name;
+        let is_short = name.len() <= 31;
+        let gap = if is_short { "" } else { "\n                " };
+        let end = if is_short { "" } else { ",\n            " };
         write!(
             out,
-            "            Self::{name} => f.write_str(\"{name}\"),\n"
+            "            Self::{name} => f.write_str({gap}\"{name}\"{end}),\n"
         )?;
     }
     out.push_str("        }\n    }\n}")
