@@ -36,3 +36,5 @@ two_more_scanned s at n d e some few within small small' is is' so_far =
     let number : (n * 10 + d) * 10 + e ≡ n * 100 + (d * 10 + e) = omega arith in
     let place : at + 1 + 1 ≡ at + 2 = omega arith in
     subst (λ k. Scanned s k (n * 100 + (d * 10 + e))) place (subst (Scanned s (at + 1 + 1)) number (one_more_scanned s (at + 1) (n * 10 + d) e (omega (arith, some)) (omega (arith, below, small, small')) within small' is' first))
+
+pub ruleset number_scans = (first_scanned, two_more_fit)

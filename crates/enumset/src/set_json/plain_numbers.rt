@@ -34,6 +34,7 @@ pub(super) fn plain_number(text: &str) -> Option<u64>
 
 // The whole number below 2^64 whose digits stand first, and what follows them.
 #[inline(always)]
+#[tactic(auto, using(crate::proofs::NumberScans::number_scans))]
 pub(super) fn split_number(bytes: &[u8]) -> Option<(u64, &[u8])>
     ensures { IfSome result (λ parts.
         (parts.0 < 2 ^ 64) × (bytes.now ≡ decimal parts.0 ++ parts.1.now)) }

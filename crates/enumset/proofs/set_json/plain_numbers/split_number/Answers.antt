@@ -1,18 +1,6 @@
-use Rattle.std.proofs.Common.{◌≡◌, ◌<◌, ◌+◌, ◌*◌, ◌^◌, subst, arith}
-use Rattle.enumset.proofs.NumberScans.{Scanned, first_scanned, one_more_scanned, two_more_fit, two_more_scanned}
+use Rattle.std.proofs.Common.{◌≡◌, ◌+◌, ◌*◌, subst, arith}
+use Rattle.enumset.proofs.NumberScans.{Scanned, one_more_scanned, two_more_scanned}
 use Rattle.enumset.proofs.set_json.plain_numbers.split_number.Goals as goal
-
-pub loop-number-init : goal.loop-number-init
-loop-number-init c = let (some, small, is) = c.in_ok-number.ensures in first_scanned c.args.bytes.now c.in_ok-number.number some small is
-
-fits : (c : goal.In-Some-Some) → c.loop-number.number < 10 ^ 16
-fits c = two_more_fit c.args.bytes.now c.loop-number.at c.loop-number.number c.if-at-lt17.true c.loop-number.invariant
-
-pub overflow_mul-number : goal.overflow_mul-number
-overflow_mul-number c = omega (arith, fits c)
-
-pub overflow_add-number-in-loop-number : goal.overflow_add-number-in-loop-number
-overflow_add-number-in-loop-number c = omega (arith, fits c, c.in-Some-Some.ensures.1, c.in-Some-Some.ensures'.1)
 
 pub loop-number-preserved : goal.loop-number-preserved
 loop-number-preserved c =
