@@ -1,4 +1,4 @@
-//! The commands that mixed sets alone have.
+//! The commands of runs over mixed sets: those of every run, and those that mixed sets alone have.
 
 ghost use Rattle.std.specs.Prelude.{◌≡◌, true, false, if◌then◌else◌, IsOk, IfOk, OnOk, OnErr};
 ghost use Rattle.enumset_repr.specs.BitSet.{contains, below, is_subset};

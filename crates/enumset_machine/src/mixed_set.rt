@@ -4,7 +4,6 @@ ghost use Rattle.std.specs.Prelude.{◌≡◌, ◌↔◌, IsSome, IfSome};
 ghost use Rattle.enumset_mixed.specs.Mixed.{bit_with_validity};
 ghost use Rattle.enumset_sets.specs.Elements.{valid_bits};
 
-use crate::element_set::element_of;
 use crate::run_set::RunSet;
 use enumset_commands::Reply;
 use enumset_mixed::{MixedEnumSet, MixedEnumSetIter, MixedValue};

@@ -10,7 +10,7 @@ ghost use Rattle.enumset_machine.specs.Plans.{Rules, is_width};
 
 use enumset_commands::Reply;
 
-/// A set of a run: its members, and the calls that the kinds of sets make each in a way of its own.
+/// A set of a run: its members, and the calls that registers, refusals and replies need.
 pub trait RunSet: Copy {
     // The members' bits.
     ghost members: { Self → BitSet };

@@ -1,4 +1,4 @@
-//! A run over sets of any kind: its registers, and its step.
+//! A run over sets of any kind: its registers, and how it carries out commands.
 
 ghost use Rattle.std.specs.Prelude.{◌≡◌, ◌^◌, ◌&&◌, nat_lt, length, Some, None, if◌then◌else◌, true};
 ghost use Rattle.enumset_commands.specs.declared.reply.Reply.TheVariants.{Done, Truth, Count};
@@ -42,8 +42,9 @@ macro_rules! change {
     }};
 }
 
-/// Carries out a command that every run has and that is not refused, on sets of a kind. A set is made before it is put
-/// into a register, since a runner cannot be borrowed for the change while its registers are read.
+/// Carries out a command that every run has and that is not refused, on sets of a kind. Each command is a call of the set
+/// itself, so its contract is that of the call. A module that expands this macro imports `Command::*`, `RunSet`, `change`,
+/// `element_of`, `number_of`, `words_of` and `words_cut_of`.
 macro_rules! carry_out {
     ($runner:ident, $alloc:ident, $command:expr, $kind:ty) => {
         match *$command {
