@@ -1,5 +1,5 @@
--- A name among those of a type, found at any place of the list.
-use Rattle.std.proofs.Common.{◌≡◌, ℕ, true, Some, List, [], ◌∷◌, ◌++◌, length, map, take, drop, refl, sym, ap, ◌∙◌, arith, inl, inr, true≢false}
+-- A name among those of a type, looked for in a later part of the list, then in the part before.
+use Rattle.std.proofs.Common.{◌≡◌, ℕ, true, cond, Some, None, List, [], ◌∷◌, ◌++◌, length, map, take, drop, refl, sym, ap, ◌∙◌, arith, inl, inr, true≢false}
 use Rattle.std.specs.Prelude.{zip}
 use Rattle.std.specs.List.{list_any}
 use Rattle.std.specs.Str.{bytes_eq}
@@ -37,9 +37,18 @@ later_at (x ∷ xs) ys t b apart is =
       | inr other ↦ cond-false (bytes_eq x.1 t) (Some x.0) _ other ∙ rest
     ]
 
--- a name that stands at a place of the list that the code has is the first
-pub found_at : {A : Type 0} (named : A → ℕ × List ℕ) (all : List A) (bs : List ℕ) (names : List (List ℕ)) (t : List ℕ) (i b : ℕ) → map named all ≡ zip bs names → length names ≡ length bs → are_distinct names ≡ true
-    → bit_named (map named (drop i all)) t ≡ Some b → bit_named (zip bs names) t ≡ Some b
-found_at named all bs names t i b whole len apart is =
-    let parts : map named (take i all) ++ map named (drop i all) ≡ zip bs names = sym (map-append named (take i all) (drop i all)) ∙ ap (map named) (take-append-drop i all) ∙ whole in
-    ap (λ ns. bit_named ns t) (sym parts) ∙ later_at (map named (take i all)) (map named (drop i all)) t b (ap are_distinct (ap texts parts ∙ texts_zip bs names len) ∙ apart) is
+earlier_at : (xs ys : Names) (t : List ℕ) → bit_named ys t ≡ None → bit_named (xs ++ ys) t ≡ bit_named xs t
+earlier_at [] ys t none = none
+earlier_at (x ∷ xs) ys t none = ap (λ o. cond (bytes_eq x.1 t) (Some x.0) o) (earlier_at xs ys t none)
+
+-- what the two searches find, of the names of a type cut in two
+module _ (bs : List ℕ) (names : List (List ℕ)) (xs ys : Names) (t : List ℕ) (whole : xs ++ ys ≡ zip bs names) where
+  pub found_later : length names ≡ length bs → are_distinct names ≡ true → (b : ℕ) → bit_named ys t ≡ Some b → bit_named (zip bs names) t ≡ Some b
+  found_later len apart b is = ap (λ ns. bit_named ns t) (sym whole) ∙ later_at xs ys t b (ap are_distinct (ap texts whole ∙ texts_zip bs names len) ∙ apart) is
+
+  pub found_earlier : bit_named ys t ≡ None → bit_named (zip bs names) t ≡ bit_named xs t
+  found_earlier none = ap (λ ns. bit_named ns t) (sym whole) ∙ earlier_at xs ys t none
+
+-- the two parts of a list that is cut in two
+pub cut : {A : Type 0} (named : A → ℕ × List ℕ) (all front back : List A) (i : ℕ) → front ≡ take i all → back ≡ drop i all → map named front ++ map named back ≡ map named all
+cut named all front back i first rest = sym (map-append named front back) ∙ ap (map named) ((λ j. first j ++ rest j) ∙ take-append-drop i all)

@@ -4,8 +4,7 @@
 --     is_space, AreSpaces      a byte that may stand between tokens;  bytes
 --     Passed      spaces, a byte, and what follows it
 --     with_named      a set with the bit of a name, if the name has one
---     digits_or_none      the digits of a number, of nought none
-use Rattle.std.specs.Prelude.{◌≡◌, ℕ, zero, suc, decimal, List, [], ◌∷◌, ◌++◌, Bool, true, false, nat_lt, ◌==◌, ◌||◌, Option, Some, None}
+use Rattle.std.specs.Prelude.{◌≡◌, ℕ, List, ◌∷◌, ◌++◌, Bool, true, false, nat_lt, ◌==◌, ◌||◌, Option, Some, None}
 use Rattle.std.specs.List.{AllByRecursion}
 use Rattle.enumset_repr.specs.BitSet.{BitSet, insert}
 
@@ -27,7 +26,3 @@ Passed text byte rest = (spaces : List ℕ) × AreSpaces spaces × (text ≡ spa
 abbrev pub with_named : Option ℕ → BitSet → BitSet
 with_named None s = s
 with_named (Some b) s = insert s b
-
-abbrev pub digits_or_none : ℕ → List ℕ
-digits_or_none zero = []
-digits_or_none (suc n) = decimal (suc n)

@@ -1,6 +1,6 @@
 //! The names of an element type's values.
 
-ghost use Rattle.std.specs.Prelude.{◌≡◌, ◌<◌, ◌≤◌, ℕ, List, Some, None, MatchOption, length, map, drop, option_map};
+ghost use Rattle.std.specs.Prelude.{◌≡◌, ◌<◌, ℕ, List, IfSome, length, map, option_map};
 ghost use Rattle.std.specs.Str.{bytes_eq};
 ghost use Rattle.enumset.specs.Names.{names_of, name_of, bit_named, IsNaming};
 
@@ -55,66 +55,41 @@ pub trait EnumSetNames: EnumSetType + 'static {
     ghost named: { IsNaming Self.elements.bit_list names };
 }
 
-// The value that has this name, if there is one. The search goes from the place `next` to the end of the list, then back
-// from there to its front, since most texts have their names in the order of the list, or in the other order; `next`
-// becomes the place after the name that was found.
+// The value that has this name, if there is one. The search begins at the place `next`, then goes from the front, since
+// most texts have their names in the order of the list; `next` becomes the place after the name that was found.
 #[inline(always)]
 pub(crate) fn find_name<T: EnumSetNames>(text: &[u8], next: &mut usize) -> Option<T>
     ensures { option_map T.elements.bit result
         ≡ bit_named (names_of T.elements T.names) text.now }
 {
     let names = T::names();
-    let start = (*next).min(names.len());
-    if let Some((place, value)) = find_from(names, start, text) {
-        *next = place + 1;
+    let start = if *next < names.len() { *next } else { 0 };
+    let (before, after) = names.split_at(start);
+    if let Some((place, value)) = find_in(after, text) {
+        *next = start + place + 1;
         return Some(value);
     }
-    let (place, value) = find_before(names, start, text)?;
+    let (place, value) = find_in(before, text)?;
     *next = place + 1;
     Some(value)
 }
 
-// The first value from a place on that has this name, and its place.
+// The first value of a list that has this name, and its place.
 #[inline(always)]
-fn find_from<T: EnumSetType>(names: &[(T, &str)], start: usize, text: &[u8]) -> Option<(usize, T)>
-    requires { start ≤ length names.now }
-    ensures { MatchOption result
-        (bit_named (map (λ n. (T.elements.bit n.0, n.1.now)) (drop start names.now)) text.now ≡ None)
-        (λ found. (found.0 < length names.now)
-        × (bit_named (map (λ n. (T.elements.bit n.0, n.1.now)) (drop found.0 names.now)) text.now
-        ≡ Some (T.elements.bit found.1))) }
+fn find_in<T: EnumSetType>(names: &[(T, &str)], text: &[u8]) -> Option<(usize, T)>
+    ensures within { IfSome result (λ found. found.0 < length names.now) }
+    ensures named { option_map (λ found. T.elements.bit found.1) result
+        ≡ bit_named (map (λ n. (T.elements.bit n.0, n.1.now)) names.now) text.now }
 {
-    for place in start..names.len() {
-        let (value, name) = names[place];
+    for (place, (value, name)) in names.iter().enumerate() {
         if has_bytes(name, text) {
-            return Some((place, value));
+            return Some((place, *value));
         }
     }
     None
 }
 
-// The last value before a place that has this name, and its place.
-#[inline(always)]
-fn find_before<T: EnumSetType>(names: &[(T, &str)], end: usize, text: &[u8]) -> Option<(usize, T)>
-    requires { end ≤ length names.now }
-    ensures { MatchOption result
-        (bit_named (map (λ n. (T.elements.bit n.0, n.1.now)) names.now) text.now
-        ≡ bit_named (map (λ n. (T.elements.bit n.0, n.1.now)) (drop end names.now)) text.now)
-        (λ found. (found.0 < length names.now)
-        × (bit_named (map (λ n. (T.elements.bit n.0, n.1.now)) (drop found.0 names.now)) text.now
-        ≡ Some (T.elements.bit found.1))) }
-{
-    for place in (0..end).rev() {
-        let (value, name) = names[place];
-        if has_bytes(name, text) {
-            return Some((place, value));
-        }
-    }
-    None
-}
-
-// Whether a name is these bytes. Of long ones the last eight are compared first, since names that begin alike seldom end
-// alike, of short ones the first four: that spares most calls.
+// Whether a name is these bytes. The last eight are compared first, since names that begin alike seldom end alike.
 #[inline(always)]
 fn has_bytes(name: &str, text: &[u8]) -> bool
     ensures { result ≡ bytes_eq name.now text.now }
@@ -123,12 +98,9 @@ fn has_bytes(name: &str, text: &[u8]) -> bool
     if name.len() != text.len() {
         return false;
     }
-    if let (Some(end), Some(text_end)) = (name.last_chunk(), text.last_chunk()) {
-        return u64::from_le_bytes(*end) == u64::from_le_bytes(*text_end) && name == text;
-    }
-    match (name.first_chunk(), text.first_chunk()) {
-        (Some(start), Some(text_start)) => {
-            u32::from_le_bytes(*start) == u32::from_le_bytes(*text_start) && name == text
+    match (name.last_chunk(), text.last_chunk()) {
+        (Some(end), Some(text_end)) => {
+            u64::from_le_bytes(*end) == u64::from_le_bytes(*text_end) && name == text
         }
         _ => name == text,
     }

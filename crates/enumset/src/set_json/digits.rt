@@ -1,9 +1,8 @@
 //! The digits of numbers, as they are written.
 #![tactic(auto, using(crate::proofs::DigitsWritten::digit_laws))]
 
-ghost use Rattle.std.specs.Prelude.{◌≡◌, ◌+◌, ◌/◌, ◌%◌, ◌<◌, ◌≤◌, ◌∷◌, [], ◌++◌, List, ℕ, decimal, take};
+ghost use Rattle.std.specs.Prelude.{◌≡◌, ◌+◌, ◌/◌, ◌%◌, ◌<◌, ◌≤◌, ◌∷◌, [], ◌++◌, decimal, take, drop};
 ghost use Rattle.std.specs.Prelude.{length, string_bytes, IsAscii, OnOk};
-ghost use Rattle.enumset.specs.JsonPlain.{digits_or_none};
 
 use std::alloc::AllocError;
 
@@ -40,63 +39,94 @@ pub(super) fn push_digits(bytes: &mut Vec<u8>, number: u64) -> Result<(), AllocE
 // wait for the one before it.
 #[inline(always)]
 fn put_digits(row: &mut [u8], at: usize, number: u64) -> usize
-    requires room { at + 20 ≤ length row.old }
-    ensures end { result ≤ at + 20 }
-    ensures written { take result row.new ≡ take at row.old ++ decimal number }
+    requires room { at + length (decimal number) ≤ length row.old }
+    ensures end { result ≡ at + length (decimal number) }
+    ensures written { row.new ≡ take at row.old ++ decimal number ++ drop result row.old }
 {
-    if number < 10 {
-        row[at] = b'0' + number as u8;
-        return at + 1;
-    }
     if number < 100000000 {
-        let next = put_four(row, at, number / 10000);
-        return put_four(row, next, number);
+        return put_eight(row, at, number);
     }
-    let next = put_four(row, at, number / 10000000000000000);
-    let next = put_four(row, next, number / 1000000000000);
-    let next = put_four(row, next, number / 100000000);
-    let next = put_four(row, next, number / 10000);
-    put_four(row, next, number)
+    let next = put_twelve(row, at, number / 100000000);
+    put_four(row, next, number / 10000 % 10000);
+    put_four(row, next + 4, number % 10000);
+    next + 8
 }
 
-// Writes the last four digits of a number after those before them, or all if there are fewer. Nought has none.
+// The same, of at most twelve digits.
 #[inline(always)]
-fn put_four(row: &mut [u8], at: usize, number: u64) -> usize
-    requires room { at + 4 ≤ length row.old }
-    ensures end { result ≤ at + 4 }
-    ensures written { (front : List ℕ) → (take at row.old ≡ front ++ digits_or_none (number / 10000))
-        → take result row.new ≡ front ++ digits_or_none number }
+fn put_twelve(row: &mut [u8], at: usize, number: u64) -> usize
+    requires small { number < 1000000000000 }
+    requires room { at + length (decimal number) ≤ length row.old }
+    ensures end { result ≡ at + length (decimal number) }
+    ensures written { row.new ≡ take at row.old ++ decimal number ++ drop result row.old }
 {
-    if number == 0 {
-        return at;
+    if number < 100000000 {
+        return put_eight(row, at, number);
     }
+    let next = put_short(row, at, number / 100000000);
+    put_four(row, next, number / 10000 % 10000);
+    put_four(row, next + 4, number % 10000);
+    next + 8
+}
+
+// The same, of at most eight digits.
+#[inline(always)]
+fn put_eight(row: &mut [u8], at: usize, number: u64) -> usize
+    requires small { number < 100000000 }
+    requires room { at + length (decimal number) ≤ length row.old }
+    ensures end { result ≡ at + length (decimal number) }
+    ensures written { row.new ≡ take at row.old ++ decimal number ++ drop result row.old }
+{
     if number < 10000 {
-        let next = put_two(row, at, number / 100);
-        return put_two(row, next, number);
+        return put_short(row, at, number);
     }
-    let last = number % 10000;
-    put_pair(row, at, last / 100);
-    put_pair(row, at + 2, last % 100);
-    at + 4
+    let next = put_short(row, at, number / 10000);
+    put_four(row, next, number % 10000);
+    next + 4
 }
 
-// The same, of the last two digits.
+// The same, of at most four digits.
 #[inline(always)]
-fn put_two(row: &mut [u8], at: usize, number: u64) -> usize
-    requires room { at + 2 ≤ length row.old }
-    ensures end { result ≤ at + 2 }
-    ensures written { (front : List ℕ) → (take at row.old ≡ front ++ digits_or_none (number / 100))
-        → take result row.new ≡ front ++ digits_or_none number }
+fn put_short(row: &mut [u8], at: usize, number: u64) -> usize
+    requires small { number < 10000 }
+    requires room { at + length (decimal number) ≤ length row.old }
+    ensures end { result ≡ at + length (decimal number) }
+    ensures written { row.new ≡ take at row.old ++ decimal number ++ drop result row.old }
 {
-    if number == 0 {
-        return at;
+    if number < 100 {
+        return put_first(row, at, number);
     }
+    let next = put_first(row, at, number / 100);
+    put_pair(row, next, number % 100);
+    next + 2
+}
+
+// The same, of one digit or two.
+#[inline(always)]
+fn put_first(row: &mut [u8], at: usize, number: u64) -> usize
+    requires small { number < 100 }
+    requires room { at + length (decimal number) ≤ length row.old }
+    ensures end { result ≡ at + length (decimal number) }
+    ensures written { row.new ≡ take at row.old ++ decimal number ++ drop result row.old }
+{
     if number < 10 {
         row[at] = b'0' + number as u8;
         return at + 1;
     }
-    put_pair(row, at, number % 100);
+    put_pair(row, at, number);
     at + 2
+}
+
+// Writes four digits to a place of a row.
+#[inline(always)]
+fn put_four(row: &mut [u8], at: usize, number: u64)
+    requires small { number < 10000 }
+    requires room { at + 4 ≤ length row.old }
+    ensures { row.new ≡ take at row.old ++ ((48 + number / 100 / 10) ∷ (48 + number / 100 % 10)
+        ∷ (48 + number % 100 / 10) ∷ (48 + number % 100 % 10) ∷ []) ++ drop (at + 4) row.old }
+{
+    put_pair(row, at, number / 100);
+    put_pair(row, at + 2, number % 100);
 }
 
 // Writes two digits to a place of a row.
@@ -104,7 +134,8 @@ fn put_two(row: &mut [u8], at: usize, number: u64) -> usize
 fn put_pair(row: &mut [u8], at: usize, pair: u64)
     requires small { pair < 100 }
     requires room { at + 2 ≤ length row.old }
-    ensures { take (at + 2) row.new ≡ take at row.old ++ ((48 + pair / 10) ∷ (48 + pair % 10) ∷ []) }
+    ensures { row.new
+        ≡ take at row.old ++ ((48 + pair / 10) ∷ (48 + pair % 10) ∷ []) ++ drop (at + 2) row.old }
 {
     let place = pair as usize * 2;
     row[at] = PAIRS[place];

@@ -1,9 +1,0 @@
-use Rattle.std.proofs.Common.{◌≡◌, map, drop}
-use Rattle.enumset.specs.Names.{bit_named}
-use Rattle.enumset.proofs.names.find_from.Given as goal
-
--- the name stands among those that are left
-abbrev pub invariant-loop-place : goal.invariant-loop-place
-invariant-loop-place g l =
-    bit_named (map (λ n. (g.T.EnumSetType.elements.bit n.0, n.1.now)) (drop l.place l.names)) l.text
-    ≡ bit_named (map (λ n. (g.T.EnumSetType.elements.bit n.0, n.1.now)) (drop l.start l.names)) l.text
