@@ -165,26 +165,6 @@ impl<const N: usize> EnumSetTypeRepr for ArrayRepr<N> {
         yields_none::<And, N>(self, other)
     }
 
-    // The three below are the default bodies, which a type with a const parameter cannot take over.
-
-    fn or_changes(&mut self, other: &ArrayRepr<N>) -> bool {
-        let has_all = other.is_subset_of(self);
-        self.or_with(other);
-        !has_all
-    }
-
-    fn and_changes(&mut self, other: &ArrayRepr<N>) -> bool {
-        let keeps_all = self.is_subset_of(other);
-        self.and_with(other);
-        !keeps_all
-    }
-
-    fn and_not_changes(&mut self, other: &ArrayRepr<N>) -> bool {
-        let keeps_all = self.is_disjoint_from(other);
-        self.and_not_with(other);
-        !keeps_all
-    }
-
     fn iter(self) -> ArrayIter<N>
         ensures rest { result.items ≡ ascending (set_of N self.entry) }
         ensures asks { result.asks ≡ 0 }

@@ -177,7 +177,7 @@ pub trait EnumSetTypeRepr: Copy
     }
 
     /// Adds every member of `other`, in place, and returns whether one of them was absent.
-    fn or_changes(&mut self, other: &Self) -> bool
+    final fn or_changes(&mut self, other: &Self) -> bool
         ensures members { members self.new ≡ set.union (members self.old) (members other.now) }
         ensures value { is_value self.new }
         ensures changed { result ≡ not (set.is_subset (members other.now) (members self.old)) }
@@ -188,7 +188,7 @@ pub trait EnumSetTypeRepr: Copy
     }
 
     /// Removes every member that is not in `other`, in place, and returns whether there was one.
-    fn and_changes(&mut self, other: &Self) -> bool
+    final fn and_changes(&mut self, other: &Self) -> bool
         ensures members { members self.new ≡ set.intersection (members self.old) (members other.now) }
         ensures value { is_value self.new }
         ensures changed { result ≡ not (set.is_subset (members self.old) (members other.now)) }
@@ -199,7 +199,7 @@ pub trait EnumSetTypeRepr: Copy
     }
 
     /// Removes every member of `other`, in place, and returns whether one of them was present.
-    fn and_not_changes(&mut self, other: &Self) -> bool
+    final fn and_not_changes(&mut self, other: &Self) -> bool
         ensures members { members self.new ≡ set.difference (members self.old) (members other.now) }
         ensures value { is_value self.new }
         ensures changed { result ≡ not (set.is_disjoint (members self.old) (members other.now)) }
