@@ -1,9 +1,7 @@
 //! The representation of many words.
 
-ghost use Rattle.std.specs.Prelude.{◌≡◌, ◌<◌, ◌≤◌, ◌*◌, ◌==◌, length, replicate, sum_by, refl};
-ghost use Rattle.std.specs.List.{list_all};
-ghost use Rattle.enumset_repr.specs.BitSet.{ascending, len};
-ghost use Rattle.enumset_repr.specs.Number.{bits};
+ghost use Rattle.std.specs.Prelude.{◌≡◌, ◌<◌, ◌≤◌, ◌*◌, replicate};
+ghost use Rattle.enumset_repr.specs.BitSet.{ascending};
 ghost use Rattle.enumset_array.specs.ArrayWords.{in_use, set_of, IsArrayRepr};
 ghost use Rattle.enumset_repr.specs.Words.{words as words_of_set};
 ghost use Rattle.enumset_repr.specs.Laws.Representations.{by_sets};

@@ -5,7 +5,6 @@ ghost use Rattle.enumset_repr.specs.Asks.{IsCounted};
 ghost use Rattle.enumset_repr.specs.BitSet as set;
 ghost use Rattle.enumset_repr.specs.BitSet.{BitSet};
 ghost use Rattle.enumset_repr.specs.Number.{bits, number};
-ghost use Rattle.enumset_repr.specs.Order.{compare};
 ghost use Rattle.enumset_repr.specs.Representations.{IsRepresentation, AreSetOperators, IsListed};
 ghost use Rattle.enumset_repr.specs.Words.{word as word_of, with_word, words as words_of, bits_of};
 
@@ -25,8 +24,7 @@ use std::ops::{BitAnd, BitOr, BitXor, Not};
 /// to and from arrays are functions of [`arrays`](crate::arrays), and the ends of a set are functions of
 /// [`ends`](crate::ends).
 ///
-/// The default bodies of calls with two sets build values or go over both twice. A representation of many words should
-/// have its own.
+/// The default bodies of calls with two sets build values. A representation of many words should have its own.
 #[tactic(auto, using(crate::specs::Laws::Low::cuts_to))]
 pub trait EnumSetTypeRepr: Copy
     + Eq

@@ -1,6 +1,6 @@
 //! The set of elements.
 
-ghost use Rattle.std.specs.Prelude.{◌≡◌, ◌<◌, ◌≤◌, ◌↔◌, ◌&&◌, ◌^◌, ℕ, Bool, IsTrue, IfNone, IfSome, false, if◌then◌else◌, nat_le, not, length};
+ghost use Rattle.std.specs.Prelude.{◌≡◌, ◌<◌, ◌≤◌, ◌&&◌, ◌^◌, ℕ, Bool, IsTrue, IfNone, IfSome, false, if◌then◌else◌, nat_le, not, length};
 ghost use Rattle.std.specs.Iterator.{YieldsFirstBy, YieldsLastBy};
 ghost use Rattle.std.specs.Iterator.Runs.{EveryRun, ItemsMapTo};
 ghost use Rattle.std.specs.Option.{option_map};
