@@ -55,11 +55,11 @@ fn least_bit_from_word<R: EnumSetTypeRepr>(repr: &R, from: usize) -> Option<u32>
     repr.learn_is_value();
     let _width = R::WIDTH;
     let len = R::PREFERRED_ARRAY_LEN;
-    let mut start = from;
-    while len.saturating_sub(start) >= 16 && are_zero(repr, start, start + 16) {
-        start += 16;
+    let mut left = len.saturating_sub(from);
+    while left >= 16 && are_zero(repr, len - left, len - left + 16) {
+        left -= 16;
     }
-    for i in start..len {
+    for i in len - left..len {
         let word = repr.word(i);
         if word != 0 {
             return Some(64 * i as u32 + word.trailing_zeros());

@@ -4,11 +4,11 @@ use Rattle.enumset_repr.proofs.ZeroWords.{NoneIn}
 use Rattle.enumset_repr.proofs.ends.least_bit_from_word.Given as goal
 
 -- each word so far is 0
-abbrev pub invariant-loop-start : goal.invariant-loop-start
-invariant-loop-start g l = (l.from ≤ l.start) × NoneIn (word (g.R.EnumSetTypeRepr.members l.repr)) l.from l.start
+abbrev pub invariant-loop-left : goal.invariant-loop-left
+invariant-loop-left g l = (l.left ≤ l.len - l.from) × NoneIn (word (g.R.EnumSetTypeRepr.members l.repr)) l.from (l.len - l.left)
 
-abbrev pub decreases-loop-start : goal.decreases-loop-start
-decreases-loop-start g l = g.R.EnumSetTypeRepr.PREFERRED_ARRAY_LEN - l.start
+abbrev pub decreases-loop-left : goal.decreases-loop-left
+decreases-loop-left g l = l.left
 
 abbrev pub invariant-loop-i : goal.invariant-loop-i
 invariant-loop-i g l = NoneIn (word (g.R.EnumSetTypeRepr.members l.repr)) l.from l.i
