@@ -1,9 +1,7 @@
 //! The representation of many words.
 
-ghost use Rattle.std.specs.Prelude.{◌≡◌, ◌<◌, ◌≤◌, ◌*◌, ◌==◌, length, replicate, sum_by, refl};
-ghost use Rattle.std.specs.List.{list_all};
-ghost use Rattle.enumset_repr.specs.BitSet.{ascending, len};
-ghost use Rattle.enumset_repr.specs.Number.{bits};
+ghost use Rattle.std.specs.Prelude.{◌≡◌, ◌<◌, ◌≤◌, ◌*◌, replicate};
+ghost use Rattle.enumset_repr.specs.BitSet.{ascending};
 ghost use Rattle.enumset_array.specs.ArrayWords.{in_use, set_of, IsArrayRepr};
 ghost use Rattle.enumset_repr.specs.Words.{words as words_of_set};
 ghost use Rattle.enumset_repr.specs.Laws.Representations.{by_sets};
@@ -163,26 +161,6 @@ impl<const N: usize> EnumSetTypeRepr for ArrayRepr<N> {
     #[tactic(auto, using(enumset_repr::specs::Laws::Counting::is_empty_intersection))]
     fn is_disjoint_from(&self, other: &ArrayRepr<N>) -> bool {
         yields_none::<And, N>(self, other)
-    }
-
-    // The three below are the default bodies, which a type with a const parameter cannot take over.
-
-    fn or_changes(&mut self, other: &ArrayRepr<N>) -> bool {
-        let has_all = other.is_subset_of(self);
-        self.or_with(other);
-        !has_all
-    }
-
-    fn and_changes(&mut self, other: &ArrayRepr<N>) -> bool {
-        let keeps_all = self.is_subset_of(other);
-        self.and_with(other);
-        !keeps_all
-    }
-
-    fn and_not_changes(&mut self, other: &ArrayRepr<N>) -> bool {
-        let keeps_all = self.is_disjoint_from(other);
-        self.and_not_with(other);
-        !keeps_all
     }
 
     fn iter(self) -> ArrayIter<N>

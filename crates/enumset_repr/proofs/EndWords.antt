@@ -69,7 +69,7 @@ module _ (s : BitSet) where
   greatest_none none = sym (ap greatest (same_set s empty (λ q. none q ∙ sym (contains_empty q))) ∙ greatest_empty)
 
   -- words up to the last that are 0
-  module _ (width n : ℕ) (within : is_subset s (below width) ≡ true) (count : width ≤ 64 * n) where
+  module _ (width n : ℕ) (within : is_subset s (below width) ≡ true) (count : n ≡ (width + 63) / 64) where
     pub none_from : (from i : ℕ) → NoneIn (word s) from i → n ≤ i → (q : ℕ) → 64 * from ≤ q → contains s q ≡ false
     none_from from i none end q start = elim (cases_lt q (64 * n)) [
       | inl low ↦ no_member from i none q start (omega (arith, low, end))

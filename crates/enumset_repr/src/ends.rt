@@ -1,9 +1,8 @@
 //! The least and the greatest member of a set, over any representation. Rust's `enumset` has none of these calls.
 
-ghost use Rattle.std.specs.Prelude.{◌≡◌, ◌*◌, ◌^◌, ◌<◌, ◌≤◌, ℕ, IsTrue};
+ghost use Rattle.std.specs.Prelude.{◌≡◌, ◌*◌};
 ghost use Rattle.enumset_repr.specs.BitSet as set;
 ghost use Rattle.enumset_repr.specs.Ends.{least, greatest};
-ghost use Rattle.enumset_repr.specs.Words.{word as word_of};
 
 use crate::repr::{EnumSetTypeRepr, are_zero, word_or_zero};
 
@@ -18,7 +17,9 @@ pub fn least_bit<R: EnumSetTypeRepr>(repr: &R) -> Option<u32>
 pub fn least_bit_from<R: EnumSetTypeRepr>(repr: &R, from: u32) -> Option<u32>
     ensures { result ≡ least (set.difference (R.members repr.now) (set.below from)) }
 {
-    learn_width(repr);
+    // That each member is below the width, which is a `u32`, is a law of values, here and below.
+    repr.learn_is_value();
+    let _width = R::WIDTH;
     let place = (from / 64) as usize;
     let word = word_or_zero(repr, place) >> (from % 64);
     if word != 0 {
@@ -31,9 +32,10 @@ pub fn least_bit_from<R: EnumSetTypeRepr>(repr: &R, from: u32) -> Option<u32>
 pub fn greatest_bit<R: EnumSetTypeRepr>(repr: &R) -> Option<u32>
     ensures { result ≡ greatest (R.members repr.now) }
 {
-    learn_width(repr);
+    repr.learn_is_value();
+    let _width = R::WIDTH;
     let mut end = R::PREFERRED_ARRAY_LEN;
-    // Zeros are passed sixteen words at a time.
+    // Zeros are passed sixteen words at a time, here and below.
     while end >= 16 && are_zero(repr, end - 16, end) {
         end -= 16;
     }
@@ -50,37 +52,18 @@ pub fn greatest_bit<R: EnumSetTypeRepr>(repr: &R) -> Option<u32>
 fn least_bit_from_word<R: EnumSetTypeRepr>(repr: &R, from: usize) -> Option<u32>
     ensures { result ≡ least (set.difference (R.members repr.now) (set.below (64 * from))) }
 {
-    learn_width(repr);
-    for i in past_zeros(repr, from)..R::PREFERRED_ARRAY_LEN {
+    repr.learn_is_value();
+    let _width = R::WIDTH;
+    let len = R::PREFERRED_ARRAY_LEN;
+    let mut left = len.saturating_sub(from);
+    while left >= 16 && are_zero(repr, len - left, len - left + 16) {
+        left -= 16;
+    }
+    for i in len - left..len {
         let word = repr.word(i);
         if word != 0 {
             return Some(64 * i as u32 + word.trailing_zeros());
         }
     }
     None
-}
-
-/// A place at or past `from`, such that each word from `from` up to it is 0. They are passed sixteen at a time.
-fn past_zeros<R: EnumSetTypeRepr>(repr: &R, from: usize) -> usize
-    ensures past { from ≤ result }
-    ensures zero { (w : ℕ) → from ≤ w → w < result → word_of (R.members repr.now) w ≡ 0 }
-{
-    let blocks = R::PREFERRED_ARRAY_LEN.saturating_sub(from) / 16;
-    for k in 0..blocks {
-        let i = from + 16 * k;
-        if !are_zero(repr, i, i + 16) {
-            return i;
-        }
-    }
-    from + 16 * blocks
-}
-
-// Tells a proof that each member is below the width, which is a `u32`, and that the words have the width.
-fn learn_width<R: EnumSetTypeRepr>(repr: &R)
-    ensures within { IsTrue (set.is_subset (R.members repr.now) (set.below R.WIDTH)) }
-    ensures words { R.WIDTH ≤ 64 * R.PREFERRED_ARRAY_LEN }
-    ensures fits { R.WIDTH < 2 ^ 32 }
-{
-    repr.learn_is_value();
-    let _width = R::WIDTH;
 }

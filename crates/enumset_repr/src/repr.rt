@@ -5,7 +5,6 @@ ghost use Rattle.enumset_repr.specs.Asks.{IsCounted};
 ghost use Rattle.enumset_repr.specs.BitSet as set;
 ghost use Rattle.enumset_repr.specs.BitSet.{BitSet};
 ghost use Rattle.enumset_repr.specs.Number.{bits, number};
-ghost use Rattle.enumset_repr.specs.Order.{compare};
 ghost use Rattle.enumset_repr.specs.Representations.{IsRepresentation, AreSetOperators, IsListed};
 ghost use Rattle.enumset_repr.specs.Words.{word as word_of, with_word, words as words_of, bits_of};
 
@@ -25,8 +24,7 @@ use std::ops::{BitAnd, BitOr, BitXor, Not};
 /// to and from arrays are functions of [`arrays`](crate::arrays), and the ends of a set are functions of
 /// [`ends`](crate::ends).
 ///
-/// The default bodies of calls with two sets build values or go over both twice. A representation of many words should
-/// have its own.
+/// The default bodies of calls with two sets build values. A representation of many words should have its own.
 #[tactic(auto, using(crate::specs::Laws::Low::cuts_to))]
 pub trait EnumSetTypeRepr: Copy
     + Eq
@@ -177,7 +175,7 @@ pub trait EnumSetTypeRepr: Copy
     }
 
     /// Adds every member of `other`, in place, and returns whether one of them was absent.
-    fn or_changes(&mut self, other: &Self) -> bool
+    final fn or_changes(&mut self, other: &Self) -> bool
         ensures members { members self.new ≡ set.union (members self.old) (members other.now) }
         ensures value { is_value self.new }
         ensures changed { result ≡ not (set.is_subset (members other.now) (members self.old)) }
@@ -188,7 +186,7 @@ pub trait EnumSetTypeRepr: Copy
     }
 
     /// Removes every member that is not in `other`, in place, and returns whether there was one.
-    fn and_changes(&mut self, other: &Self) -> bool
+    final fn and_changes(&mut self, other: &Self) -> bool
         ensures members { members self.new ≡ set.intersection (members self.old) (members other.now) }
         ensures value { is_value self.new }
         ensures changed { result ≡ not (set.is_subset (members self.old) (members other.now)) }
@@ -199,7 +197,7 @@ pub trait EnumSetTypeRepr: Copy
     }
 
     /// Removes every member of `other`, in place, and returns whether one of them was present.
-    fn and_not_changes(&mut self, other: &Self) -> bool
+    final fn and_not_changes(&mut self, other: &Self) -> bool
         ensures members { members self.new ≡ set.difference (members self.old) (members other.now) }
         ensures value { is_value self.new }
         ensures changed { result ≡ not (set.is_disjoint (members self.old) (members other.now)) }

@@ -1,17 +1,18 @@
 //! The set of elements.
 
-ghost use Rattle.std.specs.Prelude.{◌≡◌, ◌<◌, ◌≤◌, ◌↔◌, ◌&&◌, ◌^◌, ℕ, Bool, IsTrue, IfNone, IfSome, false, if◌then◌else◌, nat_le, not, length};
+ghost use Rattle.std.specs.Prelude.{◌≡◌, ◌<◌, ◌≤◌, ◌&&◌, ◌^◌, ℕ, Bool, IsTrue, IfNone, IfSome, false, if◌then◌else◌, nat_le, not, length};
 ghost use Rattle.std.specs.Iterator.{YieldsFirstBy, YieldsLastBy};
 ghost use Rattle.std.specs.Iterator.Runs.{EveryRun, ItemsMapTo};
 ghost use Rattle.std.specs.Option.{option_map};
 ghost use Rattle.enumset_repr.specs.BitSet as set;
 ghost use Rattle.enumset_repr.specs.Ends.{least, greatest};
+ghost use Rattle.enumset_repr.specs.Number.{bits};
 ghost use Rattle.enumset_sets.specs.Elements.{one_past_greatest, valid_bits};
 ghost use Rattle.enumset_sets.specs.Retained.{IsConstantTest, IsTest, Retains};
 
 use crate::element::EnumSetType;
 use crate::enum_set_iter::EnumSetIter;
-use crate::representation::{between, valid_repr};
+use crate::representation::valid_repr;
 use crate::text::write_separator;
 use enumset_repr::{EnumSetTypeRepr, are_same, greatest_bit, least_bit, least_bit_from};
 use std::alloc::AllocError;
@@ -402,7 +403,19 @@ impl<T: EnumSetType> EnumSet<T> {
             (λ q. nat_le (T.elements.bit from) q && nat_le q (T.elements.bit to)) }
     {
         let (first, last) = (Self::bit_index(from), Self::bit_index(to));
-        Self::of_repr(between(&valid_repr::<T>(), first, last))
+        // Bits are below the width, which is a `u32`.
+        let _width = T::Repr::WIDTH;
+        let all = valid_repr::<T>();
+        let mut range = T::Repr::EMPTY;
+        // No word is past the last one: so the compiler sees that an integer has one word.
+        let end = (last as usize / 64 + 1).min(T::Repr::PREFERRED_ARRAY_LEN);
+        for i in first as usize / 64..end {
+            let start = 64 * i as u32;
+            let before = ones_from(first.saturating_sub(start));
+            let past = ones_from((last + 1).saturating_sub(start));
+            range.put_word(i, all.word(i) & before & !past);
+        }
+        Self::of_repr(range)
     }
 
     /// As [`is_disjoint`](EnumSet::is_disjoint), without a copy of its argument.
@@ -542,4 +555,11 @@ impl<T: EnumSetType> EnumSet<T> {
             }
         }
     }
+}
+
+/// The 64 bits without those below `k`.
+fn ones_from(k: u32) -> u64
+    ensures { bits result ≡ set.difference (set.below 64) (set.below k) }
+{
+    if k < 64 { u64::MAX << k } else { 0 }
 }

@@ -20,8 +20,8 @@ past_word s from w is none =
 
 pub overflow_add-result : goal.overflow_add-result
 overflow_add-result g c =
-    let low = least_below _ g.R.EnumSetTypeRepr.WIDTH _ (difference_is_subset _ _ (below c.args.from) c.learn_width.ensures.within) (sym (found _ _ _ c.word_or_zero.ensures c.word_or_zero.type_inv c.if-word-ne0.true)) in
-    omega (arith, low, c.learn_width.ensures.fits)
+    let low = least_below _ g.R.EnumSetTypeRepr.WIDTH _ (difference_is_subset _ _ (below c.args.from) (g.met.R.EnumSetTypeRepr.represents.within _ c.learn_is_value.ensures)) (sym (found _ _ _ c.word_or_zero.ensures c.word_or_zero.type_inv c.if-word-ne0.true)) in
+    omega (arith, low)
 
 pub returns-then-word-ne0 : goal.returns-then-word-ne0
 returns-then-word-ne0 g c = found _ _ _ c.word_or_zero.ensures c.word_or_zero.type_inv c.if-word-ne0.true

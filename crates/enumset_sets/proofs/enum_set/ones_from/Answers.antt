@@ -5,7 +5,7 @@ use Rattle.enumset_repr.specs.Number.{bits}
 use Rattle.enumset_repr.specs.Laws.Members.{members, same_set, contains_low, contains_below}
 use Rattle.enumset_repr.specs.Laws.Numbers.{bits_zero, bits_full}
 use Rattle.enumset_repr.specs.Laws.Words.{bits_shifted_up, contains_upward_shift}
-use Rattle.enumset_sets.proofs.representation.ones_from.Goals as goal
+use Rattle.enumset_sets.proofs.enum_set.ones_from.Goals as goal
 
 shifted : (k : ℕ) → k < 64 → bits (18446744073709551615 * 2 ^ k % 2 ^ 64) ≡ difference (below 64) (below k)
 shifted k small = bits_shifted_up 64 18446744073709551615 k ∙ same_set _ _ (λ q.
