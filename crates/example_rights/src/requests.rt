@@ -42,7 +42,7 @@ pub fn first_missing<T: EnumSetType>(granted: &EnumSet<T>, requested: &EnumSet<T
 }
 
 /// The first of the granted rights past a bit.
-#[tactic(auto, using(enumset_repr::specs::Laws::Tests::tests))]
+#[tactic(auto, using(enumset_repr::specs::Laws::Places::tests))]
 pub fn first_past<T: EnumSetType>(granted: &EnumSet<T>, bit: u32) -> Option<T>
     ensures granted { IfSome result (λ right. set.contains granted.now (T.elements.bit right) ≡ true) }
     ensures least { IfSome result (λ right. (q : ℕ) → set.contains granted.now q ≡ true
@@ -55,7 +55,7 @@ pub fn first_past<T: EnumSetType>(granted: &EnumSet<T>, bit: u32) -> Option<T>
 }
 
 /// Whether no granted right is past a bit.
-#[tactic(auto, using(enumset_repr::specs::Laws::Tests::tests))]
+#[tactic(auto, using(enumset_repr::specs::Laws::Places::tests))]
 pub fn is_none_past<T: EnumSetType>(granted: &EnumSet<T>, bit: u32) -> bool
     ensures { result ≡ list_all (λ q. nat_le q bit) (set.ascending granted.now) }
 {

@@ -5,12 +5,11 @@
 --     difference_parts, parts_apart, symmetric_parts      the parts of s outside t and inside t;  a symmetric difference
 --     difference_shared      s without what it shares with t
 --     union_covers      a union with a subset changes nothing
---     difference_over_.., intersection_over_symmetric_difference      one operation over another
+--     difference_over_..      one operation over another
 --     is_subset_.._iff, is_disjoint_difference_iff      subsets and disjoint sets by an equation
 --     is_disjoint_union, is_disjoint_part      a set apart from a union is apart from both, and so are its parts
 --     len_symmetric_difference      how many members are in exactly one of two sets
 --     len_regrouped      how many members are in all of three sets, grouped the other way
---     union_least, intersection_greatest      the least set above two, and the greatest below two
 --     complement_..      the difference of a set v and a set with members outside v
 use Rattle.std.proofs.Common.{◌≡◌, ◌+◌, ◌*◌, ℕ, true, false, ◌&&◌, ap, ◌∙◌, subst, arith, ◌↔◌}
 use Rattle.std.proofs.lemmas.Bool.{and_parts, and_from}
@@ -50,9 +49,6 @@ difference_over_union s t u = same_set _ _ (λ q. grind (arith, members))
 
 pub difference_over_intersection : (s t u : BitSet) → difference (intersection s t) u ≡ intersection (difference s u) (difference t u)
 difference_over_intersection s t u = same_set _ _ (λ q. grind (arith, members))
-
-pub intersection_over_symmetric_difference : (s t u : BitSet) → intersection s (symmetric_difference t u) ≡ symmetric_difference (intersection s t) (intersection s u)
-intersection_over_symmetric_difference s t u = same_set _ _ (λ q. grind (arith, members))
 
 pub parts_apart : (s t : BitSet) → is_disjoint (difference s t) (intersection s t) ≡ true
 parts_apart s t = contains_is_disjoint _ _ (λ q one. grind (arith, members))
@@ -95,12 +91,6 @@ is_subset_intersection_iff s t = (intersection_within s t, λ same. subst (λ u.
 
 pub is_disjoint_difference_iff : (s t : BitSet) → (is_disjoint s t ≡ true) ↔ (difference s t ≡ s)
 is_disjoint_difference_iff s t = (difference_apart s t, λ same. subst (λ u. is_disjoint u t ≡ true) same (is_disjoint_difference s t))
-
-pub union_least : (s t u : BitSet) → is_subset s u ≡ true → is_subset t u ≡ true → is_subset (union s t) u ≡ true
-union_least s t u first second = contains_is_subset _ _ (λ q one. let a = is_subset_contains s u first q in let b = is_subset_contains t u second q in grind (arith, members))
-
-pub intersection_greatest : (s t u : BitSet) → is_subset u s ≡ true → is_subset u t ≡ true → is_subset u (intersection s t) ≡ true
-intersection_greatest s t u first second = contains_is_subset _ _ (λ q one. let a = is_subset_contains u s first q in let b = is_subset_contains u t second q in grind (arith, members))
 
 -- ---- complements within a set v
 
