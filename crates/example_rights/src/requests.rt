@@ -1,6 +1,6 @@
 //! Requests for rights.
 
-ghost use Rattle.std.specs.Prelude.{◌≡◌, ◌<◌, ◌≤◌, ℕ, true, nat_le, IfSome, IfNone};
+ghost use Rattle.std.specs.Prelude.{◌≡◌, ◌<◌, ◌≤◌, ℕ, true, not, nat_le, IfSome, IfNone};
 ghost use Rattle.std.specs.List.{list_all};
 ghost use Rattle.enumset_repr.specs.BitSet as set;
 
@@ -12,6 +12,14 @@ pub fn may(granted: EnumSet<Right>, requested: EnumSet<Right>) -> bool
     ensures { result ≡ set.is_subset requested granted }
 {
     granted.is_superset(requested)
+}
+
+/// Whether one of the granted rights is requested.
+#[tactic(auto, using(enumset_repr::specs::Laws::Places::chains))]
+pub fn is_wanted(granted: EnumSet<Right>, requested: EnumSet<Right>) -> bool
+    ensures { result ≡ not (set.is_disjoint granted requested) }
+{
+    granted.iter().any(|right| requested.contains(right))
 }
 
 /// How many of the granted rights are requested and licensed.

@@ -10,7 +10,8 @@ use Rattle.std.proofs.lemmas.Bool.{or_left, or_right, eq-eqb}
 use Rattle.std.proofs.lemmas.Bool.Decides.{nat_tests}
 use Rattle.enumset_repr.specs.BitSet.{BitSet, is_in, contains, ascending, empty}
 use Rattle.enumset_repr.specs.Ends.{least, greatest}
-use Rattle.enumset_repr.specs.Laws.Members.{contains_ascending}
+use Rattle.enumset_repr.specs.Laws.Members.{members, contains_ascending}
+use Rattle.enumset_repr.specs.Laws.Algebra.{difference_tells, intersection_tells}
 use Rattle.enumset_repr.specs.Laws.Ascending.{AscendsFrom, ascending_ascends, empty_of_ascending, is_in_from}
 use Rattle.enumset_repr.specs.Laws.Ends.{least_facts, greatest_facts, ascending_no_least, ascending_no_greatest}
 
@@ -46,4 +47,4 @@ greatest_tells s = (refl, by (greatest s) refl) where
   by None none = empty_of_ascending s (ascending_no_greatest s none)
   by (Some m) is = let facts = greatest_facts s m is in (facts.0, λ q one. let high = facts.1 q in grind (arith, nat_tests))
 
-pub ruleset found = (found_tells, least_tells, greatest_tells)
+pub ruleset found = (found_tells, least_tells, greatest_tells, members, difference_tells, intersection_tells)

@@ -8,6 +8,7 @@
 --     difference_over_..      one operation over another
 --     is_subset_.._iff, is_disjoint_difference_iff      subsets and disjoint sets by an equation
 --     is_disjoint_union, is_disjoint_part      a set apart from a union is apart from both, and so are its parts
+--     is_subset_union      a union is a part exactly if both are
 --     len_symmetric_difference      how many members are in exactly one of two sets
 --     len_regrouped      how many members are in all of three sets, grouped the other way
 --     complement_..      the difference of a set v and a set with members outside v
@@ -80,6 +81,15 @@ is_disjoint_union s t u = same_from_decides _ _ (
   λ both. contains_is_disjoint s (union t u) (λ q one. let a = is_disjoint_contains s t both.0 q in let b = is_disjoint_contains s u both.1 q in grind (arith, members)),
 ) (and_parts _ _, λ both. and_from _ _ both.0 both.1)
 
+pub is_subset_union : (s t u : BitSet) → is_subset (union s t) u ≡ (is_subset s u && is_subset t u)
+is_subset_union s t u = same_from_decides _ _ (
+  λ within. (
+    contains_is_subset s u (λ q one. let each = is_subset_contains (union s t) u within q in grind (arith, members)),
+    contains_is_subset t u (λ q one. let each = is_subset_contains (union s t) u within q in grind (arith, members)),
+  ),
+  λ both. contains_is_subset (union s t) u (λ q one. let a = is_subset_contains s u both.0 q in let b = is_subset_contains t u both.1 q in grind (arith, members)),
+) (and_parts _ _, λ both. and_from _ _ both.0 both.1)
+
 pub is_disjoint_part : (s t u : BitSet) → is_disjoint s u ≡ true → is_disjoint (difference s t) u ≡ true
 is_disjoint_part s t u apart = contains_is_disjoint _ u (λ q one. let none = is_disjoint_contains s u apart q in grind (arith, members))
 
@@ -115,4 +125,4 @@ difference_remove_all s t u within = same_set _ _ (λ q. let each = is_subset_co
 pub ruleset in_parts = (difference_insert, difference_remove, intersection_insert, intersection_remove, difference_parts, difference_shared, symmetric_parts, difference_over_union, difference_over_intersection, complement_of_complement, complement_outside)
 
 -- What a proof about parts that share no member, and their counts, needs beside `in_parts`.
-pub ruleset apart = (union_covers, parts_apart, parts_apart_back, is_disjoint_union, is_disjoint_part, len_symmetric_difference)
+pub ruleset apart = (union_covers, parts_apart, parts_apart_back, is_disjoint_union, is_subset_union, is_disjoint_part, len_symmetric_difference)
