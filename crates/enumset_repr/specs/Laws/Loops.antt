@@ -4,11 +4,11 @@
 --     is_subset_list, is_disjoint_list      a subset and disjoint sets as tests of a list
 -- The ruleset `loops` has what the invariant of such a loop needs, and `searches` what a loop needs that returns the member
 -- that it finds.
-use Rattle.std.proofs.Common.{◌≡◌, ℕ, Bool, true, false, cond, not, ◌&&◌, ◌||◌, List, [], ◌∷◌, Some, refl, arith}
+use Rattle.std.proofs.Common.{◌≡◌, ℕ, Bool, cond, not, ◌&&◌, ◌||◌, List, [], ◌∷◌, Some, refl, arith}
 use Rattle.std.specs.List.{list_any, list_all, find}
 use Rattle.std.proofs.lemmas.Bool.Decides.{nat_tests}
 use Rattle.std.proofs.lemmas.List.Sums.{sum_by-cons}
-use Rattle.enumset_repr.specs.BitSet.{BitSet, contains, ascending, insert, intersection, difference, is_subset, is_disjoint}
+use Rattle.enumset_repr.specs.BitSet.{BitSet, contains, ascending, is_subset, is_disjoint}
 use Rattle.enumset_repr.specs.Laws.Algebra.{on_unions, on_differences, on_intersections, on_lists, insert_union, union_insert, insert_inside, difference_inserted}
 use Rattle.enumset_repr.specs.Laws.Counting.{len_kept, len_left}
 use Rattle.enumset_repr.specs.Laws.Sets.{difference_insert, intersection_insert}
