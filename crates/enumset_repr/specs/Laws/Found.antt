@@ -47,4 +47,17 @@ greatest_tells s = (refl, by (greatest s) refl) where
   by None none = empty_of_ascending s (ascending_no_greatest s none)
   by (Some m) is = let facts = greatest_facts s m is in (facts.0, λ q one. let high = facts.1 q in grind (arith, nat_tests))
 
-pub ruleset found = (found_tells, least_tells, greatest_tells, members, difference_tells, intersection_tells)
+-- the same at a number of which something is asked, whether it is in this set or another
+pub least_at : (s t : BitSet) (q : ℕ) → (least s ≡ least s) × (contains t q ≡ contains t q) × MatchOption (least s) (s ≡ empty) (λ m. contains s q ≡ true → m ≤ q)
+least_at s t q = (refl, refl, by (least s) (least_tells s).1) where
+  by : (o : Option ℕ) → MatchOption o (s ≡ empty) (λ m. (contains s m ≡ true) × ((q : ℕ) → contains s q ≡ true → m ≤ q)) → MatchOption o (s ≡ empty) (λ m. contains s q ≡ true → m ≤ q)
+  by None none = none
+  by (Some m) some = some.1 q
+
+pub greatest_at : (s t : BitSet) (q : ℕ) → (greatest s ≡ greatest s) × (contains t q ≡ contains t q) × MatchOption (greatest s) (s ≡ empty) (λ m. contains s q ≡ true → q ≤ m)
+greatest_at s t q = (refl, refl, by (greatest s) (greatest_tells s).1) where
+  by : (o : Option ℕ) → MatchOption o (s ≡ empty) (λ m. (contains s m ≡ true) × ((q : ℕ) → contains s q ≡ true → q ≤ m)) → MatchOption o (s ≡ empty) (λ m. contains s q ≡ true → q ≤ m)
+  by None none = none
+  by (Some m) some = some.1 q
+
+pub ruleset found = (found_tells, least_tells, greatest_tells, least_at, greatest_at, members, difference_tells, intersection_tells)

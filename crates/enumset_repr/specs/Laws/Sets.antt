@@ -6,18 +6,17 @@
 --     difference_shared      s without what it shares with t
 --     union_covers      a union with a subset changes nothing
 --     difference_over_..      one operation over another
---     is_subset_.._iff, is_disjoint_difference_iff      subsets and disjoint sets by an equation
 --     is_disjoint_union, is_disjoint_part      a set apart from a union is apart from both, and so are its parts
 --     is_subset_union      a union is a part exactly if both are
 --     len_symmetric_difference      how many members are in exactly one of two sets
 --     len_regrouped      how many members are in all of three sets, grouped the other way
 --     complement_..      the difference of a set v and a set with members outside v
-use Rattle.std.proofs.Common.{◌≡◌, ◌+◌, ◌*◌, ℕ, true, false, ◌&&◌, ap, ◌∙◌, subst, arith, ◌↔◌}
+use Rattle.std.proofs.Common.{◌≡◌, ◌+◌, ◌*◌, ℕ, true, false, ◌&&◌, ap, ◌∙◌, arith}
 use Rattle.std.proofs.lemmas.Bool.{and_parts, and_from}
 use Rattle.std.proofs.lemmas.Bool.Decides.{nat_tests, same_from_decides}
 use Rattle.enumset_repr.specs.BitSet.{BitSet, contains, len, empty, insert, remove, union, intersection, difference, symmetric_difference, is_subset, is_disjoint}
 use Rattle.enumset_repr.specs.Laws.Members.{members, same_set, is_subset_contains, contains_is_subset, contains_is_disjoint, is_disjoint_contains}
-use Rattle.enumset_repr.specs.Laws.Algebra.{union_comm, union_left, union_within, intersection_assoc, intersection_right, intersection_within, difference_apart, is_disjoint_comm, is_disjoint_difference}
+use Rattle.enumset_repr.specs.Laws.Algebra.{union_comm, union_within, intersection_assoc, is_disjoint_comm}
 use Rattle.enumset_repr.specs.Laws.Counting.{len_parts, len_union}
 
 -- ---- one number
@@ -92,15 +91,6 @@ is_subset_union s t u = same_from_decides _ _ (
 
 pub is_disjoint_part : (s t u : BitSet) → is_disjoint s u ≡ true → is_disjoint (difference s t) u ≡ true
 is_disjoint_part s t u apart = contains_is_disjoint _ u (λ q one. let none = is_disjoint_contains s u apart q in grind (arith, members))
-
-pub is_subset_union_iff : (s t : BitSet) → (is_subset s t ≡ true) ↔ (union s t ≡ t)
-is_subset_union_iff s t = (union_within s t, λ same. subst (λ u. is_subset s u ≡ true) same (union_left s t))
-
-pub is_subset_intersection_iff : (s t : BitSet) → (is_subset s t ≡ true) ↔ (intersection s t ≡ s)
-is_subset_intersection_iff s t = (intersection_within s t, λ same. subst (λ u. is_subset u t ≡ true) same (intersection_right s t))
-
-pub is_disjoint_difference_iff : (s t : BitSet) → (is_disjoint s t ≡ true) ↔ (difference s t ≡ s)
-is_disjoint_difference_iff s t = (difference_apart s t, λ same. subst (λ u. is_disjoint u t ≡ true) same (is_disjoint_difference s t))
 
 -- ---- complements within a set v
 
