@@ -2,6 +2,7 @@
 --     found_tells      what `find` finds in a set's list is the least member that passes;  if it finds nothing, none does
 --     least_tells, greatest_tells      `least` is a member, and none is less;  `greatest` the same the other way;  if
 --         there is none, the set is empty
+--     least_at, greatest_at      the same of a number that is looked for in this set or another
 -- The first part of each is always true: it shows the search where to take the law. The ruleset `found` has them.
 use Rattle.std.proofs.Common.{◌≡◌, ◌≤◌, ℕ, suc, Bool, true, false, cond, List, [], ◌∷◌, Option, Some, None, refl, sym, subst, arith}
 use Rattle.std.specs.Prelude.{◌==◌, MatchOption}
@@ -47,7 +48,6 @@ greatest_tells s = (refl, by (greatest s) refl) where
   by None none = empty_of_ascending s (ascending_no_greatest s none)
   by (Some m) is = let facts = greatest_facts s m is in (facts.0, λ q one. let high = facts.1 q in grind (arith, nat_tests))
 
--- the same at a number of which something is asked, whether it is in this set or another
 pub least_at : (s t : BitSet) (q : ℕ) → (least s ≡ least s) × (contains t q ≡ contains t q) × MatchOption (least s) (s ≡ empty) (λ m. contains s q ≡ true → m ≤ q)
 least_at s t q = (refl, refl, by (least s) (least_tells s).1) where
   by : (o : Option ℕ) → MatchOption o (s ≡ empty) (λ m. (contains s m ≡ true) × ((q : ℕ) → contains s q ≡ true → m ≤ q)) → MatchOption o (s ≡ empty) (λ m. contains s q ≡ true → m ≤ q)
