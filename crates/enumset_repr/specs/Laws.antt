@@ -19,8 +19,7 @@
 --     Counting      how many members sets have
 --     Firsts      the first and the last member, and the list of a set that is written out
 --     Ordering      the greater and the lesser of two sets
---     Places      where members stand in their order: chains over a set's iterator
---     Tests      tests of a set's members by any closure: `any`, `all` and `find`
+--     Places      where members stand in their order: chains and tests over a set's iterator
 --     Found      what is found in a set: the least member that passes, the least, the greatest
 --     Masks      numbers with bits masked out
 --     Loops      the steps of a loop over a set's iterator
@@ -44,7 +43,6 @@ pub mod Counting
 pub mod Firsts
 pub mod Ordering
 pub mod Places
-pub mod Tests
 pub mod Found
 pub mod Masks
 pub mod Loops

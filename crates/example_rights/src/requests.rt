@@ -1,6 +1,6 @@
 //! Requests for rights.
 
-ghost use Rattle.std.specs.Prelude.{◌≡◌, ◌<◌, ◌≤◌, ℕ, true, nat_le, IfSome, IfNone};
+ghost use Rattle.std.specs.Prelude.{◌≡◌, ◌<◌, ◌≤◌, ℕ, true, not, nat_le, IfSome, IfNone};
 ghost use Rattle.std.specs.List.{list_all};
 ghost use Rattle.enumset_repr.specs.BitSet as set;
 
@@ -12,6 +12,14 @@ pub fn may(granted: EnumSet<Right>, requested: EnumSet<Right>) -> bool
     ensures { result ≡ set.is_subset requested granted }
 {
     granted.is_superset(requested)
+}
+
+/// Whether one of the granted rights is requested.
+#[tactic(auto, using(enumset_repr::specs::Laws::Places::chains))]
+pub fn is_wanted(granted: EnumSet<Right>, requested: EnumSet<Right>) -> bool
+    ensures { result ≡ not (set.is_disjoint granted requested) }
+{
+    granted.iter().any(|right| requested.contains(right))
 }
 
 /// How many of the granted rights are requested and licensed.
@@ -42,7 +50,7 @@ pub fn first_missing<T: EnumSetType>(granted: &EnumSet<T>, requested: &EnumSet<T
 }
 
 /// The first of the granted rights past a bit.
-#[tactic(auto, using(enumset_repr::specs::Laws::Tests::tests))]
+#[tactic(auto, using(enumset_repr::specs::Laws::Places::tests))]
 pub fn first_past<T: EnumSetType>(granted: &EnumSet<T>, bit: u32) -> Option<T>
     ensures granted { IfSome result (λ right. set.contains granted.now (T.elements.bit right) ≡ true) }
     ensures least { IfSome result (λ right. (q : ℕ) → set.contains granted.now q ≡ true
@@ -55,7 +63,7 @@ pub fn first_past<T: EnumSetType>(granted: &EnumSet<T>, bit: u32) -> Option<T>
 }
 
 /// Whether no granted right is past a bit.
-#[tactic(auto, using(enumset_repr::specs::Laws::Tests::tests))]
+#[tactic(auto, using(enumset_repr::specs::Laws::Places::tests))]
 pub fn is_none_past<T: EnumSetType>(granted: &EnumSet<T>, bit: u32) -> bool
     ensures { result ≡ list_all (λ q. nat_le q bit) (set.ascending granted.now) }
 {

@@ -6,21 +6,24 @@
 --         it has as many as the one exactly if the other is a subset
 --     len_union      a union and an intersection have together as many members as the two sets
 --     len_intersection, len_difference, len_subset      a part has no more members
+--     len_proper      a part that is not the whole has fewer
+--     len_apart      the members of s that are in two sets that share none
 --     len_inserted, len_removed      one more, and one less
 --     len_zero_iff      a set has no member exactly if it is the empty set
 --     kept_count, left_count      the numbers of the list of s that are in t, and that are not, kept in a list
 --     len_kept, len_left      the same, counted
---     len_kept_both      the members of s that are in two other sets, counted
+--     len_kept_both, len_kept_either      the members of s that are in two other sets, or in one of them, counted
 --     length_ascending      the list of the members is as long as the set
 -- The ruleset `counting` has those that a tactic can apply by itself.
-use Rattle.std.proofs.Common.{◌≡◌, ◌≤◌, ◌+◌, ◌-◌, ℕ, suc, zero, Bool, true, false, cond, not, ◌&&◌, List, [], ◌∷◌, length, filter, count_by, refl, sym, ap, ◌∙◌, arith, ◌↔◌}
+use Rattle.std.proofs.Common.{◌≡◌, ◌≤◌, ◌<◌, ◌+◌, ◌-◌, ℕ, suc, zero, Bool, true, false, cond, not, ◌&&◌, ◌||◌, List, [], ◌∷◌, length, filter, count_by, refl, sym, ap, subst, ◌∙◌, arith, true≢false, ◌↔◌}
 use Rattle.std.specs.Prelude.{◌==◌}
+use Rattle.std.proofs.lemmas.Bool.{false_from_ne_true}
 use Rattle.std.proofs.lemmas.Bool.Decides.{nat_tests, same_from_decides}
 use Rattle.std.proofs.lemmas.List.Filters.{length-filter_both}
 use Rattle.std.proofs.lemmas.List.Sums.{length-filter}
-use Rattle.enumset_repr.specs.BitSet.{BitSet, is_in, contains, ascending, len, is_empty, empty, insert, remove, union, intersection, difference, is_subset, is_disjoint}
-use Rattle.enumset_repr.specs.Laws.Members.{contains_empty, contains_ascending, contains_intersection, contains_difference, is_subset_iff, is_disjoint_iff}
-use Rattle.enumset_repr.specs.Laws.Algebra.{intersection_comm, intersection_assoc, intersection_union, intersection_within, union_comm, union_difference}
+use Rattle.enumset_repr.specs.BitSet.{BitSet, is_in, contains, ascending, len, is_empty, empty, insert, remove, union, intersection, difference, is_subset, is_disjoint, is_same}
+use Rattle.enumset_repr.specs.Laws.Members.{members, same_set, contains_empty, contains_union, contains_ascending, contains_intersection, contains_difference, is_subset_iff, is_disjoint_iff, is_disjoint_contains, is_same_iff}
+use Rattle.enumset_repr.specs.Laws.Algebra.{intersection_comm, intersection_assoc, intersection_union, intersection_within, intersection_over_union, is_subset_antisymm, union_comm, union_difference, union_within}
 use Rattle.enumset_repr.specs.Laws.Ascending.{AscendsFrom, ascends_lower, ascending_ascends, ascending_is, len_ascending, len_below, len_empty, len_insert, len_remove, empty_of_len, is_empty_iff}
 
 module _ (p : ℕ → Bool) where
@@ -89,6 +92,17 @@ len_union_same s t = let more = len_union_more s t in let none = none_more s t i
 pub len_subset : (s t : BitSet) → is_subset s t ≡ true → len s ≤ len t
 len_subset s t within = omega (arith, ap len (intersection_within s t within), len_intersection_right s t)
 
+pub len_proper : (s t : BitSet) → is_subset s t ≡ true → is_same s t ≡ false → len s < len t
+len_proper s t within other =
+    let whole : (len t == len s) ≡ is_subset t s = subst (λ u. (len u == len s) ≡ is_subset t s) (union_within s t within) (len_union_same s t) in
+    let back : is_subset t s ≡ false = false_from_ne_true _ (λ yes. true≢false (sym ((is_same_iff s t).1 (is_subset_antisymm s t within yes)) ∙ other)) in
+    let most = len_subset s t within in grind (arith, nat_tests)
+
+pub len_apart : (s t u : BitSet) → is_disjoint t u ≡ true → len (intersection s (union t u)) ≡ len (intersection s t) + len (intersection s u)
+len_apart s t u apart =
+    let none : intersection (intersection s t) (intersection s u) ≡ empty = same_set _ _ (λ q. let each = is_disjoint_contains t u apart q in grind (arith, members)) in
+    omega (arith, ap len (intersection_over_union s t u), len_union (intersection s t) (intersection s u), ap len none, len_empty)
+
 pub len_zero_iff : (s : BitSet) → (len s ≡ 0) ↔ (s ≡ empty)
 len_zero_iff s = (empty_of_len s, λ e. ap len e ∙ len_empty)
 
@@ -120,7 +134,10 @@ len_left s t = sym (left_count s t) ∙ length-filter (λ b. not (contains t b))
 pub len_kept_both : (s t u : BitSet) → len (intersection (intersection s t) u) ≡ count_by (λ b. contains t b && contains u b) (ascending s)
 len_kept_both s t u = ap len (intersection_assoc s t u) ∙ len_kept s (intersection t u) ∙ ap (λ (p : ℕ → Bool). count_by p (ascending s)) (λ i b. contains_intersection t u b i)
 
+pub len_kept_either : (s t u : BitSet) → len (intersection s (union t u)) ≡ count_by (λ b. contains t b || contains u b) (ascending s)
+len_kept_either s t u = len_kept s (union t u) ∙ ap (λ (p : ℕ → Bool). count_by p (ascending s)) (λ i b. contains_union t u b i)
+
 pub length_ascending : (s : BitSet) → length (ascending s) ≡ len s
 length_ascending s = sym (len_ascending s)
 
-pub ruleset counting = (len_empty, len_parts, len_union, len_intersection, len_intersection_right, len_difference, len_subset, len_zero_iff, len_inserted, len_removed, len_below, kept_count, left_count, length_ascending)
+pub ruleset counting = (len_empty, len_parts, len_union, len_intersection, len_intersection_right, len_difference, len_subset, len_proper, len_apart, len_zero_iff, len_inserted, len_removed, len_below, kept_count, left_count, length_ascending)

@@ -1,16 +1,17 @@
 -- The steps of a loop over a set's iterator, whose list of numbers still to come loses its first.
 --     find_next, list_any_next, list_all_next      tests of such a list
+--     all_not_any      all pass exactly if none fails
 --     is_subset_list, is_disjoint_list      a subset and disjoint sets as tests of a list
 -- The ruleset `loops` has what the invariant of such a loop needs, and `searches` what a loop needs that returns the member
 -- that it finds.
-use Rattle.std.proofs.Common.{◌≡◌, ℕ, Bool, true, false, cond, not, ◌&&◌, ◌||◌, List, [], ◌∷◌, Some, refl, arith}
+use Rattle.std.proofs.Common.{◌≡◌, ℕ, Bool, cond, not, ◌&&◌, ◌||◌, List, [], ◌∷◌, Some, refl, arith}
 use Rattle.std.specs.List.{list_any, list_all, find}
 use Rattle.std.proofs.lemmas.Bool.Decides.{nat_tests}
 use Rattle.std.proofs.lemmas.List.Sums.{sum_by-cons}
-use Rattle.enumset_repr.specs.BitSet.{BitSet, contains, ascending, insert, intersection, difference, is_subset, is_disjoint}
-use Rattle.enumset_repr.specs.Laws.Members.{members, same_set}
+use Rattle.enumset_repr.specs.BitSet.{BitSet, contains, ascending, is_subset, is_disjoint}
 use Rattle.enumset_repr.specs.Laws.Algebra.{on_unions, on_differences, on_intersections, on_lists, insert_union, union_insert, insert_inside, difference_inserted}
 use Rattle.enumset_repr.specs.Laws.Counting.{len_kept, len_left}
+use Rattle.enumset_repr.specs.Laws.Sets.{difference_insert, intersection_insert}
 use Rattle.enumset_repr.specs.Laws.Found.{found_tells}
 use Rattle.enumset_repr.specs.Laws.Firsts.{from_list_empty, from_list_next}
 
@@ -22,6 +23,10 @@ list_any_next p b bs = refl
 
 pub list_all_next : (p : ℕ → Bool) (b : ℕ) (bs : List ℕ) → list_all p (b ∷ bs) ≡ (p b && list_all p bs)
 list_all_next p b bs = refl
+
+pub all_not_any : {A : Type 0} (p : A → Bool) (xs : List A) → list_all p xs ≡ not (list_any (λ x. not (p x)) xs)
+all_not_any p [] = refl
+all_not_any p (x ∷ xs) = grind (arith, all_not_any p xs)
 
 pub is_subset_list : (s t : BitSet) → is_subset s t ≡ list_all (contains t) (ascending s)
 unfolding is_subset
@@ -35,14 +40,6 @@ pub is_disjoint_list : (s t : BitSet) → is_disjoint s t ≡ not (list_any (con
 unfolding is_disjoint
 is_disjoint_list s t = not_all (contains t) (ascending s)
 
--- a number of t changes nothing of s outside t
-pub difference_passed : (s t : BitSet) (b : ℕ) → contains t b ≡ true → difference (insert s b) t ≡ difference s t
-difference_passed s t b one = same_set _ _ (λ q. grind (arith, members, nat_tests))
-
--- a number that is not in t changes nothing of s inside t
-pub intersection_passed : (s t : BitSet) (b : ℕ) → contains t b ≡ false → intersection (insert s b) t ≡ intersection s t
-intersection_passed s t b none = same_set _ _ (λ q. grind (arith, members, nat_tests))
-
-pub ruleset loops = (on_unions, on_differences, on_intersections, on_lists, from_list_empty, from_list_next, find_next, list_any_next, list_all_next, is_subset_list, is_disjoint_list, sum_by-cons, len_kept, len_left, insert_union, union_insert, insert_inside, intersection_passed, difference_inserted, difference_passed)
+pub ruleset loops = (on_unions, on_differences, on_intersections, on_lists, from_list_empty, from_list_next, find_next, list_any_next, list_all_next, is_subset_list, is_disjoint_list, sum_by-cons, len_kept, len_left, insert_union, union_insert, insert_inside, intersection_insert, difference_inserted, difference_insert)
 
 pub ruleset searches = (found_tells, find_next, nat_tests)

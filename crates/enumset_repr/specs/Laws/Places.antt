@@ -1,22 +1,25 @@
 -- The places of a set's members in their order, as an iterator passes them.
 --     place, has_place, at_place      where a member stands;  it does, and what stands at a place is a member
---     shared, outside      a member of two sets;  a member of the first that is not in the second
+--     placed_tells      a member stands at its place, and before each greater one
+--     some_passes, some_fails      a test passes, or fails, for some number of a list exactly if it does at some place
 --     some_shared, some_outside      two sets are not disjoint, and one is no subset of the other, exactly if such a
 --         member stands at some place
 --     first_at, find_tells      the first place at which a test passes, and what `find` finds there
 -- The ruleset `chains` has what a proof about `any`, `all`, `find` and a count over a set's iterator needs.
--- `chains_of_two` is for a count by two other sets.
-use Rattle.std.proofs.Common.{◌≡◌, ◌<◌, ℕ, suc, zero, Bool, true, false, cond, List, [], ◌∷◌, Option, Some, None, length, refl, sym, ap, ◌∙◌, arith, true≢false, ◌↔◌}
+-- `chains_of_two` is for a count by two other sets, `tests` for `any`, `all` and `find` with a closure that compares bits.
+use Rattle.std.proofs.Common.{◌≡◌, ◌<◌, ℕ, suc, zero, Bool, true, false, cond, not, List, [], ◌∷◌, Option, Some, None, length, refl, sym, ap, ◌∙◌, arith, true≢false, ◌↔◌}
 use Rattle.std.specs.Prelude.{◌==◌, SomeIndex, slice_index, MatchOption}
-use Rattle.std.specs.List.{slice_index_or, find}
-use Rattle.std.proofs.lemmas.Bool.{false_from_ne_true, not-true, and_parts, or_left, or_right, eq-eqb}
+use Rattle.std.specs.List.{slice_index_or, list_any, list_all, find}
+use Rattle.std.proofs.lemmas.Bool.{not-true, or_left, or_right, eq-eqb}
 use Rattle.std.proofs.lemmas.Bool.Decides.{nat_tests}
-use Rattle.enumset_repr.specs.BitSet.{BitSet, is_in, contains, ascending, intersection, difference, is_subset, is_disjoint}
-use Rattle.enumset_repr.specs.Laws.Members.{members, contains_ascending, contains_intersection, contains_difference, is_subset_contains, is_disjoint_contains, is_disjoint_iff}
-use Rattle.enumset_repr.specs.Laws.Algebra.{intersection_self, difference_none}
-use Rattle.enumset_repr.specs.Laws.Ascending.{empty_of_ascending}
-use Rattle.enumset_repr.specs.Laws.Counting.{len_kept, len_left, len_kept_both, length_ascending}
+use Rattle.std.proofs.lemmas.List.{get_or_default}
+use Rattle.std.proofs.lemmas.List.Folds.{Any-from_list_any, list_any_at}
+use Rattle.enumset_repr.specs.BitSet.{BitSet, is_in, contains, ascending, is_subset, is_disjoint}
+use Rattle.enumset_repr.specs.Laws.Members.{members, contains_ascending}
+use Rattle.enumset_repr.specs.Laws.Ascending.{AscendsFrom, ascending_ascends, is_in_from}
+use Rattle.enumset_repr.specs.Laws.Counting.{len_kept, len_left, len_kept_both, len_kept_either, length_ascending}
 use Rattle.enumset_repr.specs.Laws.Found.{found_tells}
+use Rattle.enumset_repr.specs.Laws.Loops.{all_not_any, is_disjoint_list}
 use Rattle.enumset_repr.specs.Laws.Sets.{len_regrouped}
 
 -- the place of a number in a list
@@ -44,46 +47,43 @@ read_in (suc k) d (x ∷ xs) within = or_right (slice_index_or xs k d == x) _ (r
 pub at_place : (s : BitSet) (k d : ℕ) → k < length (ascending s) → contains s (slice_index_or (ascending s) k d) ≡ true
 at_place s k d within = contains_ascending s _ ∙ read_in k d (ascending s) within
 
--- a number in both sets, if they have one
-unfoldable pub shared : BitSet → BitSet → ℕ
-shared s t = slice_index_or (ascending (intersection s t)) 0 0
+rises : (m j k d : ℕ) (xs : List ℕ) → AscendsFrom m xs → j < k → k < length xs → slice_index_or xs j d < slice_index_or xs k d
+rises m j k d [] ascends less within = absurd (omega (arith, within))
+rises m j zero d (x ∷ xs) ascends less within = absurd (omega (arith, less))
+rises m zero (suc k) d (x ∷ xs) ascends less within = is_in_from (suc x) _ xs ascends.1 (read_in k d xs (omega (arith, within)))
+rises m (suc j) (suc k) d (x ∷ xs) ascends less within = rises (suc x) j k d xs ascends.1 (omega (arith, less)) (omega (arith, within))
 
-pub apart_or_shared : (s t : BitSet) → (is_disjoint s t ≡ is_disjoint s t) × (is_disjoint s t ≡ false → (contains s (shared s t) ≡ true) × (contains t (shared s t) ≡ true))
-unfolding shared
-apart_or_shared s t = (
+-- the first part is always true: it shows the search where to take the law
+pub placed_tells : (s : BitSet) (q : ℕ) → (contains s q ≡ contains s q) × (contains s q ≡ true → (place s q < length (ascending s)) × (slice_index (ascending s) (place s q) ≡ q) × ((k d : ℕ) → k < length (ascending s) → q < slice_index_or (ascending s) k d → place s q < k))
+placed_tells s q = (
   refl,
-  λ both_not.
-      let some : ascending (intersection s t) ≡ [] → ⊥ = λ e. true≢false (sym ((is_disjoint_iff s t).1 (empty_of_ascending _ e)) ∙ both_not) in
-      let here = at_place (intersection s t) 0 0 (not_none (ascending (intersection s t)) some) in
-      let both = sym (contains_intersection s t _) ∙ here in (and_parts _ _ both),
+  λ one.
+      let here = (has_place s q).1 one in
+      (here.0, here.1 0, λ k d within less. let same = here.1 d in let rise = rises 0 k (place s q) d (ascending s) (ascending_ascends s) in grind (arith, nat_tests)),
 )
-  where
-    not_none : (xs : List ℕ) → (xs ≡ [] → ⊥) → 0 < length xs
-    not_none [] none = absurd (none refl)
-    not_none (x ∷ xs) none = omega arith
+
+-- ---- tests of the numbers of a list
+
+pub some_passes : (p : ℕ → Bool) (xs : List ℕ) → (list_any p xs ≡ true) ↔ SomeIndex xs (λ k. p (slice_index xs k) ≡ true)
+some_passes p xs = (
+  λ one. let at = Any-from_list_any p xs one in (at.0, at.2, ap p (sym (get_or_default xs at.0 at.1 0 at.2) ∙ at.3) ∙ at.4),
+  λ some. list_any_at p xs some.0 0 some.1 some.2,
+)
+
+pub some_fails : (p : ℕ → Bool) (xs : List ℕ) → (list_all p xs ≡ false) ↔ SomeIndex xs (λ k. p (slice_index xs k) ≡ false)
+some_fails p xs = (
+  λ none. let some = (some_passes (λ b. not (p b)) xs).0 (grind (arith, all_not_any p xs)) in (some.0, some.1, not-true _ some.2),
+  λ some. let one = list_any_at (λ b. not (p b)) xs some.0 0 some.1 (ap not some.2) in grind (arith, all_not_any p xs),
+)
 
 pub some_shared : (s t : BitSet) → (is_disjoint s t ≡ false) ↔ SomeIndex (ascending s) (λ k. contains t (slice_index (ascending s) k) ≡ true)
-some_shared s t = (
-  λ isnt. let one = (apart_or_shared s t).1 isnt in let at = (has_place s (shared s t)).1 one.0 in (place s (shared s t), at.0, ap (contains t) (at.1 0) ∙ one.1),
-  λ some. false_from_ne_true _ (λ apart. true≢false (sym some.2 ∙ is_disjoint_contains s t apart _ (at_place s some.0 0 some.1))),
-)
-
-unfoldable pub outside : BitSet → BitSet → ℕ
-outside s t = shared (difference s t) (difference s t)
-
-pub within_or_outside : (s t : BitSet) → is_subset s t ≡ false → (contains s (outside s t) ≡ true) × (contains t (outside s t) ≡ false)
-unfolding outside
-within_or_outside s t isnt =
-    let d = difference s t in
-    let apart : is_disjoint d d ≡ false = false_from_ne_true _ (λ yes. true≢false (sym (difference_none s t (sym (intersection_self d) ∙ (is_disjoint_iff d d).0 yes)) ∙ isnt)) in
-    let parts = and_parts _ _ (sym (contains_difference s t _) ∙ ((apart_or_shared d d).1 apart).0) in
-    (parts.0, not-true _ parts.1)
+some_shared s t =
+    let some = some_passes (contains t) (ascending s) in
+    (λ none. some.0 (grind (arith, is_disjoint_list s t)), λ at. let one = some.1 at in grind (arith, is_disjoint_list s t))
 
 pub some_outside : (s t : BitSet) → (is_subset s t ≡ false) ↔ SomeIndex (ascending s) (λ k. contains t (slice_index (ascending s) k) ≡ false)
-some_outside s t = (
-  λ isnt. let one = within_or_outside s t isnt in let at = (has_place s (outside s t)).1 one.0 in (place s (outside s t), at.0, ap (contains t) (at.1 0) ∙ one.1),
-  λ some. false_from_ne_true _ (λ within. true≢false (sym (is_subset_contains s t within _ (at_place s some.0 0 some.1)) ∙ some.2)),
-)
+unfolding is_subset
+some_outside s t = some_fails (contains t) (ascending s)
 
 unfoldable pub first_at : (ℕ → Bool) → List ℕ → ℕ
 first_at p [] = 0
@@ -109,5 +109,7 @@ find_tells p xs = (refl, find-found p xs)
 
 pub ruleset chains = (some_shared, some_outside, find_tells, found_tells, len_kept, len_left, len_regrouped, length_ascending)
 
--- What a count over a closure with `&&` needs, of members in two other sets: with the laws of `chains` the search gives up.
-pub ruleset chains_of_two = (len_kept_both, members)
+-- What a count over a closure with `&&` or `||` needs, of members in two other sets: with the laws of `chains` the search gives up.
+pub ruleset chains_of_two = (len_kept_both, len_kept_either, members)
+
+pub ruleset tests = (at_place, placed_tells, some_passes, some_fails)

@@ -5,19 +5,18 @@
 --     difference_parts, parts_apart, symmetric_parts      the parts of s outside t and inside t;  a symmetric difference
 --     difference_shared      s without what it shares with t
 --     union_covers      a union with a subset changes nothing
---     difference_over_.., intersection_over_symmetric_difference      one operation over another
---     is_subset_.._iff, is_disjoint_difference_iff      subsets and disjoint sets by an equation
+--     difference_over_..      one operation over another
 --     is_disjoint_union, is_disjoint_part      a set apart from a union is apart from both, and so are its parts
+--     is_subset_union      a union is a part exactly if both are
 --     len_symmetric_difference      how many members are in exactly one of two sets
 --     len_regrouped      how many members are in all of three sets, grouped the other way
---     union_least, intersection_greatest      the least set above two, and the greatest below two
 --     complement_..      the difference of a set v and a set with members outside v
-use Rattle.std.proofs.Common.{◌≡◌, ◌+◌, ◌*◌, ℕ, true, false, ◌&&◌, ap, ◌∙◌, subst, arith, ◌↔◌}
+use Rattle.std.proofs.Common.{◌≡◌, ◌+◌, ◌*◌, ℕ, true, false, ◌&&◌, ap, ◌∙◌, arith}
 use Rattle.std.proofs.lemmas.Bool.{and_parts, and_from}
 use Rattle.std.proofs.lemmas.Bool.Decides.{nat_tests, same_from_decides}
 use Rattle.enumset_repr.specs.BitSet.{BitSet, contains, len, empty, insert, remove, union, intersection, difference, symmetric_difference, is_subset, is_disjoint}
 use Rattle.enumset_repr.specs.Laws.Members.{members, same_set, is_subset_contains, contains_is_subset, contains_is_disjoint, is_disjoint_contains}
-use Rattle.enumset_repr.specs.Laws.Algebra.{union_comm, union_left, union_within, intersection_assoc, intersection_right, intersection_within, difference_apart, is_disjoint_comm, is_disjoint_difference}
+use Rattle.enumset_repr.specs.Laws.Algebra.{union_comm, union_within, intersection_assoc, is_disjoint_comm}
 use Rattle.enumset_repr.specs.Laws.Counting.{len_parts, len_union}
 
 -- ---- one number
@@ -51,9 +50,6 @@ difference_over_union s t u = same_set _ _ (λ q. grind (arith, members))
 pub difference_over_intersection : (s t u : BitSet) → difference (intersection s t) u ≡ intersection (difference s u) (difference t u)
 difference_over_intersection s t u = same_set _ _ (λ q. grind (arith, members))
 
-pub intersection_over_symmetric_difference : (s t u : BitSet) → intersection s (symmetric_difference t u) ≡ symmetric_difference (intersection s t) (intersection s u)
-intersection_over_symmetric_difference s t u = same_set _ _ (λ q. grind (arith, members))
-
 pub parts_apart : (s t : BitSet) → is_disjoint (difference s t) (intersection s t) ≡ true
 parts_apart s t = contains_is_disjoint _ _ (λ q one. grind (arith, members))
 
@@ -84,23 +80,17 @@ is_disjoint_union s t u = same_from_decides _ _ (
   λ both. contains_is_disjoint s (union t u) (λ q one. let a = is_disjoint_contains s t both.0 q in let b = is_disjoint_contains s u both.1 q in grind (arith, members)),
 ) (and_parts _ _, λ both. and_from _ _ both.0 both.1)
 
+pub is_subset_union : (s t u : BitSet) → is_subset (union s t) u ≡ (is_subset s u && is_subset t u)
+is_subset_union s t u = same_from_decides _ _ (
+  λ within. (
+    contains_is_subset s u (λ q one. let each = is_subset_contains (union s t) u within q in grind (arith, members)),
+    contains_is_subset t u (λ q one. let each = is_subset_contains (union s t) u within q in grind (arith, members)),
+  ),
+  λ both. contains_is_subset (union s t) u (λ q one. let a = is_subset_contains s u both.0 q in let b = is_subset_contains t u both.1 q in grind (arith, members)),
+) (and_parts _ _, λ both. and_from _ _ both.0 both.1)
+
 pub is_disjoint_part : (s t u : BitSet) → is_disjoint s u ≡ true → is_disjoint (difference s t) u ≡ true
 is_disjoint_part s t u apart = contains_is_disjoint _ u (λ q one. let none = is_disjoint_contains s u apart q in grind (arith, members))
-
-pub is_subset_union_iff : (s t : BitSet) → (is_subset s t ≡ true) ↔ (union s t ≡ t)
-is_subset_union_iff s t = (union_within s t, λ same. subst (λ u. is_subset s u ≡ true) same (union_left s t))
-
-pub is_subset_intersection_iff : (s t : BitSet) → (is_subset s t ≡ true) ↔ (intersection s t ≡ s)
-is_subset_intersection_iff s t = (intersection_within s t, λ same. subst (λ u. is_subset u t ≡ true) same (intersection_right s t))
-
-pub is_disjoint_difference_iff : (s t : BitSet) → (is_disjoint s t ≡ true) ↔ (difference s t ≡ s)
-is_disjoint_difference_iff s t = (difference_apart s t, λ same. subst (λ u. is_disjoint u t ≡ true) same (is_disjoint_difference s t))
-
-pub union_least : (s t u : BitSet) → is_subset s u ≡ true → is_subset t u ≡ true → is_subset (union s t) u ≡ true
-union_least s t u first second = contains_is_subset _ _ (λ q one. let a = is_subset_contains s u first q in let b = is_subset_contains t u second q in grind (arith, members))
-
-pub intersection_greatest : (s t u : BitSet) → is_subset u s ≡ true → is_subset u t ≡ true → is_subset u (intersection s t) ≡ true
-intersection_greatest s t u first second = contains_is_subset _ _ (λ q one. let a = is_subset_contains u s first q in let b = is_subset_contains u t second q in grind (arith, members))
 
 -- ---- complements within a set v
 
@@ -125,4 +115,4 @@ difference_remove_all s t u within = same_set _ _ (λ q. let each = is_subset_co
 pub ruleset in_parts = (difference_insert, difference_remove, intersection_insert, intersection_remove, difference_parts, difference_shared, symmetric_parts, difference_over_union, difference_over_intersection, complement_of_complement, complement_outside)
 
 -- What a proof about parts that share no member, and their counts, needs beside `in_parts`.
-pub ruleset apart = (union_covers, parts_apart, parts_apart_back, is_disjoint_union, is_disjoint_part, len_symmetric_difference)
+pub ruleset apart = (union_covers, parts_apart, parts_apart_back, is_disjoint_union, is_subset_union, is_disjoint_part, len_symmetric_difference)

@@ -14,6 +14,7 @@ use Rattle.std.proofs.lemmas.Bool.Decides.{same_from_decides}
 use Rattle.enumset_repr.specs.BitSet.{BitSet, is_in, contains, union, intersection, from_list}
 use Rattle.enumset_repr.specs.Laws.Members.{members, same_set, contains_from_list, contains_empty, contains_union}
 use Rattle.enumset_repr.specs.Laws.Algebra.{union_empty, union_assoc}
+use Rattle.enumset_repr.specs.Laws.Loops.{all_not_any}
 use Rattle.enumset_sets.specs.Folds.{union_all, intersection_all}
 
 pub contains_intersection_all : (s : BitSet) (ts : List BitSet) (q : ℕ) → contains (intersection_all s ts) q ≡ (contains s q && list_all (λ t. contains t q) ts)
@@ -68,10 +69,6 @@ from_list_same f xs ys same = same_set _ _ (λ q.
 
 pub union_all_same : (ss ts : List BitSet) → ((s : BitSet) → Contains ss s ↔ Contains ts s) → union_all ss ≡ union_all ts
 union_all_same ss ts same = same_set _ _ (λ q. contains_union_all ss q ∙ any_same (λ s. contains s q) ss ts same ∙ sym (contains_union_all ts q))
-
-all_not_any : {A : Type 0} (p : A → Bool) (xs : List A) → list_all p xs ≡ not (list_any (λ x. not (p x)) xs)
-all_not_any p [] = refl
-all_not_any p (x ∷ xs) = grind (arith, all_not_any p xs)
 
 pub intersection_all_same : (s : BitSet) (ts us : List BitSet) → ((t : BitSet) → Contains ts t ↔ Contains us t) → intersection_all s ts ≡ intersection_all s us
 intersection_all_same s ts us same = same_set _ _ (λ q.
