@@ -49,6 +49,7 @@ pub fn greatest_bit<R: EnumSetTypeRepr>(repr: &R) -> Option<u32>
 }
 
 /// The least member in the words from place `from` on, or `None` if there is none.
+#[inline(always)]
 fn least_bit_from_word<R: EnumSetTypeRepr>(repr: &R, from: usize) -> Option<u32>
     ensures { result ≡ least (set.difference (R.members repr.now) (set.below (64 * from))) }
 {
