@@ -104,6 +104,7 @@ pub fn keep_allowed<T: EnumSetType>(granted: &mut EnumSet<T>, denied: &EnumSet<T
 }
 
 /// Grants more rights, and returns whether one of them is new. If none is, nothing changes.
+#[tactic(auto, using(enumset_repr::specs::Laws::Algebra::algebra))]
 pub fn gain<T: EnumSetType>(granted: &mut EnumSet<T>, more: &EnumSet<T>) -> bool
     ensures settled { result ≡ false → set.is_subset more.now granted.old ≡ true }
     ensures same { result ≡ false → granted.new ≡ granted.old }
