@@ -43,21 +43,20 @@ pub(super) fn plain_words<R: EnumSetTypeRepr>(text: &str) -> Option<(R, bool)>
         × (R.members found.0 ≡ low (bits_of ws) R.WIDTH)
         × (found.1 ≡ is_subset (bits_of ws) (below R.WIDTH))) }
 {
-    let rest = after_byte(text.as_bytes(), b'[')?;
+    let mut left = after_byte(text.as_bytes(), b'[')?;
     let mut repr = R::EMPTY;
     let mut is_whole = true;
-    if let Some(end) = after_byte(rest, b']') {
+    if let Some(end) = after_byte(left, b']') {
         return are_spaces(end).then_some((repr, is_whole));
     }
-    let (_, mut left) = split_spaces(rest);
     for place in 0..text.len() {
-        let (word, rest) = split_number(left)?;
+        let (_, digits) = split_spaces(left);
+        let (word, rest) = split_number(digits)?;
         is_whole &= take_word(&mut repr, place, word);
         if let Some(end) = after_byte(rest, b']') {
             return are_spaces(end).then_some((repr, is_whole));
         }
-        let (_, next) = split_spaces(after_byte(rest, b',')?);
-        left = next;
+        left = after_byte(rest, b',')?;
     }
     None
 }
