@@ -1,4 +1,4 @@
-use Rattle.std.proofs.Common.{◌≡◌, ◌<◌, ◌+◌, ◌*◌, ◌^◌, ◌++◌, ◌∷◌, decimal, drop, sym, ap, ◌∙◌, arith, rules}
+use Rattle.std.proofs.Common.{◌≡◌, ◌<◌, ◌+◌, ◌*◌, ◌^◌, ◌++◌, ◌∷◌, decimal, sym, ap, ◌∙◌, arith, rules}
 use Rattle.enumset.proofs.NumberScans.{Scanned, first_digit, one_more_digit, scanned_pair}
 use Rattle.enumset.proofs.set_json.plain_numbers.split_number.Goals.{In-Some-Some}
 use Rattle.enumset.proofs.set_json.plain_numbers.split_number.Goals as goal
