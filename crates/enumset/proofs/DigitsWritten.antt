@@ -25,7 +25,7 @@ are_pairs (suc n) = is_pair n && are_pairs n
 pub pairs_are : (p : ℕ) → p < 100 → IsPair p
 pairs_are p small = (Decides-below_and is_pair IsPair are_pairs (λ k. Decides-and _ _ (Decides-eqb _ _) (Decides-eqb _ _)) refl (λ n. refl) 100).0 refl p small
 
-two_digits : (n : ℕ) → 10 ≤ n → n < 100 → decimal n ≡ pair n
+pub two_digits : (n : ℕ) → 10 ≤ n → n < 100 → decimal n ≡ pair n
 two_digits n some small = rw (decimal_step n some (omega arith), decimal_digit (n / 10) (omega arith))
 
 pub last_two : (n : ℕ) → 100 ≤ n → n < 2 ^ 64 → decimal n ≡ decimal (n / 100) ++ pair (n % 100)
@@ -46,8 +46,6 @@ last_four n some fits =
     let c : n % 10000 % 100 ≡ n % 100 = omega arith in
     rw (last_two n (omega arith) fits, last_two (n / 100) (omega arith) (omega arith), append_assoc, a, b, c)
 
--- ---- writing
-
 -- what is written after what was written before
 after : (front xs ys all one two : List ℕ) → all ≡ xs ++ ys → one ≡ front ++ xs → two ≡ one ++ ys → two ≡ front ++ all
 after front xs ys all one two is first then = then ∙ ap (λ l. l ++ ys) first ∙ append_assoc front xs ys ∙ ap (λ l. front ++ l) (sym is)
@@ -57,9 +55,6 @@ put_digit row at n small inside = take_more_set row at (48 + n) inside ∙ ap (�
 
 pub put_both : (row : List ℕ) (at p : ℕ) → at + 2 ≤ length row → take (at + 2) (set (set row at (48 + p / 10)) (at + 1) (48 + p % 10)) ≡ take at row ++ pair p
 put_both row at p inside = grind (arith, common_steps)
-
-pub put_two : (row one : List ℕ) (at n : ℕ) → 10 ≤ n → n < 100 → take (at + 2) one ≡ take at row ++ pair n → take (at + 2) one ≡ take at row ++ decimal n
-put_two row one at n some small is = rw (two_digits n some small) is
 
 pub put_three : (row one : List ℕ) (at n : ℕ) → 100 ≤ n → n < 1000 → at < length row
     → take (at + 1 + 2) one ≡ take (at + 1) (set row at (48 + n / 100)) ++ pair (n % 100) → take (at + 3) one ≡ take at row ++ decimal n
@@ -85,4 +80,4 @@ put_last_eight row one two three at next n some fits first then last =
     let e : next + 4 + 4 ≡ next + 8 = omega arith in
     rw (← e) (put_last_four row two three at (next + 4) n (omega arith) fits (put_last_four row one two at next (n / 10000) (omega arith) (omega arith) (rw a at first) then) last)
 
-pub ruleset digit_laws = (pairs_are, put_digit, put_both, put_two, put_three, put_all_four, put_pairs, put_last_four, put_last_eight, IsUtf8-from_ascii)
+pub ruleset digit_laws = (pairs_are, two_digits, put_digit, put_both, put_three, put_all_four, put_pairs, put_last_four, put_last_eight, IsUtf8-from_ascii)

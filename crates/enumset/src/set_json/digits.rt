@@ -23,8 +23,7 @@ pub(super) fn ascii_text(bytes: Vec<u8>) -> String
     unsafe { String::from_utf8_unchecked(bytes) }
 }
 
-// Appends the digits of a number. They are written where they stay, over room for the most digits that there can be. In a
-// loop each division would wait for the one before it.
+// Appends a number's digits, over room for twenty. In a loop each division would wait for the one before it.
 #[inline(always)]
 pub(super) fn push_digits(bytes: &mut Vec<u8>, number: u64) -> Result<(), AllocError>
     ensures { OnOk result (bytes.new.items ≡ bytes.old.items ++ decimal number) }

@@ -1,7 +1,6 @@
 //! JSON texts of whole numbers, written and read digit by digit, without a tree of values.
 
-ghost use Rattle.std.specs.Prelude.{◌≡◌, ◌<◌, ◌≤◌, ◌+◌, ◌/◌, ◌%◌, ◌^◌, ◌++◌, ℕ, decimal, length, slice_index};
-ghost use Rattle.std.specs.Prelude.{IfOk, IfSome, Some, string_bytes};
+ghost use Rattle.std.specs.Prelude.{◌≡◌, ◌<◌, ◌+◌, ◌^◌, ◌++◌, ℕ, decimal, IfOk, IfSome, Some, string_bytes};
 ghost use Rattle.serde_json.specs.Read.{read};
 ghost use Rattle.serde_json.specs.View.{view};
 ghost use Rattle.enumset.specs.Json.{number_value};
@@ -66,5 +65,6 @@ pub(super) fn split_number(bytes: &[u8]) -> Option<(u64, &[u8])>
 fn digit_of(byte: u8) -> Option<u64>
     ensures { IfSome result (λ digit. (digit < 10) × (byte ≡ 48 + digit)) }
 {
-    byte.is_ascii_digit().then_some(byte.wrapping_sub(b'0') as u64)
+    byte.is_ascii_digit()
+        .then_some(byte.wrapping_sub(b'0') as u64)
 }

@@ -1,10 +1,10 @@
 //! JSON texts of arrays of words, written and read without a tree of values.
 
-ghost use Rattle.std.specs.Prelude.{◌≡◌, ◌++◌, ℕ, List, IfOk, IfSome, OnOk, Some, decimal, string_bytes};
+ghost use Rattle.std.specs.Prelude.{◌≡◌, ℕ, List, IfOk, IfSome, Some, string_bytes};
 ghost use Rattle.enumset_repr.specs.BitSet.{low, is_subset, below};
 ghost use Rattle.enumset_repr.specs.Words.{words, bits_of};
 ghost use Rattle.serde_json.specs.Read.{read};
-ghost use Rattle.serde_json.specs.Written.{compact_text, comma_if};
+ghost use Rattle.serde_json.specs.Written.{compact_text};
 ghost use Rattle.enumset.specs.Json.{words_value};
 
 use super::digits::{ascii_text, push_digits};
