@@ -23,7 +23,7 @@ module _ (text : List ℕ) (width : ℕ) where
   abbrev pub GoesOn : List ℕ → ℕ → BitSet → Bool → Type 0
   GoesOn left place s is_whole =
       (ws : List ℕ) × (length ws ≡ place) × AreRead ws place width s is_whole
-      × ((more : List ℕ) → IsNumberFirst left → read (91 ∷ left) ≡ Some (words_value more) → read text ≡ Some (words_value (ws ++ more)))
+      × ((g digits more : List ℕ) → AreSpaces g → left ≡ g ++ digits → IsNumberFirst digits → read (91 ∷ digits) ≡ Some (words_value more) → read text ≡ Some (words_value (ws ++ more)))
 
   -- the array was read
   abbrev pub IsRead : BitSet → Bool → Type 0
@@ -35,15 +35,16 @@ module _ (text : List ℕ) (width : ℕ) where
       let all = all_read [] 0 width s true (subst (λ s. AreRead [] 0 width s true) (sym none) (none_read [] width)) (omega arith) in
       ([], ap read (is ∙ ap (λ r. f ++ 91 ∷ r) here) ∙ no_strings f g end fs gs hs, all.0, all.1)
 
-  pub goes_on_from : (rest g left : List ℕ) (s : BitSet) → Passed text 91 rest → AreSpaces g → rest ≡ g ++ left → s ≡ empty → GoesOn left 0 s true
-  goes_on_from rest g left s (f, fs, is) gs here none = (
+  pub goes_on_from : (rest : List ℕ) (s : BitSet) → Passed text 91 rest → s ≡ empty → GoesOn rest 0 s true
+  goes_on_from rest s (f, fs, is) none = (
     [],
     refl,
     subst (λ s. AreRead [] 0 width s true) (sym none) (none_read [] width),
-    λ more first e. ap read (is ∙ ap (λ r. f ++ 91 ∷ r) here) ∙ first_number f g left fs gs ∙ e,
+    λ g digits more gs here first e. ap read (is ∙ ap (λ r. f ++ 91 ∷ r) here) ∙ first_number f g digits fs gs ∙ e,
   )
 
-  module _ (left rest : List ℕ) (place n x : ℕ) (s r : BitSet) (is_whole kept : Bool) (so_far : GoesOn left place s is_whole) (count : n ≡ (width + 63) / 64) (fits : x < 2 ^ 64) (split : left ≡ decimal x ++ rest)
+  module _ (left g digits rest : List ℕ) (place n x : ℕ) (s r : BitSet) (is_whole kept : Bool) (so_far : GoesOn left place s is_whole) (gs : AreSpaces g) (begin : left ≡ g ++ digits)
+      (count : n ≡ (width + 63) / 64) (fits : x < 2 ^ 64) (split : digits ≡ decimal x ++ rest)
       (made : r ≡ (if nat_lt place n then with_word s width place x else s)) (whole : kept ≡ (is_whole && (word r place == x))) where
     abbrev done : List ℕ
     done = so_far.0 ++ x ∷ []
@@ -54,23 +55,23 @@ module _ (text : List ℕ) (width : ℕ) where
         let here : x ≡ slice_index done place = sym (get_or-append_seam so_far.0 x [] 0) ∙ ap (λ w. slice_index done w) so_far.1 in
         taken done place width s is_whole (same_before so_far.0 place width s is_whole so_far.2 done same) n x r kept count here fits made whole
 
-    pub goes_on : (after g next : List ℕ) → Passed rest 44 after → AreSpaces g → after ≡ g ++ next → GoesOn next (place + 1) r kept
-    goes_on after g next (f, fs, is) gs here = (
+    pub goes_on : (after : List ℕ) → Passed rest 44 after → GoesOn after (place + 1) r kept
+    goes_on after (f, fs, is) = (
       done,
       omega (arith, length-append so_far.0 (x ∷ []), so_far.1),
       one_more,
-      λ more first e.
+      λ h next more hs here first e.
           let all = split ∙ ap (λ t. decimal x ++ t) (is ∙ ap (λ t. f ++ 44 ∷ t) here) in
-          so_far.3 (x ∷ more) (subst IsNumberFirst (sym all) (before_stop x f (44 ∷ (g ++ next)) fits fs (comma_stops (g ++ next)))) (ap (λ l. read (91 ∷ l)) all ∙ next_number x f g next _ fits fs gs first e)
+          so_far.3 g digits (x ∷ more) gs begin (subst IsNumberFirst (sym all) (before_stop x f (44 ∷ (h ++ next)) fits fs (comma_stops (h ++ next)))) (ap (λ l. read (91 ∷ l)) all ∙ next_number x f h next _ fits fs hs first e)
           ∙ ap (λ ws. Some (words_value ws)) (sym (append_assoc so_far.0 (x ∷ []) more)),
     )
 
     pub ends : (end : List ℕ) → Passed rest 93 end → AreSpaces end → IsRead r kept
-    ends end (f, fs, is) gs =
+    ends end (f, fs, is) hs =
         let text = split ∙ ap (λ t. decimal x ++ t) is in
         let all = all_read done (place + 1) width r kept one_more (omega (arith, length-append so_far.0 (x ∷ []), so_far.1)) in (
           done,
-          so_far.3 (x ∷ []) (subst IsNumberFirst (sym text) (before_stop x f (93 ∷ end) fits fs (bracket_stops end))) (ap (λ l. read (91 ∷ l)) text ∙ last_number x f end fits fs gs),
+          so_far.3 g digits (x ∷ []) gs begin (subst IsNumberFirst (sym text) (before_stop x f (93 ∷ end) fits fs (bracket_stops end))) (ap (λ l. read (91 ∷ l)) text ∙ last_number x f end fits fs hs),
           all.0,
           all.1,
         )

@@ -1,5 +1,5 @@
 -- The text of an array of words, word by word.
-use Rattle.std.proofs.Common.{◌≡◌, ◌<◌, ◌^◌, ℕ, suc, List, [], ◌∷◌, ◌++◌, Some, map, length, decimal, refl, sym, ap, subst, ◌+◌, ◌∙◌, append_assoc, append-nil, arith}
+use Rattle.std.proofs.Common.{◌≡◌, ◌<◌, ◌^◌, ℕ, List, [], ◌∷◌, ◌++◌, Some, map, decimal, refl, sym, ap, subst, ◌+◌, ◌∙◌, append_assoc, append-nil, arith}
 use Rattle.std.specs.Prelude.{Bool, true, false, nat_lt, ⊤}
 use Rattle.std.proofs.lemmas.Bool.{lt-ltb}
 use Rattle.std.specs.Str.{IsAscii}
@@ -11,67 +11,44 @@ use Rattle.serde_json.specs.View.{items_of}
 use Rattle.serde_json.specs.Written.{compact_text, items_text, comma_if}
 use Rattle.enumset_repr.specs.BitSet.{BitSet}
 use Rattle.enumset_repr.specs.Words.{word, words}
-use Rattle.enumset_repr.specs.Laws.WordLists.{words_none, words_more, length_words, word_small}
+use Rattle.enumset_repr.specs.Laws.WordLists.{words_none, words_more, word_small}
 use Rattle.enumset.specs.Json.{number_value, words_value}
 use Rattle.enumset.proofs.JsonDigits.{Ends}
 use Rattle.enumset.proofs.JsonNumbers.{next_number, last_number}
 use Rattle.enumset.proofs.JsonSteps.{empty_list}
 
--- ---- the text so far
-
--- words after the first
-abbrev further : List ℕ → List ℕ
-further [] = []
-further (n ∷ ns) = 44 ∷ (decimal n ++ further ns)
-
-abbrev pub begun : List ℕ → List ℕ
-begun [] = 91 ∷ []
-begun (n ∷ ns) = 91 ∷ (decimal n ++ further ns)
-
-further_more : (ns : List ℕ) (n : ℕ) → further (ns ++ n ∷ []) ≡ further ns ++ 44 ∷ decimal n
-further_more [] n = ap (λ l. 44 ∷ l) (append-nil (decimal n))
-further_more (m ∷ ns) n = ap (λ l. 44 ∷ (decimal m ++ l)) (further_more ns n) ∙ ap (λ l. 44 ∷ l) (sym (append_assoc (decimal m) (further ns) (44 ∷ decimal n)))
-
-begun_more : (ns : List ℕ) (n : ℕ) → begun (ns ++ n ∷ []) ≡ begun ns ++ (comma_if (nat_lt 0 (length ns)) ++ decimal n)
-begun_more [] n = ap (λ l. 91 ∷ l) (append-nil (decimal n))
-begun_more (m ∷ ns) n =
-    ap (λ l. 91 ∷ (decimal m ++ l)) (further_more ns n) ∙ ap (λ l. 91 ∷ l) (sym (append_assoc (decimal m) (further ns) (44 ∷ decimal n)))
-    ∙ ap (λ later. begun (m ∷ ns) ++ (comma_if later ++ decimal n)) (sym (lt-ltb 0 (suc (length ns)) (omega arith)))
-
-further_text : (ns : List ℕ) → items_text true (items_of (map number_value ns)) ≡ further ns ++ 93 ∷ []
-further_text [] = refl
-further_text (n ∷ ns) = ap (λ l. 44 ∷ (decimal n ++ l)) (further_text ns) ∙ ap (λ l. 44 ∷ l) (sym (append_assoc (decimal n) (further ns) (93 ∷ [])))
-
-closed : (ns : List ℕ) → begun ns ++ 93 ∷ [] ≡ compact_text (words_value ns)
-closed [] = refl
-closed (n ∷ ns) = ap (λ l. 91 ∷ l) (append_assoc (decimal n) (further ns) (93 ∷ []) ∙ ap (λ l. decimal n ++ l) (sym (further_text ns)))
-
 -- ---- the words of a set
 
 module _ (s : BitSet) where
-  -- the bytes are the first words
+  -- the bytes are the first words, whatever words come after them
   abbrev pub AreWords : List ℕ → ℕ → Type 0
-  AreWords bytes i = (bytes ≡ begun (words s i)) × IsAscii bytes
+  AreWords bytes i = ((more : List ℕ) → bytes ++ items_text (nat_lt 0 i) (items_of (map number_value more)) ≡ compact_text (words_value (words s i ++ more))) × IsAscii bytes
 
   pub none_written : (bytes : List ℕ) → bytes ≡ 91 ∷ [] → AreWords bytes 0
-  none_written bytes is = (is ∙ ap begun (sym (words_none s)), subst IsAscii (sym is) (IsAscii-cons 91 [] (omega arith) IsAscii-nil))
+  none_written bytes is = (
+    λ more. (λ j. is j ++ items_text false (items_of (map number_value more))) ∙ ap (λ ws. compact_text (words_value (ws ++ more))) (sym (words_none s)),
+    subst IsAscii (sym is) (IsAscii-cons 91 [] (omega arith) IsAscii-nil),
+  )
 
   pub one_written : (old new : List ℕ) (i n : ℕ) → AreWords old i → n ≡ word s i → new ≡ old ++ (comma_if (nat_lt 0 i) ++ decimal n) → AreWords new (i + 1)
   one_written old new i n so_far is put = (
-    put ∙ (λ j. so_far.0 j ++ (comma_if (nat_lt 0 (count j)) ++ decimal (is j))) ∙ sym (ap begun (words_more s i) ∙ begun_more (words s i) (word s i)),
+    λ more.
+        let later : nat_lt 0 (i + 1) ≡ true = lt-ltb 0 (i + 1) (omega arith) in
+        (λ j. put j ++ items_text (later j) (items_of (map number_value more)))
+        ∙ append_assoc old (comma_if (nat_lt 0 i) ++ decimal n) (items_text true (items_of (map number_value more)))
+        ∙ ap (λ l. old ++ l) (append_assoc (comma_if (nat_lt 0 i)) (decimal n) (items_text true (items_of (map number_value more))))
+        ∙ so_far.0 (n ∷ more)
+        ∙ ap (λ ws. compact_text (words_value ws)) (sym (append_assoc (words s i) (n ∷ []) more) ∙ ap (λ ws. ws ++ more) ((λ j. words s i ++ is j ∷ []) ∙ sym (words_more s i))),
     subst IsAscii (sym put) (IsAscii-append old _ so_far.1 (IsAscii-append _ (decimal n) (comma (nat_lt 0 i)) (IsAscii-decimal n (subst (λ n. n < 2 ^ 64) (sym is) (word_small s i))))),
   )
     where
-      count : i ≡ length (words s i)
-      count = sym (length_words s i)
-
       comma : (later : Bool) → IsAscii (comma_if later)
       comma true = IsAscii-cons 44 [] (omega arith) IsAscii-nil
       comma false = IsAscii-nil
 
   pub all_written : (old new : List ℕ) (i n : ℕ) → AreWords old i → i ≡ n → new ≡ old ++ 93 ∷ [] → (new ≡ compact_text (words_value (words s n))) × IsAscii new
   all_written old new i n so_far all put = (
-    put ∙ ap (λ l. l ++ 93 ∷ []) (so_far.0 ∙ ap (λ i. begun (words s i)) all) ∙ closed (words s n),
+    put ∙ so_far.0 [] ∙ ap (λ ws. compact_text (words_value ws)) (append-nil (words s i) ∙ ap (λ i. words s i) all),
     subst IsAscii (sym put) (IsAscii-append old _ so_far.1 (IsAscii-cons 93 [] (omega arith) IsAscii-nil)),
   )
 

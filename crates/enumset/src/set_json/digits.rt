@@ -1,7 +1,7 @@
 //! The digits of numbers, as they are written.
 #![tactic(auto, using(crate::proofs::DigitsWritten::digit_laws))]
 
-ghost use Rattle.std.specs.Prelude.{◌≡◌, ◌+◌, ◌/◌, ◌%◌, ◌<◌, ◌≤◌, ◌∷◌, [], ◌++◌, decimal, take, drop};
+ghost use Rattle.std.specs.Prelude.{◌≡◌, ◌+◌, ◌/◌, ◌%◌, ◌<◌, ◌≤◌, ◌∷◌, [], ◌++◌, decimal, take};
 ghost use Rattle.std.specs.Prelude.{length, string_bytes, IsAscii, OnOk};
 
 use std::alloc::AllocError;
@@ -23,45 +23,41 @@ pub(super) fn ascii_text(bytes: Vec<u8>) -> String
     unsafe { String::from_utf8_unchecked(bytes) }
 }
 
-// Appends the digits of a number. They are written where they stay, over room for the most digits that there can be.
+// Appends a number's digits, over room for twenty. In a loop each division would wait for the one before it.
 #[inline(always)]
 pub(super) fn push_digits(bytes: &mut Vec<u8>, number: u64) -> Result<(), AllocError>
     ensures { OnOk result (bytes.new.items ≡ bytes.old.items ++ decimal number) }
 {
     let begin = bytes.len();
     bytes.extend_from_slice(&[b'0'; 20])?;
-    let end = put_digits(bytes.as_mut_slice(), begin, number);
-    bytes.truncate(end);
+    let row = bytes.as_mut_slice();
+    if number < 1000000000000 {
+        let end = put_twelve(row, begin, number);
+        bytes.truncate(end);
+        return Ok(());
+    }
+    let next = put_twelve(row, begin, number / 100000000);
+    put_four(row, next, number / 10000 % 10000);
+    put_four(row, next + 4, number % 10000);
+    bytes.truncate(next + 8);
     Ok(())
 }
 
-// Writes the digits of a number from a place of a row on, and returns the place after them. In a loop each division would
-// wait for the one before it.
-#[inline(always)]
-fn put_digits(row: &mut [u8], at: usize, number: u64) -> usize
-    requires room { at + length (decimal number) ≤ length row.old }
-    ensures end { result ≡ at + length (decimal number) }
-    ensures written { row.new ≡ take at row.old ++ decimal number ++ drop result row.old }
-{
-    if number < 100000000 {
-        return put_eight(row, at, number);
-    }
-    let next = put_twelve(row, at, number / 100000000);
-    put_four(row, next, number / 10000 % 10000);
-    put_four(row, next + 4, number % 10000);
-    next + 8
-}
-
-// The same, of at most twelve digits.
+// Writes the digits of a number below 10^12 from a place of a row on, and returns the place after them.
 #[inline(always)]
 fn put_twelve(row: &mut [u8], at: usize, number: u64) -> usize
     requires small { number < 1000000000000 }
-    requires room { at + length (decimal number) ≤ length row.old }
-    ensures end { result ≡ at + length (decimal number) }
-    ensures written { row.new ≡ take at row.old ++ decimal number ++ drop result row.old }
+    requires room { at + 12 ≤ length row.old }
+    ensures end { result ≤ at + 12 }
+    ensures written { take result row.new ≡ take at row.old ++ decimal number }
 {
+    if number < 10000 {
+        return put_short(row, at, number);
+    }
     if number < 100000000 {
-        return put_eight(row, at, number);
+        let next = put_short(row, at, number / 10000);
+        put_four(row, next, number % 10000);
+        return next + 4;
     }
     let next = put_short(row, at, number / 100000000);
     put_four(row, next, number / 10000 % 10000);
@@ -69,52 +65,29 @@ fn put_twelve(row: &mut [u8], at: usize, number: u64) -> usize
     next + 8
 }
 
-// The same, of at most eight digits.
-#[inline(always)]
-fn put_eight(row: &mut [u8], at: usize, number: u64) -> usize
-    requires small { number < 100000000 }
-    requires room { at + length (decimal number) ≤ length row.old }
-    ensures end { result ≡ at + length (decimal number) }
-    ensures written { row.new ≡ take at row.old ++ decimal number ++ drop result row.old }
-{
-    if number < 10000 {
-        return put_short(row, at, number);
-    }
-    let next = put_short(row, at, number / 10000);
-    put_four(row, next, number % 10000);
-    next + 4
-}
-
 // The same, of at most four digits.
 #[inline(always)]
 fn put_short(row: &mut [u8], at: usize, number: u64) -> usize
     requires small { number < 10000 }
-    requires room { at + length (decimal number) ≤ length row.old }
-    ensures end { result ≡ at + length (decimal number) }
-    ensures written { row.new ≡ take at row.old ++ decimal number ++ drop result row.old }
-{
-    if number < 100 {
-        return put_first(row, at, number);
-    }
-    let next = put_first(row, at, number / 100);
-    put_pair(row, next, number % 100);
-    next + 2
-}
-
-// The same, of one digit or two.
-#[inline(always)]
-fn put_first(row: &mut [u8], at: usize, number: u64) -> usize
-    requires small { number < 100 }
-    requires room { at + length (decimal number) ≤ length row.old }
-    ensures end { result ≡ at + length (decimal number) }
-    ensures written { row.new ≡ take at row.old ++ decimal number ++ drop result row.old }
+    requires room { at + 4 ≤ length row.old }
+    ensures end { result ≤ at + 4 }
+    ensures written { take result row.new ≡ take at row.old ++ decimal number }
 {
     if number < 10 {
         row[at] = b'0' + number as u8;
         return at + 1;
     }
-    put_pair(row, at, number);
-    at + 2
+    if number < 100 {
+        put_pair(row, at, number);
+        return at + 2;
+    }
+    if number < 1000 {
+        row[at] = b'0' + (number / 100) as u8;
+        put_pair(row, at + 1, number % 100);
+        return at + 3;
+    }
+    put_four(row, at, number);
+    at + 4
 }
 
 // Writes four digits to a place of a row.
@@ -122,8 +95,8 @@ fn put_first(row: &mut [u8], at: usize, number: u64) -> usize
 fn put_four(row: &mut [u8], at: usize, number: u64)
     requires small { number < 10000 }
     requires room { at + 4 ≤ length row.old }
-    ensures { row.new ≡ take at row.old ++ ((48 + number / 100 / 10) ∷ (48 + number / 100 % 10)
-        ∷ (48 + number % 100 / 10) ∷ (48 + number % 100 % 10) ∷ []) ++ drop (at + 4) row.old }
+    ensures { take (at + 4) row.new ≡ take at row.old ++ ((48 + number / 100 / 10) ∷ (48 + number / 100 % 10)
+        ∷ (48 + number % 100 / 10) ∷ (48 + number % 100 % 10) ∷ []) }
 {
     put_pair(row, at, number / 100);
     put_pair(row, at + 2, number % 100);
@@ -134,8 +107,7 @@ fn put_four(row: &mut [u8], at: usize, number: u64)
 fn put_pair(row: &mut [u8], at: usize, pair: u64)
     requires small { pair < 100 }
     requires room { at + 2 ≤ length row.old }
-    ensures { row.new
-        ≡ take at row.old ++ ((48 + pair / 10) ∷ (48 + pair % 10) ∷ []) ++ drop (at + 2) row.old }
+    ensures { take (at + 2) row.new ≡ take at row.old ++ ((48 + pair / 10) ∷ (48 + pair % 10) ∷ []) }
 {
     let place = pair as usize * 2;
     row[at] = PAIRS[place];

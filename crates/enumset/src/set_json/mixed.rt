@@ -77,20 +77,22 @@ pub fn mixed_from_words<T: EnumSetTypeWithRepr>(
 ) -> Result<MixedEnumSet<T>, JsonFault>
     ensures { result ≡ mixed_set_of_words T.Repr.WIDTH past (view value.now) }
 {
-    kept_below(read_words(value)?, past)
+    let (repr, is_whole) = read_words(value)?;
+    kept_below(repr, is_whole, past)
 }
 
 // The set of the bits below the representation's width, unless there are others and such bits are refused.
 pub(super) fn kept_below<T: EnumSetTypeWithRepr>(
-    found: (T::Repr, bool),
+    repr: T::Repr,
+    is_whole: bool,
     past: Unknown,
 ) -> Result<MixedEnumSet<T>, JsonFault>
-    ensures { (bits : BitSet) → (T.Repr.members found.0 ≡ low bits T.Repr.WIDTH)
-        → (found.1 ≡ is_subset bits (below T.Repr.WIDTH))
+    ensures { (bits : BitSet) → (T.Repr.members repr ≡ low bits T.Repr.WIDTH)
+        → (is_whole ≡ is_subset bits (below T.Repr.WIDTH))
         → result ≡ kept_below T.Repr.WIDTH past bits }
 {
     match past {
-        Unknown::Refuse if !found.1 => Err(JsonFault::OutOfRange),
-        _ => Ok(MixedEnumSet::from_repr(found.0)),
+        Unknown::Refuse if !is_whole => Err(JsonFault::OutOfRange),
+        _ => Ok(MixedEnumSet::from_repr(repr)),
     }
 }

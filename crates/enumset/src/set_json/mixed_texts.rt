@@ -80,7 +80,7 @@ pub fn mixed_from_words_text<T: EnumSetTypeWithRepr>(
     ensures { IsReadOf (mixed_set_of_words T.Repr.WIDTH past) text.now result }
 {
     match plain_words(text) {
-        Some(found) => kept_below(found, past),
+        Some((repr, is_whole)) => kept_below(repr, is_whole, past),
         None => mixed_from_words(&Value::from_str(alloc, text)?, past),
     }
 }

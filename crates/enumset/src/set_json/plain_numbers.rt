@@ -1,7 +1,6 @@
 //! JSON texts of whole numbers, written and read digit by digit, without a tree of values.
 
-ghost use Rattle.std.specs.Prelude.{◌≡◌, ◌<◌, ◌≤◌, ◌+◌, ◌/◌, ◌%◌, ◌^◌, ◌++◌, ℕ, decimal, length, slice_index};
-ghost use Rattle.std.specs.Prelude.{IfOk, IfSome, Some, string_bytes};
+ghost use Rattle.std.specs.Prelude.{◌≡◌, ◌<◌, ◌+◌, ◌^◌, ◌++◌, ℕ, decimal, IfOk, IfSome, Some, string_bytes};
 ghost use Rattle.serde_json.specs.Read.{read};
 ghost use Rattle.serde_json.specs.View.{view};
 ghost use Rattle.enumset.specs.Json.{number_value};
@@ -11,7 +10,7 @@ use super::scan::{are_spaces, split_spaces};
 use serde_json::Value;
 use std::alloc::{AllocError, Global};
 
-// The digits of the number that a value holds. A number's value takes no memory.
+// The text of a value that holds a whole number.
 pub(super) fn number_text(alloc: Global, value: &Value) -> Result<String, AllocError>
     ensures text { (number : ℕ) → (view value.now ≡ number_value number)
         → IfOk result (λ text. string_bytes text ≡ decimal number) }
@@ -29,7 +28,7 @@ pub(super) fn plain_number(text: &str) -> Option<u64>
 {
     let (_, rest) = split_spaces(text.as_bytes());
     let (number, end) = split_number(rest)?;
-    if are_spaces(end) { Some(number) } else { None }
+    are_spaces(end).then_some(number)
 }
 
 // The whole number below 2^64 whose digits stand first, and what follows them.
@@ -43,52 +42,22 @@ pub(super) fn split_number(bytes: &[u8]) -> Option<(u64, &[u8])>
     if number == 0 {
         return Some((0, rest));
     }
-    // Nineteen digits always fit, so that only the twentieth is tested for it.
+    // Two digits a turn are faster than one. Nineteen always fit, so that only the one after them is tested for it.
     let count = rest.len().min(18);
     let mut at = 0;
-    while let Some(pair) = pair_at(rest, at, count) {
-        number = number * 100 + pair;
+    while at + 2 <= count
+        && let (Some(ten), Some(one)) = (digit_of(rest[at]), digit_of(rest[at + 1]))
+    {
+        number = number * 100 + (ten * 10 + one);
         at += 2;
     }
-    for i in at..count {
-        let Some(digit) = digit_of(rest[i]) else {
-            let (_, left) = rest.split_at(i);
-            return Some((number, left));
-        };
-        number = number * 10 + digit;
+    let (_, left) = rest.split_at(at);
+    if let Some((last, end)) = left.split_first()
+        && let Some(digit) = digit_of(*last)
+    {
+        return Some((number.checked_mul(10)?.checked_add(digit)?, end));
     }
-    let (_, left) = rest.split_at(count);
-    with_last_digit(number, left)
-}
-
-// A number with the digit that stands first, if one does and both fit, and what follows.
-#[inline(always)]
-fn with_last_digit(number: u64, bytes: &[u8]) -> Option<(u64, &[u8])>
-    requires { 0 < number }
-    ensures { IfSome result (λ parts.
-        (parts.0 < 2 ^ 64) × (decimal number ++ bytes.now ≡ decimal parts.0 ++ parts.1.now)) }
-{
-    let Some((first, rest)) = bytes.split_first() else {
-        return Some((number, bytes));
-    };
-    let Some(digit) = digit_of(*first) else {
-        return Some((number, bytes));
-    };
-    let more = number.checked_mul(10)?.checked_add(digit)?;
-    Some((more, rest))
-}
-
-// The number of the two digits at a place, if they end before another. Two a turn take three quarters of the time of one.
-#[inline(always)]
-fn pair_at(bytes: &[u8], at: usize, end: usize) -> Option<u64>
-    requires { end ≤ length bytes.now }
-    ensures { IfSome result (λ pair. (at + 2 ≤ end) × (pair < 100)
-        × (slice_index bytes.now at ≡ 48 + pair / 10) × (slice_index bytes.now (at + 1) ≡ 48 + pair % 10)) }
-{
-    if end < 2 || end - 2 < at {
-        return None;
-    }
-    Some(digit_of(bytes[at])? * 10 + digit_of(bytes[at + 1])?)
+    Some((number, left))
 }
 
 // The digit that a byte is.
@@ -96,9 +65,6 @@ fn pair_at(bytes: &[u8], at: usize, end: usize) -> Option<u64>
 fn digit_of(byte: u8) -> Option<u64>
     ensures { IfSome result (λ digit. (digit < 10) × (byte ≡ 48 + digit)) }
 {
-    if b'0' <= byte && byte <= b'9' {
-        Some((byte - b'0') as u64)
-    } else {
-        None
-    }
+    byte.is_ascii_digit()
+        .then_some(byte.wrapping_sub(b'0') as u64)
 }

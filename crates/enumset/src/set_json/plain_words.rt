@@ -1,10 +1,10 @@
 //! JSON texts of arrays of words, written and read without a tree of values.
 
-ghost use Rattle.std.specs.Prelude.{◌≡◌, ◌++◌, ℕ, List, IfOk, IfSome, OnOk, Some, decimal, string_bytes};
+ghost use Rattle.std.specs.Prelude.{◌≡◌, ℕ, List, IfOk, IfSome, Some, string_bytes};
 ghost use Rattle.enumset_repr.specs.BitSet.{low, is_subset, below};
 ghost use Rattle.enumset_repr.specs.Words.{words, bits_of};
 ghost use Rattle.serde_json.specs.Read.{read};
-ghost use Rattle.serde_json.specs.Written.{compact_text, comma_if};
+ghost use Rattle.serde_json.specs.Written.{compact_text};
 ghost use Rattle.enumset.specs.Json.{words_value};
 
 use super::digits::{ascii_text, push_digits};
@@ -43,21 +43,20 @@ pub(super) fn plain_words<R: EnumSetTypeRepr>(text: &str) -> Option<(R, bool)>
         × (R.members found.0 ≡ low (bits_of ws) R.WIDTH)
         × (found.1 ≡ is_subset (bits_of ws) (below R.WIDTH))) }
 {
-    let rest = after_byte(text.as_bytes(), b'[')?;
+    let mut left = after_byte(text.as_bytes(), b'[')?;
     let mut repr = R::EMPTY;
     let mut is_whole = true;
-    if let Some(end) = after_byte(rest, b']') {
+    if let Some(end) = after_byte(left, b']') {
         return are_spaces(end).then_some((repr, is_whole));
     }
-    let (_, mut left) = split_spaces(rest);
     for place in 0..text.len() {
-        let (word, rest) = split_number(left)?;
+        let (_, digits) = split_spaces(left);
+        let (word, rest) = split_number(digits)?;
         is_whole &= take_word(&mut repr, place, word);
         if let Some(end) = after_byte(rest, b']') {
             return are_spaces(end).then_some((repr, is_whole));
         }
-        let (_, next) = split_spaces(after_byte(rest, b',')?);
-        left = next;
+        left = after_byte(rest, b',')?;
     }
     None
 }

@@ -122,7 +122,7 @@ pub fn from_words_text<T: EnumSetType>(
     ensures { IsReadOf (set_of_words (valid_bits T.elements) unknown) text.now result }
 {
     match plain_words(text) {
-        Some(found) => accepted(found, unknown),
+        Some((repr, is_whole)) => accepted(repr, is_whole, unknown),
         None => from_words(&Value::from_str(alloc, text)?, unknown),
     }
 }

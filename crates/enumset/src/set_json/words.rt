@@ -52,23 +52,24 @@ pub(super) fn words_of<R: EnumSetTypeRepr>(alloc: Global, repr: &R) -> Result<Va
 pub fn from_words<T: EnumSetType>(value: &Value, unknown: Unknown) -> Result<EnumSet<T>, JsonFault>
     ensures { result ≡ set_of_words (valid_bits T.elements) unknown (view value.now) }
 {
-    accepted(read_words(value)?, unknown)
+    let (repr, is_whole) = read_words(value)?;
+    accepted(repr, is_whole, unknown)
 }
 
-// The set of the valid bits of words, where the representation has those below its width, unless there are others and
-// such bits are refused.
+// The set of the valid bits that words have below the width, unless the words have other bits and these are refused.
 pub(super) fn accepted<T: EnumSetType>(
-    found: (T::Repr, bool),
+    repr: T::Repr,
+    is_whole: bool,
     unknown: Unknown,
 ) -> Result<EnumSet<T>, JsonFault>
-    ensures { (bits : BitSet) → (T.Repr.members found.0 ≡ low bits T.Repr.WIDTH)
-        → (found.1 ≡ is_subset bits (below T.Repr.WIDTH))
+    ensures { (bits : BitSet) → (T.Repr.members repr ≡ low bits T.Repr.WIDTH)
+        → (is_whole ≡ is_subset bits (below T.Repr.WIDTH))
         → result ≡ accepted (valid_bits T.elements) unknown bits }
 {
     let all = representation::valid_repr::<T>();
     match unknown {
-        Unknown::Drop => Ok(raw::new(found.0 & all)),
-        Unknown::Refuse if found.1 && found.0.is_subset_of(&all) => Ok(raw::new(found.0)),
+        Unknown::Drop => Ok(raw::new(repr & all)),
+        Unknown::Refuse if is_whole && repr.is_subset_of(&all) => Ok(raw::new(repr)),
         Unknown::Refuse => Err(JsonFault::UnknownBits),
     }
 }

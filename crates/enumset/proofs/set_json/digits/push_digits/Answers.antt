@@ -1,10 +1,9 @@
-use Rattle.std.proofs.Common.{◌≡◌, ◌+◌, length, arith}
-use Rattle.std.proofs.lemmas.Fmt.{length-decimal-le}
+use Rattle.std.proofs.Common.{arith}
 use Rattle.std.proofs.lemmas.Grind.{common_steps}
+use Rattle.enumset.proofs.DigitsWritten.{put_last_eight}
 use Rattle.enumset.proofs.set_json.digits.push_digits.Goals as goal
 
-pub put_digits-end-requires : goal.put_digits-end-requires
-put_digits-end-requires c =
-    let room : length c.as_mut_slice.result.now ≡ c.len-begin.result + 20 = grind (arith, common_steps) in
-    let few = length-decimal-le 20 c.args.number (omega arith) (omega arith) (omega arith) in
-    record { room = omega (arith, few, room) }
+pub returns : goal.returns
+returns c =
+    let all = put_last_eight c.as_mut_slice-row.result.now c.put_twelve-next.new.row c.put_four.new.row c.put_four-2.new.row c.len-begin.result c.put_twelve-next.result c.args.number (omega arith) (omega arith) c.put_twelve-next.ensures.written c.put_four.ensures c.put_four-2.ensures in
+    grind (arith, common_steps, all)

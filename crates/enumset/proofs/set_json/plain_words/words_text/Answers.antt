@@ -20,14 +20,12 @@ loop-i-preserved g c =
     (c.in_ok-push_digits.ensures ∙ ap (λ l. l ++ decimal c.word.result) begun ∙ append_assoc old (comma_if (nat_lt 0 c.loop-i.i)) (decimal c.word.result))
 
 pub ascii_text-requires : goal.ascii_text-requires
-ascii_text-requires g c =
-    let all : c.loop-i.i ≡ g.R.EnumSetTypeRepr.PREFERRED_ARRAY_LEN = omega (arith, c.loop-i-test.false, c.PREFERRED_ARRAY_LEN-i-end.ensures, c.loop-i.auto.i-end) in
-    (all_written (g.R.EnumSetTypeRepr.members c.args.repr.now) c.loop-i.bytes.items c.push-2.new.self.items c.loop-i.i _ c.loop-i.invariant all c.in_ok-push-3.ensures.items).1
+ascii_text-requires g c = (all_written (g.R.EnumSetTypeRepr.members c.args.repr.now) c.loop-i.bytes.items c.push-2.new.self.items c.loop-i.i g.R.EnumSetTypeRepr.PREFERRED_ARRAY_LEN c.loop-i.invariant
+    (omega (arith, c.loop-i-test.false, c.PREFERRED_ARRAY_LEN-i-end.ensures, c.loop-i.auto.i-end)) c.in_ok-push-3.ensures.items).1
 
 pub returns-clause-text : goal.returns-clause-text
-returns-clause-text g c =
-    let all : c.loop-i.i ≡ g.R.EnumSetTypeRepr.PREFERRED_ARRAY_LEN = omega (arith, c.loop-i-test.false, c.PREFERRED_ARRAY_LEN-i-end.ensures, c.loop-i.auto.i-end) in
-    c.ascii_text.ensures ∙ (all_written (g.R.EnumSetTypeRepr.members c.args.repr.now) c.loop-i.bytes.items c.push-2.new.self.items c.loop-i.i _ c.loop-i.invariant all c.in_ok-push-3.ensures.items).0
+returns-clause-text g c = c.ascii_text.ensures ∙ (all_written (g.R.EnumSetTypeRepr.members c.args.repr.now) c.loop-i.bytes.items c.push-2.new.self.items c.loop-i.i g.R.EnumSetTypeRepr.PREFERRED_ARRAY_LEN c.loop-i.invariant
+    (omega (arith, c.loop-i-test.false, c.PREFERRED_ARRAY_LEN-i-end.ensures, c.loop-i.auto.i-end)) c.in_ok-push-3.ensures.items).0
 
 pub returns-clause-reads : goal.returns-clause-reads
 returns-clause-reads g c = ap read (returns-clause-text g c) ∙ words_reads (g.R.EnumSetTypeRepr.members c.args.repr.now) g.R.EnumSetTypeRepr.PREFERRED_ARRAY_LEN
