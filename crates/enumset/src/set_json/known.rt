@@ -27,22 +27,24 @@ pub(super) fn decided<T: EnumSetNames>(
     }
 }
 
-// One more name of a list: the value that it names, if it names one, else its place.
+// One more name: the value that it names, if it names one, is put in where it is a member; else its place is kept.
 #[inline(always)]
 pub(super) fn take_name<T: EnumSetNames>(
     set: &mut EnumSet<T>,
     first_unknown: &mut Option<usize>,
     value: Option<T>,
+    is_member: bool,
     place: usize,
 )
-    ensures set { set.new ≡ with_named (option_map T.elements.bit value) set.old }
+    ensures set { set.new ≡ cond is_member (with_named (option_map T.elements.bit value) set.old) set.old }
     ensures first { first_unknown.new ≡ option_or first_unknown.old
         (cond (is_none (option_map T.elements.bit value)) (Some place) None) }
 {
     match value {
-        Some(value) => {
+        Some(value) if is_member => {
             set.insert(value);
         }
+        Some(_) => {}
         None => *first_unknown = first_unknown.or(Some(place)),
     }
 }

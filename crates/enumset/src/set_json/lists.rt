@@ -55,7 +55,7 @@ fn set_of_values<T: EnumSetNames>(
     for (place, item) in items.iter().enumerate() {
         let text = item.as_str().ok_or(JsonFault::NotAText(place))?;
         let value = find_name(text.as_bytes(), &mut next);
-        take_name(&mut set, &mut first_unknown, value, place);
+        take_name(&mut set, &mut first_unknown, value, true, place);
     }
     decided(set, first_unknown, unknown)
 }

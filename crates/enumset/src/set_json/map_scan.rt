@@ -50,11 +50,7 @@ pub(super) fn plain_map_set<T: EnumSetNames>(text: &str) -> Option<EnumSet<T>>
     }
     let members = after_byte(text.as_bytes(), b'{')?;
     if let Some(end) = after_byte(members, b'}') {
-        return if are_spaces(end) {
-            Some(EnumSet::new())
-        } else {
-            None
-        };
+        return are_spaces(end).then_some(EnumSet::new());
     }
     let mut left = after_byte(members, b'"')?;
     let mut seen = EnumSet::new();
@@ -70,7 +66,7 @@ pub(super) fn plain_map_set<T: EnumSetNames>(text: &str) -> Option<EnumSet<T>>
             set.insert(element);
         }
         if let Some(end) = after_byte(rest, b'}') {
-            return if are_spaces(end) { Some(set) } else { None };
+            return are_spaces(end).then_some(set);
         }
         let after = after_byte(rest, b',')?;
         left = after_byte(after, b'"')?;

@@ -7,7 +7,7 @@ ghost use Rattle.enumset.specs.JsonNames.{members_in, set_of_members, set_of_map
 ghost use Rattle.enumset.specs.declared.set_json.fault.JsonFault.TheVariants.{OutOfMemory};
 
 use super::fault::JsonFault;
-use super::known::decided;
+use super::known::{decided, take_name};
 use super::unknown::Unknown;
 use crate::names::{EnumSetNames, find_name};
 use enumset_sets::EnumSet;
@@ -54,14 +54,8 @@ fn set_of_members<T: EnumSetNames>(
     let mut next = 0;
     for (place, (name, value)) in members.iter().enumerate() {
         let is_member = value.as_bool().ok_or(JsonFault::NotABoolean(place))?;
-        match find_name(name.as_bytes(), &mut next) {
-            Some(element) => {
-                if is_member {
-                    set.insert(element);
-                }
-            }
-            None => first_unknown = first_unknown.or(Some(place)),
-        }
+        let element = find_name(name.as_bytes(), &mut next);
+        take_name(&mut set, &mut first_unknown, element, is_member, place);
     }
     decided(set, first_unknown, unknown)
 }

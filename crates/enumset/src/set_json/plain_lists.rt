@@ -64,11 +64,7 @@ pub(super) fn plain_set<T: EnumSetNames>(
     }
     let rest = after_byte(text.as_bytes(), b'[')?;
     if let Some(end) = after_byte(rest, b']') {
-        return if are_spaces(end) {
-            Some(Ok(EnumSet::new()))
-        } else {
-            None
-        };
+        return are_spaces(end).then_some(Ok(EnumSet::new()));
     }
     let mut left = after_byte(rest, b'"')?;
     let mut set = EnumSet::new();
@@ -77,13 +73,9 @@ pub(super) fn plain_set<T: EnumSetNames>(
     for place in 0..text.len() {
         let (name, rest) = split_string(left)?;
         let value = find_name(name, &mut next);
-        take_name(&mut set, &mut first_unknown, value, place);
+        take_name(&mut set, &mut first_unknown, value, true, place);
         if let Some(end) = after_byte(rest, b']') {
-            return if are_spaces(end) {
-                Some(decided(set, first_unknown, unknown))
-            } else {
-                None
-            };
+            return are_spaces(end).then_some(decided(set, first_unknown, unknown));
         }
         left = after_byte(after_byte(rest, b',')?, b'"')?;
     }
@@ -112,5 +104,5 @@ fn ends_as_list(bytes: &[u8]) -> bool {
 // What precedes a byte that stands last but for spaces.
 fn before_byte(bytes: &[u8], byte: u8) -> Option<&[u8]> {
     let (last, rest) = bytes.trim_ascii_end().split_last()?;
-    if *last == byte { Some(rest) } else { None }
+    (*last == byte).then_some(rest)
 }

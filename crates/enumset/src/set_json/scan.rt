@@ -108,7 +108,7 @@ pub(super) fn after_byte(bytes: &[u8], byte: u8) -> Option<&[u8]>
 {
     let (_, rest) = split_spaces(bytes);
     let (first, rest) = rest.split_first()?;
-    if *first == byte { Some(rest) } else { None }
+    (*first == byte).then_some(rest)
 }
 
 // Whether there are spaces alone.
@@ -128,9 +128,5 @@ pub(super) fn split_string(bytes: &[u8]) -> Option<(&[u8], &[u8])>
 {
     let (string, rest) = bytes.split_at(plain_len(bytes));
     let (quote, rest) = rest.split_first()?;
-    if *quote == b'"' {
-        Some((string, rest))
-    } else {
-        None
-    }
+    (*quote == b'"').then_some((string, rest))
 }

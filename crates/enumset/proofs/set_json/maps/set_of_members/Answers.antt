@@ -1,15 +1,11 @@
-use Rattle.std.proofs.Common.{◌≡◌, ◌+◌, ℕ, cond, false, Option, None, Some, Err, is_none, unwrap_or, string_bytes, length, map, refl, sym, ap, ◌∙◌, arith, rules}
-use Rattle.std.proofs.lemmas.Bool.{cond_both, cond-true, cond-false}
-use Rattle.std.specs.Option.{option_or}
-use Rattle.enumset_repr.specs.BitSet.{BitSet, empty}
+use Rattle.std.proofs.Common.{◌≡◌, ◌+◌, false, None, Some, Err, is_none, option_map, unwrap_or, string_bytes, length, map, sym, ap, ◌∙◌, arith, rules}
+use Rattle.enumset_repr.specs.BitSet.{empty}
 use Rattle.serde_json.specs.View.{view, members_view}
 use Rattle.serde_json.specs.Find.{as_bool}
 use Rattle.enumset.specs.Names.{names_of, bit_named}
 use Rattle.enumset.specs.JsonNames.{members_in, set_of_members}
 use Rattle.enumset.specs.declared.set_json.fault.JsonFault.TheVariants.{NotABoolean}
-use Rattle.enumset.specs.JsonPlain.{with_named}
-use Rattle.enumset.proofs.NamesRead.{or_none, seen, map_on, map_read, read_fault, read_next, read_end}
-use Rattle.enumset.proofs.set_json.maps.set_of_members.Goals.{in-Some-find_name+then-is_member, in-Some-find_name+else-is_member, in-None-find_name}
+use Rattle.enumset.proofs.NamesRead.{seen, map_on, map_read, read_fault, read_next, read_end}
 use Rattle.enumset.proofs.set_json.maps.set_of_members.Goals as goal
 
 pub loop-place-init : goal.loop-place-init
@@ -31,20 +27,11 @@ loop-place-preserved g c =
     let names = names_of g.T.EnumSetType.elements g.T.EnumSetNames.names in
     let rest = map seen c.next.new.self in
     let is : as_bool (view c.in-Some.value.now) ≡ Some c.in_ok-is_member.is_member = sym c.as_bool.ensures ∙ c.in_ok-is_member.ensures.ok_part in
-    let next : (bit first : Option ℕ) (set : BitSet) → set ≡ cond c.in_ok-is_member.is_member (with_named bit c.loop-place.set) c.loop-place.set → first ≡ option_or c.loop-place.first_unknown (cond (is_none bit) (Some c.loop-place.place) None) → bit ≡ bit_named names (string_bytes c.in-Some.name.now)
-    → map_on names c.args.unknown (c.loop-place.place + 1) set first rest ≡ map_on names c.args.unknown 0 empty None (map seen c.iter-name-items.result) =
-    λ bit first set added unknown named. (λ j. map_on names c.args.unknown (c.loop-place.place + 1) (added j) (unknown j) rest)
-    ∙ sym (read_next _ _ _ _ _ _ c.loop-place.place c.loop-place.set c.loop-place.first_unknown _ rest _ (ap (map seen) c.in-Some.ensures.steps) bit c.in_ok-is_member.is_member (ap is_none is) (ap (λ o. unwrap_or o false) is) (sym named)) ∙ c.loop-place.invariant.1 in
-    let name = ap (bit_named names) c.as_bytes.ensures.value in
-    let known = or_none c.loop-place.first_unknown in (
+    let bit = option_map g.T.EnumSetType.elements.bit c.find_name-element.result in
+    let named : bit ≡ bit_named names (string_bytes c.in-Some.name.now) = c.find_name-element.ensures ∙ ap (bit_named names) c.as_bytes.ensures.value in (
       omega (arith, c.loop-place.invariant.0, ap length c.in-Some.ensures.steps),
-      elim c.match-find_name.branch [
-        | in-Some-find_name+then-is_member w ↦
-            next (Some (g.T.EnumSetType.elements.bit w.in-Some-find_name.element)) _ _ (w.set-is ∙ w.insert.ensures.inserted ∙ sym (cond-true _ _ _ w.if-is_member.true)) (w.first_unknown-is ∙ known) (w.in-Some-find_name.ensures ∙ name)
-        | in-Some-find_name+else-is_member w ↦
-            next (Some (g.T.EnumSetType.elements.bit w.in-Some-find_name.element)) _ _ (w.set-is ∙ sym (cond-false _ _ _ w.if-is_member.false)) (w.first_unknown-is ∙ known) (w.in-Some-find_name.ensures ∙ name)
-        | in-None-find_name w ↦ next None _ _ (w.set-is ∙ cond_both c.in_ok-is_member.is_member _ _ (λ s. c.loop-place.set ≡ s) (λ _. refl) (λ _. refl)) (w.first_unknown-is ∙ w.or-first_unknown.ensures) (w.in-None-find_name.ensures ∙ name)
-      ],
+      (λ j. map_on names c.args.unknown (c.loop-place.place + 1) (c.take_name.ensures.set j) (c.take_name.ensures.first j) rest)
+          ∙ sym (read_next _ _ _ _ _ _ c.loop-place.place c.loop-place.set c.loop-place.first_unknown _ rest _ (ap (map seen) c.in-Some.ensures.steps) bit c.in_ok-is_member.is_member (ap is_none is) (ap (λ o. unwrap_or o false) is) (sym named)) ∙ c.loop-place.invariant.1,
     )
 
 pub returns : goal.returns
