@@ -16,8 +16,8 @@ pub fn may(granted: EnumSet<Right>, requested: EnumSet<Right>) -> bool
 
 /// Whether one of the granted rights is requested.
 #[tactic(auto, using(enumset_repr::specs::Laws::Places::chains))]
-pub fn is_wanted(granted: EnumSet<Right>, requested: EnumSet<Right>) -> bool
-    ensures { result ≡ not (set.is_disjoint granted requested) }
+pub fn is_wanted<T: EnumSetType>(granted: &EnumSet<T>, requested: &EnumSet<T>) -> bool
+    ensures { result ≡ not (set.is_disjoint granted.now requested.now) }
 {
     granted.iter().any(|right| requested.contains(right))
 }
