@@ -1,6 +1,7 @@
 //! Prints rights that are granted, and those that are missing.
 #![tactic(auto, using(enumset::specs::Laws::SetLaws::set_laws))]
 
+mod chains;
 mod expressions;
 mod granting;
 mod loops;

@@ -1,0 +1,75 @@
+//! Chains of iterators over rights.
+
+ghost use Rattle.std.specs.Prelude.{◌≡◌, fold, option_map};
+ghost use Rattle.std.specs.List.{find, list_all};
+ghost use Rattle.enumset_repr.specs.BitSet as set;
+ghost use Rattle.enumset_sets.specs.Elements.{valid_bits};
+
+use crate::rights::Right;
+use enumset::{EnumSet, EnumSetType};
+
+/// How many rights are granted.
+#[tactic(auto, using(enumset_repr::specs::Laws::Places::chains))]
+pub fn granted_count<T: EnumSetType>(granted: &EnumSet<T>) -> usize
+    ensures { result ≡ set.len granted.now }
+{
+    granted.iter().count()
+}
+
+/// How many of the granted rights are requested.
+#[tactic(auto, using(enumset_repr::specs::Laws::Places::chains))]
+pub fn requested_count<T: EnumSetType>(granted: &EnumSet<T>, requested: &EnumSet<T>) -> usize
+    ensures { result ≡ set.len (set.intersection granted.now requested.now) }
+{
+    granted
+        .iter()
+        .filter(|right| requested.contains(*right))
+        .count()
+}
+
+/// Whether all granted rights are requested.
+#[tactic(auto, using(enumset_repr::specs::Laws::Places::chains))]
+pub fn are_requested<T: EnumSetType>(granted: &EnumSet<T>, requested: &EnumSet<T>) -> bool
+    ensures { result ≡ set.is_subset granted.now requested.now }
+{
+    granted.iter().all(|right| requested.contains(right))
+}
+
+/// The first of the granted rights that is requested.
+#[tactic(auto, using(enumset_repr::specs::Laws::Places::chains))]
+pub fn first_requested<T: EnumSetType>(granted: &EnumSet<T>, requested: &EnumSet<T>) -> Option<T>
+    ensures { option_map T.elements.bit result
+        ≡ find (set.contains requested.now) (set.ascending granted.now) }
+{
+    granted.iter().find(|right| requested.contains(*right))
+}
+
+/// The rights that all sets have.
+pub fn in_each<T: EnumSetType>(sets: &[EnumSet<T>]) -> EnumSet<T>
+    ensures { result ≡ fold set.intersection (valid_bits T.elements) sets.now }
+{
+    sets.iter()
+        .fold(EnumSet::all(), |all, rights| all & rights.copied())
+}
+
+/// Whether all sets have a right.
+pub fn is_in_each<T: EnumSetType>(sets: &[EnumSet<T>], right: T) -> bool
+    ensures { result ≡ list_all (λ s. set.contains s (T.elements.bit right)) sets.now }
+{
+    sets.iter().all(|rights| rights.contains(right))
+}
+
+/// How many of the granted rights are requested or licensed.
+#[tactic(auto, using(enumset_repr::specs::Laws::Places::chains_of_two))]
+pub fn useful_count(
+    granted: EnumSet<Right>,
+    requested: EnumSet<Right>,
+    licensed: EnumSet<Right>,
+) -> usize
+    ensures { result ≡ set.len (set.intersection granted (set.union requested licensed)) }
+{
+    granted
+        .iter()
+        .filter(|right| requested.contains(*right) || licensed.contains(*right))
+        .count()
+}
