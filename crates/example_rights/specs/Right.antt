@@ -1,4 +1,5 @@
--- The bit of a right.
+-- Rights in clauses.
+--     bit      the bit of a right
 use Rattle.std.specs.Prelude.{ℕ}
 use Rattle.enumset_sets.specs.Elements.{in_place}
 use Rattle.example_rights.specs.contracts.rights.Right.{the_type}
