@@ -61,7 +61,7 @@ pub enum Reason {
     /// The bit is the discriminant, or the bit of which it is the mask.
     #[error("a bit must be from 0 to 4294967231")]
     PastGreatest,
-    #[error("the implied discriminant is past 2^128 - 1")]
+    #[error("the implied discriminant is past 2^128")]
     ImpliedTooLarge,
     #[error("`repr` is too small: bit {bit}, width {width}")]
     PastRepresentation { bit: u32, width: u32 },

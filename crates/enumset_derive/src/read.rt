@@ -1,12 +1,11 @@
 //! Reads what a source text has, by a function for each thing of its grammar.
 
-mod attributes;
-mod draft;
 mod enums;
 mod imports;
 mod items;
 mod names;
 mod options;
+mod parts;
 
 use crate::fault::{Outcome, Place, Reason};
 use crate::plan::{
@@ -15,9 +14,8 @@ use crate::plan::{
 };
 use crate::source::{Element, Form, Import, Name, Source};
 use crate::tokens::{Kind, Token, UNCLOSED_BRACKET, is_among, is_digit, names_last};
-use attributes::{Attribute, Bearer, place_of_derive, renamed_derive};
-use draft::Draft;
-use names::Serde;
+use enums::Draft;
+use parts::{Bearer, Part, place_of_derive, renamed_derive};
 use std::alloc::{AllocError, Global};
 use std::collections::BTreeSet;
 use std::mem;
@@ -30,13 +28,21 @@ pub fn read_source<'a>(alloc: Global, text: &'a str, tokens: &[Token<'a>]) -> Ou
     let [token, rest @ ..] = tokens else {
         return Ok(Source::new(alloc));
     };
+    let words = rest.iter().copied().filter(|token| !token.is_blank());
+    let words: Vec<Token<'a>> = words.collect(alloc)?;
+    let cursor = Cursor {
+        text,
+        token,
+        rest,
+        words: &words,
+    };
     let mut reader = Reader {
         alloc,
-        cursor: Cursor { text, token, rest },
+        cursor,
         source: Source::new(alloc),
-        derive: renamed_derive(tokens),
+        derive: renamed_derive(&words),
         is_in_head: true,
-        words: BTreeSet::new(alloc),
+        used: BTreeSet::new(alloc),
         has_others: false,
     };
     for _ in rest {
@@ -60,8 +66,8 @@ struct Reader<'a, 'b> {
     derive: &'a str,
     /// Whether no item was read.
     is_in_head: bool,
-    /// The names in the derives that are kept, and the words in items that are no imports and no element types.
-    words: BTreeSet<&'a str>,
+    /// The names in the derives that are kept, and in items that are no imports and no element types.
+    used: BTreeSet<&'a str>,
     /// Whether there are such items.
     has_others: bool,
 }
@@ -69,35 +75,31 @@ struct Reader<'a, 'b> {
 impl<'a, 'b> Reader<'a, 'b> {
     /// Reads an item, or a token between items. At the end of the text there is nothing to read.
     fn read_token(&mut self) -> Done {
-        let token = self.cursor.token;
-        let is_attribute = token.is_mark('#') && self.cursor.is_before('!');
-        match token.kind {
+        let begin = self.cursor.token;
+        let is_attribute = begin.is_mark("#") && self.cursor.is_before("!");
+        match begin.kind {
             Kind::End => {}
-            Kind::Space => self.source.add_space(token.text),
-            Kind::Comment | Kind::InnerDoc => self.source.push_text(token.text)?,
-            _ if is_attribute => self.read_inner_attribute()?,
+            Kind::Space => self.source.add_space(begin.text),
+            Kind::Comment | Kind::InnerDoc => self.source.push_text(begin.text)?,
+            _ if is_attribute => {
+                self.cursor.advance()?;
+                let part = self.cursor.read_part()?;
+                let text = self.cursor.text_since(begin.begin);
+                if part.has_meaning(Bearer::Text)? {
+                    self.source.push_text(text)?;
+                } else {
+                    self.leave_out(begin.place, text)?;
+                }
+            }
             _ => {
                 self.is_in_head = false;
                 self.read_item()?;
             }
         }
-        if self.is_in_head && (is_attribute || matches!(token.kind, Kind::InnerDoc)) {
+        if self.is_in_head && (is_attribute || matches!(begin.kind, Kind::InnerDoc)) {
             self.source.head = self.source.items.len();
         }
         Ok(())
-    }
-
-    /// Reads an attribute of the text.
-    fn read_inner_attribute(&mut self) -> Done {
-        let begin = self.cursor.token;
-        self.cursor.advance()?;
-        let attribute = self.cursor.read_attribute()?;
-        let text = self.cursor.text_since(begin.begin);
-        if attribute.has_meaning(Bearer::Text)? {
-            Ok(self.source.push_text(text)?)
-        } else {
-            self.leave_out(begin.place, text)
-        }
     }
 
     /// Leaves out what means nothing here.
@@ -116,14 +118,11 @@ struct Cursor<'a, 'b> {
     pub token: &'b Token<'a>,
     /// The tokens after that one.
     pub rest: &'b [Token<'a>],
+    /// The words among them, which are neither comments nor space.
+    pub words: &'b [Token<'a>],
 }
 
 impl<'a, 'b> Cursor<'a, 'b> {
-    /// A fault at the token, unless what is wanted is there.
-    pub fn want(&self, is_there: bool, wanted: &'static str) -> Done {
-        is_there.then_some(()).ok_or(self.token.fault(wanted))
-    }
-
     /// Goes on to the next token, if there is one. It fails at one from which on nothing can be read.
     pub fn advance(&mut self) -> Done {
         if let [next, rest @ ..] = self.rest {
@@ -131,6 +130,9 @@ impl<'a, 'b> Cursor<'a, 'b> {
             self.rest = rest;
             if let Kind::Fault(reason) = next.kind {
                 return Err(next.fault(reason));
+            }
+            if !next.is_blank() {
+                self.words = self.words.get(1..).unwrap_or(&[]);
             }
         }
         Ok(())
@@ -151,7 +153,7 @@ impl<'a, 'b> Cursor<'a, 'b> {
     /// Goes on to the first of these marks in so many brackets, unless the cursor is at one, or to the last token.
     pub fn skip_to(&mut self, marks: &str, depth: usize) -> Done {
         for _ in self.rest {
-            if self.token.is_one_of(marks) && self.token.depth == depth {
+            if self.token.is_mark(marks) && self.token.depth == depth {
                 break;
             }
             self.advance()?;
@@ -160,18 +162,19 @@ impl<'a, 'b> Cursor<'a, 'b> {
     }
 
     /// Whether a mark comes next after the token.
-    pub fn is_before(&self, mark: char) -> bool {
+    pub fn is_before(&self, mark: &str) -> bool {
         matches!(self.rest, [next, ..] if next.is_mark(mark))
     }
 
     /// What stands in the text from a byte on, up to the token and with it.
     pub fn text_since(&self, begin: usize) -> &'a str {
-        self.text.get(begin..self.token.end()).unwrap_or("")
+        let end = self.token.begin.saturating_add(self.token.text.len());
+        self.text.get(begin..end).unwrap_or("")
     }
 
-    /// The tokens between an earlier place and this one.
-    pub fn passed_since(&self, earlier: &Cursor<'a, 'b>) -> &'b [Token<'a>] {
-        let passed = earlier.rest.len().saturating_sub(self.rest.len());
-        earlier.rest.get(..passed.saturating_sub(1)).unwrap_or(&[])
+    /// The words after an earlier place, up to this one and with it.
+    pub fn words_since(&self, earlier: &Cursor<'a, 'b>) -> &'b [Token<'a>] {
+        let passed = earlier.words.len().saturating_sub(self.words.len());
+        earlier.words.get(..passed).unwrap_or(&[])
     }
 }

@@ -5,6 +5,9 @@ use crate::plan::{EnumDeclaration, Plan};
 use std::alloc::{AllocError, Global};
 use std::mem;
 
+/// How paths in the crate itself begin.
+pub const OWN: [&str; 3] = ["self", "super", "crate"];
+
 /// What a source text has.
 #[derive(Drop)]
 pub struct Source<'a> {
@@ -134,8 +137,7 @@ impl<'a> Source<'a> {
         let mut at = self.items.len();
         for (index, earlier) in self.items.iter().enumerate().rev() {
             let orders = self.order_of(&item.form).zip(self.order_of(&earlier.form));
-            let is_before = orders.is_some_and(|(own, other)| own < other);
-            if item.gap != "\n" || !is_before {
+            if item.gap != "\n" || orders.is_none_or(|(own, other)| own >= other) {
                 break;
             }
             at = index;
@@ -150,7 +152,7 @@ impl<'a> Source<'a> {
     }
 
     /// By what `rt fmt` orders imports: those of the crate itself come first.
-    fn order_of<'b>(&'b self, form: &'b Form<'a>) -> Option<(u32, &'b str, &'b str)> {
+    fn order_of<'b>(&'b self, form: &'b Form<'a>) -> Option<(usize, &'b str, &'b str)> {
         let (root, path) = match form {
             Form::Imports => (self.facade, "{"),
             Form::Import(import) => {
@@ -160,12 +162,8 @@ impl<'a> Source<'a> {
             }
             _ => return None,
         };
-        let rank = match root {
-            "self" => 0,
-            "super" => 1,
-            "crate" => 2,
-            _ => 3,
-        };
+        let mut own = OWN.iter();
+        let rank = own.position(|own| *own == root).unwrap_or(OWN.len());
         Some((rank, root, path))
     }
 

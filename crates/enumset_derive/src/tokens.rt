@@ -2,7 +2,7 @@
 
 mod lexer;
 
-use crate::fault::{DeriveError, Place, Reason};
+use crate::fault::{DeriveError, Outcome, Place, Reason};
 pub use lexer::tokens_of;
 
 /// What a token is.
@@ -17,7 +17,7 @@ pub enum Kind {
     /// A comment that documents what it stands in, as `//! ..`.
     InnerDoc,
     /// A name, a keyword or a number, in ASCII.
-    Word,
+    Letters,
     /// A text or a character in quotes.
     Quoted,
     /// This character, or `::` for `:`.
@@ -56,14 +56,14 @@ impl<'a> Token<'a> {
         matches!(self.kind, Kind::Space) || self.is_comment()
     }
 
-    /// Where it ends, in bytes.
-    pub fn end(&self) -> usize {
-        self.begin.saturating_add(self.text.len())
-    }
-
     /// The fault that is here.
     pub fn fault(&self, text: &'static str) -> DeriveError {
         DeriveError::Fault(Reason::Text(text).at(self.place))
+    }
+
+    /// The fault, unless what is wanted is here.
+    pub fn want(&self, is_here: bool, wanted: &'static str) -> Outcome<()> {
+        is_here.then_some(()).ok_or(self.fault(wanted))
     }
 
     /// The text in quotes that the token is, without them, unless it is of bytes.
@@ -78,18 +78,14 @@ impl<'a> Token<'a> {
         self.text == text
     }
 
-    pub fn is_mark(&self, mark: char) -> bool {
-        matches!(self.kind, Kind::Mark(found) if found == mark)
-    }
-
     /// Whether the token is one of these marks.
-    pub fn is_one_of(&self, marks: &str) -> bool {
+    pub fn is_mark(&self, marks: &str) -> bool {
         matches!(self.kind, Kind::Mark(mark) if marks.contains(mark))
     }
 
-    /// Whether the token is a name: a word without a digit first.
+    /// Whether the token is a name or a keyword: letters without a digit first.
     pub fn is_name(&self) -> bool {
-        matches!(self.kind, Kind::Word) && !self.text.starts_with(is_digit)
+        matches!(self.kind, Kind::Letters) && !self.text.starts_with(is_digit)
     }
 }
 
@@ -100,8 +96,7 @@ pub fn is_among(words: &str, word: &str) -> bool {
 
 /// Whether this name is the last in a path.
 pub fn names_last(path: &str, name: &str) -> bool {
-    let front = path.strip_suffix(name);
-    front.is_some_and(|front| front.is_empty() || front.ends_with("::"))
+    path.rsplit("::").next().is_some_and(|last| last == name)
 }
 
 pub fn is_digit(character: char) -> bool {

@@ -8,11 +8,11 @@ mod layout;
 mod names;
 mod operators;
 
+use crate::Request;
 use crate::fault::{Outcome, Reason};
 use crate::plan::{
     Discriminant, EnumDeclaration, IntegerType, Number, Plan, Serialized, Store, Variant,
 };
-use crate::program::Request;
 use crate::source::{Element, Form, Source};
 use crate::tokens::names_last;
 use element_type::{is_in_table, is_narrow, write_element_type};
@@ -58,7 +58,9 @@ pub fn module_text(alloc: Global, request: &Request, source: &Source) -> Outcome
     let imports = imports_of(source)?;
     let mut text = String::new(alloc);
     for (index, item) in source.items.iter().enumerate() {
-        write_gap(&mut text, item.gap)?;
+        let lines = text.len().saturating_sub(text.trim_end_matches('\n').len());
+        let written = if text.is_empty() { 2 } else { lines };
+        text.push_str(item.gap.get(written..).unwrap_or(""))?;
         if index == source.head && source.has_enums && !source.has_imports {
             write!(text, "{imports}\n\n")?;
         }
@@ -85,11 +87,4 @@ pub fn module_text(alloc: Global, request: &Request, source: &Source) -> Outcome
         text.push('\n')?;
     }
     Ok(text)
-}
-
-/// Writes space, unless it is there.
-fn write_gap(text: &mut String, gap: &str) -> Written {
-    let lines = text.len().saturating_sub(text.trim_end_matches('\n').len());
-    let written = if text.is_empty() { 2 } else { lines };
-    text.push_str(gap.get(written..).unwrap_or(""))
 }

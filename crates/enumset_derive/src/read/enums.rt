@@ -1,4 +1,4 @@
-//! An enum from its keyword on.
+//! Enums that are to be element types.
 
 use super::*;
 
@@ -8,28 +8,145 @@ const NOT_A_LITERAL: &str = "a discriminant must be a literal of an integer";
 
 const TOO_LARGE: &str = "a literal past 2^128 - 1 must be a power of two, and not decimal";
 
+/// How a literal begins that is not decimal, and its base.
+const PREFIXES: [(&str, u32); 3] = [("0x", 16), ("0o", 8), ("0b", 2)];
+
 const TYPES: &str = "u8 u16 u32 u64 u128 usize i8 i16 i32 i64 i128 isize";
 
+const SERDE_ALONE: &str = "here nothing comes of the names: write `#[serde(..)]` alone";
+
+/// What is known of an enum that is to be an element type.
+#[derive(Drop)]
+pub(super) struct Draft<'a, 'b> {
+    pub declaration: EnumDeclaration<'a>,
+    /// The names of the options that are given, in their order.
+    pub given: Vec<&'b Token<'a>>,
+    /// The attributes of `serde`, and those under which one stands: of each how many variants stand before it, if it is a
+    /// variant's, and whether it is written.
+    pub serde: Vec<(Part<'a, 'b>, Option<usize>, bool)>,
+}
+
+impl<'a, 'b> Draft<'a, 'b> {
+    /// Whether something of this name is derived.
+    fn derives(&self, name: &str) -> bool {
+        let mut derives = self.declaration.derives.iter();
+        derives.any(|path| names_last(path.as_str(), name))
+    }
+
+    /// A fault if an option or an attribute of the enum means nothing without another.
+    pub fn test_options(&self) -> Done {
+        let options = &self.declaration.options;
+        for given in &self.given {
+            let is_right = options.serialized.is_some() || !given.is("serialize_deny_unknown");
+            given.want(is_right, "`serialize_deny_unknown` needs `serialize_repr`")?;
+        }
+        for (part, _, _) in &self.serde {
+            let is_right = !options.are_named() || !part.name.is("cfg_attr");
+            part.name.want(is_right, SERDE_ALONE)?;
+        }
+        Ok(())
+    }
+}
+
 impl<'a, 'b> Reader<'a, 'b> {
-    /// Reads an enum from its visibility up to the `}` at its end.
-    pub(super) fn read_enum(&mut self, draft: &mut Draft<'a, 'b>) -> Done {
+    /// Reads an enum, whose comments and attributes are these, and plans it.
+    pub(super) fn read_element(&mut self, parts: &[Part<'a, 'b>]) -> Done {
+        let alloc = self.alloc;
+        let declaration = EnumDeclaration {
+            attributes: String::new(alloc),
+            later_attributes: String::new(alloc),
+            derives: Vec::new(alloc),
+            visibility: ("", ""),
+            name: "",
+            variants: Vec::new(alloc),
+            last_comments: String::new(alloc),
+            options: Options::default(),
+        };
+        let mut draft = Draft {
+            declaration,
+            given: Vec::new(alloc),
+            serde: Vec::new(alloc),
+        };
+        self.read_enum(&mut draft, parts)?;
+        let plan = plan_enum(alloc, &draft.declaration)?;
+        let json_names = draft.json_names(alloc)?;
+        for (part, _, is_kept) in &draft.serde {
+            if !*is_kept && !draft.declaration.options.are_named() {
+                self.leave_out(part.begin.place, part.text)?;
+            }
+        }
+        let declaration = draft.declaration;
+        self.source.has_enums = true;
+        self.source.facade = declaration.options.crate_name.unwrap_or(self.source.facade);
+        let element = Element {
+            declaration,
+            plan,
+            json_names,
+            is_test: parts.iter().any(|part| part.name.is("cfg")),
+        };
+        Ok(self.source.push(Form::Element(element))?)
+    }
+
+    /// Takes the comments and the attributes of the enum, or of a variant if the enum's name is known. Gives those that
+    /// are kept, a line each, but for those before a derive.
+    fn take(&mut self, draft: &mut Draft<'a, 'b>, parts: &[Part<'a, 'b>]) -> Outcome<String> {
+        let mut kept = String::new(self.alloc);
+        let mut has_derive = false;
+        let is_enum = draft.declaration.name.is_empty();
+        let variant = (!is_enum).then_some(draft.declaration.variants.len());
+        let (start, bearer) = match variant {
+            Some(_) => ("    ", Bearer::Variant),
+            None => ("", Bearer::Enum),
+        };
+        for part in parts {
+            let is_kept = match part.name.text {
+                "derive" if is_enum => {
+                    if !mem::replace(&mut has_derive, true) {
+                        draft.declaration.attributes = mem::try_take(&mut kept)?;
+                    }
+                    let (mut derives, _) = self.kept_of(part)?;
+                    draft.declaration.derives.append(&mut derives)?;
+                    continue;
+                }
+                "enumset" if is_enum => {
+                    draft.read_options(self.alloc, part)?;
+                    continue;
+                }
+                "serde" => draft.derives("Serialize") || draft.derives("Deserialize"),
+                "default" if !is_enum => draft.derives("Default"),
+                "error" => draft.derives("Error"),
+                _ => part.has_meaning(bearer)?,
+            };
+            if is_kept {
+                write!(kept, "{start}{}\n", part.text)?;
+            }
+            if part.name.is("serde") || (part.name.is("cfg_attr") && part.calls("serde")) {
+                draft.serde.push((*part, variant, is_kept))?;
+            } else if !is_kept {
+                self.leave_out(part.begin.place, part.text)?;
+            }
+        }
+        Ok(kept)
+    }
+
+    /// Reads an enum, whose comments and attributes are these, from its visibility up to the `}` at its end.
+    fn read_enum(&mut self, draft: &mut Draft<'a, 'b>, parts: &[Part<'a, 'b>]) -> Done {
+        draft.declaration.later_attributes = self.take(draft, parts)?;
         draft.declaration.visibility = self.cursor.read_visibility()?;
-        draft.declaration.later_attributes = draft.comments();
         let name = self.cursor.read_enum_name()?;
         draft.declaration.name = name.text;
         self.source.name(name.text, name.place)?;
         for _ in self.cursor.rest {
             draft.test_options()?;
             let parts = self.cursor.read_parts(self.alloc)?;
-            self.take(draft, parts.as_slice())?;
-            let has_attribute = parts.iter().any(|part| !part.is_comment());
-            if self.cursor.token.is_mark('}') && !has_attribute {
+            let kept = self.take(draft, parts.as_slice())?;
+            let has_attribute = parts.iter().any(|part| !part.begin.is_comment());
+            if self.cursor.token.is_mark("}") && !has_attribute {
+                draft.declaration.last_comments = kept;
                 break;
             }
-            let variant = self.read_variant(draft.comments())?;
-            draft.declaration.variants.push(variant)?;
+            draft.declaration.variants.push(self.read_variant(kept)?)?;
         }
-        draft.declaration.last_comments = draft.comments();
         if draft.declaration.variants.is_empty() {
             let note = String::from_str(self.alloc, NO_VARIANTS)?;
             self.source.notes.push((name.place, note))?;
@@ -41,12 +158,15 @@ impl<'a, 'b> Reader<'a, 'b> {
     fn read_variant(&mut self, attributes: String) -> Outcome<Variant<'a>> {
         let begin = self.cursor;
         let is_name = begin.token.is_name();
-        begin.want(is_name, "wanted: a name of a variant, or `}`")?;
+        begin
+            .token
+            .want(is_name, "wanted: a name of a variant, or `}`")?;
         self.cursor.advance_past_blanks()?;
         let discriminant = self.cursor.read_discriminant()?;
         self.cursor.end_variant(discriminant)?;
         let mut comments = String::new(self.alloc);
-        for token in self.cursor.passed_since(&begin) {
+        let end = self.cursor.token.begin;
+        for token in begin.rest.iter().take_while(|token| token.begin < end) {
             if token.is_comment() {
                 write!(comments, " {}", token.text)?;
             }
@@ -65,27 +185,30 @@ impl<'a, 'b> Cursor<'a, 'b> {
     /// Reads the keyword and the name of an enum, and the `{` after them.
     fn read_enum_name(&mut self) -> Outcome<&'b Token<'a>> {
         let is_end = matches!(self.token.kind, Kind::End);
-        self.want(!is_end, "wanted: an item")?;
-        self.want(self.token.is("enum"), "`EnumSetType` is for enums alone")?;
+        self.token.want(!is_end, "wanted: an item")?;
+        self.token
+            .want(self.token.is("enum"), "`EnumSetType` is for enums alone")?;
         self.advance_past_blanks()?;
         let name = self.token;
-        self.want(name.is_name(), "wanted: a name of an enum")?;
+        self.token
+            .want(name.is_name(), "wanted: a name of an enum")?;
         self.advance_past_blanks()?;
-        let has_parameters = self.token.is_mark('<') || self.token.is("where");
-        self.want(!has_parameters, "the enum must have no parameters")?;
-        self.want(self.token.is_mark('{'), "wanted: `{`")?;
+        let has_parameters = self.token.is_mark("<") || self.token.is("where");
+        self.token
+            .want(!has_parameters, "the enum must have no parameters")?;
+        self.token.want(self.token.is_mark("{"), "wanted: `{`")?;
         self.advance()?;
         Ok(name)
     }
 
     /// Reads `=` and a discriminant, if they are there, up to what stands after them.
     fn read_discriminant(&mut self) -> Outcome<Option<Discriminant<'a>>> {
-        if !self.token.is_mark('=') {
+        if !self.token.is_mark("=") {
             return Ok(None);
         }
         self.advance_past_blanks()?;
         let begin = self.token;
-        let is_negative = begin.is_mark('-');
+        let is_negative = begin.is_mark("-");
         if is_negative {
             self.advance_past_blanks()?;
         }
@@ -100,54 +223,57 @@ impl<'a, 'b> Cursor<'a, 'b> {
         }))
     }
 
-    /// Reads what ends a variant. A literal with anything else after it is no literal.
+    /// Reads what ends a variant, and after a `,` the rest of the line, up to what is no comment or documents what
+    /// follows. A literal with anything else after it is no literal.
     fn end_variant(&mut self, discriminant: Option<Discriminant>) -> Done {
         match (self.token.kind, discriminant) {
             (Kind::Mark('}'), _) => Ok(()),
             (Kind::Mark(','), _) => {
                 self.advance()?;
-                self.skip_line()
+                for _ in self.rest {
+                    match self.token.kind {
+                        Kind::Space if !self.token.text.contains('\n') => {}
+                        Kind::Comment => {}
+                        _ => break,
+                    }
+                    self.advance()?;
+                }
+                Ok(())
             }
             (_, Some(given)) => Err(Reason::Text(NOT_A_LITERAL).at(given.place).into()),
-            (Kind::Mark('(' | '{'), _) => self.want(false, "a variant must have no fields"),
-            _ => self.want(false, "wanted: `,` or `}`"),
+            (Kind::Mark('(' | '{'), _) => self.token.want(false, "a variant must have no fields"),
+            _ => self.token.want(false, "wanted: `,` or `}`"),
         }
-    }
-
-    /// Goes on to the end of the line, or to what stands on it that is no comment, or documents what follows.
-    fn skip_line(&mut self) -> Done {
-        for _ in self.rest {
-            match self.token.kind {
-                Kind::Space if !self.token.text.contains('\n') => {}
-                Kind::Comment => {}
-                _ => break,
-            }
-            self.advance()?;
-        }
-        Ok(())
     }
 }
 
 /// A literal without the type after it, and the number that it writes, or that a minus sign before it makes of it.
+///
+/// Past 128 bits it is a power of two up to 2^(2^32 - 1): after leading zeros a digit with one bit, and then zeros.
 fn number_of(literal: &str, is_negative: bool) -> Result<(&str, Number), &'static str> {
     let mut types = TYPES.split(' ');
     let untyped = types.find_map(|name| literal.strip_suffix(name));
     let written = untyped.unwrap_or(literal).trim_end_matches('_');
-    let (radix, digits) = radix_of(written);
+    let mut prefixes = PREFIXES.iter();
+    let digits_of = |(prefix, radix): &(&str, u32)| Some((*radix, written.strip_prefix(prefix)?));
+    let (radix, digits) = prefixes.find_map(digits_of).unwrap_or((10, written));
     if digits.is_empty() || !written.starts_with(is_digit) {
         return Err(NOT_A_LITERAL);
     }
     let mut value = Some(0u128);
     let mut exponent = None;
     for character in digits.chars().filter(|character| *character != '_') {
-        match character.to_digit(16) {
-            Some(digit) if digit < radix => {
-                exponent = power_with(value, exponent, radix, digit);
-                let tens = value.and_then(|value| value.checked_mul(u128::from(radix)));
-                value = tens.and_then(|tens| tens.checked_add(u128::from(digit)));
-            }
-            _ => return Err(NOT_A_LITERAL),
-        }
+        let digit = character.to_digit(16).filter(|digit| *digit < radix);
+        let digit = digit.ok_or(NOT_A_LITERAL)?;
+        exponent = match (value, digit) {
+            (Some(0), 1 | 2 | 4 | 8) => Some(digit.trailing_zeros()),
+            (_, 0) if radix != 10 => exponent.and_then(|exponent: u32| {
+                exponent.checked_add(radix.trailing_zeros())
+            }),
+            _ => None,
+        };
+        let shifted = value.and_then(|value| value.checked_mul(u128::from(radix)));
+        value = shifted.and_then(|shifted| shifted.checked_add(u128::from(digit)));
     }
     let number = match (value, exponent) {
         (Some(0), _) => Number::Small(0),
@@ -157,24 +283,4 @@ fn number_of(literal: &str, is_negative: bool) -> Result<(&str, Number), &'stati
         _ => return Err(TOO_LARGE),
     };
     Ok((written, number))
-}
-
-/// The base of a literal, and its digits.
-fn radix_of(literal: &str) -> (u32, &str) {
-    for (prefix, radix) in [("0x", 16), ("0o", 8), ("0b", 2)] {
-        if let Some(digits) = literal.strip_prefix(prefix) {
-            return (radix, digits);
-        }
-    }
-    (10, literal)
-}
-
-/// Which power of two, up to 2^32 - 1, the number of some digits and one more is, unless the base is decimal.
-fn power_with(value: Option<u128>, exponent: Option<u32>, radix: u32, digit: u32) -> Option<u32> {
-    match (value, digit) {
-        (Some(0), 1 | 2 | 4 | 8) => Some(digit.trailing_zeros()),
-        (Some(0), _) => None,
-        (_, 0) if radix != 10 => exponent?.checked_add(radix.trailing_zeros()),
-        _ => None,
-    }
 }

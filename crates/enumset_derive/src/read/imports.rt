@@ -24,15 +24,14 @@ impl<'a, 'b> Reader<'a, 'b> {
     pub(super) fn read_use(&mut self, place: Place, before: String, item: Cursor<'a, 'b>) -> Done {
         let keyword = self.cursor;
         self.cursor.skip_to(";", 0)?;
-        let mut tokens = Vec::new(self.alloc);
-        let passed = self.cursor.passed_since(&keyword).iter();
-        for token in passed.filter(|token| !token.is_blank()) {
-            if !token.is_name() && !token.is_one_of(":{},*") {
-                return Err(token.fault("wanted: a path, or `;`"));
-            }
-            tokens.push(*token)?;
+        let [path @ .., _] = self.cursor.words_since(&keyword) else {
+            return Ok(());
+        };
+        for word in path {
+            let is_part = word.is_name() || word.is_mark(":{},*");
+            word.want(is_part, "wanted: a path, or `;`")?;
         }
-        let is_path = tokens.first().is_some_and(|root| {
+        let is_path = path.first().is_some_and(|root| {
             root.is_name() && !is_among("core alloc", root.text)
         });
         let visibility = item.text.get(item.token.begin..keyword.token.begin);
@@ -42,7 +41,7 @@ impl<'a, 'b> Reader<'a, 'b> {
             visibility: visibility.unwrap_or("").trim_end(),
             written: is_path.then_some(self.cursor.text_since(item.token.begin)),
         };
-        for (index, tree) in trees_of(self.alloc, tokens.as_slice())?.iter().enumerate() {
+        for (index, tree) in trees_of(self.alloc, path)?.iter().enumerate() {
             if index > 0 {
                 self.source.add_space("\n");
             }
@@ -61,14 +60,14 @@ impl<'a, 'b> Reader<'a, 'b> {
         let is_known = !is_own || is_enumset || is_among(KNOWN, root.text);
         let mut names = Vec::new(self.alloc);
         for token in names_in(self.alloc, tree)? {
-            if token.is_mark('*') && !is_own {
+            if token.is_mark("*") && !is_own {
                 return Err(token.fault("`pub use` takes no `*` here: name what is exported"));
             }
             let place = if is_known { token.place } else { line.place };
             let (text, root) = (token.text, root.text);
             names.push(Name { text, place, root })?;
         }
-        if is_own && root.is("enumset") && path.iter().any(|token| token.is_mark(':')) {
+        if is_own && root.is("enumset") && path.iter().any(|token| token.is_mark(":")) {
             self.source.names.append(&mut names)?;
             return self.read_names(line, path);
         }
@@ -118,39 +117,34 @@ impl<'a, 'b> Reader<'a, 'b> {
         Ok(())
     }
 
-    /// Leaves out each import of a crate that may not be there, of which nothing is used.
+    /// Leaves out each import of a crate that may not be there, of which nothing is used and nothing may be by others.
     pub(super) fn settle_imports(&mut self) -> Done {
         for item in mem::replace(&mut self.source.items, Vec::new(self.alloc)) {
             if let Form::Import(import) = &item.form {
-                if !import.is_known && !self.is_used(import) {
+                let mut names = import.names.iter();
+                let is_used = names.any(|name| match name.text {
+                    "*" | "_" => self.has_others,
+                    text => self.used.contains(text),
+                });
+                if !import.is_known && !is_used {
                     let text = import.text.as_str();
                     self.source.leave_out(import.place, text, UNUSED)?;
                     continue;
                 }
-                self.source
-                    .names
-                    .extend_from_slice(import.names.as_slice())?;
+                let names = &mut self.source.names;
+                names.extend_from_slice(import.names.as_slice())?;
             }
             self.source.insert(item)?;
         }
         Ok(())
-    }
-
-    /// Whether an import brings a name that is used, or may bring one to other items.
-    fn is_used(&self, import: &Import<'a>) -> bool {
-        let mut names = import.names.iter();
-        names.any(|name| match name.text {
-            "*" | "_" => self.has_others,
-            text => self.words.contains(text),
-        })
     }
 }
 
 /// The paths in the brackets that a path begins with, or the path alone, each without `::` at its beginning.
 fn trees_of<'a, 'b>(alloc: Global, path: &'b [Token<'a>]) -> Outcome<Vec<&'b [Token<'a>]>> {
     match after_root(path) {
-        [open, trees @ .., _] if open.is_mark('{') => {
-            let trees = trees.split(|token| token.is_mark(',') && token.depth == open.depth);
+        [open, trees @ .., _] if open.is_mark("{") => {
+            let trees = trees.split(|token| token.is_mark(",") && token.depth == open.depth);
             Ok(trees.map(after_root).collect(alloc)?)
         }
         path => Ok(vec![in alloc; path]?),
@@ -160,26 +154,21 @@ fn trees_of<'a, 'b>(alloc: Global, path: &'b [Token<'a>]) -> Outcome<Vec<&'b [To
 /// A path without `::` at its beginning.
 fn after_root<'a, 'b>(path: &'b [Token<'a>]) -> &'b [Token<'a>] {
     match path {
-        [root, path @ ..] if root.is_mark(':') => path,
+        [root, path @ ..] if root.is_mark(":") => path,
         path => path,
     }
 }
 
-/// The names that a path brings, and the `*`: each is last before a `,`, a `}` or the end.
+/// The names that a path brings, and the `*`. A lone `self` stands for the name before its bracket.
 fn names_in<'a, 'b>(alloc: Global, tree: &'b [Token<'a>]) -> Outcome<Vec<&'b Token<'a>>> {
     let mut names = Vec::new(alloc);
-    let mut name = None;
     let mut parent = None;
-    for (index, token) in tree.iter().enumerate() {
-        let next = tree.get(index.saturating_add(1));
-        if token.is_mark('{') {
-            parent = name;
-        } else if !token.is_one_of(":,}") {
-            let own = if token.is("self") { parent } else { None };
-            name = own.or(Some(token));
-            if next.is_none_or(|next| next.is_one_of(",}")) {
-                names.extend(name)?;
-            }
+    for path in tree.split(|token| token.is_mark(",{}")) {
+        match path {
+            [.., name, mark] if mark.is_mark(":") => parent = Some(name),
+            [own] if own.is("self") => names.push(parent.unwrap_or(own))?,
+            [.., name] => names.push(name)?,
+            [] => {}
         }
     }
     Ok(names)
@@ -190,10 +179,10 @@ fn spelled(alloc: Global, tree: &[Token]) -> Result<String, AllocError> {
     let mut text = String::new(alloc);
     let mut has_comma = false;
     for token in tree {
-        if has_comma && !token.is_mark('}') {
+        if has_comma && !token.is_mark("}") {
             text.push_str(", ")?;
         }
-        has_comma = token.is_mark(',');
+        has_comma = token.is_mark(",");
         text.push_str(match token.text {
             "," => "",
             "as" => " as ",

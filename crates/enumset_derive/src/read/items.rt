@@ -16,52 +16,51 @@ impl<'a, 'b> Reader<'a, 'b> {
     pub(super) fn read_item(&mut self) -> Done {
         let begin = self.cursor;
         let parts = self.cursor.read_parts(self.alloc)?;
-        if place_of_derive(self.cursor.passed_since(&begin), self.derive).is_some() {
+        if place_of_derive(self.cursor.words_since(&begin), self.derive).is_some() {
             return self.read_element(parts.as_slice());
         }
         let mut text = self.kept_parts(parts.as_slice())?;
         let item = self.cursor;
         let _ = self.cursor.read_visibility()?;
-        if self.cursor.token.is("use") {
+        let keyword = self.cursor.token;
+        if keyword.is("use") {
             return self.read_use(begin.token.place, text, item);
         }
-        let mut ahead = self.cursor;
-        ahead.advance_past_blanks()?;
-        let is_crate = self.cursor.token.is("extern") && ahead.token.is("crate");
-        if is_among(NAMED, self.cursor.token.text) && ahead.token.is_name() {
-            self.source.name(ahead.token.text, ahead.token.place)?;
+        let next = self.cursor.words.first().unwrap_or(keyword);
+        if is_among(NAMED, keyword.text) && next.is_name() {
+            self.source.name(next.text, next.place)?;
         }
         self.cursor.skip_to(";}", 0)?;
-        if is_crate {
+        if keyword.is("extern") && next.is("crate") {
             let text = self.cursor.text_since(begin.token.begin);
             return self.leave_out(begin.token.place, text);
         }
-        let tokens = self.cursor.passed_since(&item);
-        if let Some(place) = place_of_derive(tokens, self.derive) {
+        let words = self.cursor.words_since(&item);
+        if let Some(place) = place_of_derive(words, self.derive) {
             return Err(Reason::Text(INSIDE).at(place).into());
         }
-        self.add_words(tokens)?;
+        self.add_words(words)?;
         self.has_others = true;
         self.write_item(&mut text, item)?;
         Ok(self.source.push(Form::Text(text))?)
     }
 
-    /// Takes in the words among tokens.
-    pub(super) fn add_words(&mut self, tokens: &[Token<'a>]) -> Done {
-        for token in tokens {
-            if matches!(token.kind, Kind::Word) {
-                self.words.insert(token.text)?;
+    /// Takes in the names, keywords and numbers among words.
+    pub(super) fn add_words(&mut self, words: &[Token<'a>]) -> Done {
+        for word in words {
+            if matches!(word.kind, Kind::Letters) {
+                self.used.insert(word.text)?;
             }
         }
         Ok(())
     }
 
     /// What is kept of the comments and attributes of an item that is no element type, a line each.
-    fn kept_parts(&mut self, parts: &[Attribute<'a, 'b>]) -> Outcome<String> {
+    fn kept_parts(&mut self, parts: &[Part<'a, 'b>]) -> Outcome<String> {
         let mut out = String::new(self.alloc);
         for part in parts {
             let text = part.text;
-            if part.is("derive") {
+            if part.name.is("derive") {
                 match self.kept_of(part)? {
                     (_, true) => write!(out, "{text}\n")?,
                     (kept, _) if kept.is_empty() => {}
@@ -70,7 +69,7 @@ impl<'a, 'b> Reader<'a, 'b> {
             } else if part.has_meaning(Bearer::Item)? {
                 write!(out, "{text}\n")?;
             } else {
-                self.leave_out(part.place, text)?;
+                self.leave_out(part.begin.place, text)?;
             }
         }
         Ok(out)
@@ -82,20 +81,19 @@ impl<'a, 'b> Reader<'a, 'b> {
         let mut from = item.token.begin;
         for _ in item.rest {
             let begin = cursor.token;
-            let is_macro = begin.is_name() && cursor.is_before('!');
+            let is_macro = begin.is_name() && cursor.is_before("!");
             if begin.begin >= self.cursor.token.begin || is_macro {
                 break;
             }
-            if !begin.is_mark('#') || !cursor.is_before('[') {
+            if !begin.is_mark("#") || !cursor.is_before("[") {
                 cursor.advance()?;
                 continue;
             }
-            let attribute = cursor.read_attribute()?;
+            let part = cursor.read_part()?;
             cursor.advance()?;
-            let is_helper = is_among(HELPERS, attribute.name.token.text);
-            if !is_helper && !attribute.has_meaning(Bearer::Item)? {
+            if !is_among(HELPERS, part.name.text) && !part.has_meaning(Bearer::Item)? {
                 out.push_str(cursor.text.get(from..begin.begin).unwrap_or(""))?;
-                self.leave_out(attribute.place, attribute.text)?;
+                self.leave_out(begin.place, part.text)?;
                 if matches!(cursor.token.kind, Kind::Space) {
                     cursor.advance()?;
                 }

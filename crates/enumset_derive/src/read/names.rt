@@ -1,5 +1,6 @@
 //! The names of variants in JSON, as attributes of `serde` give them.
 
+use super::options::value_of;
 use super::*;
 
 const OTHER: &str = "names in JSON follow `rename_all = \"..\"` on the enum and `rename = \"..\"` \
@@ -40,16 +41,6 @@ fn styled(alloc: Global, style: &str, name: &str) -> Result<String, AllocError> 
     Ok(text)
 }
 
-/// An attribute of `serde`.
-#[derive(Clone, Copy)]
-pub(super) struct Serde<'a, 'b> {
-    pub attribute: Attribute<'a, 'b>,
-    /// How many variants stand before it, if it is a variant's.
-    pub variant: Option<usize>,
-    /// Whether it is among the attributes that are written.
-    pub is_kept: bool,
-}
-
 impl<'a, 'b> Draft<'a, 'b> {
     /// The names of the variants in JSON, and where each is given, if sets are written by names and one may not be the
     /// variant's own.
@@ -77,48 +68,28 @@ impl<'a, 'b> Draft<'a, 'b> {
     /// What the attributes of `serde` give: of each the variant that it stands before, the place and the text.
     fn given_names(&self, alloc: Global) -> Outcome<Vec<(Option<usize>, Place, &'a str)>> {
         let mut given = Vec::new(alloc);
-        for serde in &self.serde {
-            let mut cursor = serde.attribute.arguments()?;
-            for _ in cursor.rest {
-                if !serde.attribute.go_to_argument(&mut cursor)? {
-                    break;
+        for (part, variant, _) in &self.serde {
+            for argument in part.arguments(alloc)? {
+                let [name, rest @ ..] = argument? else {
+                    continue;
+                };
+                match (name.text, variant) {
+                    ("rename_all", None) | ("rename", Some(_)) => {
+                        let has_value = matches!(rest, [equal, ..] if equal.is_mark("="));
+                        name.want(has_value, OTHER)?;
+                        let (value, text) = value_of(name, rest)?;
+                        let is_style = variant.is_some() || is_among(STYLES, text);
+                        value.want(is_style, WRONG_STYLE)?;
+                        let is_plain = |letter| matches!(letter, ' '..='!' | '#'..='[' | ']'..='~');
+                        value.want(text.chars().all(is_plain), NOT_PLAIN)?;
+                        given.push((*variant, value.place, text))?;
+                    }
+                    ("rename" | "rename_all_fields" | "deny_unknown_fields", None)
+                    | ("rename_all", Some(_))
+                    | ("crate" | "bound" | "expecting", _) => {}
+                    _ => return Err(name.fault(OTHER)),
                 }
-                if let Some((place, text)) = serde.read_argument(&mut cursor)? {
-                    given.push((serde.variant, place, text))?;
-                }
             }
-        }
-        Ok(given)
-    }
-}
-
-impl<'a, 'b> Serde<'a, 'b> {
-    /// Reads an argument, up to what stands after it.
-    fn read_argument(&self, cursor: &mut Cursor<'a, 'b>) -> Outcome<Option<(Place, &'a str)>> {
-        let name = cursor.token;
-        let given = match (name.text, self.variant) {
-            ("rename_all", None) | ("rename", Some(_)) => {
-                let mut ahead = *cursor;
-                ahead.advance_past_blanks()?;
-                cursor.want(ahead.token.is_mark('='), OTHER)?;
-                let value = cursor.read_value()?;
-                let is_style = self.variant.is_some() || is_among(STYLES, value);
-                cursor.want(is_style, WRONG_STYLE)?;
-                let is_plain = |letter| matches!(letter, ' '..='!' | '#'..='[' | ']'..='~');
-                cursor.want(value.chars().all(is_plain), NOT_PLAIN)?;
-                Some((cursor.token.place, value))
-            }
-            ("rename" | "rename_all_fields" | "deny_unknown_fields", None)
-            | ("rename_all", Some(_))
-            | ("crate" | "bound" | "expecting", _) => None,
-            _ => return Err(name.fault(OTHER)),
-        };
-        for _ in cursor.rest {
-            let is_end = cursor.token.is_mark(',') && cursor.token.depth == name.depth;
-            if is_end || (cursor.token.is_mark(')') && cursor.token.depth < name.depth) {
-                break;
-            }
-            cursor.advance_past_blanks()?;
         }
         Ok(given)
     }

@@ -17,99 +17,107 @@ const OLD_LIST: &str = "`serialize_as_list` is written `serialize_repr = \"list\
 
 impl<'a, 'b> Draft<'a, 'b> {
     /// Reads the options in an attribute.
-    pub fn read_options(&mut self, attribute: &Attribute<'a, 'b>) -> Done {
-        let mut cursor = attribute.arguments()?;
-        for _ in cursor.rest {
-            if !attribute.go_to_argument(&mut cursor)? {
-                break;
-            }
-            let name = cursor.token;
-            let is_name = matches!(name.kind, Kind::Word);
-            cursor.want(is_name, "wanted: a name of an option, or `)`")?;
+    pub fn read_options(&mut self, alloc: Global, part: &Part<'a, 'b>) -> Done {
+        for argument in part.arguments(alloc)? {
+            let [name, rest @ ..] = argument? else {
+                continue;
+            };
+            let is_name = matches!(name.kind, Kind::Letters);
+            name.want(is_name, "wanted: a name of an option, or `)`")?;
             if let Some(first) = self.given.iter().find(|given| given.is(name.text)) {
                 return Err(Reason::OptionTwice(first.place).at(name.place).into());
             }
             self.given.push(name)?;
-            self.read_option(&mut cursor)?;
-            cursor.advance_past_blanks()?;
+            self.read_option(name, rest)?;
+            let rest = match rest {
+                [equal, _, rest @ ..] if equal.is_mark("=") => rest,
+                rest => rest,
+            };
+            if let [more, _, ..] = rest {
+                return Err(more.fault("wanted: `,` or `)`"));
+            }
         }
         Ok(())
     }
 
-    /// Reads an option, up to its last token.
-    fn read_option(&mut self, cursor: &mut Cursor<'a, 'b>) -> Done {
+    /// Reads an option, which is a name and what comes after it.
+    fn read_option(&mut self, name: &'b Token<'a>, rest: &'b [Token<'a>]) -> Done {
         let options = &mut self.declaration.options;
-        match cursor.token.text {
+        match name.text {
             "map" => {
-                let map = match cursor.read_value()? {
+                let (value, text) = value_of(name, rest)?;
+                let map = match text {
                     "lsb" => Map::Lsb,
                     "msb" => Map::Msb,
                     "mask" => Map::Mask,
                     "compact" => Map::Compact,
-                    _ => return cursor.want(false, WRONG_MAP),
+                    _ => return Err(value.fault(WRONG_MAP)),
                 };
-                options.map = Some((map, cursor.token.place));
+                options.map = Some((map, value.place));
             }
             "repr" => {
-                options.representation = Some(match cursor.read_value()? {
-                    "array" => Representation::Words,
-                    name => Representation::Integer(cursor.integer(name, WRONG_REPRESENTATION)?),
+                let (value, text) = value_of(name, rest)?;
+                options.representation = Some(match integer_of(text) {
+                    Some(integer) => Representation::Integer(integer),
+                    None if text == "array" => Representation::Words,
+                    None => return Err(value.fault(WRONG_REPRESENTATION)),
                 });
             }
             "serialize_repr" => {
-                options.serialized = Some(match cursor.read_value()? {
-                    "array" => Serialized::Words,
-                    "list" => Serialized::List,
-                    "map" => Serialized::Map,
-                    name => Serialized::Integer(cursor.integer(name, WRONG_FORM)?),
+                let (value, text) = value_of(name, rest)?;
+                options.serialized = Some(match (text, integer_of(text)) {
+                    (_, Some(integer)) => Serialized::Integer(integer),
+                    ("array", _) => Serialized::Words,
+                    ("list", _) => Serialized::List,
+                    ("map", _) => Serialized::Map,
+                    _ => return Err(value.fault(WRONG_FORM)),
                 });
             }
-            "crate_name" => options.crate_name = Some(cursor.read_value()?),
-            "serialize_deny_unknown" => options.denies_unknown = cursor.read_boolean()?,
-            "no_ops" => options.leaves_out_operators = cursor.read_boolean()?,
-            "no_super_impls" => options.leaves_out_supertraits = cursor.read_boolean()?,
-            "display" => options.has_display = cursor.read_boolean()?,
-            "serialize_as_list" => cursor.want(false, OLD_LIST)?,
-            _ => cursor.want(false, "there is no such option")?,
+            "crate_name" => options.crate_name = Some(value_of(name, rest)?.1),
+            "serialize_deny_unknown" => options.denies_unknown = boolean_of(rest)?,
+            "no_ops" => options.leaves_out_operators = boolean_of(rest)?,
+            "no_super_impls" => options.leaves_out_supertraits = boolean_of(rest)?,
+            "display" => options.has_display = boolean_of(rest)?,
+            "serialize_as_list" => return Err(name.fault(OLD_LIST)),
+            _ => return Err(name.fault("there is no such option")),
         }
         Ok(())
     }
 }
 
-impl<'a> Cursor<'a, '_> {
-    /// Reads `=` and a value, up to its text.
-    pub fn read_value(&mut self) -> Outcome<&'a str> {
-        self.advance_past_blanks()?;
-        self.want(self.token.is_mark('='), NO_VALUE)?;
-        self.advance_past_blanks()?;
-        self.token.unquoted().ok_or(self.token.fault(NO_VALUE))
-    }
+/// The value after `=` in what comes after a name, and the text in its quotes.
+pub(super) fn value_of<'a, 'b>(
+    name: &'b Token<'a>,
+    rest: &'b [Token<'a>],
+) -> Outcome<(&'b Token<'a>, &'a str)> {
+    let (value, text) = match rest {
+        [equal, value, ..] if equal.is_mark("=") => (value, value.unquoted()),
+        _ => (rest.first().unwrap_or(name), None),
+    };
+    Ok((value, text.ok_or(value.fault(NO_VALUE))?))
+}
 
-    /// Reads `=` and a value that is true or false, up to it, if there is one. Otherwise it is true.
-    fn read_boolean(&mut self) -> Outcome<bool> {
-        let mut ahead = *self;
-        ahead.advance_past_blanks()?;
-        if !ahead.token.is_mark('=') {
-            return Ok(true);
-        }
-        ahead.advance_past_blanks()?;
-        *self = ahead;
-        match self.token.unquoted().unwrap_or(self.token.text) {
-            "true" => Ok(true),
-            "false" => Ok(false),
-            _ => Err(self.token.fault("wanted: `true` or `false`")),
-        }
+/// The value after `=` in what comes after a name, which is true or false. Without a value it is true.
+fn boolean_of(rest: &[Token]) -> Outcome<bool> {
+    let value = match rest {
+        [equal, value, ..] if equal.is_mark("=") => value,
+        _ => return Ok(true),
+    };
+    match value.unquoted().unwrap_or(value.text) {
+        "true" => Ok(true),
+        "false" => Ok(false),
+        _ => Err(value.fault("wanted: `true` or `false`")),
     }
+}
 
-    /// The integer type of a name, which is the token's, or a fault at it.
-    fn integer(&self, name: &str, wanted: &'static str) -> Outcome<IntegerType> {
-        Ok(match name {
-            "u8" => IntegerType::U8,
-            "u16" => IntegerType::U16,
-            "u32" => IntegerType::U32,
-            "u64" => IntegerType::U64,
-            "u128" => IntegerType::U128,
-            _ => return Err(self.token.fault(wanted)),
-        })
+/// The integer type of a name.
+fn integer_of(name: &str) -> Option<IntegerType> {
+    match name {
+        "u8" => Some(IntegerType::U8),
+        "u16" => Some(IntegerType::U16),
+        "u32" => Some(IntegerType::U32),
+        "u64" => Some(IntegerType::U64),
+        "u128" => Some(IntegerType::U128),
+        _ => None,
     }
 }

@@ -7,6 +7,8 @@ use std::alloc::Global;
 /// What a text or a character in quotes is that has no end.
 const UNCLOSED: (Kind, &str) = (Kind::Fault("this quote has no end"), "");
 
+const RAW_NAME: &str = "no raw names here: choose one that is no keyword";
+
 /// The brackets that have begun: the character that is to end each, and where it is.
 type Open = Vec<(char, Place)>;
 
@@ -38,8 +40,14 @@ fn token_of<'a>(
     begin: usize,
     place: Place,
 ) -> Outcome<Token<'a>> {
+    match kind {
+        Kind::Mark('(') => open.push((')', place))?,
+        Kind::Mark('[') => open.push((']', place))?,
+        Kind::Mark('{') => open.push(('}', place))?,
+        _ => {}
+    }
     let unclosed = match kind {
-        Kind::Mark(mark) => unclosed_by(open, mark, place)?,
+        Kind::Mark(mark @ (')' | ']' | '}')) => open.pop().filter(|(end, _)| *end != mark),
         Kind::End => open.first().copied(),
         _ => None,
     };
@@ -47,26 +55,13 @@ fn token_of<'a>(
         Some((_, place)) => (Kind::Fault(UNCLOSED_BRACKET), place),
         None => (kind, place),
     };
-    let depth = open.len();
     Ok(Token {
         kind,
         text,
         begin,
         place,
-        depth,
+        depth: open.len(),
     })
-}
-
-/// Takes in a mark. Gives the bracket that it leaves without its end.
-fn unclosed_by(open: &mut Open, mark: char, place: Place) -> Outcome<Option<(char, Place)>> {
-    match mark {
-        '(' => open.push((')', place))?,
-        '[' => open.push((']', place))?,
-        '{' => open.push(('}', place))?,
-        ')' | ']' | '}' => return Ok(open.pop().filter(|(end, _)| *end != mark)),
-        _ => {}
-    }
-    Ok(None)
 }
 
 /// What the first token of a text is, and the text after it.
@@ -135,7 +130,7 @@ fn word(text: &str) -> (Kind, &str) {
         ("b" | "c", Some('"')) => after_quote(after_next),
         ("b" | "c", Some('\'')) => after_tick(after_next),
         (word, _) if !word.is_ascii() => (Kind::Fault("names are ASCII here"), rest),
-        _ => (Kind::Word, rest),
+        _ => (Kind::Letters, rest),
     }
 }
 
@@ -161,10 +156,8 @@ fn after_tick(text: &str) -> (Kind, &str) {
     if first == '\\' {
         let _ = characters.next();
     }
-    match characters.as_str().split_once('\'') {
-        Some((_, rest)) => (Kind::Quoted, rest),
-        None => UNCLOSED,
-    }
+    let end = characters.as_str().split_once('\'');
+    end.map_or(UNCLOSED, |(_, rest)| (Kind::Quoted, rest))
 }
 
 /// What a raw text is, or a raw name, of which `r`, `br` or `cr` stands before this text, and the text after it.
@@ -172,21 +165,14 @@ fn after_raw_prefix(text: &str) -> (Kind, &str) {
     let rest = text.trim_start_matches('#');
     let hashes = before(text, rest);
     if let Some(quoted) = rest.strip_prefix('"') {
-        for (at, _) in quoted.match_indices('"') {
-            if let Some(rest) = after(quoted, at).strip_prefix(hashes) {
-                return (Kind::Quoted, rest);
-            }
-        }
-        return UNCLOSED;
+        let mut ends = quoted.match_indices('"');
+        let rest = ends.find_map(|(at, _)| after(quoted, at).strip_prefix(hashes));
+        return rest.map_or(UNCLOSED, |rest| (Kind::Quoted, rest));
     }
     if rest.starts_with(is_word) {
-        (
-            Kind::Fault("no raw names here: choose one that is no keyword"),
-            "",
-        )
-    } else {
-        (Kind::Other, rest)
+        return (Kind::Fault(RAW_NAME), "");
     }
+    (Kind::Other, rest)
 }
 
 /// What stands in a text before the rest of it.

@@ -30,6 +30,11 @@ pub(super) fn write_element_type(out: &mut String, of: &Subject) -> Written {
     }
 }
 
+/// Whether what keeps a set has at most 128 bits.
+pub(super) fn is_narrow(plan: &Plan) -> bool {
+    !matches!(&plan.store, Store::Words(words) if words.len() > 2)
+}
+
 /// Whether a bit becomes its variant by a load from a table: there are more than sixteen, and they are not the places.
 pub(super) fn is_in_table(plan: &Plan) -> bool {
     plan.variants.len() > 16 && !are_places(plan)
@@ -57,34 +62,24 @@ fn write_impl(out: &mut String, of: &Subject) -> Written {
     let plan = &of.element.plan;
     let (width, count) = (plan.bit_width, plan.variants.len());
     let [repr, bits, all_bits] = store_text(alloc, &plan.store)?;
-    let (law, is_wide) = match plan.store {
-        Store::Integer(_, _) => ("lawful_in_integer", false),
-        Store::Words(_) => ("lawful_in_words", true),
-    };
-    let lawful = format!(in alloc; "{law} the_type _ tt")?;
-    let in_place = are_cast(of) && are_places(plan);
-    let (made, more, list, lawful) = if in_place {
-        let lawful = format!(in alloc; "lawful_in_place the_type ({lawful})")?;
-        ("in_place", ", lawful_in_place", String::new(alloc), lawful)
+    let is_wide = matches!(plan.store, Store::Words(_));
+    let law = if is_wide {
+        "lawful_in_words"
     } else {
-        let mut words = String::new(alloc);
-        for named in &plan.variants {
-            write!(words, "{} ∷\n", named.bit)?;
-        }
-        let list = list_of(alloc, 59, words.as_str())?;
-        ("with_bits", "", format!(in alloc; " ({list})")?, lawful)
+        "lawful_in_integer"
     };
-    let has_values = of.element.declaration.options.has_display;
-    let (variants, values) = if has_values {
-        let list = list_by_names(of, 79, "variant.", "")?;
-        let path = format!(in alloc; "Rattle.{crate_name}.specs.declared.{module}.{name}")?;
+    let in_place = are_cast(of) && are_places(plan);
+    let (made, more, before, after) = if in_place {
         (
-            format!(in alloc; "    ghost use {path}.TheVariants as variant;\n")?,
-            format!(in alloc; "    ghost values = {{ {list} }};\n\n")?,
+            "in_place",
+            ", lawful_in_place",
+            "lawful_in_place the_type (",
+            ")",
         )
     } else {
-        (String::new(alloc), String::new(alloc))
+        ("with_bits", "", "", "")
     };
+    let has_values = of.element.declaration.options.has_display;
     write_head(out, of, "", "EnumSetType")?;
     if !in_place || has_values || is_wide {
         out.push_str("    ghost use Rattle.std.specs.Prelude.{◌∷◌, []};\n")?;
@@ -93,12 +88,33 @@ fn write_impl(out: &mut String, of: &Subject) -> Written {
         out,
         "    ghost use Rattle.enumset_sets.specs.Laws.Elements.{{{made}, {law}{more}}};
     ghost use Rattle.{crate_name}.specs.contracts.{module}.{name}.{{the_type}};
-{variants}
-    type Repr = {repr};
-
-    ghost elements = {{ {made} the_type{list} }};
-
-{values}    ghost ALL_BITS = {{ {bits} }};
+"
+    )?;
+    if has_values {
+        write!(
+            out,
+            "    ghost use Rattle.{crate_name}.specs.declared.{module}.{name}.TheVariants as variant;\n"
+        )?;
+    }
+    write!(
+        out,
+        "\n    type Repr = {repr};\n\n    ghost elements = {{ {made} the_type"
+    )?;
+    if !in_place {
+        let mut words = String::new(alloc);
+        for named in &plan.variants {
+            write!(words, "{} ∷\n", named.bit)?;
+        }
+        write!(out, " ({})", list_of(alloc, 59, words.as_str())?)?;
+    }
+    out.push_str(" };\n\n")?;
+    if has_values {
+        let list = list_by_names(of, 79, "variant.", "")?;
+        write!(out, "    ghost values = {{ {list} }};\n\n")?;
+    }
+    write!(
+        out,
+        "    ghost ALL_BITS = {{ {bits} }};
 
     const ALL_BITS: {repr} = {all_bits};
 
@@ -116,7 +132,10 @@ fn write_impl(out: &mut String, of: &Subject) -> Written {
     write_into_u32(out, of)?;
     out.push_str("    }\n\n    fn enum_from_u32(val: u32) -> Self {\n")?;
     write_from_u32(out, of)?;
-    write!(out, "    }}\n\n    ghost lawful = {{ {lawful} }};\n}}")
+    write!(
+        out,
+        "    }}\n\n    ghost lawful = {{ {before}{law} the_type _ tt{after} }};\n}}"
+    )
 }
 
 /// Writes the body that converts a variant to its bit.
@@ -131,7 +150,7 @@ fn write_into_u32(out: &mut String, of: &Subject) -> Written {
     out.push_str("        match self {\n")?;
     for (variant, named) in variants.iter().zip(of.element.plan.variants.iter()) {
         let arm = format!(in of.alloc; "Self::{} => {}", variant.name, named.bit)?;
-        write_arm(out, of.alloc, arm.as_str())?;
+        write_arm(out, arm.as_str())?;
     }
     out.push_str("        }\n")
 }
@@ -139,13 +158,13 @@ fn write_into_u32(out: &mut String, of: &Subject) -> Written {
 /// Writes the body that converts a bit to its variant: a match over the bits, or the call of the macro that makes a table.
 fn write_from_u32(out: &mut String, of: &Subject) -> Written {
     let (alloc, facade, name) = (of.alloc, of.facade, of.name);
-    let plan = &of.element.plan;
-    let variants = of
-        .element
-        .declaration
-        .variants
-        .iter()
-        .zip(plan.variants.iter());
+    let Element {
+        declaration,
+        plan,
+        ..
+    } = of.element;
+    let count = plan.variants.len();
+    let variants = declaration.variants.iter().zip(plan.variants.iter());
     if is_in_table(plan) {
         let mut words = format!(in alloc; "val, {name}:\n")?;
         for (variant, named) in variants {
@@ -156,47 +175,34 @@ fn write_from_u32(out: &mut String, of: &Subject) -> Written {
     out.push_str("        match val {\n")?;
     for (variant, named) in variants {
         let arm = format!(in alloc; "{} => Self::{}", named.bit, variant.name)?;
-        write_arm(out, alloc, arm.as_str())?;
+        write_arm(out, arm.as_str())?;
     }
-    let count = plan.variants.len();
-    if count > 32 {
-        // A proof takes in no more bits by itself.
-        write!(
-            out,
-            "            _ => {{
+    if count <= 32 {
+        return out.push_str("            _ => unreachable!(),\n        }\n");
+    }
+    // A proof takes in no more bits by itself.
+    write!(
+        out,
+        "            _ => {{
                 {facade}::variants::is_below(val, {count});
                 unreachable!()
             }}
         }}
 "
-        )
-    } else {
-        out.push_str("            _ => unreachable!(),\n        }\n")
-    }
-}
-
-/// Whether what keeps a set has at most 128 bits.
-pub(super) fn is_narrow(plan: &Plan) -> bool {
-    match &plan.store {
-        Store::Integer(_, _) => true,
-        Store::Words(words) => words.len() <= 2,
-    }
+    )
 }
 
 /// What keeps a set, as a module writes it: the type, and the set of all bits in a clause and in code.
+///
+/// Words are on one line if they fit, on filled lines, or on a line each if one has over ten digits.
 fn store_text(alloc: Global, store: &Store) -> Result<[String; 3], AllocError> {
-    match store {
-        Store::Integer(integer, number) => Ok([
-            format!(in alloc; "u{}", integer.width())?,
-            number.to_string(alloc)?,
-            number.to_string(alloc)?,
-        ]),
-        Store::Words(words) => text_of_words(alloc, words),
-    }
-}
-
-/// The text of words: on one line if it fits, on filled lines, or on a line each if one has over ten digits.
-fn text_of_words(alloc: Global, all: &[u64]) -> Result<[String; 3], AllocError> {
+    let all = match store {
+        Store::Words(words) => words,
+        Store::Integer(integer, number) => {
+            let repr = format!(in alloc; "u{}", integer.width())?;
+            return Ok([repr, number.to_string(alloc)?, number.to_string(alloc)?]);
+        }
+    };
     let repr = format!(in alloc; "ArrayRepr<{}>", all.len())?;
     let mut items = String::new(alloc);
     let mut words = String::new(alloc);
@@ -204,12 +210,12 @@ fn text_of_words(alloc: Global, all: &[u64]) -> Result<[String; 3], AllocError> 
         write!(items, "{word} ∷\n")?;
         write!(words, "{word},\n")?;
     }
-    let is_wide = all.iter().any(|word| *word >= 10_000_000_000);
-    let room = if is_wide { 0 } else { LIST_ROOM };
     let line = on_a_line(alloc, words.as_str())?;
     let all_bits = if line.len().saturating_add(repr.len()) < 64 {
         format!(in alloc; "ArrayRepr([{line}])")?
     } else {
+        let is_wide = all.iter().any(|word| *word >= 10_000_000_000);
+        let room = if is_wide { 0 } else { LIST_ROOM };
         let lines = wrapped(alloc, LIST_START, [room, room], words.as_str())?;
         format!(in alloc; "ArrayRepr([\n        {lines}\n    ])")?
     };

@@ -6,8 +6,8 @@ use super::*;
 const DROPPED: &str =
     "// Its discriminants are left out: one of them is past those that Rattle takes, -2^63 to 2^63 - 1.\n";
 
-/// What an element type needs.
-const SUPERTRAITS: [&str; 4] = ["Clone", "Copy", "PartialEq", "Eq"];
+/// What an element type needs, a line each.
+const SUPERTRAITS: &str = "Clone,\nCopy,\nPartialEq,\nEq,\n";
 
 /// Whether Rattle takes all discriminants that are given.
 pub(super) fn are_kept(variants: &[Variant]) -> bool {
@@ -22,44 +22,39 @@ pub(super) fn are_kept(variants: &[Variant]) -> bool {
 /// Writes the enum.
 pub(super) fn write_enum(out: &mut String, alloc: Global, element: &Element) -> Written {
     let declaration = &element.declaration;
-    let (before, after) = (&declaration.attributes, &declaration.later_attributes);
     let (visibility, restriction) = declaration.visibility;
     let (name, last_comments) = (declaration.name, &declaration.last_comments);
     let has_discriminants = are_kept(&declaration.variants);
-    let dropped = if has_discriminants { "" } else { DROPPED };
-    write!(out, "{before}{dropped}")?;
+    out.push_str(declaration.attributes.as_str())?;
+    if !has_discriminants {
+        out.push_str(DROPPED)?;
+    }
     write_derives(out, alloc, declaration)?;
+    out.push_str(declaration.later_attributes.as_str())?;
     let gap = if visibility.is_empty() { "" } else { " " };
-    let is_empty = declaration.variants.is_empty() && last_comments.is_empty();
-    let end = if is_empty { "" } else { "\n" };
-    write!(
-        out,
-        "{after}{visibility}{restriction}{gap}enum {name} {{{end}"
-    )?;
+    write!(out, "{visibility}{restriction}{gap}enum {name} {{")?;
+    if !declaration.variants.is_empty() || !last_comments.is_empty() {
+        out.push('\n')?;
+    }
     for variant in &declaration.variants {
-        let (before, comments) = (&variant.attributes, &variant.comments);
-        write!(out, "{before}    {}", variant.name)?;
+        write!(out, "{}    {}", variant.attributes, variant.name)?;
         let given = variant.discriminant.filter(|_| has_discriminants);
         if let Some(Discriminant { sign, literal, .. }) = given {
             write!(out, " = {sign}{literal}")?;
         }
-        write!(out, ",{comments}\n")?;
+        write!(out, ",{}\n", variant.comments)?;
     }
     write!(out, "{last_comments}}}")
 }
 
 /// Writes the derives, on a line or on a line each: those that an element type needs, and those of the source.
 fn write_derives(out: &mut String, alloc: Global, declaration: &EnumDeclaration) -> Written {
-    let mut words = String::new(alloc);
     let is_full = !declaration.options.leaves_out_supertraits;
-    if is_full {
-        for name in SUPERTRAITS {
-            write!(words, "{name},\n")?;
-        }
-    }
+    let needed = if is_full { SUPERTRAITS } else { "" };
+    let mut words = String::from_str(alloc, needed)?;
     for path in &declaration.derives {
-        let mut names = SUPERTRAITS.iter();
-        if !is_full || !names.any(|name| names_last(path.as_str(), name)) {
+        let mut names = needed.lines().map(|line| line.trim_end_matches(','));
+        if !names.any(|name| names_last(path.as_str(), name)) {
             write!(words, "{path},\n")?;
         }
     }

@@ -8,15 +8,15 @@ const TAKEN: &str = "the module needs this name for what it imports of `enumset`
 /// gives a needed name to something else.
 pub(super) fn imports_of(source: &Source) -> Outcome<String> {
     let alloc = source.alloc;
-    let mut imports = BTreeSet::new(alloc);
+    let mut imports: BTreeSet<&str> = BTreeSet::new(alloc);
     for name in &source.imports {
-        imports.insert(name.clone()?)?;
+        imports.insert(name.as_str())?;
     }
     for item in &source.items {
         if let Form::Element(element) = &item.form {
             for (is_needed, name) in needed_by(element) {
                 if is_needed && is_free(source, name)? {
-                    imports.insert(String::from_str(alloc, name)?)?;
+                    imports.insert(name)?;
                 }
             }
         }
@@ -57,14 +57,14 @@ fn is_free(source: &Source, path: &str) -> Outcome<bool> {
 }
 
 /// The lines that import these.
-fn lines_of(source: &Source, imports: &BTreeSet<String>) -> Text {
+fn lines_of(source: &Source, imports: &BTreeSet<&str>) -> Text {
     let (alloc, facade) = (source.alloc, source.facade);
     let is_ours = facade == "enumset_sets";
     let mut words = String::new(alloc);
     let mut paths = String::new(alloc);
-    let has_all = imports.iter().any(|name| name.as_str() == "*");
+    let has_all = imports.contains("*");
     for name in imports {
-        if is_ours && name.as_str() == "internal::ArrayRepr" {
+        if is_ours && *name == "internal::ArrayRepr" {
             paths.push_str("use enumset_array::ArrayRepr;\n")?;
         } else if name.contains(':') {
             write!(paths, "use {facade}::{name};\n")?;
@@ -84,16 +84,15 @@ fn lines_of(source: &Source, imports: &BTreeSet<String>) -> Text {
     String::from_str(alloc, lines.trim_end())
 }
 
-/// The line that imports these names, or the lines.
+/// The line that imports these names, or the lines. `rt fmt` breaks a line of several names past 98 columns. A line of
+/// names alone has four columns before it, and at most 99 with them, or 100 if it has them all.
 fn names_of(alloc: Global, facade: &str, words: &str) -> Text {
     let line = on_a_line(alloc, words)?;
-    if line.is_empty() {
-        return Ok(line);
-    }
-    if !line.contains(',') {
-        return format!(in alloc; "use {facade}::{line};\n");
-    }
-    let whole = format!(in alloc; "use {facade}::{{{line}}};\n")?;
+    let whole = match words.lines().count() {
+        0 => return Ok(line),
+        1 => return format!(in alloc; "use {facade}::{line};\n"),
+        _ => format!(in alloc; "use {facade}::{{{line}}};\n")?,
+    };
     if whole.len() <= 99 {
         return Ok(whole);
     }

@@ -14,16 +14,14 @@ pub(super) fn wrapped(alloc: Global, start: &str, rooms: [usize; 2], words: &str
     let [mut room, room_of_line] = rooms;
     let mut out = String::new(alloc);
     for word in words.lines() {
-        let length = word.len();
-        if out.is_empty() {
-            room = room.saturating_sub(length);
-        } else if length < room {
+        if !out.is_empty() && word.len() < room {
             out.push(' ')?;
-            room = room - 1 - length;
-        } else {
+            room -= 1;
+        } else if !out.is_empty() {
             out.push_str(start)?;
-            room = room_of_line.saturating_sub(length);
+            room = room_of_line;
         }
+        room = room.saturating_sub(word.len());
         out.push_str(word)?;
     }
     Ok(out)
@@ -32,7 +30,7 @@ pub(super) fn wrapped(alloc: Global, start: &str, rooms: [usize; 2], words: &str
 /// The words, each with a comma, on one line without the comma at its end.
 pub(super) fn on_a_line(alloc: Global, words: &str) -> Text {
     let words = words.strip_suffix(",\n").unwrap_or("");
-    wrapped(alloc, "", [usize::MAX, 0], words)
+    words.replace(alloc, "\n", " ")
 }
 
 /// A list in a clause, of which these are the words but the last. Its first line has this room.
@@ -63,12 +61,13 @@ pub(super) fn write_call(out: &mut String, alloc: Global, name: &str, words: &st
 }
 
 /// Writes an arm of a match, of which the value has a line of its own where that line would be too long.
-pub(super) fn write_arm(out: &mut String, alloc: Global, arm: &str) -> Written {
-    if arm.len() <= 87 {
-        return write!(out, "            {arm},\n");
+pub(super) fn write_arm(out: &mut String, arm: &str) -> Written {
+    match arm.split_once(" => ") {
+        Some((pattern, value)) if arm.len() > 87 => {
+            write!(out, "            {pattern} =>\n                {value},\n")
+        }
+        _ => write!(out, "            {arm},\n"),
     }
-    let arm = arm.replace(alloc, " => ", " =>\n                ")?;
-    write!(out, "            {arm},\n")
 }
 
 /// Writes the head of an implementation of a trait, after an empty line and the comment of its own.

@@ -59,9 +59,10 @@ pub(super) fn write_display(out: &mut String, of: &Subject) -> Written {
     out.push_str("        match self {\n")?;
     for variant in variants {
         let name = variant.name;
-        let is_short = name.len() <= 31;
-        let gap = if is_short { "" } else { "\n                " };
-        let end = if is_short { "" } else { ",\n            " };
+        let (gap, end) = match name.len() {
+            ..=31 => ("", ""),
+            _ => ("\n                ", ",\n            "),
+        };
         write!(
             out,
             "            Self::{name} => f.write_str({gap}\"{name}\"{end}),\n"

@@ -1,0 +1,248 @@
+//! Comments, attributes and derives, and which have a meaning in Rattle.
+
+use super::*;
+
+const CONFIGURATION: &str =
+    "`cfg(test)` is the only configuration here: remove the attribute, or what is under it too";
+
+const ON_VARIANT: &str =
+    "a variant has no configuration here: remove the attribute, or the variant too";
+
+const DERIVE_ALONE: &str = "here nothing comes of `EnumSetType`: write `#[derive(..)]` alone";
+
+const OPTIONS_ALONE: &str = "here nothing comes of the options: write `#[enumset(..)]` alone";
+
+/// The attributes with a meaning before an item that is no element type alone.
+const OF_ITEMS: &str = "inline cold test ignore should_panic macro_export macro_use macro_derive \
+    unsafe error serde";
+
+/// What std, `serde` and `thiserror` derive.
+const KNOWN: &str = "Clone Copy PartialEq Eq PartialOrd Ord Default Hash Debug Drop \
+    Serialize Deserialize Error";
+
+/// The first names of paths to these derives.
+const ROOTS: &str = "std core fmt cmp hash clone marker default serde thiserror";
+
+/// What an attribute stands before or in.
+#[derive(Clone, Copy)]
+pub(super) enum Bearer {
+    /// The text.
+    Text,
+    /// An item that is no element type.
+    Item,
+    Enum,
+    Variant,
+}
+
+/// An attribute, or a comment.
+#[derive(Clone, Copy)]
+pub(super) struct Part<'a, 'b> {
+    /// The comment, or what stands before the `[`.
+    pub begin: &'b Token<'a>,
+    /// As it is written.
+    pub text: &'a str,
+    /// The name of the attribute, or the comment.
+    pub name: &'b Token<'a>,
+    /// The `[`, the name, and what comes after it, up to the `]` at the end; nothing of a comment.
+    words: &'b [Token<'a>],
+}
+
+impl<'a, 'b> Part<'a, 'b> {
+    /// Whether it is kept. It is a fault if nothing right would come of keeping it or of leaving it out.
+    pub fn has_meaning(&self, bearer: Bearer) -> Outcome<bool> {
+        let name = self.name;
+        let is_item = matches!(bearer, Bearer::Item);
+        let is_type = is_item || matches!(bearer, Bearer::Enum);
+        Ok(match name.text {
+            "doc" => self.is_written("( hidden ) ]") || self.is_text(),
+            "deprecated" | "non_exhaustive" => !matches!(bearer, Bearer::Text),
+            "repr" => is_item
+                && (self.is_written("( C ) ]") || self.is_written("( transparent ) ]")),
+            "cfg" => {
+                name.want(!matches!(bearer, Bearer::Variant), ON_VARIANT)?;
+                name.want(self.is_written("( test ) ]"), CONFIGURATION)?;
+                true
+            }
+            "cfg_attr" => {
+                name.want(place_of_derive(self.words, "").is_none(), DERIVE_ALONE)?;
+                name.want(!self.calls("enumset"), OPTIONS_ALONE)?;
+                false
+            }
+            "allow" | "warn" | "deny" | "forbid" | "expect" | "clippy" | "tactic" => true,
+            "must_use" | "rattlefmt" | "cycle" | "derive_where" => is_type,
+            word if is_among(OF_ITEMS, word) => is_item,
+            _ => name.is_comment(),
+        })
+    }
+
+    /// Whether these words come after its name, and no others.
+    fn is_written(&self, words: &str) -> bool {
+        let own = self.words.iter().skip(2).map(|word| word.text);
+        own.eq(words.split(' '))
+    }
+
+    /// Whether `=` and a text in quotes come after its name, and nothing else.
+    fn is_text(&self) -> bool {
+        matches!(self.words, [_, _, equal, text, _]
+            if equal.is_mark("=") && matches!(text.kind, Kind::Quoted))
+    }
+
+    /// Whether this name stands in it before a bracket.
+    pub fn calls(&self, name: &str) -> bool {
+        let mut pairs = self.words.array_windows::<2>();
+        pairs.any(|[word, next]| word.is(name) && next.is_mark("("))
+    }
+
+    /// Its arguments: of each the words, and the mark at its end. The last is a fault if the attribute does not end
+    /// after them.
+    pub fn arguments(&self, alloc: Global) -> Outcome<Vec<Outcome<&'b [Token<'a>]>>> {
+        let mut arguments = Vec::new(alloc);
+        let [bracket, _, open, rest @ ..] = self.words else {
+            return Ok(arguments);
+        };
+        open.want(open.is_mark("("), "wanted: `(`")?;
+        let depth = open.depth;
+        let is_end = |word: &Token| {
+            (word.is_mark(",") && word.depth == depth) || (word.is_mark(")") && word.depth < depth)
+        };
+        for argument in rest.split_inclusive(is_end) {
+            match argument {
+                [end] if end.is_mark(")]") => {}
+                [.., end] if end.is_mark("]") => {
+                    arguments.push(Err(bracket.fault(UNCLOSED_BRACKET)))?;
+                }
+                argument => arguments.push(Ok(argument))?,
+            }
+        }
+        Ok(arguments)
+    }
+}
+
+/// Where `EnumSetType` is derived among these words, or its other name.
+pub(super) fn place_of_derive(words: &[Token], renamed: &str) -> Option<Place> {
+    for words in words.split(|word| word.is("derive")).skip(1) {
+        if let [open, derived @ ..] = words
+            && open.is_mark("(")
+        {
+            let mut derived = derived.iter().take_while(|word| word.depth >= open.depth);
+            let found = derived.find(|word| word.is("EnumSetType") || word.is(renamed));
+            if let Some(found) = found {
+                return Some(found.place);
+            }
+        }
+    }
+    None
+}
+
+/// The name `F` of `EnumSetType as F` among these words, or an empty text.
+pub(super) fn renamed_derive<'a>(words: &[Token<'a>]) -> &'a str {
+    let mut words = words.array_windows::<3>();
+    let renamed = words.find(|[name, by, _]| name.is("EnumSetType") && by.is("as"));
+    renamed.map_or("", |[_, _, new]| new.text)
+}
+
+/// The path that an argument of a derive is.
+fn path_of(alloc: Global, argument: &[Token]) -> Outcome<String> {
+    let mut path = String::new(alloc);
+    let mut was_name = false;
+    for word in argument {
+        let is_name = word.is_name();
+        let is_part = is_name || word.is_mark(":");
+        if !is_part || (is_name == was_name && !path.is_empty()) {
+            word.want(was_name, "wanted: a path, or `)`")?;
+            word.want(word.is_mark(",)"), "wanted: `,` or `)`")?;
+            break;
+        }
+        if is_name || !path.is_empty() {
+            path.push_str(word.text)?;
+        }
+        was_name = is_name;
+    }
+    Ok(path)
+}
+
+/// Whether a path is derived by std, by `serde` or `thiserror`, or by a macro of the crate itself.
+fn is_known(path: &str) -> bool {
+    match path.split_once("::") {
+        Some(("crate" | "self" | "super", _)) => true,
+        Some((root, _)) if !is_among(ROOTS, root) => false,
+        _ => KNOWN.split(' ').any(|name| names_last(path, name)),
+    }
+}
+
+impl<'a, 'b> Cursor<'a, 'b> {
+    /// Reads the comments and attributes that come next, up to what stands after them.
+    pub fn read_parts(&mut self, alloc: Global) -> Outcome<Vec<Part<'a, 'b>>> {
+        let mut parts = Vec::new(alloc);
+        for _ in self.rest {
+            if self.token.is_mark("#") || self.token.is_comment() {
+                parts.push(self.read_part()?)?;
+            } else if !self.token.is_blank() {
+                break;
+            }
+            self.advance()?;
+        }
+        Ok(parts)
+    }
+
+    /// Reads a comment, or an attribute from its `#` or the `!` after it on, up to the `]` at its end.
+    pub fn read_part(&mut self) -> Outcome<Part<'a, 'b>> {
+        let begin = *self;
+        if !begin.token.is_comment() {
+            self.advance_past_blanks()?;
+            self.token.want(self.token.is_mark("["), "wanted: `[`")?;
+            self.skip_to("]", begin.token.depth)?;
+        }
+        let words = self.words_since(&begin);
+        let begin = begin.token;
+        Ok(Part {
+            begin,
+            text: self.text_since(begin.begin),
+            name: words.get(1).unwrap_or(begin),
+            words,
+        })
+    }
+
+    /// Reads a visibility, as `pub` or `pub(crate)`, if there is one: `pub` and what stands in brackets after it.
+    pub fn read_visibility(&mut self) -> Outcome<(&'a str, &'a str)> {
+        if !self.token.is("pub") {
+            return Ok(("", ""));
+        }
+        self.advance_past_blanks()?;
+        let mut restriction = "";
+        if self.token.is_mark("(") {
+            let begin = self.token.begin;
+            self.skip_to(")", 0)?;
+            restriction = self.text_since(begin);
+            self.advance_past_blanks()?;
+        }
+        Ok(("pub", restriction))
+    }
+}
+
+impl<'a, 'b> Reader<'a, 'b> {
+    /// The paths that an attribute derives and that are kept, and whether all are. The others are left out, but for
+    /// `EnumSetType`.
+    pub(super) fn kept_of(&mut self, part: &Part<'a, 'b>) -> Outcome<(Vec<String>, bool)> {
+        let mut kept = Vec::new(self.alloc);
+        let mut is_whole = true;
+        for argument in part.arguments(self.alloc)? {
+            let argument = argument?;
+            let path = path_of(self.alloc, argument)?;
+            let is_known = is_known(path.as_str());
+            is_whole = is_whole && is_known;
+            let names = ["EnumSetType", self.derive];
+            if names.iter().any(|name| names_last(path.as_str(), name)) {
+                continue;
+            }
+            if is_known {
+                self.add_words(argument)?;
+                kept.push(path)?;
+            } else if let [begin, ..] = argument {
+                let text = format!(in self.alloc; "#[derive({path})]")?;
+                self.leave_out(begin.place, text.as_str())?;
+            }
+        }
+        Ok((kept, is_whole))
+    }
+}
