@@ -73,3 +73,33 @@ pub fn useful_count(
         .filter(|right| requested.contains(*right) || licensed.contains(*right))
         .count()
 }
+
+/// How many of the granted rights are requested and not denied.
+#[tactic(auto, using(enumset_repr::specs::Laws::Places::chains_of_two))]
+pub fn permitted_count(
+    granted: EnumSet<Right>,
+    requested: EnumSet<Right>,
+    denied: EnumSet<Right>,
+) -> usize
+    ensures { result ≡ set.len (set.difference (set.intersection granted requested) denied) }
+{
+    granted
+        .iter()
+        .filter(|right| requested.contains(*right) && !denied.contains(*right))
+        .count()
+}
+
+/// How many of the granted rights are neither requested nor denied.
+#[tactic(auto, using(enumset_repr::specs::Laws::Places::chains_of_two))]
+pub fn idle_count(
+    granted: EnumSet<Right>,
+    requested: EnumSet<Right>,
+    denied: EnumSet<Right>,
+) -> usize
+    ensures { result ≡ set.len (set.difference granted (set.union requested denied)) }
+{
+    granted
+        .iter()
+        .filter(|right| !requested.contains(*right) && !denied.contains(*right))
+        .count()
+}

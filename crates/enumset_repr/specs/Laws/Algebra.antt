@@ -7,7 +7,7 @@
 --     from_list_.., insert_each_..      a set built from a list of its members
 -- The ruleset `algebra` has those that a tactic can apply by itself. A crate above cites it by
 -- `#[tactic(auto, using(enumset_repr::specs::Laws::Algebra::algebra))]`.
-use Rattle.std.proofs.Common.{◌≡◌, ℕ, true, false, cond, not, List, [], ◌∷◌, refl, sym, ◌∙◌, arith, ◌↔◌}
+use Rattle.std.proofs.Common.{◌≡◌, ℕ, true, false, cond, List, [], ◌∷◌, refl, sym, ◌∙◌, arith, ◌↔◌}
 use Rattle.std.proofs.lemmas.Bool.Decides.{nat_tests, same_from_decides}
 use Rattle.enumset_repr.specs.BitSet.{BitSet, contains, ascending, empty, insert, only, remove, from_list, insert_each, union, intersection, difference, symmetric_difference, is_subset, is_disjoint}
 use Rattle.enumset_repr.specs.Laws.Members.{members, subsets, same_set, contains_ascending, contains_from_list, contains_insert_each, contains_is_subset, is_subset_contains, contains_is_disjoint, is_disjoint_contains, is_subset_iff, is_disjoint_iff}
@@ -157,18 +157,6 @@ union_only s b = same_set _ _ (λ q. grind (arith, members))
 
 pub difference_only : (s : BitSet) (b : ℕ) → difference s (only b) ≡ remove s b
 difference_only s b = same_set _ _ (λ q. grind (arith, members))
-
-pub is_disjoint_only : (s : BitSet) (b : ℕ) → is_disjoint s (only b) ≡ not (contains s b)
-is_disjoint_only s b = same_from_decides _ _ (
-  λ apart. let none = is_disjoint_contains s (only b) apart b in grind (arith, members, nat_tests),
-  λ none. contains_is_disjoint s (only b) (λ q one. grind (arith, members, nat_tests)),
-) (λ h. h, λ h. h)
-
-pub is_subset_only : (s : BitSet) (b : ℕ) → is_subset (only b) s ≡ contains s b
-is_subset_only s b = same_from_decides _ _ (
-  λ within. is_subset_contains (only b) s within b (grind (arith, members, nat_tests)),
-  λ one. contains_is_subset (only b) s (λ q is. grind (arith, members, nat_tests)),
-) (λ h. h, λ h. h)
 
 pub insert_union : (s t : BitSet) (b : ℕ) → union (insert s b) t ≡ insert (union s t) b
 insert_union s t b = same_set _ _ (λ q. grind (arith, members))
@@ -331,4 +319,4 @@ pub ruleset on_lists = (from_list_ascending, insert_each_ascending, insert_each_
 pub ruleset algebra = (members, subsets, on_unions, on_intersections, on_differences, on_symmetric_differences, on_one_number, on_complements, on_subsets, on_lists)
 
 -- What `set_laws` of `enumset` has of this file beside `algebra`.
-pub ruleset beside_algebra = (union_inside, insert_inside, difference_apart_from, difference_tells, intersection_tells, is_subset_each, is_disjoint_each, is_disjoint_only, is_subset_only, toggled, remove_inserted, insert_removed, union_moved, union_moved_back)
+pub ruleset beside_algebra = (union_inside, insert_inside, difference_apart_from, difference_tells, intersection_tells, is_subset_each, is_disjoint_each, toggled, remove_inserted, insert_removed, union_moved, union_moved_back)

@@ -12,7 +12,7 @@
 --     len_zero_iff      a set has no member exactly if it is the empty set
 --     kept_count, left_count      the numbers of the list of s that are in t, and that are not, kept in a list
 --     len_kept, len_left      the same, counted
---     len_kept_both, len_kept_either      the members of s that are in two other sets, or in one of them, counted
+--     len_kept_both, len_kept_either, len_kept_but, len_left_both      the same by two other sets
 --     length_ascending      the list of the members is as long as the set
 -- The ruleset `counting` has those that a tactic can apply by itself.
 use Rattle.std.proofs.Common.{◌≡◌, ◌≤◌, ◌<◌, ◌+◌, ◌-◌, ℕ, suc, zero, Bool, true, false, cond, not, ◌&&◌, ◌||◌, List, [], ◌∷◌, length, filter, count_by, refl, sym, ap, subst, ◌∙◌, arith, true≢false, ◌↔◌}
@@ -82,12 +82,11 @@ len_union_more s t =
     let outside : intersection t s ≡ intersection s t = intersection_comm t s in
     omega (arith, len_union s t, len_parts t s, ap len outside)
 
-none_more : (s t : BitSet) → (len (difference t s) == 0) ≡ is_subset t s
-unfolding is_empty
-none_more s t = is_empty_difference t s
-
 pub len_union_same : (s t : BitSet) → (len (union s t) == len s) ≡ is_subset t s
-len_union_same s t = let more = len_union_more s t in let none = none_more s t in grind (arith, nat_tests)
+unfolding is_empty
+len_union_same s t =
+    let none : (len (difference t s) == 0) ≡ is_subset t s = is_empty_difference t s in
+    let more = len_union_more s t in grind (arith, nat_tests)
 
 pub len_subset : (s t : BitSet) → is_subset s t ≡ true → len s ≤ len t
 len_subset s t within = omega (arith, ap len (intersection_within s t within), len_intersection_right s t)
@@ -136,6 +135,14 @@ len_kept_both s t u = ap len (intersection_assoc s t u) ∙ len_kept s (intersec
 
 pub len_kept_either : (s t u : BitSet) → len (intersection s (union t u)) ≡ count_by (λ b. contains t b || contains u b) (ascending s)
 len_kept_either s t u = len_kept s (union t u) ∙ ap (λ (p : ℕ → Bool). count_by p (ascending s)) (λ i b. contains_union t u b i)
+
+pub len_kept_but : (s t u : BitSet) → len (difference (intersection s t) u) ≡ count_by (λ b. contains t b && not (contains u b)) (ascending s)
+len_kept_but s t u = ap len (same_set _ _ (λ q. grind (arith, members))) ∙ len_kept s (difference t u) ∙ ap (λ (p : ℕ → Bool). count_by p (ascending s)) (λ i b. contains_difference t u b i)
+
+pub len_left_both : (s t u : BitSet) → len (difference s (union t u)) ≡ count_by (λ b. not (contains t b) && not (contains u b)) (ascending s)
+len_left_both s t u = len_left s (union t u) ∙ ap (λ (p : ℕ → Bool). count_by p (ascending s)) (λ i b. outside b i) where
+  outside : (b : ℕ) → not (contains (union t u) b) ≡ (not (contains t b) && not (contains u b))
+  outside b = grind (arith, contains_union t u b)
 
 pub length_ascending : (s : BitSet) → length (ascending s) ≡ len s
 length_ascending s = sym (len_ascending s)

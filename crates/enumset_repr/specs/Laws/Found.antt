@@ -4,14 +4,14 @@
 --         there is none, the set is empty
 --     least_at, greatest_at      the same of a number that is looked for in this set or another
 -- The first part of each is always true: it shows the search where to take the law. The ruleset `found` has them.
-use Rattle.std.proofs.Common.{◌≡◌, ◌≤◌, ℕ, suc, Bool, true, false, cond, List, [], ◌∷◌, Option, Some, None, refl, sym, subst, arith}
+use Rattle.std.proofs.Common.{◌≡◌, ◌≤◌, ℕ, suc, Bool, true, false, cond, List, [], ◌∷◌, Option, Some, None, refl, sym, ap, subst, ◌∙◌, arith}
 use Rattle.std.specs.Prelude.{◌==◌, MatchOption}
 use Rattle.std.specs.List.{find}
 use Rattle.std.proofs.lemmas.Bool.{or_left, or_right, eq-eqb}
 use Rattle.std.proofs.lemmas.Bool.Decides.{nat_tests}
 use Rattle.enumset_repr.specs.BitSet.{BitSet, is_in, contains, ascending, empty}
 use Rattle.enumset_repr.specs.Ends.{least, greatest}
-use Rattle.enumset_repr.specs.Laws.Members.{members, contains_ascending}
+use Rattle.enumset_repr.specs.Laws.Members.{members, contains_empty, contains_ascending}
 use Rattle.enumset_repr.specs.Laws.Algebra.{difference_tells, intersection_tells}
 use Rattle.enumset_repr.specs.Laws.Ascending.{AscendsFrom, ascending_ascends, empty_of_ascending, is_in_from}
 use Rattle.enumset_repr.specs.Laws.Ends.{least_facts, greatest_facts, ascending_no_least, ascending_no_greatest}
@@ -48,16 +48,16 @@ greatest_tells s = (refl, by (greatest s) refl) where
   by None none = empty_of_ascending s (ascending_no_greatest s none)
   by (Some m) is = let facts = greatest_facts s m is in (facts.0, λ q one. let high = facts.1 q in grind (arith, nat_tests))
 
-pub least_at : (s t : BitSet) (q : ℕ) → (least s ≡ least s) × (contains t q ≡ contains t q) × MatchOption (least s) (s ≡ empty) (λ m. contains s q ≡ true → m ≤ q)
+pub least_at : (s t : BitSet) (q : ℕ) → (least s ≡ least s) × (contains t q ≡ contains t q) × MatchOption (least s) (contains s q ≡ false) (λ m. contains s q ≡ true → m ≤ q)
 least_at s t q = (refl, refl, by (least s) (least_tells s).1) where
-  by : (o : Option ℕ) → MatchOption o (s ≡ empty) (λ m. (contains s m ≡ true) × ((q : ℕ) → contains s q ≡ true → m ≤ q)) → MatchOption o (s ≡ empty) (λ m. contains s q ≡ true → m ≤ q)
-  by None none = none
+  by : (o : Option ℕ) → MatchOption o (s ≡ empty) (λ m. (contains s m ≡ true) × ((q : ℕ) → contains s q ≡ true → m ≤ q)) → MatchOption o (contains s q ≡ false) (λ m. contains s q ≡ true → m ≤ q)
+  by None none = ap (λ u. contains u q) none ∙ contains_empty q
   by (Some m) some = some.1 q
 
-pub greatest_at : (s t : BitSet) (q : ℕ) → (greatest s ≡ greatest s) × (contains t q ≡ contains t q) × MatchOption (greatest s) (s ≡ empty) (λ m. contains s q ≡ true → q ≤ m)
+pub greatest_at : (s t : BitSet) (q : ℕ) → (greatest s ≡ greatest s) × (contains t q ≡ contains t q) × MatchOption (greatest s) (contains s q ≡ false) (λ m. contains s q ≡ true → q ≤ m)
 greatest_at s t q = (refl, refl, by (greatest s) (greatest_tells s).1) where
-  by : (o : Option ℕ) → MatchOption o (s ≡ empty) (λ m. (contains s m ≡ true) × ((q : ℕ) → contains s q ≡ true → q ≤ m)) → MatchOption o (s ≡ empty) (λ m. contains s q ≡ true → q ≤ m)
-  by None none = none
+  by : (o : Option ℕ) → MatchOption o (s ≡ empty) (λ m. (contains s m ≡ true) × ((q : ℕ) → contains s q ≡ true → q ≤ m)) → MatchOption o (contains s q ≡ false) (λ m. contains s q ≡ true → q ≤ m)
+  by None none = ap (λ u. contains u q) none ∙ contains_empty q
   by (Some m) some = some.1 q
 
 pub ruleset found = (found_tells, least_tells, greatest_tells, least_at, greatest_at, members, difference_tells, intersection_tells)

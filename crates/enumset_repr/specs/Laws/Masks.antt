@@ -9,9 +9,9 @@ use Rattle.std.proofs.lemmas.Bool.Decides.{nat_tests}
 use Rattle.std.proofs.lemmas.Grind.{low_zeros}
 use Rattle.enumset_repr.specs.BitSet.{union, difference, is_empty, is_subset}
 use Rattle.enumset_repr.specs.Number.{bits, number}
-use Rattle.enumset_repr.specs.Laws.Members.{union_is_subset}
+use Rattle.enumset_repr.specs.Laws.Members.{union_is_subset, is_disjoint_iff}
 use Rattle.enumset_repr.specs.Laws.Algebra.{intersection_within}
-use Rattle.enumset_repr.specs.Laws.Counting.{is_empty_difference}
+use Rattle.enumset_repr.specs.Laws.Counting.{is_empty_difference, is_empty_intersection}
 use Rattle.enumset_repr.specs.Laws.Integers.{and_not}
 use Rattle.enumset_repr.specs.Laws.Numbers.{bits_and, bits_or, bits_xor, bits_number, number_bits, bits_within, number_within, bits_is_empty}
 
@@ -29,4 +29,4 @@ or_and_not a b c m e p q r =
     let fits : bit_or a b < 2 ^ w = subst (λ n. n < 2 ^ w) (ap number (sym (bits_or a b)) ∙ number_bits _) (number_within _ w both) in
     and_not _ c m e (omega (arith, e, fits)) r ∙ ap (λ s. difference s (bits c)) (bits_or a b)
 
-pub ruleset masks = (masked_tells, and_not, or_and_not, bits_and, bits_or, bits_xor, bits_number, number_bits, bits_within, intersection_within)
+pub ruleset masks = (masked_tells, and_not, or_and_not, bits_and, bits_or, bits_xor, bits_number, number_bits, bits_within, bits_is_empty, is_empty_intersection, is_disjoint_iff, intersection_within)

@@ -17,7 +17,7 @@ use Rattle.std.proofs.lemmas.List.Folds.{Any-from_list_any, list_any_at}
 use Rattle.enumset_repr.specs.BitSet.{BitSet, is_in, contains, ascending, is_subset, is_disjoint}
 use Rattle.enumset_repr.specs.Laws.Members.{members, contains_ascending}
 use Rattle.enumset_repr.specs.Laws.Ascending.{AscendsFrom, ascending_ascends, is_in_from}
-use Rattle.enumset_repr.specs.Laws.Counting.{len_kept, len_left, len_kept_both, len_kept_either, length_ascending}
+use Rattle.enumset_repr.specs.Laws.Counting.{len_kept, len_left, len_kept_both, len_kept_either, len_kept_but, len_left_both, length_ascending}
 use Rattle.enumset_repr.specs.Laws.Found.{found_tells}
 use Rattle.enumset_repr.specs.Laws.Loops.{all_not_any, is_disjoint_list}
 use Rattle.enumset_repr.specs.Laws.Sets.{len_regrouped}
@@ -110,6 +110,6 @@ find_tells p xs = (refl, find-found p xs)
 pub ruleset chains = (some_shared, some_outside, find_tells, found_tells, len_kept, len_left, len_regrouped, length_ascending)
 
 -- What a count over a closure with `&&` or `||` needs, of members in two other sets: with the laws of `chains` the search gives up.
-pub ruleset chains_of_two = (len_kept_both, len_kept_either, members)
+pub ruleset chains_of_two = (len_kept_both, len_kept_either, len_kept_but, len_left_both, members)
 
 pub ruleset tests = (at_place, placed_tells, some_passes, some_fails)

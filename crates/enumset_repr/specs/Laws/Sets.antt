@@ -8,15 +8,16 @@
 --     difference_over_..      one operation over another
 --     is_disjoint_union, is_disjoint_part      a set apart from a union is apart from both, and so are its parts
 --     is_subset_union      a union is a part exactly if both are
+--     is_same_union      a union changes nothing exactly if the other set is a part
 --     len_symmetric_difference      how many members are in exactly one of two sets
 --     len_regrouped      how many members are in all of three sets, grouped the other way
 --     complement_..      the difference of a set v and a set with members outside v
-use Rattle.std.proofs.Common.{◌≡◌, ◌+◌, ◌*◌, ℕ, true, false, ◌&&◌, ap, ◌∙◌, arith}
+use Rattle.std.proofs.Common.{◌≡◌, ◌+◌, ◌*◌, ℕ, true, false, ◌&&◌, ap, subst, ◌∙◌, arith}
 use Rattle.std.proofs.lemmas.Bool.{and_parts, and_from}
 use Rattle.std.proofs.lemmas.Bool.Decides.{nat_tests, same_from_decides}
-use Rattle.enumset_repr.specs.BitSet.{BitSet, contains, len, empty, insert, remove, union, intersection, difference, symmetric_difference, is_subset, is_disjoint}
-use Rattle.enumset_repr.specs.Laws.Members.{members, same_set, is_subset_contains, contains_is_subset, contains_is_disjoint, is_disjoint_contains}
-use Rattle.enumset_repr.specs.Laws.Algebra.{union_comm, union_within, intersection_assoc, is_disjoint_comm}
+use Rattle.enumset_repr.specs.BitSet.{BitSet, contains, len, empty, insert, remove, union, intersection, difference, symmetric_difference, is_subset, is_disjoint, is_same}
+use Rattle.enumset_repr.specs.Laws.Members.{members, same_set, is_subset_contains, contains_is_subset, contains_is_disjoint, is_disjoint_contains, is_same_iff}
+use Rattle.enumset_repr.specs.Laws.Algebra.{union_comm, union_right, union_within, intersection_assoc, is_disjoint_comm}
 use Rattle.enumset_repr.specs.Laws.Counting.{len_parts, len_union}
 
 -- ---- one number
@@ -89,6 +90,9 @@ is_subset_union s t u = same_from_decides _ _ (
   λ both. contains_is_subset (union s t) u (λ q one. let a = is_subset_contains s u both.0 q in let b = is_subset_contains t u both.1 q in grind (arith, members)),
 ) (and_parts _ _, λ both. and_from _ _ both.0 both.1)
 
+pub is_same_union : (s t : BitSet) → is_same (union s t) s ≡ is_subset t s
+is_same_union s t = same_from_decides _ _ (is_same_iff _ _) (union_covers s t, λ same. subst (λ u. is_subset t u ≡ true) same (union_right s t))
+
 pub is_disjoint_part : (s t u : BitSet) → is_disjoint s u ≡ true → is_disjoint (difference s t) u ≡ true
 is_disjoint_part s t u apart = contains_is_disjoint _ u (λ q one. let none = is_disjoint_contains s u apart q in grind (arith, members))
 
@@ -115,4 +119,4 @@ difference_remove_all s t u within = same_set _ _ (λ q. let each = is_subset_co
 pub ruleset in_parts = (difference_insert, difference_remove, intersection_insert, intersection_remove, difference_parts, difference_shared, symmetric_parts, difference_over_union, difference_over_intersection, complement_of_complement, complement_outside)
 
 -- What a proof about parts that share no member, and their counts, needs beside `in_parts`.
-pub ruleset apart = (union_covers, parts_apart, parts_apart_back, is_disjoint_union, is_subset_union, is_disjoint_part, len_symmetric_difference)
+pub ruleset apart = (union_covers, parts_apart, parts_apart_back, is_disjoint_union, is_subset_union, is_same_union, is_disjoint_part, len_symmetric_difference)
