@@ -44,10 +44,8 @@ pub enum Reason {
     /// A fault of reading.
     #[error("{0}")]
     Text(&'static str),
-    #[error("this option was given at {0}")]
-    OptionTwice(Place),
-    #[error("this name in JSON was given at {0}")]
-    JsonNameTwice(Place),
+    #[error("this {0} was given at {1}")]
+    GivenTwice(&'static str, Place),
     // of planning
     #[error("`map = \"msb\"` needs `repr` to be an integer")]
     IntegerMissing,

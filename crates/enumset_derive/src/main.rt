@@ -23,9 +23,6 @@ use std::rt::Files;
 use tokens::{is_digit, tokens_of};
 use write::module_text;
 
-/// What a text may begin with: a byte order mark.
-const MARK: &[u8] = b"\xEF\xBB\xBF";
-
 const NOT_A_NAME: DeriveError = DeriveError::Arguments("an argument is no name");
 
 const WRONG: DeriveError = DeriveError::Arguments(
@@ -121,16 +118,11 @@ fn derive<R: Input + Eprint + AllocGlobal>(rt: &R, request: &Request) -> Outcome
 
 /// The text that bytes are, without a byte order mark, or the fault where they are no text.
 fn text_of(input: &[u8]) -> Outcome<&str> {
-    let input = input.strip_prefix(MARK).unwrap_or(input);
-    let error = match str::from_utf8(input) {
-        Ok(text) => return Ok(text),
-        Err(error) => error,
-    };
-    let valid = input.get(..error.valid_up_to()).unwrap_or(b"");
-    let before = str::from_utf8(valid).unwrap_or("");
-    let place = before.chars().fold(Place::BEGIN, Place::after);
-    let reason = Reason::Text("these bytes are no text in UTF-8");
-    Err(reason.at(place).into())
+    let input = input.strip_prefix(b"\xEF\xBB\xBF").unwrap_or(input);
+    let valid = input.utf8_chunks().next().map_or("", |chunk| chunk.valid());
+    let end = valid.chars().fold(Place::BEGIN, Place::after);
+    let fault = Reason::Text("these bytes are no text in UTF-8").at(end);
+    Ok(str::from_utf8(input).map_err(|_| fault)?)
 }
 
 /// Writes a text to a file, or to standard output.

@@ -70,8 +70,8 @@ pub struct Element<'a> {
     pub plan: Plan,
     /// The names of the variants in JSON, in their order, and where each is given, if one may not be the variant's own.
     pub json_names: Vec<(Place, String)>,
-    /// Whether it is there for tests alone.
-    pub is_test: bool,
+    /// The attribute of each of its implementations, if they are there for tests alone.
+    pub guard: &'static str,
 }
 
 /// A name that a source gives to something.
@@ -90,6 +90,24 @@ struct Gap {
     has_space: bool,
     /// Whether something was left out after it.
     is_after_left_out: bool,
+}
+
+impl<'a> Item<'a> {
+    /// By what `rt fmt` orders imports: those of the crate itself come first.
+    fn order<'b>(&'b self, facade: &'b str) -> Option<(usize, &'b str, &'b str)> {
+        let (root, path) = match &self.form {
+            Form::Imports => (facade, "{"),
+            Form::Import(import) => {
+                let path = import.path.as_str();
+                let root = path.split(' ').next().unwrap_or(path);
+                path.split_once("::").unwrap_or((root, ""))
+            }
+            _ => return None,
+        };
+        let mut own = OWN.iter();
+        let rank = own.position(|own| *own == root).unwrap_or(OWN.len());
+        Some((rank, root, path))
+    }
 }
 
 impl<'a> Source<'a> {
@@ -131,40 +149,25 @@ impl<'a> Source<'a> {
         Ok(self.items.push(Item { gap, form })?)
     }
 
-    /// Adds an item whose gap is known. Imports on lines of their own are in the order that `rt fmt` gives them.
-    pub fn insert(&mut self, item: Item<'a>) -> Result<(), AllocError> {
-        let mut item = item;
-        let mut at = self.items.len();
-        for (index, earlier) in self.items.iter().enumerate().rev() {
-            let orders = self.order_of(&item.form).zip(self.order_of(&earlier.form));
-            if item.gap != "\n" || orders.is_none_or(|(own, other)| own >= other) {
-                break;
-            }
-            at = index;
-            if earlier.gap != "\n" {
-                break;
-            }
-        }
-        if let Some(next) = self.items.get_mut(at) {
-            mem::swap(&mut item.gap, &mut next.gap);
-        }
-        Ok(self.items.insert(at.min(self.items.len()), item)?)
-    }
-
-    /// By what `rt fmt` orders imports: those of the crate itself come first.
-    fn order_of<'b>(&'b self, form: &'b Form<'a>) -> Option<(usize, &'b str, &'b str)> {
-        let (root, path) = match form {
-            Form::Imports => (self.facade, "{"),
-            Form::Import(import) => {
-                let path = import.path.as_str();
-                let root = path.split(' ').next().unwrap_or(path);
-                path.split_once("::").unwrap_or((root, ""))
-            }
-            _ => return None,
+    /// Puts imports on lines of their own into the order that `rt fmt` gives them.
+    pub fn sort_imports(&mut self) -> Result<(), AllocError> {
+        let (alloc, facade) = (self.alloc, self.facade);
+        let is_run = |one: &Item, next: &Item| {
+            next.gap == "\n" && one.order(facade).is_some() && next.order(facade).is_some()
         };
-        let mut own = OWN.iter();
-        let rank = own.position(|own| *own == root).unwrap_or(OWN.len());
-        Some((rank, root, path))
+        for run in self.items.chunk_by_mut(is_run) {
+            let gap = run
+                .first_mut()
+                .map_or("", |first| mem::replace(&mut first.gap, "\n"));
+            run.sort_by(
+                alloc,
+                |one, other| one.order(facade).cmp(&other.order(facade)),
+            )?;
+            if let Some(first) = run.first_mut() {
+                first.gap = gap;
+            }
+        }
+        Ok(())
     }
 
     /// Adds a text that goes through unchanged.

@@ -34,9 +34,6 @@ type Written = Result<(), AllocError>;
 /// A text, unless memory ran out.
 type Text = Result<String, AllocError>;
 
-/// The attribute of what is there for tests alone. In one piece it would have the toolchain look for tests here.
-const FOR_TESTS: &str = concat!("#", "[cfg(test)]\n");
-
 /// An element type that is written: what it is, and where.
 #[derive(Clone, Copy)]
 struct Subject<'a> {
@@ -46,8 +43,6 @@ struct Subject<'a> {
     module: &'a str,
     facade: &'a str,
     name: &'a str,
-    /// The attribute of each of its implementations, if they are there for tests alone.
-    guard: &'static str,
     element: &'a Element<'a>,
 }
 
@@ -76,7 +71,6 @@ pub fn module_text(alloc: Global, request: &Request, source: &Source) -> Outcome
                     module: request.module.as_str(),
                     facade: source.facade,
                     name: element.declaration.name,
-                    guard: if element.is_test { FOR_TESTS } else { "" },
                     element,
                 };
                 write_element_type(&mut text, &subject)?;

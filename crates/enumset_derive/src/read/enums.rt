@@ -15,6 +15,9 @@ const TYPES: &str = "u8 u16 u32 u64 u128 usize i8 i16 i32 i64 i128 isize";
 
 const SERDE_ALONE: &str = "here nothing comes of the names: write `#[serde(..)]` alone";
 
+/// The attribute of what is there for tests alone. In one piece it would have the toolchain look for tests here.
+const FOR_TESTS: &str = concat!("#", "[cfg(test)]\n");
+
 /// What is known of an enum that is to be an element type.
 #[derive(Drop)]
 pub(super) struct Draft<'a, 'b> {
@@ -78,11 +81,12 @@ impl<'a, 'b> Reader<'a, 'b> {
         let declaration = draft.declaration;
         self.source.has_enums = true;
         self.source.facade = declaration.options.crate_name.unwrap_or(self.source.facade);
+        let is_test = parts.iter().any(|part| part.name.is("cfg"));
         let element = Element {
             declaration,
             plan,
             json_names,
-            is_test: parts.iter().any(|part| part.name.is("cfg")),
+            guard: if is_test { FOR_TESTS } else { "" },
         };
         Ok(self.source.push(Form::Element(element))?)
     }

@@ -134,9 +134,9 @@ impl<'a, 'b> Reader<'a, 'b> {
                 let names = &mut self.source.names;
                 names.extend_from_slice(import.names.as_slice())?;
             }
-            self.source.insert(item)?;
+            self.source.items.push(item)?;
         }
-        Ok(())
+        Ok(self.source.sort_imports()?)
     }
 }
 

@@ -58,7 +58,7 @@ impl<'a, 'b> Draft<'a, 'b> {
                 None => (variant.place, styled(alloc, style, variant.name)?),
             };
             if let Some((first, _)) = names.iter().find(|(_, earlier)| *earlier == name) {
-                return Err(Reason::JsonNameTwice(*first).at(place).into());
+                return Err(Reason::GivenTwice("name in JSON", *first).at(place).into());
             }
             names.push((place, name))?;
         }

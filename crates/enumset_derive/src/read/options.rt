@@ -25,7 +25,11 @@ impl<'a, 'b> Draft<'a, 'b> {
             let is_name = matches!(name.kind, Kind::Letters);
             name.want(is_name, "wanted: a name of an option, or `)`")?;
             if let Some(first) = self.given.iter().find(|given| given.is(name.text)) {
-                return Err(Reason::OptionTwice(first.place).at(name.place).into());
+                return Err(
+                    Reason::GivenTwice("option", first.place)
+                        .at(name.place)
+                        .into(),
+                );
             }
             self.given.push(name)?;
             self.read_option(name, rest)?;

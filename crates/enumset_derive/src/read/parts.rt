@@ -120,18 +120,13 @@ impl<'a, 'b> Part<'a, 'b> {
 
 /// Where `EnumSetType` is derived among these words, or its other name.
 pub(super) fn place_of_derive(words: &[Token], renamed: &str) -> Option<Place> {
-    for words in words.split(|word| word.is("derive")).skip(1) {
-        if let [open, derived @ ..] = words
-            && open.is_mark("(")
-        {
-            let mut derived = derived.iter().take_while(|word| word.depth >= open.depth);
-            let found = derived.find(|word| word.is("EnumSetType") || word.is(renamed));
-            if let Some(found) = found {
-                return Some(found.place);
-            }
-        }
-    }
-    None
+    let mut derives = words.split(|word| word.is("derive")).skip(1);
+    let found = derives.find_map(|words| {
+        let (open, derived) = words.split_first().filter(|(open, _)| open.is_mark("("))?;
+        let mut derived = derived.iter().take_while(|word| word.depth >= open.depth);
+        derived.find(|word| word.is("EnumSetType") || word.is(renamed))
+    });
+    found.map(|word| word.place)
 }
 
 /// The name `F` of `EnumSetType as F` among these words, or an empty text.

@@ -177,8 +177,7 @@ fn after_raw_prefix(text: &str) -> (Kind, &str) {
 
 /// What stands in a text before the rest of it.
 fn before<'a>(text: &'a str, rest: &str) -> &'a str {
-    text.get(..text.len().saturating_sub(rest.len()))
-        .unwrap_or("")
+    text.strip_suffix(rest).unwrap_or("")
 }
 
 /// The text after the ASCII character at an index.

@@ -12,7 +12,7 @@ const WORDS: &str = "array of the set's words of 64 bits, the lowest first.";
 ///
 /// A value in JSON holds no number of 128 bits, so it is of 64, or words.
 pub(super) fn write_json(out: &mut String, of: &Subject, serialized: Serialized) -> Written {
-    let (name, guard) = (of.name, of.guard);
+    let (name, guard) = (of.name, of.element.guard);
     let is_narrow = of.element.plan.bit_width <= 64;
     write!(out, "\n\n{guard}impl {name} {{\n")?;
     match serialized {
