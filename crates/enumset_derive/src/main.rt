@@ -20,7 +20,7 @@ use std::fs;
 use std::io::{self, ErrorKind, Input, Print, Read, Write};
 use std::process::ExitCode;
 use std::rt::Files;
-use tokens::{is_digit, tokens_of};
+use tokens::tokens_of;
 use write::module_text;
 
 const NOT_A_NAME: DeriveError = DeriveError::Arguments("an argument is no name");
@@ -92,7 +92,7 @@ fn is_name(name: &str) -> bool {
     let mut letters = name.chars();
     let is_short = matches!(name.len(), 1..=256);
     let is_plain = letters.all(|letter| matches!(letter, 'a'..='z' | '0'..='9' | '_'));
-    is_short && is_plain && !name.starts_with(is_digit)
+    is_short && is_plain && !name.starts_with(|letter: char| letter.is_ascii_digit())
 }
 
 /// The module that the input stands for. Standard error says what is left out, and that a text has no element type.

@@ -161,10 +161,8 @@ impl<'a, 'b> Reader<'a, 'b> {
     /// Reads a variant, of which the attributes are given, up to what stands after the `,` and the comments on its line.
     fn read_variant(&mut self, attributes: String) -> Outcome<Variant<'a>> {
         let begin = self.cursor;
-        let is_name = begin.token.is_name();
-        begin
-            .token
-            .want(is_name, "wanted: a name of a variant, or `}`")?;
+        let name = begin.token;
+        name.want(name.is_name(), "wanted: a name of a variant, or `}`")?;
         self.cursor.advance_past_blanks()?;
         let discriminant = self.cursor.read_discriminant()?;
         self.cursor.end_variant(discriminant)?;
@@ -176,9 +174,9 @@ impl<'a, 'b> Reader<'a, 'b> {
             }
         }
         Ok(Variant {
-            place: begin.token.place,
+            place: name.place,
             attributes,
-            name: begin.token.text,
+            name: name.text,
             discriminant,
             comments,
         })
@@ -188,19 +186,18 @@ impl<'a, 'b> Reader<'a, 'b> {
 impl<'a, 'b> Cursor<'a, 'b> {
     /// Reads the keyword and the name of an enum, and the `{` after them.
     fn read_enum_name(&mut self) -> Outcome<&'b Token<'a>> {
-        let is_end = matches!(self.token.kind, Kind::End);
-        self.token.want(!is_end, "wanted: an item")?;
-        self.token
-            .want(self.token.is("enum"), "`EnumSetType` is for enums alone")?;
+        let keyword = self.token;
+        let is_end = matches!(keyword.kind, Kind::End);
+        keyword.want(!is_end, "wanted: an item")?;
+        keyword.want(keyword.is("enum"), "`EnumSetType` is for enums alone")?;
         self.advance_past_blanks()?;
         let name = self.token;
-        self.token
-            .want(name.is_name(), "wanted: a name of an enum")?;
+        name.want(name.is_name(), "wanted: a name of an enum")?;
         self.advance_past_blanks()?;
-        let has_parameters = self.token.is_mark("<") || self.token.is("where");
-        self.token
-            .want(!has_parameters, "the enum must have no parameters")?;
-        self.token.want(self.token.is_mark("{"), "wanted: `{`")?;
+        let next = self.token;
+        let has_parameters = next.is_mark("<") || next.is("where");
+        next.want(!has_parameters, "the enum must have no parameters")?;
+        next.want(next.is_mark("{"), "wanted: `{`")?;
         self.advance()?;
         Ok(name)
     }
@@ -261,7 +258,7 @@ fn number_of(literal: &str, is_negative: bool) -> Result<(&str, Number), &'stati
     let mut prefixes = PREFIXES.iter();
     let digits_of = |(prefix, radix): &(&str, u32)| Some((*radix, written.strip_prefix(prefix)?));
     let (radix, digits) = prefixes.find_map(digits_of).unwrap_or((10, written));
-    if digits.is_empty() || !written.starts_with(is_digit) {
+    if digits.is_empty() || !written.starts_with(|first: char| first.is_ascii_digit()) {
         return Err(NOT_A_LITERAL);
     }
     let mut value = Some(0u128);

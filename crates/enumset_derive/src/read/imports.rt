@@ -122,10 +122,7 @@ impl<'a, 'b> Reader<'a, 'b> {
         for item in mem::replace(&mut self.source.items, Vec::new(self.alloc)) {
             if let Form::Import(import) = &item.form {
                 let mut names = import.names.iter();
-                let is_used = names.any(|name| match name.text {
-                    "*" | "_" => self.has_others,
-                    text => self.used.contains(text),
-                });
+                let is_used = names.any(|name| self.used.contains(name.text));
                 if !import.is_known && !is_used {
                     let text = import.text.as_str();
                     self.source.leave_out(import.place, text, UNUSED)?;

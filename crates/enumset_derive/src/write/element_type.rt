@@ -63,21 +63,13 @@ fn write_impl(out: &mut String, of: &Subject) -> Written {
     let (width, count) = (plan.bit_width, plan.variants.len());
     let [repr, bits, all_bits] = store_text(alloc, &plan.store)?;
     let is_wide = matches!(plan.store, Store::Words(_));
-    let law = if is_wide {
-        "lawful_in_words"
-    } else {
-        "lawful_in_integer"
-    };
+    let law = if is_wide { "words" } else { "integer" };
     let in_place = are_cast(of) && are_places(plan);
-    let (made, more, before, after) = if in_place {
-        (
-            "in_place",
-            ", lawful_in_place",
-            "lawful_in_place the_type (",
-            ")",
-        )
+    let made = if in_place { "in_place" } else { "with_bits" };
+    let (more, before, after) = if in_place {
+        (", lawful_in_place", "lawful_in_place the_type (", ")")
     } else {
-        ("with_bits", "", "", "")
+        ("", "", "")
     };
     let has_values = of.element.declaration.options.has_display;
     write_head(out, of, "", "EnumSetType")?;
@@ -86,7 +78,7 @@ fn write_impl(out: &mut String, of: &Subject) -> Written {
     }
     write!(
         out,
-        "    ghost use Rattle.enumset_sets.specs.Laws.Elements.{{{made}, {law}{more}}};
+        "    ghost use Rattle.enumset_sets.specs.Laws.Elements.{{{made}, lawful_in_{law}{more}}};
     ghost use Rattle.{crate_name}.specs.contracts.{module}.{name}.{{the_type}};
 "
     )?;
@@ -134,7 +126,7 @@ fn write_impl(out: &mut String, of: &Subject) -> Written {
     write_from_u32(out, of)?;
     write!(
         out,
-        "    }}\n\n    ghost lawful = {{ {before}{law} the_type _ tt{after} }};\n}}"
+        "    }}\n\n    ghost lawful = {{ {before}lawful_in_{law} the_type _ tt{after} }};\n}}"
     )
 }
 
@@ -158,13 +150,9 @@ fn write_into_u32(out: &mut String, of: &Subject) -> Written {
 /// Writes the body that converts a bit to its variant: a match over the bits, or the call of the macro that makes a table.
 fn write_from_u32(out: &mut String, of: &Subject) -> Written {
     let (alloc, facade, name) = (of.alloc, of.facade, of.name);
-    let Element {
-        declaration,
-        plan,
-        ..
-    } = of.element;
-    let count = plan.variants.len();
-    let variants = declaration.variants.iter().zip(plan.variants.iter());
+    let (variants, plan) = (&of.element.declaration.variants, &of.element.plan);
+    let count = variants.len();
+    let variants = variants.iter().zip(plan.variants.iter());
     if is_in_table(plan) {
         let mut words = format!(in alloc; "val, {name}:\n")?;
         for (variant, named) in variants {
