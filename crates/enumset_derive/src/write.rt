@@ -11,7 +11,7 @@ mod operators;
 use crate::Request;
 use crate::fault::{Outcome, Reason};
 use crate::plan::{
-    Discriminant, EnumDeclaration, IntegerType, Number, Plan, Serialized, Store, Variant,
+    Discriminant, EnumDeclaration, IntegerType, Number, Options, Plan, Serialized, Store, Variant,
 };
 use crate::source::{Element, Form, Source};
 use crate::tokens::names_last;
