@@ -14,7 +14,7 @@ mod write;
 
 use fault::{DeriveError, Outcome, Place, Reason};
 use read::read_source;
-use std::alloc::Global;
+use std::alloc::{AllocError, Global};
 use std::env::{self, Env};
 use std::fs;
 use std::io::{self, ErrorKind, Input, Print, Read, Write};
@@ -61,7 +61,7 @@ fn answer<R: Env + Files + Input + Print + Eprint + AllocGlobal>(rt: &R) -> Outc
 /// The fault that a failure of the system is: that memory ran out, or this one.
 fn fault_of(error: io::Error, other: DeriveError) -> DeriveError {
     match error.kind() {
-        ErrorKind::OutOfMemory => DeriveError::OutOfMemory,
+        ErrorKind::OutOfMemory => DeriveError::OutOfMemory(AllocError),
         _ => other,
     }
 }

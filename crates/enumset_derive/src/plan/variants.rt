@@ -12,7 +12,7 @@ ghost use Rattle.enumset_derive.specs.Variants.{has_name, has_taken, bit_among, 
 
 use crate::fault::{DeriveError, Fault, Place, Reason};
 use crate::plan::{Map, NamedVariant, Number, Options, Representation, Serialized, Variant};
-use std::alloc::Global;
+use std::alloc::{AllocError, Global};
 
 /// How many variants an enum may have.
 const VARIANT_LIMIT: usize = 256;
@@ -39,9 +39,13 @@ pub fn name_variants(
     let mut named = Vec::new(alloc);
     let mut implied = Some(Number::Small(0));
     for (i, variant) in variants.iter().enumerate() {
-        let next = name_variant(options, &variants[..i], named.as_slice(), implied, variant)?;
+        let next = match name_variant(options, &variants[..i], &named, implied, variant) {
+            Ok(next) => next,
+            Err(fault) => return Err(DeriveError::Fault(fault)),
+        };
         implied = next.number.next();
-        named.push(next)?;
+        let pushed = named.push(next);
+        pushed.map_err(|_| DeriveError::OutOfMemory(AllocError))?;
     }
     Ok(named)
 }
