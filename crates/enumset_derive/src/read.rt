@@ -64,7 +64,7 @@ struct Reader<'a, 'b> {
     derive: &'a str,
     /// Whether no item was read.
     is_in_head: bool,
-    /// The names in the derives that are kept, and in items that are no imports and no element types. If there is such an
+    /// The words of the derives that are kept, and of items that are no imports and no element types. If there is such an
     /// item, `*` and `_` are among them.
     used: BTreeSet<&'a str>,
 }

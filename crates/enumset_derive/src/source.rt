@@ -155,17 +155,11 @@ impl<'a> Source<'a> {
         let is_run = |one: &Item, next: &Item| {
             next.gap == "\n" && one.order(facade).is_some() && next.order(facade).is_some()
         };
+        let order = |one: &Item, other: &Item| one.order(facade).cmp(&other.order(facade));
         for run in self.items.chunk_by_mut(is_run) {
-            let gap = run
-                .first_mut()
-                .map_or("", |first| mem::replace(&mut first.gap, "\n"));
-            run.sort_by(
-                alloc,
-                |one, other| one.order(facade).cmp(&other.order(facade)),
-            )?;
-            if let Some(first) = run.first_mut() {
-                first.gap = gap;
-            }
+            let gap = mem::replace(&mut run[0].gap, "\n");
+            run.sort_by(alloc, order)?;
+            run[0].gap = gap;
         }
         Ok(())
     }

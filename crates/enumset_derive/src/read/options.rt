@@ -21,11 +21,8 @@ impl<'a, 'b> Draft<'a, 'b> {
             let is_name = matches!(name.kind, Kind::Letters);
             name.want(is_name, "wanted: a name of an option, or `)`")?;
             if let Some(first) = self.given.iter().find(|given| given.is(name.text)) {
-                return Err(
-                    Reason::GivenTwice("option", first.place)
-                        .at(name.place)
-                        .into(),
-                );
+                let twice = Reason::GivenTwice("option", first.place);
+                return Err(twice.at(name.place).into());
             }
             self.given.push(name)?;
             self.read_option(name, rest)?;

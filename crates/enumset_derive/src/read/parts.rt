@@ -231,7 +231,7 @@ impl<'a, 'b> Reader<'a, 'b> {
                 continue;
             }
             if is_known {
-                self.add_words(argument)?;
+                self.used.extend(argument.iter().map(|word| word.text))?;
                 kept.push(path)?;
             } else if let [begin, ..] = argument {
                 let text = format!(in self.alloc; "#[derive({path})]")?;

@@ -104,15 +104,11 @@ fn block_comment(text: &str) -> (Kind, &str) {
     let mut depth = 0usize;
     let mut last = ' ';
     for (at, character) in text.char_indices() {
-        if last == '/' && character == '*' {
-            depth = depth.saturating_add(1);
-            last = ' ';
-        } else if last == '*' && character == '/' {
-            depth = depth.saturating_sub(1);
-            last = ' ';
-        } else {
-            last = character;
-        }
+        (depth, last) = match (last, character) {
+            ('/', '*') => (depth.saturating_add(1), ' '),
+            ('*', '/') => (depth.saturating_sub(1), ' '),
+            _ => (depth, character),
+        };
         if depth == 0 && last == ' ' {
             return (comment_kind(text), after(text, at));
         }
