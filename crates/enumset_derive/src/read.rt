@@ -8,10 +8,7 @@ mod options;
 mod parts;
 
 use crate::fault::{Outcome, Place, Reason};
-use crate::plan::{
-    Discriminant, EnumDeclaration, IntegerType, Map, Number, Options, Representation, Serialized,
-    Variant, plan_enum,
-};
+use crate::plan::*;
 use crate::source::{Element, Form, Import, Name, Source};
 use crate::tokens::{Kind, Token, UNCLOSED_BRACKET, is_among, names_last};
 use enums::Draft;

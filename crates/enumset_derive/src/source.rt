@@ -5,9 +5,6 @@ use crate::plan::{EnumDeclaration, Plan};
 use std::alloc::{AllocError, Global};
 use std::mem;
 
-/// How paths in the crate itself begin.
-pub const OWN: [&str; 3] = ["self", "super", "crate"];
-
 /// What a source text has.
 #[derive(Drop)]
 pub struct Source<'a> {
@@ -104,8 +101,8 @@ impl<'a> Item<'a> {
             }
             _ => return None,
         };
-        let mut own = OWN.iter();
-        let rank = own.position(|own| *own == root).unwrap_or(OWN.len());
+        let mut own = ["self", "super", "crate"].iter();
+        let rank = own.position(|own| *own == root).unwrap_or(3);
         Some((rank, root, path))
     }
 }
@@ -173,12 +170,10 @@ impl<'a> Source<'a> {
     /// Adds space. Where something was left out in it, it is not more than before or after that.
     pub fn add_space(&mut self, space: &str) {
         let lines = space.matches('\n').count();
-        self.gap.lines = if self.gap.is_after_left_out {
-            self.gap.lines.max(lines)
-        } else {
-            self.gap.lines.saturating_add(lines)
+        self.gap.lines = match mem::take(&mut self.gap.is_after_left_out) {
+            true => self.gap.lines.max(lines),
+            false => self.gap.lines.saturating_add(lines),
         };
-        self.gap.is_after_left_out = false;
         self.gap.has_space = true;
     }
 

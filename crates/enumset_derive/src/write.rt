@@ -10,19 +10,14 @@ mod operators;
 
 use crate::Request;
 use crate::fault::{Outcome, Reason};
-use crate::plan::{
-    Discriminant, EnumDeclaration, IntegerType, Number, Options, Plan, Serialized, Store, Variant,
-};
+use crate::plan::*;
 use crate::source::{Element, Form, Source};
 use crate::tokens::names_last;
 use element_type::{is_in_table, is_narrow, write_element_type};
 use enums::{are_kept, write_enum};
 use imports::imports_of;
 use json::write_json;
-use layout::{
-    LIST_ROOM, LIST_START, list_by_names, list_of, on_a_line, wrapped, write_arm, write_call,
-    write_head,
-};
+use layout::*;
 use names::{write_display, write_names};
 use operators::write_operators;
 use std::alloc::{AllocError, Global};

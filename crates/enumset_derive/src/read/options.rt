@@ -93,14 +93,13 @@ pub(super) fn value_of<'a, 'b>(
 
 /// The value after `=` in what comes after a name, which is true or false. Without a value it is true.
 fn boolean_of(rest: &[Token]) -> Outcome<bool> {
-    let value = match rest {
-        [equal, value, ..] if equal.is_mark("=") => value,
-        _ => return Ok(true),
-    };
-    match value.unquoted().unwrap_or(value.text) {
-        "true" => Ok(true),
-        "false" => Ok(false),
-        _ => Err(value.fault("wanted: `true` or `false`")),
+    match rest {
+        [equal, value, ..] if equal.is_mark("=") => match value.unquoted().unwrap_or(value.text) {
+            "true" => Ok(true),
+            "false" => Ok(false),
+            _ => Err(value.fault("wanted: `true` or `false`")),
+        },
+        _ => Ok(true),
     }
 }
 

@@ -54,7 +54,10 @@ impl<'a, 'b> Part<'a, 'b> {
         let is_item = matches!(bearer, Bearer::Item);
         let is_type = is_item || matches!(bearer, Bearer::Enum);
         Ok(match name.text {
-            "doc" => self.is_written("( hidden ) ]") || self.is_text(),
+            "doc" => match self.words {
+                [_, _, equal, text, _] if equal.is_mark("=") => matches!(text.kind, Kind::Quoted),
+                _ => self.is_written("( hidden ) ]"),
+            },
             "deprecated" | "non_exhaustive" => !matches!(bearer, Bearer::Text),
             "repr" => is_item
                 && (self.is_written("( C ) ]") || self.is_written("( transparent ) ]")),
@@ -79,12 +82,6 @@ impl<'a, 'b> Part<'a, 'b> {
     fn is_written(&self, words: &str) -> bool {
         let own = self.words.iter().skip(2).map(|word| word.text);
         own.eq(words.split(' '))
-    }
-
-    /// Whether `=` and a text in quotes come after its name, and nothing else.
-    fn is_text(&self) -> bool {
-        matches!(self.words, [_, _, equal, text, _]
-            if equal.is_mark("=") && matches!(text.kind, Kind::Quoted))
     }
 
     /// Whether this name stands in it before a bracket.
