@@ -79,10 +79,9 @@ impl<'a, 'b> Reader<'a, 'b> {
                 self.cursor.advance()?;
                 let part = self.cursor.read_part()?;
                 let text = self.cursor.text_since(begin.begin);
-                if part.has_meaning(Bearer::Text)? {
-                    self.source.push_text(text)?;
-                } else {
-                    self.leave_out(begin.place, text)?;
+                match part.has_meaning(Bearer::Text)? {
+                    true => self.source.push_text(text)?,
+                    false => self.leave_out(begin.place, text)?,
                 }
             }
             _ => {
@@ -135,19 +134,15 @@ impl<'a, 'b> Cursor<'a, 'b> {
     /// Goes on to the next token that is neither a comment nor space.
     pub fn advance_past_blanks(&mut self) -> Done {
         self.advance()?;
-        for _ in self.rest {
-            if !self.token.is_blank() {
-                break;
-            }
-            self.advance()?;
-        }
-        Ok(())
+        self.skip_to(|token| !token.is_blank())
     }
 
-    /// Goes on to the first of these marks in so many brackets, unless the cursor is at one, or to the last token.
-    pub fn skip_to(&mut self, marks: &str, depth: usize) -> Done {
+    /// Goes on to the first such token, unless the cursor is at one, or to the last token.
+    pub fn skip_to<F: Fn(&Token<'a>) -> bool>(&mut self, is_end: F) -> Done
+        requires { F.IsAlwaysCallable is_end }
+    {
         for _ in self.rest {
-            if self.token.is_mark(marks) && self.token.depth == depth {
+            if is_end(self.token) {
                 break;
             }
             self.advance()?;

@@ -69,12 +69,10 @@ fn name_variant(
     if let Some(first) = place_of_name(earlier, variant) {
         return Err(Reason::NameTwice(first).at(variant.place));
     }
+    let too_large = Reason::ImpliedTooLarge.at(variant.place);
     let (number, place) = match &variant.discriminant {
-        Some(given) => (Some(given.number), given.place),
-        None => (implied, variant.place),
-    };
-    let Some(number) = number else {
-        return Err(Reason::ImpliedTooLarge.at(place));
+        Some(given) => (given.number, given.place),
+        None => (implied.ok_or(too_large)?, variant.place),
     };
     match bit_among(options, named, number) {
         Ok(bit) => Ok(NamedVariant { bit, number, place }),
@@ -98,10 +96,7 @@ fn bit_among(options: &Options, named: &[NamedVariant], number: Number) -> Resul
     ensures new { IfOk result (λ b. is_in b (bits_of named.now) ≡ false) }
     ensures range { IfOk result (λ b. b < bit_limit options.now.representation) }
 {
-    let map = match options.map {
-        Some((map, _)) => map,
-        None => Map::Lsb,
-    };
+    let map = options.map.map_or(Map::Lsb, |(map, _)| map);
     let width = bit_limit(options.representation);
     let bit = bit_of(map, width, named.len() as u32, number)?;
     if bit >= width {
@@ -125,10 +120,8 @@ fn bit_among(options: &Options, named: &[NamedVariant], number: Number) -> Resul
 fn taken_by(named: &[NamedVariant], bit: u32, number: Number) -> Option<NamedVariant>
     ensures { result ≡ find (has_taken bit number) named.now }
 {
-    named
-        .iter()
-        .copied()
-        .find(|other| bit == other.bit || number == other.number)
+    let mut named = named.iter().copied();
+    named.find(|other| bit == other.bit || number == other.number)
 }
 
 /// The bit of the variant at a place, counted from 0, that has this discriminant; or why it has none. A set is kept in so

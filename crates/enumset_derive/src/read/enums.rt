@@ -8,12 +8,10 @@ const NOT_A_LITERAL: &str = "a discriminant must be a literal of an integer";
 
 const TOO_LARGE: &str = "a literal past 2^128 - 1 must be a power of two, and not decimal";
 
+const SERDE_ALONE: &str = "here nothing comes of the names: write `#[serde(..)]` alone";
+
 /// How a literal begins that is not decimal, and its base.
 const PREFIXES: [(&str, u32); 3] = [("0x", 16), ("0o", 8), ("0b", 2)];
-
-const TYPES: &str = "u8 u16 u32 u64 u128 usize i8 i16 i32 i64 i128 isize";
-
-const SERDE_ALONE: &str = "here nothing comes of the names: write `#[serde(..)]` alone";
 
 /// The attribute of what is there for tests alone. In one piece it would have the toolchain look for tests here.
 const FOR_TESTS: &str = concat!("#", "[cfg(test)]\n");
@@ -231,15 +229,10 @@ impl<'a, 'b> Cursor<'a, 'b> {
             (Kind::Mark('}'), _) => Ok(()),
             (Kind::Mark(','), _) => {
                 self.advance()?;
-                for _ in self.rest {
-                    match self.token.kind {
-                        Kind::Space if !self.token.text.contains('\n') => {}
-                        Kind::Comment => {}
-                        _ => break,
-                    }
-                    self.advance()?;
-                }
-                Ok(())
+                self.skip_to(|token| match token.kind {
+                    Kind::Space => token.text.contains('\n'),
+                    kind => !matches!(kind, Kind::Comment),
+                })
             }
             (_, Some(given)) => Err(Reason::Text(NOT_A_LITERAL).at(given.place).into()),
             (Kind::Mark('(' | '{'), _) => self.token.want(false, "a variant must have no fields"),
@@ -252,7 +245,7 @@ impl<'a, 'b> Cursor<'a, 'b> {
 ///
 /// Past 128 bits it is a power of two up to 2^(2^32 - 1): after leading zeros a digit with one bit, and then zeros.
 fn number_of(literal: &str, is_negative: bool) -> Result<(&str, Number), &'static str> {
-    let mut types = TYPES.split(' ');
+    let mut types = "u8 u16 u32 u64 u128 usize i8 i16 i32 i64 i128 isize".split(' ');
     let untyped = types.find_map(|name| literal.strip_suffix(name));
     let written = untyped.unwrap_or(literal).trim_end_matches('_');
     let mut prefixes = PREFIXES.iter();

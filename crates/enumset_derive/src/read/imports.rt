@@ -23,7 +23,8 @@ impl<'a, 'b> Reader<'a, 'b> {
     /// Reads an import from its keyword on, of which the attributes are given. Its visibility begins at `item`.
     pub(super) fn read_use(&mut self, place: Place, before: String, item: Cursor<'a, 'b>) -> Done {
         let keyword = self.cursor;
-        self.cursor.skip_to(";", 0)?;
+        self.cursor
+            .skip_to(|token| token.is_mark(";") && token.depth == 0)?;
         let [path @ .., _] = self.cursor.words_since(&keyword) else {
             return Ok(());
         };
@@ -174,18 +175,15 @@ fn names_in<'a, 'b>(alloc: Global, tree: &'b [Token<'a>]) -> Outcome<Vec<&'b Tok
 /// A path as it is laid out on a line. Rust's `core` and `alloc` are `std` here.
 fn spelled(alloc: Global, tree: &[Token]) -> Result<String, AllocError> {
     let mut text = String::new(alloc);
-    let mut has_comma = false;
     for token in tree {
-        if has_comma && !token.is_mark("}") {
-            text.push_str(", ")?;
-        }
-        has_comma = token.is_mark(",");
         text.push_str(match token.text {
-            "," => "",
+            "," => ", ",
             "as" => " as ",
             "core" | "alloc" if text.is_empty() => "std",
             word => word,
         })?;
     }
-    Ok(text)
+    let text = text.as_str();
+    let text = text.strip_suffix(", ").unwrap_or(text);
+    text.replace(alloc, ", }", "}")
 }

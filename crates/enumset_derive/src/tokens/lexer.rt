@@ -47,10 +47,8 @@ fn token_of<'a>(
         Kind::End => open.first().copied(),
         _ => None,
     };
-    let (kind, place) = match unclosed {
-        Some((_, place)) => (Kind::Fault(UNCLOSED_BRACKET), place),
-        None => (kind, place),
-    };
+    let fault = Kind::Fault(UNCLOSED_BRACKET);
+    let (kind, place) = unclosed.map_or((kind, place), |(_, place)| (fault, place));
     Ok(Token {
         kind,
         text,

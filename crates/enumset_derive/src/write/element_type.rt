@@ -61,7 +61,7 @@ fn write_impl(out: &mut String, of: &Subject) -> Written {
     let (alloc, crate_name, module, name) = (of.alloc, of.crate_name, of.module, of.name);
     let plan = &of.element.plan;
     let (width, count) = (plan.bit_width, plan.variants.len());
-    let [repr, bits, all_bits] = store_text(alloc, &plan.store)?;
+    let [repr, model, all_bits] = store_text(alloc, &plan.store)?;
     let is_wide = matches!(plan.store, Store::Words(_));
     let law = if is_wide { "words" } else { "integer" };
     let in_place = are_cast(of) && are_places(plan);
@@ -71,7 +71,21 @@ fn write_impl(out: &mut String, of: &Subject) -> Written {
     } else {
         ("", "", "")
     };
+    let mut bits = String::new(alloc);
+    if !in_place {
+        for named in &plan.variants {
+            write!(bits, "{} ∷\n", named.bit)?;
+        }
+        bits = format!(in alloc; " ({})", list_of(alloc, 59, bits.as_str())?)?;
+    }
     let has_values = of.element.declaration.options.has_display;
+    let (mut variants, mut values) = (String::new(alloc), String::new(alloc));
+    if has_values {
+        let path = format!(in alloc; "Rattle.{crate_name}.specs.declared.{module}.{name}")?;
+        write!(variants, "    ghost use {path}.TheVariants as variant;\n")?;
+        let list = list_by_names(of, 79, "variant.", "")?;
+        write!(values, "    ghost values = {{ {list} }};\n\n")?;
+    }
     write_head(out, of, "", "EnumSetType")?;
     if !in_place || has_values || is_wide {
         out.push_str("    ghost use Rattle.std.specs.Prelude.{◌∷◌, []};\n")?;
@@ -80,33 +94,12 @@ fn write_impl(out: &mut String, of: &Subject) -> Written {
         out,
         "    ghost use Rattle.enumset_sets.specs.Laws.Elements.{{{made}, lawful_in_{law}{more}}};
     ghost use Rattle.{crate_name}.specs.contracts.{module}.{name}.{{the_type}};
-"
-    )?;
-    if has_values {
-        write!(
-            out,
-            "    ghost use Rattle.{crate_name}.specs.declared.{module}.{name}.TheVariants as variant;\n"
-        )?;
-    }
-    write!(
-        out,
-        "\n    type Repr = {repr};\n\n    ghost elements = {{ {made} the_type"
-    )?;
-    if !in_place {
-        let mut words = String::new(alloc);
-        for named in &plan.variants {
-            write!(words, "{} ∷\n", named.bit)?;
-        }
-        write!(out, " ({})", list_of(alloc, 59, words.as_str())?)?;
-    }
-    out.push_str(" };\n\n")?;
-    if has_values {
-        let list = list_by_names(of, 79, "variant.", "")?;
-        write!(out, "    ghost values = {{ {list} }};\n\n")?;
-    }
-    write!(
-        out,
-        "    ghost ALL_BITS = {{ {bits} }};
+{variants}
+    type Repr = {repr};
+
+    ghost elements = {{ {made} the_type{bits} }};
+
+{values}    ghost ALL_BITS = {{ {model} }};
 
     const ALL_BITS: {repr} = {all_bits};
 
