@@ -166,10 +166,9 @@ impl<'a, 'b> Reader<'a, 'b> {
         self.cursor.end_variant(discriminant)?;
         let mut comments = String::new(self.alloc);
         let end = self.cursor.token.begin;
-        for token in begin.rest.iter().take_while(|token| token.begin < end) {
-            if token.is_comment() {
-                write!(comments, " {}", token.text)?;
-            }
+        let passed = begin.rest.iter().take_while(|token| token.begin < end);
+        for comment in passed.filter(|token| token.is_comment()) {
+            write!(comments, " {}", comment.text)?;
         }
         Ok(Variant {
             place: name.place,

@@ -185,12 +185,11 @@ fn store_text(alloc: Global, store: &Store) -> Result<[String; 3], AllocError> {
         }
     };
     let repr = format!(in alloc; "ArrayRepr<{}>", all.len())?;
-    let mut items = String::new(alloc);
     let mut words = String::new(alloc);
     for word in all {
-        write!(items, "{word} ∷\n")?;
         write!(words, "{word},\n")?;
     }
+    let items = words.replace(alloc, ",", " ∷")?;
     let line = on_a_line(alloc, words.as_str())?;
     let all_bits = if line.len().saturating_add(repr.len()) < 64 {
         format!(in alloc; "ArrayRepr([{line}])")?
