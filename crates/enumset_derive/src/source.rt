@@ -130,7 +130,6 @@ impl<'a> Source<'a> {
         let gap = mem::take(&mut self.gap);
         let is_after_head = self.items.len() == self.head;
         let lines = match (&form, self.items.last()) {
-            (_, None) => 0,
             (Form::Element(_), Some(last)) if !is_after_head => match last.form {
                 Form::Imports | Form::Element(_) => 2,
                 _ => gap.lines.max(1),
@@ -138,7 +137,7 @@ impl<'a> Source<'a> {
             _ => gap.lines,
         };
         let gap = match lines {
-            0 if gap.has_space && !self.items.is_empty() => " ",
+            0 if gap.has_space => " ",
             0 => "",
             1 => "\n",
             _ => "\n\n",
