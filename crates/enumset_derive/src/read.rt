@@ -134,15 +134,19 @@ impl<'a, 'b> Cursor<'a, 'b> {
     /// Goes on to the next token that is neither a comment nor space.
     pub fn advance_past_blanks(&mut self) -> Done {
         self.advance()?;
-        self.skip_to(|token| !token.is_blank())
+        for _ in self.rest {
+            if !self.token.is_blank() {
+                break;
+            }
+            self.advance()?;
+        }
+        Ok(())
     }
 
-    /// Goes on to the first such token, unless the cursor is at one, or to the last token.
-    pub fn skip_to<F: Fn(&Token<'a>) -> bool>(&mut self, is_end: F) -> Done
-        requires { F.IsAlwaysCallable is_end }
-    {
+    /// Goes on to the first of these marks in so many brackets, unless the cursor is at one, or to the last token.
+    pub fn skip_to(&mut self, marks: &str, depth: usize) -> Done {
         for _ in self.rest {
-            if is_end(self.token) {
+            if self.token.is_mark(marks) && self.token.depth == depth {
                 break;
             }
             self.advance()?;

@@ -228,10 +228,15 @@ impl<'a, 'b> Cursor<'a, 'b> {
             (Kind::Mark('}'), _) => Ok(()),
             (Kind::Mark(','), _) => {
                 self.advance()?;
-                self.skip_to(|token| match token.kind {
-                    Kind::Space => token.text.contains('\n'),
-                    kind => !matches!(kind, Kind::Comment),
-                })
+                for _ in self.rest {
+                    match self.token.kind {
+                        Kind::Space if !self.token.text.contains('\n') => {}
+                        Kind::Comment => {}
+                        _ => break,
+                    }
+                    self.advance()?;
+                }
+                Ok(())
             }
             (_, Some(given)) => Err(Reason::Text(NOT_A_LITERAL).at(given.place).into()),
             (Kind::Mark('(' | '{'), _) => self.token.want(false, "a variant must have no fields"),

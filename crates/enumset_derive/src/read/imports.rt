@@ -23,8 +23,7 @@ impl<'a, 'b> Reader<'a, 'b> {
     /// Reads an import from its keyword on, of which the attributes are given. Its visibility begins at `item`.
     pub(super) fn read_use(&mut self, place: Place, before: String, item: Cursor<'a, 'b>) -> Done {
         let keyword = self.cursor;
-        self.cursor
-            .skip_to(|token| token.is_mark(";") && token.depth == 0)?;
+        self.cursor.skip_to(";", 0)?;
         let [path @ .., _] = self.cursor.words_since(&keyword) else {
             return Ok(());
         };

@@ -30,8 +30,7 @@ impl<'a, 'b> Reader<'a, 'b> {
         if is_among(NAMED, keyword.text) && next.is_name() {
             self.source.name(next.text, next.place)?;
         }
-        self.cursor
-            .skip_to(|token| token.is_mark(";}") && token.depth == 0)?;
+        self.cursor.skip_to(";}", 0)?;
         if keyword.is("extern") && next.is("crate") {
             let text = self.cursor.text_since(begin.token.begin);
             return self.leave_out(begin.token.place, text);

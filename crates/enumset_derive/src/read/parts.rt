@@ -183,8 +183,7 @@ impl<'a, 'b> Cursor<'a, 'b> {
         if !begin.token.is_comment() {
             self.advance_past_blanks()?;
             self.token.want(self.token.is_mark("["), "wanted: `[`")?;
-            let depth = begin.token.depth;
-            self.skip_to(|token| token.is_mark("]") && token.depth == depth)?;
+            self.skip_to("]", begin.token.depth)?;
         }
         let words = self.words_since(&begin);
         let begin = begin.token;
@@ -205,7 +204,7 @@ impl<'a, 'b> Cursor<'a, 'b> {
         let mut restriction = "";
         if self.token.is_mark("(") {
             let begin = self.token.begin;
-            self.skip_to(|token| token.is_mark(")") && token.depth == 0)?;
+            self.skip_to(")", 0)?;
             restriction = self.text_since(begin);
             self.advance_past_blanks()?;
         }
