@@ -85,5 +85,5 @@ bits_of named = map (λ n. n.bit) named
 
 abbrev pub IsErrorOf : {A : Type 0} → Result A Fault → DeriveError → Type 0
 IsErrorOf r (error.Fault fault) = r ≡ Err fault
-IsErrorOf r error.OutOfMemory = Unit {0}
+IsErrorOf r (error.OutOfMemory _) = Unit {0}
 IsErrorOf r e = ⊥

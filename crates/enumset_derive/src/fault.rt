@@ -2,9 +2,8 @@
 
 ghost use Rattle.std.specs.Prelude.{◌≡◌};
 ghost use Rattle.enumset_derive.specs.Variants.{fault_at};
-ghost use Rattle.enumset_derive.specs.declared.fault.DeriveError.TheVariants as kind;
 
-use std::alloc::{AllocError, AllocFailed};
+use std::alloc::AllocError;
 use std::fmt;
 use thiserror::Error;
 
@@ -13,9 +12,9 @@ use thiserror::Error;
 pub enum DeriveError {
     /// The source has a fault.
     #[error("{0}")]
-    Fault(Fault),
+    Fault(#[from] Fault),
     #[error("out of memory")]
-    OutOfMemory,
+    OutOfMemory(#[from(alloc)] AllocError),
     /// The arguments are wrong.
     #[error("{0}")]
     Arguments(&'static str),
@@ -44,10 +43,8 @@ pub enum Reason {
     /// A fault of reading.
     #[error("{0}")]
     Text(&'static str),
-    #[error("this option was given at {0}")]
-    OptionTwice(Place),
-    #[error("this name in JSON was given at {0}")]
-    JsonNameTwice(Place),
+    #[error("this {0} was given at {1}")]
+    GivenTwice(&'static str, Place),
     // of planning
     #[error("`map = \"msb\"` needs `repr` to be an integer")]
     IntegerMissing,
@@ -119,32 +116,8 @@ impl DeriveError {
     pub fn status(&self) -> u8 {
         match self {
             DeriveError::Arguments(_) => 2,
-            DeriveError::OutOfMemory => 3,
+            DeriveError::OutOfMemory(_) => 3,
             _ => 1,
         }
-    }
-}
-
-impl From<Fault> for DeriveError {
-    ghost from_gives = { λ fault error. error ≡ kind.Fault fault };
-
-    fn from(fault: Fault) -> DeriveError {
-        DeriveError::Fault(fault)
-    }
-}
-
-impl From<AllocError> for DeriveError {
-    ghost from_gives = { λ _ error. error ≡ kind.OutOfMemory };
-
-    fn from(_error: AllocError) -> DeriveError {
-        DeriveError::OutOfMemory
-    }
-}
-
-impl<T: Drop> From<AllocFailed<T>> for DeriveError {
-    ghost from_gives = { λ _ error. error ≡ kind.OutOfMemory };
-
-    fn from(_error: AllocFailed<T>) -> DeriveError {
-        DeriveError::OutOfMemory
     }
 }

@@ -14,17 +14,14 @@ mod write;
 
 use fault::{DeriveError, Outcome, Place, Reason};
 use read::read_source;
-use std::alloc::Global;
+use std::alloc::{AllocError, Global};
 use std::env::{self, Env};
 use std::fs;
 use std::io::{self, ErrorKind, Input, Print, Read, Write};
 use std::process::ExitCode;
 use std::rt::Files;
-use tokens::{is_digit, tokens_of};
+use tokens::tokens_of;
 use write::module_text;
-
-/// What a text may begin with: a byte order mark.
-const MARK: &[u8] = b"\xEF\xBB\xBF";
 
 const NOT_A_NAME: DeriveError = DeriveError::Arguments("an argument is no name");
 
@@ -64,7 +61,7 @@ fn answer<R: Env + Files + Input + Print + Eprint + AllocGlobal>(rt: &R) -> Outc
 /// The fault that a failure of the system is: that memory ran out, or this one.
 fn fault_of(error: io::Error, other: DeriveError) -> DeriveError {
     match error.kind() {
-        ErrorKind::OutOfMemory => DeriveError::OutOfMemory,
+        ErrorKind::OutOfMemory => DeriveError::OutOfMemory(AllocError),
         _ => other,
     }
 }
@@ -95,7 +92,7 @@ fn is_name(name: &str) -> bool {
     let mut letters = name.chars();
     let is_short = matches!(name.len(), 1..=256);
     let is_plain = letters.all(|letter| matches!(letter, 'a'..='z' | '0'..='9' | '_'));
-    is_short && is_plain && !name.starts_with(is_digit)
+    is_short && is_plain && !name.starts_with(|letter: char| letter.is_ascii_digit())
 }
 
 /// The module that the input stands for. Standard error says what is left out, and that a text has no element type.
@@ -121,16 +118,11 @@ fn derive<R: Input + Eprint + AllocGlobal>(rt: &R, request: &Request) -> Outcome
 
 /// The text that bytes are, without a byte order mark, or the fault where they are no text.
 fn text_of(input: &[u8]) -> Outcome<&str> {
-    let input = input.strip_prefix(MARK).unwrap_or(input);
-    let error = match str::from_utf8(input) {
-        Ok(text) => return Ok(text),
-        Err(error) => error,
-    };
-    let valid = input.get(..error.valid_up_to()).unwrap_or(b"");
-    let before = str::from_utf8(valid).unwrap_or("");
-    let place = before.chars().fold(Place::BEGIN, Place::after);
-    let reason = Reason::Text("these bytes are no text in UTF-8");
-    Err(reason.at(place).into())
+    let input = input.strip_prefix(b"\xEF\xBB\xBF").unwrap_or(input);
+    let valid = input.utf8_chunks().next().map_or("", |chunk| chunk.valid());
+    let end = valid.chars().fold(Place::BEGIN, Place::after);
+    let fault = Reason::Text("these bytes are no text in UTF-8").at(end);
+    Ok(str::from_utf8(input).map_err(|_| fault)?)
 }
 
 /// Writes a text to a file, or to standard output.

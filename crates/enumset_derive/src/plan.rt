@@ -59,11 +59,12 @@ pub fn plan_enum(alloc: Global, declaration: &EnumDeclaration) -> Result<Plan, D
     let options = &declaration.options;
     let asked = options.representation;
     if let (Some((Map::Msb, place)), None | Some(Representation::Words)) = (options.map, asked) {
-        return Err(Reason::IntegerMissing.at(place).into());
+        return Err(DeriveError::Fault(Reason::IntegerMissing.at(place)));
     }
     let variants = name_variants(alloc, options, declaration.variants.as_slice())?;
     let bit_width = width_of(variants.as_slice());
-    let store = store_of(alloc, asked, variants.as_slice(), bit_width)?;
+    let store = store_of(alloc, asked, variants.as_slice(), bit_width);
+    let store = store.map_err(DeriveError::OutOfMemory)?;
     Ok(Plan {
         variants,
         store,

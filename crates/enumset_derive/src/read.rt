@@ -8,12 +8,9 @@ mod options;
 mod parts;
 
 use crate::fault::{Outcome, Place, Reason};
-use crate::plan::{
-    Discriminant, EnumDeclaration, IntegerType, Map, Number, Options, Representation, Serialized,
-    Variant, plan_enum,
-};
+use crate::plan::*;
 use crate::source::{Element, Form, Import, Name, Source};
-use crate::tokens::{Kind, Token, UNCLOSED_BRACKET, is_among, is_digit, names_last};
+use crate::tokens::{Kind, Token, UNCLOSED_BRACKET, is_among, names_last};
 use enums::Draft;
 use parts::{Bearer, Part, place_of_derive, renamed_derive};
 use std::alloc::{AllocError, Global};
@@ -43,17 +40,15 @@ pub fn read_source<'a>(alloc: Global, text: &'a str, tokens: &[Token<'a>]) -> Ou
         derive: renamed_derive(&words),
         is_in_head: true,
         used: BTreeSet::new(alloc),
-        has_others: false,
     };
     for _ in rest {
         reader.read_token()?;
         reader.cursor.advance()?;
     }
     reader.settle_imports()?;
-    let Reader { mut source, .. } = reader;
-    let notes = &mut source.notes;
+    let notes = &mut reader.source.notes;
     notes.sort_by_key(|(place, _)| (place.line, place.column))?;
-    Ok(source)
+    Ok(reader.source)
 }
 
 /// A source, and what is known of it while it is read.
@@ -66,10 +61,9 @@ struct Reader<'a, 'b> {
     derive: &'a str,
     /// Whether no item was read.
     is_in_head: bool,
-    /// The names in the derives that are kept, and in items that are no imports and no element types.
+    /// The words of the derives that are kept, and of items that are no imports and no element types. If there is such an
+    /// item, `*` and `_` are among them.
     used: BTreeSet<&'a str>,
-    /// Whether there are such items.
-    has_others: bool,
 }
 
 impl<'a, 'b> Reader<'a, 'b> {
@@ -85,10 +79,9 @@ impl<'a, 'b> Reader<'a, 'b> {
                 self.cursor.advance()?;
                 let part = self.cursor.read_part()?;
                 let text = self.cursor.text_since(begin.begin);
-                if part.has_meaning(Bearer::Text)? {
-                    self.source.push_text(text)?;
-                } else {
-                    self.leave_out(begin.place, text)?;
+                match part.has_meaning(Bearer::Text)? {
+                    true => self.source.push_text(text)?,
+                    false => self.leave_out(begin.place, text)?,
                 }
             }
             _ => {

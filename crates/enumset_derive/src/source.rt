@@ -5,9 +5,6 @@ use crate::plan::{EnumDeclaration, Plan};
 use std::alloc::{AllocError, Global};
 use std::mem;
 
-/// How paths in the crate itself begin.
-pub const OWN: [&str; 3] = ["self", "super", "crate"];
-
 /// What a source text has.
 #[derive(Drop)]
 pub struct Source<'a> {
@@ -70,8 +67,8 @@ pub struct Element<'a> {
     pub plan: Plan,
     /// The names of the variants in JSON, in their order, and where each is given, if one may not be the variant's own.
     pub json_names: Vec<(Place, String)>,
-    /// Whether it is there for tests alone.
-    pub is_test: bool,
+    /// The attribute of each of its implementations, if they are there for tests alone.
+    pub guard: &'static str,
 }
 
 /// A name that a source gives to something.
@@ -90,6 +87,24 @@ struct Gap {
     has_space: bool,
     /// Whether something was left out after it.
     is_after_left_out: bool,
+}
+
+impl<'a> Item<'a> {
+    /// By what `rt fmt` orders imports: those of the crate itself come first.
+    fn order<'b>(&'b self, facade: &'b str) -> Option<(usize, &'b str, &'b str)> {
+        let (root, path) = match &self.form {
+            Form::Imports => (facade, "{"),
+            Form::Import(import) => {
+                let path = import.path.as_str();
+                let root = path.split(' ').next().unwrap_or(path);
+                path.split_once("::").unwrap_or((root, ""))
+            }
+            _ => return None,
+        };
+        let mut own = ["self", "super", "crate"].iter();
+        let rank = own.position(|own| *own == root).unwrap_or(3);
+        Some((rank, root, path))
+    }
 }
 
 impl<'a> Source<'a> {
@@ -115,7 +130,6 @@ impl<'a> Source<'a> {
         let gap = mem::take(&mut self.gap);
         let is_after_head = self.items.len() == self.head;
         let lines = match (&form, self.items.last()) {
-            (_, None) => 0,
             (Form::Element(_), Some(last)) if !is_after_head => match last.form {
                 Form::Imports | Form::Element(_) => 2,
                 _ => gap.lines.max(1),
@@ -123,7 +137,7 @@ impl<'a> Source<'a> {
             _ => gap.lines,
         };
         let gap = match lines {
-            0 if gap.has_space && !self.items.is_empty() => " ",
+            0 if gap.has_space => " ",
             0 => "",
             1 => "\n",
             _ => "\n\n",
@@ -131,40 +145,19 @@ impl<'a> Source<'a> {
         Ok(self.items.push(Item { gap, form })?)
     }
 
-    /// Adds an item whose gap is known. Imports on lines of their own are in the order that `rt fmt` gives them.
-    pub fn insert(&mut self, item: Item<'a>) -> Result<(), AllocError> {
-        let mut item = item;
-        let mut at = self.items.len();
-        for (index, earlier) in self.items.iter().enumerate().rev() {
-            let orders = self.order_of(&item.form).zip(self.order_of(&earlier.form));
-            if item.gap != "\n" || orders.is_none_or(|(own, other)| own >= other) {
-                break;
-            }
-            at = index;
-            if earlier.gap != "\n" {
-                break;
-            }
-        }
-        if let Some(next) = self.items.get_mut(at) {
-            mem::swap(&mut item.gap, &mut next.gap);
-        }
-        Ok(self.items.insert(at.min(self.items.len()), item)?)
-    }
-
-    /// By what `rt fmt` orders imports: those of the crate itself come first.
-    fn order_of<'b>(&'b self, form: &'b Form<'a>) -> Option<(usize, &'b str, &'b str)> {
-        let (root, path) = match form {
-            Form::Imports => (self.facade, "{"),
-            Form::Import(import) => {
-                let path = import.path.as_str();
-                let root = path.split(' ').next().unwrap_or(path);
-                path.split_once("::").unwrap_or((root, ""))
-            }
-            _ => return None,
+    /// Puts imports on lines of their own into the order that `rt fmt` gives them.
+    pub fn sort_imports(&mut self) -> Result<(), AllocError> {
+        let (alloc, facade) = (self.alloc, self.facade);
+        let is_run = |one: &Item, next: &Item| {
+            next.gap == "\n" && one.order(facade).is_some() && next.order(facade).is_some()
         };
-        let mut own = OWN.iter();
-        let rank = own.position(|own| *own == root).unwrap_or(OWN.len());
-        Some((rank, root, path))
+        let order = |one: &Item, other: &Item| one.order(facade).cmp(&other.order(facade));
+        for run in self.items.chunk_by_mut(is_run) {
+            let gap = mem::replace(&mut run[0].gap, "\n");
+            run.sort_by(alloc, order)?;
+            run[0].gap = gap;
+        }
+        Ok(())
     }
 
     /// Adds a text that goes through unchanged.
@@ -176,12 +169,10 @@ impl<'a> Source<'a> {
     /// Adds space. Where something was left out in it, it is not more than before or after that.
     pub fn add_space(&mut self, space: &str) {
         let lines = space.matches('\n').count();
-        self.gap.lines = if self.gap.is_after_left_out {
-            self.gap.lines.max(lines)
-        } else {
-            self.gap.lines.saturating_add(lines)
+        self.gap.lines = match mem::take(&mut self.gap.is_after_left_out) {
+            true => self.gap.lines.max(lines),
+            false => self.gap.lines.saturating_add(lines),
         };
-        self.gap.is_after_left_out = false;
         self.gap.has_space = true;
     }
 

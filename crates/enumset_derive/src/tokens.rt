@@ -85,6 +85,7 @@ impl<'a> Token<'a> {
 
     /// Whether the token is a name or a keyword: letters without a digit first.
     pub fn is_name(&self) -> bool {
+        let is_digit = |letter: char| letter.is_ascii_digit();
         matches!(self.kind, Kind::Letters) && !self.text.starts_with(is_digit)
     }
 }
@@ -97,8 +98,4 @@ pub fn is_among(words: &str, word: &str) -> bool {
 /// Whether this name is the last in a path.
 pub fn names_last(path: &str, name: &str) -> bool {
     path.rsplit("::").next().is_some_and(|last| last == name)
-}
-
-pub fn is_digit(character: char) -> bool {
-    character.is_ascii_digit()
 }

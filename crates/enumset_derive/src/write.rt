@@ -10,19 +10,14 @@ mod operators;
 
 use crate::Request;
 use crate::fault::{Outcome, Reason};
-use crate::plan::{
-    Discriminant, EnumDeclaration, IntegerType, Number, Plan, Serialized, Store, Variant,
-};
+use crate::plan::*;
 use crate::source::{Element, Form, Source};
 use crate::tokens::names_last;
 use element_type::{is_in_table, is_narrow, write_element_type};
 use enums::{are_kept, write_enum};
 use imports::imports_of;
 use json::write_json;
-use layout::{
-    LIST_ROOM, LIST_START, list_by_names, list_of, on_a_line, wrapped, write_arm, write_call,
-    write_head,
-};
+use layout::*;
 use names::{write_display, write_names};
 use operators::write_operators;
 use std::alloc::{AllocError, Global};
@@ -34,9 +29,6 @@ type Written = Result<(), AllocError>;
 /// A text, unless memory ran out.
 type Text = Result<String, AllocError>;
 
-/// The attribute of what is there for tests alone. In one piece it would have the toolchain look for tests here.
-const FOR_TESTS: &str = concat!("#", "[cfg(test)]\n");
-
 /// An element type that is written: what it is, and where.
 #[derive(Clone, Copy)]
 struct Subject<'a> {
@@ -46,8 +38,6 @@ struct Subject<'a> {
     module: &'a str,
     facade: &'a str,
     name: &'a str,
-    /// The attribute of each of its implementations, if they are there for tests alone.
-    guard: &'static str,
     element: &'a Element<'a>,
 }
 
@@ -76,7 +66,6 @@ pub fn module_text(alloc: Global, request: &Request, source: &Source) -> Outcome
                     module: request.module.as_str(),
                     facade: source.facade,
                     name: element.declaration.name,
-                    guard: if element.is_test { FOR_TESTS } else { "" },
                     element,
                 };
                 write_element_type(&mut text, &subject)?;

@@ -12,7 +12,7 @@ ghost use Rattle.enumset_derive.specs.Variants.{has_name, has_taken, bit_among, 
 
 use crate::fault::{DeriveError, Fault, Place, Reason};
 use crate::plan::{Map, NamedVariant, Number, Options, Representation, Serialized, Variant};
-use std::alloc::Global;
+use std::alloc::{AllocError, Global};
 
 /// How many variants an enum may have.
 const VARIANT_LIMIT: usize = 256;
@@ -39,9 +39,13 @@ pub fn name_variants(
     let mut named = Vec::new(alloc);
     let mut implied = Some(Number::Small(0));
     for (i, variant) in variants.iter().enumerate() {
-        let next = name_variant(options, &variants[..i], named.as_slice(), implied, variant)?;
+        let next = match name_variant(options, &variants[..i], &named, implied, variant) {
+            Ok(next) => next,
+            Err(fault) => return Err(DeriveError::Fault(fault)),
+        };
         implied = next.number.next();
-        named.push(next)?;
+        let pushed = named.push(next);
+        pushed.map_err(|_| DeriveError::OutOfMemory(AllocError))?;
     }
     Ok(named)
 }
@@ -65,12 +69,10 @@ fn name_variant(
     if let Some(first) = place_of_name(earlier, variant) {
         return Err(Reason::NameTwice(first).at(variant.place));
     }
+    let too_large = Reason::ImpliedTooLarge.at(variant.place);
     let (number, place) = match &variant.discriminant {
-        Some(given) => (Some(given.number), given.place),
-        None => (implied, variant.place),
-    };
-    let Some(number) = number else {
-        return Err(Reason::ImpliedTooLarge.at(place));
+        Some(given) => (given.number, given.place),
+        None => (implied.ok_or(too_large)?, variant.place),
     };
     match bit_among(options, named, number) {
         Ok(bit) => Ok(NamedVariant { bit, number, place }),
@@ -94,10 +96,7 @@ fn bit_among(options: &Options, named: &[NamedVariant], number: Number) -> Resul
     ensures new { IfOk result (λ b. is_in b (bits_of named.now) ≡ false) }
     ensures range { IfOk result (λ b. b < bit_limit options.now.representation) }
 {
-    let map = match options.map {
-        Some((map, _)) => map,
-        None => Map::Lsb,
-    };
+    let map = options.map.map_or(Map::Lsb, |(map, _)| map);
     let width = bit_limit(options.representation);
     let bit = bit_of(map, width, named.len() as u32, number)?;
     if bit >= width {
@@ -121,10 +120,8 @@ fn bit_among(options: &Options, named: &[NamedVariant], number: Number) -> Resul
 fn taken_by(named: &[NamedVariant], bit: u32, number: Number) -> Option<NamedVariant>
     ensures { result ≡ find (has_taken bit number) named.now }
 {
-    named
-        .iter()
-        .copied()
-        .find(|other| bit == other.bit || number == other.number)
+    let mut named = named.iter().copied();
+    named.find(|other| bit == other.bit || number == other.number)
 }
 
 /// The bit of the variant at a place, counted from 0, that has this discriminant; or why it has none. A set is kept in so

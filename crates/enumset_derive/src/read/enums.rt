@@ -8,12 +8,13 @@ const NOT_A_LITERAL: &str = "a discriminant must be a literal of an integer";
 
 const TOO_LARGE: &str = "a literal past 2^128 - 1 must be a power of two, and not decimal";
 
+const SERDE_ALONE: &str = "here nothing comes of the names: write `#[serde(..)]` alone";
+
 /// How a literal begins that is not decimal, and its base.
 const PREFIXES: [(&str, u32); 3] = [("0x", 16), ("0o", 8), ("0b", 2)];
 
-const TYPES: &str = "u8 u16 u32 u64 u128 usize i8 i16 i32 i64 i128 isize";
-
-const SERDE_ALONE: &str = "here nothing comes of the names: write `#[serde(..)]` alone";
+/// The attribute of what is there for tests alone. In one piece it would have the toolchain look for tests here.
+const FOR_TESTS: &str = concat!("#", "[cfg(test)]\n");
 
 /// What is known of an enum that is to be an element type.
 #[derive(Drop)]
@@ -78,11 +79,12 @@ impl<'a, 'b> Reader<'a, 'b> {
         let declaration = draft.declaration;
         self.source.has_enums = true;
         self.source.facade = declaration.options.crate_name.unwrap_or(self.source.facade);
+        let is_test = parts.iter().any(|part| part.name.is("cfg"));
         let element = Element {
             declaration,
             plan,
             json_names,
-            is_test: parts.iter().any(|part| part.name.is("cfg")),
+            guard: if is_test { FOR_TESTS } else { "" },
         };
         Ok(self.source.push(Form::Element(element))?)
     }
@@ -157,24 +159,21 @@ impl<'a, 'b> Reader<'a, 'b> {
     /// Reads a variant, of which the attributes are given, up to what stands after the `,` and the comments on its line.
     fn read_variant(&mut self, attributes: String) -> Outcome<Variant<'a>> {
         let begin = self.cursor;
-        let is_name = begin.token.is_name();
-        begin
-            .token
-            .want(is_name, "wanted: a name of a variant, or `}`")?;
+        let name = begin.token;
+        name.want(name.is_name(), "wanted: a name of a variant, or `}`")?;
         self.cursor.advance_past_blanks()?;
         let discriminant = self.cursor.read_discriminant()?;
         self.cursor.end_variant(discriminant)?;
         let mut comments = String::new(self.alloc);
         let end = self.cursor.token.begin;
-        for token in begin.rest.iter().take_while(|token| token.begin < end) {
-            if token.is_comment() {
-                write!(comments, " {}", token.text)?;
-            }
+        let passed = begin.rest.iter().take_while(|token| token.begin < end);
+        for comment in passed.filter(|token| token.is_comment()) {
+            write!(comments, " {}", comment.text)?;
         }
         Ok(Variant {
-            place: begin.token.place,
+            place: name.place,
             attributes,
-            name: begin.token.text,
+            name: name.text,
             discriminant,
             comments,
         })
@@ -184,19 +183,18 @@ impl<'a, 'b> Reader<'a, 'b> {
 impl<'a, 'b> Cursor<'a, 'b> {
     /// Reads the keyword and the name of an enum, and the `{` after them.
     fn read_enum_name(&mut self) -> Outcome<&'b Token<'a>> {
-        let is_end = matches!(self.token.kind, Kind::End);
-        self.token.want(!is_end, "wanted: an item")?;
-        self.token
-            .want(self.token.is("enum"), "`EnumSetType` is for enums alone")?;
+        let keyword = self.token;
+        let is_end = matches!(keyword.kind, Kind::End);
+        keyword.want(!is_end, "wanted: an item")?;
+        keyword.want(keyword.is("enum"), "`EnumSetType` is for enums alone")?;
         self.advance_past_blanks()?;
         let name = self.token;
-        self.token
-            .want(name.is_name(), "wanted: a name of an enum")?;
+        name.want(name.is_name(), "wanted: a name of an enum")?;
         self.advance_past_blanks()?;
-        let has_parameters = self.token.is_mark("<") || self.token.is("where");
-        self.token
-            .want(!has_parameters, "the enum must have no parameters")?;
-        self.token.want(self.token.is_mark("{"), "wanted: `{`")?;
+        let next = self.token;
+        let has_parameters = next.is_mark("<") || next.is("where");
+        next.want(!has_parameters, "the enum must have no parameters")?;
+        next.want(next.is_mark("{"), "wanted: `{`")?;
         self.advance()?;
         Ok(name)
     }
@@ -251,13 +249,13 @@ impl<'a, 'b> Cursor<'a, 'b> {
 ///
 /// Past 128 bits it is a power of two up to 2^(2^32 - 1): after leading zeros a digit with one bit, and then zeros.
 fn number_of(literal: &str, is_negative: bool) -> Result<(&str, Number), &'static str> {
-    let mut types = TYPES.split(' ');
+    let mut types = "u8 u16 u32 u64 u128 usize i8 i16 i32 i64 i128 isize".split(' ');
     let untyped = types.find_map(|name| literal.strip_suffix(name));
     let written = untyped.unwrap_or(literal).trim_end_matches('_');
     let mut prefixes = PREFIXES.iter();
     let digits_of = |(prefix, radix): &(&str, u32)| Some((*radix, written.strip_prefix(prefix)?));
     let (radix, digits) = prefixes.find_map(digits_of).unwrap_or((10, written));
-    if digits.is_empty() || !written.starts_with(is_digit) {
+    if digits.is_empty() || !written.starts_with(|first: char| first.is_ascii_digit()) {
         return Err(NOT_A_LITERAL);
     }
     let mut value = Some(0u128);

@@ -122,10 +122,7 @@ impl<'a, 'b> Reader<'a, 'b> {
         for item in mem::replace(&mut self.source.items, Vec::new(self.alloc)) {
             if let Form::Import(import) = &item.form {
                 let mut names = import.names.iter();
-                let is_used = names.any(|name| match name.text {
-                    "*" | "_" => self.has_others,
-                    text => self.used.contains(text),
-                });
+                let is_used = names.any(|name| self.used.contains(name.text));
                 if !import.is_known && !is_used {
                     let text = import.text.as_str();
                     self.source.leave_out(import.place, text, UNUSED)?;
@@ -134,9 +131,9 @@ impl<'a, 'b> Reader<'a, 'b> {
                 let names = &mut self.source.names;
                 names.extend_from_slice(import.names.as_slice())?;
             }
-            self.source.insert(item)?;
+            self.source.items.push(item)?;
         }
-        Ok(())
+        Ok(self.source.sort_imports()?)
     }
 }
 
@@ -177,18 +174,15 @@ fn names_in<'a, 'b>(alloc: Global, tree: &'b [Token<'a>]) -> Outcome<Vec<&'b Tok
 /// A path as it is laid out on a line. Rust's `core` and `alloc` are `std` here.
 fn spelled(alloc: Global, tree: &[Token]) -> Result<String, AllocError> {
     let mut text = String::new(alloc);
-    let mut has_comma = false;
     for token in tree {
-        if has_comma && !token.is_mark("}") {
-            text.push_str(", ")?;
-        }
-        has_comma = token.is_mark(",");
         text.push_str(match token.text {
-            "," => "",
+            "," => ", ",
             "as" => " as ",
             "core" | "alloc" if text.is_empty() => "std",
             word => word,
         })?;
     }
-    Ok(text)
+    let text = text.as_str();
+    let text = text.strip_suffix(", ").unwrap_or(text);
+    text.replace(alloc, ", }", "}")
 }

@@ -39,20 +39,10 @@ impl<'a, 'b> Reader<'a, 'b> {
         if let Some(place) = place_of_derive(words, self.derive) {
             return Err(Reason::Text(INSIDE).at(place).into());
         }
-        self.add_words(words)?;
-        self.has_others = true;
+        self.used.extend(words.iter().map(|word| word.text))?;
+        self.used.extend(["*", "_"])?;
         self.write_item(&mut text, item)?;
         Ok(self.source.push(Form::Text(text))?)
-    }
-
-    /// Takes in the names, keywords and numbers among words.
-    pub(super) fn add_words(&mut self, words: &[Token<'a>]) -> Done {
-        for word in words {
-            if matches!(word.kind, Kind::Letters) {
-                self.used.insert(word.text)?;
-            }
-        }
-        Ok(())
     }
 
     /// What is kept of the comments and attributes of an item that is no element type, a line each.

@@ -50,15 +50,15 @@ impl<'a, 'b> Draft<'a, 'b> {
             return Ok(names);
         }
         let given = self.given_names(alloc)?;
-        let mut styles = given.iter().rev().filter(|(of, _, _)| of.is_none());
-        let style = styles.next().map_or("PascalCase", |(_, _, style)| *style);
+        let style = given.iter().rfind(|(of, _, _)| of.is_none());
+        let style = style.map_or("PascalCase", |(_, _, style)| *style);
         for (index, variant) in self.declaration.variants.iter().enumerate() {
             let (place, name) = match given.iter().find(|(of, _, _)| *of == Some(index)) {
                 Some((_, place, given)) => (*place, String::from_str(alloc, given)?),
                 None => (variant.place, styled(alloc, style, variant.name)?),
             };
             if let Some((first, _)) = names.iter().find(|(_, earlier)| *earlier == name) {
-                return Err(Reason::JsonNameTwice(*first).at(place).into());
+                return Err(Reason::GivenTwice("name in JSON", *first).at(place).into());
             }
             names.push((place, name))?;
         }

@@ -2,10 +2,6 @@
 
 use super::*;
 
-const NO_VALUE: &str = "wanted: `=` and a text in quotes";
-
-const WRONG_MAP: &str = "`map` is \"lsb\", \"msb\", \"mask\" or \"compact\"";
-
 const WRONG_REPRESENTATION: &str =
     "`repr` is \"u8\", \"u16\", \"u32\", \"u64\", \"u128\" or \"array\"; over another \
     representation write the element type by hand, as in docs/ELEMENT-TYPES.md";
@@ -25,7 +21,8 @@ impl<'a, 'b> Draft<'a, 'b> {
             let is_name = matches!(name.kind, Kind::Letters);
             name.want(is_name, "wanted: a name of an option, or `)`")?;
             if let Some(first) = self.given.iter().find(|given| given.is(name.text)) {
-                return Err(Reason::OptionTwice(first.place).at(name.place).into());
+                let twice = Reason::GivenTwice("option", first.place);
+                return Err(twice.at(name.place).into());
             }
             self.given.push(name)?;
             self.read_option(name, rest)?;
@@ -51,27 +48,23 @@ impl<'a, 'b> Draft<'a, 'b> {
                     "msb" => Map::Msb,
                     "mask" => Map::Mask,
                     "compact" => Map::Compact,
-                    _ => return Err(value.fault(WRONG_MAP)),
+                    _ => return Err(value.fault(
+                        "`map` is \"lsb\", \"msb\", \"mask\" or \"compact\"",
+                    )),
                 };
                 options.map = Some((map, value.place));
             }
             "repr" => {
                 let (value, text) = value_of(name, rest)?;
-                options.representation = Some(match integer_of(text) {
-                    Some(integer) => Representation::Integer(integer),
-                    None if text == "array" => Representation::Words,
-                    None => return Err(value.fault(WRONG_REPRESENTATION)),
+                options.representation = Some(match form_of(text) {
+                    Some(Serialized::Integer(integer)) => Representation::Integer(integer),
+                    Some(Serialized::Words) => Representation::Words,
+                    _ => return Err(value.fault(WRONG_REPRESENTATION)),
                 });
             }
             "serialize_repr" => {
                 let (value, text) = value_of(name, rest)?;
-                options.serialized = Some(match (text, integer_of(text)) {
-                    (_, Some(integer)) => Serialized::Integer(integer),
-                    ("array", _) => Serialized::Words,
-                    ("list", _) => Serialized::List,
-                    ("map", _) => Serialized::Map,
-                    _ => return Err(value.fault(WRONG_FORM)),
-                });
+                options.serialized = Some(form_of(text).ok_or(value.fault(WRONG_FORM))?);
             }
             "crate_name" => options.crate_name = Some(value_of(name, rest)?.1),
             "serialize_deny_unknown" => options.denies_unknown = boolean_of(rest)?,
@@ -94,30 +87,33 @@ pub(super) fn value_of<'a, 'b>(
         [equal, value, ..] if equal.is_mark("=") => (value, value.unquoted()),
         _ => (rest.first().unwrap_or(name), None),
     };
-    Ok((value, text.ok_or(value.fault(NO_VALUE))?))
+    let text = text.ok_or(value.fault("wanted: `=` and a text in quotes"))?;
+    Ok((value, text))
 }
 
 /// The value after `=` in what comes after a name, which is true or false. Without a value it is true.
 fn boolean_of(rest: &[Token]) -> Outcome<bool> {
-    let value = match rest {
-        [equal, value, ..] if equal.is_mark("=") => value,
-        _ => return Ok(true),
-    };
-    match value.unquoted().unwrap_or(value.text) {
-        "true" => Ok(true),
-        "false" => Ok(false),
-        _ => Err(value.fault("wanted: `true` or `false`")),
+    match rest {
+        [equal, value, ..] if equal.is_mark("=") => match value.unquoted().unwrap_or(value.text) {
+            "true" => Ok(true),
+            "false" => Ok(false),
+            _ => Err(value.fault("wanted: `true` or `false`")),
+        },
+        _ => Ok(true),
     }
 }
 
-/// The integer type of a name.
-fn integer_of(name: &str) -> Option<IntegerType> {
-    match name {
-        "u8" => Some(IntegerType::U8),
-        "u16" => Some(IntegerType::U16),
-        "u32" => Some(IntegerType::U32),
-        "u64" => Some(IntegerType::U64),
-        "u128" => Some(IntegerType::U128),
-        _ => None,
-    }
+/// The form of sets that a name stands for.
+fn form_of(name: &str) -> Option<Serialized> {
+    Some(match name {
+        "u8" => Serialized::Integer(IntegerType::U8),
+        "u16" => Serialized::Integer(IntegerType::U16),
+        "u32" => Serialized::Integer(IntegerType::U32),
+        "u64" => Serialized::Integer(IntegerType::U64),
+        "u128" => Serialized::Integer(IntegerType::U128),
+        "array" => Serialized::Words,
+        "list" => Serialized::List,
+        "map" => Serialized::Map,
+        _ => return None,
+    })
 }

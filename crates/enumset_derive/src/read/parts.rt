@@ -54,7 +54,10 @@ impl<'a, 'b> Part<'a, 'b> {
         let is_item = matches!(bearer, Bearer::Item);
         let is_type = is_item || matches!(bearer, Bearer::Enum);
         Ok(match name.text {
-            "doc" => self.is_written("( hidden ) ]") || self.is_text(),
+            "doc" => match self.words {
+                [_, _, equal, text, _] if equal.is_mark("=") => matches!(text.kind, Kind::Quoted),
+                _ => self.is_written("( hidden ) ]"),
+            },
             "deprecated" | "non_exhaustive" => !matches!(bearer, Bearer::Text),
             "repr" => is_item
                 && (self.is_written("( C ) ]") || self.is_written("( transparent ) ]")),
@@ -79,12 +82,6 @@ impl<'a, 'b> Part<'a, 'b> {
     fn is_written(&self, words: &str) -> bool {
         let own = self.words.iter().skip(2).map(|word| word.text);
         own.eq(words.split(' '))
-    }
-
-    /// Whether `=` and a text in quotes come after its name, and nothing else.
-    fn is_text(&self) -> bool {
-        matches!(self.words, [_, _, equal, text, _]
-            if equal.is_mark("=") && matches!(text.kind, Kind::Quoted))
     }
 
     /// Whether this name stands in it before a bracket.
@@ -120,18 +117,13 @@ impl<'a, 'b> Part<'a, 'b> {
 
 /// Where `EnumSetType` is derived among these words, or its other name.
 pub(super) fn place_of_derive(words: &[Token], renamed: &str) -> Option<Place> {
-    for words in words.split(|word| word.is("derive")).skip(1) {
-        if let [open, derived @ ..] = words
-            && open.is_mark("(")
-        {
-            let mut derived = derived.iter().take_while(|word| word.depth >= open.depth);
-            let found = derived.find(|word| word.is("EnumSetType") || word.is(renamed));
-            if let Some(found) = found {
-                return Some(found.place);
-            }
-        }
-    }
-    None
+    let mut derives = words.split(|word| word.is("derive")).skip(1);
+    let found = derives.find_map(|words| {
+        let (open, derived) = words.split_first().filter(|(open, _)| open.is_mark("("))?;
+        let mut derived = derived.iter().take_while(|word| word.depth >= open.depth);
+        derived.find(|word| word.is("EnumSetType") || word.is(renamed))
+    });
+    found.map(|word| word.place)
 }
 
 /// The name `F` of `EnumSetType as F` among these words, or an empty text.
@@ -236,7 +228,7 @@ impl<'a, 'b> Reader<'a, 'b> {
                 continue;
             }
             if is_known {
-                self.add_words(argument)?;
+                self.used.extend(argument.iter().map(|word| word.text))?;
                 kept.push(path)?;
             } else if let [begin, ..] = argument {
                 let text = format!(in self.alloc; "#[derive({path})]")?;

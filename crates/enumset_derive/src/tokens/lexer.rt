@@ -7,11 +7,6 @@ use std::alloc::Global;
 /// What a text or a character in quotes is that has no end.
 const UNCLOSED: (Kind, &str) = (Kind::Fault("this quote has no end"), "");
 
-const RAW_NAME: &str = "no raw names here: choose one that is no keyword";
-
-/// The brackets that have begun: the character that is to end each, and where it is.
-type Open = Vec<(char, Place)>;
-
 /// The tokens of a text: a space of no length at its beginning, those that it has, and its end.
 pub fn tokens_of(alloc: Global, text: &str) -> Outcome<Vec<Token<'_>>> {
     let mut tokens = Vec::new(alloc);
@@ -32,9 +27,10 @@ pub fn tokens_of(alloc: Global, text: &str) -> Outcome<Vec<Token<'_>>> {
     Ok(tokens)
 }
 
-/// A token, which may begin or end a bracket. It is a fault if it ends the text or another bracket in a bracket.
+/// A token, which may begin or end a bracket. It is a fault if it ends the text or another bracket in a bracket. Of the
+/// brackets that have begun, the character that is to end each is known, and where it is.
 fn token_of<'a>(
-    open: &mut Open,
+    open: &mut Vec<(char, Place)>,
     kind: Kind,
     text: &'a str,
     begin: usize,
@@ -51,10 +47,8 @@ fn token_of<'a>(
         Kind::End => open.first().copied(),
         _ => None,
     };
-    let (kind, place) = match unclosed {
-        Some((_, place)) => (Kind::Fault(UNCLOSED_BRACKET), place),
-        None => (kind, place),
-    };
+    let fault = Kind::Fault(UNCLOSED_BRACKET);
+    let (kind, place) = unclosed.map_or((kind, place), |(_, place)| (fault, place));
     Ok(Token {
         kind,
         text,
@@ -104,15 +98,11 @@ fn block_comment(text: &str) -> (Kind, &str) {
     let mut depth = 0usize;
     let mut last = ' ';
     for (at, character) in text.char_indices() {
-        if last == '/' && character == '*' {
-            depth = depth.saturating_add(1);
-            last = ' ';
-        } else if last == '*' && character == '/' {
-            depth = depth.saturating_sub(1);
-            last = ' ';
-        } else {
-            last = character;
-        }
+        (depth, last) = match (last, character) {
+            ('/', '*') => (depth.saturating_add(1), ' '),
+            ('*', '/') => (depth.saturating_sub(1), ' '),
+            _ => (depth, character),
+        };
         if depth == 0 && last == ' ' {
             return (comment_kind(text), after(text, at));
         }
@@ -170,15 +160,17 @@ fn after_raw_prefix(text: &str) -> (Kind, &str) {
         return rest.map_or(UNCLOSED, |rest| (Kind::Quoted, rest));
     }
     if rest.starts_with(is_word) {
-        return (Kind::Fault(RAW_NAME), "");
+        return (
+            Kind::Fault("no raw names here: choose one that is no keyword"),
+            "",
+        );
     }
     (Kind::Other, rest)
 }
 
 /// What stands in a text before the rest of it.
 fn before<'a>(text: &'a str, rest: &str) -> &'a str {
-    text.get(..text.len().saturating_sub(rest.len()))
-        .unwrap_or("")
+    text.strip_suffix(rest).unwrap_or("")
 }
 
 /// The text after the ASCII character at an index.

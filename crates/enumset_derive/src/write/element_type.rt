@@ -61,60 +61,45 @@ fn write_impl(out: &mut String, of: &Subject) -> Written {
     let (alloc, crate_name, module, name) = (of.alloc, of.crate_name, of.module, of.name);
     let plan = &of.element.plan;
     let (width, count) = (plan.bit_width, plan.variants.len());
-    let [repr, bits, all_bits] = store_text(alloc, &plan.store)?;
+    let [repr, model, all_bits] = store_text(alloc, &plan.store)?;
     let is_wide = matches!(plan.store, Store::Words(_));
-    let law = if is_wide {
-        "lawful_in_words"
-    } else {
-        "lawful_in_integer"
-    };
+    let law = if is_wide { "words" } else { "integer" };
     let in_place = are_cast(of) && are_places(plan);
-    let (made, more, before, after) = if in_place {
-        (
-            "in_place",
-            ", lawful_in_place",
-            "lawful_in_place the_type (",
-            ")",
-        )
+    let made = if in_place { "in_place" } else { "with_bits" };
+    let (more, before, after) = if in_place {
+        (", lawful_in_place", "lawful_in_place the_type (", ")")
     } else {
-        ("with_bits", "", "", "")
+        ("", "", "")
     };
+    let mut bits = String::new(alloc);
+    if !in_place {
+        for named in &plan.variants {
+            write!(bits, "{} ∷\n", named.bit)?;
+        }
+        bits = format!(in alloc; " ({})", list_of(alloc, 59, bits.as_str())?)?;
+    }
     let has_values = of.element.declaration.options.has_display;
+    let (mut variants, mut values) = (String::new(alloc), String::new(alloc));
+    if has_values {
+        let path = format!(in alloc; "Rattle.{crate_name}.specs.declared.{module}.{name}")?;
+        write!(variants, "    ghost use {path}.TheVariants as variant;\n")?;
+        let list = list_by_names(of, 79, "variant.", "")?;
+        write!(values, "    ghost values = {{ {list} }};\n\n")?;
+    }
     write_head(out, of, "", "EnumSetType")?;
     if !in_place || has_values || is_wide {
         out.push_str("    ghost use Rattle.std.specs.Prelude.{◌∷◌, []};\n")?;
     }
     write!(
         out,
-        "    ghost use Rattle.enumset_sets.specs.Laws.Elements.{{{made}, {law}{more}}};
+        "    ghost use Rattle.enumset_sets.specs.Laws.Elements.{{{made}, lawful_in_{law}{more}}};
     ghost use Rattle.{crate_name}.specs.contracts.{module}.{name}.{{the_type}};
-"
-    )?;
-    if has_values {
-        write!(
-            out,
-            "    ghost use Rattle.{crate_name}.specs.declared.{module}.{name}.TheVariants as variant;\n"
-        )?;
-    }
-    write!(
-        out,
-        "\n    type Repr = {repr};\n\n    ghost elements = {{ {made} the_type"
-    )?;
-    if !in_place {
-        let mut words = String::new(alloc);
-        for named in &plan.variants {
-            write!(words, "{} ∷\n", named.bit)?;
-        }
-        write!(out, " ({})", list_of(alloc, 59, words.as_str())?)?;
-    }
-    out.push_str(" };\n\n")?;
-    if has_values {
-        let list = list_by_names(of, 79, "variant.", "")?;
-        write!(out, "    ghost values = {{ {list} }};\n\n")?;
-    }
-    write!(
-        out,
-        "    ghost ALL_BITS = {{ {bits} }};
+{variants}
+    type Repr = {repr};
+
+    ghost elements = {{ {made} the_type{bits} }};
+
+{values}    ghost ALL_BITS = {{ {model} }};
 
     const ALL_BITS: {repr} = {all_bits};
 
@@ -134,7 +119,7 @@ fn write_impl(out: &mut String, of: &Subject) -> Written {
     write_from_u32(out, of)?;
     write!(
         out,
-        "    }}\n\n    ghost lawful = {{ {before}{law} the_type _ tt{after} }};\n}}"
+        "    }}\n\n    ghost lawful = {{ {before}lawful_in_{law} the_type _ tt{after} }};\n}}"
     )
 }
 
@@ -158,13 +143,9 @@ fn write_into_u32(out: &mut String, of: &Subject) -> Written {
 /// Writes the body that converts a bit to its variant: a match over the bits, or the call of the macro that makes a table.
 fn write_from_u32(out: &mut String, of: &Subject) -> Written {
     let (alloc, facade, name) = (of.alloc, of.facade, of.name);
-    let Element {
-        declaration,
-        plan,
-        ..
-    } = of.element;
-    let count = plan.variants.len();
-    let variants = declaration.variants.iter().zip(plan.variants.iter());
+    let (variants, plan) = (&of.element.declaration.variants, &of.element.plan);
+    let count = variants.len();
+    let variants = variants.iter().zip(plan.variants.iter());
     if is_in_table(plan) {
         let mut words = format!(in alloc; "val, {name}:\n")?;
         for (variant, named) in variants {
@@ -204,12 +185,11 @@ fn store_text(alloc: Global, store: &Store) -> Result<[String; 3], AllocError> {
         }
     };
     let repr = format!(in alloc; "ArrayRepr<{}>", all.len())?;
-    let mut items = String::new(alloc);
     let mut words = String::new(alloc);
     for word in all {
-        write!(items, "{word} ∷\n")?;
         write!(words, "{word},\n")?;
     }
+    let items = words.replace(alloc, ",", " ∷")?;
     let line = on_a_line(alloc, words.as_str())?;
     let all_bits = if line.len().saturating_add(repr.len()) < 64 {
         format!(in alloc; "ArrayRepr([{line}])")?

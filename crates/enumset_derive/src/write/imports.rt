@@ -7,11 +7,8 @@ const TAKEN: &str = "the module needs this name for what it imports of `enumset`
 /// What a module imports of `enumset`, in order, each once. Paths have lines of their own. It is a fault if the source
 /// gives a needed name to something else.
 pub(super) fn imports_of(source: &Source) -> Outcome<String> {
-    let alloc = source.alloc;
-    let mut imports: BTreeSet<&str> = BTreeSet::new(alloc);
-    for name in &source.imports {
-        imports.insert(name.as_str())?;
-    }
+    let imported = source.imports.iter().map(|name| name.as_str());
+    let mut imports: BTreeSet<&str> = imported.collect(source.alloc)?;
     for item in &source.items {
         if let Form::Element(element) = &item.form {
             for (is_needed, name) in needed_by(element) {

@@ -72,7 +72,7 @@ pub(super) fn write_arm(out: &mut String, arm: &str) -> Written {
 
 /// Writes the head of an implementation of a trait, after an empty line and the comment of its own.
 pub(super) fn write_head(out: &mut String, of: &Subject, doc: &str, form: &str) -> Written {
-    let (name, guard) = (of.name, of.guard);
+    let (name, guard) = (of.name, of.element.guard);
     let is_short = form.len().saturating_add(name.len()) <= 88;
     let gap = if is_short { " " } else { "\n    " };
     write!(out, "\n\n{doc}{guard}impl {form}{gap}for {name} {{\n")

@@ -17,16 +17,14 @@ pub(super) fn write_operators(out: &mut String, of: &Subject) -> Written {
         let words = operation.replace(alloc, "_", " ")?;
         for is_set in [false, true] {
             let (other, parameter, model, operand, value) = if is_set {
-                let parameter = format!(in alloc; "<EnumSet<{name}>>")?;
-                let model = String::from_str(alloc, " b")?;
-                ("the other", parameter, model, "EnumSet<Self>", "rhs")
+                let parameter = "<EnumSet<{name}>>";
+                ("the other", parameter, " b", "EnumSet<Self>", "rhs")
             } else {
-                let model = format!(in alloc;
-                    "\n        (set.only (⟦<{name} as EnumSetType>⟧.elements.bit b))"
-                )?;
-                let (none, value) = (String::new(alloc), "EnumSet::only(rhs)");
-                ("that of the other", none, model, "Self", value)
+                let model = "\n        (set.only (⟦<{name} as EnumSetType>⟧.elements.bit b))";
+                ("that of the other", "", model, "Self", "EnumSet::only(rhs)")
             };
+            let parameter = parameter.replace(alloc, "{name}", name)?;
+            let model = model.replace(alloc, "{name}", name)?;
             let doc = format!(in alloc; "/// The {words} of the set of the one and {other}.\n")?;
             let form = format!(in alloc; "std::ops::{form}{parameter}")?;
             write_head(out, of, doc.as_str(), form.as_str())?;

@@ -1,8 +1,7 @@
-use Rattle.std.proofs.Common.{rules, ◌≡◌, ◌+◌, ◌<◌, [], ◌∷◌, ◌++◌, length, take, Some, Ok, Err, sym, ◌∙◌, arith, get_or, length-append}
+use Rattle.std.proofs.Common.{rules, ◌≡◌, ◌+◌, ◌<◌, [], ◌∷◌, ◌++◌, length, take, Ok, sym, ◌∙◌, arith, get_or, length-append}
 use Rattle.std.proofs.lemmas.List.{take_more}
 use Rattle.enumset_derive.specs.Numbers.{next_number, bit_limit}
-use Rattle.enumset_derive.specs.Variants.{named_variant, named_from}
-use Rattle.enumset_derive.specs.declared.plan.declaration.Number.TheVariants.{Small}
+use Rattle.enumset_derive.specs.Variants.{named_variant}
 use Rattle.enumset_derive.proofs.Named.{named_from-drop, bits_of-append, below-append}
 use Rattle.enumset_derive.proofs.plan.variants.name_variants.Goals as goal
 
@@ -12,13 +11,13 @@ loop-i-preserved c =
     let vs = c.args.variants.now in
     let i = c.loop-i.i in
     let v = c.index-variants-i.result in
-    let n = c.in_ok-next.next in
+    let n = c.in-Ok.next in
     let before = c.loop-i.named.items in
     let within : i < length vs = search rules in
     let is : v ≡ get_or vs i v = c.index-variants-i.is in
     let one : take (i + 1) vs ≡ take i vs ++ v ∷ [] = rw is (take_more vs i v within) in
     let own : named_variant o (take i vs) before c.loop-i.implied v ≡ Ok n = search rules in
-    let items : c.push.new.self.items ≡ before ++ n ∷ [] = search rules in
+    let items : c.push-pushed.new.self.items ≡ before ++ n ∷ [] = search rules in
     let implied : c.next-implied.result ≡ next_number n.number = c.next-implied.ensures in
     let left = named_from-drop o (take i vs) before c.loop-i.implied vs i v within is in
     record {
@@ -27,15 +26,3 @@ loop-i-preserved c =
       distinct = rw items (bits_of-append before n c.loop-i.invariant.distinct (search rules));
       range = rw items (below-append (bit_limit o.representation) before n c.loop-i.invariant.range (search rules));
     }
-
-pub returns-in_err-next-clause-fault : goal.returns-in_err-next-clause-fault
-returns-in_err-next-clause-fault c =
-    let o = c.args.options.now in
-    let vs = c.args.variants.now in
-    let i = c.loop-i.i in
-    let v = c.index-variants-i.result in
-    let fault = c.in_err-next.field-0.0 in
-    let own : named_variant o (take i vs) c.loop-i.named.items c.loop-i.implied v ≡ Err fault = search rules in
-    let left = named_from-drop o (take i vs) c.loop-i.named.items c.loop-i.implied vs i v (search rules) c.index-variants-i.is in
-    let is : named_from o [] [] (Some (Small 0)) vs ≡ Err fault = sym c.loop-i.invariant.same ∙ (rw own at left) in
-    search (rules, is)
