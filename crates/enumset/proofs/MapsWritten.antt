@@ -51,7 +51,7 @@ below (n ∷ names) name d (suc i) rising inside less =
     let within : i < length names = omega (arith, inside) in
     (nat_list_cmp_total.trans n.now (get_or names i d).now name.now (All-from_recursion _ names rising.0 i d within) less, below names name d i rising.1 within less)
 
-above_all : (names : Texts) (name n : Bor (List ℕ)) → by_bytes name n ≡ Less → AreAbove names n.now → AreAbove names name.now
+pub above_all : (names : Texts) (name n : Bor (List ℕ)) → by_bytes name n ≡ Less → AreAbove names n.now → AreAbove names name.now
 above_all [] name n less all = tt
 above_all (m ∷ names) name n less all = (nat_list_cmp_total.trans name.now n.now m.now less all.0, above_all names name n less all.1)
 
@@ -63,7 +63,7 @@ above (n ∷ names) name d zero rising inside greater =
     (less, above_all names name n less rising.0)
 above (n ∷ names) name d (suc i) rising inside greater = above names name d i rising.1 (omega (arith, inside)) greater
 
-abbrev put_at : Bor (List ℕ) → Texts → Bor (List ℕ) → Ordering → Texts
+abbrev pub put_at : Bor (List ℕ) → Texts → Bor (List ℕ) → Ordering → Texts
 put_at n names name o = match_ordering o (name ∷ n ∷ names) (n ∷ names) (n ∷ insert_key by_bytes names name)
 
 pub placed : (names : Texts) (name : Bor (List ℕ)) (i : ℕ) → AreBelow (take i names) name.now → AreAbove (drop i names) name.now → insert_key by_bytes names name ≡ insert names i name

@@ -1,13 +1,13 @@
 //! Texts of maps of names that stand for themselves in JSON.
 
-ghost use Rattle.std.specs.Prelude.{◌≡◌, ◌<◌, ◌≤◌, ◌++◌, ◌∷◌, [], true, length, Some, IfOk, IfSome, MatchOption, OnOk, string_bytes};
+ghost use Rattle.std.specs.Prelude.{◌≡◌, ◌<◌, ◌≤◌, ◌++◌, ◌∷◌, [], true, length, Some, IfOk, IfSome, IsTrue, MatchOption, OnOk, string_bytes};
 ghost use Rattle.std.specs.BTreeSet.{insert_key};
-ghost use Rattle.std.specs.List.{insert};
+ghost use Rattle.std.specs.List.{All, insert};
 ghost use Rattle.serde_json.specs.Data.{object, no_members};
 ghost use Rattle.serde_json.specs.Read.{read};
 ghost use Rattle.serde_json.specs.Written.{compact_text, comma_if};
 ghost use Rattle.enumset_repr.specs.BitSet.{ascending};
-ghost use Rattle.enumset.specs.JsonMapTexts.{all_true, boolean_before, by_bytes, AreRising};
+ghost use Rattle.enumset.specs.JsonMapTexts.{all_true, boolean_before, by_bytes, AreRising, IsName};
 ghost use Rattle.enumset.specs.JsonNames.{map_value, with_bits_true};
 ghost use Rattle.enumset.specs.Names.{names_of};
 
@@ -16,6 +16,7 @@ use crate::names::EnumSetNames;
 use enumset_sets::EnumSet;
 use std::alloc::{AllocError, Global};
 use std::cmp::Ordering;
+use std::simd::prelude::*;
 
 // The names of the set's members, in the order of their bytes. Memory is requested once.
 fn sorted_names<T: EnumSetNames>(
@@ -115,6 +116,79 @@ fn text_of_names(alloc: Global, names: &[&str]) -> Result<Option<String>, AllocE
     Ok(Some(text))
 }
 
+// The first four bytes of each member's name as a number, unless there are more than 32 members, or one has the number
+// of the member before it.
+#[inline(always)]
+fn keys_of<T: EnumSetNames>(set: &EnumSet<T>) -> Option<[u32; 32]> {
+    let mut keys = [u32::MAX; 32];
+    let mut last = u32::MAX;
+    let mut next = 0;
+    for element in set.iter() {
+        let key = key_of(element.name().as_bytes());
+        if key == last {
+            return None;
+        }
+        *keys.get_mut(next)? = key;
+        last = key;
+        next += 1;
+    }
+    Some(keys)
+}
+
+// The first four bytes as a number, with zeros for those that are missing.
+#[inline(always)]
+fn key_of(name: &[u8]) -> u32 {
+    match name {
+        [first, second, third, fourth, ..] => {
+            u32::from_be_bytes([*first, *second, *third, *fourth])
+        }
+        [first, second, third] => u32::from_be_bytes([*first, *second, *third, 0]),
+        [first, second] => u32::from_be_bytes([*first, *second, 0, 0]),
+        [first] => u32::from_be_bytes([*first, 0, 0, 0]),
+        [] => 0,
+    }
+}
+
+// The names of the members, each at the place that its number has among all numbers. No branch depends on the order.
+#[inline(always)]
+fn placed_names<T: EnumSetNames>(
+    set: &EnumSet<T>,
+    keys: [u32; 32],
+    first: &'static str,
+) -> [&'static str; 32]
+    requires { IsName (names_of T.elements T.names) (ascending set.now) first.now }
+    ensures { All (λ name. IsName (names_of T.elements T.names) (ascending set.now) name.now) result }
+{
+    let lanes = Simd::<u32, 32>::from_array(keys);
+    let mut names = [first; 32];
+    let mut next = 0;
+    for element in set.iter() {
+        if next < 32 {
+            let less = lanes.simd_lt(Simd::splat(keys[next])).to_bitmask();
+            let place = less.count_ones() as usize;
+            if place < 32 {
+                names[place] = element.name();
+            }
+            next += 1;
+        }
+    }
+    names
+}
+
+// Whether names rise by their bytes.
+#[inline(always)]
+fn are_rising(names: &[&str]) -> bool
+    ensures { IsTrue result → AreRising names.now }
+{
+    for i in (1..names.len()).rev() {
+        match names[i - 1].cmp(names[i]) {
+            Ordering::Less => {}
+            Ordering::Equal | Ordering::Greater => return false,
+        }
+    }
+    true
+}
+
 // The map of the members' names, unless one of them needs an escape.
 pub(super) fn plain_map<T: EnumSetNames>(
     alloc: Global,
@@ -124,6 +198,14 @@ pub(super) fn plain_map<T: EnumSetNames>(
         (string_bytes text ≡ compact_text (map_value (names_of T.elements T.names) set.now))
         × (read (string_bytes text) ≡ Some (map_value (names_of T.elements T.names) set.now)))) }
 {
+    if let (Some(first), Some(keys)) = (set.first(), keys_of(set)) {
+        let names = placed_names(set, keys, first.name());
+        if let Some(names) = names.get(..set.len())
+            && are_rising(names)
+        {
+            return text_of_names(alloc, names);
+        }
+    }
     let names = sorted_names(alloc, set)?;
     text_of_names(alloc, &names)
 }
