@@ -19,6 +19,7 @@ use std::cmp::Ordering;
 use std::simd::prelude::*;
 
 // The names of the set's members, in the order of their bytes. Memory is requested once.
+#[inline(never)]
 fn sorted_names<T: EnumSetNames>(
     alloc: Global,
     set: &EnumSet<T>,
@@ -116,23 +117,28 @@ fn text_of_names(alloc: Global, names: &[&str]) -> Result<Option<String>, AllocE
     Ok(Some(text))
 }
 
-// The first four bytes of each member's name as a number, unless there are more than 32 members, or one has the number
-// of the member before it.
+// Greater than the first four bytes of any text: no text has the byte 255.
+const PAST_KEYS: u32 = 0xff00_0000;
+
+// Puts down the first four bytes of each member's name as a number. False if there are more than 32 members, or one has
+// the number of the member before it.
 #[inline(always)]
-fn keys_of<T: EnumSetNames>(set: &EnumSet<T>) -> Option<[u32; 32]> {
-    let mut keys = [u32::MAX; 32];
-    let mut last = u32::MAX;
+fn put_keys<T: EnumSetNames>(keys: &mut [u32; 32], set: &EnumSet<T>) -> bool {
+    let mut last = PAST_KEYS;
     let mut next = 0;
     for element in set.iter() {
         let key = key_of(element.name().as_bytes());
         if key == last {
-            return None;
+            return false;
         }
-        *keys.get_mut(next)? = key;
+        let Some(place) = keys.get_mut(next) else {
+            return false;
+        };
+        *place = key;
         last = key;
         next += 1;
     }
-    Some(keys)
+    true
 }
 
 // The first four bytes as a number, with zeros for those that are missing.
@@ -153,13 +159,13 @@ fn key_of(name: &[u8]) -> u32 {
 #[inline(always)]
 fn placed_names<T: EnumSetNames>(
     set: &EnumSet<T>,
-    keys: [u32; 32],
+    keys: &[u32; 32],
     first: &'static str,
 ) -> [&'static str; 32]
     requires { IsName (names_of T.elements T.names) (ascending set.now) first.now }
     ensures { All (λ name. IsName (names_of T.elements T.names) (ascending set.now) name.now) result }
 {
-    let lanes = Simd::<u32, 32>::from_array(keys);
+    let lanes = Simd::<u32, 32>::from_array(*keys);
     let mut names = [first; 32];
     let mut next = 0;
     for element in set.iter() {
@@ -198,8 +204,11 @@ pub(super) fn plain_map<T: EnumSetNames>(
         (string_bytes text ≡ compact_text (map_value (names_of T.elements T.names) set.now))
         × (read (string_bytes text) ≡ Some (map_value (names_of T.elements T.names) set.now)))) }
 {
-    if let (Some(first), Some(keys)) = (set.first(), keys_of(set)) {
-        let names = placed_names(set, keys, first.name());
+    let mut keys = [PAST_KEYS; 32];
+    if put_keys(&mut keys, set)
+        && let Some(first) = set.first()
+    {
+        let names = placed_names(set, &keys, first.name());
         if let Some(names) = names.get(..set.len())
             && are_rising(names)
         {

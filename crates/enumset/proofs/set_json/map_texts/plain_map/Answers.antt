@@ -16,15 +16,15 @@ use Rattle.enumset.proofs.set_json.map_texts.plain_map.Goals as goal
 pub placed_names-names-requires-after_bounds : goal.placed_names-names-requires-after_bounds
 placed_names-names-requires-after_bounds g c κs within =
     let bit = g.T.EnumSetType.elements.bit in
-    let least_is : least c.args.set.now ≡ Some (bit c.in-Some-Some.first) = sym c.first.ensures ∙ ap (option_map bit) c.in-Some-Some.is-0 in
-    subst (λ bits. IsName (names_of g.T.EnumSetType.elements g.T.EnumSetNames.names) bits c.name.result.now) (sym (ascending_least c.args.set.now (bit c.in-Some-Some.first) least_is)) (inl (sym c.name.ensures))
+    let least_is : least c.args.set.now ≡ Some (bit c.in-Some.first) = sym c.first.ensures ∙ ap (option_map bit) c.in-Some.is in
+    subst (λ bits. IsName (names_of g.T.EnumSetType.elements g.T.EnumSetNames.names) bits c.name.result.now) (sym (ascending_least c.args.set.now (bit c.in-Some.first) least_is)) (inl (sym c.name.ensures))
 
-pub returns-in-Some-Some : goal.returns-in-Some-Some
-returns-in-Some-Some g c =
+pub returns : goal.returns
+returns g c =
     let names = names_of g.T.EnumSetType.elements g.T.EnumSetNames.names in
     let s = c.args.set.now in
-    let ns = c.in-Some.names.now in
-    let ((_, _, part, many), _) = c.in-Some.ensures.lookup in
+    let ns = c.in-Some-get.names.now in
+    let ((_, _, part, many), _) = c.in-Some-get.ensures.lookup in
     let all : All (λ n. IsName names (ascending s) n.now) ns =
     subst (All (λ n. IsName names (ascending s) n.now)) (sym part) (All-take (λ n. IsName names (ascending s) n.now) _ c.placed_names-names.result c.placed_names-names.ensures) in
     subst (λ d. IfOk c.text_of_names.result (λ o. IfSome o (λ text. (string_bytes text ≡ compact_text (object d)) × (read (string_bytes text) ≡ Some (object d)))))
