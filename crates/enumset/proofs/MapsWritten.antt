@@ -13,7 +13,7 @@ use Rattle.serde_json.specs.Data.{object, boolean, Members, no_members, member, 
 use Rattle.serde_json.specs.Read.{read}
 use Rattle.serde_json.specs.Written.{compact_text, members_text, comma_if}
 use Rattle.enumset.specs.JsonPlain.{IsPlain}
-use Rattle.enumset.specs.JsonMapTexts.{boolean_before, all_true, by_bytes, AreRising}
+use Rattle.enumset.specs.JsonMapTexts.{boolean_before, before_comma, all_true, by_bytes, AreRising}
 use Rattle.enumset.proofs.JsonLists.{ArePlain, text_before}
 use Rattle.enumset.proofs.JsonTokens.{tokens}
 use Rattle.enumset.proofs.MapTokens.{put_all, member_tokens}
@@ -175,6 +175,11 @@ next_name names left rest name text next later here p put (so_far, plain) =
           ∙ ap (λ l. text ++ left_of later l) (sym here) ∙ so_far,
       λ ps. plain (subst AllPlain (sym here) (p, ps)),
     )
+
+-- a name after what closes the member before it
+pub in_two : (text name : List ℕ) (later : Bool) → (text ++ (before_comma later ++ (comma_if later ++ 34 ∷ name))) ++ before_comma true ≡ (text ++ before_comma later) ++ (comma_if later ++ (34 ∷ (name ++ before_comma true)))
+in_two text name true = append_assoc text _ _ ∙ sym (append_assoc text _ _)
+in_two text name false = append_assoc text _ _ ∙ sym (append_assoc text _ _)
 
 pub ended : (names left : Texts) (text end : List ℕ) (later : Bool) → AreRising names → left ≡ [] → end ≡ text ++ 125 ∷ [] → Writes names text later left
     → (end ≡ text_of names) × (read end ≡ Some (object (all_true names)))

@@ -1,6 +1,7 @@
 -- Members of maps of names. Contracts of private functions alone cite these definitions: no reader of a public clause
 -- has to believe them.
 --     boolean_before      a boolean's text, before what follows it
+--     before_comma      how the text of a map goes on after the name of a member with `true`, or, with no member yet, begins
 --     IsMember      a plain name up to its closing quote and a boolean, with spaces, and what follows them
 --     all_true      each name with `true`, in the order given
 --     by_bytes, AreRising      how the bytes of two names compare;  names, each of whose bytes come before those of later ones
@@ -18,6 +19,10 @@ use Rattle.enumset.specs.Names.{Names, name_of}
 abbrev pub boolean_before : Bool → List ℕ → List ℕ
 boolean_before true rest = 116 ∷ 114 ∷ 117 ∷ 101 ∷ rest
 boolean_before false rest = 102 ∷ 97 ∷ 108 ∷ 115 ∷ 101 ∷ rest
+
+abbrev pub before_comma : Bool → List ℕ
+before_comma true = 34 ∷ 58 ∷ boolean_before true []
+before_comma false = 123 ∷ []
 
 abbrev pub IsMember : List ℕ → List ℕ → Bool → List ℕ → Type 0
 IsMember text name b rest =

@@ -7,7 +7,7 @@ ghost use Rattle.serde_json.specs.Data.{object, no_members};
 ghost use Rattle.serde_json.specs.Read.{read};
 ghost use Rattle.serde_json.specs.Written.{compact_text, comma_if};
 ghost use Rattle.enumset_repr.specs.BitSet.{ascending};
-ghost use Rattle.enumset.specs.JsonMapTexts.{all_true, boolean_before, by_bytes, AreRising, IsName};
+ghost use Rattle.enumset.specs.JsonMapTexts.{all_true, before_comma, by_bytes, AreRising, IsName};
 ghost use Rattle.enumset.specs.JsonNames.{map_value, with_bits_true};
 ghost use Rattle.enumset.specs.Names.{names_of};
 
@@ -76,15 +76,27 @@ fn place_within(low: usize, high: usize, is_first: bool) -> usize
     }
 }
 
-// One more name of a map.
+// One more name, after what closes the member before it.
 #[inline(always)]
-fn put_true(text: &mut String, name: &str, later: bool) -> Result<(), AllocError>
+fn put_name(text: &mut String, name: &str, later: bool) -> Result<(), AllocError>
     ensures { OnOk result (string_bytes text.new ≡ string_bytes text.old
-        ++ (comma_if later ++ (34 ∷ (name.now ++ 34 ∷ 58 ∷ boolean_before true [])))) }
+        ++ (before_comma later ++ (comma_if later ++ 34 ∷ name.now))) }
 {
-    text.push_str(if later { ",\"" } else { "\"" })?;
-    text.push_str(name)?;
-    text.push_str("\":true")
+    if later {
+        text.push_str("\":true,\"")?;
+    } else {
+        text.push_str("{\"")?;
+    }
+    text.push_str(name)
+}
+
+// The end of a map.
+#[inline(always)]
+fn put_end(text: &mut String, later: bool) -> Result<(), AllocError>
+    ensures { OnOk result (string_bytes text.new ≡ string_bytes text.old
+        ++ (before_comma later ++ 125 ∷ [])) }
+{
+    text.push_str(if later { "\":true}" } else { "{}" })
 }
 
 // How many bytes the map of names has, so that one request for memory is enough.
@@ -104,16 +116,15 @@ fn text_of_names(alloc: Global, names: &[&str]) -> Result<Option<String>, AllocE
         × (read (string_bytes text) ≡ Some (object (all_true names.now))))) }
 {
     let mut text = String::with_capacity(alloc, text_len(names))?;
-    text.push_str("{")?;
     let mut later = false;
     for name in names.iter() {
         if !is_plain(name) {
             return Ok(None);
         }
-        put_true(&mut text, name, later)?;
+        put_name(&mut text, name, later)?;
         later = true;
     }
-    text.push_str("}")?;
+    put_end(&mut text, later)?;
     Ok(Some(text))
 }
 
