@@ -19,7 +19,6 @@ use std::cmp::Ordering;
 use std::simd::prelude::*;
 
 // The names of the set's members, in the order of their bytes. Memory is requested once.
-#[inline(never)]
 fn sorted_names<T: EnumSetNames>(
     alloc: Global,
     set: &EnumSet<T>,
@@ -166,18 +165,18 @@ fn key_of(name: &[u8]) -> u32 {
     }
 }
 
-// The names of the members, each at the place that its number has among all numbers. No branch depends on the order.
+// Puts the name of each member at the place that its key has among all keys. No branch depends on the order.
 #[inline(always)]
-fn placed_names<T: EnumSetNames>(
+fn place_names<T: EnumSetNames>(
+    names: &mut [&'static str; 32],
     set: &EnumSet<T>,
     keys: &[u32; 32],
-    first: &'static str,
-) -> [&'static str; 32]
-    requires { IsName (names_of T.elements T.names) (ascending set.now) first.now }
-    ensures { All (λ name. IsName (names_of T.elements T.names) (ascending set.now) name.now) result }
+)
+    requires { All (λ name. IsName (names_of T.elements T.names) (ascending set.now) name.now) names.old }
+    ensures named { All (λ name. IsName (names_of T.elements T.names) (ascending set.now) name.now) names.new }
+    ensures len { length names.new ≡ length names.old }
 {
     let lanes = Simd::<u32, 32>::from_array(*keys);
-    let mut names = [first; 32];
     let mut next = 0;
     for element in set.iter() {
         if next < 32 {
@@ -189,7 +188,6 @@ fn placed_names<T: EnumSetNames>(
             next += 1;
         }
     }
-    names
 }
 
 // Whether names rise by their bytes.
@@ -206,6 +204,29 @@ fn are_rising(names: &[&str]) -> bool
     true
 }
 
+// The map of the members' names by their keys, unless the names do not rise so, or one of them needs an escape.
+fn map_by_keys<T: EnumSetNames>(
+    alloc: Global,
+    set: &EnumSet<T>,
+    keys: &[u32; 32],
+) -> Result<Option<String>, AllocError>
+    ensures { IfOk result (λ o. IfSome o (λ text.
+        (string_bytes text ≡ compact_text (map_value (names_of T.elements T.names) set.now))
+        × (read (string_bytes text) ≡ Some (map_value (names_of T.elements T.names) set.now)))) }
+{
+    let Some(first) = set.first() else {
+        return Ok(None);
+    };
+    let mut names = [first.name(); 32];
+    place_names(&mut names, set, keys);
+    if let Some(names) = names.get(..set.len())
+        && are_rising(names)
+    {
+        return text_of_names(alloc, names);
+    }
+    Ok(None)
+}
+
 // The map of the members' names, unless one of them needs an escape.
 pub(super) fn plain_map<T: EnumSetNames>(
     alloc: Global,
@@ -217,14 +238,9 @@ pub(super) fn plain_map<T: EnumSetNames>(
 {
     let mut keys = [PAST_KEYS; 32];
     if put_keys(&mut keys, set)
-        && let Some(first) = set.first()
+        && let Some(text) = map_by_keys(alloc, set, &keys)?
     {
-        let names = placed_names(set, &keys, first.name());
-        if let Some(names) = names.get(..set.len())
-            && are_rising(names)
-        {
-            return text_of_names(alloc, names);
-        }
+        return Ok(Some(text));
     }
     let names = sorted_names(alloc, set)?;
     text_of_names(alloc, &names)
