@@ -2,7 +2,10 @@
 
 ghost use Rattle.std.specs.Prelude.{◌≡◌, ◌<◌, ◌≤◌, ◌++◌, ◌∷◌, [], true, length, Some, IfOk, IfSome, IsTrue, MatchOption, OnOk, string_bytes};
 ghost use Rattle.std.specs.BTreeSet.{insert_key};
+ghost use Rattle.std.specs.Cmp.Lexicographic.{slice_cmp};
 ghost use Rattle.std.specs.List.{All, insert};
+ghost use Rattle.std.specs.Ordering.{nat_cmp};
+ghost use Rattle.std.specs.declared.cmp.Ordering.TheVariants.{Less};
 ghost use Rattle.serde_json.specs.Data.{object, no_members};
 ghost use Rattle.serde_json.specs.Read.{read};
 ghost use Rattle.serde_json.specs.Written.{compact_text, comma_if};
@@ -190,15 +193,30 @@ fn place_names<T: EnumSetNames>(
     }
 }
 
+// Whether a name comes before another. In most pairs the first bytes tell.
+#[inline(always)]
+fn comes_before(one: &str, other: &str) -> bool
+    ensures { IsTrue result → slice_cmp nat_cmp one.now other.now ≡ Less }
+{
+    if let ([first, ..], [second, ..]) = (one.as_bytes(), other.as_bytes())
+        && *first < *second
+    {
+        return true;
+    }
+    match one.cmp(other) {
+        Ordering::Less => true,
+        Ordering::Equal | Ordering::Greater => false,
+    }
+}
+
 // Whether names rise by their bytes.
 #[inline(always)]
 fn are_rising(names: &[&str]) -> bool
     ensures { IsTrue result → AreRising names.now }
 {
     for i in (1..names.len()).rev() {
-        match names[i - 1].cmp(names[i]) {
-            Ordering::Less => {}
-            Ordering::Equal | Ordering::Greater => return false,
+        if !comes_before(names[i - 1], names[i]) {
+            return false;
         }
     }
     true

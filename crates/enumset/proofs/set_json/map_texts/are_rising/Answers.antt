@@ -1,4 +1,4 @@
-use Rattle.std.proofs.Common.{◌≡◌, ◌-◌, ℕ, List, Bor, suc, [], Less, drop, get_or, subst, sym, arith, ◌∙◌}
+use Rattle.std.proofs.Common.{◌≡◌, ◌-◌, ℕ, List, Bor, suc, [], Less, drop, get_or, refl, subst, sym, arith}
 use Rattle.enumset.specs.JsonMapTexts.{AreRising, by_bytes}
 use Rattle.enumset.proofs.MapOrder.{last_rises, rises_before}
 use Rattle.enumset.proofs.set_json.map_texts.are_rising.Goals as goal
@@ -12,7 +12,7 @@ loop-i-preserved c =
     let next : suc (c.loop-i.i - 1 - 1) ≡ c.loop-i.i - 1 = omega (arith, c.loop-i-test.true) in
     let d : Bor (List ℕ) = record { ref_ptr = (0, 0); now = [] } in
     rises_before names d (c.loop-i.i - 1 - 1) (omega (arith, c.loop-i-test.true, c.loop-i.auto.i))
-    (subst (λ j. by_bytes (get_or names (c.loop-i.i - 1 - 1) d) (get_or names j d) ≡ Less) (sym next) (sym c.cmp.ensures ∙ c.in-Less.is))
+    (subst (λ j. by_bytes (get_or names (c.loop-i.i - 1 - 1) d) (get_or names j d) ≡ Less) (sym next) (c.if-not-comes_before.ensures refl))
     (subst (λ i. AreRising (drop i names)) (sym next) c.loop-i.invariant)
 
 pub returns : goal.returns
