@@ -37,15 +37,69 @@ put_key (n ∷ names) name = all_true-match_ordering (by_bytes name n) _ _ _ ∙
 
 -- ---- where a name is put in
 
+abbrev pub AreBelow : Texts → List ℕ → Type 0
+AreBelow names name = AllByRecursion (λ n. slice_cmp nat_cmp n.now name ≡ Less) names
+
 abbrev pub AreAbove : Texts → List ℕ → Type 0
 AreAbove names name = AllByRecursion (λ n. slice_cmp nat_cmp name n.now ≡ Less) names
+
+pub below : (names : Texts) (name d : Bor (List ℕ)) (i : ℕ) → AreRising names → i < length names → by_bytes (get_or names i d) name ≡ Less → AreBelow (take (suc i) names) name.now
+unfolding IsStrictlySortedBy
+below [] name d i rising inside less = absurd (omega (arith, inside))
+below (n ∷ names) name d zero rising inside less = (less, tt)
+below (n ∷ names) name d (suc i) rising inside less =
+    let within : i < length names = omega (arith, inside) in
+    (nat_list_cmp_total.trans n.now (get_or names i d).now name.now (All-from_recursion _ names rising.0 i d within) less, below names name d i rising.1 within less)
 
 pub above_all : (names : Texts) (name n : Bor (List ℕ)) → by_bytes name n ≡ Less → AreAbove names n.now → AreAbove names name.now
 above_all [] name n less all = tt
 above_all (m ∷ names) name n less all = (nat_list_cmp_total.trans name.now n.now m.now less all.0, above_all names name n less all.1)
 
+pub above : (names : Texts) (name d : Bor (List ℕ)) (i : ℕ) → AreRising names → i < length names → by_bytes (get_or names i d) name ≡ Greater → AreAbove (drop i names) name.now
+unfolding IsStrictlySortedBy
+above [] name d i rising inside greater = absurd (omega (arith, inside))
+above (n ∷ names) name d zero rising inside greater =
+    let less : by_bytes name n ≡ Less = nat_list_cmp_total.antisymm name.now n.now ∙ ap ordering_reverse greater in
+    (less, above_all names name n less rising.0)
+above (n ∷ names) name d (suc i) rising inside greater = above names name d i rising.1 (omega (arith, inside)) greater
+
 abbrev pub put_at : Bor (List ℕ) → Texts → Bor (List ℕ) → Ordering → Texts
 put_at n names name o = match_ordering o (name ∷ n ∷ names) (n ∷ names) (n ∷ insert_key by_bytes names name)
+
+pub placed : (names : Texts) (name : Bor (List ℕ)) (i : ℕ) → AreBelow (take i names) name.now → AreAbove (drop i names) name.now → insert_key by_bytes names name ≡ insert names i name
+placed [] name zero below above = refl
+placed [] name (suc i) below above = refl
+placed (n ∷ names) name zero below above = ap (put_at n names name) above.0
+placed (n ∷ names) name (suc i) below above =
+    ap (put_at n names name) (nat_list_cmp_total.antisymm name.now n.now ∙ ap ordering_reverse below.0)
+    ∙ ap (λ ns. n ∷ ns) (placed names name i below.1 above)
+
+pub there : (names : Texts) (name d : Bor (List ℕ)) (i : ℕ) → AreRising names → i < length names → by_bytes (get_or names i d) name ≡ Equal → insert_key by_bytes names name ≡ names
+unfolding IsStrictlySortedBy
+there [] name d i rising inside equal = absurd (omega (arith, inside))
+there (n ∷ names) name d zero rising inside equal = ap (put_at n names name) (nat_list_cmp_total.antisymm name.now n.now ∙ ap ordering_reverse equal)
+there (n ∷ names) name d (suc i) rising inside equal =
+    let within : i < length names = omega (arith, inside) in
+    let other = get_or names i d in
+    ap (put_at n names name) (sym (nat_list_cmp_total.congr other.now name.now n.now equal) ∙ nat_list_cmp_total.antisymm other.now n.now ∙ ap ordering_reverse (All-from_recursion _ names rising.0 i d within))
+    ∙ ap (λ ns. n ∷ ns) (there names name d i rising.1 within equal)
+
+-- names below the one, and above it, are those before one place, and from another on
+abbrev pub Between : Texts → List ℕ → ℕ → ℕ → Type 0
+Between names name low high = (low ≤ high) × (high ≤ length names) × AreBelow (take low names) name × AreAbove (drop high names) name
+
+pub later_place : (names : Texts) (name d : Bor (List ℕ)) (low high middle : ℕ) (next : ℕ) (end : ℕ) → AreRising names → middle < high → by_bytes (get_or names middle d) name ≡ Less
+    → next ≡ middle + 1 → end ≡ high → Between names name.now low high → Between names name.now next end
+later_place names name d low high middle next end rising inside less is same (_, within, _, over) =
+    let here : suc middle ≡ next = omega (arith, is) in
+    subst (λ i. Between names name.now i end) here
+    (subst (λ i. Between names name.now (suc middle) i) (sym same) (omega (arith, inside), within, below names name d middle rising (omega (arith, inside, within)) less, over))
+
+pub earlier_place : (names : Texts) (name d : Bor (List ℕ)) (low high middle : ℕ) (next : ℕ) (end : ℕ) → AreRising names → low ≤ middle → middle < high → by_bytes (get_or names middle d) name ≡ Greater
+    → next ≡ low → end ≡ middle → Between names name.now low high → Between names name.now next end
+earlier_place names name d low high middle next end rising from inside greater is same (_, within, under, _) =
+    subst (λ i. Between names name.now i end) (sym is)
+    (subst (λ i. Between names name.now low i) (sym same) (from, omega (arith, inside, within), under, above names name d middle rising (omega (arith, inside, within)) greater))
 
 pub still_rising : (names : Texts) (name : Bor (List ℕ)) → AreRising names → AreRising (insert_key by_bytes names name)
 unfolding IsStrictlySortedBy
@@ -58,6 +112,9 @@ still_rising (n ∷ names) name rising = by_order (still_rising names name risin
     recursion_from_All _ _ (All-insert_key by_bytes name (λ m. by_bytes n m ≡ Less) names (All-from_recursion _ _ rising.0) (nat_list_cmp_total.antisymm n.now name.now ∙ ap ordering_reverse is)),
     others,
   )
+
+pub put_in : (names next : Texts) (name : Bor (List ℕ)) → AreRising names → next ≡ insert_key by_bytes names name → AreRising next × (all_true next ≡ put name.now (boolean true) (all_true names))
+put_in names next name rising is = (subst AreRising (sym is) (still_rising names name rising), ap all_true is ∙ put_key names name)
 
 abbrev pairs : Texts → List (List ℕ × Bool)
 pairs names = map (λ n. (n.now, true)) names

@@ -21,43 +21,61 @@ use std::alloc::{AllocError, Global};
 use std::cmp::Ordering;
 use std::simd::prelude::*;
 
-// The names of the set's members, each put where a search among those before it leads: in the order of their bytes.
+// The names of the set's members, in the order of their bytes. Memory is requested once.
 fn sorted_names<T: EnumSetNames>(
     alloc: Global,
     set: &EnumSet<T>,
 ) -> Result<Vec<&'static str>, AllocError>
-    ensures { IfOk result (λ names. All
-        (λ name. IsName (names_of T.elements T.names) (ascending set.now) name.now) names.items) }
+    ensures rising { IfOk result (λ names. AreRising names.items) }
+    ensures all { IfOk result (λ names. all_true names.items
+        ≡ with_bits_true (names_of T.elements T.names) no_members (ascending set.now)) }
 {
     let mut names = Vec::with_capacity(alloc, set.len())?;
     let mut place = 0;
     for element in set.iter() {
         let name = element.name();
-        place = place_of(&names, name, place);
-        names.insert(place, name)?;
+        if let Some(next) = place_of(&names, name, place) {
+            names.insert(next, name)?;
+            place = next;
+        }
     }
     Ok(names)
 }
 
-// Where a name goes among names in the order of bytes. The search halves what is left, but begins at the place of the
-// last name, and then looks next to it: names that rise or fall take a step or two each.
-fn place_of(names: &[&str], name: &str, last: usize) -> usize
-    ensures { result ≤ length names.now }
+// Where a name goes among names in the order of bytes, unless it is there. The search halves what is left, but begins at
+// the place of the last name, and then looks next to it: names that rise or fall take a step or two each.
+fn place_of(names: &[&str], name: &str, last: usize) -> Option<usize>
+    requires { AreRising names.now }
+    ensures { MatchOption result (insert_key by_bytes names.now name.entry ≡ names.now) (λ place.
+        (place ≤ length names.now) × (insert_key by_bytes names.now name.entry ≡ insert names.now place name.entry)) }
 {
     let mut low = 0;
     let mut high = names.len();
     let mut middle = if last < high { last } else { 0 };
     let mut is_first = true;
     while low < high {
-        if names[middle] < name {
-            low = middle + 1;
-        } else {
-            high = middle;
+        match names[middle].cmp(name) {
+            Ordering::Less => low = middle + 1,
+            Ordering::Equal => return None,
+            Ordering::Greater => high = middle,
         }
-        middle = if is_first && low > 0 { low } else { low + (high - low) / 2 };
+        middle = place_within(low, high, is_first && low > 0);
         is_first = false;
     }
-    low
+    Some(low)
+}
+
+// The first place of some, or the one in the middle.
+#[inline(always)]
+fn place_within(low: usize, high: usize, is_first: bool) -> usize
+    requires { low ≤ high }
+    ensures { (low ≤ result) × (low < high → result < high) }
+{
+    if is_first {
+        low
+    } else {
+        low + (high - low) / 2
+    }
 }
 
 // One more name, after what closes the member before it.
@@ -204,24 +222,7 @@ fn are_rising(names: &[&str]) -> bool
     true
 }
 
-// The map of names of members, unless some are missing or they do not rise, or one of them needs an escape.
-fn text_if_rising<T: EnumSetNames>(
-    alloc: Global,
-    set: &EnumSet<T>,
-    names: &[&str],
-) -> Result<Option<String>, AllocError>
-    requires { All (λ name. IsName (names_of T.elements T.names) (ascending set.now) name.now) names.now }
-    ensures { IfOk result (λ o. IfSome o (λ text.
-        (string_bytes text ≡ compact_text (map_value (names_of T.elements T.names) set.now))
-        × (read (string_bytes text) ≡ Some (map_value (names_of T.elements T.names) set.now)))) }
-{
-    if names.len() == set.len() && are_rising(names) {
-        return text_of_names(alloc, names);
-    }
-    Ok(None)
-}
-
-// The map of up to 32 members' names by their keys, unless they do not rise so, or one of them needs an escape.
+// The map of the members' names by their keys, unless the names do not rise so, or one of them needs an escape.
 fn map_by_keys<T: EnumSetNames>(
     alloc: Global,
     set: &EnumSet<T>,
@@ -236,7 +237,12 @@ fn map_by_keys<T: EnumSetNames>(
     };
     let mut names = [first.name(); 32];
     place_names(&mut names, set, keys);
-    text_if_rising(alloc, set, &names[..set.len().min(32)])
+    if let Some(names) = names.get(..set.len())
+        && are_rising(names)
+    {
+        return text_of_names(alloc, names);
+    }
+    Ok(None)
 }
 
 // The map of the members' names, unless one of them needs an escape.
@@ -255,5 +261,5 @@ pub(super) fn plain_map<T: EnumSetNames>(
         return Ok(Some(text));
     }
     let names = sorted_names(alloc, set)?;
-    text_if_rising(alloc, set, &names)
+    text_of_names(alloc, &names)
 }
