@@ -1,5 +1,5 @@
 -- Names of members that rise, as many as there are members, are the names of all members in the order of a map.
-use Rattle.std.proofs.Common.{◌≡◌, ◌⊎◌, inl, inr, ℕ, List, [], ◌∷◌, Bor, refl, sym, ap, ◌∙◌, subst, nat_cmp, Ordering, Less, Equal, Greater, ◌<◌, ◌≤◌, ◌+◌, ◌-◌, length, drop, get_or, suc, zero, arith, is_eq, true≢false}
+use Rattle.std.proofs.Common.{◌≡◌, ◌⊎◌, inl, inr, ℕ, List, [], ◌∷◌, Bor, refl, sym, ap, ◌∙◌, subst, nat_cmp, Ordering, Less, Equal, Greater, ◌<◌, ◌≤◌, ◌+◌, length, drop, get_or, suc, zero, arith, is_eq, true≢false}
 use Rattle.std.proofs.lemmas.Cmp.{nat_list_cmp_total, tied_itself}
 use Rattle.std.proofs.lemmas.List.Elements.{recursion_from_All}
 use Rattle.std.proofs.lemmas.Map.Lookups.{exact_bytes}

@@ -1,6 +1,6 @@
 //! Texts of maps of names that stand for themselves in JSON.
 
-ghost use Rattle.std.specs.Prelude.{◌≡◌, ◌<◌, ◌≤◌, ◌++◌, ◌∷◌, [], true, length, Some, IfOk, IfSome, IsTrue, MatchOption, OnOk, string_bytes};
+ghost use Rattle.std.specs.Prelude.{◌≡◌, ◌<◌, ◌≤◌, ◌++◌, ◌∷◌, [], length, Some, IfOk, IfSome, IsTrue, MatchOption, OnOk, string_bytes};
 ghost use Rattle.std.specs.BTreeSet.{insert_key};
 ghost use Rattle.std.specs.Cmp.Lexicographic.{slice_cmp};
 ghost use Rattle.std.specs.List.{All, insert};
@@ -170,11 +170,7 @@ fn key_of(name: &[u8]) -> u32 {
 
 // Puts the name of each member at the place that its key has among all keys. No branch depends on the order.
 #[inline(always)]
-fn place_names<T: EnumSetNames>(
-    names: &mut [&'static str; 32],
-    set: &EnumSet<T>,
-    keys: &[u32; 32],
-)
+fn place_names<T: EnumSetNames>(names: &mut [&'static str; 32], set: &EnumSet<T>, keys: &[u32; 32])
     requires { All (λ name. IsName (names_of T.elements T.names) (ascending set.now) name.now) names.old }
     ensures named { All (λ name. IsName (names_of T.elements T.names) (ascending set.now) name.now) names.new }
     ensures len { length names.new ≡ length names.old }

@@ -1,14 +1,14 @@
-use Rattle.std.proofs.Common.{◌≡◌, ℕ, Some, inl, sym, ap, subst, ◌∙◌, arith, length}
+use Rattle.std.proofs.Common.{◌≡◌, Some, inl, sym, ap, subst, ◌∙◌, arith}
 use Rattle.std.proofs.lemmas.List.Elements.{All-replicate, All-take}
 use Rattle.std.specs.List.{All}
 use Rattle.std.specs.Prelude.{IfOk, IfSome, string_bytes, option_map}
-use Rattle.serde_json.specs.Data.{Data, object}
+use Rattle.serde_json.specs.Data.{object}
 use Rattle.serde_json.specs.Read.{read}
 use Rattle.serde_json.specs.Written.{compact_text}
 use Rattle.enumset_repr.specs.BitSet.{ascending}
 use Rattle.enumset_repr.specs.Laws.Ends.{ascending_least}
 use Rattle.enumset_repr.specs.Ends.{least}
-use Rattle.enumset.specs.JsonMapTexts.{IsName, all_true}
+use Rattle.enumset.specs.JsonMapTexts.{IsName}
 use Rattle.enumset.specs.Names.{names_of}
 use Rattle.enumset.proofs.MapOrder.{all_sorted}
 use Rattle.enumset.proofs.set_json.map_texts.map_by_keys.Goals as goal

@@ -11,4 +11,4 @@ invariant-loop-element g l =
     All (λ name. IsName (names_of g.T.EnumSetType.elements g.T.EnumSetNames.names) (ascending l.set) name.now) l.names
     × (length l.names ≡ length l.initial.names)
     × ((text : List ℕ) → IsName (names_of g.T.EnumSetType.elements g.T.EnumSetNames.names) l.element-iterator.items text
-      → IsName (names_of g.T.EnumSetType.elements g.T.EnumSetNames.names) (ascending l.set) text)
+    → IsName (names_of g.T.EnumSetType.elements g.T.EnumSetNames.names) (ascending l.set) text)
