@@ -24,4 +24,5 @@ mod MapHandles
 mod MapTokens
 mod MapSteps
 mod MapsWritten
+mod MapOrder
 mod MapsRead

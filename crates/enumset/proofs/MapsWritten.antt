@@ -13,7 +13,7 @@ use Rattle.serde_json.specs.Data.{object, boolean, Members, no_members, member, 
 use Rattle.serde_json.specs.Read.{read}
 use Rattle.serde_json.specs.Written.{compact_text, members_text, comma_if}
 use Rattle.enumset.specs.JsonPlain.{IsPlain}
-use Rattle.enumset.specs.JsonMapTexts.{boolean_before, all_true, by_bytes, AreRising}
+use Rattle.enumset.specs.JsonMapTexts.{boolean_before, before_comma, all_true, by_bytes, AreRising}
 use Rattle.enumset.proofs.JsonLists.{ArePlain, text_before}
 use Rattle.enumset.proofs.JsonTokens.{tokens}
 use Rattle.enumset.proofs.MapTokens.{put_all, member_tokens}
@@ -51,7 +51,7 @@ below (n ∷ names) name d (suc i) rising inside less =
     let within : i < length names = omega (arith, inside) in
     (nat_list_cmp_total.trans n.now (get_or names i d).now name.now (All-from_recursion _ names rising.0 i d within) less, below names name d i rising.1 within less)
 
-above_all : (names : Texts) (name n : Bor (List ℕ)) → by_bytes name n ≡ Less → AreAbove names n.now → AreAbove names name.now
+pub above_all : (names : Texts) (name n : Bor (List ℕ)) → by_bytes name n ≡ Less → AreAbove names n.now → AreAbove names name.now
 above_all [] name n less all = tt
 above_all (m ∷ names) name n less all = (nat_list_cmp_total.trans name.now n.now m.now less all.0, above_all names name n less all.1)
 
@@ -63,7 +63,7 @@ above (n ∷ names) name d zero rising inside greater =
     (less, above_all names name n less rising.0)
 above (n ∷ names) name d (suc i) rising inside greater = above names name d i rising.1 (omega (arith, inside)) greater
 
-abbrev put_at : Bor (List ℕ) → Texts → Bor (List ℕ) → Ordering → Texts
+abbrev pub put_at : Bor (List ℕ) → Texts → Bor (List ℕ) → Ordering → Texts
 put_at n names name o = match_ordering o (name ∷ n ∷ names) (n ∷ names) (n ∷ insert_key by_bytes names name)
 
 pub placed : (names : Texts) (name : Bor (List ℕ)) (i : ℕ) → AreBelow (take i names) name.now → AreAbove (drop i names) name.now → insert_key by_bytes names name ≡ insert names i name
@@ -175,6 +175,11 @@ next_name names left rest name text next later here p put (so_far, plain) =
           ∙ ap (λ l. text ++ left_of later l) (sym here) ∙ so_far,
       λ ps. plain (subst AllPlain (sym here) (p, ps)),
     )
+
+-- a name after what closes the member before it
+pub in_two : (text name : List ℕ) (later : Bool) → (text ++ (before_comma later ++ (comma_if later ++ 34 ∷ name))) ++ before_comma true ≡ (text ++ before_comma later) ++ (comma_if later ++ (34 ∷ (name ++ before_comma true)))
+in_two text name true = append_assoc text _ _ ∙ sym (append_assoc text _ _)
+in_two text name false = append_assoc text _ _ ∙ sym (append_assoc text _ _)
 
 pub ended : (names left : Texts) (text end : List ℕ) (later : Bool) → AreRising names → left ≡ [] → end ≡ text ++ 125 ∷ [] → Writes names text later left
     → (end ≡ text_of names) × (read end ≡ Some (object (all_true names)))

@@ -1,0 +1,131 @@
+-- Names of members that rise, as many as there are members, are the names of all members in the order of a map.
+use Rattle.std.proofs.Common.{◌≡◌, ◌⊎◌, inl, inr, ℕ, List, [], ◌∷◌, Bor, refl, sym, ap, ◌∙◌, subst, nat_cmp, Ordering, Less, Equal, Greater, ◌<◌, ◌≤◌, ◌+◌, length, drop, get_or, suc, zero, arith, is_eq, true≢false}
+use Rattle.std.proofs.lemmas.Cmp.{nat_list_cmp_total, tied_itself}
+use Rattle.std.proofs.lemmas.List.Elements.{recursion_from_All}
+use Rattle.std.proofs.lemmas.Map.Lookups.{exact_bytes}
+use Rattle.std.specs.BTreeSet.{insert_key}
+use Rattle.std.specs.Cmp.Lexicographic.{slice_cmp}
+use Rattle.std.specs.List.{All, AllByRecursion}
+use Rattle.std.specs.List.Sorted.{IsStrictlySortedBy}
+use Rattle.std.specs.Prelude.{true}
+use Rattle.enumset_repr.specs.BitSet.{BitSet, ascending, len}
+use Rattle.enumset_repr.specs.Laws.Ascending.{len_ascending}
+use Rattle.serde_json.specs.Data.{boolean, member, no_members}
+use Rattle.enumset.specs.JsonMapTexts.{all_true, by_bytes, AreRising, IsName}
+use Rattle.enumset.specs.JsonNames.{with_bits_true}
+use Rattle.enumset.specs.Names.{Names, name_of}
+use Rattle.enumset.proofs.MapsWritten.{Texts, put_at, put_key, still_rising, above_all}
+
+abbrev IsIn : List ℕ → Texts → Type 0
+IsIn t [] = ⊥
+IsIn t (n ∷ ns) = (n.now ≡ t) ⊎ IsIn t ns
+
+-- ---- one name more
+
+here : (name : Bor (List ℕ)) (ns : Texts) → IsIn name.now (insert_key by_bytes ns name)
+here name [] = inl refl
+here name (n ∷ ns) = by_order (here name ns) (by_bytes name n) refl where
+  by_order : IsIn name.now (insert_key by_bytes ns name) → (o : Ordering) → by_bytes name n ≡ o → IsIn name.now (put_at n ns name o)
+  by_order later Less is = inl refl
+  by_order later Equal is = inl (sym (exact_bytes name.now n.now is))
+  by_order later Greater is = inr later
+
+still_in : (t : List ℕ) (name : Bor (List ℕ)) (ns : Texts) → IsIn t ns → IsIn t (insert_key by_bytes ns name)
+still_in t name [] i = absurd i
+still_in t name (n ∷ ns) i = by_order (still_in t name ns) i (by_bytes name n) where
+  by_order : (IsIn t ns → IsIn t (insert_key by_bytes ns name)) → IsIn t (n ∷ ns) → (o : Ordering) → IsIn t (put_at n ns name o)
+  by_order later i Less = inr i
+  by_order later i Equal = i
+  by_order later (inl e) Greater = inl e
+  by_order later (inr i) Greater = inr (later i)
+
+longer : (name : Bor (List ℕ)) (ns : Texts) → length (insert_key by_bytes ns name) ≤ suc (length ns)
+longer name [] = omega arith
+longer name (n ∷ ns) = by_order (longer name ns) (by_bytes name n) where
+  by_order : length (insert_key by_bytes ns name) ≤ suc (length ns) → (o : Ordering) → length (put_at n ns name o) ≤ suc (suc (length ns))
+  by_order le Less = omega arith
+  by_order le Equal = omega arith
+  by_order le Greater = omega (arith, le)
+
+-- ---- the names of bits
+
+abbrev named : Names → ℕ → Bor (List ℕ)
+named names b = record { ref_ptr = (0, 0); now = name_of names b }
+
+abbrev made : Names → List ℕ → Texts → Texts
+made names [] ns = ns
+made names (b ∷ bs) ns = made names bs (insert_key by_bytes ns (named names b))
+
+made_rising : (names : Names) (bs : List ℕ) (ns : Texts) → AreRising ns → AreRising (made names bs ns)
+made_rising names [] ns r = r
+made_rising names (b ∷ bs) ns r = made_rising names bs (insert_key by_bytes ns (named names b)) (still_rising ns (named names b) r)
+
+made_is : (names : Names) (bs : List ℕ) (ns : Texts) → all_true (made names bs ns) ≡ with_bits_true names (all_true ns) bs
+made_is names [] ns = refl
+made_is names (b ∷ bs) ns = made_is names bs (insert_key by_bytes ns (named names b)) ∙ ap (λ ms. with_bits_true names ms bs) (put_key ns (named names b))
+
+made_in : (t : List ℕ) (names : Names) (bs : List ℕ) (ns : Texts) → IsIn t ns ⊎ IsName names bs t → IsIn t (made names bs ns)
+made_in t names [] ns (inl i) = i
+made_in t names [] ns (inr i) = absurd i
+made_in t names (b ∷ bs) ns (inl i) = made_in t names bs (insert_key by_bytes ns (named names b)) (inl (still_in t (named names b) ns i))
+made_in t names (b ∷ bs) ns (inr (inl e)) =
+    made_in t names bs (insert_key by_bytes ns (named names b)) (inl (subst (λ u. IsIn u (insert_key by_bytes ns (named names b))) e (here (named names b) ns)))
+made_in t names (b ∷ bs) ns (inr (inr i)) = made_in t names bs (insert_key by_bytes ns (named names b)) (inr i)
+
+made_length : (names : Names) (bs : List ℕ) (ns : Texts) → length (made names bs ns) ≤ length ns + length bs
+made_length names [] ns = omega arith
+made_length names (b ∷ bs) ns = omega (arith, made_length names bs (insert_key by_bytes ns (named names b)), longer (named names b) ns)
+
+-- ---- names that rise, among others that rise
+
+below_in : (m n : Bor (List ℕ)) (ms : Texts) → IsIn n.now ms → AllByRecursion (λ y. by_bytes m y ≡ Less) ms → by_bytes m n ≡ Less
+below_in m n [] i all = absurd i
+below_in m n (y ∷ ms) (inl e) all = subst (λ t. slice_cmp nat_cmp m.now t ≡ Less) e all.0
+below_in m n (y ∷ ms) (inr i) all = below_in m n ms i all.1
+
+past : (m : Bor (List ℕ)) (ms ns : Texts) → AllByRecursion (λ n. by_bytes m n ≡ Less) ns → AllByRecursion (λ n. IsIn n.now (m ∷ ms)) ns → AllByRecursion (λ n. IsIn n.now ms) ns
+past m ms [] above i = tt
+past m ms (n ∷ ns) above (inl e, is) =
+    absurd (true≢false (ap is_eq (sym (tied_itself nat_list_cmp_total m.now) ∙ subst (λ t. slice_cmp nat_cmp m.now t ≡ Less) (sym e) above.0)))
+past m ms (n ∷ ns) above (inr i, is) = (i, past m ms ns above.1 is)
+
+within : (ns ms : Texts) → AreRising ns → AreRising ms → AllByRecursion (λ n. IsIn n.now ms) ns → (length ns ≤ length ms) × (length ms ≤ length ns → all_true ns ≡ all_true ms)
+unfolding IsStrictlySortedBy
+within [] [] r s i = (omega arith, λ le. refl)
+within [] (m ∷ ms) r s i = (omega arith, λ le. absurd (omega (arith, le)))
+within (n ∷ ns) [] r s i = absurd i.0
+within (n ∷ ns) (m ∷ ms) r s (inl e, is) =
+    let (le, same) = within ns ms r.1 s.1 (past m ms ns (subst (λ t. AllByRecursion (λ x. slice_cmp nat_cmp t x.now ≡ Less) ns) (sym e) r.0) is) in
+    (omega (arith, le), λ more. (λ j. member (sym e j) (boolean true) (same (omega (arith, more)) j)))
+within (n ∷ ns) (m ∷ ms) r s (inr i, is) =
+    let less = below_in m n ms i s.0 in
+    let (le, same) = within (n ∷ ns) ms r s.1 (i, past m ms ns (above_all ns m n less r.0) is) in
+    (omega (arith, le), λ more. absurd (omega (arith, le, more)))
+
+all_in : (names : Names) (bs : List ℕ) (ns : Texts) → AllByRecursion (λ n. IsName names bs n.now) ns → AllByRecursion (λ n. IsIn n.now (made names bs [])) ns
+all_in names bs [] i = tt
+all_in names bs (n ∷ ns) i = (made_in n.now names bs [] (inr i.0), all_in names bs ns i.1)
+
+pub all_sorted : (names : Names) (s : BitSet) (ns : Texts) → AreRising ns → All (λ n. IsName names (ascending s) n.now) ns → length ns ≡ len s → all_true ns ≡ with_bits_true names no_members (ascending s)
+unfolding IsStrictlySortedBy
+all_sorted names s ns rising named many =
+    let bs = ascending s in
+    let few : length (made names bs []) ≤ length ns = omega (arith, made_length names bs [], many, len_ascending s) in
+    (within ns (made names bs []) rising (made_rising names bs [] tt) (all_in names bs ns (recursion_from_All _ ns named))).1 few ∙ made_is names bs []
+
+-- ---- a test of neighbours, from the last
+
+pub last_rises : (ns : Texts) (i : ℕ) → length ns ≤ suc i → AreRising (drop i ns)
+unfolding IsStrictlySortedBy
+last_rises [] zero last = tt
+last_rises [] (suc i) last = tt
+last_rises (n ∷ []) zero last = (tt, tt)
+last_rises (n ∷ m ∷ ns) zero last = absurd (omega (arith, last))
+last_rises (n ∷ ns) (suc i) last = last_rises ns i (omega (arith, last))
+
+pub rises_before : (ns : Texts) (d : Bor (List ℕ)) (i : ℕ) → suc i < length ns → by_bytes (get_or ns i d) (get_or ns (suc i) d) ≡ Less → AreRising (drop (suc i) ns) → AreRising (drop i ns)
+unfolding IsStrictlySortedBy
+rises_before [] d i inside less r = absurd (omega (arith, inside))
+rises_before (n ∷ []) d i inside less r = absurd (omega (arith, inside))
+rises_before (n ∷ m ∷ ns) d zero inside less r = ((less, above_all ns n m less r.0), r)
+rises_before (n ∷ m ∷ ns) d (suc i) inside less r = rises_before (m ∷ ns) d i (omega (arith, inside)) less r
