@@ -2,4 +2,5 @@ pub mod States
 pub mod Plans
 pub mod Runs
 pub mod Answers
+pub mod Alike
 pub mod Kinds

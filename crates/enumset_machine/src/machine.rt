@@ -3,9 +3,8 @@
 ghost use Rattle.std.specs.Prelude.{◌≡◌, false, IfOk, IsOk, OnErr};
 ghost use Rattle.enumset_sets.specs.Elements.{valid_bits};
 
+use crate::alike::carry_out_alike;
 use crate::element_set::element_of;
-use crate::numbers::{number_of, words_cut_of, words_of};
-use crate::run_set::RunSet;
 use crate::runner::{Runner, carry_out, change, refusal};
 use crate::steps::{Run, step};
 use enumset_commands::Command::{self, *};

@@ -8,10 +8,9 @@ ghost use Rattle.enumset_machine.specs.States.{is_set_register, set_at, put_set}
 ghost use Rattle.enumset_machine.specs.Plans.{width_rules, takes_memory};
 ghost use Rattle.enumset_machine.specs.Runs.{plan, mixed_plan};
 
+use crate::alike::carry_out_alike;
 use crate::element_set::element_of;
-use crate::numbers::{number_of, words_cut_of, words_of};
 use crate::registers::{are_set_registers, is_set_register};
-use crate::run_set::RunSet;
 use crate::runner::{Runner, carry_out, change, refusal, unless};
 use crate::steps::Run;
 use enumset_commands::Command::{self, *};

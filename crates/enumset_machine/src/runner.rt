@@ -43,12 +43,11 @@ macro_rules! change {
 }
 
 /// Carries out a command that every run has and that is not refused, on sets of a kind. Each command is a call of the set
-/// itself, so its contract is that of the call. A module that expands this macro imports `Command::*`, `RunSet`, `change`,
-/// `element_of`, `number_of`, `words_of` and `words_cut_of`.
+/// itself, so its contract is that of the call. A module that expands this macro imports `Command::*`, `carry_out_alike`,
+/// `change` and `element_of`.
 macro_rules! carry_out {
     ($runner:ident, $alloc:ident, $command:expr, $kind:ty) => {
         match *$command {
-            New { r } => $runner.put(r, <$kind>::new()),
             All { r } => $runner.put(r, <$kind>::all()),
             Only { r, bit } => $runner.put(r, <$kind>::only(element_of(bit))),
             Insert { r, bit } => change!($runner, r, insert, element_of(bit)),
@@ -83,22 +82,7 @@ macro_rules! carry_out {
             Subset { a, b } => Reply::Truth($runner.get(a).is_subset($runner.get(b))),
             Equal { a, b } => Reply::Truth($runner.get(a) == $runner.get(b)),
             Compare { a, b } => Reply::Order($runner.get(a).cmp(&$runner.get(b))),
-            Number { r, width } => number_of($runner.get(r), width),
-            NumberCut { r, width } => Reply::Number($runner.get(r).number_cut(width)),
-            FromNumber { r, width, value } => $runner.put_number(r, width, value),
-            FromNumberCut { r, width, value } => {
-                $runner.put(r, <$kind>::from_number_cut(width, value))
-            }
-            Words { r, count } => words_of($alloc, $runner.get(r), count)?,
-            WordsCut { r, count } => words_cut_of($alloc, $runner.get(r), count)?,
-            FromWords { r, ref words } => $runner.put_words(r, words),
-            FromWordsCut { r, ref words } => {
-                $runner.put(r, <$kind>::from_words_cut(words.as_slice()))
-            }
-            Iter { i, r } => $runner.iterate(i, r),
-            Next { i } => $runner.next(i),
-            NextBack { i } => $runner.next_back(i),
-            Left { i } => $runner.left(i),
+            _ => carry_out_alike($runner, $alloc, $command)?,
         }
     };
 }

@@ -1,6 +1,6 @@
 //! Chains of iterators over rights.
 
-ghost use Rattle.std.specs.Prelude.{◌≡◌, fold, option_map};
+ghost use Rattle.std.specs.Prelude.{◌≡◌, not, fold, option_map};
 ghost use Rattle.std.specs.List.{find, list_all};
 ghost use Rattle.enumset_repr.specs.BitSet as set;
 ghost use Rattle.enumset_sets.specs.Elements.{valid_bits};
@@ -33,6 +33,14 @@ pub fn are_requested<T: EnumSetType>(granted: &EnumSet<T>, requested: &EnumSet<T
     ensures { result ≡ set.is_subset granted.now requested.now }
 {
     granted.iter().all(|right| requested.contains(right))
+}
+
+/// Whether one of the granted rights is requested.
+#[tactic(auto, using(enumset_repr::specs::Laws::Places::some_shared))]
+pub fn is_one_requested(granted: &EnumSet<Right>, requested: &EnumSet<Right>) -> bool
+    ensures { result ≡ not (set.is_disjoint granted.now requested.now) }
+{
+    granted.iter().any(|right| requested.contains(right))
 }
 
 /// The first of the granted rights that is requested.
