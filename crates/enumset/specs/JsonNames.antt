@@ -7,8 +7,10 @@
 --     decided      the set that was read, or the fault of the first unknown name
 --     named_set      the set of the names that are known, where unknown names are left out, or the first is the fault
 --     names_in, true_names      the names of members;  of those whose value is `true`
+--     set_of_values, set_of_members      the set that items of an array are read as, or the fault;  that members of an object are
 --     set_of_list, set_of_map      the set that a value is read as, or the fault
 --     list_value, map_value      the values that a set is written as
+--     with_bits_true      members, with `true` at the names of further bits
 --     in_map      the members of a set in the order in which a map has their names
 --     accepted_by_name      the set of valid bits that is taken of a set whose members' names come in an order, or the fault
 use Rattle.std.specs.Prelude.{ℕ, Bool, true, false, if◌then◌else◌, is_none, List, [], ◌∷◌, map, filter, filter_map, position, Option, unwrap_or, Result, Ok, Err}

@@ -1,9 +1,9 @@
 -- What is true of a plan.
 --     IsPlanned      the plan has the enum's variants, with their bits and their discriminants
 --     without_fields      an enum of so many variants without fields
---     IsLawfulPlan      the plan passes the test that proves the laws of an element type
+--     IsLawfulStore, IsLawfulPlan      bits in a store, or a plan, pass the test that proves the laws of an element type
 --     kind_of      what keeps a set: as asked for, else the smallest integer with this many bits, else words
---     IsStoredAsAsked      a set is kept so
+--     IsStore, IsStoredAsAsked      a store is of this kind, for so many bits;  a set is kept so
 use Rattle.std.specs.Prelude.{◌≡◌, ℕ, ◌≤◌, nat_le, List, [], length, replicate, Option, Some, None, Ok, if◌then◌else◌}
 use Rattle.std.specs.Int.{div_ceil}
 use denote.Enum.Enum.{Sum}

@@ -1,7 +1,11 @@
 -- The variants of an enum, each with its bit, or the first fault.
 --     fault_at      a reason as a fault at a place
+--     has_taken, taken_at      whether a variant has a bit or a discriminant;  the reason that it is for a later one
+--     bit_among      the bit of a discriminant after other variants, or why it has none
+--     has_name, number_place      whether two variants have one name;  where a variant's discriminant is given, or else the variant
 --     named_variant      the variant with its bit, or its first fault
---     named_variants      the variants of an enum, each with its bit, or the first fault
+--     named_from, named_variants      further variants, or those of an enum, each with its bit, or the first fault
+--     map_test      the fault of a map that needs an integer, and has none
 --     bits_of      the bits of variants
 --     IsErrorOf      why a result is not there: its fault, or out of memory
 use Rattle.std.specs.Prelude.{◌≡◌, ℕ, ◌==◌, Bool, ◌||◌, nat_le, nat_eq, List, [], ◌∷◌, ◌++◌, length, map, Option, Some, Result, Ok, Err, if◌then◌else◌}
