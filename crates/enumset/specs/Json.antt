@@ -1,14 +1,15 @@
 -- JSON values as sets, and what is wrong with one that is none.
 --     width_of      how many bits a width has
 --     whole_number      the whole number from 0 to 2 ^ 64 - 1 that a value holds, or the fault
---     number_below      the same, below 2 ^ width
+--     below_power, number_below      what was read, or the fault where it is not below 2 ^ width;  the number of a value, so
 --     unless_fault      a result, or the fault of a place, if there is one
 --     values_of      the elements of an array
 --     word_of, words_of      the word that an element holds, if it holds one;  those of all elements, 0 where one holds none
 --     is_no_word      the test that finds a fault
---     words_in      the words that a value holds, or the fault
---     accepted      the set of valid bits that is taken of a set, or the fault
---     kept_below      the set of bits below a width that is taken of a set, or the fault
+--     words_among, words_in      the words that the elements of an array hold, or the fault;  that a value holds
+--     accepted, accepted_of      the set of valid bits that is taken of a set, or the fault;  of what was read
+--     all_bits      the set of the number that was read, or the fault
+--     kept_below, kept_of      the set of bits below a width that is taken of a set, or the fault;  of words that were read
 --     set_of_number, mixed_set_of_number, set_of_words, mixed_set_of_words      the set that a value is read as, or the fault
 --     number_value, words_value      the values that a number and words are written as
 use Rattle.std.specs.Prelude.{ℕ, Bool, ◌^◌, List, [], ◌∷◌, map, nat_lt, position, Option, Some, None, is_none, unwrap_or, option_and_then, Result, Ok, Err, if◌then◌else◌}

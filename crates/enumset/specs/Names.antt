@@ -4,6 +4,7 @@
 --     name_of      the name of a bit
 --     bit_named      the bit of a name, if there is one
 --     names_agree      whether any bit of one type and any bit of another are the same exactly where their names are
+--     are_distinct      whether no text comes twice
 --     IsNaming      the test that each bit has a name of its own;  where it fails, a type whose name says what to mend
 use Rattle.std.specs.Prelude.{ℕ, Bool, true, not, ◌&&◌, ◌==◌, if◌then◌else◌, List, [], ◌∷◌, length, zip, Option, Some, None}
 use Rattle.std.specs.Bool.{beq}
@@ -31,7 +32,6 @@ names_agree ns ms = list_all (λ n. list_all (λ m. beq (n.0 == m.0) (bytes_eq n
 
 -- ---- the test
 
--- whether no text comes twice
 abbrev pub are_distinct : List (List ℕ) → Bool
 are_distinct [] = true
 are_distinct (n ∷ ns) = not (list_any (λ m. bytes_eq m n) ns) && are_distinct ns

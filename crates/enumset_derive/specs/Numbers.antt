@@ -2,6 +2,7 @@
 --     width      how many bits an integer type has
 --     next_number, same_number      one more than a number, if that is kept;  whether two numbers are the same
 --     and_then      what comes next, if there is no fault so far
+--     small_bit, bit_of_mask      the bit that a number is, or whose power of two it is;  or why it is none
 --     bit_of      the bit of the variant at a place, counted from 0, that has a discriminant, under a map, where a set is
 --         kept in so many bits; or why it has none
 --     bit_limit, json_limit      one past the greatest bit of what keeps a set;  of what a set is in JSON
