@@ -42,13 +42,15 @@ pub(super) fn split_number(bytes: &[u8]) -> Option<(u64, &[u8])>
     if number == 0 {
         return Some((0, rest));
     }
-    // Two digits a turn are faster than one. Nineteen always fit, so that only the one after them is tested for it.
+    // Two digits a turn, under one test, are faster than one. Nineteen always fit: only the next is tested for it.
     let count = rest.len().min(18);
     let mut at = 0;
-    while at + 2 <= count
-        && let (Some(ten), Some(one)) = (digit_of(rest[at]), digit_of(rest[at + 1]))
-    {
-        number = number * 100 + (ten * 10 + one);
+    while at + 2 <= count {
+        let (ten, one) = (rest[at].wrapping_sub(b'0'), rest[at + 1].wrapping_sub(b'0'));
+        if ten.max(one) > 9 {
+            break;
+        }
+        number = number * 100 + (ten * 10 + one) as u64;
         at += 2;
     }
     let (_, left) = rest.split_at(at);

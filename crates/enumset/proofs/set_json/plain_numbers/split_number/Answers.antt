@@ -1,6 +1,6 @@
-use Rattle.std.proofs.Common.{◌≡◌, ◌<◌, ◌+◌, ◌*◌, ◌^◌, ◌++◌, ◌∷◌, decimal, sym, ap, ◌∙◌, arith, rules}
+use Rattle.std.proofs.Common.{◌≡◌, ◌<◌, ◌+◌, ◌*◌, ◌%◌, ◌^◌, ◌++◌, ◌∷◌, ℕ, slice_index_or, decimal, sym, ap, ◌∙◌, arith, rules}
 use Rattle.enumset.proofs.NumberScans.{Scanned, first_digit, one_more_digit, scanned_pair}
-use Rattle.enumset.proofs.set_json.plain_numbers.split_number.Goals.{In-Some-Some}
+use Rattle.enumset.proofs.set_json.plain_numbers.split_number.Goals.{Else-max-gt9}
 use Rattle.enumset.proofs.set_json.plain_numbers.split_number.Goals as goal
 
 pub returns-then-number-eq0 : goal.returns-then-number-eq0
@@ -9,11 +9,15 @@ returns-then-number-eq0 c = search (rules, first_digit)
 pub loop-at-init : goal.loop-at-init
 loop-at-init c = search (rules, first_digit)
 
-two : (c : In-Some-Some) → (c.loop-at.number * 100 + (c.in-Some-Some.ten * 10 + c.in-Some-Some.one) < 2 ^ 64) × Scanned c.args.bytes.now c.in_ok-first.rest.now (c.loop-at.at + 2) (c.loop-at.number * 100 + (c.in-Some-Some.ten * 10 + c.in-Some-Some.one))
+digit : (x : ℕ) → x < 256 → (x + 208) % 256 < 10 → ((x + 208) % 256 < 10) × (x ≡ 48 + (x + 208) % 256)
+digit x byte small = (small, omega (arith, byte, small))
+
+two : (c : Else-max-gt9) → let ten = (slice_index_or c.in_ok-first.rest.now c.loop-at.at 0 + 208) % 256 in let one = (slice_index_or c.in_ok-first.rest.now (c.loop-at.at + 1) 0 + 208) % 256 in
+    (c.loop-at.number * 100 + (ten * 10 + one) < 2 ^ 64) × Scanned c.args.bytes.now c.in_ok-first.rest.now (c.loop-at.at + 2) (c.loop-at.number * 100 + (ten * 10 + one))
 two c =
-    let (small, tens) = c.in-Some-Some.ensures in
-    let (small', ones) = c.in-Some-Some.ensures' in
-    scanned_pair _ _ c.loop-at.at c.loop-at.number c.in-Some-Some.ten c.in-Some-Some.one (omega (arith, c.min-count.ensures)) (omega (arith, c.min-count.ensures)) small small' tens ones c.loop-at.invariant.1
+    let (small, tens) = digit (slice_index_or c.in_ok-first.rest.now c.loop-at.at 0) (c.type_inv.rest _).fits (omega (arith, c.max.ensures, c.if-max-gt9.false)) in
+    let (small', ones) = digit (slice_index_or c.in_ok-first.rest.now (c.loop-at.at + 1) 0) (c.type_inv.rest _).fits (omega (arith, c.max.ensures, c.if-max-gt9.false)) in
+    scanned_pair _ _ c.loop-at.at c.loop-at.number _ _ (omega (arith, c.min-count.ensures)) (omega (arith, c.min-count.ensures)) small small' tens ones c.loop-at.invariant.1
 
 pub overflow_mul-number : goal.overflow_mul-number
 overflow_mul-number c = omega (arith, (two c).0)
