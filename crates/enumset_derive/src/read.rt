@@ -12,6 +12,7 @@ use crate::plan::*;
 use crate::source::{Element, Form, Import, Name, Source};
 use crate::tokens::{Kind, Token, UNCLOSED_BRACKET, is_among, names_last};
 use enums::Draft;
+use imports::after_root;
 use parts::{Bearer, Part, place_of_derive, renamed_derive};
 use std::alloc::{AllocError, Global};
 use std::collections::BTreeSet;
@@ -25,7 +26,7 @@ pub fn read_source<'a>(alloc: Global, text: &'a str, tokens: &[Token<'a>]) -> Ou
     let [token, rest @ ..] = tokens else {
         return Ok(Source::new(alloc));
     };
-    let words = rest.iter().copied().filter(|token| !token.is_blank());
+    let words = rest.iter().copied().filter(|token| !token.is_comment());
     let words: Vec<Token<'a>> = words.collect(alloc)?;
     let cursor = Cursor {
         text,
@@ -71,9 +72,9 @@ impl<'a, 'b> Reader<'a, 'b> {
     fn read_token(&mut self) -> Done {
         let begin = self.cursor.token;
         let is_attribute = begin.is_mark("#") && self.cursor.is_before("!");
+        self.source.add_space(begin.space);
         match begin.kind {
-            Kind::End => {}
-            Kind::Space => self.source.add_space(begin.text),
+            Kind::Begin | Kind::End => {}
             Kind::Comment | Kind::InnerDoc => self.source.push_text(begin.text)?,
             _ if is_attribute => {
                 self.cursor.advance()?;
@@ -111,7 +112,7 @@ struct Cursor<'a, 'b> {
     pub token: &'b Token<'a>,
     /// The tokens after that one.
     pub rest: &'b [Token<'a>],
-    /// The words among them, which are neither comments nor space.
+    /// The words among them, which are no comments.
     pub words: &'b [Token<'a>],
 }
 
@@ -124,18 +125,18 @@ impl<'a, 'b> Cursor<'a, 'b> {
             if let Kind::Fault(reason) = next.kind {
                 return Err(next.fault(reason));
             }
-            if !next.is_blank() {
+            if !next.is_comment() {
                 self.words = self.words.get(1..).unwrap_or(&[]);
             }
         }
         Ok(())
     }
 
-    /// Goes on to the next token that is neither a comment nor space.
-    pub fn advance_past_blanks(&mut self) -> Done {
+    /// Goes on to the next word.
+    pub fn advance_to_word(&mut self) -> Done {
         self.advance()?;
         for _ in self.rest {
-            if !self.token.is_blank() {
+            if !self.token.is_comment() {
                 break;
             }
             self.advance()?;

@@ -67,6 +67,8 @@ pub struct Element<'a> {
     pub plan: Plan,
     /// The names of the variants in JSON, in their order, and where each is given, if one may not be the variant's own.
     pub json_names: Vec<(Place, String)>,
+    /// Whether it has the discriminants that are given.
+    pub has_discriminants: bool,
     /// The attribute of each of its implementations, if they are there for tests alone.
     pub guard: &'static str,
 }
@@ -173,13 +175,19 @@ impl<'a> Source<'a> {
             true => self.gap.lines.max(lines),
             false => self.gap.lines.saturating_add(lines),
         };
-        self.gap.has_space = true;
+        self.gap.has_space |= !space.is_empty();
     }
 
     /// Says that a text at a place is left out, and why.
     pub fn leave_out(&mut self, place: Place, text: &str, why: &str) -> Result<(), AllocError> {
         self.gap.is_after_left_out = true;
         let note = format!(in self.alloc; "left out: {text} {why}")?;
+        Ok(self.notes.push((place, note))?)
+    }
+
+    /// Says something of a place.
+    pub fn note(&mut self, place: Place, note: &str) -> Result<(), AllocError> {
+        let note = String::from_str(self.alloc, note)?;
         Ok(self.notes.push((place, note))?)
     }
 

@@ -8,8 +8,8 @@ pub use lexer::tokens_of;
 /// What a token is.
 #[derive(Clone, Copy)]
 pub enum Kind {
-    /// Spaces, tabs and ends of lines.
-    Space,
+    /// The beginning of the text.
+    Begin,
     /// A comment that documents nothing.
     Comment,
     /// A comment that documents what follows it, as `/// ..`.
@@ -37,6 +37,8 @@ pub const UNCLOSED_BRACKET: &str = "this bracket has no end";
 #[derive(Clone, Copy)]
 pub struct Token<'a> {
     pub kind: Kind,
+    /// The spaces, tabs and ends of lines before it.
+    pub space: &'a str,
     /// As it is written.
     pub text: &'a str,
     /// Where it begins, in bytes.
@@ -49,11 +51,6 @@ pub struct Token<'a> {
 impl<'a> Token<'a> {
     pub fn is_comment(&self) -> bool {
         matches!(self.kind, Kind::Comment | Kind::OuterDoc | Kind::InnerDoc)
-    }
-
-    /// Whether the token is a comment or space.
-    pub fn is_blank(&self) -> bool {
-        matches!(self.kind, Kind::Space) || self.is_comment()
     }
 
     /// The fault that is here.

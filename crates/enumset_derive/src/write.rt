@@ -14,7 +14,7 @@ use crate::plan::*;
 use crate::source::{Element, Form, Source};
 use crate::tokens::names_last;
 use element_type::{is_in_table, is_narrow, write_element_type};
-use enums::{are_kept, write_enum};
+use enums::write_enum;
 use imports::imports_of;
 use json::write_json;
 use layout::*;

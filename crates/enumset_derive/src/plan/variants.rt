@@ -162,7 +162,7 @@ fn json_limit(serialized: Option<Serialized>) -> u32
     ensures { result ≡ json_limit serialized }
 {
     match serialized {
-        Some(Serialized::Integer(integer)) => integer.width(),
+        Some(Serialized::Bits(representation)) => bit_limit(Some(representation)),
         _ => BIT_LIMIT,
     }
 }

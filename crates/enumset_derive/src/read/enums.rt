@@ -8,6 +8,9 @@ const NOT_A_LITERAL: &str = "a discriminant must be a literal of an integer";
 
 const TOO_LARGE: &str = "a literal past 2^128 - 1 must be a power of two, and not decimal";
 
+const DROPPED: &str =
+    "left out: the discriminants of this enum, as this one is past -2^63 to 2^63 - 1";
+
 const SERDE_ALONE: &str = "here nothing comes of the names: write `#[serde(..)]` alone";
 
 /// How a literal begins that is not decimal, and its base.
@@ -70,12 +73,20 @@ impl<'a, 'b> Reader<'a, 'b> {
         };
         self.read_enum(&mut draft, parts)?;
         let plan = plan_enum(alloc, &draft.declaration)?;
+        let past = plan
+            .variants
+            .iter()
+            .find(|named| is_past_enum(named.number));
+        if let Some(named) = past {
+            self.source.note(named.place, DROPPED)?;
+        }
         let json_names = draft.json_names(alloc)?;
         for (part, _, is_kept) in &draft.serde {
             if !*is_kept && !draft.declaration.options.are_named() {
                 self.leave_out(part.begin.place, part.text)?;
             }
         }
+        let has_discriminants = past.is_none();
         let declaration = draft.declaration;
         self.source.has_enums = true;
         self.source.facade = declaration.options.crate_name.unwrap_or(self.source.facade);
@@ -84,6 +95,7 @@ impl<'a, 'b> Reader<'a, 'b> {
             declaration,
             plan,
             json_names,
+            has_discriminants,
             guard: if is_test { FOR_TESTS } else { "" },
         };
         Ok(self.source.push(Form::Element(element))?)
@@ -150,8 +162,7 @@ impl<'a, 'b> Reader<'a, 'b> {
             draft.declaration.variants.push(self.read_variant(kept)?)?;
         }
         if draft.declaration.variants.is_empty() {
-            let note = String::from_str(self.alloc, NO_VARIANTS)?;
-            self.source.notes.push((name.place, note))?;
+            self.source.note(name.place, NO_VARIANTS)?;
         }
         Ok(())
     }
@@ -161,7 +172,7 @@ impl<'a, 'b> Reader<'a, 'b> {
         let begin = self.cursor;
         let name = begin.token;
         name.want(name.is_name(), "wanted: a name of a variant, or `}`")?;
-        self.cursor.advance_past_blanks()?;
+        self.cursor.advance_to_word()?;
         let discriminant = self.cursor.read_discriminant()?;
         self.cursor.end_variant(discriminant)?;
         let mut comments = String::new(self.alloc);
@@ -187,10 +198,10 @@ impl<'a, 'b> Cursor<'a, 'b> {
         let is_end = matches!(keyword.kind, Kind::End);
         keyword.want(!is_end, "wanted: an item")?;
         keyword.want(keyword.is("enum"), "`EnumSetType` is for enums alone")?;
-        self.advance_past_blanks()?;
+        self.advance_to_word()?;
         let name = self.token;
         name.want(name.is_name(), "wanted: a name of an enum")?;
-        self.advance_past_blanks()?;
+        self.advance_to_word()?;
         let next = self.token;
         let has_parameters = next.is_mark("<") || next.is("where");
         next.want(!has_parameters, "the enum must have no parameters")?;
@@ -204,15 +215,15 @@ impl<'a, 'b> Cursor<'a, 'b> {
         if !self.token.is_mark("=") {
             return Ok(None);
         }
-        self.advance_past_blanks()?;
+        self.advance_to_word()?;
         let begin = self.token;
         let is_negative = begin.is_mark("-");
         if is_negative {
-            self.advance_past_blanks()?;
+            self.advance_to_word()?;
         }
         let read = number_of(self.token.text, is_negative);
         let (literal, number) = read.map_err(|text| begin.fault(text))?;
-        self.advance_past_blanks()?;
+        self.advance_to_word()?;
         Ok(Some(Discriminant {
             place: begin.place,
             sign: if is_negative { "-" } else { "" },
@@ -229,10 +240,9 @@ impl<'a, 'b> Cursor<'a, 'b> {
             (Kind::Mark(','), _) => {
                 self.advance()?;
                 for _ in self.rest {
-                    match self.token.kind {
-                        Kind::Space if !self.token.text.contains('\n') => {}
-                        Kind::Comment => {}
-                        _ => break,
+                    let is_comment = matches!(self.token.kind, Kind::Comment);
+                    if !is_comment || self.token.space.contains('\n') {
+                        break;
                     }
                     self.advance()?;
                 }
@@ -242,6 +252,15 @@ impl<'a, 'b> Cursor<'a, 'b> {
             (Kind::Mark('(' | '{'), _) => self.token.want(false, "a variant must have no fields"),
             _ => self.token.want(false, "wanted: `,` or `}`"),
         }
+    }
+}
+
+/// Whether a discriminant is past those that an enum of Rattle has.
+fn is_past_enum(number: Number) -> bool {
+    match number {
+        Number::Small(number) => number >= 1 << 63,
+        Number::Negative(number) => number > 1 << 63,
+        Number::PowerOfTwo(_) => true,
     }
 }
 

@@ -136,19 +136,15 @@ pub(super) fn renamed_derive<'a>(words: &[Token<'a>]) -> &'a str {
 /// The path that an argument of a derive is.
 fn path_of(alloc: Global, argument: &[Token]) -> Outcome<String> {
     let mut path = String::new(alloc);
-    let mut was_name = false;
-    for word in argument {
-        let is_name = word.is_name();
-        let is_part = is_name || word.is_mark(":");
-        if !is_part || (is_name == was_name && !path.is_empty()) {
-            word.want(was_name, "wanted: a path, or `)`")?;
-            word.want(word.is_mark(",)"), "wanted: `,` or `)`")?;
-            break;
+    let mut wants_name = true;
+    for word in after_root(argument) {
+        match wants_name {
+            true => word.want(word.is_name(), "wanted: a path, or `)`")?,
+            false if word.is_mark(",)") => break,
+            false => word.want(word.is_mark(":"), "wanted: `,` or `)`")?,
         }
-        if is_name || !path.is_empty() {
-            path.push_str(word.text)?;
-        }
-        was_name = is_name;
+        path.push_str(word.text)?;
+        wants_name = !wants_name;
     }
     Ok(path)
 }
@@ -167,11 +163,10 @@ impl<'a, 'b> Cursor<'a, 'b> {
     pub fn read_parts(&mut self, alloc: Global) -> Outcome<Vec<Part<'a, 'b>>> {
         let mut parts = Vec::new(alloc);
         for _ in self.rest {
-            if self.token.is_mark("#") || self.token.is_comment() {
-                parts.push(self.read_part()?)?;
-            } else if !self.token.is_blank() {
+            if !self.token.is_mark("#") && !self.token.is_comment() {
                 break;
             }
+            parts.push(self.read_part()?)?;
             self.advance()?;
         }
         Ok(parts)
@@ -181,7 +176,7 @@ impl<'a, 'b> Cursor<'a, 'b> {
     pub fn read_part(&mut self) -> Outcome<Part<'a, 'b>> {
         let begin = *self;
         if !begin.token.is_comment() {
-            self.advance_past_blanks()?;
+            self.advance_to_word()?;
             self.token.want(self.token.is_mark("["), "wanted: `[`")?;
             self.skip_to("]", begin.token.depth)?;
         }
@@ -200,13 +195,13 @@ impl<'a, 'b> Cursor<'a, 'b> {
         if !self.token.is("pub") {
             return Ok(("", ""));
         }
-        self.advance_past_blanks()?;
+        self.advance_to_word()?;
         let mut restriction = "";
         if self.token.is_mark("(") {
             let begin = self.token.begin;
             self.skip_to(")", 0)?;
             restriction = self.text_since(begin);
-            self.advance_past_blanks()?;
+            self.advance_to_word()?;
         }
         Ok(("pub", restriction))
     }

@@ -7,23 +7,28 @@ use std::alloc::Global;
 /// What a text or a character in quotes is that has no end.
 const UNCLOSED: (Kind, &str) = (Kind::Fault("this quote has no end"), "");
 
-/// The tokens of a text: a space of no length at its beginning, those that it has, and its end.
+const RAW_NAME: &str = "no raw names here: choose one that is no keyword";
+
+const LONE_RETURN: &str = "a carriage return stands only before a line feed";
+
+/// The tokens of a text: its beginning, those that it has, and its end.
 pub fn tokens_of(alloc: Global, text: &str) -> Outcome<Vec<Token<'_>>> {
     let mut tokens = Vec::new(alloc);
     let mut open = Vec::new(alloc);
     let mut place = Place::BEGIN;
     let mut end = 0;
-    tokens.push(token_of(&mut open, Kind::Space, "", 0, place)?)?;
+    tokens.push(token_of(&mut open, Kind::Begin, "", "", 0, place)?)?;
     for (begin, character) in text.char_indices() {
-        if begin >= end {
+        if begin >= end && !matches!(character, ' ' | '\t' | '\n') {
+            let space = text.get(end..begin).unwrap_or("");
             let onward = text.get(begin..).unwrap_or("");
             let (kind, rest) = first_token(character, onward);
             end = text.len().saturating_sub(rest.len());
-            tokens.push(token_of(&mut open, kind, before(onward, rest), begin, place)?)?;
+            tokens.push(token_of(&mut open, kind, space, before(onward, rest), begin, place)?)?;
         }
         place = place.after(character);
     }
-    tokens.push(token_of(&mut open, Kind::End, "", text.len(), place)?)?;
+    tokens.push(token_of(&mut open, Kind::End, "", "", text.len(), place)?)?;
     Ok(tokens)
 }
 
@@ -32,6 +37,7 @@ pub fn tokens_of(alloc: Global, text: &str) -> Outcome<Vec<Token<'_>>> {
 fn token_of<'a>(
     open: &mut Vec<(char, Place)>,
     kind: Kind,
+    space: &'a str,
     text: &'a str,
     begin: usize,
     place: Place,
@@ -51,6 +57,7 @@ fn token_of<'a>(
     let (kind, place) = unclosed.map_or((kind, place), |(_, place)| (fault, place));
     Ok(Token {
         kind,
+        space,
         text,
         begin,
         place,
@@ -62,22 +69,16 @@ fn token_of<'a>(
 fn first_token(first: char, text: &str) -> (Kind, &str) {
     let rest = text.strip_prefix(first).unwrap_or("");
     match first {
-        ' ' | '\t' | '\n' => (Kind::Space, rest.trim_start_matches([' ', '\t', '\n'])),
         '/' if rest.starts_with('/') => (
             comment_kind(text),
             rest.trim_start_matches(|c| c != '\n'),
         ),
         '/' if rest.starts_with('*') => block_comment(text),
-        '\r' => (
-            Kind::Fault("a carriage return stands only before a line feed"),
-            "",
-        ),
+        '\r' => (Kind::Fault(LONE_RETURN), ""),
         '"' => after_quote(rest),
         '\'' => after_tick(rest),
-        ':' => match rest.strip_prefix(':') {
-            Some(rest) => (Kind::Mark(':'), rest),
-            None => (Kind::Other, rest),
-        },
+        ':' if rest.starts_with(':') => (Kind::Mark(':'), after(rest, 0)),
+        ':' => (Kind::Other, rest),
         _ if is_word(first) => word(text),
         _ => (Kind::Mark(first), rest),
     }
@@ -159,13 +160,10 @@ fn after_raw_prefix(text: &str) -> (Kind, &str) {
         let rest = ends.find_map(|(at, _)| after(quoted, at).strip_prefix(hashes));
         return rest.map_or(UNCLOSED, |rest| (Kind::Quoted, rest));
     }
-    if rest.starts_with(is_word) {
-        return (
-            Kind::Fault("no raw names here: choose one that is no keyword"),
-            "",
-        );
+    match rest.starts_with(is_word) {
+        true => (Kind::Fault(RAW_NAME), ""),
+        false => (Kind::Other, rest),
     }
-    (Kind::Other, rest)
 }
 
 /// What stands in a text before the rest of it.

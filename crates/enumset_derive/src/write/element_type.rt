@@ -49,7 +49,7 @@ fn are_places(plan: &Plan) -> bool {
 /// Whether each bit is its variant's number, as `as` gives it.
 fn are_cast(of: &Subject) -> bool {
     let plan = &of.element.plan;
-    if !are_kept(&of.element.declaration.variants) {
+    if !of.element.has_discriminants {
         return are_places(plan);
     }
     let mut variants = plan.variants.iter();

@@ -13,18 +13,16 @@ const OPERATORS: [[&str; 4]; 4] = [
 /// Writes the five operators. Those with two operands take an element or a set after the element.
 pub(super) fn write_operators(out: &mut String, of: &Subject) -> Written {
     let (alloc, name) = (of.alloc, of.name);
+    let set = format!(in alloc; "<EnumSet<{name}>>")?;
+    let only = format!(in alloc;
+        "\n        (set.only (⟦<{name} as EnumSetType>⟧.elements.bit b))"
+    )?;
+    let (other, value) = ("that of the other", "EnumSet::only(rhs)");
+    let of_element = (other, "", only.as_str(), "Self", value);
+    let of_set = ("the other", set.as_str(), " b", "EnumSet<Self>", "rhs");
     for [form, function, sign, operation] in OPERATORS {
         let words = operation.replace(alloc, "_", " ")?;
-        for is_set in [false, true] {
-            let (other, parameter, model, operand, value) = if is_set {
-                let parameter = "<EnumSet<{name}>>";
-                ("the other", parameter, " b", "EnumSet<Self>", "rhs")
-            } else {
-                let model = "\n        (set.only (⟦<{name} as EnumSetType>⟧.elements.bit b))";
-                ("that of the other", "", model, "Self", "EnumSet::only(rhs)")
-            };
-            let parameter = parameter.replace(alloc, "{name}", name)?;
-            let model = model.replace(alloc, "{name}", name)?;
+        for (other, parameter, model, operand, value) in [of_element, of_set] {
             let doc = format!(in alloc; "/// The {words} of the set of the one and {other}.\n")?;
             let form = format!(in alloc; "std::ops::{form}{parameter}")?;
             write_head(out, of, doc.as_str(), form.as_str())?;
