@@ -56,27 +56,24 @@ impl<'a, 'b> Reader<'a, 'b> {
     /// Reads an enum, whose comments and attributes are these, and plans it.
     pub(super) fn read_element(&mut self, parts: &[Part<'a, 'b>]) -> Done {
         let alloc = self.alloc;
-        let declaration = EnumDeclaration {
-            attributes: String::new(alloc),
-            later_attributes: String::new(alloc),
-            derives: Vec::new(alloc),
-            visibility: ("", ""),
-            name: "",
-            variants: Vec::new(alloc),
-            last_comments: String::new(alloc),
-            options: Options::default(),
-        };
         let mut draft = Draft {
-            declaration,
+            declaration: EnumDeclaration {
+                attributes: String::new(alloc),
+                later_attributes: String::new(alloc),
+                derives: Vec::new(alloc),
+                visibility: ("", ""),
+                name: "",
+                variants: Vec::new(alloc),
+                last_comments: String::new(alloc),
+                options: Options::default(),
+            },
             given: Vec::new(alloc),
             serde: Vec::new(alloc),
         };
         self.read_enum(&mut draft, parts)?;
         let plan = plan_enum(alloc, &draft.declaration)?;
-        let past = plan
-            .variants
-            .iter()
-            .find(|named| is_past_enum(named.number));
+        let mut named = plan.variants.iter();
+        let past = named.find(|named| is_past_enum(named.number));
         if let Some(named) = past {
             self.source.note(named.place, DROPPED)?;
         }
@@ -235,23 +232,24 @@ impl<'a, 'b> Cursor<'a, 'b> {
     /// Reads what ends a variant, and after a `,` the rest of the line, up to what is no comment or documents what
     /// follows. A literal with anything else after it is no literal.
     fn end_variant(&mut self, discriminant: Option<Discriminant>) -> Done {
-        match (self.token.kind, discriminant) {
-            (Kind::Mark('}'), _) => Ok(()),
-            (Kind::Mark(','), _) => {
-                self.advance()?;
-                for _ in self.rest {
-                    let is_comment = matches!(self.token.kind, Kind::Comment);
-                    if !is_comment || self.token.space.contains('\n') {
-                        break;
-                    }
-                    self.advance()?;
-                }
-                Ok(())
-            }
-            (_, Some(given)) => Err(Reason::Text(NOT_A_LITERAL).at(given.place).into()),
-            (Kind::Mark('(' | '{'), _) => self.token.want(false, "a variant must have no fields"),
-            _ => self.token.want(false, "wanted: `,` or `}`"),
+        let end = self.token;
+        if let (false, Some(given)) = (end.is_mark(",}"), discriminant) {
+            return Err(Reason::Text(NOT_A_LITERAL).at(given.place).into());
         }
+        end.want(!end.is_mark("({"), "a variant must have no fields")?;
+        end.want(end.is_mark(",}"), "wanted: `,` or `}`")?;
+        if end.is_mark("}") {
+            return Ok(());
+        }
+        self.advance()?;
+        for _ in self.rest {
+            let is_comment = matches!(self.token.kind, Kind::Comment);
+            if !is_comment || self.token.space.contains('\n') {
+                break;
+            }
+            self.advance()?;
+        }
+        Ok(())
     }
 }
 

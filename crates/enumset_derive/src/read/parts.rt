@@ -196,13 +196,13 @@ impl<'a, 'b> Cursor<'a, 'b> {
             return Ok(("", ""));
         }
         self.advance_to_word()?;
-        let mut restriction = "";
-        if self.token.is_mark("(") {
-            let begin = self.token.begin;
-            self.skip_to(")", 0)?;
-            restriction = self.text_since(begin);
-            self.advance_to_word()?;
+        let begin = self.token.begin;
+        if !self.token.is_mark("(") {
+            return Ok(("pub", ""));
         }
+        self.skip_to(")", 0)?;
+        let restriction = self.text_since(begin);
+        self.advance_to_word()?;
         Ok(("pub", restriction))
     }
 }
@@ -218,14 +218,12 @@ impl<'a, 'b> Reader<'a, 'b> {
             let path = path_of(self.alloc, argument)?;
             let is_known = is_known(path.as_str());
             is_whole = is_whole && is_known;
-            let names = ["EnumSetType", self.derive];
-            if names.iter().any(|name| names_last(path.as_str(), name)) {
-                continue;
-            }
-            if is_known {
+            let own = ["EnumSetType", self.derive];
+            let is_own = own.iter().any(|own| names_last(path.as_str(), own));
+            if is_known && !is_own {
                 self.used.extend(argument.iter().map(|word| word.text))?;
                 kept.push(path)?;
-            } else if let [begin, ..] = argument {
+            } else if let (false, [begin, ..]) = (is_own, argument) {
                 let text = format!(in self.alloc; "#[derive({path})]")?;
                 self.leave_out(begin.place, text.as_str())?;
             }

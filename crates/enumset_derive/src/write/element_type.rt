@@ -16,16 +16,16 @@ pub(super) fn write_element_type(out: &mut String, of: &Subject) -> Written {
         )?;
     }
     if options.are_named() {
-        write_names(out, of)?;
+        names::write_names(out, of)?;
     }
     if options.has_display {
-        write_display(out, of)?;
+        names::write_display(out, of)?;
     }
     if !options.leaves_out_operators {
-        write_operators(out, of)?;
+        operators::write_operators(out, of)?;
     }
     match options.serialized {
-        Some(serialized) => write_json(out, of, serialized),
+        Some(serialized) => json::write_json(out, of, serialized),
         None => Ok(()),
     }
 }
@@ -58,7 +58,8 @@ fn are_cast(of: &Subject) -> bool {
 
 /// Writes the implementation of an element type.
 fn write_impl(out: &mut String, of: &Subject) -> Written {
-    let (alloc, crate_name, module, name) = (of.alloc, of.crate_name, of.module, of.name);
+    let (alloc, name) = (of.alloc, of.name);
+    let (crate_name, module) = (of.request.crate_name, &of.request.module);
     let plan = &of.element.plan;
     let (width, count) = (plan.bit_width, plan.variants.len());
     let [repr, model, all_bits] = store_text(alloc, &plan.store)?;

@@ -111,7 +111,9 @@ pub(super) fn write_json(out: &mut String, of: &Subject, serialized: Serialized)
         )?;
         fault = "TooWide";
         faults = format!(in alloc;
-            ", which JSON takes as a `u{width}`.\n    ///\n    /// The only fault is [`set_json::JsonFault::{fault}`], of a member that is past its bits. It takes no memory."
+            ", which JSON takes as a `u{width}`.
+    ///
+    /// The only fault is [`set_json::JsonFault::{fault}`], of a member that is past its bits. It takes no memory."
         )?;
     }
     let (unknown, unknown_doc) = match (options.denies_unknown, options.are_named()) {
