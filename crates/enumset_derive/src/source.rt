@@ -185,12 +185,6 @@ impl<'a> Source<'a> {
         Ok(self.notes.push((place, note))?)
     }
 
-    /// Says something of a place.
-    pub fn note(&mut self, place: Place, note: &str) -> Result<(), AllocError> {
-        let note = String::from_str(self.alloc, note)?;
-        Ok(self.notes.push((place, note))?)
-    }
-
     /// Adds the name of an item.
     pub fn name(&mut self, text: &'a str, place: Place) -> Result<(), AllocError> {
         let root = "";

@@ -75,7 +75,8 @@ impl<'a, 'b> Reader<'a, 'b> {
         let mut named = plan.variants.iter();
         let past = named.find(|named| is_past_enum(named.number));
         if let Some(named) = past {
-            self.source.note(named.place, DROPPED)?;
+            let note = String::from_str(alloc, DROPPED)?;
+            self.source.notes.push((named.place, note))?;
         }
         let json_names = draft.json_names(alloc)?;
         for (part, _, is_kept) in &draft.serde {
@@ -159,7 +160,8 @@ impl<'a, 'b> Reader<'a, 'b> {
             draft.declaration.variants.push(self.read_variant(kept)?)?;
         }
         if draft.declaration.variants.is_empty() {
-            self.source.note(name.place, NO_VARIANTS)?;
+            let note = String::from_str(self.alloc, NO_VARIANTS)?;
+            self.source.notes.push((name.place, note))?;
         }
         Ok(())
     }

@@ -42,23 +42,29 @@ struct Form {
 fn form_of(of: &Subject, serialized: Serialized) -> Result<Form, AllocError> {
     let (alloc, name, plan) = (of.alloc, of.name, &of.element.plan);
     let elements = format!(in alloc; "⟦<{name} as EnumSetType>⟧.elements")?;
+    let elements = elements.as_str();
     let width = match serialized {
-        Serialized::List => return names_form(of, elements.as_str(), "list"),
-        Serialized::Map => return names_form(of, elements.as_str(), "map"),
         Serialized::Bits(Representation::Integer(integer)) => integer.width(),
-        Serialized::Bits(Representation::Words) => u32::MAX,
+        Serialized::Bits(Representation::Words) => return words_form(alloc, elements, plan),
+        Serialized::List => return names_form(of, elements, "list"),
+        Serialized::Map => return names_form(of, elements, "map"),
     };
-    if width <= 64 || (width == 128 && plan.bit_width <= 64) {
-        let width = width.min(64);
-        return Ok(Form {
-            name: "number",
-            width: Some(width),
-            cited: OF_NUMBERS,
-            doc: "set's number",
-            value: String::from_str(alloc, "number_value (number set.now)")?,
-            read_by: format!(in alloc; "(valid_bits {elements}) {width}")?,
-        });
+    if width > 64 && plan.bit_width > 64 {
+        return words_form(alloc, elements, plan);
     }
+    let width = width.min(64);
+    Ok(Form {
+        name: "number",
+        width: Some(width),
+        cited: OF_NUMBERS,
+        doc: "set's number",
+        value: String::from_str(alloc, "number_value (number set.now)")?,
+        read_by: format!(in alloc; "(valid_bits {elements}) {width}")?,
+    })
+}
+
+/// The form of as many words as keep a set.
+fn words_form(alloc: Global, elements: &str, plan: &Plan) -> Result<Form, AllocError> {
     let count = match &plan.store {
         Store::Integer(integer, _) => integer.width().div_ceil(64) as usize,
         Store::Words(words) => words.len(),
