@@ -28,7 +28,9 @@ type Text = Result<String, AllocError>;
 #[derive(Clone, Copy)]
 struct Subject<'a> {
     alloc: Global,
-    request: &'a Request<'a>,
+    crate_name: &'a str,
+    /// The modules down to its own, with dots between them.
+    module: &'a str,
     facade: &'a str,
     name: &'a str,
     element: &'a Element<'a>,
@@ -56,7 +58,8 @@ pub fn module_text(alloc: Global, request: &Request, source: &Source) -> Outcome
                 enums::write_enum(&mut text, alloc, element)?;
                 let subject = Subject {
                     alloc,
-                    request,
+                    crate_name: request.crate_name,
+                    module: request.module.as_str(),
                     facade: source.facade,
                     name: element.declaration.name,
                     element,

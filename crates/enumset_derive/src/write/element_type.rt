@@ -58,8 +58,7 @@ fn are_cast(of: &Subject) -> bool {
 
 /// Writes the implementation of an element type.
 fn write_impl(out: &mut String, of: &Subject) -> Written {
-    let (alloc, name) = (of.alloc, of.name);
-    let (crate_name, module) = (of.request.crate_name, &of.request.module);
+    let (alloc, crate_name, module, name) = (of.alloc, of.crate_name, of.module, of.name);
     let plan = &of.element.plan;
     let (width, count) = (plan.bit_width, plan.variants.len());
     let [repr, model, all_bits] = store_text(alloc, &plan.store)?;

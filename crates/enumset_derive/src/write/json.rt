@@ -102,26 +102,30 @@ pub(super) fn write_json(out: &mut String, of: &Subject, serialized: Serialized)
     let (alloc, own, guard) = (of.alloc, of.name, of.element.guard);
     let options = &of.element.declaration.options;
     let form = form_of(of, serialized)?;
-    let (name, cited, doc) = (form.name, form.cited, form.doc);
+    let (name, width, cited, doc) = (form.name, form.width, form.cited, form.doc);
     let (value, read_by) = (&form.value, &form.read_by);
     let (mut argument, mut fits) = (String::new(alloc), String::new(alloc));
-    let mut fault = "OutOfMemory";
-    let mut faults = format!(in alloc;
-        ". The only fault is\n    /// [`set_json::JsonFault::{fault}`]."
-    )?;
-    if let Some(width) = form.width {
-        write!(argument, ", set_json::JsonWidth::U{width}")?;
-        write!(
-            fits,
-            "\n        ensures fits {{ IsOk result ↔ IsTrue (is_subset set.now (below {width})) }}"
-        )?;
-        fault = "TooWide";
-        faults = format!(in alloc;
-            ", which JSON takes as a `u{width}`.
+    let mut faults = String::new(alloc);
+    let fault = match width {
+        None => {
+            faults.push_str(". The only fault is\n    /// [`set_json::JsonFault::OutOfMemory`].")?;
+            "OutOfMemory"
+        }
+        Some(width) => {
+            write!(argument, ", set_json::JsonWidth::U{width}")?;
+            write!(
+                fits,
+                "\n        ensures fits {{ IsOk result ↔ IsTrue (is_subset set.now (below {width})) }}"
+            )?;
+            write!(
+                faults,
+                ", which JSON takes as a `u{width}`.
     ///
-    /// The only fault is [`set_json::JsonFault::{fault}`], of a member that is past its bits. It takes no memory."
-        )?;
-    }
+    /// The only fault is [`set_json::JsonFault::TooWide`], of a member that is past its bits. It takes no memory."
+            )?;
+            "TooWide"
+        }
+    };
     let (unknown, unknown_doc) = match (options.denies_unknown, options.are_named()) {
         (true, true) => ("Refuse", "A name that no variant has is a fault."),
         (true, false) => ("Refuse", "A bit that no variant has is a fault."),

@@ -34,7 +34,7 @@ pub(super) fn write_names(out: &mut String, of: &Subject) -> Written {
 
 /// Writes the `Display` by the names of the variants.
 pub(super) fn write_display(out: &mut String, of: &Subject) -> Written {
-    let (crate_name, module, name) = (of.request.crate_name, &of.request.module, of.name);
+    let (crate_name, module, name) = (of.crate_name, of.module, of.name);
     let variants = &of.element.declaration.variants;
     let names = list_by_names(of, 90, "codes \"", "\"")?;
     let doc = "/// The name of the variant.\n";
