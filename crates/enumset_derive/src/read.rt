@@ -62,8 +62,7 @@ struct Reader<'a, 'b> {
     derive: &'a str,
     /// Whether no item was read.
     is_in_head: bool,
-    /// The words of the derives that are kept, and of items that are no imports and no element types. If there is such an
-    /// item, `*` and `_` are among them.
+    /// The words of the kept derives and of items but imports and element types, and with such an item `*` and `_`.
     used: BTreeSet<&'a str>,
 }
 
@@ -102,9 +101,7 @@ impl<'a, 'b> Reader<'a, 'b> {
     }
 }
 
-/// A place among the tokens of a source text.
-///
-/// Its loops are over the tokens that are left: each turn goes on by one at least.
+/// A place among the tokens of a source text. Each turn of its loops over those that are left goes on by one at least.
 #[derive(Clone, Copy)]
 struct Cursor<'a, 'b> {
     /// The whole text.

@@ -25,8 +25,7 @@ pub(super) struct Draft<'a, 'b> {
     pub declaration: EnumDeclaration<'a>,
     /// The names of the options that are given, in their order.
     pub given: Vec<&'b Token<'a>>,
-    /// The attributes of `serde`, and those under which one stands: of each how many variants stand before it, if it is a
-    /// variant's, and whether it is written.
+    /// The attributes that `serde` is in: of each how many variants come before it, if it is a variant's; if it stays.
     pub serde: Vec<(Part<'a, 'b>, Option<usize>, bool)>,
 }
 
@@ -231,8 +230,7 @@ impl<'a, 'b> Cursor<'a, 'b> {
         }))
     }
 
-    /// Reads what ends a variant, and after a `,` the rest of the line, up to what is no comment or documents what
-    /// follows. A literal with anything else after it is no literal.
+    /// Reads what ends a variant, and the comments on its line after a `,`. A literal with more after it is none.
     fn end_variant(&mut self, discriminant: Option<Discriminant>) -> Done {
         let end = self.token;
         if let (false, Some(given)) = (end.is_mark(",}"), discriminant) {

@@ -90,8 +90,7 @@ impl<'a, 'b> Part<'a, 'b> {
         pairs.any(|[word, next]| word.is(name) && next.is_mark("("))
     }
 
-    /// Its arguments: of each the words, and the mark at its end. The last is a fault if the attribute does not end
-    /// after them.
+    /// Its arguments, each with the mark at its end. The last is a fault if the attribute does not end after them.
     pub fn arguments(&self, alloc: Global) -> Outcome<Vec<Outcome<&'b [Token<'a>]>>> {
         let mut arguments = Vec::new(alloc);
         let [bracket, _, open, rest @ ..] = self.words else {
@@ -208,8 +207,7 @@ impl<'a, 'b> Cursor<'a, 'b> {
 }
 
 impl<'a, 'b> Reader<'a, 'b> {
-    /// The paths that an attribute derives and that are kept, and whether all are. The others are left out, but for
-    /// `EnumSetType`.
+    /// The kept paths that an attribute derives, and whether all are. Others but `EnumSetType` are left out.
     pub(super) fn kept_of(&mut self, part: &Part<'a, 'b>) -> Outcome<(Vec<String>, bool)> {
         let mut kept = Vec::new(self.alloc);
         let mut is_whole = true;
