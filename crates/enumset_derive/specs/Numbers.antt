@@ -64,5 +64,5 @@ bit_limit (Some (representation.Integer t)) = width t
 bit_limit r = 4294967232
 
 abbrev pub json_limit : Option Serialized → ℕ
-json_limit (Some (serialized.Integer t)) = width t
+json_limit (Some (serialized.Bits r)) = bit_limit (Some r)
 json_limit s = 4294967232

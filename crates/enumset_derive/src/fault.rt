@@ -4,7 +4,6 @@ ghost use Rattle.std.specs.Prelude.{◌≡◌};
 ghost use Rattle.enumset_derive.specs.Variants.{fault_at};
 
 use std::alloc::AllocError;
-use std::fmt;
 use thiserror::Error;
 
 /// Why the program wrote no module, or not all of it. Its text is what standard error says.
@@ -45,7 +44,6 @@ pub enum Reason {
     Text(&'static str),
     #[error("this {0} was given at {1}")]
     GivenTwice(&'static str, Place),
-    // of planning
     #[error("`map = \"msb\"` needs `repr` to be an integer")]
     IntegerMissing,
     /// The place is that of variant 257.
@@ -85,16 +83,11 @@ impl Reason {
 /// A place in a text: its line, and the character in that line, both counted from 1.
 ///
 /// A line feed ends a line. A character is a Unicode scalar value, so a tab is one.
-#[derive(Clone, Copy, Debug)]
+#[derive(Clone, Copy, Debug, Error)]
+#[error("line {line}, column {column}")]
 pub struct Place {
     pub line: u64,
     pub column: u64,
-}
-
-impl fmt::Display for Place {
-    fn fmt<W: fmt::Write>(&self, f: &mut fmt::Formatter<W>) -> fmt::Result {
-        write!(f, "line {}, column {}", self.line, self.column)
-    }
 }
 
 impl Place {

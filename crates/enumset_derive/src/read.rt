@@ -12,6 +12,7 @@ use crate::plan::*;
 use crate::source::{Element, Form, Import, Name, Source};
 use crate::tokens::{Kind, Token, UNCLOSED_BRACKET, is_among, names_last};
 use enums::Draft;
+use imports::after_root;
 use parts::{Bearer, Part, place_of_derive, renamed_derive};
 use std::alloc::{AllocError, Global};
 use std::collections::BTreeSet;
@@ -25,7 +26,7 @@ pub fn read_source<'a>(alloc: Global, text: &'a str, tokens: &[Token<'a>]) -> Ou
     let [token, rest @ ..] = tokens else {
         return Ok(Source::new(alloc));
     };
-    let words = rest.iter().copied().filter(|token| !token.is_blank());
+    let words = rest.iter().copied().filter(|token| !token.is_comment());
     let words: Vec<Token<'a>> = words.collect(alloc)?;
     let cursor = Cursor {
         text,
@@ -61,8 +62,7 @@ struct Reader<'a, 'b> {
     derive: &'a str,
     /// Whether no item was read.
     is_in_head: bool,
-    /// The words of the derives that are kept, and of items that are no imports and no element types. If there is such an
-    /// item, `*` and `_` are among them.
+    /// The words of the kept derives and of items but imports and element types, and with such an item `*` and `_`.
     used: BTreeSet<&'a str>,
 }
 
@@ -71,9 +71,9 @@ impl<'a, 'b> Reader<'a, 'b> {
     fn read_token(&mut self) -> Done {
         let begin = self.cursor.token;
         let is_attribute = begin.is_mark("#") && self.cursor.is_before("!");
+        self.source.add_space(begin.space);
         match begin.kind {
-            Kind::End => {}
-            Kind::Space => self.source.add_space(begin.text),
+            Kind::Begin | Kind::End => {}
             Kind::Comment | Kind::InnerDoc => self.source.push_text(begin.text)?,
             _ if is_attribute => {
                 self.cursor.advance()?;
@@ -101,9 +101,7 @@ impl<'a, 'b> Reader<'a, 'b> {
     }
 }
 
-/// A place among the tokens of a source text.
-///
-/// Its loops are over the tokens that are left: each turn goes on by one at least.
+/// A place among the tokens of a source text. Each turn of its loops over those that are left goes on by one at least.
 #[derive(Clone, Copy)]
 struct Cursor<'a, 'b> {
     /// The whole text.
@@ -111,7 +109,7 @@ struct Cursor<'a, 'b> {
     pub token: &'b Token<'a>,
     /// The tokens after that one.
     pub rest: &'b [Token<'a>],
-    /// The words among them, which are neither comments nor space.
+    /// The words among them, which are no comments.
     pub words: &'b [Token<'a>],
 }
 
@@ -124,18 +122,18 @@ impl<'a, 'b> Cursor<'a, 'b> {
             if let Kind::Fault(reason) = next.kind {
                 return Err(next.fault(reason));
             }
-            if !next.is_blank() {
+            if !next.is_comment() {
                 self.words = self.words.get(1..).unwrap_or(&[]);
             }
         }
         Ok(())
     }
 
-    /// Goes on to the next token that is neither a comment nor space.
-    pub fn advance_past_blanks(&mut self) -> Done {
+    /// Goes on to the next word.
+    pub fn advance_to_word(&mut self) -> Done {
         self.advance()?;
         for _ in self.rest {
-            if !self.token.is_blank() {
+            if !self.token.is_comment() {
                 break;
             }
             self.advance()?;

@@ -67,6 +67,8 @@ pub struct Element<'a> {
     pub plan: Plan,
     /// The names of the variants in JSON, in their order, and where each is given, if one may not be the variant's own.
     pub json_names: Vec<(Place, String)>,
+    /// Whether it has the discriminants that are given.
+    pub has_discriminants: bool,
     /// The attribute of each of its implementations, if they are there for tests alone.
     pub guard: &'static str,
 }
@@ -173,7 +175,7 @@ impl<'a> Source<'a> {
             true => self.gap.lines.max(lines),
             false => self.gap.lines.saturating_add(lines),
         };
-        self.gap.has_space = true;
+        self.gap.has_space |= !space.is_empty();
     }
 
     /// Says that a text at a place is left out, and why.

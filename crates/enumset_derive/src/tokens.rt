@@ -1,15 +1,13 @@
-//! The tokens of a source text.
-
-mod lexer;
+//! The tokens of a source text, with the brackets that each is in.
 
 use crate::fault::{DeriveError, Outcome, Place, Reason};
-pub use lexer::tokens_of;
+use std::alloc::Global;
 
 /// What a token is.
 #[derive(Clone, Copy)]
 pub enum Kind {
-    /// Spaces, tabs and ends of lines.
-    Space,
+    /// The beginning of the text.
+    Begin,
     /// A comment that documents nothing.
     Comment,
     /// A comment that documents what follows it, as `/// ..`.
@@ -37,6 +35,8 @@ pub const UNCLOSED_BRACKET: &str = "this bracket has no end";
 #[derive(Clone, Copy)]
 pub struct Token<'a> {
     pub kind: Kind,
+    /// The spaces, tabs and ends of lines before it.
+    pub space: &'a str,
     /// As it is written.
     pub text: &'a str,
     /// Where it begins, in bytes.
@@ -49,11 +49,6 @@ pub struct Token<'a> {
 impl<'a> Token<'a> {
     pub fn is_comment(&self) -> bool {
         matches!(self.kind, Kind::Comment | Kind::OuterDoc | Kind::InnerDoc)
-    }
-
-    /// Whether the token is a comment or space.
-    pub fn is_blank(&self) -> bool {
-        matches!(self.kind, Kind::Space) || self.is_comment()
     }
 
     /// The fault that is here.
@@ -98,4 +93,181 @@ pub fn is_among(words: &str, word: &str) -> bool {
 /// Whether this name is the last in a path.
 pub fn names_last(path: &str, name: &str) -> bool {
     path.rsplit("::").next().is_some_and(|last| last == name)
+}
+
+/// What a text or a character in quotes is that has no end.
+const UNCLOSED: (Kind, &str) = (Kind::Fault("this quote has no end"), "");
+
+const RAW_NAME: &str = "no raw names here: choose one that is no keyword";
+
+const LONE_RETURN: &str = "a carriage return stands only before a line feed";
+
+/// The tokens of a text: its beginning, those that it has, and its end.
+pub fn tokens_of(alloc: Global, text: &str) -> Outcome<Vec<Token<'_>>> {
+    let mut tokens = Vec::new(alloc);
+    let mut open = Vec::new(alloc);
+    let mut place = Place::BEGIN;
+    let mut end = 0;
+    tokens.push(token_of(&mut open, Kind::Begin, "", "", 0, place)?)?;
+    for (begin, character) in text.char_indices() {
+        if begin >= end && !matches!(character, ' ' | '\t' | '\n') {
+            let space = text.get(end..begin).unwrap_or("");
+            let onward = text.get(begin..).unwrap_or("");
+            let (kind, rest) = first_token(character, onward);
+            end = text.len().saturating_sub(rest.len());
+            tokens.push(token_of(&mut open, kind, space, before(onward, rest), begin, place)?)?;
+        }
+        place = place.after(character);
+    }
+    tokens.push(token_of(&mut open, Kind::End, "", "", text.len(), place)?)?;
+    Ok(tokens)
+}
+
+/// A token, which may begin or end a bracket. It is a fault if it ends the text or another bracket in a bracket. Of the
+/// brackets that have begun, the character that is to end each is known, and where it is.
+fn token_of<'a>(
+    open: &mut Vec<(char, Place)>,
+    kind: Kind,
+    space: &'a str,
+    text: &'a str,
+    begin: usize,
+    place: Place,
+) -> Outcome<Token<'a>> {
+    match kind {
+        Kind::Mark('(') => open.push((')', place))?,
+        Kind::Mark('[') => open.push((']', place))?,
+        Kind::Mark('{') => open.push(('}', place))?,
+        _ => {}
+    }
+    let unclosed = match kind {
+        Kind::Mark(mark @ (')' | ']' | '}')) => open.pop().filter(|(end, _)| *end != mark),
+        Kind::End => open.first().copied(),
+        _ => None,
+    };
+    let fault = Kind::Fault(UNCLOSED_BRACKET);
+    let (kind, place) = unclosed.map_or((kind, place), |(_, place)| (fault, place));
+    Ok(Token {
+        kind,
+        space,
+        text,
+        begin,
+        place,
+        depth: open.len(),
+    })
+}
+
+/// What the first token of a text is, and the text after it.
+fn first_token(first: char, text: &str) -> (Kind, &str) {
+    let rest = text.strip_prefix(first).unwrap_or("");
+    match first {
+        '/' if rest.starts_with('/') => (
+            comment_kind(text),
+            rest.trim_start_matches(|c| c != '\n'),
+        ),
+        '/' if rest.starts_with('*') => block_comment(text),
+        '\r' => (Kind::Fault(LONE_RETURN), ""),
+        '"' => after_quote(rest),
+        '\'' => after_tick(rest),
+        ':' if rest.starts_with(':') => (Kind::Mark(':'), after(rest, 0)),
+        ':' => (Kind::Other, rest),
+        _ if is_word(first) => word(text),
+        _ => (Kind::Mark(first), rest),
+    }
+}
+
+/// What the comment is that a text begins with.
+fn comment_kind(text: &str) -> Kind {
+    match text.as_bytes() {
+        [_, _, b'!', ..] => Kind::InnerDoc,
+        [_, b'/', b'/', b'/', ..] | [_, b'*', b'*', b'*' | b'/', ..] => Kind::Comment,
+        [_, b'/', b'/', ..] | [_, b'*', b'*', ..] => Kind::OuterDoc,
+        _ => Kind::Comment,
+    }
+}
+
+/// What the block comment is that a text begins with, and the text after it. Block comments may stand in it.
+fn block_comment(text: &str) -> (Kind, &str) {
+    let mut depth = 0usize;
+    let mut last = ' ';
+    for (at, character) in text.char_indices() {
+        (depth, last) = match (last, character) {
+            ('/', '*') => (depth.saturating_add(1), ' '),
+            ('*', '/') => (depth.saturating_sub(1), ' '),
+            _ => (depth, character),
+        };
+        if depth == 0 && last == ' ' {
+            return (comment_kind(text), after(text, at));
+        }
+    }
+    (Kind::Fault("this comment has no end"), "")
+}
+
+/// What a token is that begins as a word, and the text after it: a word, or a text in quotes.
+fn word(text: &str) -> (Kind, &str) {
+    let rest = text.trim_start_matches(is_word);
+    let next = rest.chars().next();
+    let after_next = after(rest, 0);
+    match (before(text, rest), next) {
+        ("r" | "br" | "cr", Some('#' | '"')) => after_raw_prefix(rest),
+        ("b" | "c", Some('"')) => after_quote(after_next),
+        ("b" | "c", Some('\'')) => after_tick(after_next),
+        (word, _) if !word.is_ascii() => (Kind::Fault("names are ASCII here"), rest),
+        _ => (Kind::Letters, rest),
+    }
+}
+
+/// What a token is that begins with `"`, and the text after it.
+fn after_quote(text: &str) -> (Kind, &str) {
+    let mut is_escaped = false;
+    for (at, character) in text.char_indices() {
+        if character == '"' && !is_escaped {
+            return (Kind::Quoted, after(text, at));
+        }
+        is_escaped = character == '\\' && !is_escaped;
+    }
+    UNCLOSED
+}
+
+/// What a token is that begins with `'`, and the text after it: a character or a lifetime.
+fn after_tick(text: &str) -> (Kind, &str) {
+    let mut characters = text.chars();
+    let first = characters.next().unwrap_or(' ');
+    if is_word(first) && !characters.as_str().starts_with('\'') {
+        return (Kind::Other, text.trim_start_matches(is_word));
+    }
+    if first == '\\' {
+        let _ = characters.next();
+    }
+    let end = characters.as_str().split_once('\'');
+    end.map_or(UNCLOSED, |(_, rest)| (Kind::Quoted, rest))
+}
+
+/// What a raw text is, or a raw name, of which `r`, `br` or `cr` stands before this text, and the text after it.
+fn after_raw_prefix(text: &str) -> (Kind, &str) {
+    let rest = text.trim_start_matches('#');
+    let hashes = before(text, rest);
+    if let Some(quoted) = rest.strip_prefix('"') {
+        let mut ends = quoted.match_indices('"');
+        let rest = ends.find_map(|(at, _)| after(quoted, at).strip_prefix(hashes));
+        return rest.map_or(UNCLOSED, |rest| (Kind::Quoted, rest));
+    }
+    match rest.starts_with(is_word) {
+        true => (Kind::Fault(RAW_NAME), ""),
+        false => (Kind::Other, rest),
+    }
+}
+
+/// What stands in a text before the rest of it.
+fn before<'a>(text: &'a str, rest: &str) -> &'a str {
+    text.strip_suffix(rest).unwrap_or("")
+}
+
+/// The text after the ASCII character at an index.
+fn after(text: &str, at: usize) -> &str {
+    text.get(at.saturating_add(1)..).unwrap_or("")
+}
+
+/// Whether a character may stand in a word: a letter, a digit, `_`, or a character past ASCII.
+fn is_word(character: char) -> bool {
+    character == '_' || character.is_ascii_alphanumeric() || !character.is_ascii()
 }

@@ -13,13 +13,8 @@ use crate::fault::{Outcome, Reason};
 use crate::plan::*;
 use crate::source::{Element, Form, Source};
 use crate::tokens::names_last;
-use element_type::{is_in_table, is_narrow, write_element_type};
-use enums::{are_kept, write_enum};
-use imports::imports_of;
-use json::write_json;
+use element_type::{is_in_table, is_narrow};
 use layout::*;
-use names::{write_display, write_names};
-use operators::write_operators;
 use std::alloc::{AllocError, Global};
 use std::collections::BTreeSet;
 
@@ -45,13 +40,14 @@ struct Subject<'a> {
 ///
 /// The imports stand where the first of the source stand, or after its head.
 pub fn module_text(alloc: Global, request: &Request, source: &Source) -> Outcome<String> {
-    let imports = imports_of(source)?;
+    let imports = imports::imports_of(source)?;
     let mut text = String::new(alloc);
     for (index, item) in source.items.iter().enumerate() {
         let lines = text.len().saturating_sub(text.trim_end_matches('\n').len());
         let written = if text.is_empty() { 2 } else { lines };
         text.push_str(item.gap.get(written..).unwrap_or(""))?;
-        if index == source.head && source.has_enums && !source.has_imports {
+        let has_place = source.has_imports || imports.is_empty();
+        if index == source.head && source.has_enums && !has_place {
             write!(text, "{imports}\n\n")?;
         }
         match &item.form {
@@ -59,7 +55,7 @@ pub fn module_text(alloc: Global, request: &Request, source: &Source) -> Outcome
             Form::Import(import) => text.push_str(import.text.as_str())?,
             Form::Imports => text.push_str(imports.as_str())?,
             Form::Element(element) => {
-                write_enum(&mut text, alloc, element)?;
+                enums::write_enum(&mut text, alloc, element)?;
                 let subject = Subject {
                     alloc,
                     crate_name: request.crate_name,
@@ -68,7 +64,7 @@ pub fn module_text(alloc: Global, request: &Request, source: &Source) -> Outcome
                     name: element.declaration.name,
                     element,
                 };
-                write_element_type(&mut text, &subject)?;
+                element_type::write_element_type(&mut text, &subject)?;
             }
         }
     }

@@ -134,10 +134,8 @@ pub enum Representation {
 /// What a set is in JSON.
 #[derive(Clone, Copy)]
 pub enum Serialized {
-    /// A number of this type.
-    Integer(IntegerType),
-    /// A list of words: `array`.
-    Words,
+    /// A number, or a list of words.
+    Bits(Representation),
     /// A list of the elements' names: `list`.
     List,
     /// A map from the elements' names to whether they are members: `map`.

@@ -124,8 +124,7 @@ fn taken_by(named: &[NamedVariant], bit: u32, number: Number) -> Option<NamedVar
     named.find(|other| bit == other.bit || number == other.number)
 }
 
-/// The bit of the variant at a place, counted from 0, that has this discriminant; or why it has none. A set is kept in so
-/// many bits.
+/// The bit of the variant at a place from 0 with this discriminant, or why it has none. A set is kept in so many bits.
 fn bit_of(map: Map, width: u32, place: u32, number: Number) -> Result<u32, Reason>
     ensures { result ≡ bit_of map width place number }
 {
@@ -162,7 +161,7 @@ fn json_limit(serialized: Option<Serialized>) -> u32
     ensures { result ≡ json_limit serialized }
 {
     match serialized {
-        Some(Serialized::Integer(integer)) => integer.width(),
+        Some(Serialized::Bits(representation)) => bit_limit(Some(representation)),
         _ => BIT_LIMIT,
     }
 }

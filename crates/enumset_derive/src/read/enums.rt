@@ -8,6 +8,9 @@ const NOT_A_LITERAL: &str = "a discriminant must be a literal of an integer";
 
 const TOO_LARGE: &str = "a literal past 2^128 - 1 must be a power of two, and not decimal";
 
+const DROPPED: &str =
+    "left out: the discriminants of this enum, as this one is past -2^63 to 2^63 - 1";
+
 const SERDE_ALONE: &str = "here nothing comes of the names: write `#[serde(..)]` alone";
 
 /// How a literal begins that is not decimal, and its base.
@@ -22,8 +25,7 @@ pub(super) struct Draft<'a, 'b> {
     pub declaration: EnumDeclaration<'a>,
     /// The names of the options that are given, in their order.
     pub given: Vec<&'b Token<'a>>,
-    /// The attributes of `serde`, and those under which one stands: of each how many variants stand before it, if it is a
-    /// variant's, and whether it is written.
+    /// The attributes that `serde` is in: of each how many variants come before it, if it is a variant's; if it stays.
     pub serde: Vec<(Part<'a, 'b>, Option<usize>, bool)>,
 }
 
@@ -53,29 +55,35 @@ impl<'a, 'b> Reader<'a, 'b> {
     /// Reads an enum, whose comments and attributes are these, and plans it.
     pub(super) fn read_element(&mut self, parts: &[Part<'a, 'b>]) -> Done {
         let alloc = self.alloc;
-        let declaration = EnumDeclaration {
-            attributes: String::new(alloc),
-            later_attributes: String::new(alloc),
-            derives: Vec::new(alloc),
-            visibility: ("", ""),
-            name: "",
-            variants: Vec::new(alloc),
-            last_comments: String::new(alloc),
-            options: Options::default(),
-        };
         let mut draft = Draft {
-            declaration,
+            declaration: EnumDeclaration {
+                attributes: String::new(alloc),
+                later_attributes: String::new(alloc),
+                derives: Vec::new(alloc),
+                visibility: ("", ""),
+                name: "",
+                variants: Vec::new(alloc),
+                last_comments: String::new(alloc),
+                options: Options::default(),
+            },
             given: Vec::new(alloc),
             serde: Vec::new(alloc),
         };
         self.read_enum(&mut draft, parts)?;
         let plan = plan_enum(alloc, &draft.declaration)?;
+        let mut named = plan.variants.iter();
+        let past = named.find(|named| is_past_enum(named.number));
+        if let Some(named) = past {
+            let note = String::from_str(alloc, DROPPED)?;
+            self.source.notes.push((named.place, note))?;
+        }
         let json_names = draft.json_names(alloc)?;
         for (part, _, is_kept) in &draft.serde {
             if !*is_kept && !draft.declaration.options.are_named() {
                 self.leave_out(part.begin.place, part.text)?;
             }
         }
+        let has_discriminants = past.is_none();
         let declaration = draft.declaration;
         self.source.has_enums = true;
         self.source.facade = declaration.options.crate_name.unwrap_or(self.source.facade);
@@ -84,6 +92,7 @@ impl<'a, 'b> Reader<'a, 'b> {
             declaration,
             plan,
             json_names,
+            has_discriminants,
             guard: if is_test { FOR_TESTS } else { "" },
         };
         Ok(self.source.push(Form::Element(element))?)
@@ -161,7 +170,7 @@ impl<'a, 'b> Reader<'a, 'b> {
         let begin = self.cursor;
         let name = begin.token;
         name.want(name.is_name(), "wanted: a name of a variant, or `}`")?;
-        self.cursor.advance_past_blanks()?;
+        self.cursor.advance_to_word()?;
         let discriminant = self.cursor.read_discriminant()?;
         self.cursor.end_variant(discriminant)?;
         let mut comments = String::new(self.alloc);
@@ -187,10 +196,10 @@ impl<'a, 'b> Cursor<'a, 'b> {
         let is_end = matches!(keyword.kind, Kind::End);
         keyword.want(!is_end, "wanted: an item")?;
         keyword.want(keyword.is("enum"), "`EnumSetType` is for enums alone")?;
-        self.advance_past_blanks()?;
+        self.advance_to_word()?;
         let name = self.token;
         name.want(name.is_name(), "wanted: a name of an enum")?;
-        self.advance_past_blanks()?;
+        self.advance_to_word()?;
         let next = self.token;
         let has_parameters = next.is_mark("<") || next.is("where");
         next.want(!has_parameters, "the enum must have no parameters")?;
@@ -204,15 +213,15 @@ impl<'a, 'b> Cursor<'a, 'b> {
         if !self.token.is_mark("=") {
             return Ok(None);
         }
-        self.advance_past_blanks()?;
+        self.advance_to_word()?;
         let begin = self.token;
         let is_negative = begin.is_mark("-");
         if is_negative {
-            self.advance_past_blanks()?;
+            self.advance_to_word()?;
         }
         let read = number_of(self.token.text, is_negative);
         let (literal, number) = read.map_err(|text| begin.fault(text))?;
-        self.advance_past_blanks()?;
+        self.advance_to_word()?;
         Ok(Some(Discriminant {
             place: begin.place,
             sign: if is_negative { "-" } else { "" },
@@ -221,27 +230,35 @@ impl<'a, 'b> Cursor<'a, 'b> {
         }))
     }
 
-    /// Reads what ends a variant, and after a `,` the rest of the line, up to what is no comment or documents what
-    /// follows. A literal with anything else after it is no literal.
+    /// Reads what ends a variant, and the comments on its line after a `,`. A literal with more after it is none.
     fn end_variant(&mut self, discriminant: Option<Discriminant>) -> Done {
-        match (self.token.kind, discriminant) {
-            (Kind::Mark('}'), _) => Ok(()),
-            (Kind::Mark(','), _) => {
-                self.advance()?;
-                for _ in self.rest {
-                    match self.token.kind {
-                        Kind::Space if !self.token.text.contains('\n') => {}
-                        Kind::Comment => {}
-                        _ => break,
-                    }
-                    self.advance()?;
-                }
-                Ok(())
-            }
-            (_, Some(given)) => Err(Reason::Text(NOT_A_LITERAL).at(given.place).into()),
-            (Kind::Mark('(' | '{'), _) => self.token.want(false, "a variant must have no fields"),
-            _ => self.token.want(false, "wanted: `,` or `}`"),
+        let end = self.token;
+        if let (false, Some(given)) = (end.is_mark(",}"), discriminant) {
+            return Err(Reason::Text(NOT_A_LITERAL).at(given.place).into());
         }
+        end.want(!end.is_mark("({"), "a variant must have no fields")?;
+        end.want(end.is_mark(",}"), "wanted: `,` or `}`")?;
+        if end.is_mark("}") {
+            return Ok(());
+        }
+        self.advance()?;
+        for _ in self.rest {
+            let is_comment = matches!(self.token.kind, Kind::Comment);
+            if !is_comment || self.token.space.contains('\n') {
+                break;
+            }
+            self.advance()?;
+        }
+        Ok(())
+    }
+}
+
+/// Whether a discriminant is past those that an enum of Rattle has.
+fn is_past_enum(number: Number) -> bool {
+    match number {
+        Number::Small(number) => number >= 1 << 63,
+        Number::Negative(number) => number > 1 << 63,
+        Number::PowerOfTwo(_) => true,
     }
 }
 

@@ -149,7 +149,7 @@ fn trees_of<'a, 'b>(alloc: Global, path: &'b [Token<'a>]) -> Outcome<Vec<&'b [To
 }
 
 /// A path without `::` at its beginning.
-fn after_root<'a, 'b>(path: &'b [Token<'a>]) -> &'b [Token<'a>] {
+pub(super) fn after_root<'a, 'b>(path: &'b [Token<'a>]) -> &'b [Token<'a>] {
     match path {
         [root, path @ ..] if root.is_mark(":") => path,
         path => path,

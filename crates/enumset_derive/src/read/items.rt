@@ -84,9 +84,6 @@ impl<'a, 'b> Reader<'a, 'b> {
             if !is_among(HELPERS, part.name.text) && !part.has_meaning(Bearer::Item)? {
                 out.push_str(cursor.text.get(from..begin.begin).unwrap_or(""))?;
                 self.leave_out(begin.place, part.text)?;
-                if matches!(cursor.token.kind, Kind::Space) {
-                    cursor.advance()?;
-                }
                 from = cursor.token.begin;
             }
         }

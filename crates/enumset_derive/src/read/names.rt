@@ -42,8 +42,7 @@ fn styled(alloc: Global, style: &str, name: &str) -> Result<String, AllocError> 
 }
 
 impl<'a, 'b> Draft<'a, 'b> {
-    /// The names of the variants in JSON, and where each is given, if sets are written by names and one may not be the
-    /// variant's own.
+    /// The names of the variants in JSON, and where each is given, if one may not be the variant's own.
     pub fn json_names(&self, alloc: Global) -> Outcome<Vec<(Place, String)>> {
         let mut names: Vec<(Place, String)> = Vec::new(alloc);
         if !self.declaration.options.are_named() || self.serde.is_empty() {

@@ -26,11 +26,8 @@ impl<'a, 'b> Draft<'a, 'b> {
             }
             self.given.push(name)?;
             self.read_option(name, rest)?;
-            let rest = match rest {
-                [equal, _, rest @ ..] if equal.is_mark("=") => rest,
-                rest => rest,
-            };
-            if let [more, _, ..] = rest {
+            let has_value = matches!(rest, [equal, ..] if equal.is_mark("="));
+            if let Some([more, _, ..]) = rest.get(if has_value { 2 } else { 0 }..) {
                 return Err(more.fault("wanted: `,` or `)`"));
             }
         }
@@ -56,15 +53,17 @@ impl<'a, 'b> Draft<'a, 'b> {
             }
             "repr" => {
                 let (value, text) = value_of(name, rest)?;
-                options.representation = Some(match form_of(text) {
-                    Some(Serialized::Integer(integer)) => Representation::Integer(integer),
-                    Some(Serialized::Words) => Representation::Words,
-                    _ => return Err(value.fault(WRONG_REPRESENTATION)),
-                });
+                let fault = value.fault(WRONG_REPRESENTATION);
+                options.representation = Some(representation_of(text).ok_or(fault)?);
             }
             "serialize_repr" => {
                 let (value, text) = value_of(name, rest)?;
-                options.serialized = Some(form_of(text).ok_or(value.fault(WRONG_FORM))?);
+                let bits = representation_of(text).map(Serialized::Bits);
+                options.serialized = Some(match text {
+                    "list" => Serialized::List,
+                    "map" => Serialized::Map,
+                    _ => bits.ok_or(value.fault(WRONG_FORM))?,
+                });
             }
             "crate_name" => options.crate_name = Some(value_of(name, rest)?.1),
             "serialize_deny_unknown" => options.denies_unknown = boolean_of(rest)?,
@@ -103,17 +102,15 @@ fn boolean_of(rest: &[Token]) -> Outcome<bool> {
     }
 }
 
-/// The form of sets that a name stands for.
-fn form_of(name: &str) -> Option<Serialized> {
-    Some(match name {
-        "u8" => Serialized::Integer(IntegerType::U8),
-        "u16" => Serialized::Integer(IntegerType::U16),
-        "u32" => Serialized::Integer(IntegerType::U32),
-        "u64" => Serialized::Integer(IntegerType::U64),
-        "u128" => Serialized::Integer(IntegerType::U128),
-        "array" => Serialized::Words,
-        "list" => Serialized::List,
-        "map" => Serialized::Map,
+/// The representation that a name stands for.
+fn representation_of(name: &str) -> Option<Representation> {
+    Some(Representation::Integer(match name {
+        "u8" => IntegerType::U8,
+        "u16" => IntegerType::U16,
+        "u32" => IntegerType::U32,
+        "u64" => IntegerType::U64,
+        "u128" => IntegerType::U128,
+        "array" => return Some(Representation::Words),
         _ => return None,
-    })
+    }))
 }

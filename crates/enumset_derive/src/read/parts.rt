@@ -90,8 +90,7 @@ impl<'a, 'b> Part<'a, 'b> {
         pairs.any(|[word, next]| word.is(name) && next.is_mark("("))
     }
 
-    /// Its arguments: of each the words, and the mark at its end. The last is a fault if the attribute does not end
-    /// after them.
+    /// Its arguments, each with the mark at its end. The last is a fault if the attribute does not end after them.
     pub fn arguments(&self, alloc: Global) -> Outcome<Vec<Outcome<&'b [Token<'a>]>>> {
         let mut arguments = Vec::new(alloc);
         let [bracket, _, open, rest @ ..] = self.words else {
@@ -136,19 +135,15 @@ pub(super) fn renamed_derive<'a>(words: &[Token<'a>]) -> &'a str {
 /// The path that an argument of a derive is.
 fn path_of(alloc: Global, argument: &[Token]) -> Outcome<String> {
     let mut path = String::new(alloc);
-    let mut was_name = false;
-    for word in argument {
-        let is_name = word.is_name();
-        let is_part = is_name || word.is_mark(":");
-        if !is_part || (is_name == was_name && !path.is_empty()) {
-            word.want(was_name, "wanted: a path, or `)`")?;
-            word.want(word.is_mark(",)"), "wanted: `,` or `)`")?;
-            break;
+    let mut wants_name = true;
+    for word in after_root(argument) {
+        match wants_name {
+            true => word.want(word.is_name(), "wanted: a path, or `)`")?,
+            false if word.is_mark(",)") => break,
+            false => word.want(word.is_mark(":"), "wanted: `,` or `)`")?,
         }
-        if is_name || !path.is_empty() {
-            path.push_str(word.text)?;
-        }
-        was_name = is_name;
+        path.push_str(word.text)?;
+        wants_name = !wants_name;
     }
     Ok(path)
 }
@@ -167,11 +162,10 @@ impl<'a, 'b> Cursor<'a, 'b> {
     pub fn read_parts(&mut self, alloc: Global) -> Outcome<Vec<Part<'a, 'b>>> {
         let mut parts = Vec::new(alloc);
         for _ in self.rest {
-            if self.token.is_mark("#") || self.token.is_comment() {
-                parts.push(self.read_part()?)?;
-            } else if !self.token.is_blank() {
+            if !self.token.is_mark("#") && !self.token.is_comment() {
                 break;
             }
+            parts.push(self.read_part()?)?;
             self.advance()?;
         }
         Ok(parts)
@@ -181,7 +175,7 @@ impl<'a, 'b> Cursor<'a, 'b> {
     pub fn read_part(&mut self) -> Outcome<Part<'a, 'b>> {
         let begin = *self;
         if !begin.token.is_comment() {
-            self.advance_past_blanks()?;
+            self.advance_to_word()?;
             self.token.want(self.token.is_mark("["), "wanted: `[`")?;
             self.skip_to("]", begin.token.depth)?;
         }
@@ -200,21 +194,20 @@ impl<'a, 'b> Cursor<'a, 'b> {
         if !self.token.is("pub") {
             return Ok(("", ""));
         }
-        self.advance_past_blanks()?;
-        let mut restriction = "";
-        if self.token.is_mark("(") {
-            let begin = self.token.begin;
-            self.skip_to(")", 0)?;
-            restriction = self.text_since(begin);
-            self.advance_past_blanks()?;
+        self.advance_to_word()?;
+        let begin = self.token.begin;
+        if !self.token.is_mark("(") {
+            return Ok(("pub", ""));
         }
+        self.skip_to(")", 0)?;
+        let restriction = self.text_since(begin);
+        self.advance_to_word()?;
         Ok(("pub", restriction))
     }
 }
 
 impl<'a, 'b> Reader<'a, 'b> {
-    /// The paths that an attribute derives and that are kept, and whether all are. The others are left out, but for
-    /// `EnumSetType`.
+    /// The kept paths that an attribute derives, and whether all are. Others but `EnumSetType` are left out.
     pub(super) fn kept_of(&mut self, part: &Part<'a, 'b>) -> Outcome<(Vec<String>, bool)> {
         let mut kept = Vec::new(self.alloc);
         let mut is_whole = true;
@@ -223,14 +216,12 @@ impl<'a, 'b> Reader<'a, 'b> {
             let path = path_of(self.alloc, argument)?;
             let is_known = is_known(path.as_str());
             is_whole = is_whole && is_known;
-            let names = ["EnumSetType", self.derive];
-            if names.iter().any(|name| names_last(path.as_str(), name)) {
-                continue;
-            }
-            if is_known {
+            let own = ["EnumSetType", self.derive];
+            let is_own = own.iter().any(|own| names_last(path.as_str(), own));
+            if is_known && !is_own {
                 self.used.extend(argument.iter().map(|word| word.text))?;
                 kept.push(path)?;
-            } else if let [begin, ..] = argument {
+            } else if let (false, [begin, ..]) = (is_own, argument) {
                 let text = format!(in self.alloc; "#[derive({path})]")?;
                 self.leave_out(begin.place, text.as_str())?;
             }

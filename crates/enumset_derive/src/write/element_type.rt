@@ -16,16 +16,16 @@ pub(super) fn write_element_type(out: &mut String, of: &Subject) -> Written {
         )?;
     }
     if options.are_named() {
-        write_names(out, of)?;
+        names::write_names(out, of)?;
     }
     if options.has_display {
-        write_display(out, of)?;
+        names::write_display(out, of)?;
     }
     if !options.leaves_out_operators {
-        write_operators(out, of)?;
+        operators::write_operators(out, of)?;
     }
     match options.serialized {
-        Some(serialized) => write_json(out, of, serialized),
+        Some(serialized) => json::write_json(out, of, serialized),
         None => Ok(()),
     }
 }
@@ -49,7 +49,7 @@ fn are_places(plan: &Plan) -> bool {
 /// Whether each bit is its variant's number, as `as` gives it.
 fn are_cast(of: &Subject) -> bool {
     let plan = &of.element.plan;
-    if !are_kept(&of.element.declaration.variants) {
+    if !of.element.has_discriminants {
         return are_places(plan);
     }
     let mut variants = plan.variants.iter();

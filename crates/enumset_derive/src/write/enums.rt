@@ -9,24 +9,13 @@ const DROPPED: &str =
 /// What an element type needs, a line each.
 const SUPERTRAITS: &str = "Clone,\nCopy,\nPartialEq,\nEq,\n";
 
-/// Whether Rattle takes all discriminants that are given.
-pub(super) fn are_kept(variants: &[Variant]) -> bool {
-    let mut given = variants.iter().filter_map(|variant| variant.discriminant);
-    given.all(|discriminant| match discriminant.number {
-        Number::Small(number) => number < 1 << 63,
-        Number::Negative(number) => number <= 1 << 63,
-        Number::PowerOfTwo(_) => false,
-    })
-}
-
 /// Writes the enum.
 pub(super) fn write_enum(out: &mut String, alloc: Global, element: &Element) -> Written {
     let declaration = &element.declaration;
     let (visibility, restriction) = declaration.visibility;
     let (name, last_comments) = (declaration.name, &declaration.last_comments);
-    let has_discriminants = are_kept(&declaration.variants);
     out.push_str(declaration.attributes.as_str())?;
-    if !has_discriminants {
+    if !element.has_discriminants {
         out.push_str(DROPPED)?;
     }
     write_derives(out, alloc, declaration)?;
@@ -38,7 +27,7 @@ pub(super) fn write_enum(out: &mut String, alloc: Global, element: &Element) -> 
     }
     for variant in &declaration.variants {
         write!(out, "{}    {}", variant.attributes, variant.name)?;
-        let given = variant.discriminant.filter(|_| has_discriminants);
+        let given = variant.discriminant.filter(|_| element.has_discriminants);
         if let Some(Discriminant { sign, literal, .. }) = given {
             write!(out, " = {sign}{literal}")?;
         }

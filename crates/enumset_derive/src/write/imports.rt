@@ -39,8 +39,7 @@ fn needed_by(element: &Element) -> [(bool, &'static str); 8] {
     ]
 }
 
-/// Whether a source has not imported a path of `enumset` itself, be it through its own crate. It is a fault if it gives the
-/// name to something else.
+/// Whether a source does not import a path of `enumset` itself. It is a fault if it gives the name to something else.
 fn is_free(source: &Source, path: &str) -> Outcome<bool> {
     let name = path.strip_prefix("internal::").unwrap_or(path);
     let Some(other) = source.names.iter().find(|other| other.text == name) else {

@@ -50,14 +50,12 @@ pub(super) fn list_by_names(of: &Subject, room: usize, before: &str, after: &str
 
 /// Writes the body of a function that calls a macro with words, on one line if it fits.
 pub(super) fn write_call(out: &mut String, alloc: Global, name: &str, words: &str) -> Written {
-    let is_short = words.len().saturating_add(name.len()) <= 91;
-    let room = if is_short { LIST_ROOM } else { 88 };
-    let words = wrapped(alloc, "\n            ", [room, 88], words)?;
-    if is_short {
-        write!(out, "        {name}({words})\n")
-    } else {
-        write!(out, "        {name}(\n            {words}\n        )\n")
+    if words.len().saturating_add(name.len()) <= 91 {
+        let words = words.trim_end().replace(alloc, "\n", " ")?;
+        return write!(out, "        {name}({words})\n");
     }
+    let words = wrapped(alloc, "\n            ", [88, 88], words)?;
+    write!(out, "        {name}(\n            {words}\n        )\n")
 }
 
 /// Writes an arm of a match, of which the value has a line of its own where that line would be too long.

@@ -12,38 +12,10 @@ const OPERATORS: [[&str; 4]; 4] = [
 
 /// Writes the five operators. Those with two operands take an element or a set after the element.
 pub(super) fn write_operators(out: &mut String, of: &Subject) -> Written {
-    let (alloc, name) = (of.alloc, of.name);
-    for [form, function, sign, operation] in OPERATORS {
-        let words = operation.replace(alloc, "_", " ")?;
-        for is_set in [false, true] {
-            let (other, parameter, model, operand, value) = if is_set {
-                let parameter = "<EnumSet<{name}>>";
-                ("the other", parameter, " b", "EnumSet<Self>", "rhs")
-            } else {
-                let model = "\n        (set.only (⟦<{name} as EnumSetType>⟧.elements.bit b))";
-                ("that of the other", "", model, "Self", "EnumSet::only(rhs)")
-            };
-            let parameter = parameter.replace(alloc, "{name}", name)?;
-            let model = model.replace(alloc, "{name}", name)?;
-            let doc = format!(in alloc; "/// The {words} of the set of the one and {other}.\n")?;
-            let form = format!(in alloc; "std::ops::{form}{parameter}")?;
-            write_head(out, of, doc.as_str(), form.as_str())?;
-            write!(
-                out,
-                "    ghost use Rattle.std.specs.Prelude.{{◌≡◌}};
-    ghost use Rattle.enumset_repr.specs.BitSet as set;
-
-    type Output = EnumSet<{name}>;
-
-    ghost {function}_gives = {{ λ a b r. r ≡ set.{operation}
-        (set.only (⟦<{name} as EnumSetType>⟧.elements.bit a)){model} }};
-
-    fn {function}(self, rhs: {operand}) -> EnumSet<Self> {{
-        EnumSet::only(self) {sign} {value}
-    }}
-}}"
-            )?;
-        }
+    let name = of.name;
+    for operator in OPERATORS {
+        write_operator(out, of, operator, false)?;
+        write_operator(out, of, operator, true)?;
     }
     write_head(out, of, "/// The set of all the others.\n", "std::ops::Not")?;
     write!(
@@ -60,6 +32,42 @@ pub(super) fn write_operators(out: &mut String, of: &Subject) -> Written {
 
     fn not(self) -> EnumSet<Self> {{
         !EnumSet::only(self)
+    }}
+}}"
+    )
+}
+
+/// Writes an operator that takes an element or a set after the element.
+fn write_operator(out: &mut String, of: &Subject, operator: [&str; 4], is_set: bool) -> Written {
+    let (alloc, name) = (of.alloc, of.name);
+    let [form, function, sign, operation] = operator;
+    let words = operation.replace(alloc, "_", " ")?;
+    let (other, operand, value) = match is_set {
+        true => ("the other", "EnumSet<Self>", "rhs"),
+        false => ("that of the other", "Self", "EnumSet::only(rhs)"),
+    };
+    let doc = format!(in alloc; "/// The {words} of the set of the one and {other}.\n")?;
+    let mut form = format!(in alloc; "std::ops::{form}")?;
+    let mut model = String::from_str(alloc, " b")?;
+    match is_set {
+        true => write!(form, "<EnumSet<{name}>>")?,
+        false => model = format!(in alloc;
+            "\n        (set.only (⟦<{name} as EnumSetType>⟧.elements.bit b))"
+        )?,
+    }
+    write_head(out, of, doc.as_str(), form.as_str())?;
+    write!(
+        out,
+        "    ghost use Rattle.std.specs.Prelude.{{◌≡◌}};
+    ghost use Rattle.enumset_repr.specs.BitSet as set;
+
+    type Output = EnumSet<{name}>;
+
+    ghost {function}_gives = {{ λ a b r. r ≡ set.{operation}
+        (set.only (⟦<{name} as EnumSetType>⟧.elements.bit a)){model} }};
+
+    fn {function}(self, rhs: {operand}) -> EnumSet<Self> {{
+        EnumSet::only(self) {sign} {value}
     }}
 }}"
     )

@@ -1,5 +1,5 @@
 use Rattle.std.proofs.Common.{length}
-use Rattle.enumset_derive.proofs.plan.constants.+words_of.Given as goal
+use Rattle.enumset_derive.proofs.plan.+words_of.Given as goal
 
 abbrev pub decreases-words_of : goal.decreases-words_of
 decreases-words_of l = length l.named.now

@@ -2,7 +2,7 @@ use Rattle.std.proofs.Common.{rules, ◌≡◌, ◌/◌, ◌%◌, ◌∷◌, rep
 use Rattle.std.proofs.lemmas.Bool.{and_parts, not-true}
 use Rattle.enumset_derive.specs.Variants.{bits_of}
 use Rattle.enumset_derive.proofs.Sums.{lists_words-none, lists_words-cons}
-use Rattle.enumset_derive.proofs.plan.constants.+words_of.Goals as goal
+use Rattle.enumset_derive.proofs.plan.+words_of.Goals as goal
 
 pub returns-in_default-clause-bits : goal.returns-in_default-clause-bits
 returns-in_default-clause-bits t c =

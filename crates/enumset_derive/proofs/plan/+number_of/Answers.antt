@@ -2,7 +2,7 @@ use Rattle.std.proofs.Common.{◌≡◌, ◌∷◌, arith}
 use Rattle.std.proofs.lemmas.Bool.{and_parts, not-true}
 use Rattle.enumset_derive.specs.Variants.{bits_of}
 use Rattle.enumset_derive.proofs.Sums.{lists_bits-cons}
-use Rattle.enumset_derive.proofs.plan.constants.+number_of.Goals as goal
+use Rattle.enumset_derive.proofs.plan.+number_of.Goals as goal
 
 pub returns-in-Some : goal.returns-in-Some
 returns-in-Some t c =

@@ -4,7 +4,7 @@ use Rattle.std.proofs.lemmas.List.{length-map}
 use Rattle.enumset_repr.specs.Words.{lists_words}
 use Rattle.enumset_derive.specs.Variants.{bits_of}
 use Rattle.enumset_derive.proofs.Tests.{lawful_of}
-use Rattle.enumset_derive.proofs.plan.constants.store_of.Goals as goal
+use Rattle.enumset_derive.proofs.plan.store_of.Goals as goal
 
 pub returns-in-Integer-clause-lawful : goal.returns-in-Integer-clause-lawful
 returns-in-Integer-clause-lawful c =

@@ -1,5 +1,5 @@
 use Rattle.std.proofs.Common.{length}
-use Rattle.enumset_derive.proofs.plan.constants.+number_of.Given as goal
+use Rattle.enumset_derive.proofs.plan.+number_of.Given as goal
 
 abbrev pub decreases-number_of : goal.decreases-number_of
 decreases-number_of l = length l.named.now
