@@ -1,7 +1,7 @@
 //! Sets of JSON texts of maps whose names stand for themselves.
 
 ghost use Rattle.std.specs.Prelude.{◌≡◌, ◌++◌, List, ℕ, Ok, IfSome};
-ghost use Rattle.enumset.specs.JsonMapTexts.{boolean_before, IsMember};
+ghost use Rattle.enumset.specs.JsonPlain.{boolean_before, IsMember};
 ghost use Rattle.enumset.specs.JsonNames.{set_of_map};
 ghost use Rattle.enumset.specs.JsonPlain.{AreSpaces};
 ghost use Rattle.enumset.specs.JsonReads.{IsReadOf};

@@ -1,0 +1,13 @@
+use Rattle.std.proofs.Common.{ap, subst, ◌∙◌}
+use Rattle.std.proofs.lemmas.List.Elements.{All-replicate}
+use Rattle.enumset_repr.specs.BitSet.{ascending}
+use Rattle.enumset.specs.JsonPlain.{IsName}
+use Rattle.enumset.specs.Names.{names_of}
+use Rattle.enumset.proofs.set_json.map_texts.ranked_names.Goals as goal
+
+pub loop-element-init : goal.loop-element-init
+loop-element-init g c =
+    let names = names_of g.T.EnumSetType.elements g.T.EnumSetNames.names in (
+      All-replicate (λ name. IsName names (ascending c.args.set.now) name.now) 32 c.args.first c.requires,
+      λ text. subst (λ bits. IsName names bits text) (ap (λ i. i.items) c.into_iter-element-iterator.ensures.into_iter_gives ∙ c.iter-element-items.ensures.ascending),
+    )
