@@ -2,6 +2,8 @@
 use Rattle.std.proofs.Common.{◌≡◌, ◌⊎◌, inl, inr, ℕ, List, [], ◌∷◌, Bor, refl, sym, ap, ◌∙◌, subst, nat_cmp, Ordering, Less, Equal, Greater, ◌<◌, ◌≤◌, ◌+◌, length, get_or, ◌-◌, suc, zero, arith, is_eq, true≢false}
 use Rattle.std.proofs.lemmas.Cmp.{nat_list_cmp_total, tied_itself}
 use Rattle.std.proofs.lemmas.List.Elements.{All-from_recursion, recursion_from_All}
+use Rattle.std.proofs.lemmas.List.Edits.{length-insert, get_or-insert_at, get_or-insert_below, get_or-insert_above}
+use Rattle.std.proofs.lemmas.Map.Keys.{Less-from_sorted}
 use Rattle.std.proofs.lemmas.Map.Lookups.{exact_bytes}
 use Rattle.std.proofs.lemmas.Map.Views.{All-insert_key}
 use Rattle.std.specs.BTreeSet.{insert_key}
@@ -162,40 +164,21 @@ less Less is = refl
 less Equal is = absurd (cc)
 less Greater is = absurd (cc)
 
-pub rises : (ns : Texts) → AllAdjacentBelow (λ x y. true ≡ is_lt (by_bytes x y)) ns (length ns) → AreRising ns
+pub rises : (ns : Texts) (d : Bor (List ℕ)) → ((k : ℕ) → k + 1 < length ns → by_bytes (get_or ns k d) (get_or ns (k + 1) d) ≡ Less) → AreRising ns
 unfolding IsStrictlySortedBy
-rises [] each = tt
-rises (n ∷ []) each = (tt, tt)
-rises (n ∷ m ∷ ns) each =
+rises [] d each = tt
+rises (n ∷ []) d each = (tt, tt)
+rises (n ∷ m ∷ ns) d each =
     let next : (k : ℕ) → suc k + 1 ≡ suc (k + 1) = λ k. omega arith in
-    let r = rises (m ∷ ns) (λ k d within. subst (λ j. true ≡ is_lt (by_bytes (get_or (m ∷ ns) k d) (get_or (n ∷ m ∷ ns) j d))) (next k) (each (suc k) d (omega (arith, within)))) in
-    let first = less (by_bytes n m) (sym (each 0 n (omega arith))) in
+    let r = rises (m ∷ ns) d (λ k within. subst (λ j. by_bytes (get_or (m ∷ ns) k d) (get_or (n ∷ m ∷ ns) j d) ≡ Less) (next k) (each (suc k) (omega (arith, within)))) in
+    let first : by_bytes n m ≡ Less = each 0 (omega arith) in
     ((first, above_all ns n m first r.0), r)
-
-pub put_all_in : (P : Bor (List ℕ) → Type 0) (ns : Texts) (i : ℕ) (name : Bor (List ℕ)) → P name → AllByRecursion P ns → AllByRecursion P (insert ns i name)
-put_all_in P [] zero name one all = (one, tt)
-put_all_in P [] (suc i) name one all = (one, tt)
-put_all_in P (n ∷ ns) zero name one all = (one, all)
-put_all_in P (n ∷ ns) (suc i) name one all = (all.0, put_all_in P ns i name one all.1)
 
 -- a name that comes after the one before a place, and before the one there
 pub put_between : (ns : Texts) (i : ℕ) (name d : Bor (List ℕ)) → i ≤ length ns → (0 < i → by_bytes (get_or ns (i - 1) d) name ≡ Less) → (i < length ns → by_bytes name (get_or ns i d) ≡ Less) → AreRising ns → AreRising (insert ns i name)
-unfolding IsStrictlySortedBy
-put_between [] zero name d inside after before r = (tt, tt)
-put_between [] (suc i) name d inside after before r = (tt, tt)
-put_between (n ∷ ns) zero name d inside after before r =
-    let less = before (omega arith) in
-    ((less, above_all ns name n less r.0), r)
-put_between (n ∷ ns) (suc i) name d inside after before r = (put_all_in (λ m. by_bytes n m ≡ Less) ns i name (first i (after (omega arith)) (omega (arith, inside))) r.0, put_between ns i name d (omega (arith, inside)) (rest i after) (λ lt. before (omega (arith, lt))) r.1)
+put_between ns i name d inside after before r = rises (insert ns i name) d each
   where
-    before_next : (i : ℕ) → suc (suc i) - 1 ≡ suc i
-    before_next i = omega arith
-
-    first : (i : ℕ) → by_bytes (get_or (n ∷ ns) (suc i - 1) d) name ≡ Less → i ≤ length ns → by_bytes n name ≡ Less
-    first zero less le = less
-    first (suc i) less le =
-        nat_list_cmp_total.trans n.now (get_or ns i d).now name.now (All-from_recursion _ ns r.0 i d (omega (arith, le))) (subst (λ j. by_bytes (get_or (n ∷ ns) j d) name ≡ Less) (before_next i) less)
-
-    rest : (i : ℕ) → (0 < suc i → by_bytes (get_or (n ∷ ns) (suc i - 1) d) name ≡ Less) → 0 < i → by_bytes (get_or ns (i - 1) d) name ≡ Less
-    rest zero after some = absurd (omega (arith, some))
-    rest (suc i) after some = let same : suc i - 1 ≡ i = omega arith in subst (λ j. by_bytes (get_or ns j d) name ≡ Less) (sym same) (subst (λ j. by_bytes (get_or (n ∷ ns) j d) name ≡ Less) (before_next i) (after (omega arith)))
+    each : (k : ℕ) → k + 1 < length (insert ns i name) → by_bytes (get_or (insert ns i name) k d) (get_or (insert ns i name) (k + 1) d) ≡ Less
+    each k within =
+        let long = length-insert ns i name inside in
+        grind (arith, long, within, after, before, get_or-insert_below ns i name d k, get_or-insert_below ns i name d (k + 1), get_or-insert_at ns i name d, get_or-insert_above ns i name d k, get_or-insert_above ns i name d (k - 1), Less-from_sorted by_bytes ns k (k + 1) d r, Less-from_sorted by_bytes ns (k - 1) k d r)

@@ -82,7 +82,7 @@ fn find_in<T: EnumSetType>(names: &[(T, &str)], text: &[u8]) -> Option<(usize, T
         ≡ bit_named (map (λ n. (T.elements.bit n.0, n.1.now)) names.now) text.now }
 {
     for (place, (value, name)) in names.iter().enumerate() {
-        if has_bytes(name.as_bytes(), text) {
+        if has_bytes(name, text) {
             return Some((place, *value));
         }
     }
@@ -91,14 +91,17 @@ fn find_in<T: EnumSetType>(names: &[(T, &str)], text: &[u8]) -> Option<(usize, T
 
 // Whether a name is these bytes. The last eight are compared first, since names that begin alike seldom end alike.
 #[inline(always)]
-fn has_bytes(name: &[u8], text: &[u8]) -> bool
+fn has_bytes(name: &str, text: &[u8]) -> bool
     ensures { result ≡ bytes_eq name.now text.now }
 {
-    name.len() == text.len() && last_word(name) == last_word(text) && name == text
-}
-
-// The last eight bytes, of eight or more.
-#[inline(always)]
-fn last_word(bytes: &[u8]) -> Option<u64> {
-    bytes.last_chunk().map(|end| u64::from_le_bytes(*end))
+    let name = name.as_bytes();
+    if name.len() != text.len() {
+        return false;
+    }
+    match (name.last_chunk(), text.last_chunk()) {
+        (Some(end), Some(text_end)) => {
+            u64::from_le_bytes(*end) == u64::from_le_bytes(*text_end) && name == text
+        }
+        _ => name == text,
+    }
 }

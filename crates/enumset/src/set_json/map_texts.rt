@@ -1,7 +1,9 @@
 //! Texts of maps of names that stand for themselves in JSON.
 
 ghost use Rattle.std.specs.Prelude.{◌≡◌, ◌≤◌, Some, IfOk, IfSome, IsTrue, length, string_bytes};
+ghost use Rattle.std.specs.Cmp.Lexicographic.{slice_cmp};
 ghost use Rattle.std.specs.List.{All, insert};
+ghost use Rattle.std.specs.Ordering.{is_lt, nat_cmp};
 ghost use Rattle.serde_json.specs.Read.{read};
 ghost use Rattle.serde_json.specs.Written.{compact_text};
 ghost use Rattle.enumset_repr.specs.BitSet.{ascending};
@@ -9,7 +11,6 @@ ghost use Rattle.enumset.specs.JsonNames.{map_value};
 ghost use Rattle.enumset.specs.JsonPlain.{AreRising, IsName, AreMembers};
 ghost use Rattle.enumset.specs.Names.{names_of};
 
-use super::plain_lists::put_name;
 use super::scan::is_plain;
 use crate::names::EnumSetNames;
 use enumset_sets::EnumSet;
@@ -25,14 +26,14 @@ pub(super) fn plain_map<T: EnumSetNames>(
         (string_bytes text ≡ compact_text (map_value (names_of T.elements T.names) set.now))
         × (read (string_bytes text) ≡ Some (map_value (names_of T.elements T.names) set.now)))) }
 {
-    let Some(first) = set.first() else {
-        return Ok(None);
-    };
-    let names = ranked_names(set, first.name());
-    if let Some(names) = names.get(..set.len())
-        && names.is_sorted_by(|one, other| *one < *other)
+    if let Some(first) = set.first()
+        && set.len() <= 32
     {
-        return text_of_names(alloc, set, names);
+        let names = ranked_names(set, first.name());
+        let names = &names[..set.len()];
+        if names.is_sorted_by(|one, other| comes_before(one, other)) {
+            return text_of_names(alloc, set, names);
+        }
     }
     match sorted_names(alloc, set)? {
         Some(names) => text_of_names(alloc, set, &names),
@@ -40,8 +41,8 @@ pub(super) fn plain_map<T: EnumSetNames>(
     }
 }
 
-// The names of at most 32 members, each at the place that its first four bytes have among those of all members: in
-// order, unless two begin alike. No branch depends on the order.
+// The names of at most 32 members, each at the place that its first four bytes have among those of all. No branch
+// depends on the order.
 #[inline(always)]
 fn ranked_names<T: EnumSetNames>(set: &EnumSet<T>, first: &'static str) -> [&'static str; 32]
     requires { IsName (names_of T.elements T.names) (ascending set.now) first.now }
@@ -51,18 +52,21 @@ fn ranked_names<T: EnumSetNames>(set: &EnumSet<T>, first: &'static str) -> [&'st
     let mut next = 0;
     for member in set.iter() {
         if next < 32 {
-            keys[next] = key_of(member.name());
+            keys[next] = key_of(member.name().as_bytes());
             next += 1;
         }
     }
     let lanes = Simd::<u32, 32>::from_array(keys);
     let mut names = [first; 32];
+    let mut next = 0;
     for element in set.iter() {
-        let name = element.name();
-        let less = lanes.simd_lt(Simd::splat(key_of(name))).to_bitmask();
-        let place = less.count_ones() as usize;
-        if place < 32 {
-            names[place] = name;
+        if next < 32 {
+            let less = lanes.simd_lt(Simd::splat(keys[next])).to_bitmask();
+            let place = less.count_ones() as usize;
+            if place < 32 {
+                names[place] = element.name();
+            }
+            next += 1;
         }
     }
     names
@@ -70,12 +74,25 @@ fn ranked_names<T: EnumSetNames>(set: &EnumSet<T>, first: &'static str) -> [&'st
 
 // The first four bytes as a number, with zeros for those that are missing.
 #[inline(always)]
-fn key_of(name: &str) -> u32 {
-    let mut key = [0; 4];
-    for (byte, first) in key.iter_mut().zip(name.as_bytes()) {
-        *byte = *first;
+fn key_of(name: &[u8]) -> u32 {
+    match name {
+        [a, b, c, d, ..] => u32::from_be_bytes([*a, *b, *c, *d]),
+        [a, b, c] => u32::from_be_bytes([*a, *b, *c, 0]),
+        [a, b] => u32::from_be_bytes([*a, *b, 0, 0]),
+        [a] => u32::from_be_bytes([*a, 0, 0, 0]),
+        [] => 0,
     }
-    u32::from_be_bytes(key)
+}
+
+// Whether a name comes before another. In most pairs the first bytes tell.
+#[inline(always)]
+fn comes_before(one: &str, other: &str) -> bool
+    ensures { result ≡ is_lt (slice_cmp nat_cmp one.now other.now) }
+{
+    match (one.as_bytes(), other.as_bytes()) {
+        ([first, ..], [second, ..]) if *first < *second => true,
+        _ => one < other,
+    }
 }
 
 // The names of the set's members, in the order of their bytes, unless two are the same. Most go next to the one before.
@@ -124,15 +141,15 @@ fn text_of_names<T: EnumSetNames>(
 {
     // Most names have at most sixteen bytes.
     let mut text = String::with_capacity(alloc, set.len().saturating_mul(24))?;
-    text.push_str("{")?;
     let mut later = false;
     for name in names.iter() {
         if !is_plain(name) {
             return Ok(None);
         }
-        put_name(&mut text, name, later, "\":true")?;
+        text.push_str(if later { "\":true,\"" } else { "{\"" })?;
+        text.push_str(name)?;
         later = true;
     }
-    text.push_str("}")?;
+    text.push_str(if later { "\":true}" } else { "{}" })?;
     Ok(Some(text))
 }

@@ -1,8 +1,8 @@
 //! Texts of lists of names that stand for themselves, written and read without a tree of values.
 
-ghost use Rattle.std.specs.Prelude.{◌≡◌, ◌++◌, ◌∷◌, IfOk, IfSome, OnOk, Some, string_bytes};
+ghost use Rattle.std.specs.Prelude.{◌≡◌, IfOk, IfSome, Some, string_bytes};
 ghost use Rattle.serde_json.specs.Read.{read};
-ghost use Rattle.serde_json.specs.Written.{compact_text, comma_if};
+ghost use Rattle.serde_json.specs.Written.{compact_text};
 ghost use Rattle.enumset.specs.JsonNames.{list_value, set_of_list};
 ghost use Rattle.enumset.specs.JsonReads.{IsReadOf};
 ghost use Rattle.enumset.specs.Names.{names_of};
@@ -26,34 +26,18 @@ pub(super) fn plain_list<T: EnumSetNames>(
 {
     // Most names have at most thirteen bytes.
     let mut text = String::with_capacity(alloc, set.len().saturating_mul(16))?;
-    text.push_str("[")?;
     let mut later = false;
     for element in set.iter() {
         let name = element.name();
         if !is_plain(name) {
             return Ok(None);
         }
-        put_name(&mut text, name, later, "\"")?;
+        text.push_str(if later { "\",\"" } else { "[\"" })?;
+        text.push_str(name)?;
         later = true;
     }
-    text.push_str("]")?;
+    text.push_str(if later { "\"]" } else { "[]" })?;
     Ok(Some(text))
-}
-
-// One more name of a text, and what ends it.
-#[inline(always)]
-pub(super) fn put_name(
-    text: &mut String,
-    name: &str,
-    later: bool,
-    end: &str,
-) -> Result<(), AllocError>
-    ensures { OnOk result (string_bytes text.new
-        ≡ string_bytes text.old ++ (comma_if later ++ (34 ∷ (name.now ++ end.now)))) }
-{
-    text.push_str(if later { ",\"" } else { "\"" })?;
-    text.push_str(name)?;
-    text.push_str(end)
 }
 
 // What is read of a list of plain strings, with spaces anywhere between its tokens. No other text is read.

@@ -1,7 +1,6 @@
 //! Steps over a JSON text whose strings stand for themselves, byte by byte.
 
-ghost use Rattle.std.specs.Prelude.{◌≡◌, ◌≤◌, ◌==◌, ◌+◌, ◌*◌, ◌++◌, ◌∷◌, [], if◌then◌else◌, IfSome, IsTrue, length, take, drop};
-ghost use Rattle.std.specs.Int.{trailing_zeros, w64};
+ghost use Rattle.std.specs.Prelude.{◌≡◌, ◌≤◌, ◌==◌, ◌+◌, ◌*◌, ◌++◌, ◌∷◌, [], IfSome, IsTrue, length, take, drop};
 ghost use Rattle.enumset.specs.JsonPlain.{IsPlain, AreSpaces, Passed, is_space};
 
 use std::simd::prelude::*;
@@ -61,22 +60,10 @@ fn plain_before<const N: usize>(bytes: &[u8], begin: usize) -> usize
     ensures { (result ≤ N) × IsPlain (take result (drop begin bytes.now)) }
 {
     let lanes = Simd::<u8, N>::from_slice(&bytes[begin..]);
-    let quote = first_bit(lanes.simd_eq(Simd::splat(b'"')).to_bitmask(), N);
-    let slash = first_bit(lanes.simd_eq(Simd::splat(b'\\')).to_bitmask(), N);
-    let control = first_bit(lanes.simd_lt(Simd::splat(b' ')).to_bitmask(), N);
-    quote.min(slash).min(control)
-}
-
-// The place of the lowest bit, or what stands in for it.
-#[inline(always)]
-fn first_bit(mask: u64, none: usize) -> usize
-    ensures { result ≡ (if mask == 0 then none else trailing_zeros w64 mask) }
-{
-    if mask == 0 {
-        none
-    } else {
-        mask.trailing_zeros() as usize
-    }
+    let quote = lanes.simd_eq(Simd::splat(b'"')).to_bitmask().trailing_zeros();
+    let slash = lanes.simd_eq(Simd::splat(b'\\')).to_bitmask().trailing_zeros();
+    let control = lanes.simd_lt(Simd::splat(b' ')).to_bitmask().trailing_zeros();
+    N.min(quote.min(slash).min(control) as usize)
 }
 
 // Whether a byte may stand between tokens.
@@ -116,8 +103,7 @@ pub(super) fn after_byte(bytes: &[u8], byte: u8) -> Option<&[u8]>
 pub(super) fn are_spaces(bytes: &[u8]) -> bool
     ensures { IsTrue result → AreSpaces bytes.now }
 {
-    let (_, rest) = split_spaces(bytes);
-    rest.is_empty()
+    split_spaces(bytes).1.is_empty()
 }
 
 // The bytes of a plain string after its opening quote, and what follows its closing one.

@@ -46,4 +46,4 @@ loop-preserved g c =
     subst (λ s. Scanned names c.args.text.now next s c.if-is_member.set) (sym c.insert.ensures.inserted)
     (subst (λ s. Scanned names c.args.text.now next (insert c.loop.seen bit) s) (sym set_is)
     (scan_next names c.args.text.now c.loop.left.now c.loop.seen c.loop.set c.in_ok-name.name.now c.in_ok-name.is_member c.in_ok-name.rest.now bit c.loop.invariant c.in_ok-name.ensures
-    (sym c.in_ok-element.ensures) (not-true _ (sym c.insert.ensures.was_absent ∙ c.if-not-insert.false)) c.in_ok-after.after.now next c.in_ok-after.ensures c.in_ok-left-2.ensures))
+    (sym c.in_ok-element.ensures) (not-true _ (sym c.insert.ensures.was_absent ∙ c.if-not-insert.false)) c.in_ok-after_byte.field-0.now next c.in_ok-after_byte.ensures c.in_ok-left-2.ensures))

@@ -1,13 +1,13 @@
 use Rattle.std.proofs.Common.{◌≡◌, ◌≤◌, ℕ, List, Bor, ◌∷◌, length, arith, sym, subst, ap, ◌∙◌, inl, inr, refl}
 use Rattle.std.proofs.lemmas.Grind.{common_steps}
-use Rattle.std.proofs.lemmas.List.Elements.{All-from_recursion, recursion_from_All}
+use Rattle.std.proofs.lemmas.List.Elements.{All-cons}
+use Rattle.std.proofs.lemmas.List.Sorted.{All-permutation, IsPermutation-insert}
 use Rattle.std.specs.List.{All, insert}
 use Rattle.std.specs.List.Sorted.{IsStrictlySortedBy}
 use Rattle.enumset_repr.specs.BitSet.{ascending}
 use Rattle.enumset_repr.specs.Laws.Ascending.{len_ascending}
 use Rattle.enumset.specs.JsonPlain.{AreRising, IsName}
 use Rattle.enumset.specs.Names.{names_of}
-use Rattle.enumset.proofs.MapOrder.{put_all_in}
 use Rattle.enumset.proofs.set_json.map_texts.sorted_names.Goals.{then-not-fits+else-not-fits-2, else-not-fits}
 use Rattle.enumset.proofs.set_json.map_texts.sorted_names.Goals as goal
 
@@ -41,7 +41,7 @@ loop-element-preserved g c =
       omega (arith, there.0, c.in_ok-insert.ensures.len),
       subst AreRising (sym put) there.1,
       omega (arith, many, ap length here, c.in_ok-insert.ensures.len),
-      subst (All P) (sym put) (All-from_recursion P _ (put_all_in P names place name one (recursion_from_All P names named))),
+      subst (All P) (sym put) (All-permutation P _ _ (IsPermutation-insert names place name) (All-cons P name names one named)),
       λ text later. left text (subst (λ bits. IsName all bits text) (sym here) (inr later)),
     )
 

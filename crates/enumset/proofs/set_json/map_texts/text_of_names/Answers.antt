@@ -1,21 +1,41 @@
-use Rattle.std.proofs.Common.{ℕ, List, Bor, string_bytes, rules, ap, get_or, ◌++◌, ◌∷◌, [], ◌∙◌}
+use Rattle.std.proofs.Common.{◌≡◌, ℕ, List, Bor, string_bytes, rules, ap, get_or, ◌++◌, ◌∷◌, [], true, append_assoc, sym, ◌∙◌}
 use Rattle.std.proofs.Math.ListN.{drop_of_length-le}
 use Rattle.std.proofs.lemmas.List.{drop_more}
+use Rattle.serde_json.specs.Written.{comma_if}
+use Rattle.enumset.specs.JsonPlain.{boolean_before}
 use Rattle.enumset.specs.Names.{names_of}
+use Rattle.enumset.proofs.JsonLists.{opened, in_two}
 use Rattle.enumset.proofs.MapsWritten.{begins, next_name, ended}
+use Rattle.enumset.proofs.set_json.map_texts.text_of_names.Goals.{then-later, else-later, then-later-2, else-later-2}
 use Rattle.enumset.proofs.set_json.map_texts.text_of_names.Goals as goal
 
+abbrev close : List ℕ
+close = 34 ∷ 58 ∷ boolean_before true []
+
 pub loop-name-init : goal.loop-name-init
-loop-name-init g c = begins c.args.names.now _ (c.in_ok-push_str.ensures.bytes ∙ ap (λ t. t ++ 123 ∷ []) c.in_ok-text.ensures.bytes)
+loop-name-init g c = begins c.args.names.now _ (ap (λ t. t ++ 123 ∷ []) c.in_ok-text.ensures.bytes)
 
 pub loop-name-preserved : goal.loop-name-preserved
 loop-name-preserved g c =
     let names = c.args.names.now in
     let i = c.loop-name.name-index in
     let name : Bor (List ℕ) = get_or names i (record { ref_ptr = (0, 0); now = [] }) in
-    next_name names _ _ name (string_bytes c.loop-name.text) (string_bytes c.put_name.new.text) c.loop-name.later (drop_more names i _ c.loop-name-test.true) (search rules) c.in_ok-put_name.ensures c.loop-name.invariant
+    let text = string_bytes c.loop-name.text in
+    let later = c.loop-name.later in
+    let piece : c.if-later.push_str.now ≡ opened (123 ∷ []) close later ++ (comma_if later ++ 34 ∷ []) = elim c.if-later.branch [
+      | then-later w ↦ ap (λ p. p.now) w.push_str-is ∙ ap (λ b. opened (123 ∷ []) close b ++ (comma_if b ++ 34 ∷ [])) (sym w.if-later.true)
+      | else-later w ↦ ap (λ p. p.now) w.push_str-is ∙ ap (λ b. opened (123 ∷ []) close b ++ (comma_if b ++ 34 ∷ [])) (sym w.if-later.false)
+    ] in
+    next_name names _ _ name (text ++ opened (123 ∷ []) close later) (string_bytes c.push_str-in-loop-name.new.self ++ close) later (drop_more names i _ c.loop-name-test.true) (search rules)
+    (ap (λ t. t ++ close) (c.in_ok-push_str-2.ensures.bytes ∙ ap (λ t. t ++ name.now) (c.in_ok-push_str.ensures.bytes ∙ ap (λ t. text ++ t) piece)) ∙ in_two (123 ∷ []) close text name.now later) c.loop-name.invariant
 
 pub returns : goal.returns
 returns g c =
-    ended (names_of g.T.EnumSetType.elements g.T.EnumSetNames.names) c.args.set.now c.args.names.now _ (string_bytes c.loop-name.text) (string_bytes c.push_str-2.new.self) c.loop-name.later
-    c.requires (drop_of_length-le c.args.names.now c.loop-name-test.false) c.in_ok-push_str-2.ensures.bytes c.loop-name.invariant
+    let text = string_bytes c.loop-name.text in
+    let later = c.loop-name.later in
+    let piece : c.if-later-2.push_str.now ≡ opened (123 ∷ []) close later ++ 125 ∷ [] = elim c.if-later-2.branch [
+      | then-later-2 w ↦ ap (λ p. p.now) w.push_str-is ∙ ap (λ b. opened (123 ∷ []) close b ++ 125 ∷ []) (sym w.if-later-2.true)
+      | else-later-2 w ↦ ap (λ p. p.now) w.push_str-is ∙ ap (λ b. opened (123 ∷ []) close b ++ 125 ∷ []) (sym w.if-later-2.false)
+    ] in
+    ended (names_of g.T.EnumSetType.elements g.T.EnumSetNames.names) c.args.set.now c.args.names.now _ (text ++ opened (123 ∷ []) close later) (string_bytes c.push_str-2.new.self) later
+    c.requires (drop_of_length-le c.args.names.now c.loop-name-test.false) (c.in_ok-push_str-3.ensures.bytes ∙ ap (λ t. text ++ t) piece ∙ sym (append_assoc text _ _)) c.loop-name.invariant

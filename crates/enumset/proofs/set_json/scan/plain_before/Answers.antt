@@ -24,13 +24,23 @@ plain_run (x ∷ v) (suc r) q s k =
 abbrev lowest : ℕ → ℕ → ℕ
 lowest n m = cond (eqb m 0) n (count_trailing_zeros 64 m)
 
+low : (n m p r : ℕ) → lowest n m ≡ p → r ≤ n → r ≤ count_trailing_zeros 64 m → r ≤ p
+low n m p r is few under = subst (λ q. r ≤ q) is (at (eqb m 0))
+  where
+    at : (b : Bool) → r ≤ cond b n (count_trailing_zeros 64 m)
+    at true = few
+    at false = under
+
 pub returns : goal.returns
 returns g c =
     let n = g.row.N in
+    let r = c.min-3.result in
     let v = chunk c.args.begin n c.args.bytes.now in
     let long = length-chunk c.args.begin n c.args.bytes.now c.requires.0 in
-    let quote : c.first_bit-quote.result ≡ prefix_len (λ x. not (eqb x 34)) v = c.first_bit-quote.ensures ∙ ap (lowest n) (bitmask_splat w8 eqb v n 34 long (omega arith)) ∙ first_set_mask_l (λ x. eqb x 34) v n long (omega arith) in
-    let slash : c.first_bit-slash.result ≡ prefix_len (λ x. not (eqb x 92)) v = c.first_bit-slash.ensures ∙ ap (lowest n) (bitmask_splat w8 eqb v n 92 long (omega arith)) ∙ first_set_mask_l (λ x. eqb x 92) v n long (omega arith) in
-    let control : c.first_bit-control.result ≡ prefix_len (λ x. not (ltb x 32)) v = c.first_bit-control.ensures ∙ ap (lowest n) (bitmask_splat w8 ltb v n 32 long (omega arith)) ∙ first_set_mask_l (λ x. ltb x 32) v n long (omega arith) in
-    let few : c.min-2.result ≤ n = omega (arith, prefix_len-le-length (λ x. not (eqb x 34)) v) in
-    (few, subst IsPlain (take-take c.min-2.result n (drop c.args.begin c.args.bytes.now) few) (plain_run v c.min-2.result (omega arith) (omega arith) (omega arith)))
+    let few : r ≤ n = omega arith in
+    let mask = λ (t : ℕ → ℕ → Bool) (y : ℕ). bitmask_splat w8 t v n y long (omega arith) in
+    let first = λ (p : ℕ → Bool). first_set_mask_l p v n long (omega arith) in
+    let quote = low n _ _ r (ap (lowest n) (mask eqb 34) ∙ first (λ x. eqb x 34)) few (omega arith) in
+    let slash = low n _ _ r (ap (lowest n) (mask eqb 92) ∙ first (λ x. eqb x 92)) few (omega arith) in
+    let control = low n _ _ r (ap (lowest n) (mask ltb 32) ∙ first (λ x. ltb x 32)) few (omega arith) in
+    (few, subst IsPlain (take-take r n (drop c.args.begin c.args.bytes.now) few) (plain_run v r quote slash control))
