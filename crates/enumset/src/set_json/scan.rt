@@ -60,10 +60,14 @@ fn plain_before<const N: usize>(bytes: &[u8], begin: usize) -> usize
     ensures { (result ≤ N) × IsPlain (take result (drop begin bytes.now)) }
 {
     let lanes = Simd::<u8, N>::from_slice(&bytes[begin..]);
-    let quote = lanes.simd_eq(Simd::splat(b'"')).to_bitmask().trailing_zeros();
-    let slash = lanes.simd_eq(Simd::splat(b'\\')).to_bitmask().trailing_zeros();
-    let control = lanes.simd_lt(Simd::splat(b' ')).to_bitmask().trailing_zeros();
-    N.min(quote.min(slash).min(control) as usize)
+    let quote = lanes.simd_eq(Simd::splat(b'"')).to_bitmask();
+    let slash = lanes.simd_eq(Simd::splat(b'\\')).to_bitmask();
+    let control = lanes.simd_lt(Simd::splat(b' ')).to_bitmask();
+    if quote | slash | control == 0 {
+        return N;
+    }
+    let first = quote.trailing_zeros().min(slash.trailing_zeros());
+    N.min(first.min(control.trailing_zeros()) as usize)
 }
 
 // Whether a byte may stand between tokens.
@@ -93,8 +97,7 @@ pub(super) fn split_spaces(bytes: &[u8]) -> (&[u8], &[u8])
 pub(super) fn after_byte(bytes: &[u8], byte: u8) -> Option<&[u8]>
     ensures { IfSome result (λ rest. Passed bytes.now byte rest.now) }
 {
-    let (_, rest) = split_spaces(bytes);
-    let (first, rest) = rest.split_first()?;
+    let (first, rest) = split_spaces(bytes).1.split_first()?;
     (*first == byte).then_some(rest)
 }
 

@@ -1,12 +1,12 @@
-use Rattle.std.proofs.Common.{◌≡◌, ℕ, List, Bor, string_bytes, rules, ap, get_or, ◌++◌, ◌∷◌, [], true, append_assoc, sym, ◌∙◌}
+use Rattle.std.proofs.Common.{arith, ◌≡◌, ℕ, List, Bor, string_bytes, rules, ap, get_or, ◌++◌, ◌∷◌, [], true, append_assoc, sym, ◌∙◌}
 use Rattle.std.proofs.Math.ListN.{drop_of_length-le}
 use Rattle.std.proofs.lemmas.List.{drop_more}
+use Rattle.std.proofs.lemmas.Grind.{common_steps}
 use Rattle.serde_json.specs.Written.{comma_if}
 use Rattle.enumset.specs.JsonPlain.{boolean_before}
 use Rattle.enumset.specs.Names.{names_of}
 use Rattle.enumset.proofs.JsonLists.{opened, in_two}
 use Rattle.enumset.proofs.MapsWritten.{begins, next_name, ended}
-use Rattle.enumset.proofs.set_json.map_texts.text_of_names.Goals.{then-later, else-later, then-later-2, else-later-2}
 use Rattle.enumset.proofs.set_json.map_texts.text_of_names.Goals as goal
 
 abbrev close : List ℕ
@@ -22,10 +22,7 @@ loop-name-preserved g c =
     let name : Bor (List ℕ) = get_or names i (record { ref_ptr = (0, 0); now = [] }) in
     let text = string_bytes c.loop-name.text in
     let later = c.loop-name.later in
-    let piece : c.if-later.push_str.now ≡ opened (123 ∷ []) close later ++ (comma_if later ++ 34 ∷ []) = elim c.if-later.branch [
-      | then-later w ↦ ap (λ p. p.now) w.push_str-is ∙ ap (λ b. opened (123 ∷ []) close b ++ (comma_if b ++ 34 ∷ [])) (sym w.if-later.true)
-      | else-later w ↦ ap (λ p. p.now) w.push_str-is ∙ ap (λ b. opened (123 ∷ []) close b ++ (comma_if b ++ 34 ∷ [])) (sym w.if-later.false)
-    ] in
+    let piece : c.if-later.push_str.now ≡ opened (123 ∷ []) close later ++ (comma_if later ++ 34 ∷ []) = first_of (search rules, grind (arith, common_steps)) in
     next_name names _ _ name (text ++ opened (123 ∷ []) close later) (string_bytes c.push_str-in-loop-name.new.self ++ close) later (drop_more names i _ c.loop-name-test.true) (search rules)
     (ap (λ t. t ++ close) (c.in_ok-push_str-2.ensures.bytes ∙ ap (λ t. t ++ name.now) (c.in_ok-push_str.ensures.bytes ∙ ap (λ t. text ++ t) piece)) ∙ in_two (123 ∷ []) close text name.now later) c.loop-name.invariant
 
@@ -33,9 +30,6 @@ pub returns : goal.returns
 returns g c =
     let text = string_bytes c.loop-name.text in
     let later = c.loop-name.later in
-    let piece : c.if-later-2.push_str.now ≡ opened (123 ∷ []) close later ++ 125 ∷ [] = elim c.if-later-2.branch [
-      | then-later-2 w ↦ ap (λ p. p.now) w.push_str-is ∙ ap (λ b. opened (123 ∷ []) close b ++ 125 ∷ []) (sym w.if-later-2.true)
-      | else-later-2 w ↦ ap (λ p. p.now) w.push_str-is ∙ ap (λ b. opened (123 ∷ []) close b ++ 125 ∷ []) (sym w.if-later-2.false)
-    ] in
+    let piece : c.if-later-2.push_str.now ≡ opened (123 ∷ []) close later ++ 125 ∷ [] = first_of (search rules, grind (arith, common_steps)) in
     ended (names_of g.T.EnumSetType.elements g.T.EnumSetNames.names) c.args.set.now c.args.names.now _ (text ++ opened (123 ∷ []) close later) (string_bytes c.push_str-2.new.self) later
     c.requires (drop_of_length-le c.args.names.now c.loop-name-test.false) (c.in_ok-push_str-3.ensures.bytes ∙ ap (λ t. text ++ t) piece ∙ sym (append_assoc text _ _)) c.loop-name.invariant

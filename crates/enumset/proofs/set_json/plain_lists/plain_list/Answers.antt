@@ -3,7 +3,6 @@ use Rattle.std.proofs.lemmas.Grind.{common_steps}
 use Rattle.serde_json.specs.Written.{comma_if}
 use Rattle.enumset.specs.Names.{names_of}
 use Rattle.enumset.proofs.JsonLists.{Writes, begins, next_name, ended, opened, in_two}
-use Rattle.enumset.proofs.set_json.plain_lists.plain_list.Goals.{then-later, else-later, then-later-2, else-later-2}
 use Rattle.enumset.proofs.set_json.plain_lists.plain_list.Goals as goal
 
 pub loop-element-init : goal.loop-element-init
@@ -16,10 +15,7 @@ loop-element-preserved g c =
     let here : c.loop-element.element-iterator.items ≡ b ∷ c.next.new.self.items = grind (arith, common_steps) in
     let text = string_bytes c.loop-element.text in
     let later = c.loop-element.later in
-    let piece : c.if-later.push_str.now ≡ opened (91 ∷ []) (34 ∷ []) later ++ (comma_if later ++ 34 ∷ []) = elim c.if-later.branch [
-      | then-later w ↦ ap (λ p. p.now) w.push_str-is ∙ ap (λ b. opened (91 ∷ []) (34 ∷ []) b ++ (comma_if b ++ 34 ∷ [])) (sym w.if-later.true)
-      | else-later w ↦ ap (λ p. p.now) w.push_str-is ∙ ap (λ b. opened (91 ∷ []) (34 ∷ []) b ++ (comma_if b ++ 34 ∷ [])) (sym w.if-later.false)
-    ] in
+    let piece : c.if-later.push_str.now ≡ opened (91 ∷ []) (34 ∷ []) later ++ (comma_if later ++ 34 ∷ []) = first_of (search rules, grind (arith, common_steps)) in
     next_name (names_of g.T.EnumSetType.elements g.T.EnumSetNames.names) _ _ _ b c.name-name.result.now (text ++ opened (91 ∷ []) (34 ∷ []) later) (string_bytes c.push_str-in-loop-element.new.self ++ 34 ∷ []) later here c.name-name.ensures (search rules)
     (ap (λ t. t ++ 34 ∷ []) (c.in_ok-push_str-2.ensures.bytes ∙ ap (λ t. t ++ c.name-name.result.now) (c.in_ok-push_str.ensures.bytes ∙ ap (λ t. text ++ t) piece)) ∙ in_two (91 ∷ []) (34 ∷ []) text c.name-name.result.now later)
     c.loop-element.invariant
@@ -30,9 +26,6 @@ returns g c =
     let items = ap (λ i. i.items) c.into_iter-element-iterator.ensures.into_iter_gives ∙ c.iter-element-items.ensures.ascending in
     let text = string_bytes c.loop-element.text in
     let later = c.loop-element.later in
-    let piece : c.if-later-2.push_str.now ≡ opened (91 ∷ []) (34 ∷ []) later ++ 93 ∷ [] = elim c.if-later-2.branch [
-      | then-later-2 w ↦ ap (λ p. p.now) w.push_str-is ∙ ap (λ b. opened (91 ∷ []) (34 ∷ []) b ++ 93 ∷ []) (sym w.if-later-2.true)
-      | else-later-2 w ↦ ap (λ p. p.now) w.push_str-is ∙ ap (λ b. opened (91 ∷ []) (34 ∷ []) b ++ 93 ∷ []) (sym w.if-later-2.false)
-    ] in
+    let piece : c.if-later-2.push_str.now ≡ opened (91 ∷ []) (34 ∷ []) later ++ 93 ∷ [] = first_of (search rules, grind (arith, common_steps)) in
     ended names c.args.set.now _ (text ++ opened (91 ∷ []) (34 ∷ []) later) (string_bytes c.push_str-2.new.self) later c.in-None.ensures.steps.0.0 (c.in_ok-push_str-3.ensures.bytes ∙ ap (λ t. text ++ t) piece ∙ sym (append_assoc text _ _))
     (subst (λ bs. Writes names bs (text ++ opened (91 ∷ []) (34 ∷ []) later) later c.loop-element.element-iterator.items) items c.loop-element.invariant)
