@@ -29,7 +29,8 @@ pub(super) fn plain_map<T: EnumSetNames>(
     if let Some(first) = set.first()
         && set.len() <= 32
     {
-        let names = ranked_names(set, first.name());
+        let mut names = [first.name(); 32];
+        place_names(&mut names, set);
         let names = &names[..set.len()];
         if names.is_sorted_by(|one, other| comes_before(one, other)) {
             return text_of_names(alloc, set, names);
@@ -41,23 +42,29 @@ pub(super) fn plain_map<T: EnumSetNames>(
     }
 }
 
-// The names of at most 32 members, each at the place that its first four bytes have among those of all. No branch
-// depends on the order.
+// Puts the names of at most 32 members at the places that their first four bytes have among those of all, unless two
+// neighbours begin alike. No branch depends on the order.
 #[inline(always)]
-fn ranked_names<T: EnumSetNames>(set: &EnumSet<T>, first: &'static str) -> [&'static str; 32]
-    requires { IsName (names_of T.elements T.names) (ascending set.now) first.now }
-    ensures { All (λ name. IsName (names_of T.elements T.names) (ascending set.now) name.now) result }
+fn place_names<T: EnumSetNames>(names: &mut [&'static str; 32], set: &EnumSet<T>)
+    requires { All (λ name. IsName (names_of T.elements T.names) (ascending set.now) name.now) names.old }
+    ensures named { All (λ name. IsName (names_of T.elements T.names) (ascending set.now) name.now) names.new }
+    ensures len { length names.new ≡ length names.old }
 {
     let mut keys = [u32::MAX; 32];
+    let mut last = u32::MAX;
     let mut next = 0;
     for member in set.iter() {
+        let key = key_of(member.name().as_bytes());
+        if key == last {
+            return;
+        }
         if next < 32 {
-            keys[next] = key_of(member.name().as_bytes());
+            keys[next] = key;
             next += 1;
         }
+        last = key;
     }
     let lanes = Simd::<u32, 32>::from_array(keys);
-    let mut names = [first; 32];
     let mut next = 0;
     for element in set.iter() {
         if next < 32 {
@@ -69,7 +76,6 @@ fn ranked_names<T: EnumSetNames>(set: &EnumSet<T>, first: &'static str) -> [&'st
             next += 1;
         }
     }
-    names
 }
 
 // The first four bytes as a number, with zeros for those that are missing.

@@ -1,13 +1,14 @@
-use Rattle.std.proofs.Common.{ℕ, List}
+use Rattle.std.proofs.Common.{◌≡◌, ℕ, List, length}
 use Rattle.std.specs.List.{All}
 use Rattle.enumset_repr.specs.BitSet.{ascending}
 use Rattle.enumset.specs.JsonPlain.{IsName}
 use Rattle.enumset.specs.Names.{names_of}
-use Rattle.enumset.proofs.set_json.map_texts.ranked_names.Given as goal
+use Rattle.enumset.proofs.set_json.map_texts.place_names.Given as goal
 
 -- all are names of the set's members, and so are those of the bits that are left
 abbrev pub invariant-loop-element : goal.invariant-loop-element
 invariant-loop-element g l =
     All (λ name. IsName (names_of g.T.EnumSetType.elements g.T.EnumSetNames.names) (ascending l.set) name.now) l.names
+    × (length l.names ≡ length l.initial.names)
     × ((text : List ℕ) → IsName (names_of g.T.EnumSetType.elements g.T.EnumSetNames.names) l.element-iterator.items text
     → IsName (names_of g.T.EnumSetType.elements g.T.EnumSetNames.names) (ascending l.set) text)
