@@ -59,7 +59,6 @@ still_rising (n ∷ names) name rising = by_order (still_rising names name risin
     others,
   )
 
-
 abbrev IsIn : List ℕ → Texts → Type 0
 IsIn t [] = ⊥
 IsIn t (n ∷ ns) = (n.now ≡ t) ⊎ IsIn t ns

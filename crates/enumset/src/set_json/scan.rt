@@ -1,6 +1,7 @@
 //! Steps over a JSON text whose strings stand for themselves, byte by byte.
 
-ghost use Rattle.std.specs.Prelude.{◌≡◌, ◌≤◌, ◌==◌, ◌+◌, ◌*◌, ◌++◌, ◌∷◌, [], IfSome, IsTrue, length, take, drop};
+ghost use Rattle.std.specs.Prelude.{◌≡◌, ◌≤◌, ◌==◌, ◌+◌, ◌*◌, ◌++◌, ◌∷◌, [], if◌then◌else◌, IfSome, IsTrue, length, take, drop};
+ghost use Rattle.std.specs.Int.{trailing_zeros, w64};
 ghost use Rattle.enumset.specs.JsonPlain.{IsPlain, AreSpaces, Passed, is_space};
 
 use std::simd::prelude::*;
@@ -60,14 +61,22 @@ fn plain_before<const N: usize>(bytes: &[u8], begin: usize) -> usize
     ensures { (result ≤ N) × IsPlain (take result (drop begin bytes.now)) }
 {
     let lanes = Simd::<u8, N>::from_slice(&bytes[begin..]);
-    let quote = lanes.simd_eq(Simd::splat(b'"')).to_bitmask();
-    let slash = lanes.simd_eq(Simd::splat(b'\\')).to_bitmask();
-    let control = lanes.simd_lt(Simd::splat(b' ')).to_bitmask();
-    if quote | slash | control == 0 {
-        return N;
+    let quote = first_bit(lanes.simd_eq(Simd::splat(b'"')).to_bitmask(), N);
+    let slash = first_bit(lanes.simd_eq(Simd::splat(b'\\')).to_bitmask(), N);
+    let control = first_bit(lanes.simd_lt(Simd::splat(b' ')).to_bitmask(), N);
+    quote.min(slash).min(control)
+}
+
+// The place of the lowest bit, or what stands in for it.
+#[inline(always)]
+fn first_bit(mask: u64, none: usize) -> usize
+    ensures { result ≡ (if mask == 0 then none else trailing_zeros w64 mask) }
+{
+    if mask == 0 {
+        none
+    } else {
+        mask.trailing_zeros() as usize
     }
-    let first = quote.trailing_zeros().min(slash.trailing_zeros());
-    N.min(first.min(control.trailing_zeros()) as usize)
 }
 
 // Whether a byte may stand between tokens.
