@@ -1,5 +1,5 @@
 -- The text of names that rise, as members of an object, and what it reads as.
-use Rattle.std.proofs.Common.{◌≡◌, List, [], ◌∷◌, ◌++◌, Bor, Some, map, refl, sym, ap, ◌∙◌, append_assoc, subst, nat_cmp, Less, ℕ}
+use Rattle.std.proofs.Common.{◌≡◌, List, [], ◌∷◌, ◌++◌, Bor, Some, map, refl, sym, ap, ◌∙◌, append_assoc, subst, Less, ℕ}
 use Rattle.std.proofs.lemmas.Cmp.{nat_list_cmp_total}
 use Rattle.std.specs.Prelude.{Bool, true, false}
 use Rattle.std.specs.List.{AllByRecursion}

@@ -145,8 +145,11 @@ fn text_of_names<T: EnumSetNames>(
         (string_bytes text ≡ compact_text (map_value (names_of T.elements T.names) set.now))
         × (read (string_bytes text) ≡ Some (map_value (names_of T.elements T.names) set.now)))) }
 {
-    // Most names have at most sixteen bytes.
-    let mut text = String::with_capacity(alloc, set.len().saturating_mul(24))?;
+    // One request for memory is enough: each name has quotes, a colon, `true` and a comma.
+    let bytes = names
+        .iter()
+        .fold(2usize, |bytes, name| bytes.saturating_add(name.len()));
+    let mut text = String::with_capacity(alloc, set.len().saturating_mul(8).saturating_add(bytes))?;
     let mut later = false;
     for name in names.iter() {
         if !is_plain(name) {
