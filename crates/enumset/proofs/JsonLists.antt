@@ -1,6 +1,6 @@
 -- What serde_json reads of a list of plain strings, one string at a time, and what it writes for one.
 use Rattle.std.proofs.Common.{◌≡◌, ℕ, List, [], ◌∷◌, ◌++◌, Some, map, refl, sym, ap, ◌∙◌, arith, append_assoc, subst}
-use Rattle.std.specs.Prelude.{Bool, false, true, ⊤}
+use Rattle.std.specs.Prelude.{Bool, false, true, cond, ⊤}
 use Rattle.serde_json.specs.Data.{array, string, item, no_items, Items}
 use Rattle.serde_json.specs.Read.{read}
 use Rattle.serde_json.specs.View.{items_of}
@@ -72,6 +72,16 @@ names_reads names s plain =
     subst (λ ds. read (compact_text (array (items_of ds))) ≡ Some (array (items_of ds))) same (list_reads (map (name_of names) (ascending s)) plain)
 
 -- ---- what the loop of the writer keeps
+
+-- what stands before the next comma or the end: what opens the text, or closes a name
+abbrev pub opened : List ℕ → List ℕ → Bool → List ℕ
+opened front close later = cond later close front
+
+-- a name after what closes the one before it
+pub in_two : (front close text name : List ℕ) (later : Bool)
+    → ((text ++ (opened front close later ++ (comma_if later ++ 34 ∷ []))) ++ name) ++ close ≡ (text ++ opened front close later) ++ (comma_if later ++ (34 ∷ (name ++ close)))
+in_two front close text name true = simp append_assoc
+in_two front close text name false = simp append_assoc
 
 abbrev values : Names → List ℕ → Items
 values names bits = items_of (map (λ b. string (name_of names b)) bits)

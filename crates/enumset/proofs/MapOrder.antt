@@ -1,20 +1,63 @@
 -- Names of members that rise, as many as there are members, are the names of all members in the order of a map.
-use Rattle.std.proofs.Common.{◌≡◌, ◌⊎◌, inl, inr, ℕ, List, [], ◌∷◌, Bor, refl, sym, ap, ◌∙◌, subst, nat_cmp, Ordering, Less, Equal, Greater, ◌<◌, ◌≤◌, ◌+◌, length, drop, get_or, suc, zero, arith, is_eq, true≢false}
+use Rattle.std.proofs.Common.{◌≡◌, ◌⊎◌, inl, inr, ℕ, List, [], ◌∷◌, Bor, refl, sym, ap, ◌∙◌, subst, nat_cmp, Ordering, Less, Equal, Greater, ◌<◌, ◌≤◌, ◌+◌, length, get_or, ◌-◌, suc, arith, is_eq, true≢false}
 use Rattle.std.proofs.lemmas.Cmp.{nat_list_cmp_total, tied_itself}
-use Rattle.std.proofs.lemmas.List.Elements.{recursion_from_All}
+use Rattle.std.proofs.lemmas.List.Elements.{All-from_recursion, recursion_from_All}
+use Rattle.std.proofs.lemmas.List.Edits.{length-insert, get_or-insert_at, get_or-insert_below, get_or-insert_above}
+use Rattle.std.proofs.lemmas.Map.Keys.{Less-from_sorted}
 use Rattle.std.proofs.lemmas.Map.Lookups.{exact_bytes}
+use Rattle.std.proofs.lemmas.Map.Views.{All-insert_key}
 use Rattle.std.specs.BTreeSet.{insert_key}
 use Rattle.std.specs.Cmp.Lexicographic.{slice_cmp}
-use Rattle.std.specs.List.{All, AllByRecursion}
+use Rattle.std.specs.List.{AllByRecursion, insert}
 use Rattle.std.specs.List.Sorted.{IsStrictlySortedBy}
+use Rattle.std.specs.Ordering.{is_lt, ordering_reverse, match_ordering}
 use Rattle.std.specs.Prelude.{true}
-use Rattle.enumset_repr.specs.BitSet.{BitSet, ascending, len}
+use Rattle.enumset_repr.specs.BitSet.{BitSet, ascending}
 use Rattle.enumset_repr.specs.Laws.Ascending.{len_ascending}
-use Rattle.serde_json.specs.Data.{boolean, member, no_members}
-use Rattle.enumset.specs.JsonMapTexts.{all_true, by_bytes, AreRising, IsName}
+use Rattle.serde_json.specs.Data.{boolean, Members, member, no_members, put}
+use Rattle.enumset.specs.JsonPlain.{by_bytes, AreRising, IsName, AreMembers}
 use Rattle.enumset.specs.JsonNames.{with_bits_true}
 use Rattle.enumset.specs.Names.{Names, name_of}
-use Rattle.enumset.proofs.MapsWritten.{Texts, put_at, put_key, still_rising, above_all}
+
+-- names, as the code has them
+abbrev pub Texts : Type 0
+Texts = List (Bor (List ℕ))
+
+-- each name with `true`, in the order given
+abbrev pub all_true : Texts → Members
+all_true [] = no_members
+all_true (name ∷ names) = member name.now (boolean true) (all_true names)
+
+-- ---- names put in one after another
+
+all_true-match_ordering : (o : Ordering) (a b c : Texts) → all_true (match_ordering o a b c) ≡ match_ordering o (all_true a) (all_true b) (all_true c)
+all_true-match_ordering Less a b c = refl
+all_true-match_ordering Equal a b c = refl
+all_true-match_ordering Greater a b c = refl
+
+-- one that a set of names takes
+put_key : (names : Texts) (name : Bor (List ℕ)) → all_true (insert_key by_bytes names name) ≡ put name.now (boolean true) (all_true names)
+put_key [] name = refl
+put_key (n ∷ names) name = all_true-match_ordering (by_bytes name n) _ _ _ ∙ rw (put_key names name)
+
+above_all : (names : Texts) (name n : Bor (List ℕ)) → by_bytes name n ≡ Less → AllByRecursion (λ m. by_bytes n m ≡ Less) names → AllByRecursion (λ m. by_bytes name m ≡ Less) names
+above_all [] name n less all = tt
+above_all (m ∷ names) name n less all = (nat_list_cmp_total.trans name.now n.now m.now less all.0, above_all names name n less all.1)
+
+abbrev put_at : Bor (List ℕ) → Texts → Bor (List ℕ) → Ordering → Texts
+put_at n names name o = match_ordering o (name ∷ n ∷ names) (n ∷ names) (n ∷ insert_key by_bytes names name)
+
+still_rising : (names : Texts) (name : Bor (List ℕ)) → AreRising names → AreRising (insert_key by_bytes names name)
+unfolding IsStrictlySortedBy
+still_rising [] name rising = (tt, tt)
+still_rising (n ∷ names) name rising = by_order (still_rising names name rising.1) (by_bytes name n) refl where
+  by_order : AreRising (insert_key by_bytes names name) → (o : Ordering) → by_bytes name n ≡ o → AreRising (put_at n names name o)
+  by_order others Less is = ((is, above_all names name n is rising.0), rising)
+  by_order others Equal is = rising
+  by_order others Greater is = (
+    recursion_from_All _ _ (All-insert_key by_bytes name (λ m. by_bytes n m ≡ Less) names (All-from_recursion _ _ rising.0) (nat_list_cmp_total.antisymm n.now name.now ∙ ap ordering_reverse is)),
+    others,
+  )
 
 abbrev IsIn : List ℕ → Texts → Type 0
 IsIn t [] = ⊥
@@ -106,26 +149,35 @@ all_in : (names : Names) (bs : List ℕ) (ns : Texts) → AllByRecursion (λ n. 
 all_in names bs [] i = tt
 all_in names bs (n ∷ ns) i = (made_in n.now names bs [] (inr i.0), all_in names bs ns i.1)
 
-pub all_sorted : (names : Names) (s : BitSet) (ns : Texts) → AreRising ns → All (λ n. IsName names (ascending s) n.now) ns → length ns ≡ len s → all_true ns ≡ with_bits_true names no_members (ascending s)
+pub all_sorted : (names : Names) (s : BitSet) (ns : Texts) → AreMembers names s ns → all_true ns ≡ with_bits_true names no_members (ascending s)
 unfolding IsStrictlySortedBy
-all_sorted names s ns rising named many =
+all_sorted names s ns (rising, named, many) =
     let bs = ascending s in
     let few : length (made names bs []) ≤ length ns = omega (arith, made_length names bs [], many, len_ascending s) in
     (within ns (made names bs []) rising (made_rising names bs [] tt) (all_in names bs ns (recursion_from_All _ ns named))).1 few ∙ made_is names bs []
 
--- ---- a test of neighbours, from the last
+-- ---- tests of neighbours
 
-pub last_rises : (ns : Texts) (i : ℕ) → length ns ≤ suc i → AreRising (drop i ns)
-unfolding IsStrictlySortedBy
-last_rises [] zero last = tt
-last_rises [] (suc i) last = tt
-last_rises (n ∷ []) zero last = (tt, tt)
-last_rises (n ∷ m ∷ ns) zero last = absurd (omega (arith, last))
-last_rises (n ∷ ns) (suc i) last = last_rises ns i (omega (arith, last))
+pub less : (o : Ordering) → is_lt o ≡ true → o ≡ Less
+less Less is = refl
+less Equal is = absurd (cc)
+less Greater is = absurd (cc)
 
-pub rises_before : (ns : Texts) (d : Bor (List ℕ)) (i : ℕ) → suc i < length ns → by_bytes (get_or ns i d) (get_or ns (suc i) d) ≡ Less → AreRising (drop (suc i) ns) → AreRising (drop i ns)
+pub rises : (ns : Texts) (d : Bor (List ℕ)) → ((k : ℕ) → k + 1 < length ns → by_bytes (get_or ns k d) (get_or ns (k + 1) d) ≡ Less) → AreRising ns
 unfolding IsStrictlySortedBy
-rises_before [] d i inside less r = absurd (omega (arith, inside))
-rises_before (n ∷ []) d i inside less r = absurd (omega (arith, inside))
-rises_before (n ∷ m ∷ ns) d zero inside less r = ((less, above_all ns n m less r.0), r)
-rises_before (n ∷ m ∷ ns) d (suc i) inside less r = rises_before (m ∷ ns) d i (omega (arith, inside)) less r
+rises [] d each = tt
+rises (n ∷ []) d each = (tt, tt)
+rises (n ∷ m ∷ ns) d each =
+    let next : (k : ℕ) → suc k + 1 ≡ suc (k + 1) = λ k. omega arith in
+    let r = rises (m ∷ ns) d (λ k within. subst (λ j. by_bytes (get_or (m ∷ ns) k d) (get_or (n ∷ m ∷ ns) j d) ≡ Less) (next k) (each (suc k) (omega (arith, within)))) in
+    let first : by_bytes n m ≡ Less = each 0 (omega arith) in
+    ((first, above_all ns n m first r.0), r)
+
+-- a name that comes after the one before a place, and before the one there
+pub put_between : (ns : Texts) (i : ℕ) (name d : Bor (List ℕ)) → i ≤ length ns → (0 < i → by_bytes (get_or ns (i - 1) d) name ≡ Less) → (i < length ns → by_bytes name (get_or ns i d) ≡ Less) → AreRising ns → AreRising (insert ns i name)
+put_between ns i name d inside after before r = rises (insert ns i name) d each
+  where
+    each : (k : ℕ) → k + 1 < length (insert ns i name) → by_bytes (get_or (insert ns i name) k d) (get_or (insert ns i name) (k + 1) d) ≡ Less
+    each k within =
+        let long = length-insert ns i name inside in
+        grind (arith, long, within, after, before, get_or-insert_below ns i name d k, get_or-insert_below ns i name d (k + 1), get_or-insert_at ns i name d, get_or-insert_above ns i name d k, get_or-insert_above ns i name d (k - 1), Less-from_sorted by_bytes ns k (k + 1) d r, Less-from_sorted by_bytes ns (k - 1) k d r)

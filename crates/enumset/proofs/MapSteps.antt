@@ -7,7 +7,7 @@ use Rattle.serde_json.specs.Read.{read}
 use Rattle.serde_json.specs.Sent.{text_token, bool_token}
 use Rattle.serde_json.proofs.OnLiterals.{serde_json_on_literals}
 use Rattle.enumset.specs.JsonPlain.{IsPlain, is_space, AreSpaces}
-use Rattle.enumset.specs.JsonMapTexts.{boolean_before}
+use Rattle.enumset.specs.JsonPlain.{boolean_before}
 use Rattle.enumset.proofs.JsonTokens.{tokens, Tokens}
 use Rattle.enumset.proofs.MapHandles.{brace_before}
 use Rattle.enumset.proofs.MapTokens.{key_before, member_tokens, put_all, read_members}

@@ -13,7 +13,7 @@ use Rattle.serde_json.specs.Data.{Data, boolean, object, Members, no_members, me
 use Rattle.serde_json.specs.Read.{read}
 use Rattle.enumset.specs.Names.{Names, bit_named}
 use Rattle.enumset.specs.Json.{unless_fault}
-use Rattle.enumset.specs.JsonMapTexts.{boolean_before, IsMember}
+use Rattle.enumset.specs.JsonPlain.{boolean_before, IsMember}
 use Rattle.enumset.specs.JsonNames.{members_in, names_in, true_names, is_no_boolean, is_unknown, known_set, decided, set_of_map}
 use Rattle.enumset.specs.JsonPlain.{AreSpaces, Passed}
 use Rattle.enumset.specs.JsonReads.{IsResult, IsReadOf}

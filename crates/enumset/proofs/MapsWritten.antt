@@ -1,120 +1,22 @@
--- A set of names as the members of an object, its text, and what the text reads as.
-use Rattle.std.proofs.Common.{◌≡◌, ℕ, List, [], ◌∷◌, ◌++◌, Bor, Some, map, refl, sym, ap, ◌∙◌, append_assoc, subst, nat_cmp, Ordering, Less, Equal, Greater, ◌<◌, ◌≤◌, ◌+◌, length, take, drop, get_or, suc, arith, zero}
+-- The text of names that rise, as members of an object, and what it reads as.
+use Rattle.std.proofs.Common.{◌≡◌, List, [], ◌∷◌, ◌++◌, Bor, Some, map, refl, sym, ap, ◌∙◌, append_assoc, subst, Less, ℕ}
 use Rattle.std.proofs.lemmas.Cmp.{nat_list_cmp_total}
-use Rattle.std.proofs.lemmas.List.Elements.{All-from_recursion, recursion_from_All}
-use Rattle.std.proofs.lemmas.Map.Views.{All-insert_key}
 use Rattle.std.specs.Prelude.{Bool, true, false}
-use Rattle.std.specs.BTreeSet.{insert_key}
-use Rattle.std.specs.Cmp.Lexicographic.{slice_cmp}
-use Rattle.std.specs.List.{AllByRecursion, insert}
+use Rattle.std.specs.List.{AllByRecursion}
 use Rattle.std.specs.List.Sorted.{IsStrictlySortedBy}
-use Rattle.std.specs.Ordering.{ordering_reverse, match_ordering}
+use Rattle.std.specs.Ordering.{ordering_reverse}
+use Rattle.enumset_repr.specs.BitSet.{BitSet}
 use Rattle.serde_json.specs.Data.{object, boolean, Members, no_members, member, put}
 use Rattle.serde_json.specs.Read.{read}
 use Rattle.serde_json.specs.Written.{compact_text, members_text, comma_if}
-use Rattle.enumset.specs.JsonPlain.{IsPlain}
-use Rattle.enumset.specs.JsonMapTexts.{boolean_before, before_comma, all_true, by_bytes, AreRising}
+use Rattle.enumset.specs.JsonPlain.{IsPlain, boolean_before, by_bytes, AreRising, AreMembers}
+use Rattle.enumset.specs.JsonNames.{map_value}
+use Rattle.enumset.specs.Names.{Names}
 use Rattle.enumset.proofs.JsonLists.{ArePlain, text_before}
 use Rattle.enumset.proofs.JsonTokens.{tokens}
+use Rattle.enumset.proofs.MapOrder.{Texts, all_true, all_sorted}
 use Rattle.enumset.proofs.MapTokens.{put_all, member_tokens}
 use Rattle.enumset.proofs.MapSteps.{next_member, last_member, first_member, no_member}
-
--- names, as the code has them
-abbrev pub Texts : Type 0
-Texts = List (Bor (List ℕ))
-
--- ---- names put in one after another
-
-all_true-match_ordering : (o : Ordering) (a b c : Texts) → all_true (match_ordering o a b c) ≡ match_ordering o (all_true a) (all_true b) (all_true c)
-all_true-match_ordering Less a b c = refl
-all_true-match_ordering Equal a b c = refl
-all_true-match_ordering Greater a b c = refl
-
--- one that a set of names takes
-pub put_key : (names : Texts) (name : Bor (List ℕ)) → all_true (insert_key by_bytes names name) ≡ put name.now (boolean true) (all_true names)
-put_key [] name = refl
-put_key (n ∷ names) name = all_true-match_ordering (by_bytes name n) _ _ _ ∙ rw (put_key names name)
-
--- ---- where a name is put in
-
-abbrev pub AreBelow : Texts → List ℕ → Type 0
-AreBelow names name = AllByRecursion (λ n. slice_cmp nat_cmp n.now name ≡ Less) names
-
-abbrev pub AreAbove : Texts → List ℕ → Type 0
-AreAbove names name = AllByRecursion (λ n. slice_cmp nat_cmp name n.now ≡ Less) names
-
-pub below : (names : Texts) (name d : Bor (List ℕ)) (i : ℕ) → AreRising names → i < length names → by_bytes (get_or names i d) name ≡ Less → AreBelow (take (suc i) names) name.now
-unfolding IsStrictlySortedBy
-below [] name d i rising inside less = absurd (omega (arith, inside))
-below (n ∷ names) name d zero rising inside less = (less, tt)
-below (n ∷ names) name d (suc i) rising inside less =
-    let within : i < length names = omega (arith, inside) in
-    (nat_list_cmp_total.trans n.now (get_or names i d).now name.now (All-from_recursion _ names rising.0 i d within) less, below names name d i rising.1 within less)
-
-pub above_all : (names : Texts) (name n : Bor (List ℕ)) → by_bytes name n ≡ Less → AreAbove names n.now → AreAbove names name.now
-above_all [] name n less all = tt
-above_all (m ∷ names) name n less all = (nat_list_cmp_total.trans name.now n.now m.now less all.0, above_all names name n less all.1)
-
-pub above : (names : Texts) (name d : Bor (List ℕ)) (i : ℕ) → AreRising names → i < length names → by_bytes (get_or names i d) name ≡ Greater → AreAbove (drop i names) name.now
-unfolding IsStrictlySortedBy
-above [] name d i rising inside greater = absurd (omega (arith, inside))
-above (n ∷ names) name d zero rising inside greater =
-    let less : by_bytes name n ≡ Less = nat_list_cmp_total.antisymm name.now n.now ∙ ap ordering_reverse greater in
-    (less, above_all names name n less rising.0)
-above (n ∷ names) name d (suc i) rising inside greater = above names name d i rising.1 (omega (arith, inside)) greater
-
-abbrev pub put_at : Bor (List ℕ) → Texts → Bor (List ℕ) → Ordering → Texts
-put_at n names name o = match_ordering o (name ∷ n ∷ names) (n ∷ names) (n ∷ insert_key by_bytes names name)
-
-pub placed : (names : Texts) (name : Bor (List ℕ)) (i : ℕ) → AreBelow (take i names) name.now → AreAbove (drop i names) name.now → insert_key by_bytes names name ≡ insert names i name
-placed [] name zero below above = refl
-placed [] name (suc i) below above = refl
-placed (n ∷ names) name zero below above = ap (put_at n names name) above.0
-placed (n ∷ names) name (suc i) below above =
-    ap (put_at n names name) (nat_list_cmp_total.antisymm name.now n.now ∙ ap ordering_reverse below.0)
-    ∙ ap (λ ns. n ∷ ns) (placed names name i below.1 above)
-
-pub there : (names : Texts) (name d : Bor (List ℕ)) (i : ℕ) → AreRising names → i < length names → by_bytes (get_or names i d) name ≡ Equal → insert_key by_bytes names name ≡ names
-unfolding IsStrictlySortedBy
-there [] name d i rising inside equal = absurd (omega (arith, inside))
-there (n ∷ names) name d zero rising inside equal = ap (put_at n names name) (nat_list_cmp_total.antisymm name.now n.now ∙ ap ordering_reverse equal)
-there (n ∷ names) name d (suc i) rising inside equal =
-    let within : i < length names = omega (arith, inside) in
-    let other = get_or names i d in
-    ap (put_at n names name) (sym (nat_list_cmp_total.congr other.now name.now n.now equal) ∙ nat_list_cmp_total.antisymm other.now n.now ∙ ap ordering_reverse (All-from_recursion _ names rising.0 i d within))
-    ∙ ap (λ ns. n ∷ ns) (there names name d i rising.1 within equal)
-
--- names below the one, and above it, are those before one place, and from another on
-abbrev pub Between : Texts → List ℕ → ℕ → ℕ → Type 0
-Between names name low high = (low ≤ high) × (high ≤ length names) × AreBelow (take low names) name × AreAbove (drop high names) name
-
-pub later_place : (names : Texts) (name d : Bor (List ℕ)) (low high middle : ℕ) (next : ℕ) (end : ℕ) → AreRising names → middle < high → by_bytes (get_or names middle d) name ≡ Less
-    → next ≡ middle + 1 → end ≡ high → Between names name.now low high → Between names name.now next end
-later_place names name d low high middle next end rising inside less is same (_, within, _, over) =
-    let here : suc middle ≡ next = omega (arith, is) in
-    subst (λ i. Between names name.now i end) here
-    (subst (λ i. Between names name.now (suc middle) i) (sym same) (omega (arith, inside), within, below names name d middle rising (omega (arith, inside, within)) less, over))
-
-pub earlier_place : (names : Texts) (name d : Bor (List ℕ)) (low high middle : ℕ) (next : ℕ) (end : ℕ) → AreRising names → low ≤ middle → middle < high → by_bytes (get_or names middle d) name ≡ Greater
-    → next ≡ low → end ≡ middle → Between names name.now low high → Between names name.now next end
-earlier_place names name d low high middle next end rising from inside greater is same (_, within, under, _) =
-    subst (λ i. Between names name.now i end) (sym is)
-    (subst (λ i. Between names name.now low i) (sym same) (from, omega (arith, inside, within), under, above names name d middle rising (omega (arith, inside, within)) greater))
-
-pub still_rising : (names : Texts) (name : Bor (List ℕ)) → AreRising names → AreRising (insert_key by_bytes names name)
-unfolding IsStrictlySortedBy
-still_rising [] name rising = (tt, tt)
-still_rising (n ∷ names) name rising = by_order (still_rising names name rising.1) (by_bytes name n) refl where
-  by_order : AreRising (insert_key by_bytes names name) → (o : Ordering) → by_bytes name n ≡ o → AreRising (put_at n names name o)
-  by_order others Less is = ((is, above_all names name n is rising.0), rising)
-  by_order others Equal is = rising
-  by_order others Greater is = (
-    recursion_from_All _ _ (All-insert_key by_bytes name (λ m. by_bytes n m ≡ Less) names (All-from_recursion _ _ rising.0) (nat_list_cmp_total.antisymm n.now name.now ∙ ap ordering_reverse is)),
-    others,
-  )
-
-pub put_in : (names next : Texts) (name : Bor (List ℕ)) → AreRising names → next ≡ insert_key by_bytes names name → AreRising next × (all_true next ≡ put name.now (boolean true) (all_true names))
-put_in names next name rising is = (subst AreRising (sym is) (still_rising names name rising), ap all_true is ∙ put_key names name)
 
 abbrev pairs : Texts → List (List ℕ × Bool)
 pairs names = map (λ n. (n.now, true)) names
@@ -176,14 +78,10 @@ next_name names left rest name text next later here p put (so_far, plain) =
       λ ps. plain (subst AllPlain (sym here) (p, ps)),
     )
 
--- a name after what closes the member before it
-pub in_two : (text name : List ℕ) (later : Bool) → (text ++ (before_comma later ++ (comma_if later ++ 34 ∷ name))) ++ before_comma true ≡ (text ++ before_comma later) ++ (comma_if later ++ (34 ∷ (name ++ before_comma true)))
-in_two text name true = append_assoc text _ _ ∙ sym (append_assoc text _ _)
-in_two text name false = append_assoc text _ _ ∙ sym (append_assoc text _ _)
-
-pub ended : (names left : Texts) (text end : List ℕ) (later : Bool) → AreRising names → left ≡ [] → end ≡ text ++ 125 ∷ [] → Writes names text later left
-    → (end ≡ text_of names) × (read end ≡ Some (object (all_true names)))
-ended names left text end later rising none closed (so_far, plain) =
+pub ended : (bits : Names) (s : BitSet) (names left : Texts) (text end : List ℕ) (later : Bool) → AreMembers bits s names → left ≡ [] → end ≡ text ++ 125 ∷ [] → Writes names text later left
+    → (end ≡ compact_text (map_value bits s)) × (read end ≡ Some (map_value bits s))
+ended bits s names left text end later are none closed (so_far, plain) =
     let whole : end ≡ text_of names = closed ∙ ap (λ l. text ++ left_of later l) (sym none) ∙ so_far in
     let all = plain (subst AllPlain (sym none) tt) in
-    (whole, ap read whole ∙ first_member [] [] (left_of false names) (pairs names) tt tt (written_tokens names all) ∙ ap (λ ms. Some (object ms)) (put_rising names rising))
+    let same = all_sorted bits s names are in
+    (whole ∙ ap (λ ms. compact_text (object ms)) same, ap read whole ∙ first_member [] [] (left_of false names) (pairs names) tt tt (written_tokens names all) ∙ ap (λ ms. Some (object ms)) (put_rising names are.0 ∙ same))

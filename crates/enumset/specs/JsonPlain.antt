@@ -4,9 +4,20 @@
 --     is_space, AreSpaces      a byte that may stand between tokens;  bytes
 --     Passed      spaces, a byte, and what follows it
 --     with_named      a set with the bit of a name, if the name has one
-use Rattle.std.specs.Prelude.{◌≡◌, ℕ, List, ◌∷◌, ◌++◌, Bool, true, false, nat_lt, ◌==◌, ◌||◌, Option, Some, None}
-use Rattle.std.specs.List.{AllByRecursion}
-use Rattle.enumset_repr.specs.BitSet.{BitSet, insert}
+--     boolean_before      a boolean's text, before what follows it
+--     IsMember      a plain name up to its closing quote and a boolean, with spaces, and what follows them
+--     by_bytes, AreRising      how the bytes of two names compare;  names, each of whose bytes come before those of later ones
+--     IsName      whether a text is the name of one of some bits
+--     AreMembers      the names of a set's members, in the order of their bytes
+use Rattle.std.specs.Prelude.{◌≡◌, ◌⊎◌, ℕ, List, [], ◌∷◌, ◌++◌, length, Bool, true, false, nat_lt, ◌==◌, ◌||◌, Option, Some, None}
+use Rattle.std.specs.Borrow.{Bor}
+use Rattle.std.specs.Cmp.Lexicographic.{slice_cmp}
+use Rattle.std.specs.List.{All, AllByRecursion}
+use Rattle.std.specs.List.Sorted.{IsStrictlySortedBy}
+use Rattle.std.specs.Ordering.{nat_cmp}
+use Rattle.std.specs.declared.cmp.Ordering.{Ordering}
+use Rattle.enumset_repr.specs.BitSet.{BitSet, ascending, insert, len}
+use Rattle.enumset.specs.Names.{Names, name_of}
 
 abbrev pub IsPlainByte : ℕ → Type 0
 IsPlainByte x = ((x == 34) ≡ false) × ((x == 92) ≡ false) × (nat_lt x 32 ≡ false)
@@ -26,3 +37,24 @@ Passed text byte rest = (spaces : List ℕ) × AreSpaces spaces × (text ≡ spa
 abbrev pub with_named : Option ℕ → BitSet → BitSet
 with_named None s = s
 with_named (Some b) s = insert s b
+
+abbrev pub boolean_before : Bool → List ℕ → List ℕ
+boolean_before true rest = 116 ∷ 114 ∷ 117 ∷ 101 ∷ rest
+boolean_before false rest = 102 ∷ 97 ∷ 108 ∷ 115 ∷ 101 ∷ rest
+
+abbrev pub IsMember : List ℕ → List ℕ → Bool → List ℕ → Type 0
+IsMember text name b rest =
+    IsPlain name × ((g : List ℕ) × (h : List ℕ) × AreSpaces g × AreSpaces h × (text ≡ name ++ 34 ∷ (g ++ 58 ∷ (h ++ boolean_before b rest))))
+
+abbrev pub by_bytes : Bor (List ℕ) → Bor (List ℕ) → Ordering
+by_bytes x y = slice_cmp nat_cmp x.now y.now
+
+abbrev pub AreRising : List (Bor (List ℕ)) → Type 0
+AreRising = IsStrictlySortedBy by_bytes
+
+abbrev pub IsName : Names → List ℕ → List ℕ → Type 0
+IsName names [] text = ⊥
+IsName names (b ∷ bs) text = (name_of names b ≡ text) ⊎ IsName names bs text
+
+abbrev pub AreMembers : Names → BitSet → List (Bor (List ℕ)) → Type 0
+AreMembers names s ns = AreRising ns × All (λ n. IsName names (ascending s) n.now) ns × (length ns ≡ len s)

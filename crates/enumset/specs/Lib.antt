@@ -7,4 +7,3 @@ pub mod Names
 pub mod BothEnds
 pub mod Laws
 pub mod JsonPlain
-pub mod JsonMapTexts

@@ -63,7 +63,7 @@ pub(crate) fn find_name<T: EnumSetNames>(text: &[u8], next: &mut usize) -> Optio
         ≡ bit_named (names_of T.elements T.names) text.now }
 {
     let names = T::names();
-    let start = if *next < names.len() { *next } else { 0 };
+    let start = (*next).min(names.len());
     let (before, after) = names.split_at(start);
     if let Some((place, value)) = find_in(after, text) {
         *next = start + place + 1;

@@ -1,34 +1,15 @@
 //! Sets of JSON texts of maps whose names stand for themselves.
 
-ghost use Rattle.std.specs.Prelude.{◌≡◌, ◌++◌, List, ℕ, Ok, IfSome};
-ghost use Rattle.enumset.specs.JsonMapTexts.{boolean_before, IsMember};
+ghost use Rattle.std.specs.Prelude.{Ok, IfSome};
+ghost use Rattle.enumset.specs.JsonPlain.{IsMember};
 ghost use Rattle.enumset.specs.JsonNames.{set_of_map};
-ghost use Rattle.enumset.specs.JsonPlain.{AreSpaces};
 ghost use Rattle.enumset.specs.JsonReads.{IsReadOf};
 ghost use Rattle.enumset.specs.Names.{names_of};
 ghost use Rattle.enumset.specs.declared.set_json.unknown.Unknown.{Unknown};
 
-use super::scan::{after_byte, are_spaces, split_string};
+use super::scan::{after_byte, are_spaces, split_spaces, split_string};
 use crate::names::{EnumSetNames, find_name};
 use enumset_sets::EnumSet;
-
-// The boolean that stands first but for spaces, and what follows it.
-#[inline(always)]
-fn split_boolean(bytes: &[u8]) -> Option<(bool, &[u8])>
-    ensures { IfSome result (λ parts. (spaces : List ℕ) × AreSpaces spaces
-        × (bytes.now ≡ spaces ++ boolean_before parts.0 parts.1.now)) }
-{
-    if let Some(rest) = after_byte(bytes, b't') {
-        return match rest {
-            [b'r', b'u', b'e', rest @ ..] => Some((true, rest)),
-            _ => None,
-        };
-    }
-    match after_byte(bytes, b'f')? {
-        [b'a', b'l', b's', b'e', rest @ ..] => Some((false, rest)),
-        _ => None,
-    }
-}
 
 // The name and the boolean of a member after its opening quote, and what follows them.
 #[inline(always)]
@@ -36,8 +17,12 @@ fn split_member(bytes: &[u8]) -> Option<(&[u8], bool, &[u8])>
     ensures { IfSome result (λ parts. IsMember bytes.now parts.0.now parts.1 parts.2.now) }
 {
     let (name, rest) = split_string(bytes)?;
-    let (is_member, rest) = split_boolean(after_byte(rest, b':')?)?;
-    Some((name, is_member, rest))
+    let (_, value) = split_spaces(after_byte(rest, b':')?);
+    match value {
+        [b't', b'r', b'u', b'e', rest @ ..] => Some((name, true, rest)),
+        [b'f', b'a', b'l', b's', b'e', rest @ ..] => Some((name, false, rest)),
+        _ => None,
+    }
 }
 
 // The set of a map of plain names, if they are all known and none comes twice. No other text is read.
@@ -68,19 +53,16 @@ pub(super) fn plain_map_set<T: EnumSetNames>(text: &str) -> Option<EnumSet<T>>
         if let Some(end) = after_byte(rest, b'}') {
             return are_spaces(end).then_some(set);
         }
-        let after = after_byte(rest, b',')?;
-        left = after_byte(after, b'"')?;
+        left = after_byte(after_byte(rest, b',')?, b'"')?;
     }
     None
 }
 
 // Whether the end of a text may be that of a map of booleans. A text with a fault at its end is not read twice so.
 fn ends_as_map(bytes: &[u8]) -> bool {
-    match bytes.trim_ascii_end() {
-        [inside @ .., b'}'] => {
-            let last = inside.trim_ascii_end().last();
-            last.is_some_and(|byte| *byte == b'e' || *byte == b'{')
-        }
-        _ => false,
-    }
+    let [inside @ .., b'}'] = bytes.trim_ascii_end() else {
+        return false;
+    };
+    let last = inside.trim_ascii_end().last();
+    last.is_some_and(|byte| *byte == b'e' || *byte == b'{')
 }

@@ -1,181 +1,70 @@
 //! Texts of maps of names that stand for themselves in JSON.
 
-ghost use Rattle.std.specs.Prelude.{◌≡◌, ◌<◌, ◌≤◌, ◌++◌, ◌∷◌, [], length, Some, IfOk, IfSome, IsTrue, MatchOption, OnOk, string_bytes};
-ghost use Rattle.std.specs.BTreeSet.{insert_key};
+ghost use Rattle.std.specs.Prelude.{◌≡◌, ◌≤◌, Some, IfOk, IfSome, IsTrue, length, string_bytes};
 ghost use Rattle.std.specs.Cmp.Lexicographic.{slice_cmp};
 ghost use Rattle.std.specs.List.{All, insert};
-ghost use Rattle.std.specs.Ordering.{nat_cmp};
-ghost use Rattle.std.specs.declared.cmp.Ordering.TheVariants.{Less};
-ghost use Rattle.serde_json.specs.Data.{object, no_members};
+ghost use Rattle.std.specs.Ordering.{is_lt, nat_cmp};
 ghost use Rattle.serde_json.specs.Read.{read};
-ghost use Rattle.serde_json.specs.Written.{compact_text, comma_if};
+ghost use Rattle.serde_json.specs.Written.{compact_text};
 ghost use Rattle.enumset_repr.specs.BitSet.{ascending};
-ghost use Rattle.enumset.specs.JsonMapTexts.{all_true, before_comma, by_bytes, AreRising, IsName};
-ghost use Rattle.enumset.specs.JsonNames.{map_value, with_bits_true};
+ghost use Rattle.enumset.specs.JsonNames.{map_value};
+ghost use Rattle.enumset.specs.JsonPlain.{AreRising, IsName, AreMembers};
 ghost use Rattle.enumset.specs.Names.{names_of};
 
 use super::scan::is_plain;
 use crate::names::EnumSetNames;
 use enumset_sets::EnumSet;
 use std::alloc::{AllocError, Global};
-use std::cmp::Ordering;
 use std::simd::prelude::*;
 
-// The names of the set's members, in the order of their bytes. Memory is requested once.
-fn sorted_names<T: EnumSetNames>(
+// The map of the members' names, unless one of them needs an escape, or two are the same.
+pub(super) fn plain_map<T: EnumSetNames>(
     alloc: Global,
     set: &EnumSet<T>,
-) -> Result<Vec<&'static str>, AllocError>
-    ensures rising { IfOk result (λ names. AreRising names.items) }
-    ensures all { IfOk result (λ names. all_true names.items
-        ≡ with_bits_true (names_of T.elements T.names) no_members (ascending set.now)) }
-{
-    let mut names = Vec::with_capacity(alloc, set.len())?;
-    let mut place = 0;
-    for element in set.iter() {
-        let name = element.name();
-        if let Some(next) = place_of(&names, name, place) {
-            names.insert(next, name)?;
-            place = next;
-        }
-    }
-    Ok(names)
-}
-
-// Where a name goes among names in the order of bytes, unless it is there. The search halves what is left, but begins at
-// the place of the last name, and then looks next to it: names that rise or fall take a step or two each.
-fn place_of(names: &[&str], name: &str, last: usize) -> Option<usize>
-    requires { AreRising names.now }
-    ensures { MatchOption result (insert_key by_bytes names.now name.entry ≡ names.now) (λ place.
-        (place ≤ length names.now) × (insert_key by_bytes names.now name.entry ≡ insert names.now place name.entry)) }
-{
-    let mut low = 0;
-    let mut high = names.len();
-    let mut middle = if last < high { last } else { 0 };
-    let mut is_first = true;
-    while low < high {
-        match names[middle].cmp(name) {
-            Ordering::Less => low = middle + 1,
-            Ordering::Equal => return None,
-            Ordering::Greater => high = middle,
-        }
-        middle = place_within(low, high, is_first && low > 0);
-        is_first = false;
-    }
-    Some(low)
-}
-
-// The first place of some, or the one in the middle.
-#[inline(always)]
-fn place_within(low: usize, high: usize, is_first: bool) -> usize
-    requires { low ≤ high }
-    ensures { (low ≤ result) × (low < high → result < high) }
-{
-    if is_first {
-        low
-    } else {
-        low + (high - low) / 2
-    }
-}
-
-// One more name, after what closes the member before it.
-#[inline(always)]
-fn put_name(text: &mut String, name: &str, later: bool) -> Result<(), AllocError>
-    ensures { OnOk result (string_bytes text.new ≡ string_bytes text.old
-        ++ (before_comma later ++ (comma_if later ++ 34 ∷ name.now))) }
-{
-    if later {
-        text.push_str("\":true,\"")?;
-    } else {
-        text.push_str("{\"")?;
-    }
-    text.push_str(name)
-}
-
-// The end of a map.
-#[inline(always)]
-fn put_end(text: &mut String, later: bool) -> Result<(), AllocError>
-    ensures { OnOk result (string_bytes text.new ≡ string_bytes text.old
-        ++ (before_comma later ++ 125 ∷ [])) }
-{
-    text.push_str(if later { "\":true}" } else { "{}" })
-}
-
-// How many bytes the map of names has, so that one request for memory is enough.
-fn text_len(names: &[&str]) -> usize {
-    let mut len: usize = 2;
-    for name in names.iter() {
-        len = len.saturating_add(name.len()).saturating_add(8);
-    }
-    len
-}
-
-// The map of names with `true`, unless one of them needs an escape.
-fn text_of_names(alloc: Global, names: &[&str]) -> Result<Option<String>, AllocError>
-    requires { AreRising names.now }
+) -> Result<Option<String>, AllocError>
     ensures { IfOk result (λ o. IfSome o (λ text.
-        (string_bytes text ≡ compact_text (object (all_true names.now)))
-        × (read (string_bytes text) ≡ Some (object (all_true names.now))))) }
+        (string_bytes text ≡ compact_text (map_value (names_of T.elements T.names) set.now))
+        × (read (string_bytes text) ≡ Some (map_value (names_of T.elements T.names) set.now)))) }
 {
-    let mut text = String::with_capacity(alloc, text_len(names))?;
-    let mut later = false;
-    for name in names.iter() {
-        if !is_plain(name) {
-            return Ok(None);
+    if let Some(first) = set.first()
+        && set.len() <= 32
+    {
+        let mut names = [first.name(); 32];
+        place_names(&mut names, set);
+        let names = &names[..set.len()];
+        if names.is_sorted_by(|one, other| comes_before(one, other)) {
+            return text_of_names(alloc, set, names);
         }
-        put_name(&mut text, name, later)?;
-        later = true;
     }
-    put_end(&mut text, later)?;
-    Ok(Some(text))
-}
-
-// Greater than the first four bytes of any text: no text has the byte 255.
-const PAST_KEYS: u32 = 0xff00_0000;
-
-// Puts down the first four bytes of each member's name as a number. False if there are more than 32 members, or one has
-// the number of the member before it.
-#[inline(always)]
-fn put_keys<T: EnumSetNames>(keys: &mut [u32; 32], set: &EnumSet<T>) -> bool {
-    let mut last = PAST_KEYS;
-    let mut next = 0;
-    for element in set.iter() {
-        let key = key_of(element.name().as_bytes());
-        if key == last {
-            return false;
-        }
-        let Some(place) = keys.get_mut(next) else {
-            return false;
-        };
-        *place = key;
-        last = key;
-        next += 1;
-    }
-    true
-}
-
-// The first four bytes as a number, with zeros for those that are missing.
-#[inline(always)]
-fn key_of(name: &[u8]) -> u32 {
-    match name {
-        [first, second, third, fourth, ..] => {
-            u32::from_be_bytes([*first, *second, *third, *fourth])
-        }
-        [first, second, third] => u32::from_be_bytes([*first, *second, *third, 0]),
-        [first, second] => u32::from_be_bytes([*first, *second, 0, 0]),
-        [first] => u32::from_be_bytes([*first, 0, 0, 0]),
-        [] => 0,
+    match sorted_names(alloc, set)? {
+        Some(names) => text_of_names(alloc, set, &names),
+        None => Ok(None),
     }
 }
 
-// Puts the name of each member at the place that its key has among all keys. No branch depends on the order.
+// Puts the names of at most 32 members at the places that their first four bytes have among those of all, unless two
+// neighbours begin alike. No branch depends on the order.
 #[inline(always)]
-fn place_names<T: EnumSetNames>(names: &mut [&'static str; 32], set: &EnumSet<T>, keys: &[u32; 32])
+fn place_names<T: EnumSetNames>(names: &mut [&'static str; 32], set: &EnumSet<T>)
     requires { All (λ name. IsName (names_of T.elements T.names) (ascending set.now) name.now) names.old }
     ensures named { All (λ name. IsName (names_of T.elements T.names) (ascending set.now) name.now) names.new }
     ensures len { length names.new ≡ length names.old }
 {
-    let lanes = Simd::<u32, 32>::from_array(*keys);
+    let mut keys = [u32::MAX; 32];
+    let mut last = u32::MAX;
+    let mut next = 0;
+    for member in set.iter() {
+        let key = key_of(member.name().as_bytes());
+        if key == last {
+            return;
+        }
+        if next < 32 {
+            keys[next] = key;
+            next += 1;
+        }
+        last = key;
+    }
+    let lanes = Simd::<u32, 32>::from_array(keys);
     let mut next = 0;
     for element in set.iter() {
         if next < 32 {
@@ -189,73 +78,87 @@ fn place_names<T: EnumSetNames>(names: &mut [&'static str; 32], set: &EnumSet<T>
     }
 }
 
+// The first four bytes as a number, with zeros for those that are missing.
+#[inline(always)]
+fn key_of(name: &[u8]) -> u32 {
+    match name {
+        [a, b, c, d, ..] => u32::from_be_bytes([*a, *b, *c, *d]),
+        [a, b, c] => u32::from_be_bytes([*a, *b, *c, 0]),
+        [a, b] => u32::from_be_bytes([*a, *b, 0, 0]),
+        [a] => u32::from_be_bytes([*a, 0, 0, 0]),
+        [] => 0,
+    }
+}
+
 // Whether a name comes before another. In most pairs the first bytes tell.
 #[inline(always)]
 fn comes_before(one: &str, other: &str) -> bool
-    ensures { IsTrue result → slice_cmp nat_cmp one.now other.now ≡ Less }
+    ensures { result ≡ is_lt (slice_cmp nat_cmp one.now other.now) }
 {
-    if let ([first, ..], [second, ..]) = (one.as_bytes(), other.as_bytes())
-        && *first < *second
-    {
-        return true;
-    }
-    match one.cmp(other) {
-        Ordering::Less => true,
-        Ordering::Equal | Ordering::Greater => false,
+    match (one.as_bytes(), other.as_bytes()) {
+        ([first, ..], [second, ..]) if *first < *second => true,
+        _ => one < other,
     }
 }
 
-// Whether names rise by their bytes.
-#[inline(always)]
-fn are_rising(names: &[&str]) -> bool
-    ensures { IsTrue result → AreRising names.now }
-{
-    for i in (1..names.len()).rev() {
-        if !comes_before(names[i - 1], names[i]) {
-            return false;
-        }
-    }
-    true
-}
-
-// The map of the members' names by their keys, unless the names do not rise so, or one of them needs an escape.
-fn map_by_keys<T: EnumSetNames>(
+// The names of the set's members, in the order of their bytes, unless two are the same. Most go next to the one before.
+fn sorted_names<T: EnumSetNames>(
     alloc: Global,
     set: &EnumSet<T>,
-    keys: &[u32; 32],
-) -> Result<Option<String>, AllocError>
-    ensures { IfOk result (λ o. IfSome o (λ text.
-        (string_bytes text ≡ compact_text (map_value (names_of T.elements T.names) set.now))
-        × (read (string_bytes text) ≡ Some (map_value (names_of T.elements T.names) set.now)))) }
+) -> Result<Option<Vec<&'static str>>, AllocError>
+    ensures { IfOk result (λ o. IfSome o (λ names.
+        AreMembers (names_of T.elements T.names) set.now names.items)) }
 {
-    let Some(first) = set.first() else {
-        return Ok(None);
-    };
-    let mut names = [first.name(); 32];
-    place_names(&mut names, set, keys);
-    if let Some(names) = names.get(..set.len())
-        && are_rising(names)
-    {
-        return text_of_names(alloc, names);
+    let mut names = Vec::with_capacity(alloc, set.len())?;
+    let mut place = 0;
+    for element in set.iter() {
+        let name = element.name();
+        if !fits(&names, place, name) {
+            place = names.partition_point(|other| *other < name);
+            if !fits(&names, place, name) {
+                return Ok(None);
+            }
+        }
+        names.insert(place, name)?;
+        place += 1;
     }
-    Ok(None)
+    Ok(Some(names))
+}
+
+// Whether a name comes after those before a place, and before those from it on.
+#[inline(always)]
+fn fits(names: &[&str], place: usize, name: &str) -> bool
+    requires { place ≤ length names.now }
+    ensures { IsTrue result → AreRising names.now → AreRising (insert names.now place name.entry) }
+{
+    (place == 0 || names[place - 1] < name) && (place == names.len() || name < names[place])
 }
 
 // The map of the members' names, unless one of them needs an escape.
-pub(super) fn plain_map<T: EnumSetNames>(
+fn text_of_names<T: EnumSetNames>(
     alloc: Global,
     set: &EnumSet<T>,
+    names: &[&str],
 ) -> Result<Option<String>, AllocError>
+    requires { AreMembers (names_of T.elements T.names) set.now names.now }
     ensures { IfOk result (λ o. IfSome o (λ text.
         (string_bytes text ≡ compact_text (map_value (names_of T.elements T.names) set.now))
         × (read (string_bytes text) ≡ Some (map_value (names_of T.elements T.names) set.now)))) }
 {
-    let mut keys = [PAST_KEYS; 32];
-    if put_keys(&mut keys, set)
-        && let Some(text) = map_by_keys(alloc, set, &keys)?
-    {
-        return Ok(Some(text));
+    // One request for memory is enough: each name has quotes, a colon, `true` and a comma.
+    let bytes = names
+        .iter()
+        .fold(2usize, |bytes, name| bytes.saturating_add(name.len()));
+    let mut text = String::with_capacity(alloc, set.len().saturating_mul(8).saturating_add(bytes))?;
+    let mut later = false;
+    for name in names.iter() {
+        if !is_plain(name) {
+            return Ok(None);
+        }
+        text.push_str(if later { "\":true,\"" } else { "{\"" })?;
+        text.push_str(name)?;
+        later = true;
     }
-    let names = sorted_names(alloc, set)?;
-    text_of_names(alloc, &names)
+    text.push_str(if later { "\":true}" } else { "{}" })?;
+    Ok(Some(text))
 }

@@ -1,8 +1,8 @@
 //! Texts of lists of names that stand for themselves, written and read without a tree of values.
 
-ghost use Rattle.std.specs.Prelude.{◌≡◌, ◌++◌, ◌∷◌, [], IfOk, IfSome, OnOk, Some, string_bytes};
+ghost use Rattle.std.specs.Prelude.{◌≡◌, IfOk, IfSome, Some, string_bytes};
 ghost use Rattle.serde_json.specs.Read.{read};
-ghost use Rattle.serde_json.specs.Written.{compact_text, comma_if};
+ghost use Rattle.serde_json.specs.Written.{compact_text};
 ghost use Rattle.enumset.specs.JsonNames.{list_value, set_of_list};
 ghost use Rattle.enumset.specs.JsonReads.{IsReadOf};
 ghost use Rattle.enumset.specs.Names.{names_of};
@@ -26,29 +26,18 @@ pub(super) fn plain_list<T: EnumSetNames>(
 {
     // Most names have at most thirteen bytes.
     let mut text = String::with_capacity(alloc, set.len().saturating_mul(16))?;
-    text.push_str("[")?;
     let mut later = false;
     for element in set.iter() {
         let name = element.name();
         if !is_plain(name) {
             return Ok(None);
         }
-        put_name(&mut text, name, later)?;
+        text.push_str(if later { "\",\"" } else { "[\"" })?;
+        text.push_str(name)?;
         later = true;
     }
-    text.push_str("]")?;
+    text.push_str(if later { "\"]" } else { "[]" })?;
     Ok(Some(text))
-}
-
-// One more name of a list.
-#[inline(always)]
-fn put_name(list: &mut String, name: &str, later: bool) -> Result<(), AllocError>
-    ensures { OnOk result (string_bytes list.new
-        ≡ string_bytes list.old ++ (comma_if later ++ (34 ∷ (name.now ++ 34 ∷ [])))) }
-{
-    list.push_str(if later { ",\"" } else { "\"" })?;
-    list.push_str(name)?;
-    list.push_str("\"")
 }
 
 // What is read of a list of plain strings, with spaces anywhere between its tokens. No other text is read.
@@ -82,27 +71,15 @@ pub(super) fn plain_set<T: EnumSetNames>(
     None
 }
 
-// Whether the last string of a text, and what follows it, may end a list of plain strings. A long text with a fault at
-// its end is not read twice so; a short one is read in little more time than this test takes.
+// Whether a text ends as a list whose last string is plain. A long text with a fault at its end is not read twice so; a
+// short one is read in little more time than this test takes.
 fn ends_as_list(bytes: &[u8]) -> bool {
-    let Some(inside) = before_byte(bytes, b']') else {
+    let [inside @ .., b']'] = bytes.trim_ascii_end() else {
         return false;
     };
-    let Some(string) = before_byte(inside, b'"') else {
-        return before_byte(inside, b'[').is_some();
+    let [string @ .., b'"'] = inside.trim_ascii_end() else {
+        return false;
     };
-    for i in (0..string.len()).rev() {
-        if !is_plain_byte(string[i]) {
-            let before = &string[..i];
-            return string[i] == b'"'
-                && (before_byte(before, b',').is_some() || before_byte(before, b'[').is_some());
-        }
-    }
-    false
-}
-
-// What precedes a byte that stands last but for spaces.
-fn before_byte(bytes: &[u8], byte: u8) -> Option<&[u8]> {
-    let (last, rest) = bytes.trim_ascii_end().split_last()?;
-    (*last == byte).then_some(rest)
+    let before = string.iter().rev().find(|byte| !is_plain_byte(**byte));
+    before.is_some_and(|byte| *byte == b'"')
 }

@@ -106,8 +106,7 @@ pub(super) fn split_spaces(bytes: &[u8]) -> (&[u8], &[u8])
 pub(super) fn after_byte(bytes: &[u8], byte: u8) -> Option<&[u8]>
     ensures { IfSome result (λ rest. Passed bytes.now byte rest.now) }
 {
-    let (_, rest) = split_spaces(bytes);
-    let (first, rest) = rest.split_first()?;
+    let (first, rest) = split_spaces(bytes).1.split_first()?;
     (*first == byte).then_some(rest)
 }
 
@@ -116,8 +115,7 @@ pub(super) fn after_byte(bytes: &[u8], byte: u8) -> Option<&[u8]>
 pub(super) fn are_spaces(bytes: &[u8]) -> bool
     ensures { IsTrue result → AreSpaces bytes.now }
 {
-    let (_, rest) = split_spaces(bytes);
-    rest.is_empty()
+    split_spaces(bytes).1.is_empty()
 }
 
 // The bytes of a plain string after its opening quote, and what follows its closing one.

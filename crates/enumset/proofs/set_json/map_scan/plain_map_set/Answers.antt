@@ -1,12 +1,12 @@
-use Rattle.std.proofs.Common.{◌≡◌, cond, Ok, sym, subst, ◌∙◌}
-use Rattle.std.proofs.lemmas.Bool.{not-true, cond-true, cond-false}
+use Rattle.std.proofs.Common.{rules, arith, ◌≡◌, cond, Ok, sym, subst, ◌∙◌}
+use Rattle.std.proofs.lemmas.Bool.{not-true}
+use Rattle.std.proofs.lemmas.Grind.{common_steps}
 use Rattle.enumset_repr.specs.BitSet.{empty, insert}
 use Rattle.enumset.specs.JsonNames.{set_of_map}
 use Rattle.enumset.specs.JsonReads.{IsReadOf}
 use Rattle.enumset.specs.Names.{names_of}
 use Rattle.enumset.proofs.PlainWords.{kept_if}
 use Rattle.enumset.proofs.MapsRead.{Scanned, scan_begins, scan_next, scan_ends, scan_none}
-use Rattle.enumset.proofs.set_json.map_scan.plain_map_set.Goals.{then-is_member, else-is_member}
 use Rattle.enumset.proofs.set_json.map_scan.plain_map_set.Goals as goal
 
 pub returns-in-Some : goal.returns-in-Some
@@ -26,10 +26,7 @@ pub returns-in-Some-after_byte : goal.returns-in-Some-after_byte
 returns-in-Some-after_byte g c =
     let names = names_of g.T.EnumSetType.elements g.T.EnumSetNames.names in
     let bit = g.T.EnumSetType.elements.bit c.in_ok-element.element in
-    let set_is : c.if-is_member.set ≡ cond c.in_ok-name.is_member (insert c.loop.set bit) c.loop.set = elim c.if-is_member.branch [
-      | then-is_member w ↦ w.set-is ∙ w.insert-then-is_member.ensures.inserted ∙ sym (cond-true _ _ _ w.if-is_member.true)
-      | else-is_member w ↦ w.set-is ∙ sym (cond-false _ _ _ w.if-is_member.false)
-    ] in
+    let set_is : c.if-is_member.set ≡ cond c.in_ok-name.is_member (insert c.loop.set bit) c.loop.set = first_of (search rules, grind (arith, common_steps)) in
     kept_if _ c.then_some-in-Some-after_byte.result _ _ c.then_some-in-Some-after_byte.ensures (λ all unknown. subst (λ s. IsReadOf (set_of_map names unknown) c.args.text.now (Ok s)) (sym set_is)
     (scan_ends names c.args.text.now c.loop.left.now c.loop.seen c.loop.set c.in_ok-name.name.now c.in_ok-name.is_member c.in_ok-name.rest.now bit c.loop.invariant c.in_ok-name.ensures
     (sym c.in_ok-element.ensures) (not-true _ (sym c.insert.ensures.was_absent ∙ c.if-not-insert.false)) c.in-Some-after_byte.end.now unknown c.in-Some-after_byte.ensures (c.are_spaces-in-Some-after_byte.ensures all)))
@@ -39,11 +36,8 @@ loop-preserved g c =
     let names = names_of g.T.EnumSetType.elements g.T.EnumSetNames.names in
     let bit = g.T.EnumSetType.elements.bit c.in_ok-element.element in
     let next = c.in_ok-left-2.left.now in
-    let set_is : c.if-is_member.set ≡ cond c.in_ok-name.is_member (insert c.loop.set bit) c.loop.set = elim c.if-is_member.branch [
-      | then-is_member w ↦ w.set-is ∙ w.insert-then-is_member.ensures.inserted ∙ sym (cond-true _ _ _ w.if-is_member.true)
-      | else-is_member w ↦ w.set-is ∙ sym (cond-false _ _ _ w.if-is_member.false)
-    ] in
+    let set_is : c.if-is_member.set ≡ cond c.in_ok-name.is_member (insert c.loop.set bit) c.loop.set = first_of (search rules, grind (arith, common_steps)) in
     subst (λ s. Scanned names c.args.text.now next s c.if-is_member.set) (sym c.insert.ensures.inserted)
     (subst (λ s. Scanned names c.args.text.now next (insert c.loop.seen bit) s) (sym set_is)
     (scan_next names c.args.text.now c.loop.left.now c.loop.seen c.loop.set c.in_ok-name.name.now c.in_ok-name.is_member c.in_ok-name.rest.now bit c.loop.invariant c.in_ok-name.ensures
-    (sym c.in_ok-element.ensures) (not-true _ (sym c.insert.ensures.was_absent ∙ c.if-not-insert.false)) c.in_ok-after.after.now next c.in_ok-after.ensures c.in_ok-left-2.ensures))
+    (sym c.in_ok-element.ensures) (not-true _ (sym c.insert.ensures.was_absent ∙ c.if-not-insert.false)) c.in_ok-after_byte.field-0.now next c.in_ok-after_byte.ensures c.in_ok-left-2.ensures))

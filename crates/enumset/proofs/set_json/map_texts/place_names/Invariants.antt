@@ -1,7 +1,7 @@
 use Rattle.std.proofs.Common.{◌≡◌, ℕ, List, length}
 use Rattle.std.specs.List.{All}
 use Rattle.enumset_repr.specs.BitSet.{ascending}
-use Rattle.enumset.specs.JsonMapTexts.{IsName}
+use Rattle.enumset.specs.JsonPlain.{IsName}
 use Rattle.enumset.specs.Names.{names_of}
 use Rattle.enumset.proofs.set_json.map_texts.place_names.Given as goal
 

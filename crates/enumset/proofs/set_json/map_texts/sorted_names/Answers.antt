@@ -1,31 +1,51 @@
-use Rattle.std.proofs.Common.{◌≡◌, arith, sym, subst, ap, ◌∙◌}
+use Rattle.std.proofs.Common.{◌≡◌, ◌≤◌, ℕ, List, Bor, ◌∷◌, length, arith, sym, subst, ap, ◌∙◌, inl, inr, refl}
 use Rattle.std.proofs.lemmas.Grind.{common_steps}
-use Rattle.std.specs.BTreeSet.{insert_key}
-use Rattle.std.specs.List.{insert}
+use Rattle.std.proofs.lemmas.List.Elements.{All-cons}
+use Rattle.std.proofs.lemmas.List.Sorted.{All-permutation, IsPermutation-insert}
+use Rattle.std.specs.List.{All, insert}
 use Rattle.std.specs.List.Sorted.{IsStrictlySortedBy}
-use Rattle.enumset.specs.JsonMapTexts.{all_true, AreRising, by_bytes}
-use Rattle.enumset.specs.JsonNames.{with_bits_true}
+use Rattle.enumset_repr.specs.BitSet.{ascending}
+use Rattle.enumset_repr.specs.Laws.Ascending.{len_ascending}
+use Rattle.enumset.specs.JsonPlain.{AreRising, IsName}
 use Rattle.enumset.specs.Names.{names_of}
-use Rattle.enumset.proofs.MapsWritten.{put_in}
+use Rattle.enumset.proofs.set_json.map_texts.sorted_names.Goals.{then-not-fits+else-not-fits-2, else-not-fits}
 use Rattle.enumset.proofs.set_json.map_texts.sorted_names.Goals as goal
 
 pub loop-element-init : goal.loop-element-init
 unfolding IsStrictlySortedBy
 loop-element-init g c =
-    (subst AreRising (sym c.in_ok-names.ensures.items) tt, ap (λ ks. with_bits_true (names_of g.T.EnumSetType.elements g.T.EnumSetNames.names) (all_true ks) c.into_iter-element-iterator.result.items) c.in_ok-names.ensures.items)
-
-pub loop-element-preserved-in-Some-place_of : goal.loop-element-preserved-in-Some-place_of
-loop-element-preserved-in-Some-place_of g c =
-    let name = c.name-name.result in
-    let next : c.insert.new.self.items ≡ insert_key by_bytes c.loop-element.names.items name =
-    c.in_ok-insert.ensures.items ∙ sym (subst (λ l. insert_key by_bytes l name ≡ insert l c.in-Some-place_of.next name) c.deref.ensures.value c.in-Some-place_of.ensures.1) in
-    let (rising, put) = put_in c.loop-element.names.items _ name c.loop-element.invariant.0 next in
-    (rising, grind (arith, common_steps, put))
+    let none = c.in_ok-names.ensures.items in
+    let all = ap (λ i. i.items) c.into_iter-element-iterator.ensures.into_iter_gives ∙ c.iter-element-items.ensures.ascending in (
+      omega arith,
+      subst AreRising (sym none) tt,
+      omega (arith, ap length none, ap length all),
+      λ k d within. absurd (omega (arith, within, ap length none)),
+      λ text. subst (λ bits. IsName (names_of g.T.EnumSetType.elements g.T.EnumSetNames.names) bits text) all,
+    )
 
 pub loop-element-preserved : goal.loop-element-preserved
 loop-element-preserved g c =
+    let names = c.loop-element.names.items in
+    let all = names_of g.T.EnumSetType.elements g.T.EnumSetNames.names in
+    let (inside, rising, many, named, left) = c.loop-element.invariant in
+    let place = c.if-not-fits.place in
     let name = c.name-name.result in
-    let next : c.loop-element.names.items ≡ insert_key by_bytes c.loop-element.names.items name =
-    sym (subst (λ l. insert_key by_bytes l name ≡ l) c.deref.ensures.value c.in_default.ensures) in
-    let (rising, put) = put_in c.loop-element.names.items _ name c.loop-element.invariant.0 next in
-    (rising, grind (arith, common_steps, put))
+    let there : (place ≤ length names) × AreRising (insert names place name) = elim c.if-not-fits.branch [
+      | then-not-fits+else-not-fits-2 w ↦ (omega (arith, w.place-is, w.partition_point-place.ensures.bound), subst (λ l. AreRising l → AreRising (insert l place name)) w.deref-then-not-fits-2.ensures.value (subst (λ i. AreRising w.deref-then-not-fits-2.result.now → AreRising (insert w.deref-then-not-fits-2.result.now i name)) (sym w.place-is) (w.if-not-fits-2.ensures refl)) rising)
+      | else-not-fits w ↦ (omega (arith, inside, w.place-is), subst (λ l. AreRising l → AreRising (insert l place name)) c.deref.ensures.value (subst (λ i. AreRising c.deref.result.now → AreRising (insert c.deref.result.now i name)) (sym w.place-is) (w.if-not-fits.ensures refl)) rising)
+    ] in
+    let put = c.in_ok-insert.ensures.items in
+    let here : c.loop-element.element-iterator.items ≡ g.T.EnumSetType.elements.bit c.in-Some.element ∷ c.next.new.self.items = grind (arith, common_steps) in
+    let P : Bor (List ℕ) → Type 0 = λ n. IsName all (ascending c.args.set.now) n.now in
+    let one = left name.now (subst (λ bits. IsName all bits name.now) (sym here) (inl (sym c.name-name.ensures))) in (
+      omega (arith, there.0, c.in_ok-insert.ensures.len),
+      subst AreRising (sym put) there.1,
+      omega (arith, many, ap length here, c.in_ok-insert.ensures.len),
+      subst (All P) (sym put) (All-permutation P _ _ (IsPermutation-insert names place name) (All-cons P name names one named)),
+      λ text later. left text (subst (λ bits. IsName all bits text) (sym here) (inr later)),
+    )
+
+pub returns : goal.returns
+returns g c =
+    let (inside, rising, many, named, left) = c.loop-element.invariant in
+    (rising, named, omega (arith, many, len_ascending c.args.set.now, ap length c.in-None.ensures.steps.0.0))

@@ -1,13 +1,14 @@
-use Rattle.std.proofs.Common.{◌≡◌}
-use Rattle.serde_json.specs.Data.{no_members}
-use Rattle.enumset.specs.JsonMapTexts.{all_true, AreRising}
-use Rattle.enumset.specs.JsonNames.{with_bits_true}
+use Rattle.std.proofs.Common.{◌≡◌, ◌≤◌, ◌+◌, ℕ, List, length}
+use Rattle.std.specs.List.{All}
+use Rattle.enumset_repr.specs.BitSet.{ascending}
+use Rattle.enumset.specs.JsonPlain.{AreRising, IsName}
 use Rattle.enumset.specs.Names.{names_of}
 use Rattle.enumset.proofs.set_json.map_texts.sorted_names.Given as goal
 
--- the names so far, with those of the bits that are left
+-- the names so far rise, and they and those of the bits that are left are those of the set's members
 abbrev pub invariant-loop-element : goal.invariant-loop-element
 invariant-loop-element g l =
-    AreRising l.names.items
-    × (with_bits_true (names_of g.T.EnumSetType.elements g.T.EnumSetNames.names) (all_true l.names.items) l.element-iterator.items
-    ≡ with_bits_true (names_of g.T.EnumSetType.elements g.T.EnumSetNames.names) no_members l.initial.element-iterator.items)
+    (l.place ≤ length l.names.items) × AreRising l.names.items × (length l.names.items + length l.element-iterator.items ≡ length (ascending l.set))
+    × All (λ name. IsName (names_of g.T.EnumSetType.elements g.T.EnumSetNames.names) (ascending l.set) name.now) l.names.items
+    × ((text : List ℕ) → IsName (names_of g.T.EnumSetType.elements g.T.EnumSetNames.names) l.element-iterator.items text
+    → IsName (names_of g.T.EnumSetType.elements g.T.EnumSetNames.names) (ascending l.set) text)
