@@ -9,9 +9,10 @@ use Rattle.std.proofs.lemmas.Map.Views.{All-insert_key}
 use Rattle.std.specs.BTreeSet.{insert_key}
 use Rattle.std.specs.Cmp.Lexicographic.{slice_cmp}
 use Rattle.std.specs.List.{AllByRecursion, insert}
-use Rattle.std.specs.List.Sorted.{IsStrictlySortedBy}
-use Rattle.std.specs.Ordering.{is_lt, ordering_reverse, match_ordering}
-use Rattle.std.specs.Prelude.{true}
+use Rattle.std.specs.List.Sorted.{IsBinarySearchResult, IsSearchInRange, IsStrictlySortedBy}
+use Rattle.std.specs.Ordering.{is_lt, ordering_index, ordering_reverse, match_ordering}
+use Rattle.std.specs.Prelude.{true, IfSome, Result, Ok, Err}
+use Rattle.std.specs.Result.{result_err}
 use Rattle.enumset_repr.specs.BitSet.{BitSet, ascending}
 use Rattle.enumset_repr.specs.Laws.Ascending.{len_ascending}
 use Rattle.serde_json.specs.Data.{boolean, Members, member, no_members, put}
@@ -181,3 +182,25 @@ put_between ns i name d inside after before r = rises (insert ns i name) d each
     each k within =
         let long = length-insert ns i name inside in
         grind (arith, long, within, after, before, get_or-insert_below ns i name d k, get_or-insert_below ns i name d (k + 1), get_or-insert_at ns i name d, get_or-insert_above ns i name d k, get_or-insert_above ns i name d (k - 1), Less-from_sorted by_bytes ns k (k + 1) d r, Less-from_sorted by_bytes ns (k - 1) k d r)
+
+-- a binary search for a name that is not there
+compared : (n m name : Bor (List ℕ)) → by_bytes n m ≡ Less → ordering_index (by_bytes n name) ≤ ordering_index (by_bytes m name)
+compared n m name less = by_order (by_bytes m name) refl where
+  by_order : (o : Ordering) → by_bytes m name ≡ o → ordering_index (by_bytes n name) ≤ ordering_index o
+  by_order Less is = omega (arith, ap ordering_index (nat_list_cmp_total.trans n.now m.now name.now less is))
+  by_order Equal is = omega (arith, ap ordering_index (ap (slice_cmp nat_cmp n.now) (sym (exact_bytes m.now name.now is)) ∙ less))
+  by_order Greater is = at_most (by_bytes n name)
+    where
+      at_most : (o : Ordering) → ordering_index o ≤ 2
+      at_most Less = omega arith
+      at_most Equal = omega arith
+      at_most Greater = omega arith
+
+pub searched : (ns : Texts) (name : Bor (List ℕ)) (r : Result ℕ ℕ) → IsSearchInRange r (length ns) → IsBinarySearchResult (λ n. by_bytes n name) ns r
+    → IfSome (result_err r) (λ i. AreRising ns → (i ≤ length ns) × AreRising (insert ns i name))
+searched ns name (Ok i) inside found = tt
+searched ns name (Err i) inside found = λ rising.
+    let (before, after) = found (λ j k d low within. grind (arith, low, within, compared (get_or ns j d) (get_or ns k d) name, Less-from_sorted by_bytes ns j k d rising)) in (
+      inside,
+      put_between ns i name name inside (λ some. before (i - 1) name (omega arith) (omega (arith, some))) (λ within. nat_list_cmp_total.antisymm name.now (get_or ns i name).now ∙ ap ordering_reverse (after i name (omega arith) within)) rising,
+    )

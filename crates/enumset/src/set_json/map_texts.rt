@@ -114,10 +114,10 @@ fn sorted_names<T: EnumSetNames>(
     for element in set.iter() {
         let name = element.name();
         if !fits(&names, place, name) {
-            place = names.partition_point(|other| *other < name);
-            if !fits(&names, place, name) {
+            let Some(found) = place_of(&names, name) else {
                 return Ok(None);
-            }
+            };
+            place = found;
         }
         names.insert(place, name)?;
         place += 1;
@@ -132,6 +132,15 @@ fn fits(names: &[&str], place: usize, name: &str) -> bool
     ensures { IsTrue result → AreRising names.now → AreRising (insert names.now place name.entry) }
 {
     (place == 0 || names[place - 1] < name) && (place == names.len() || name < names[place])
+}
+
+// Where a name goes among names in the order of bytes, unless it is there.
+#[inline(always)]
+fn place_of(names: &[&str], name: &str) -> Option<usize>
+    ensures { IfSome result (λ place. AreRising names.now
+        → (place ≤ length names.now) × AreRising (insert names.now place name.entry)) }
+{
+    names.binary_search(&name).err()
 }
 
 // The map of the members' names, unless one of them needs an escape.

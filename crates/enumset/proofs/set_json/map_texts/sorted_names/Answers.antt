@@ -8,7 +8,7 @@ use Rattle.enumset_repr.specs.BitSet.{ascending}
 use Rattle.enumset_repr.specs.Laws.Ascending.{len_ascending}
 use Rattle.enumset.specs.JsonPlain.{AreRising, IsName}
 use Rattle.enumset.specs.Names.{names_of}
-use Rattle.enumset.proofs.set_json.map_texts.sorted_names.Goals.{then-not-fits+else-not-fits-2, else-not-fits}
+use Rattle.enumset.proofs.set_json.map_texts.sorted_names.Goals.{then-not-fits+in-Some-place_of, else-not-fits}
 use Rattle.enumset.proofs.set_json.map_texts.sorted_names.Goals as goal
 
 pub loop-element-init : goal.loop-element-init
@@ -30,8 +30,9 @@ loop-element-preserved g c =
     let (inside, rising, many, named, left) = c.loop-element.invariant in
     let place = c.if-not-fits.place in
     let name = c.name-name.result in
-    let there : (place ≤ length names) × AreRising (insert names place name) = elim c.if-not-fits.branch [
-      | then-not-fits+else-not-fits-2 w ↦ (omega (arith, w.place-is, w.partition_point-place.ensures.bound), subst (λ l. AreRising l → AreRising (insert l place name)) w.deref-then-not-fits-2.ensures.value (subst (λ i. AreRising w.deref-then-not-fits-2.result.now → AreRising (insert w.deref-then-not-fits-2.result.now i name)) (sym w.place-is) (w.if-not-fits-2.ensures refl)) rising)
+    let Fits : List (Bor (List ℕ)) → ℕ → Type 0 = λ l i. (i ≤ length l) × AreRising (insert l i name) in
+    let there : Fits names place = elim c.if-not-fits.branch [
+      | then-not-fits+in-Some-place_of w ↦ subst (Fits names) (sym w.place-is) (subst (λ l. AreRising l → Fits l w.in-Some-place_of.found) w.deref-then-not-fits.ensures.value w.in-Some-place_of.ensures rising)
       | else-not-fits w ↦ (omega (arith, inside, w.place-is), subst (λ l. AreRising l → AreRising (insert l place name)) c.deref.ensures.value (subst (λ i. AreRising c.deref.result.now → AreRising (insert c.deref.result.now i name)) (sym w.place-is) (w.if-not-fits.ensures refl)) rising)
     ] in
     let put = c.in_ok-insert.ensures.items in
