@@ -1,14 +1,7 @@
 -- Steps of an iterator from either end: what they leave, and how many asks they may make.
 use Rattle.std.proofs.Common.{◌≡◌, ◌<◌, ◌≤◌, ℕ, ◌+◌, List, [], ◌∷◌, ◌++◌, Bool, Option, Some, None, MatchOption, is_some, if◌then◌else◌, length, drop, get_or, sym, ap, ◌∙◌, subst, arith}
-use Rattle.std.proofs.lemmas.List.{drop_more, drop_all}
-use Rattle.enumset_repr.specs.Asks.{BoundsAsks}
-use Rattle.enumset_repr.specs.BitSet.{BitSet}
-use Rattle.enumset_repr.specs.Ends.{first, last, without_first, without_last}
-use Rattle.enumset_repr.specs.Laws.Steps.{last_push, without_last_push}
+use Rattle.enumset.proofs.Common.{drop_more, drop_all, BoundsAsks, BitSet, first, last, without_first, without_last, last_push, without_last_push, Front, answer, without_answer, answers, without_answers, items_among, with_validity}
 use Rattle.enumset_array.specs.declared.traversal.End.{End}
-use Rattle.enumset_array.specs.declared.traversal.End.TheVariants.{Front}
-use Rattle.enumset_array.specs.Walks.{answer, without_answer, answers, without_answers, items_among}
-use Rattle.enumset_mixed.specs.Mixed.{with_validity}
 use Rattle.enumset_mixed.specs.Laws.Items.{none_left, gave_first, gave_last}
 
 -- ---- one step

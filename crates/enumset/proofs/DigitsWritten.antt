@@ -1,10 +1,6 @@
 -- The digits of a number, two and four at a time, written after those before them.
-use Rattle.std.proofs.Common.{◌≡◌, ℕ, zero, suc, ◌+◌, ◌*◌, ◌/◌, ◌%◌, ◌^◌, ◌<◌, ◌≤◌, Bool, true, ◌&&◌, List, [], ◌∷◌, ◌++◌, length, get_or, decimal, ap, ◌∙◌, arith, append_assoc, refl, sym, set, take}
-use Rattle.std.specs.Prelude.{◌==◌}
-use Rattle.std.proofs.lemmas.Bool.Decides.{Decides-and, Decides-eqb, Decides-below_and}
-use Rattle.std.proofs.lemmas.Grind.{common_steps}
-use Rattle.std.proofs.lemmas.List.{take_more_set}
-use Rattle.std.proofs.lemmas.Fmt.{decimal_digit, decimal_step}
+use Rattle.std.proofs.Common.{◌≡◌, ℕ, zero, suc, ◌+◌, ◌*◌, ◌/◌, ◌%◌, ◌^◌, ◌<◌, ◌≤◌, Bool, true, ◌&&◌, List, [], ◌∷◌, ◌++◌, length, get_or, decimal, ap, ◌∙◌, arith, append_assoc, refl, sym, set, take, ◌==◌}
+use Rattle.enumset.proofs.Common.{Decides-and, Decides-eqb, Decides-below_and, common_steps, take_more_set, decimal_digit, decimal_step}
 pub use Rattle.std.proofs.lemmas.Str.{IsUtf8-from_ascii}
 use Rattle.enumset.specs.declared.set_json.digits.TheConstants.{PAIRS}
 

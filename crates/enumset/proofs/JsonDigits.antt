@@ -1,16 +1,9 @@
 -- What serde_json reads of the digits of a number, digit by digit, before what ends it.
-use Rattle.std.proofs.Common.{◌≡◌, ◌≤◌, ◌<◌, ◌^◌, ℕ, zero, suc, ◌+◌, ◌-◌, List, [], ◌∷◌, ◌++◌, length, take, drop, get_or, cond, refl, ap, ◌∙◌, ◌⊎◌, inl, inr, decimal, arith, length-append}
-use Rattle.std.proofs.Math.Seq.{take-append_seam}
-use Rattle.std.proofs.lemmas.Fmt.{decimal_is_IsNumeral, decimal_digit, first_decimal}
+use Rattle.std.proofs.Common.{◌≡◌, ◌≤◌, ◌<◌, ◌^◌, ℕ, zero, suc, ◌+◌, ◌-◌, List, [], ◌∷◌, ◌++◌, length, take, drop, get_or, cond, refl, ap, ◌∙◌, ◌⊎◌, inl, inr, decimal, arith, length-append, Bool, true, false, ◌==◌, ◌||◌, nat_lt}
+use Rattle.enumset.proofs.Common.{take-append_seam, decimal_is_IsNumeral, decimal_digit, first_decimal, ⊤, prefix_len, nat_tests, text_token, number_token, serde_json_on_literals, is_space}
 use Rattle.std.proofs.lemmas.Str.Parse.{digit_from_value}
 use Rattle.std.specs.Str.Parse.{AllDigits}
-use Rattle.std.specs.Prelude.{Bool, true, false, ◌==◌, ◌||◌, nat_lt, ⊤}
-use Rattle.std.specs.List.{prefix_len}
 use Rattle.std.specs.Char.{is_ascii_digit}
-use Rattle.std.proofs.lemmas.Bool.Decides.{nat_tests}
-use Rattle.serde_json.specs.Sent.{text_token, number_token}
-use Rattle.serde_json.proofs.OnLiterals.{serde_json_on_literals}
-use Rattle.enumset.specs.JsonPlain.{is_space}
 use Rattle.enumset.proofs.JsonTokens.{tokens, Tokens}
 use Rattle.enumset.proofs.JsonSpaces.{at_space}
 

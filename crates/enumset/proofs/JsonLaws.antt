@@ -1,23 +1,7 @@
 -- What was written of a set is read as that set.
-use Rattle.std.proofs.Common.{◌≡◌, ℕ, ◌+◌, ◌*◌, ◌/◌, arith, true, None, Ok, Err, List, [], ◌∷◌, map, unwrap_or, position, refl, ap, ◌∙◌}
-use Rattle.std.specs.List.{position_from}
-use Rattle.std.proofs.lemmas.Iterator.Adapters.{position_from-zero}
-use Rattle.std.proofs.lemmas.List.{map-id}
-use Rattle.std.proofs.lemmas.Simd.{map-map}
-use Rattle.std.proofs.lemmas.Bool.{lt-ltb, cond-true}
-use Rattle.enumset_repr.specs.BitSet.{BitSet, is_subset, below}
-use Rattle.enumset_repr.specs.Number.{number, bits}
-use Rattle.enumset_repr.specs.Words.{words, bits_of}
-use Rattle.enumset_repr.specs.Laws.Algebra.{intersection_within}
-use Rattle.enumset_repr.specs.Laws.Low.{low_within, is_subset_wider}
+use Rattle.std.proofs.Common.{◌≡◌, ℕ, ◌+◌, ◌*◌, ◌/◌, arith, true, None, Ok, Err, List, [], ◌∷◌, map, unwrap_or, position, refl, ap, ◌∙◌, map-id, lt-ltb}
+use Rattle.enumset.proofs.Common.{position_from, position_from-zero, map-map, cond-true, BitSet, is_subset, below, number, bits, words, bits_of, intersection_within, low_within, is_subset_wider, bits_number, number_within, Data, items_of, number_value, words_value, number_below, values_of, word_of, is_no_word, words_of, unless_fault, words_in, accepted, accepted_of, all_bits, set_of_number, set_of_words, kept_below, kept_of, mixed_set_of_number, mixed_set_of_words, Unknown, Drop, Refuse, NotAWord, OutOfRange, UnknownBits}
 use Rattle.enumset_sets.specs.Laws.Conversions.{words_within}
-use Rattle.enumset_repr.specs.Laws.Numbers.{bits_number, number_within}
-use Rattle.serde_json.specs.Data.{Data}
-use Rattle.serde_json.specs.View.{items_of}
-use Rattle.enumset.specs.Json.{number_value, words_value, number_below, values_of, word_of, is_no_word, words_of, unless_fault, words_in, accepted, accepted_of, all_bits, set_of_number, set_of_words, kept_below, kept_of, mixed_set_of_number, mixed_set_of_words}
-use Rattle.enumset.specs.declared.set_json.unknown.Unknown.{Unknown}
-use Rattle.enumset.specs.declared.set_json.unknown.Unknown.TheVariants.{Drop, Refuse}
-use Rattle.enumset.specs.declared.set_json.fault.JsonFault.TheVariants.{NotAWord, OutOfRange, UnknownBits}
 
 -- a set of valid bits is taken as it is, and so is one below the width
 pub accepted_within : (s valid : BitSet) (unknown : Unknown) → is_subset s valid ≡ true → accepted valid unknown s ≡ Ok s

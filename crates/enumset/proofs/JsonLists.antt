@@ -1,17 +1,6 @@
 -- What serde_json reads of a list of plain strings, one string at a time, and what it writes for one.
-use Rattle.std.proofs.Common.{◌≡◌, ℕ, List, [], ◌∷◌, ◌++◌, Some, map, refl, sym, ap, ◌∙◌, arith, append_assoc, subst}
-use Rattle.std.specs.Prelude.{Bool, false, true, cond, ⊤}
-use Rattle.serde_json.specs.Data.{array, string, item, no_items, Items}
-use Rattle.serde_json.specs.Read.{read}
-use Rattle.serde_json.specs.View.{items_of}
-use Rattle.serde_json.specs.Written.{compact_text, items_text, comma_if}
-use Rattle.serde_json.specs.Sent.{text_token}
-use Rattle.serde_json.proofs.OnLiterals.{serde_json_on_literals}
-use Rattle.enumset_repr.specs.BitSet.{BitSet, ascending}
-use Rattle.std.proofs.lemmas.Simd.{map-map}
-use Rattle.enumset.specs.Names.{Names, name_of}
-use Rattle.enumset.specs.JsonNames.{list_value}
-use Rattle.enumset.specs.JsonPlain.{IsPlainByte, IsPlain, AreSpaces}
+use Rattle.std.proofs.Common.{◌≡◌, ℕ, List, [], ◌∷◌, ◌++◌, Some, map, refl, sym, ap, ◌∙◌, arith, append_assoc, subst, Bool, false, true, cond}
+use Rattle.enumset.proofs.Common.{⊤, array, string, item, no_items, Items, read, items_of, compact_text, items_text, comma_if, text_token, serde_json_on_literals, BitSet, ascending, map-map, Names, name_of, list_value, IsPlainByte, IsPlain, AreSpaces}
 use Rattle.enumset.proofs.JsonTokens.{tokens, Tokens}
 use Rattle.enumset.proofs.JsonSteps.{plain_byte, quote_comma, quote_end, empty_list, item_step}
 use Rattle.enumset.proofs.JsonSpaces.{same_read, spaces_first, spaces_after_bracket, spaces_after_string, spaces_after_comma, spaces_after_last, spaces_after_none}

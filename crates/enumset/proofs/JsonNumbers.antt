@@ -1,13 +1,8 @@
 -- What serde_json reads of a number, and of a list of numbers one at a time, with spaces of any kind between its tokens.
-use Rattle.std.proofs.Common.{◌≡◌, ◌<◌, ◌^◌, ℕ, suc, List, [], ◌∷◌, ◌++◌, Some, decimal, refl, sym, ap, ◌∙◌, append-nil, arith}
-use Rattle.std.specs.Prelude.{true, false, option_map, drop}
-use Rattle.serde_json.specs.Data.{Num, number, unsigned, array, item, no_items, Items}
-use Rattle.serde_json.specs.Read.{read, number_of}
-use Rattle.serde_json.specs.Written.{outline}
-use Rattle.serde_json.specs.Sent.{text_token, number_token}
+use Rattle.std.proofs.Common.{◌≡◌, ◌<◌, ◌^◌, ℕ, suc, List, [], ◌∷◌, ◌++◌, Some, decimal, refl, sym, ap, ◌∙◌, append-nil, arith, true, false, option_map, drop}
+use Rattle.enumset.proofs.Common.{Num, unsigned, array, item, no_items, Items, read, number_of, outline, text_token, number_token, serde_json_on_literals, is_space, AreSpaces}
+use Rattle.serde_json.specs.Data.{number}
 use Rattle.serde_json.proofs.Numbers.{number_of-decimal}
-use Rattle.serde_json.proofs.OnLiterals.{serde_json_on_literals}
-use Rattle.enumset.specs.JsonPlain.{is_space, AreSpaces}
 use Rattle.enumset.proofs.JsonTokens.{tokens, Tokens}
 use Rattle.enumset.proofs.JsonSteps.{quote_end, empty_list}
 use Rattle.enumset.proofs.JsonSpaces.{at_space, same_read, spaces_first, spaces_after_bracket, spaces_after_string, spaces_after_comma, spaces_after_last}

@@ -1,7 +1,6 @@
 -- What the steps over a text pass.
 use Rattle.std.proofs.Common.{◌≡◌, ◌<◌, ◌≤◌, ◌+◌, ℕ, zero, suc, List, [], ◌∷◌, length, take, drop, get_or, refl, subst, sym, arith}
-use Rattle.std.proofs.lemmas.List.{drop_more}
-use Rattle.std.specs.List.{AllByRecursion}
+use Rattle.enumset.proofs.Common.{drop_more, AllByRecursion}
 
 module _ (P : ℕ → Type 0) where
   -- further bytes, from a place that the first ones reach

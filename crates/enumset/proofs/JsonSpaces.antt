@@ -1,9 +1,6 @@
 -- Spaces between tokens.
-use Rattle.std.proofs.Common.{◌≡◌, ℕ, List, [], ◌∷◌, ◌++◌, refl, ◌∙◌, arith, ◌⊎◌, inl, inr, subst, sym, ap, append-nil}
-use Rattle.std.specs.Prelude.{true}
-use Rattle.serde_json.specs.Read.{read}
-use Rattle.serde_json.proofs.OnLiterals.{serde_json_on_literals}
-use Rattle.enumset.specs.JsonPlain.{is_space, AreSpaces}
+use Rattle.std.proofs.Common.{◌≡◌, ℕ, List, [], ◌∷◌, ◌++◌, refl, ◌∙◌, arith, ◌⊎◌, inl, inr, subst, sym, ap, append-nil, true}
+use Rattle.enumset.proofs.Common.{read, serde_json_on_literals, is_space, AreSpaces}
 use Rattle.enumset.proofs.JsonTokens.{tokens, Tokens}
 
 -- what holds of the four spaces

@@ -1,10 +1,6 @@
 -- One step of the reader of serde_json at a time, from the end of a text to its front.
-use Rattle.std.proofs.Common.{◌≡◌, ℕ, suc, List, [], ◌∷◌, refl, Some, arith}
-use Rattle.std.specs.Prelude.{false, nat_lt, ◌==◌}
-use Rattle.serde_json.specs.Data.{array, string, item, no_items, Items}
-use Rattle.serde_json.specs.Read.{read}
-use Rattle.serde_json.specs.Sent.{text_token}
-use Rattle.serde_json.proofs.OnLiterals.{serde_json_on_literals}
+use Rattle.std.proofs.Common.{◌≡◌, ℕ, suc, List, [], ◌∷◌, refl, Some, arith, false, nat_lt, ◌==◌}
+use Rattle.enumset.proofs.Common.{array, string, item, no_items, Items, read, text_token, serde_json_on_literals}
 use Rattle.enumset.proofs.JsonTokens.{tokens, Tokens}
 
 -- one more plain byte of a string

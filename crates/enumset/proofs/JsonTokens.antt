@@ -1,10 +1,7 @@
 -- The tokens of a text, taken from a definition of serde_json that speaks of them, since they stand in a crate that this
 -- one does not name.
-use Rattle.std.proofs.Common.{◌≡◌, ℕ, List}
-use Rattle.std.specs.Prelude.{false}
-use Rattle.serde_json.specs.Data.{Data, null}
-use Rattle.serde_json.specs.Written.{IsInOrder, outline}
-use Rattle.serde_json.specs.Sent.{start}
+use Rattle.std.proofs.Common.{◌≡◌, ℕ, List, false}
+use Rattle.enumset.proofs.Common.{Data, null, IsInOrder, outline, start}
 
 abbrev pub TypeOf : {A : Type 0} → A → Type 0
 TypeOf {A = A} a = A

@@ -1,27 +1,6 @@
 -- The words of JSON arrays, read one by one into a set.
-use Rattle.std.proofs.Common.{◌≡◌, ◌<◌, ◌≤◌, ℕ, ◌+◌, ◌*◌, ◌/◌, ◌^◌, Bool, true, false, ◌&&◌, if◌then◌else◌, inl, inr, Option, Some, is_none, unwrap_or, Ok, List, map, position, drop, get_or, length, refl, sym, ap, subst, ◌∙◌, arith, slice_index}
-use Rattle.std.proofs.lemmas.Bool.{cases_lt, and_parts, and_from, eqb-true, eq-eqb, ltb-false}
-use Rattle.std.proofs.lemmas.Bool.Decides.{nat_tests, same_from_decides}
-use Rattle.std.proofs.lemmas.Iterator.Adapters.{position_from-zero}
-use Rattle.std.proofs.lemmas.List.{get_or_past, get_or-map, length-map}
-use Rattle.std.proofs.lemmas.Simd.{map-map}
-use Rattle.std.specs.List.{position_from}
-use Rattle.std.specs.Bool.{Decides}
-use Rattle.std.specs.Prelude.{◌==◌, nat_lt}
-use Rattle.enumset_repr.specs.BitSet.{BitSet, empty, contains, is_subset, below, low}
-use Rattle.enumset_repr.specs.Words.{word, with_word, bits_of}
-use Rattle.enumset_repr.specs.Laws.Members.{contains_low}
-use Rattle.enumset_repr.specs.Laws.Numbers.{same_number}
-use Rattle.enumset_repr.specs.Laws.Low.{low_within, low_narrow, is_subset_wider}
-use Rattle.enumset_repr.specs.Laws.Words.{contains_bits_word}
-use Rattle.enumset_repr.specs.Laws.WordLists.{word_bits_of, put_next, bits_of_within}
-use Rattle.enumset_repr.specs.Laws.Filled.{none_put, all_kept}
-use Rattle.serde_json.specs.Data.{Data}
-use Rattle.serde_json.specs.Find.{as_array}
-use Rattle.serde_json.specs.View.{view, items_view}
-use Rattle.serde_json.specs.declared.value.Value.{Value}
-use Rattle.enumset.specs.Json.{word_of, is_no_word, words_of, unless_fault, words_among, words_in}
-use Rattle.enumset.specs.declared.set_json.fault.JsonFault.TheVariants.{NotAWord}
+use Rattle.std.proofs.Common.{◌≡◌, ◌<◌, ◌≤◌, ℕ, ◌+◌, ◌*◌, ◌/◌, ◌^◌, Bool, true, false, ◌&&◌, if◌then◌else◌, inl, inr, Option, Some, is_none, unwrap_or, Ok, List, map, position, drop, get_or, length, refl, sym, ap, subst, ◌∙◌, arith, slice_index, eqb-true, eq-eqb, ltb-false, Decides, ◌==◌, nat_lt}
+use Rattle.enumset.proofs.Common.{cases_lt, and_parts, and_from, nat_tests, same_from_decides, position_from-zero, get_or_past, get_or-map, length-map, map-map, position_from, BitSet, empty, contains, is_subset, below, low, word, with_word, bits_of, contains_low, same_number, low_within, low_narrow, is_subset_wider, contains_bits_word, word_bits_of, put_next, bits_of_within, none_put, all_kept, Data, as_array, view, items_view, Value, word_of, is_no_word, words_of, unless_fault, words_among, words_in, NotAWord}
 use Rattle.enumset.proofs.JsonLaws.{values_back}
 use Rattle.enumset.proofs.NameLists.{left_at}
 

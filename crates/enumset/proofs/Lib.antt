@@ -1,3 +1,4 @@
+mod Common
 mod AskedSteps
 mod NameLists
 mod NamePlaces

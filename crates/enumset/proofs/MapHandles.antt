@@ -1,11 +1,6 @@
 -- The reader of values, at any depth and any tokens, taken from the definition of `read`.
-use Rattle.std.proofs.Common.{◌≡◌, ℕ, suc, List, [], ◌∷◌, ◌++◌, length, refl, arith}
-use Rattle.std.specs.Prelude.{Bool, Option, Some, None, false, true, option_and_then, option_map}
-use Rattle.serde_json.specs.Data.{Data, object, boolean, Members, member, no_members}
-use Rattle.serde_json.specs.Read.{read, of_json}
-use Rattle.serde_json.specs.Written.{outline, members_outline}
-use Rattle.serde_json.specs.Sent.{text_token, bool_token}
-use Rattle.serde_json.proofs.OnLiterals.{serde_json_on_literals}
+use Rattle.std.proofs.Common.{◌≡◌, ℕ, suc, List, [], ◌∷◌, ◌++◌, length, refl, arith, Bool, Option, Some, None, false, true, option_and_then, option_map}
+use Rattle.enumset.proofs.Common.{Data, object, boolean, Members, member, no_members, read, of_json, outline, members_outline, text_token, bool_token, serde_json_on_literals}
 use Rattle.enumset.proofs.JsonTokens.{tokens, Tokens, Json, TypeOf}
 
 -- `option_and_then`, which does not unfold

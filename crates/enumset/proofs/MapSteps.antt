@@ -1,13 +1,7 @@
 -- What serde_json reads of an object of plain keys and booleans, one member at a time, with spaces of any kind between its
 -- tokens.
-use Rattle.std.proofs.Common.{◌≡◌, ℕ, List, [], ◌∷◌, ◌++◌, Some, drop, refl, ap, ◌∙◌, arith}
-use Rattle.std.specs.Prelude.{Bool, true, false}
-use Rattle.serde_json.specs.Data.{object, no_members}
-use Rattle.serde_json.specs.Read.{read}
-use Rattle.serde_json.specs.Sent.{text_token, bool_token}
-use Rattle.serde_json.proofs.OnLiterals.{serde_json_on_literals}
-use Rattle.enumset.specs.JsonPlain.{IsPlain, is_space, AreSpaces}
-use Rattle.enumset.specs.JsonPlain.{boolean_before}
+use Rattle.std.proofs.Common.{◌≡◌, ℕ, List, [], ◌∷◌, ◌++◌, Some, drop, refl, ap, ◌∙◌, arith, Bool, true, false}
+use Rattle.enumset.proofs.Common.{object, no_members, read, text_token, bool_token, serde_json_on_literals, IsPlain, is_space, AreSpaces, boolean_before}
 use Rattle.enumset.proofs.JsonTokens.{tokens, Tokens}
 use Rattle.enumset.proofs.MapHandles.{brace_before}
 use Rattle.enumset.proofs.MapTokens.{key_before, member_tokens, put_all, read_members}

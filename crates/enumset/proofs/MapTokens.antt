@@ -1,12 +1,6 @@
 -- What serde_json reads of the tokens of an object of booleans.
-use Rattle.std.proofs.Common.{◌≡◌, ◌≤◌, ℕ, zero, suc, List, [], ◌∷◌, ◌++◌, length, Some, refl, ap, ◌∙◌, arith}
-use Rattle.std.specs.Prelude.{Bool, nat_lt, ◌==◌, true, false, option_map}
-use Rattle.serde_json.specs.Data.{object, boolean, Members, no_members, member, put}
-use Rattle.serde_json.specs.Read.{read, of_members}
-use Rattle.serde_json.specs.Written.{outline, members_outline}
-use Rattle.serde_json.specs.Sent.{text_token, bool_token}
-use Rattle.serde_json.proofs.OnLiterals.{serde_json_on_literals}
-use Rattle.enumset.specs.JsonPlain.{IsPlain}
+use Rattle.std.proofs.Common.{◌≡◌, ◌≤◌, ℕ, zero, suc, List, [], ◌∷◌, ◌++◌, length, Some, refl, ap, ◌∙◌, arith, Bool, nat_lt, ◌==◌, true, false, option_map}
+use Rattle.enumset.proofs.Common.{object, boolean, Members, no_members, member, put, read, of_members, outline, members_outline, text_token, bool_token, serde_json_on_literals, IsPlain}
 use Rattle.enumset.proofs.JsonTokens.{tokens, Tokens}
 use Rattle.enumset.proofs.MapHandles.{value, members, whole, brace_before, members_end, member_step, object_value}
 

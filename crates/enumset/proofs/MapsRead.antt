@@ -1,24 +1,6 @@
 -- What a scanner of maps keeps, and what the map that it has read is as a set.
-use Rattle.std.proofs.Common.{◌≡◌, ◌+◌, ℕ, Bool, true, false, cond, Ordering, Less, Equal, Greater, Some, None, Ok, List, [], ◌∷◌, ◌++◌, refl, sym, ap, subst, ◌∙◌, inr, true≢false, arith}
-use Rattle.std.specs.Prelude.{is_none, option_map, filter_map}
-use Rattle.std.specs.List.{cons_option, position_from}
-use Rattle.std.specs.Ordering.{nat_cmp, match_ordering}
-use Rattle.std.specs.Cmp.Lexicographic.{slice_cmp}
-use Rattle.std.proofs.lemmas.Iterator.Adapters.{position_from-zero}
-use Rattle.enumset_repr.specs.Laws.Algebra.{insert_comm, contains_inserted}
-use Rattle.enumset_repr.specs.Laws.Members.{members}
-use Rattle.std.proofs.lemmas.Bool.Decides.{nat_tests}
-use Rattle.enumset_repr.specs.BitSet.{BitSet, empty, contains, insert, from_list}
-use Rattle.serde_json.specs.Data.{Data, boolean, object, Members, no_members, member, put}
-use Rattle.serde_json.specs.Read.{read}
-use Rattle.enumset.specs.Names.{Names, bit_named}
-use Rattle.enumset.specs.Json.{unless_fault}
-use Rattle.enumset.specs.JsonPlain.{boolean_before, IsMember}
-use Rattle.enumset.specs.JsonNames.{members_in, names_in, true_names, is_no_boolean, is_unknown, known_set, decided, set_of_map}
-use Rattle.enumset.specs.JsonPlain.{AreSpaces, Passed}
-use Rattle.enumset.specs.JsonReads.{IsResult, IsReadOf}
-use Rattle.enumset.specs.declared.set_json.unknown.Unknown.{Unknown}
-use Rattle.enumset.specs.declared.set_json.fault.JsonFault.TheVariants.{NotABoolean}
+use Rattle.std.proofs.Common.{◌≡◌, ◌+◌, ℕ, Bool, true, false, cond, Ordering, Less, Equal, Greater, Some, None, Ok, List, [], ◌∷◌, ◌++◌, refl, sym, ap, subst, ◌∙◌, inr, true≢false, arith, is_none, option_map, filter_map, nat_cmp}
+use Rattle.enumset.proofs.Common.{cons_option, position_from, match_ordering, slice_cmp, position_from-zero, insert_comm, contains_inserted, members, nat_tests, BitSet, empty, contains, insert, from_list, Data, boolean, object, Members, no_members, member, put, read, Names, bit_named, unless_fault, boolean_before, IsMember, members_in, names_in, true_names, is_no_boolean, is_unknown, known_set, decided, set_of_map, AreSpaces, Passed, IsResult, IsReadOf, Unknown, NotABoolean}
 use Rattle.enumset.proofs.JsonTokens.{tokens}
 use Rattle.enumset.proofs.MapTokens.{put_all, member_tokens}
 use Rattle.enumset.proofs.MapSteps.{first_member, next_member, last_member, no_member}

@@ -1,17 +1,6 @@
 -- The text of names that rise, as members of an object, and what it reads as.
-use Rattle.std.proofs.Common.{◌≡◌, List, [], ◌∷◌, ◌++◌, Bor, Some, map, refl, sym, ap, ◌∙◌, append_assoc, subst, Less, ℕ}
-use Rattle.std.proofs.lemmas.Cmp.{nat_list_cmp_total}
-use Rattle.std.specs.Prelude.{Bool, true, false}
-use Rattle.std.specs.List.{AllByRecursion}
-use Rattle.std.specs.List.Sorted.{IsStrictlySortedBy}
-use Rattle.std.specs.Ordering.{ordering_reverse}
-use Rattle.enumset_repr.specs.BitSet.{BitSet}
-use Rattle.serde_json.specs.Data.{object, boolean, Members, no_members, member, put}
-use Rattle.serde_json.specs.Read.{read}
-use Rattle.serde_json.specs.Written.{compact_text, members_text, comma_if}
-use Rattle.enumset.specs.JsonPlain.{IsPlain, boolean_before, by_bytes, AreRising, AreMembers}
-use Rattle.enumset.specs.JsonNames.{map_value}
-use Rattle.enumset.specs.Names.{Names}
+use Rattle.std.proofs.Common.{◌≡◌, List, [], ◌∷◌, ◌++◌, Bor, Some, map, refl, sym, ap, ◌∙◌, append_assoc, subst, Less, ℕ, Bool, true, false}
+use Rattle.enumset.proofs.Common.{nat_list_cmp_total, AllByRecursion, IsStrictlySortedBy, ordering_reverse, BitSet, object, boolean, Members, no_members, member, put, read, compact_text, members_text, comma_if, IsPlain, boolean_before, by_bytes, AreRising, AreMembers, map_value, Names}
 use Rattle.enumset.proofs.JsonLists.{ArePlain, text_before}
 use Rattle.enumset.proofs.JsonTokens.{tokens}
 use Rattle.enumset.proofs.MapOrder.{Texts, all_true, all_sorted}

@@ -1,17 +1,6 @@
 -- A bit's name is the name of that bit alone.
-use Rattle.std.proofs.Common.{◌≡◌, ℕ, Bool, true, false, cond, Some, None, List, [], ◌∷◌, length, refl, sym, ap, ◌∙◌, arith, true≢false, inl, inr}
-use Rattle.std.specs.Prelude.{◌==◌, ◌||◌, zip}
-use Rattle.std.specs.Bool.{beq}
-use Rattle.std.specs.Cmp.{booleans_Decides}
-use Rattle.std.specs.List.{list_any, list_all}
-use Rattle.std.specs.Str.{bytes_eq}
-use Rattle.std.proofs.lemmas.Bool.{or_left, or_right, and_parts, and_from, not-true, eqb-true, eq-eqb, ne_eqb, cases_Bool, cond-true, cond-false, false_from_ne_true}
-use Rattle.std.proofs.lemmas.Bool.Decides.{nat_tests}
-use Rattle.std.proofs.lemmas.Slice.Eq.{bytes_eq-Decides}
-use Rattle.enumset_repr.specs.BitSet.{is_in}
-use Rattle.enumset_repr.specs.Number.{is_distinct}
-use Rattle.enumset_sets.specs.Laws.Elements.{passed}
-use Rattle.enumset.specs.Names.{Names, name_of, bit_named, names_agree, are_distinct, IsNaming, NameCountShouldBe, NamesAValueTwice}
+use Rattle.std.proofs.Common.{◌≡◌, ℕ, Bool, true, false, cond, Some, None, List, [], ◌∷◌, length, refl, sym, ap, ◌∙◌, arith, true≢false, inl, inr, ◌==◌, ◌||◌, zip, bytes_eq, eqb-true, eq-eqb, ne_eqb}
+use Rattle.enumset.proofs.Common.{beq, booleans_Decides, list_any, list_all, or_left, or_right, and_parts, and_from, not-true, cases_Bool, cond-true, cond-false, false_from_ne_true, nat_tests, bytes_eq-Decides, is_in, is_distinct, passed, Names, name_of, bit_named, names_agree, are_distinct, IsNaming, NameCountShouldBe, NamesAValueTwice}
 
 -- ---- the test
 

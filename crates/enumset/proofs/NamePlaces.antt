@@ -1,11 +1,6 @@
 -- The name at a place of a list of names, and the bit there.
-use Rattle.std.proofs.Common.{◌≡◌, ◌<◌, ℕ, suc, zero, Bool, true, List, [], ◌∷◌, length, map, get_or, refl, sym, ap, ◌∙◌, arith, true≢false}
-use Rattle.std.specs.Prelude.{◌==◌, zip}
-use Rattle.std.specs.List.{list_any}
-use Rattle.std.proofs.lemmas.Bool.{not-true, and_parts, or_left, or_right, eq-eqb, cond-true, cond-false, false_from_ne_true}
-use Rattle.std.proofs.lemmas.List.{length-map, get_or-map}
-use Rattle.enumset_repr.specs.Number.{is_distinct}
-use Rattle.enumset.specs.Names.{name_of}
+use Rattle.std.proofs.Common.{◌≡◌, ◌<◌, ℕ, suc, zero, Bool, true, List, [], ◌∷◌, length, map, get_or, refl, sym, ap, ◌∙◌, arith, true≢false, ◌==◌, zip, eq-eqb}
+use Rattle.enumset.proofs.Common.{list_any, not-true, and_parts, or_left, or_right, cond-true, cond-false, false_from_ne_true, length-map, get_or-map, is_distinct, name_of}
 
 -- a test that the bit of an entry passes, one of all bits passes
 bit_passes : (p : ℕ → Bool) (bs : List ℕ) (names : List (List ℕ)) (i : ℕ) (d : ℕ × List ℕ) → i < length (zip bs names) → p (get_or (zip bs names) i d).0 ≡ true → list_any p bs ≡ true

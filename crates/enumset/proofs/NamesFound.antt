@@ -1,12 +1,6 @@
 -- A name among those of a type, looked for in a later part of the list, then in the part before.
-use Rattle.std.proofs.Common.{◌≡◌, ℕ, true, cond, Some, None, List, [], ◌∷◌, ◌++◌, length, map, take, drop, refl, sym, ap, ◌∙◌, arith, inl, inr, true≢false}
-use Rattle.std.specs.Prelude.{zip}
-use Rattle.std.specs.List.{list_any}
-use Rattle.std.specs.Str.{bytes_eq}
-use Rattle.std.proofs.lemmas.Bool.{or_left, or_right, and_parts, not-true, cases_Bool, cond-false}
-use Rattle.std.proofs.lemmas.List.{map-append, take-append-drop}
-use Rattle.std.proofs.lemmas.Slice.Eq.{bytes_eq-Decides}
-use Rattle.enumset.specs.Names.{Names, bit_named, are_distinct}
+use Rattle.std.proofs.Common.{◌≡◌, ℕ, true, cond, Some, None, List, [], ◌∷◌, ◌++◌, length, map, take, drop, refl, sym, ap, ◌∙◌, arith, inl, inr, true≢false, zip, bytes_eq, take-append-drop}
+use Rattle.enumset.proofs.Common.{list_any, or_left, or_right, and_parts, not-true, cases_Bool, cond-false, map-append, bytes_eq-Decides, Names, bit_named, are_distinct}
 
 texts : Names → List (List ℕ)
 texts ns = map (λ n. n.1) ns

@@ -1,24 +1,7 @@
 -- Lists and maps of names that are read one by one, up to the first that is a fault, and what they are read as.
-use Rattle.std.proofs.Common.{◌≡◌, ◌+◌, Bool, true, false, cond, ℕ, Option, Some, None, Err, List, [], ◌∷◌, map, String, string_bytes, refl, sym, ap, ◌∙◌, position}
-use Rattle.std.specs.Prelude.{filter, filter_map, is_none, Result}
-use Rattle.std.specs.List.{cons_option, position_from}
-use Rattle.std.specs.Option.{option_or}
-use Rattle.std.proofs.lemmas.Iterator.Adapters.{position_from-zero}
-use Rattle.std.specs.declared.alloc.Global.{Global}
-use Rattle.enumset_repr.specs.BitSet.{BitSet, empty, union, from_list}
-use Rattle.enumset_repr.specs.Laws.Algebra.{empty_union, union_insert, insert_union}
-use Rattle.enumset_sets.specs.Laws.Folds.{union_none}
-use Rattle.serde_json.specs.Data.{Data}
-use Rattle.serde_json.specs.View.{view, items_view, members_view}
-use Rattle.serde_json.specs.declared.value.Value.{Value}
-use Rattle.enumset.specs.Names.{Names, bit_named}
-use Rattle.enumset.specs.Json.{unless_fault, values_of}
-use Rattle.enumset.specs.JsonNames.{members_in, text_of, is_true, is_no_text, is_no_boolean, is_unknown, known_set, decided, set_of_values, set_of_members}
-use Rattle.enumset.specs.JsonPlain.{with_named}
+use Rattle.std.proofs.Common.{◌≡◌, ◌+◌, Bool, true, false, cond, ℕ, Option, Some, None, Err, List, [], ◌∷◌, map, String, string_bytes, refl, sym, ap, ◌∙◌, position, filter, filter_map, is_none, Result, Global}
+use Rattle.enumset.proofs.Common.{cons_option, position_from, option_or, position_from-zero, BitSet, empty, union, from_list, empty_union, union_insert, insert_union, union_none, Data, view, items_view, members_view, Value, Names, bit_named, unless_fault, values_of, members_in, text_of, is_true, is_no_text, is_no_boolean, is_unknown, known_set, decided, set_of_values, set_of_members, with_named, Unknown, JsonFault, NotAText, NotABoolean}
 use Rattle.enumset.proofs.JsonLaws.{values_back}
-use Rattle.enumset.specs.declared.set_json.unknown.Unknown.{Unknown}
-use Rattle.enumset.specs.declared.set_json.fault.JsonFault.{JsonFault}
-use Rattle.enumset.specs.declared.set_json.fault.JsonFault.TheVariants.{NotAText, NotABoolean}
 
 named_first : (o : Option ℕ) (s : BitSet) (bs : List ℕ) → union (with_named o s) (from_list bs) ≡ union s (from_list (cons_option o bs))
 unfolding from_list

@@ -1,30 +1,8 @@
 -- What a reader takes of the names that a writer wrote of a set, as a list and as a map.
-use Rattle.std.proofs.Common.{◌≡◌, ◌+◌, ℕ, Bool, true, false, cond, Ordering, Less, Equal, Greater, Option, Some, None, Result, Ok, Err, List, [], ◌∷◌, map, refl, sym, ap, subst, ◌∙◌, arith, inl, inr, position}
-use Rattle.std.specs.Prelude.{◌||◌, not, nat_lt, if◌then◌else◌, zip, filter, filter_map, is_none, length}
-use Rattle.std.specs.List.{list_all, prefix_len, position_or_len, cons_option, position_from}
-use Rattle.std.specs.Ordering.{nat_cmp, is_eq, match_ordering}
-use Rattle.std.specs.Cmp.Lexicographic.{slice_cmp}
-use Rattle.std.proofs.lemmas.Bool.{and_parts, cond-true, cond-false, cases_Bool}
-use Rattle.std.proofs.lemmas.Bool.Decides.{nat_tests, same_from_decides}
-use Rattle.std.proofs.lemmas.Iterator.Adapters.{position_from-zero}
-use Rattle.std.proofs.lemmas.List.{length-map}
-use Rattle.std.proofs.lemmas.Simd.{map-map}
+use Rattle.std.proofs.Common.{◌≡◌, ◌+◌, ℕ, Bool, true, false, cond, Ordering, Less, Equal, Greater, Option, Some, None, Result, Ok, Err, List, [], ◌∷◌, map, refl, sym, ap, subst, ◌∙◌, arith, inl, inr, position, ◌||◌, not, nat_lt, if◌then◌else◌, zip, filter, filter_map, is_none, length, nat_cmp, is_eq}
+use Rattle.enumset.proofs.Common.{list_all, prefix_len, position_or_len, cons_option, position_from, match_ordering, slice_cmp, and_parts, cond-true, cond-false, cases_Bool, nat_tests, same_from_decides, position_from-zero, length-map, map-map, bytes_eq-Decides, BitSet, is_in, contains, insert, intersection, from_list, ascending, is_subset, same_set, contains_from_list, contains_ascending, contains_is_subset, is_subset_contains, list_all_any, list_all_each, from_list_ascending, insert_inside, empty_intersection, intersection_within, intersection_insert, AreBitsOf-ascending, Data, boolean, string, Members, no_members, member, put, Names, name_of, bit_named, names_agree, unless_fault, members_in, names_in, true_names, text_of, is_true, is_no_text, is_no_boolean, is_unknown, decided, named_set, set_of_values, set_of_list, set_of_map, list_value, with_bits_true, map_value, in_map, accepted_by_name, Unknown, Drop, Refuse, JsonFault, NotAText, NotABoolean, UnknownName}
 use Rattle.std.proofs.lemmas.List.Recursion.{same_from_clauses}
 use Rattle.std.proofs.lemmas.Map.Text.{is_eq-slice_cmp}
-use Rattle.std.proofs.lemmas.Slice.Eq.{bytes_eq-Decides}
-use Rattle.enumset_repr.specs.BitSet.{BitSet, is_in, contains, insert, intersection, from_list, ascending, is_subset}
-use Rattle.enumset_repr.specs.Laws.Members.{same_set, contains_from_list, contains_ascending, contains_is_subset, is_subset_contains, list_all_any, list_all_each}
-use Rattle.enumset_repr.specs.Laws.Algebra.{from_list_ascending, insert_inside, empty_intersection, intersection_within}
-use Rattle.enumset_repr.specs.Laws.Sets.{intersection_insert}
-use Rattle.enumset_sets.specs.Laws.Elements.{AreBitsOf-ascending}
-use Rattle.serde_json.specs.Data.{Data, boolean, string, Members, no_members, member, put}
-use Rattle.enumset.specs.Names.{Names, name_of, bit_named, names_agree}
-use Rattle.enumset.specs.Json.{unless_fault}
-use Rattle.enumset.specs.JsonNames.{members_in, names_in, true_names, text_of, is_true, is_no_text, is_no_boolean, is_unknown, decided, named_set, set_of_values, set_of_list, set_of_map, list_value, with_bits_true, map_value, in_map, accepted_by_name}
-use Rattle.enumset.specs.declared.set_json.unknown.Unknown.{Unknown}
-use Rattle.enumset.specs.declared.set_json.unknown.Unknown.TheVariants.{Drop, Refuse}
-use Rattle.enumset.specs.declared.set_json.fault.JsonFault.{JsonFault}
-use Rattle.enumset.specs.declared.set_json.fault.JsonFault.TheVariants.{NotAText, NotABoolean, UnknownName}
 use Rattle.enumset.proofs.NameLaws.{AreNames, name_back, agree_at}
 use Rattle.enumset.proofs.JsonLaws.{values_back}
 

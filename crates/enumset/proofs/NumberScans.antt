@@ -1,8 +1,6 @@
 -- What the scanner of a number's digits keeps.
-use Rattle.std.proofs.Common.{◌≡◌, ◌<◌, ◌≤◌, ◌+◌, ◌*◌, ◌/◌, ◌%◌, ◌^◌, ℕ, suc, List, [], ◌∷◌, ◌++◌, length, drop, get_or, decimal, sym, ap, ◌∙◌, append_assoc, drop-cons, arith}
-use Rattle.std.proofs.Math.Nat.{pow-le-pow_right}
-use Rattle.std.proofs.lemmas.Nat.{pow-add}
-use Rattle.std.proofs.lemmas.Fmt.{decimal_digit, decimal_step}
+use Rattle.std.proofs.Common.{◌≡◌, ◌<◌, ◌≤◌, ◌+◌, ◌*◌, ◌/◌, ◌%◌, ◌^◌, ℕ, suc, List, [], ◌∷◌, ◌++◌, length, drop, get_or, decimal, sym, ap, ◌∙◌, append_assoc, drop-cons, arith, pow-add}
+use Rattle.enumset.proofs.Common.{pow-le-pow_right, decimal_digit, decimal_step}
 use Rattle.enumset.proofs.DigitsWritten.{last_two}
 
 pub first_digit : (s xs : List ℕ) (x d : ℕ) → d < 10 → x ≡ 48 + d → s ≡ x ∷ xs → s ≡ decimal d ++ xs

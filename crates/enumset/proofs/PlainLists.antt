@@ -1,18 +1,6 @@
 -- What the loop of the reader of plain lists keeps.
-use Rattle.std.proofs.Common.{◌≡◌, ◌+◌, ℕ, cond, List, [], ◌∷◌, ◌++◌, Option, Some, None, Ok, refl, sym, ap, ◌∙◌, inr, subst}
-use Rattle.std.specs.Prelude.{is_none, option_map, Result, true}
-use Rattle.std.specs.Option.{option_or}
-use Rattle.enumset_repr.specs.BitSet.{BitSet, empty}
-use Rattle.serde_json.specs.Data.{Data, array, string, item, no_items, Items}
-use Rattle.serde_json.specs.Read.{read}
-use Rattle.enumset.specs.Json.{values_of}
-use Rattle.enumset.specs.JsonNames.{set_of_list, decided}
-use Rattle.enumset.specs.JsonPlain.{IsPlain, AreSpaces, Passed, with_named}
-use Rattle.enumset.specs.JsonReads.{value_read, IsResult, IsReadOf}
-use Rattle.enumset.specs.Names.{Names, bit_named}
-use Rattle.enumset.specs.declared.set_json.fault.JsonFault.{JsonFault}
-use Rattle.enumset.specs.declared.set_json.unknown.Unknown.{Unknown}
-use Rattle.enumset.specs.declared.set_json.unknown.Unknown.TheVariants.{Drop, Refuse}
+use Rattle.std.proofs.Common.{◌≡◌, ◌+◌, ℕ, cond, List, [], ◌∷◌, ◌++◌, Option, Some, None, Ok, refl, sym, ap, ◌∙◌, inr, subst, is_none, option_map, Result, true}
+use Rattle.enumset.proofs.Common.{option_or, BitSet, empty, Data, array, string, item, no_items, Items, read, values_of, set_of_list, decided, IsPlain, AreSpaces, Passed, with_named, value_read, IsResult, IsReadOf, Names, bit_named, JsonFault, Unknown, Drop, Refuse}
 use Rattle.enumset.proofs.JsonLists.{no_strings, first_string, next_string, last_string}
 use Rattle.enumset.proofs.NamesRead.{list_on, list_read_all, read_next, read_end}
 

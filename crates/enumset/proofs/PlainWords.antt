@@ -1,14 +1,6 @@
 -- What the loop of the reader of plain words keeps.
-use Rattle.std.proofs.Common.{◌≡◌, ◌<◌, ◌+◌, ◌/◌, ◌^◌, ℕ, Bool, true, false, ◌&&◌, if◌then◌else◌, Option, Some, IfSome, List, [], ◌∷◌, ◌++◌, length, length-append, decimal, refl, sym, ap, subst, ◌∙◌, append_assoc, arith, slice_index}
-use Rattle.std.proofs.Math.Seq.{get_or-append_seam}
-use Rattle.std.proofs.lemmas.List.{get_or_append_left}
-use Rattle.std.specs.Bool.{then_some}
-use Rattle.std.specs.Prelude.{◌==◌, nat_lt}
-use Rattle.enumset_repr.specs.BitSet.{BitSet, empty, is_subset, below, low}
-use Rattle.enumset_repr.specs.Words.{word, with_word, bits_of}
-use Rattle.serde_json.specs.Read.{read}
-use Rattle.enumset.specs.Json.{words_value}
-use Rattle.enumset.specs.JsonPlain.{AreSpaces, Passed}
+use Rattle.std.proofs.Common.{◌≡◌, ◌<◌, ◌+◌, ◌/◌, ◌^◌, ℕ, Bool, true, false, ◌&&◌, if◌then◌else◌, Option, Some, IfSome, List, [], ◌∷◌, ◌++◌, length, length-append, decimal, refl, sym, ap, subst, ◌∙◌, append_assoc, arith, slice_index, ◌==◌, nat_lt}
+use Rattle.enumset.proofs.Common.{get_or-append_seam, get_or_append_left, then_some, BitSet, empty, is_subset, below, low, word, with_word, bits_of, read, words_value, AreSpaces, Passed}
 use Rattle.enumset.proofs.JsonLists.{no_strings}
 use Rattle.enumset.proofs.JsonNumbers.{IsNumberFirst, before_stop, comma_stops, bracket_stops, first_number, next_number, last_number}
 use Rattle.enumset.proofs.JsonWords.{AreRead, none_read, taken, same_before, all_read}

@@ -1,18 +1,8 @@
 -- The text of an array of words, word by word.
-use Rattle.std.proofs.Common.{◌≡◌, ◌<◌, ◌^◌, ℕ, List, [], ◌∷◌, ◌++◌, Some, map, decimal, refl, sym, ap, subst, ◌+◌, ◌∙◌, append_assoc, append-nil, arith}
-use Rattle.std.specs.Prelude.{Bool, true, false, nat_lt, ⊤}
-use Rattle.std.proofs.lemmas.Bool.{lt-ltb}
-use Rattle.std.specs.Str.{IsAscii}
-use Rattle.std.proofs.lemmas.Fmt.{IsAscii-decimal}
+use Rattle.std.proofs.Common.{◌≡◌, ◌<◌, ◌^◌, ℕ, List, [], ◌∷◌, ◌++◌, Some, map, decimal, refl, sym, ap, subst, ◌+◌, ◌∙◌, append_assoc, append-nil, arith, Bool, true, false, nat_lt, lt-ltb, IsAscii}
+use Rattle.enumset.proofs.Common.{⊤, IsAscii-decimal, read, items_of, compact_text, items_text, comma_if, BitSet, word, words, words_none, words_more, word_small, number_value, words_value}
 use Rattle.std.proofs.lemmas.Str.{IsAscii-append}
 use Rattle.std.proofs.lemmas.Str.Ascii.{IsAscii-nil, IsAscii-cons}
-use Rattle.serde_json.specs.Read.{read}
-use Rattle.serde_json.specs.View.{items_of}
-use Rattle.serde_json.specs.Written.{compact_text, items_text, comma_if}
-use Rattle.enumset_repr.specs.BitSet.{BitSet}
-use Rattle.enumset_repr.specs.Words.{word, words}
-use Rattle.enumset_repr.specs.Laws.WordLists.{words_none, words_more, word_small}
-use Rattle.enumset.specs.Json.{number_value, words_value}
 use Rattle.enumset.proofs.JsonDigits.{Ends}
 use Rattle.enumset.proofs.JsonNumbers.{next_number, last_number}
 use Rattle.enumset.proofs.JsonSteps.{empty_list}

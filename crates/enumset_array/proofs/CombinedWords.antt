@@ -1,21 +1,9 @@
 -- The words of an `ArrayRepr` made from those of others, word by word.
-use Rattle.std.proofs.Common.{◌≡◌, ◌<◌, ◌≤◌, ◌↔◌, ℕ, ◌*◌, ◌+◌, ◌^◌, false, ◌-◌, List, ◌++◌, length, drop, refl, sym, ap, ◌∙◌, subst, arith, w64}
-use Rattle.std.specs.Prelude.{◌==◌, slice_index, IsTrue}
-use Rattle.std.specs.List.{list_all}
-use Rattle.std.specs.Int.{bit_not}
-use Rattle.std.proofs.Math.Pow.{ones_sub-lt}
-use Rattle.std.proofs.lemmas.Bool.Decides.{nat_tests}
-use Rattle.std.proofs.lemmas.List.{get_or_past, get_or_append_left, get_or-append_right, get_or-take, get_or-drop, length-append, length-take, length-drop}
-use Rattle.std.proofs.lemmas.Simd.{length-zip2, get_or-zip2}
-use Rattle.std.specs.Simd.Lanes.{zip2}
-use Rattle.enumset_repr.specs.BitSet.{BitSet, contains, empty, below, difference}
-use Rattle.enumset_repr.specs.Number.{bits}
-use Rattle.enumset_repr.specs.Laws.Members.{contains_below, contains_difference}
-use Rattle.enumset_repr.specs.Laws.Numbers.{bits_not}
+use Rattle.std.proofs.Common.{◌≡◌, ◌<◌, ◌≤◌, ◌↔◌, ℕ, ◌*◌, ◌+◌, ◌^◌, false, ◌-◌, List, ◌++◌, length, drop, refl, sym, ap, ◌∙◌, subst, arith, w64, ◌==◌, slice_index, IsTrue, get_or-take, get_or-drop, length-append, length-take, length-drop}
+use Rattle.enumset_repr.specs.Laws.Common.{list_all, bit_not, ones_sub-lt, nat_tests, get_or_past, get_or_append_left, get_or-append_right, length-zip2, get_or-zip2, zip2, BitSet, contains, empty, below, difference, bits, contains_below, contains_difference, bits_not, contains_zero}
 use Rattle.enumset_array.specs.Operations.{IsOnBits}
 use Rattle.enumset_array.specs.ArrayWords.{in_use, words_in_use, set_of, IsArrayRepr}
 use Rattle.enumset_array.specs.Laws.ArrayWords.{contains_set_of, set_is, past_is, empty_past, none_iff}
-use Rattle.enumset_repr.specs.Laws.WordLists.{contains_zero}
 
 module _ (op : ℕ → ℕ → ℕ) (of_sets : BitSet → BitSet → BitSet) (on : IsOnBits op of_sets) (n : ℕ) (a b : List ℕ) (first : IsArrayRepr n a) (second : IsArrayRepr n b) where
   none_past : (k : ℕ) → in_use n ≤ k → op (slice_index a k) (slice_index b k) ≡ 0

@@ -1,14 +1,6 @@
 -- Two lists of words that are compared from the top, down to the highest place where they differ.
-use Rattle.std.proofs.Common.{◌≡◌, ◌≢◌, ◌<◌, ◌≤◌, ℕ, zero, suc, ◌+◌, true, List, ◌∷◌, ◌++◌, length, drop, refl, sym, ap, ◌∙◌, arith}
-use Rattle.std.specs.Prelude.{slice_index, bit_xor}
-use Rattle.std.specs.declared.cmp.Ordering.{Ordering}
-use Rattle.std.specs.declared.cmp.Ordering.TheVariants.{Equal}
-use Rattle.std.specs.Ordering.{MatchOrdering, ordering_then, nat_cmp}
-use Rattle.std.specs.Cmp.{ranks, tied_itself}
-use Rattle.std.specs.Cmp.Lexicographic.{same_text}
-use Rattle.std.specs.Simd.Lanes.{zip2, chunk}
-use Rattle.std.proofs.lemmas.Bool.Decides.{nat_tests}
-use Rattle.std.proofs.lemmas.Simd.{length-chunk, chunk-drop}
+use Rattle.std.proofs.Common.{◌≡◌, ◌≢◌, ◌<◌, ◌≤◌, ℕ, zero, suc, ◌+◌, true, List, ◌∷◌, ◌++◌, length, drop, refl, sym, ap, ◌∙◌, arith, slice_index, bit_xor, Ordering, Equal, nat_cmp}
+use Rattle.enumset_repr.specs.Laws.Common.{MatchOrdering, ordering_then, ranks, tied_itself, same_text, zip2, chunk, nat_tests, length-chunk, chunk-drop}
 use Rattle.enumset_array.specs.Order.{highest_first}
 use Rattle.enumset_array.specs.Laws.Order.{highest_first_cons, highest_first_total}
 use Rattle.enumset_array.proofs.WordLanes.{none_in, none_apart}

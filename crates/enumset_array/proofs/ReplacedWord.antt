@@ -1,22 +1,7 @@
 -- The words of an `ArrayRepr` after one of them was replaced.
-use Rattle.std.proofs.Common.{◌≡◌, ◌≢◌, ◌<◌, ℕ, ◌*◌, ◌+◌, ◌-◌, ◌/◌, ◌%◌, ◌^◌, true, false, not, List, set, bit_and, bit_or, refl, sym, ap, ◌∙◌, subst, arith, w64, length-set}
-use Rattle.std.specs.Prelude.{◌==◌, slice_index}
-use Rattle.std.specs.List.{list_all}
-use Rattle.std.specs.Int.{bit_not}
-use Rattle.std.specs.Int.Bits.{and_lt}
-use Rattle.std.proofs.lemmas.Nat.{or_lt}
-use Rattle.std.proofs.Math.Nat.{div-add-mod}
-use Rattle.std.proofs.Math.Pow.{ones_sub-lt}
-use Rattle.std.proofs.lemmas.Bool.Decides.{nat_tests}
-use Rattle.std.proofs.lemmas.List.{get_or-set_same, get_or-set_other, drop-set-lt}
-use Rattle.enumset_repr.specs.BitSet.{BitSet, contains, insert, remove}
-use Rattle.enumset_repr.specs.Number.{bits}
-use Rattle.enumset_repr.specs.Words.{with_word}
-use Rattle.enumset_repr.specs.Laws.Members.{contains_insert, contains_remove}
-use Rattle.enumset_repr.specs.Laws.Numbers.{bits_set, bits_clear, bits_test}
-use Rattle.enumset_repr.specs.Laws.Words.{contains_with_word}
+use Rattle.std.proofs.Common.{◌≡◌, ◌≢◌, ◌<◌, ℕ, ◌*◌, ◌+◌, ◌-◌, ◌/◌, ◌%◌, ◌^◌, true, false, not, List, set, bit_and, bit_or, refl, sym, ap, ◌∙◌, subst, arith, w64, length-set, ◌==◌, slice_index, get_or-set_same, get_or-set_other, drop-set-lt}
+use Rattle.enumset_repr.specs.Laws.Common.{list_all, bit_not, and_lt, or_lt, div-add-mod, ones_sub-lt, nat_tests, BitSet, contains, insert, remove, bits, with_word, contains_insert, contains_remove, bits_set, bits_clear, bits_test, contains_with_word, contains_bits_above}
 use Rattle.enumset_array.specs.ArrayWords.{in_use, set_of, IsArrayRepr}
-use Rattle.enumset_repr.specs.Laws.WordLists.{contains_bits_above}
 use Rattle.enumset_array.specs.Laws.ArrayWords.{contains_set_of, set_is}
 
 -- what holds of one place, and of each other, holds of all

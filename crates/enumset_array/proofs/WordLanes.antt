@@ -1,19 +1,8 @@
 -- Loops over lists of words, four words at a time.
-use Rattle.std.proofs.Common.{◌≡◌, ◌≢◌, ◌<◌, ◌≤◌, ℕ, zero, suc, ◌+◌, ◌*◌, ◌/◌, Bool, true, false, ◌&&◌, List, [], ◌∷◌, length, take, drop, get_or, set, add-one, ◌++◌, bit_and, bit_or, refl, sym, ap, ◌∙◌, arith, w64, map}
-use Rattle.std.specs.Prelude.{◌==◌, nat_eq, slice_index, bit_xor}
-use Rattle.std.specs.Int.{bit_not}
-use Rattle.std.specs.Int.Bits.{or_zero_l, xor_zero_l, xor_zero_r}
-use Rattle.std.specs.List.{list_all}
-use Rattle.std.specs.Cmp.Lexicographic.{pointwise}
+use Rattle.std.proofs.Common.{◌≡◌, ◌≢◌, ◌<◌, ◌≤◌, ℕ, zero, suc, ◌+◌, ◌*◌, ◌/◌, Bool, true, false, ◌&&◌, List, [], ◌∷◌, length, take, drop, get_or, set, add-one, ◌++◌, bit_and, bit_or, refl, sym, ap, ◌∙◌, arith, w64, map, ◌==◌, nat_eq, slice_index, bit_xor, take-append-drop, get_or-drop, take_all, take_at, drop_at, drop-drop, append-nil, append_assoc, length-append, length-drop, length-take-le}
+use Rattle.enumset_repr.specs.Laws.Common.{bit_not, or_zero_l, xor_zero_l, xor_zero_r, list_all, pointwise, zip2, chunk, put_chunk, fold_l, take-add, nat_tests, drop_all, drop_more, set_split, list_all-append, list_all_more, le_or_l, le_or_r, length-chunk, length-zip2, get_or-zip2, put_chunk_is}
 use Rattle.std.specs.Simd.{first_chunks}
-use Rattle.std.specs.Simd.Lanes.{zip2, chunk, put_chunk, fold_l}
 use Rattle.std.proofs.Math.Bool.{and-true, and_assoc}
-use Rattle.std.proofs.Math.Seq.{take-add}
-use Rattle.std.proofs.lemmas.Bool.Decides.{nat_tests}
-use Rattle.std.proofs.lemmas.List.{take-append-drop, get_or-drop, take_all, take_at, drop_at, drop_all, drop_more, drop-drop, set_split, append-nil, append_assoc, length-append, length-drop, length-take-le}
-use Rattle.std.proofs.lemmas.List.Folds.{list_all-append, list_all_more}
-use Rattle.std.proofs.lemmas.Nat.{le_or_l, le_or_r}
-use Rattle.std.proofs.lemmas.Simd.{length-chunk, length-zip2, get_or-zip2, put_chunk_is}
 use lib.Bits.{xor_assoc, xor_self}
 
 -- ---- parts of a list of results

@@ -1,6 +1,6 @@
 -- The parts of a text between bytes of one value.
-use Rattle.std.proofs.Common.{◌≡◌, ℕ, ◌+◌, ◌<◌, ◌≤◌, Bool, true, false, not, List, [], ◌∷◌, length, get_or, take, drop, Some, None, inl, inr, arith}
-use Rattle.std.specs.List.{slice_split, position, prefix_len}
+use Rattle.std.proofs.Common.{◌≡◌, ℕ, ◌+◌, ◌<◌, ◌≤◌, Bool, true, false, not, List, [], ◌∷◌, length, get_or, take, drop, Some, None, inl, inr, arith, position}
+use Rattle.std.specs.List.{slice_split, prefix_len}
 use lib.Lanes.{chunk}
 use Rattle.std.proofs.lemmas.List.{take_rest}
 use Rattle.std.proofs.lemmas.List.Splits.{slice_split_first, slice_split_none}

@@ -1,11 +1,11 @@
 -- How the tokens of a line go on after the first part between spaces.
-use Rattle.std.proofs.Common.{◌≡◌, ◌==◌, ℕ, zero, suc, ◌+◌, ◌-◌, ◌*◌, ◌^◌, ◌<◌, ◌≤◌, true, false, List, [], ◌∷◌, length, get_or, take, drop, Option, Some, None, refl, sym, ap, ◌∙◌, below_more, inl, inr, arith}
-use Rattle.std.specs.List.{slice_split, onto_first, position}
+use Rattle.std.proofs.Common.{◌≡◌, ◌==◌, ℕ, zero, suc, ◌+◌, ◌-◌, ◌*◌, ◌^◌, ◌<◌, ◌≤◌, true, false, List, [], ◌∷◌, length, get_or, take, drop, Option, Some, None, refl, sym, ap, ◌∙◌, below_more, inl, inr, arith, position, length-take, get_or-take, take_all, ne_eqb, eq-eqb, true≢false}
+use Rattle.std.specs.List.{slice_split, onto_first}
 use Rattle.std.specs.Char.{is_ascii_digit}
-use Rattle.std.proofs.lemmas.List.{length-take, get_or-take, take_all, drop_all}
+use Rattle.std.proofs.lemmas.List.{drop_all}
 use Rattle.std.proofs.lemmas.List.Quantifiers.{position-Some}
 use Rattle.std.proofs.lemmas.List.Splits.{length-slice_split, slice_split-cons_no}
-use Rattle.std.proofs.lemmas.Bool.{ne_eqb, eq-eqb, true≢false, cases_lt}
+use Rattle.std.proofs.lemmas.Bool.{cases_lt}
 use Rattle.std.proofs.lemmas.Bool.Decides.{nat_tests}
 use Rattle.enumset_commands.specs.Lines.{tokens_of}
 use Rattle.enumset_commands.specs.Fields.{value, word, Takes, BeginsWithNone}

@@ -1,6 +1,5 @@
 -- The words that tokens write, one token more.
-use Rattle.std.proofs.Common.{◌≡◌, ◌==◌, ◌<◌, true, false, length, arith, List, ℕ, [], ◌∷◌, ◌++◌, Option, Some, None, refl, ap, append_assoc, append-nil, sym}
-use Rattle.std.specs.Option.{option_map, is_some}
+use Rattle.std.proofs.Common.{◌≡◌, ◌==◌, ◌<◌, true, false, length, arith, List, ℕ, [], ◌∷◌, ◌++◌, Option, Some, None, refl, ap, append_assoc, append-nil, sym, option_map, is_some}
 use Rattle.std.proofs.lemmas.Bool.Decides.{nat_tests}
 use Rattle.enumset_commands.specs.Fields.{word, words_of, Takes, BeginsWithNone}
 

@@ -1,13 +1,6 @@
 -- Commands within two widths have the same outcomes over both, and so the same replies.
 use Rattle.std.proofs.Common.{◌≡◌, ◌≤◌, ℕ, min, Bool, true, false, ◌&&◌, Option, Some, None, IsTrue, List, [], ◌∷◌, refl, ap, sym, ◌∙◌, arith}
-use Rattle.std.specs.List.{list_all}
-use Rattle.std.proofs.Math.Nat.{min-le_left, min-le_right}
-use Rattle.enumset_repr.specs.BitSet.{BitSet, contains, only, below, intersection, is_subset}
-use Rattle.enumset_repr.specs.Number.{bits}
-use Rattle.enumset_repr.specs.Words.{bits_of}
-use Rattle.enumset_repr.specs.Laws.Members.{members, is_subset_contains}
-use Rattle.enumset_repr.specs.Laws.Algebra.{intersection_within}
-use Rattle.enumset_repr.specs.Laws.Low.{is_subset_wider}
+use Rattle.enumset_repr.specs.Laws.Common.{list_all, min-le_left, min-le_right, BitSet, contains, only, below, intersection, is_subset, bits, bits_of, members, is_subset_contains, intersection_within, is_subset_wider}
 use Rattle.enumset_commands.specs.declared.command.Command.{Command}
 use Rattle.enumset_commands.specs.declared.command.Command.TheVariants.{FromNumber, FromNumberCut, FromWords, FromWordsCut}
 use Rattle.enumset_commands.specs.declared.mixed_command.MixedCommand.{MixedCommand}

@@ -1,18 +1,6 @@
 -- The least and the greatest member of a set, by the words of the set.
-use Rattle.std.proofs.Common.{◌≡◌, ◌≢◌, ◌<◌, ◌≤◌, ℕ, ◌+◌, ◌-◌, ◌*◌, ◌/◌, ◌^◌, false, Some, None, sym, ap, ◌∙◌, ◌&&◌, inl, inr, true, arith}
-use Rattle.std.specs.Prelude.{nat_lt}
-use Rattle.std.specs.Int.Count.{count_trailing_zeros, count_leading_zeros}
-use Rattle.std.proofs.lemmas.Bool.{cases_lt}
-use Rattle.std.proofs.lemmas.Bool.Decides.{nat_tests}
-use Rattle.enumset_repr.specs.BitSet.{BitSet, contains, empty, below, difference, is_subset}
-use Rattle.enumset_repr.specs.Ends.{least, greatest}
-use Rattle.enumset_repr.specs.Number.{bits}
-use Rattle.enumset_repr.specs.Words.{word}
-use Rattle.enumset_repr.specs.Laws.Ends.{least_is, least_empty, greatest_is, greatest_empty}
-use Rattle.enumset_repr.specs.Laws.Members.{members, same_set, contains_difference, contains_empty, contains_below, contains_past}
-use Rattle.enumset_repr.specs.Laws.Numbers.{contains_bits_shifted, least_bits, greatest_bits}
-use Rattle.enumset_repr.specs.Laws.WordLists.{by_word, contains_zero}
-use Rattle.enumset_repr.specs.Laws.Words.{contains_bits_word}
+use Rattle.std.proofs.Common.{◌≡◌, ◌≢◌, ◌<◌, ◌≤◌, ℕ, ◌+◌, ◌-◌, ◌*◌, ◌/◌, ◌^◌, false, Some, None, sym, ap, ◌∙◌, ◌&&◌, inl, inr, true, arith, nat_lt}
+use Rattle.enumset_repr.specs.Laws.Common.{count_trailing_zeros, count_leading_zeros, cases_lt, nat_tests, BitSet, contains, empty, below, difference, is_subset, least, greatest, bits, word, least_is, least_empty, greatest_is, greatest_empty, members, same_set, contains_difference, contains_empty, contains_below, contains_past, contains_bits_shifted, least_bits, greatest_bits, by_word, contains_zero, contains_bits_word}
 use Rattle.enumset_repr.proofs.ZeroWords.{NoneIn}
 
 module _ (s : BitSet) where

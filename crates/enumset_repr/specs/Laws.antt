@@ -1,5 +1,6 @@
 -- Laws of the definitions, each proved. Nothing here has to be believed: contracts cite the definitions alone. The laws
 -- are in specs/ so that representations, and the crates above, can cite them.
+--     Base      names of std and of the definitions, passed on from one place to the files below
 --     Members      what `contains` returns for each set, subsets, and that sets with the same members are equal
 --     Algebra      the algebra of sets, for users' proofs: order, grouping, De Morgan, inserting and removing
 --     Sets      one set inside and outside another: parts, complements, subsets by equations
@@ -23,6 +24,8 @@
 --     Found      what is found in a set: the least member that passes, the least, the greatest
 --     Masks      numbers with bits masked out
 --     Loops      the steps of a loop over a set's iterator
+--     Common      names of all these, passed on from one place to proofs
+pub mod Base
 pub mod Members
 pub mod Algebra
 pub mod Sets
@@ -46,3 +49,4 @@ pub mod Places
 pub mod Found
 pub mod Masks
 pub mod Loops
+pub mod Common

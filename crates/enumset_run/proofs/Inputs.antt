@@ -1,9 +1,6 @@
 -- What is read of an input, up to one byte more than it may have, and the answer to it.
-use Rattle.std.proofs.Common.{◌≡◌, ℕ, ◌+◌, Bool, true, false, List, [], ◌++◌, length, take, nat_lt, Option, None, Some, IfSome, Result, Err, ap, ◌∙◌, subst, arith, if◌then◌else◌, refl}
-use Rattle.std.specs.Option.{option_map}
-use Rattle.std.proofs.lemmas.List.{length-take, take_all}
-use Rattle.std.proofs.lemmas.Bool.Decides.{nat_tests}
-use Rattle.enumset_repr.specs.BitSet.{BitSet, from_list}
+use Rattle.std.proofs.Common.{◌≡◌, ℕ, ◌+◌, Bool, true, false, List, [], ◌++◌, length, take, nat_lt, Option, None, Some, IfSome, Result, Err, ap, ◌∙◌, subst, arith, if◌then◌else◌, refl, option_map, length-take, take_all}
+use Rattle.enumset_repr.specs.Laws.Common.{nat_tests, BitSet, from_list}
 use Rattle.enumset_machine.specs.Answers.{commands_of, answer_by}
 use Rattle.enumset_machine.specs.Kinds.{over, answer_by_width, answer_over}
 use Rattle.enumset_commands.specs.Lines.{command_of, commands_of_text, mixed_command_of}

@@ -1,12 +1,6 @@
 -- The least and the greatest member of a set of valid bits, and the set without it.
 use Rattle.std.proofs.Common.{◌≡◌, ◌<◌, ℕ, true, List, ◌∷◌, [], ◌++◌, Some, None, sym, ap, ◌∙◌, refl, length, arith}
-use Rattle.std.proofs.lemmas.Bool.Decides.{nat_tests}
-use Rattle.enumset_repr.specs.BitSet.{BitSet, is_in, contains, ascending, empty, insert, remove, len, from_list, is_subset, difference, below}
-use Rattle.enumset_repr.specs.Ends.{least, greatest}
-use Rattle.enumset_repr.specs.Laws.Algebra.{insert_remove, toggled}
-use Rattle.enumset_repr.specs.Laws.Ascending.{len_ascending, empty_of_ascending}
-use Rattle.enumset_repr.specs.Laws.Ends.{least_facts, greatest_facts, ascending_least, ascending_greatest, fewer_greatest, ascending_no_least, ascending_no_greatest}
-use Rattle.enumset_repr.specs.Laws.Members.{members, subsets, is_subset_contains, difference_is_subset}
+use Rattle.enumset_repr.specs.Laws.Common.{nat_tests, BitSet, is_in, contains, ascending, empty, insert, remove, len, from_list, is_subset, difference, below, least, greatest, insert_remove, toggled, len_ascending, empty_of_ascending, least_facts, greatest_facts, ascending_least, ascending_greatest, fewer_greatest, ascending_no_least, ascending_no_greatest, members, subsets, is_subset_contains, difference_is_subset}
 use Rattle.enumset_sets.specs.Laws.Elements.{contains_is_in}
 
 -- a set without an end is empty

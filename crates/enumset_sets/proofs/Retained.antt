@@ -1,10 +1,7 @@
 -- A closure that is a test leaves the members that pass the test.
 use Rattle.std.proofs.Common.{◌≡◌, ◌==◌, ℕ, Bool, true, false, cond, not, ◌&&◌, ◌||◌, List, [], ◌∷◌, map, refl, sym, ap, subst, ◌∙◌, arith}
+use Rattle.enumset_repr.specs.Laws.Common.{FoldsTo, nat_tests, BitSet, is_in, contains, remove, retain, same_set, contains_remove, contains_retain, contains_ascending}
 use Rattle.std.specs.Fn.{Mut, Called}
-use Rattle.std.specs.List.{FoldsTo}
-use Rattle.std.proofs.lemmas.Bool.Decides.{nat_tests}
-use Rattle.enumset_repr.specs.BitSet.{BitSet, is_in, contains, remove, retain}
-use Rattle.enumset_repr.specs.Laws.Members.{same_set, contains_remove, contains_retain, contains_ascending}
 use Rattle.enumset_sets.specs.Retained.{Keeps, Retains, IsConstantTest, IsTest}
 
 one_kept : (s t : BitSet) (b : Bool) (m q : ℕ) → t ≡ cond b s (remove s m) → contains t q ≡ (contains s q && (not (q == m) || b))

@@ -3,8 +3,7 @@
 --         the two agree about its flags
 --     kept_iff      a rule that is kept from the four states that are tried is kept from every state, and the other way
 --     kept_all      what each transition keeps, a list of them keeps
-use Rattle.std.proofs.Common.{◌≡◌, ℕ, Bool, true, false, List, [], ◌∷◌, refl, arith, ◌↔◌}
-use Rattle.std.specs.Prelude.{All}
+use Rattle.std.proofs.Common.{◌≡◌, ℕ, Bool, true, false, List, [], ◌∷◌, refl, arith, ◌↔◌, All}
 use Rattle.std.proofs.lemmas.Bool.{and_parts, and_from}
 use Rattle.std.proofs.lemmas.List.Elements.{All-head, All-tail}
 use Rattle.enumset_repr.specs.BitSet.{BitSet, contains, union, only, is_subset, is_disjoint}

@@ -3,9 +3,9 @@
 --     accepts-expression, whole      an expression may come for an operand;  what is accepted is one, and the end
 --     IsRead      what has been read: what makes an expression of it is what may come
 --     fault, accepted      what that says of a kind that may not come;  of the end, where it may
-use Rattle.std.proofs.Common.{◌≡◌, ℕ, zero, suc, ◌+◌, ◌<◌, ◌≤◌, Bool, true, false, ◌&&◌, List, [], ◌∷◌, ◌++◌, map, length, take, refl, sym, ap, ◌∙◌, subst, true≢false, append_assoc, arith, ◌↔◌, IsTrue, slice_index_or}
+use Rattle.std.proofs.Common.{◌≡◌, ℕ, zero, suc, ◌+◌, ◌<◌, ◌≤◌, Bool, true, false, ◌&&◌, List, [], ◌∷◌, ◌++◌, map, length, take, refl, sym, ap, ◌∙◌, subst, true≢false, append_assoc, arith, ◌↔◌, IsTrue, slice_index_or, take_all}
 use Rattle.std.proofs.lemmas.Bool.{and_parts}
-use Rattle.std.proofs.lemmas.List.{append_cancel_right, take_more, take_all, get_or-map, get_or_past, length-map}
+use Rattle.std.proofs.lemmas.List.{append_cancel_right, take_more, get_or-map, get_or_past, length-map}
 use Rattle.enumset_repr.specs.BitSet.{is_in, contains}
 use Rattle.enumset_repr.specs.Laws.Members.{contains_from_list}
 use Rattle.example_expressions.specs.declared.kind.Kind.{Kind}

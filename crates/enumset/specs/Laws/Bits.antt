@@ -4,15 +4,8 @@
 -- `number_max` and `number_min`, the number of the greater set and of the lesser, come from `enumset_repr`.
 -- Two rulesets, for `#[tactic(auto, using(enumset::specs::Laws::Bits::numbers))]`: `numbers` has a set and its number,
 -- there and back, `listed` the set of a number, of words or of a list, by a list of its bits.
-use Rattle.std.proofs.Common.{◌≡◌, ℕ, suc, zero, ◌+◌, ◌&&◌, ◌||◌, sym, ap, ◌∙◌, arith}
-use Rattle.std.specs.Prelude.{◌==◌, nat_le, nat_lt}
-use Rattle.std.specs.List.{range_with_len}
-use Rattle.std.proofs.lemmas.Bool.Decides.{nat_tests}
-use Rattle.enumset_repr.specs.BitSet.{is_in, from_list, below}
-use Rattle.enumset_repr.specs.Number.{bits, number}
-use Rattle.enumset_repr.specs.Laws.Members.{same_set, contains_below, contains_from_list, contains_ascending}
-use Rattle.enumset_repr.specs.Laws.Numbers.{bits_number, number_bits, bits_within, number_within}
-use Rattle.enumset_repr.specs.Laws.Listed.{bits_listed, words_listed}
+use Rattle.std.proofs.Common.{◌≡◌, ℕ, suc, zero, ◌+◌, ◌&&◌, ◌||◌, sym, ap, ◌∙◌, arith, ◌==◌, nat_le, nat_lt}
+use Rattle.enumset_repr.specs.Laws.Common.{range_with_len, nat_tests, is_in, from_list, below, bits, number, same_set, contains_below, contains_from_list, contains_ascending, bits_number, number_bits, bits_within, number_within, bits_listed, words_listed}
 pub use Rattle.enumset_repr.specs.Laws.Ordering.{number_max, number_min}
 
 pub bits_tell : (m n : ℕ) → bits m ≡ bits n → m ≡ n

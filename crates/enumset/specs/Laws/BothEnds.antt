@@ -4,14 +4,7 @@
 --     both_ends_whole      then what came from the front and what came from the back reversed are the list
 --     none_twice      of an ascending list no item comes twice
 use Rattle.std.proofs.Common.{◌≡◌, ◌<◌, ℕ, suc, true, not, List, [], ◌∷◌, ◌++◌, None, reverse, refl, sym, ap, ◌∙◌, arith, inl, inr, subst, get_or, append_assoc, append-nil, Contains, true≢false}
-use Rattle.std.proofs.lemmas.Grind.{reverse_onto}
-use Rattle.std.proofs.lemmas.Bool.{and_from, false_from_ne_true}
-use Rattle.std.proofs.lemmas.Bool.Decides.{nat_tests}
-use Rattle.std.proofs.lemmas.List.Elements.{Contains-append_cases}
-use Rattle.enumset_repr.specs.BitSet.{is_in}
-use Rattle.enumset_repr.specs.Number.{is_distinct}
-use Rattle.enumset_repr.specs.Laws.Steps.{last_push, without_last_push, cases_last, none_last}
-use Rattle.enumset_repr.specs.Laws.Ascending.{AscendsFrom, is_in_from, is_in_push, before_last}
+use Rattle.enumset_repr.specs.Laws.Common.{reverse_onto, and_from, false_from_ne_true, nat_tests, Contains-append_cases, is_in, is_distinct, last_push, without_last_push, cases_last, none_last, AscendsFrom, is_in_from, is_in_push, before_last}
 use Rattle.enumset_array.specs.declared.traversal.End.{End}
 use Rattle.enumset_array.specs.declared.traversal.End.TheVariants.{Front, Back}
 use Rattle.enumset_array.specs.Walks.{answer, without_answer, answers, without_answers, items_among}

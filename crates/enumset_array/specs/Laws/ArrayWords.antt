@@ -9,19 +9,9 @@
 --     none_iff      the set is empty exactly if the test of all words says that each is 0
 --     equal      lists of words are equal exactly if their sets are
 --     width_words      there are as many words as the width needs
-use Rattle.std.proofs.lemmas.Bool.{and_parts, and_from, eqb-true}
-use Rattle.std.proofs.Common.{zero, suc, [], ◌∷◌, refl, ◌≡◌, ◌<◌, ◌≤◌, ℕ, ◌+◌, ◌-◌, ◌*◌, ◌/◌, ◌^◌, true, List, length, drop, sym, ap, ◌∙◌, subst, arith, ◌↔◌, lit<}
-use Rattle.std.specs.Prelude.{◌==◌, IsTrue, nat_eq, slice_index, replicate}
-use Rattle.std.specs.List.{list_all}
-use Rattle.std.specs.Cmp.Lexicographic.{pointwise, same_text}
-use Rattle.std.proofs.lemmas.Cmp.{nat_list_eq_equiv}
-use Rattle.std.proofs.lemmas.List.{get_or-take, get_or-drop, get_or_past, length-take, length-replicate, drop-replicate}
-use Rattle.enumset_repr.specs.BitSet.{BitSet, contains, empty, below, is_subset}
-use Rattle.enumset_repr.specs.Number.{bits}
-use Rattle.enumset_repr.specs.Words.{word, words}
-use Rattle.enumset_repr.specs.Laws.Members.{same_set, contains_empty}
+use Rattle.std.proofs.Common.{eqb-true, zero, suc, [], ◌∷◌, refl, ◌≡◌, ◌<◌, ◌≤◌, ℕ, ◌+◌, ◌-◌, ◌*◌, ◌/◌, ◌^◌, true, List, length, drop, sym, ap, ◌∙◌, subst, arith, ◌↔◌, lit<, ◌==◌, IsTrue, nat_eq, slice_index, replicate, get_or-take, get_or-drop, length-take}
+use Rattle.enumset_repr.specs.Laws.Common.{and_parts, and_from, list_all, pointwise, same_text, nat_list_eq_equiv, get_or_past, length-replicate, drop-replicate, BitSet, contains, empty, below, is_subset, bits, word, words, same_set, contains_empty, bits_of_within, contains_bits_of, by_word, contains_zero, word_bits_of, words_bits_of, word_empty}
 use Rattle.enumset_array.specs.ArrayWords.{in_use, words_in_use, set_of, is_empty_past, IsArrayRepr}
-use Rattle.enumset_repr.specs.Laws.WordLists.{bits_of_within, contains_bits_of, by_word, contains_zero, word_bits_of, words_bits_of, word_empty}
 
 -- ---- lists of zeros
 

@@ -2,8 +2,7 @@
 --     none_left      no bit is left where no item is
 --     gave_first, gave_last      the first bit of a list, or the last, from the first item or the last
 use Rattle.std.proofs.Common.{◌≡◌, ℕ, Bool, List, [], ◌∷◌, ◌++◌, map, refl, sym, ap, ◌∙◌}
-use Rattle.std.proofs.lemmas.List.{map-append}
-use Rattle.enumset_repr.specs.BitSet.{BitSet}
+use Rattle.enumset_repr.specs.Laws.Common.{map-append, BitSet}
 use Rattle.enumset_mixed.specs.Mixed.{with_validity}
 
 -- the bits of a list, without what is said of each

@@ -8,8 +8,7 @@
 -- The ruleset `algebra` has those that a tactic can apply by itself. A crate above cites it by
 -- `#[tactic(auto, using(enumset_repr::specs::Laws::Algebra::algebra))]`.
 use Rattle.std.proofs.Common.{◌≡◌, ℕ, true, false, cond, List, [], ◌∷◌, refl, sym, ◌∙◌, arith, ◌↔◌}
-use Rattle.std.proofs.lemmas.Bool.Decides.{nat_tests, same_from_decides}
-use Rattle.enumset_repr.specs.BitSet.{BitSet, contains, ascending, empty, insert, only, remove, from_list, insert_each, union, intersection, difference, symmetric_difference, is_subset, is_disjoint}
+use Rattle.enumset_repr.specs.Laws.Base.{nat_tests, same_from_decides, BitSet, contains, ascending, empty, insert, only, remove, from_list, insert_each, union, intersection, difference, symmetric_difference, is_subset, is_disjoint}
 use Rattle.enumset_repr.specs.Laws.Members.{members, subsets, same_set, contains_ascending, contains_from_list, contains_insert_each, contains_is_subset, is_subset_contains, contains_is_disjoint, is_disjoint_contains, is_subset_iff, is_disjoint_iff}
 
 -- ---- union

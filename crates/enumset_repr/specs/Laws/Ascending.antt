@@ -3,16 +3,10 @@
 --     ascending_is      an ascending list of a set's members is `ascending` of that set
 --     ascending_..      `ascending` of a set with a least or a greatest member
 --     len_..      `len` of each set
-use Rattle.std.proofs.Common.{◌≡◌, ◌<◌, ◌≤◌, ℕ, suc, ◌+◌, ◌-◌, true, false, cond, ◌||◌, List, [], ◌∷◌, ◌++◌, refl, sym, ap, subst, ◌∙◌, length, arith, T, map, ◌↔◌}
-use Rattle.std.specs.Prelude.{◌==◌}
-use Rattle.std.specs.Ordering.{nat_cmp}
-use Rattle.std.proofs.lemmas.List.{length-map}
-use Rattle.std.specs.Cmp.{nat_cmp_total}
+use Rattle.std.proofs.Common.{◌≡◌, ◌<◌, ◌≤◌, ℕ, suc, ◌+◌, ◌-◌, true, false, cond, ◌||◌, List, [], ◌∷◌, ◌++◌, refl, sym, ap, subst, ◌∙◌, length, arith, T, map, ◌↔◌, ◌==◌, nat_cmp, eqb-true}
+use Rattle.enumset_repr.specs.Laws.Base.{length-map, nat_cmp_total, or_right, nat_tests, is_in, BitSet, contains, ascending, len, is_empty, empty, insert, remove, is_subset, below}
 use Rattle.std.specs.FinMap as fin
 use Rattle.std.specs.FinMap.{is_sorted}
-use Rattle.std.proofs.lemmas.Bool.{eqb-true, or_right}
-use Rattle.std.proofs.lemmas.Bool.Decides.{nat_tests}
-use Rattle.enumset_repr.specs.BitSet.{is_in, BitSet, contains, ascending, len, is_empty, empty, insert, remove, is_subset, below}
 use Rattle.enumset_repr.specs.Laws.Members.{members, same_set, contains_empty, contains_ascending, member_below}
 
 -- the list is ascending, and its first number is at least k

@@ -15,13 +15,9 @@
 --     len_kept_both, len_kept_either, len_kept_but, len_left_both      the same by two other sets
 --     length_ascending      the list of the members is as long as the set
 -- The ruleset `counting` has those that a tactic can apply by itself.
-use Rattle.std.proofs.Common.{◌≡◌, ◌≤◌, ◌<◌, ◌+◌, ◌-◌, ℕ, suc, zero, Bool, true, false, cond, not, ◌&&◌, ◌||◌, List, [], ◌∷◌, length, filter, count_by, refl, sym, ap, subst, ◌∙◌, arith, true≢false, ◌↔◌}
-use Rattle.std.specs.Prelude.{◌==◌}
-use Rattle.std.proofs.lemmas.Bool.{false_from_ne_true}
-use Rattle.std.proofs.lemmas.Bool.Decides.{nat_tests, same_from_decides}
+use Rattle.std.proofs.Common.{◌≡◌, ◌≤◌, ◌<◌, ◌+◌, ◌-◌, ℕ, suc, zero, Bool, true, false, cond, not, ◌&&◌, ◌||◌, List, [], ◌∷◌, length, filter, count_by, refl, sym, ap, subst, ◌∙◌, arith, true≢false, ◌↔◌, ◌==◌}
+use Rattle.enumset_repr.specs.Laws.Base.{false_from_ne_true, nat_tests, same_from_decides, length-filter, BitSet, is_in, contains, ascending, len, is_empty, empty, insert, remove, union, intersection, difference, is_subset, is_disjoint, is_same}
 use Rattle.std.proofs.lemmas.List.Filters.{length-filter_both}
-use Rattle.std.proofs.lemmas.List.Sums.{length-filter}
-use Rattle.enumset_repr.specs.BitSet.{BitSet, is_in, contains, ascending, len, is_empty, empty, insert, remove, union, intersection, difference, is_subset, is_disjoint, is_same}
 use Rattle.enumset_repr.specs.Laws.Members.{members, same_set, contains_empty, contains_union, contains_ascending, contains_intersection, contains_difference, is_subset_iff, is_disjoint_iff, is_disjoint_contains, is_same_iff}
 use Rattle.enumset_repr.specs.Laws.Algebra.{intersection_comm, intersection_assoc, intersection_union, intersection_within, intersection_over_union, is_subset_antisymm, union_comm, union_difference, union_within}
 use Rattle.enumset_repr.specs.Laws.Ascending.{AscendsFrom, ascends_lower, ascending_ascends, ascending_is, len_ascending, len_below, len_empty, len_insert, len_remove, empty_of_len, is_empty_iff}

@@ -7,19 +7,11 @@
 --     trailing_least, leading_greatest      what `trailing_zeros` and `leading_zeros` count, at each number of bits
 --     clear_least, least_positive      `n & (n - 1)`;  a number with a least member is not 0
 --     at_the_ends      the ends of a set, for a tactic's `using`
-use Rattle.std.proofs.Common.{◌≡◌, ◌<◌, ◌≤◌, ℕ, suc, zero, ◌+◌, ◌-◌, ◌^◌, true, false, List, [], ◌∷◌, ◌++◌, Some, None, refl, sym, ap, subst, ◌∙◌, arith, true≢false, length, length-append, inl, inr}
-use Rattle.std.specs.Prelude.{◌==◌, MatchOption, IfSome, IsSome, is_some}
-use Rattle.std.specs.Int.RustNames.{bit_and}
-use Rattle.std.specs.Int.Count.{count_trailing_zeros, count_leading_zeros, trailing_of_zero, leading_of_zero}
-use Rattle.std.specs.List.{slice_get, last_or}
-use Rattle.std.proofs.lemmas.Bool.{eq-eqb, or_left, false_from_ne_true}
-use Rattle.std.proofs.lemmas.Bool.Decides.{nat_tests}
-use Rattle.enumset_repr.specs.BitSet.{is_in, BitSet, contains, ascending, empty, remove, is_subset, below}
-use Rattle.enumset_repr.specs.Ends.{last, least, greatest}
+use Rattle.std.proofs.Common.{◌≡◌, ◌<◌, ◌≤◌, ℕ, suc, zero, ◌+◌, ◌-◌, ◌^◌, true, false, List, [], ◌∷◌, ◌++◌, Some, None, refl, sym, ap, subst, ◌∙◌, arith, true≢false, length, length-append, inl, inr, ◌==◌, MatchOption, IfSome, IsSome, is_some, bit_and, slice_get, eq-eqb}
+use Rattle.enumset_repr.specs.Laws.Base.{count_trailing_zeros, count_leading_zeros, trailing_of_zero, leading_of_zero, last_or, or_left, false_from_ne_true, nat_tests, is_in, BitSet, contains, ascending, empty, remove, is_subset, below, last, least, greatest, bits}
 use Rattle.enumset_repr.specs.Laws.Steps.{last_push, cases_last, none_last}
 use Rattle.enumset_repr.specs.Laws.Members.{contains_ascending, member_below}
 use Rattle.enumset_repr.specs.Laws.Ascending.{len_ascending, AscendsFrom, ascending_ascends, ascending_empty, is_in_below, is_in_push, before_last, ascending_first, ascending_last}
-use Rattle.enumset_repr.specs.Number.{bits}
 use Rattle.enumset_repr.specs.Laws.Numbers.{lt_pow, bits_zero, bits_within, bits_clear_least, least_bits, greatest_bits}
 
 -- ---- the least

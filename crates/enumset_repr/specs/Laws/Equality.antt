@@ -1,9 +1,6 @@
 -- `is_same` is an equivalence of sets.
 use Rattle.std.proofs.Common.{refl, sym}
-use Rattle.std.specs.Cmp.{IsEquivalence, IsPartialEquivalence, partial_equiv_from_equiv}
-use Rattle.std.proofs.lemmas.Bool.Decides.{same_from_decides}
-use Rattle.enumset_repr.specs.BitSet.{is_same}
-use Rattle.enumset_repr.specs.Laws.Members.{is_same_iff}
+use Rattle.enumset_repr.specs.Laws.Common.{IsEquivalence, IsPartialEquivalence, partial_equiv_from_equiv, same_from_decides, is_same, is_same_iff}
 
 pub is_same-IsEquivalence : IsEquivalence is_same
 is_same-IsEquivalence = record {

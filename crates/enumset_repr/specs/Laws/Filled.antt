@@ -4,10 +4,7 @@
 --     word_past_repr      a representation has no word past its last
 --     all_kept      a cut that leaves each word as it is leaves out no bit
 use Rattle.std.proofs.Common.{◌≡◌, ◌<◌, ◌≤◌, ℕ, ◌+◌, ◌*◌, ◌/◌, ◌^◌, true, min, inl, inr, List, length, sym, ap, ◌∙◌, arith, slice_index}
-use Rattle.std.proofs.lemmas.Bool.{cases_lt}
-use Rattle.std.proofs.lemmas.Bool.Decides.{nat_tests}
-use Rattle.enumset_repr.specs.BitSet.{BitSet, empty, is_subset, below, low}
-use Rattle.enumset_repr.specs.Words.{word, bits_of}
+use Rattle.enumset_repr.specs.Laws.Base.{cases_lt, nat_tests, BitSet, empty, is_subset, below, low, word, bits_of}
 use Rattle.enumset_repr.specs.Laws.Members.{members, same_set}
 use Rattle.enumset_repr.specs.Laws.Low.{low_within, low_narrow, is_subset_wider}
 use Rattle.enumset_repr.specs.Laws.WordLists.{word_bits_of, word_past, bits_of_within, low_same_words}

@@ -7,11 +7,8 @@
 --     ascending_empty_iff      a set has no first member exactly if it is empty
 --     insert_sorted, ascending_insert      the list of a set with a number inserted
 -- The rulesets `firsts` and `written_out` have those that a tactic can apply by itself.
-use Rattle.std.proofs.Common.{◌≡◌, ◌≤◌, ℕ, suc, Bool, true, false, cond, ◌||◌, List, [], ◌∷◌, ◌++◌, Some, refl, sym, ap, subst, ◌∙◌, arith, ◌↔◌}
-use Rattle.std.specs.Prelude.{◌==◌, nat_lt}
-use Rattle.std.proofs.lemmas.Bool.Decides.{nat_tests}
-use Rattle.enumset_repr.specs.BitSet.{BitSet, is_in, contains, ascending, empty, insert, remove, from_list}
-use Rattle.enumset_repr.specs.Ends.{first, last, without_first, without_last, least, greatest}
+use Rattle.std.proofs.Common.{◌≡◌, ◌≤◌, ℕ, suc, Bool, true, false, cond, ◌||◌, List, [], ◌∷◌, ◌++◌, Some, refl, sym, ap, subst, ◌∙◌, arith, ◌↔◌, ◌==◌, nat_lt}
+use Rattle.enumset_repr.specs.Laws.Base.{nat_tests, BitSet, is_in, contains, ascending, empty, insert, remove, from_list, first, last, without_first, without_last, least, greatest}
 use Rattle.enumset_repr.specs.Laws.Members.{contains_ascending, contains_insert}
 use Rattle.enumset_repr.specs.Laws.Algebra.{union_only}
 use Rattle.enumset_repr.specs.Laws.Ascending.{AscendsFrom, ascending_ascends, ascending_is, ascending_empty, empty_of_ascending, is_in_from}

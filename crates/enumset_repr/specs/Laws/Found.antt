@@ -4,17 +4,8 @@
 --         there is none, the set is empty
 --     least_at, greatest_at      the same of a number that is looked for in this set or another
 -- The first part of each is always true: it shows the search where to take the law. The ruleset `found` has them.
-use Rattle.std.proofs.Common.{◌≡◌, ◌≤◌, ℕ, suc, Bool, true, false, cond, List, [], ◌∷◌, Option, Some, None, refl, sym, ap, subst, ◌∙◌, arith}
-use Rattle.std.specs.Prelude.{◌==◌, MatchOption}
-use Rattle.std.specs.List.{find}
-use Rattle.std.proofs.lemmas.Bool.{or_left, or_right, eq-eqb}
-use Rattle.std.proofs.lemmas.Bool.Decides.{nat_tests}
-use Rattle.enumset_repr.specs.BitSet.{BitSet, is_in, contains, ascending, empty}
-use Rattle.enumset_repr.specs.Ends.{least, greatest}
-use Rattle.enumset_repr.specs.Laws.Members.{members, contains_empty, contains_ascending}
-use Rattle.enumset_repr.specs.Laws.Algebra.{difference_tells, intersection_tells}
-use Rattle.enumset_repr.specs.Laws.Ascending.{AscendsFrom, ascending_ascends, empty_of_ascending, is_in_from}
-use Rattle.enumset_repr.specs.Laws.Ends.{least_facts, greatest_facts, ascending_no_least, ascending_no_greatest}
+use Rattle.std.proofs.Common.{◌≡◌, ◌≤◌, ℕ, suc, Bool, true, false, cond, List, [], ◌∷◌, Option, Some, None, refl, sym, ap, subst, ◌∙◌, arith, ◌==◌, MatchOption, find, eq-eqb}
+use Rattle.enumset_repr.specs.Laws.Common.{or_left, or_right, nat_tests, BitSet, is_in, contains, ascending, empty, least, greatest, members, contains_empty, contains_ascending, difference_tells, intersection_tells, AscendsFrom, ascending_ascends, empty_of_ascending, is_in_from, least_facts, greatest_facts, ascending_no_least, ascending_no_greatest}
 
 -- what `find` finds, where `inside` tells which numbers are in the list
 abbrev pub IsLeast : (ℕ → Bool) → (ℕ → Bool) → Option ℕ → Type 0

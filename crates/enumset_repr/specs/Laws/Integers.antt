@@ -5,26 +5,10 @@
 --     on_integers      what the calls of an integer need, and those of a representation in its lowest bits, for a
 --         tactic's `using`
 -- In premises, `m ≡ 2 ^ low_zeros 128 m` says that m is a power of two. It computes at a written-out number.
-use Rattle.std.proofs.Common.{◌≡◌, ◌<◌, ◌≤◌, ℕ, suc, ◌+◌, ◌*◌, ◌/◌, ◌%◌, ◌^◌, ◌-◌, sym, ap, ◌∙◌, arith, true, not, refl}
-use Rattle.std.specs.Prelude.{◌==◌, IsTrue}
-use Rattle.std.specs.Ordering.{nat_cmp}
-use Rattle.std.specs.Int.{bit_not, Width, w128}
-use Rattle.std.specs.Int.RustNames.{bit_and, bit_or, bit_xor}
+use Rattle.std.proofs.Common.{◌≡◌, ◌<◌, ◌≤◌, ℕ, suc, ◌+◌, ◌*◌, ◌/◌, ◌%◌, ◌^◌, ◌-◌, sym, ap, ◌∙◌, arith, true, not, refl, ◌==◌, IsTrue, nat_cmp, bit_and, bit_or, bit_xor, eqb-true, eq-eqb}
+use Rattle.enumset_repr.specs.Laws.Common.{bit_not, Width, w128, nat_tests, low_zeros, and_mask, and_le_l, contains, only, difference, is_subset, below, IsRepresentation, AreSetOperators, number, bits, word, with_word, union_only, difference_only, intersection_right, symmetric_difference_within, subsets, contains_below, number_bits, number_within, bits_full, bits_within, bits_and, bits_or, bits_xor, bits_not, bits_and_not, bits_one_shifted, bits_test, bits_zero, on_numbers, trailing_least, leading_greatest, clear_least, least_positive, word_bits, bits_put_low, bits_put_word}
 use mir.Val.{bits as width_bits}
-use Rattle.std.proofs.lemmas.Bool.{eqb-true, eq-eqb}
-use Rattle.std.proofs.lemmas.Bool.Decides.{nat_tests}
-use Rattle.std.proofs.lemmas.Grind.{low_zeros}
-use Rattle.std.proofs.lemmas.Nat.{and_mask, and_le_l}
-use Rattle.enumset_repr.specs.BitSet.{contains, only, difference, is_subset, below}
-use Rattle.enumset_repr.specs.Representations.{IsRepresentation, AreSetOperators}
-use Rattle.enumset_repr.specs.Number.{number, bits}
-use Rattle.enumset_repr.specs.Words.{word, with_word}
-use Rattle.enumset_repr.specs.Laws.Algebra.{union_only, difference_only, intersection_right, symmetric_difference_within}
-use Rattle.enumset_repr.specs.Laws.Members.{subsets, contains_below}
-use Rattle.enumset_repr.specs.Laws.Numbers.{number_bits, number_within, bits_full, bits_within, bits_and, bits_or, bits_xor, bits_not, bits_and_not, bits_one_shifted, bits_test, bits_zero, on_numbers}
 use Rattle.enumset_repr.specs.Laws.Order.{compare_bits}
-use Rattle.enumset_repr.specs.Laws.Ends.{trailing_least, leading_greatest, clear_least, least_positive}
-use Rattle.enumset_repr.specs.Laws.Words.{word_bits, bits_put_low, bits_put_word}
 
 pub by_number : (width : ℕ) → IsRepresentation bits number (λ n. IsTrue (is_subset (bits n) (below width))) 0 width ((width + 63) / 64) (λ a b. a == b) nat_cmp
 by_number width = record {

@@ -1,17 +1,7 @@
 -- A number, or words, with their bits given as a list: one test of the list says which set they represent.
 --     bits_listed, words_listed      the set of a number whose bits are listed;  the set of words whose bits are listed
-use Rattle.std.proofs.Common.{◌≡◌, ℕ, ◌+◌, ◌-◌, ◌*◌, ◌^◌, true, false, true≢false, ◌&&◌, ◌||◌, List, [], ◌∷◌, sym, ap, ◌∙◌, arith, sum_by, zero-mul}
-use Rattle.std.specs.Prelude.{nat_le}
-use Rattle.std.specs.Int.{bit_at}
-use Rattle.std.specs.Int.RustNames.{bit_and, bit_or}
-use Rattle.std.specs.Int.Bits.{or_add_and}
-use Rattle.std.proofs.lemmas.Bool.{eqb-true, and_parts, not-true}
-use Rattle.std.proofs.lemmas.List.Sums.{sum_by-cons}
-use Rattle.std.proofs.lemmas.Bool.Decides.{nat_tests}
-use Rattle.std.proofs.lemmas.Nat.Bits.{and_pow, bit_at-lt}
-use Rattle.enumset_repr.specs.BitSet.{is_in, BitSet, contains, insert, from_list, union}
-use Rattle.enumset_repr.specs.Number.{number, bits, is_distinct, lists_bits}
-use Rattle.enumset_repr.specs.Words.{upward_shift, bits_of, in_first_word, in_later_words, lists_words}
+use Rattle.std.proofs.Common.{◌≡◌, ℕ, ◌+◌, ◌-◌, ◌*◌, ◌^◌, true, false, true≢false, ◌&&◌, ◌||◌, List, [], ◌∷◌, sym, ap, ◌∙◌, arith, sum_by, zero-mul, nat_le, bit_and, bit_or, eqb-true}
+use Rattle.enumset_repr.specs.Laws.Base.{bit_at, or_add_and, and_parts, not-true, sum_by-cons, nat_tests, and_pow, bit_at-lt, is_in, BitSet, contains, insert, from_list, union, number, bits, is_distinct, lists_bits, upward_shift, bits_of, in_first_word, in_later_words, lists_words}
 use Rattle.enumset_repr.specs.Laws.Members.{same_set, contains_empty, contains_from_list, contains_union}
 use Rattle.enumset_repr.specs.Laws.Algebra.{union_only}
 use Rattle.enumset_repr.specs.Laws.Ascending.{ascending_empty}

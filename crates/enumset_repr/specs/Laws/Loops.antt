@@ -4,16 +4,9 @@
 --     is_subset_list, is_disjoint_list      a subset and disjoint sets as tests of a list
 -- The ruleset `loops` has what the invariant of such a loop needs, and `searches` what a loop needs that returns the member
 -- that it finds.
-use Rattle.std.proofs.Common.{◌≡◌, ℕ, Bool, cond, not, ◌&&◌, ◌||◌, List, [], ◌∷◌, Some, refl, arith}
-use Rattle.std.specs.List.{list_any, list_all, find}
-use Rattle.std.proofs.lemmas.Bool.Decides.{nat_tests}
-use Rattle.std.proofs.lemmas.List.Sums.{sum_by-cons}
-use Rattle.enumset_repr.specs.BitSet.{BitSet, contains, ascending, is_subset, is_disjoint}
-use Rattle.enumset_repr.specs.Laws.Algebra.{on_unions, on_differences, on_intersections, on_lists, insert_union, union_insert, insert_inside, difference_inserted}
-use Rattle.enumset_repr.specs.Laws.Counting.{len_kept, len_left}
-use Rattle.enumset_repr.specs.Laws.Sets.{difference_insert, intersection_insert}
+use Rattle.std.proofs.Common.{◌≡◌, ℕ, Bool, cond, not, ◌&&◌, ◌||◌, List, [], ◌∷◌, Some, refl, arith, find}
+use Rattle.enumset_repr.specs.Laws.Common.{list_any, list_all, nat_tests, sum_by-cons, BitSet, contains, ascending, is_subset, is_disjoint, on_unions, on_differences, on_intersections, on_lists, insert_union, union_insert, insert_inside, difference_inserted, len_kept, len_left, difference_insert, intersection_insert, from_list_empty, from_list_next}
 use Rattle.enumset_repr.specs.Laws.Found.{found_tells}
-use Rattle.enumset_repr.specs.Laws.Firsts.{from_list_empty, from_list_next}
 
 pub find_next : (p : ℕ → Bool) (b : ℕ) (bs : List ℕ) → find p (b ∷ bs) ≡ cond (p b) (Some b) (find p bs)
 find_next p b bs = refl

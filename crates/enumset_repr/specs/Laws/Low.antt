@@ -13,15 +13,8 @@
 -- The ruleset `cuts` has what a proof about sets and their numbers needs. A crate above cites it by
 -- `#[tactic(auto, using(enumset_repr::specs::Laws::Low::cuts))]`. `cuts_to` has what calls to and
 -- from integers need.
-use Rattle.std.proofs.Common.{◌≡◌, ◌<◌, ◌≤◌, ℕ, suc, ◌-◌, ◌%◌, ◌^◌, true, sym, ap, subst, ◌∙◌, arith}
-use Rattle.std.proofs.lemmas.Bool.{lt-ltb, ltb-true}
-use Rattle.std.proofs.lemmas.Bool.Decides.{nat_tests, same_from_decides}
-use Rattle.std.proofs.lemmas.Grind.{low_zeros}
-use Rattle.std.specs.Prelude.{nat_lt}
-use Rattle.std.specs.Int.RustNames.{bit_and}
-use Rattle.std.proofs.lemmas.Nat.{and_mask}
-use Rattle.enumset_repr.specs.BitSet.{BitSet, empty, intersection, is_subset, below, low}
-use Rattle.enumset_repr.specs.Number.{number}
+use Rattle.std.proofs.Common.{◌≡◌, ◌<◌, ◌≤◌, ℕ, suc, ◌-◌, ◌%◌, ◌^◌, true, sym, ap, subst, ◌∙◌, arith, lt-ltb, ltb-true, nat_lt, bit_and}
+use Rattle.enumset_repr.specs.Laws.Base.{nat_tests, same_from_decides, low_zeros, and_mask, BitSet, empty, intersection, is_subset, below, low, number}
 use Rattle.enumset_repr.specs.Laws.Members.{members, same_set, is_subset_contains, contains_is_subset}
 use Rattle.enumset_repr.specs.Laws.Algebra.{is_subset_trans, intersection_right, difference_within, difference_none}
 use Rattle.enumset_repr.specs.Laws.Counting.{is_empty_difference, is_empty_intersection}

@@ -2,18 +2,9 @@
 --     masked_tells      `a & !b == 0` as a test of a subset
 --     or_and_not      bits set and cleared at once
 -- The ruleset `masks` has what a proof about the bits of a byte needs.
-use Rattle.std.proofs.Common.{◌≡◌, ◌≤◌, ◌<◌, ℕ, suc, ◌-◌, ◌^◌, true, refl, sym, ap, subst, ◌∙◌, arith, ◌↔◌}
-use Rattle.std.specs.Prelude.{◌==◌}
-use Rattle.std.specs.Int.RustNames.{bit_and, bit_or}
-use Rattle.std.proofs.lemmas.Bool.Decides.{nat_tests}
-use Rattle.std.proofs.lemmas.Grind.{low_zeros}
-use Rattle.enumset_repr.specs.BitSet.{union, difference, is_empty, is_subset}
-use Rattle.enumset_repr.specs.Number.{bits, number}
-use Rattle.enumset_repr.specs.Laws.Members.{union_is_subset, is_disjoint_iff}
-use Rattle.enumset_repr.specs.Laws.Algebra.{intersection_within}
-use Rattle.enumset_repr.specs.Laws.Counting.{is_empty_difference, is_empty_intersection}
+use Rattle.std.proofs.Common.{◌≡◌, ◌≤◌, ◌<◌, ℕ, suc, ◌-◌, ◌^◌, true, refl, sym, ap, subst, ◌∙◌, arith, ◌↔◌, ◌==◌, bit_and, bit_or}
+use Rattle.enumset_repr.specs.Laws.Common.{nat_tests, low_zeros, union, difference, is_empty, is_subset, bits, number, union_is_subset, is_disjoint_iff, intersection_within, is_empty_difference, is_empty_intersection, bits_and, bits_or, bits_xor, bits_number, number_bits, bits_within, number_within, bits_is_empty}
 use Rattle.enumset_repr.specs.Laws.Integers.{and_not}
-use Rattle.enumset_repr.specs.Laws.Numbers.{bits_and, bits_or, bits_xor, bits_number, number_bits, bits_within, number_within, bits_is_empty}
 
 -- the first part is always true: it shows the search where to take the law
 pub masked_tells : (a b m : ℕ) → suc m ≡ 2 ^ low_zeros 128 (suc m) → a ≤ m → b ≤ m → (bit_and a (m - b) ≡ bit_and a (m - b)) × ((bit_and a (m - b) ≡ 0) ↔ (is_subset (bits a) (bits b) ≡ true))

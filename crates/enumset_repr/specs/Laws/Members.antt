@@ -7,16 +7,9 @@
 --     .._is_subset      operations on subsets of one set give subsets of it;  the ruleset `subsets` has them all
 --     member_below, contains_past      members of sets of numbers below a bound
 --     list_all_any, list_all_each      a test that passes each number of a list
-use Rattle.std.proofs.Common.{◌≡◌, ◌<◌, ◌≤◌, ℕ, suc, zero, Bool, true, false, cond, not, ◌&&◌, ◌||◌, List, [], ◌∷◌, Option, Some, None, refl, sym, ap, subst, true≢false, ◌∙◌, arith}
-use Rattle.std.specs.Prelude.{◌==◌, nat_lt, is_some, ◌↔◌}
-use Rattle.std.specs.List.{list_any, list_all}
-use Rattle.std.specs.Ordering.{nat_cmp}
-use Rattle.std.specs.Cmp.{nat_cmp_total, unsigned_tied}
+use Rattle.std.proofs.Common.{◌≡◌, ◌<◌, ◌≤◌, ℕ, suc, zero, Bool, true, false, cond, not, ◌&&◌, ◌||◌, List, [], ◌∷◌, Option, Some, None, refl, sym, ap, subst, true≢false, ◌∙◌, arith, ◌==◌, nat_lt, is_some, ◌↔◌, nat_cmp, ltb-true, eq-eqb, Equal}
+use Rattle.enumset_repr.specs.Laws.Base.{list_any, list_all, nat_cmp_total, unsigned_tied, and_parts, and_from, or_left, or_right, not-true, false_from_ne_true, nat_tests, same_from_decides, BitSet, contains, ascending, empty, insert, remove, retain, from_list, insert_each, union, intersection, difference, symmetric_difference, is_subset, is_disjoint, is_same, below, low}
 use Rattle.std.specs.FinMap as map
-use Rattle.std.proofs.lemmas.Bool.{ltb-true, and_parts, and_from, or_left, or_right, not-true, false_from_ne_true, eq-eqb}
-use Rattle.std.proofs.lemmas.Bool.Decides.{nat_tests, same_from_decides}
-use Rattle.std.specs.declared.cmp.Ordering.TheVariants.{Equal}
-use Rattle.enumset_repr.specs.BitSet.{BitSet, contains, ascending, empty, insert, remove, retain, from_list, insert_each, union, intersection, difference, symmetric_difference, is_subset, is_disjoint, is_same, below, low}
 
 marked : Bool → Option (Unit {0})
 marked b = cond b (Some tt) None

@@ -5,19 +5,10 @@
 --     least_bits, greatest_bits      `trailing_zeros` and `leading_zeros`
 --     bits_full      a number of n ones
 --     on_numbers      the laws that name no width, for a tactic's `using`
-use Rattle.std.proofs.Common.{◌≡◌, ◌<◌, ◌≤◌, ℕ, suc, zero, ◌+◌, ◌-◌, ◌*◌, ◌/◌, ◌%◌, ◌^◌, true, false, not, List, [], ◌∷◌, refl, sym, ap, ◌∙◌, length, arith, inl, inr, pow-suc, pow-add, one-mul, zero-mul, subst}
-use Rattle.std.proofs.Math.Nat.{dvd-add, dvd-mul_left, div-mul_cancel, dvd_trans, dvd-zero}
-use Rattle.std.specs.Prelude.{◌==◌, sum_by}
-use Rattle.std.specs.Int.{bit_at, ◌∣◌}
-use Rattle.std.specs.Int.RustNames.{bit_and, bit_or, bit_xor, count_ones}
-use Rattle.std.specs.Int.Count.{count_trailing_zeros, count_leading_zeros, under, ones_cat, leading_top}
-use Rattle.std.proofs.lemmas.Bool.{cases_lt, eqb-true, eq-eqb}
-use Rattle.std.proofs.lemmas.Bool.Decides.{nat_tests, same_from_decides}
-use Rattle.std.proofs.lemmas.List.Sums.{sum_by-cons}
-use Rattle.std.proofs.lemmas.Nat.{pow_pos, le-div, div_below, pow_below, one_shl, shr-shr, shr_split, mod_below}
-use Rattle.std.proofs.lemmas.Nat.Bits.{and_pow, bit_at_and, bit_at_or, bit_at_xor, bit_at-pow_same, bit_at-pow_other, bit_at-zero, bit_at_above, bit_at-lt, bit_at_cat_low, bit_at_cat_high, bit_at-suc, bit_at_lowest, bit_at_ones, bit_at_ones_above, same_from_bits}
-use Rattle.enumset_repr.specs.BitSet.{is_in, BitSet, contains, ascending, len, is_empty, empty, insert, only, remove, union, intersection, difference, symmetric_difference, is_subset, below, low}
-use Rattle.enumset_repr.specs.Number.{number, bits}
+use Rattle.std.proofs.Common.{◌≡◌, ◌<◌, ◌≤◌, ℕ, suc, zero, ◌+◌, ◌-◌, ◌*◌, ◌/◌, ◌%◌, ◌^◌, true, false, not, List, [], ◌∷◌, refl, sym, ap, ◌∙◌, length, arith, inl, inr, pow-suc, pow-add, one-mul, zero-mul, subst, ◌==◌, sum_by, bit_and, bit_or, bit_xor, eqb-true, eq-eqb, pow_pos, shr-shr}
+use Rattle.enumset_repr.specs.Laws.Base.{dvd-add, dvd-mul_left, div-mul_cancel, dvd_trans, dvd-zero, bit_at, count_ones, count_trailing_zeros, count_leading_zeros, under, leading_top, cases_lt, nat_tests, same_from_decides, sum_by-cons, le-div, div_below, pow_below, one_shl, shr_split, mod_below, and_pow, bit_at_and, bit_at_or, bit_at_xor, bit_at-pow_same, bit_at-pow_other, bit_at-zero, bit_at_above, bit_at-lt, bit_at_cat_low, bit_at_cat_high, bit_at-suc, bit_at_lowest, bit_at_ones, bit_at_ones_above, same_from_bits, is_in, BitSet, contains, ascending, len, is_empty, empty, insert, only, remove, union, intersection, difference, symmetric_difference, is_subset, below, low, number, bits}
+use Rattle.std.specs.Int.{◌∣◌}
+use Rattle.std.specs.Int.Count.{ones_cat}
 use Rattle.enumset_repr.specs.Laws.Members.{same_set, contains_empty, contains_ascending, contains_retain, contains_remove, contains_insert, contains_union, contains_intersection, contains_difference, contains_symmetric_difference, contains_below, contains_low, is_subset_contains, contains_is_subset}
 use Rattle.enumset_repr.specs.Laws.Algebra.{intersection_difference, union_only, difference_only}
 use Rattle.enumset_repr.specs.Laws.Ascending.{AscendsFrom, ascending_ascends, ascending_empty, is_in_below, len_ascending, is_empty_iff}

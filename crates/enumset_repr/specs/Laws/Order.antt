@@ -5,24 +5,8 @@
 --     compare_subset      a proper subset is less
 --     compare_turned      for two subsets of one set, their complements in that set compare the other way round
 --     same_compare, compare_partial      what else `PartialOrd` and `Ord` require
-use Rattle.std.proofs.Common.{◌≡◌, ◌≢◌, ◌<◌, ℕ, suc, ◌+◌, ◌*◌, ◌/◌, ◌%◌, ◌^◌, true, false, cond, not, Option, Some, None, refl, sym, ap, subst, ◌∙◌, arith, true≢false, suc-mul}
-use Rattle.std.specs.Prelude.{◌↔◌}
-use Rattle.std.specs.declared.cmp.Ordering.{Ordering}
-use Rattle.std.specs.declared.cmp.Ordering.TheVariants.{Less, Equal, Greater}
-use Rattle.std.specs.Ordering.{MatchOrdering, is_eq, nat_cmp}
-use Rattle.std.specs.Cmp.{IsTotalOrder, IsPartialOrder, strict, one_rank, ranks, below_irrefl, below_chain, partial_order_from_agreeing_total, Equal-is, tied_itself}
-use Rattle.std.specs.Bool.{one_answer}
-use Rattle.std.proofs.lemmas.Bool.Decides.{nat_tests}
-use Rattle.std.proofs.lemmas.Nat.{pow_pos, shr-shr, shr_split, mod_below}
-use Rattle.std.proofs.lemmas.Nat.Bits.{bit_at-lt}
-use Rattle.enumset_repr.specs.BitSet.{BitSet, contains, symmetric_difference, difference, is_subset, is_same}
-use Rattle.enumset_repr.specs.Ends.{greatest}
-use Rattle.enumset_repr.specs.Number.{number, bits}
-use Rattle.enumset_repr.specs.Order.{deciding_number, by_holder, compare}
-use Rattle.enumset_repr.specs.Laws.Members.{members, same_set, contains_symmetric_difference, contains_difference, is_subset_contains, is_same_iff}
-use Rattle.enumset_repr.specs.Laws.Ends.{greatest_facts, ascending_no_greatest}
-use Rattle.enumset_repr.specs.Laws.Ascending.{empty_of_ascending}
-use Rattle.enumset_repr.specs.Laws.Numbers.{contains_bits, contains_bits_shifted, bits_number, number_bits, same_number}
+use Rattle.std.proofs.Common.{◌≡◌, ◌≢◌, ◌<◌, ℕ, suc, ◌+◌, ◌*◌, ◌/◌, ◌%◌, ◌^◌, true, false, cond, not, Option, Some, None, refl, sym, ap, subst, ◌∙◌, arith, true≢false, suc-mul, ◌↔◌, Ordering, Less, Equal, Greater, is_eq, nat_cmp, pow_pos, shr-shr}
+use Rattle.enumset_repr.specs.Laws.Common.{MatchOrdering, IsTotalOrder, IsPartialOrder, strict, one_rank, ranks, below_irrefl, below_chain, partial_order_from_agreeing_total, Equal-is, tied_itself, one_answer, nat_tests, shr_split, mod_below, bit_at-lt, BitSet, contains, symmetric_difference, difference, is_subset, is_same, greatest, number, bits, deciding_number, by_holder, compare, members, same_set, contains_symmetric_difference, contains_difference, is_subset_contains, is_same_iff, greatest_facts, ascending_no_greatest, empty_of_ascending, contains_bits, contains_bits_shifted, bits_number, number_bits, same_number}
 
 -- ---- by the bits of a number
 

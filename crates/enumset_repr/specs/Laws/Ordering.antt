@@ -4,12 +4,7 @@
 --     number_max, number_min      the number of the greater set, and of the lesser
 -- The ruleset `ordering` has them, that a proper subset is less, and that a set compares as equal with itself alone.
 use Rattle.std.proofs.Common.{◌≡◌, ◌<◌, ◌⊎◌, inl, inr, Bool, true, false, min, max, refl, sym, subst, ◌∙◌, true≢false, arith}
-use Rattle.std.specs.Ordering.{ord_max, ord_min, MatchOrdering}
-use Rattle.std.proofs.lemmas.Bool.Decides.{nat_tests}
-use Rattle.enumset_repr.specs.BitSet.{BitSet, is_subset, is_same}
-use Rattle.enumset_repr.specs.Number.{number}
-use Rattle.enumset_repr.specs.Order.{compare}
-use Rattle.enumset_repr.specs.Laws.Members.{is_same_iff}
+use Rattle.enumset_repr.specs.Laws.Common.{ord_max, ord_min, MatchOrdering, nat_tests, BitSet, is_subset, is_same, number, compare, is_same_iff}
 use Rattle.enumset_repr.specs.Laws.Order.{compare_itself, compare_same, compare_subset, compare_ranks, compare_number}
 
 module _ (s t : BitSet) (within : is_subset s t ≡ true) where

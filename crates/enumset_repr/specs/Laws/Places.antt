@@ -7,20 +7,10 @@
 --     first_at, find_tells      the first place at which a test passes, and what `find` finds there
 -- The ruleset `chains` has what a proof about `any`, `all`, `find` and a count over a set's iterator needs.
 -- `chains_of_two` is for a count by two other sets, `tests` for `any`, `all` and `find` with a closure that compares bits.
-use Rattle.std.proofs.Common.{◌≡◌, ◌<◌, ℕ, suc, zero, Bool, true, false, cond, not, List, [], ◌∷◌, Option, Some, None, length, refl, sym, ap, ◌∙◌, arith, true≢false, ◌↔◌}
-use Rattle.std.specs.Prelude.{◌==◌, SomeIndex, slice_index, MatchOption}
-use Rattle.std.specs.List.{slice_index_or, list_any, list_all, find}
-use Rattle.std.proofs.lemmas.Bool.{not-true, or_left, or_right, eq-eqb}
-use Rattle.std.proofs.lemmas.Bool.Decides.{nat_tests}
-use Rattle.std.proofs.lemmas.List.{get_or_default}
-use Rattle.std.proofs.lemmas.List.Folds.{Any-from_list_any, list_any_at}
-use Rattle.enumset_repr.specs.BitSet.{BitSet, is_in, contains, ascending, is_subset, is_disjoint}
-use Rattle.enumset_repr.specs.Laws.Members.{members, contains_ascending}
-use Rattle.enumset_repr.specs.Laws.Ascending.{AscendsFrom, ascending_ascends, is_in_from}
-use Rattle.enumset_repr.specs.Laws.Counting.{len_kept, len_left, len_kept_both, len_kept_either, len_kept_but, len_left_both, length_ascending}
+use Rattle.std.proofs.Common.{◌≡◌, ◌<◌, ℕ, suc, zero, Bool, true, false, cond, not, List, [], ◌∷◌, Option, Some, None, length, refl, sym, ap, ◌∙◌, arith, true≢false, ◌↔◌, ◌==◌, SomeIndex, slice_index, MatchOption, slice_index_or, find, eq-eqb}
+use Rattle.enumset_repr.specs.Laws.Common.{list_any, list_all, not-true, or_left, or_right, nat_tests, get_or_default, Any-from_list_any, list_any_at, BitSet, is_in, contains, ascending, is_subset, is_disjoint, members, contains_ascending, AscendsFrom, ascending_ascends, is_in_from, len_kept, len_left, len_kept_both, len_kept_either, len_kept_but, len_left_both, length_ascending, len_regrouped}
 use Rattle.enumset_repr.specs.Laws.Found.{found_tells}
 use Rattle.enumset_repr.specs.Laws.Loops.{all_not_any, is_disjoint_list}
-use Rattle.enumset_repr.specs.Laws.Sets.{len_regrouped}
 
 -- the place of a number in a list
 abbrev place_in : ℕ → List ℕ → ℕ

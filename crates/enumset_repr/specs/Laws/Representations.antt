@@ -2,12 +2,8 @@
 --     by_sets      operators whose results are those of the sets
 --     by_list      an iterator whose steps are those of the list of the items left
 --     no_asks      an iterator that counts no asks
-use Rattle.std.proofs.Common.{◌≡◌, refl, ap, List, ℕ, arith}
-use Rattle.std.specs.Prelude.{Option}
-use Rattle.std.specs.Iterator.{YieldsFirst, YieldsLast, item_count}
-use Rattle.enumset_repr.specs.Asks.{IsCounted}
-use Rattle.enumset_repr.specs.BitSet.{BitSet, union, intersection, symmetric_difference, difference, below}
-use Rattle.enumset_repr.specs.Representations.{AreSetOperators, IsListed}
+use Rattle.std.proofs.Common.{◌≡◌, refl, ap, List, ℕ, arith, Option}
+use Rattle.enumset_repr.specs.Laws.Common.{YieldsFirst, YieldsLast, item_count, IsCounted, BitSet, union, intersection, symmetric_difference, difference, below, AreSetOperators, IsListed}
 
 pub by_sets : {S : Type 0} {members : S → BitSet} {IsValue : S → Type 0} {width : ℕ}
     → AreSetOperators members IsValue width (λ _ _. Unit {0}) (λ _ _. Unit {0}) (λ _ _. Unit {0}) (λ _. Unit {0})

@@ -13,9 +13,7 @@
 --     len_regrouped      how many members are in all of three sets, grouped the other way
 --     complement_..      the difference of a set v and a set with members outside v
 use Rattle.std.proofs.Common.{◌≡◌, ◌+◌, ◌*◌, ℕ, true, false, ◌&&◌, ap, subst, ◌∙◌, arith}
-use Rattle.std.proofs.lemmas.Bool.{and_parts, and_from}
-use Rattle.std.proofs.lemmas.Bool.Decides.{nat_tests, same_from_decides}
-use Rattle.enumset_repr.specs.BitSet.{BitSet, contains, len, empty, insert, remove, union, intersection, difference, symmetric_difference, is_subset, is_disjoint, is_same}
+use Rattle.enumset_repr.specs.Laws.Base.{and_parts, and_from, nat_tests, same_from_decides, BitSet, contains, len, empty, insert, remove, union, intersection, difference, symmetric_difference, is_subset, is_disjoint, is_same}
 use Rattle.enumset_repr.specs.Laws.Members.{members, same_set, is_subset_contains, contains_is_subset, contains_is_disjoint, is_disjoint_contains, is_same_iff}
 use Rattle.enumset_repr.specs.Laws.Algebra.{union_comm, union_right, union_within, intersection_assoc, is_disjoint_comm}
 use Rattle.enumset_repr.specs.Laws.Counting.{len_parts, len_union}

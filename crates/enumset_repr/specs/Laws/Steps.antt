@@ -3,11 +3,8 @@
 --     cases_last      a list is empty, or has a last item
 --     none_last      a list without a last item is empty
 --     gives_last      a step from the end yields `last` of a list and leaves `without_last`
-use Rattle.std.proofs.Common.{◌≡◌, ℕ, ◌-◌, List, [], ◌∷◌, ◌++◌, length, take, length-append, refl, sym, ap, ◌∙◌, ◌⊎◌, inl, inr, arith}
-use Rattle.std.specs.Prelude.{Option, Some, None, MatchOption}
-use Rattle.std.specs.List.{last_or}
-use Rattle.std.proofs.Math.Seq.{take-append_seam}
-use Rattle.enumset_repr.specs.Ends.{last, without_last}
+use Rattle.std.proofs.Common.{◌≡◌, ℕ, ◌-◌, List, [], ◌∷◌, ◌++◌, length, take, length-append, refl, sym, ap, ◌∙◌, ◌⊎◌, inl, inr, arith, Option, Some, None, MatchOption}
+use Rattle.enumset_repr.specs.Laws.Base.{last_or, take-append_seam, last, without_last}
 
 last_or-push : (o : Option ℕ) (xs : List ℕ) (x : ℕ) → last_or o (xs ++ x ∷ []) ≡ Some x
 last_or-push o [] x = refl

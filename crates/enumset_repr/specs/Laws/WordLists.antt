@@ -14,17 +14,8 @@
 --     number_word      the number of the members below 64, by the one word
 --     bits_of_halves, number_words      a number of 128 bits, and its two words
 --     low_same_words      a set is below a width if a cut there leaves each word as it is
-use Rattle.std.proofs.Common.{◌≡◌, ◌<◌, ◌≤◌, ◌⊎◌, inl, inr, ℕ, suc, zero, ◌+◌, ◌-◌, ◌*◌, ◌/◌, ◌%◌, ◌^◌, true, false, ◌&&◌, List, [], ◌∷◌, ◌++◌, length, refl, sym, ap, ◌∙◌, subst, arith, mod-lt}
-use Rattle.std.proofs.Math.Nat.{div-add-mod}
-use Rattle.std.specs.Prelude.{nat_lt, nat_le, slice_index, sum_by, filter}
-use Rattle.std.proofs.lemmas.Bool.{cases_lt}
-use Rattle.std.proofs.lemmas.Bool.Decides.{nat_tests}
-use Rattle.std.proofs.lemmas.Grind.{same_number_lists}
-use Rattle.std.proofs.lemmas.List.{get_or_past}
-use Rattle.std.proofs.lemmas.List.FromFn.{get_or-map-range_with_len, length-map-range_with_len, map-range_with_len_more}
-use Rattle.enumset_repr.specs.BitSet.{BitSet, contains, empty, below, is_subset, low}
-use Rattle.enumset_repr.specs.Number.{bits, number}
-use Rattle.enumset_repr.specs.Words.{word, words, bits_of, is_in_word, with_word, upward_shift}
+use Rattle.std.proofs.Common.{◌≡◌, ◌<◌, ◌≤◌, ◌⊎◌, inl, inr, ℕ, suc, zero, ◌+◌, ◌-◌, ◌*◌, ◌/◌, ◌%◌, ◌^◌, true, false, ◌&&◌, List, [], ◌∷◌, ◌++◌, length, refl, sym, ap, ◌∙◌, subst, arith, mod-lt, nat_lt, nat_le, slice_index, sum_by, filter}
+use Rattle.enumset_repr.specs.Laws.Base.{div-add-mod, cases_lt, nat_tests, same_number_lists, get_or_past, get_or-map-range_with_len, length-map-range_with_len, map-range_with_len_more, BitSet, contains, empty, below, is_subset, low, bits, number, word, words, bits_of, is_in_word, with_word, upward_shift}
 use Rattle.enumset_repr.specs.Laws.Ascending.{ascending_empty}
 use Rattle.enumset_repr.specs.Laws.Members.{same_set, contains_empty, contains_union, contains_below, contains_low, contains_is_subset, contains_past}
 use Rattle.enumset_repr.specs.Laws.Numbers.{same_number, number_bits, bits_zero, bits_within, number_within}

@@ -4,17 +4,8 @@
 --     word_bits      a word of a number's set
 --     bits_shifted_up      the set of `n << k`
 --     bits_put_low, bits_put_word      the set of a number after one of its words was replaced
-use Rattle.std.proofs.Common.{◌≡◌, ◌<◌, ◌≤◌, ℕ, suc, ◌+◌, ◌-◌, ◌*◌, ◌/◌, ◌%◌, ◌^◌, Bool, true, false, not, ◌&&◌, ◌||◌, List, [], ◌∷◌, refl, sym, ap, ◌∙◌, arith, map, cond}
-use Rattle.std.specs.Prelude.{nat_lt, nat_le, sum_by, filter}
-use Rattle.std.specs.Int.{bit_at}
-use Rattle.std.specs.Int.RustNames.{bit_and, bit_or}
-use Rattle.std.proofs.lemmas.Bool.Decides.{nat_tests}
-use Rattle.std.proofs.lemmas.List.Sums.{sum_by-cons}
-use Rattle.std.proofs.lemmas.Nat.{pow_pos, mod_below}
-use Rattle.std.proofs.lemmas.Nat.Bits.{bit_at_cat_low, bit_at_cat_high, bit_at-zero}
-use Rattle.enumset_repr.specs.BitSet.{is_in, BitSet, contains, ascending, from_list, union, is_subset, below, low}
-use Rattle.enumset_repr.specs.Number.{number, bits}
-use Rattle.enumset_repr.specs.Words.{is_in_word, word, upward_shift, with_word}
+use Rattle.std.proofs.Common.{◌≡◌, ◌<◌, ◌≤◌, ℕ, suc, ◌+◌, ◌-◌, ◌*◌, ◌/◌, ◌%◌, ◌^◌, Bool, true, false, not, ◌&&◌, ◌||◌, List, [], ◌∷◌, refl, sym, ap, ◌∙◌, arith, map, cond, nat_lt, nat_le, sum_by, filter, bit_and, bit_or, pow_pos}
+use Rattle.enumset_repr.specs.Laws.Base.{bit_at, nat_tests, sum_by-cons, mod_below, bit_at_cat_low, bit_at_cat_high, bit_at-zero, is_in, BitSet, contains, ascending, from_list, union, is_subset, below, low, number, bits, is_in_word, word, upward_shift, with_word}
 use Rattle.enumset_repr.specs.Laws.Members.{same_set, contains_ascending, contains_retain, contains_from_list, contains_union, contains_difference, contains_low, contains_below, member_below}
 use Rattle.enumset_repr.specs.Laws.Ascending.{AscendsFrom, ascends_lower, ascending_ascends, ascending_is}
 use Rattle.enumset_repr.specs.Laws.Numbers.{contains_bits, bits_number, same_number, bits_full, bits_within, bits_low, bits_or, bits_and_not, contains_bits_shifted}

@@ -7,15 +7,7 @@
 --     words_of_repr      so do as many words as its representation has
 -- The ruleset `conversions` has the first two, and what a cut at a width leaves of valid bits.
 use Rattle.std.proofs.Common.{◌≡◌, ◌<◌, ℕ, ◌+◌, ◌*◌, ◌/◌, ◌^◌, true, bit_and, ap, ◌∙◌, arith, inl, inr}
-use Rattle.std.proofs.lemmas.Bool.{cases_lt}
-use Rattle.enumset_repr.specs.BitSet.{BitSet, intersection, is_subset, below, low}
-use Rattle.enumset_repr.specs.Number.{bits, number}
-use Rattle.enumset_repr.specs.Laws.Members.{same_set, is_subset_contains, members}
-use Rattle.enumset_repr.specs.Laws.Numbers.{bits_and, bits_number, bits_within}
-use Rattle.enumset_repr.specs.Laws.Algebra.{is_subset_trans}
-use Rattle.enumset_repr.specs.Words.{words, bits_of}
-use Rattle.enumset_repr.specs.Laws.Low.{low_part, low_within, low_inside, low_intersection, is_subset_wider}
-use Rattle.enumset_repr.specs.Laws.WordLists.{bits_of_words}
+use Rattle.enumset_repr.specs.Laws.Common.{cases_lt, BitSet, intersection, is_subset, below, low, bits, number, same_set, is_subset_contains, members, bits_and, bits_number, bits_within, is_subset_trans, words, bits_of, low_part, low_within, low_inside, low_intersection, is_subset_wider, bits_of_words}
 
 pub number_uncut : (s : BitSet) (n : ℕ) → is_subset s (below n) ≡ true → number (low s n) ≡ number s
 number_uncut s n within = ap number (low_within s n within)

@@ -5,26 +5,13 @@
 --     passed      what a test says that passes
 --     derived_eq      what a derived `==` of such an enum returns
 -- An element type imports the makers of its elements from here too.
-use Rattle.std.proofs.Common.{◌≡◌, ◌<◌, ◌≤◌, ℕ, suc, zero, ◌^◌, Bool, true, false, eqb, List, Some, sym, ap, ◌∙◌, length, get_or, sum_by, arith, inl, inr}
-use Rattle.std.specs.Prelude.{◌==◌, max, Option, None}
+use Rattle.std.proofs.Common.{◌≡◌, ◌<◌, ◌≤◌, ℕ, suc, zero, ◌^◌, Bool, true, false, eqb, List, Some, sym, ap, ◌∙◌, length, get_or, sum_by, arith, inl, inr, ◌==◌, max, Option, None, eqb-true, eq-eqb, [], ◌∷◌, refl}
+use Rattle.enumset_repr.specs.Laws.Common.{nat_tests, cases_lt, and_parts, and_from, or_left, or_right, get_or-range_with_len, BitSet, is_in, contains, insert, from_list, ascending, len, is_subset, bits, is_distinct, greatest, contains_empty, contains_insert, contains_from_list, contains_ascending, list_all_each, is_subset_contains, len_empty, len_insert, empty_of_ascending, greatest_is, greatest_empty, greatest_facts, ascending_no_greatest, bits_of, lists_words, bits_listed, words_listed, one_past_all, or_else, once_known, IsLawful, IsLawfulNumber, IsLawfulWords}
 use denote.Struct.Field.{Field}
 use denote.Enum.Declared.{Declared, rowss, tag_of}
 use denote.Enum.Enum.{tag_below}
 use denote.Enum.Bare.{Bare, tag_one, sameb, same_true, true_same}
-use Rattle.std.proofs.lemmas.Bool.Decides.{nat_tests}
-use Rattle.std.proofs.lemmas.Bool.{cases_lt, and_parts, and_from, or_left, or_right, eqb-true, eq-eqb}
-use Rattle.std.proofs.lemmas.List.FromFn.{get_or-range_with_len}
-use Rattle.enumset_repr.specs.BitSet.{BitSet, is_in, contains, insert, from_list, ascending, len, is_subset}
-use Rattle.enumset_repr.specs.Number.{bits, is_distinct}
-use Rattle.enumset_repr.specs.Ends.{greatest}
-use Rattle.enumset_repr.specs.Laws.Members.{contains_empty, contains_insert, contains_from_list, contains_ascending, list_all_each, is_subset_contains}
-use Rattle.enumset_repr.specs.Laws.Ascending.{len_empty, len_insert, empty_of_ascending}
-use Rattle.enumset_repr.specs.Laws.Ends.{greatest_is, greatest_empty, greatest_facts, ascending_no_greatest}
 use Rattle.enumset_repr.specs.Laws.Places.{read_in}
-use Rattle.enumset_repr.specs.Words.{bits_of, lists_words}
-use Rattle.enumset_repr.specs.Laws.Listed.{bits_listed, words_listed}
-use Rattle.enumset_repr.specs.Lawful.{one_past_all, or_else, once_known, IsLawful, IsLawfulNumber, IsLawfulWords}
-use Rattle.std.specs.Prelude.{[], ◌∷◌, refl}
 pub use Rattle.enumset_sets.specs.Elements.{with_bits, in_order, in_place}
 use Rattle.enumset_sets.specs.Elements.{one_past, one_past_greatest, IsElementType, AreBitsOf}
 

@@ -6,9 +6,7 @@
 --     extended_more      extending a set by one item more
 -- The ruleset `folds` has the first six, and the union with the empty set and with a set that has one number more.
 use Rattle.std.proofs.Common.{◌≡◌, ◌<◌, ◌+◌, ℕ, List, [], ◌∷◌, ◌++◌, length, take, get_or, map, refl, sym, ap, ◌∙◌}
-use Rattle.std.proofs.lemmas.List.{take_more}
-use Rattle.enumset_repr.specs.BitSet.{BitSet, empty, insert, from_list, union}
-use Rattle.enumset_repr.specs.Laws.Algebra.{union_empty, empty_union, union_insert, union_assoc, union_comm, insert_comm}
+use Rattle.enumset_repr.specs.Laws.Common.{take_more, BitSet, empty, insert, from_list, union, union_empty, empty_union, union_insert, union_assoc, union_comm, insert_comm}
 use Rattle.enumset_sets.specs.Folds.{union_all}
 
 pub from_list_none : from_list [] ≡ empty

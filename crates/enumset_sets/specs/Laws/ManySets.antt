@@ -6,14 +6,8 @@
 --     any_same      a test of the items
 --     from_list_same, union_all_same, intersection_all_same      lists with the same items make the same set
 -- The ruleset `folds` has the first seven.
-use Rattle.std.proofs.Common.{◌≡◌, ℕ, Bool, true, not, ◌&&◌, ◌||◌, List, [], ◌∷◌, ◌++◌, map, fold, refl, sym, ap, ◌∙◌, arith, Contains, ◌↔◌}
-use Rattle.std.specs.Prelude.{◌==◌}
-use Rattle.std.specs.List.{list_all, list_any}
-use Rattle.std.proofs.lemmas.List.Folds.{Any-from_list_any, list_any_at}
-use Rattle.std.proofs.lemmas.Bool.Decides.{same_from_decides}
-use Rattle.enumset_repr.specs.BitSet.{BitSet, is_in, contains, union, intersection, from_list}
-use Rattle.enumset_repr.specs.Laws.Members.{members, same_set, contains_from_list, contains_empty, contains_union}
-use Rattle.enumset_repr.specs.Laws.Algebra.{union_empty, union_assoc}
+use Rattle.std.proofs.Common.{◌≡◌, ℕ, Bool, true, not, ◌&&◌, ◌||◌, List, [], ◌∷◌, ◌++◌, map, fold, refl, sym, ap, ◌∙◌, arith, Contains, ◌↔◌, ◌==◌}
+use Rattle.enumset_repr.specs.Laws.Common.{list_all, list_any, Any-from_list_any, list_any_at, same_from_decides, BitSet, is_in, contains, union, intersection, from_list, members, same_set, contains_from_list, contains_empty, contains_union, union_empty, union_assoc}
 use Rattle.enumset_repr.specs.Laws.Loops.{all_not_any}
 use Rattle.enumset_sets.specs.Folds.{union_all, intersection_all}
 

@@ -3,14 +3,10 @@
 --     writes_at      what was written for values is the text of their bits
 --     Tells      the first text is not known, or it is the second
 --     text_at-tells      the text of a bit is that of its value, if the value is listed
-use Rattle.std.proofs.Common.{◌≡◌, ℕ, Bool, false, List, [], ◌∷◌, ◌++◌, length, map, Option, Some, None, Ok, refl, sym, ap, subst, ◌∙◌, ◌⊎◌, inl, inr, codes, arith}
-use Rattle.std.proofs.lemmas.Bool.Decides.{nat_tests}
-use Rattle.std.specs.Prelude.{◌==◌}
-use Rattle.std.specs.Fmt.{option_append, DisplaysOnOk}
+use Rattle.std.proofs.Common.{◌≡◌, ℕ, Bool, false, List, [], ◌∷◌, ◌++◌, length, map, Option, Some, None, Ok, refl, sym, ap, subst, ◌∙◌, ◌⊎◌, inl, inr, codes, arith, ◌==◌, option_and_then}
+use Rattle.enumset_repr.specs.Laws.Common.{nat_tests, option_append, DisplaysOnOk, map-append, length-map}
 use Rattle.std.specs.declared.fmt.Formatter.{Formatter}
 use Rattle.std.proofs.Output.{displays_on_IsOk_append, then_text_assoc}
-use Rattle.std.proofs.lemmas.List.{map-append, length-map}
-use Rattle.std.specs.Option.{option_and_then}
 use Rattle.enumset_sets.specs.Texts.{value_of, text_at, separator, joined_text}
 
 then_nothing : (t : Option (List ℕ)) → t ≡ option_append (Some []) (option_append (Some []) t)

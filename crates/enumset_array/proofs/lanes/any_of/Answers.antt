@@ -1,7 +1,6 @@
 use Rattle.std.proofs.Common.{◌≡◌, ◌+◌, ◌*◌, ◌/◌, [], length, arith}
-use Rattle.std.proofs.lemmas.List.{length_push}
+use Rattle.enumset_repr.specs.Laws.Common.{length_push, zip2}
 use Rattle.std.proofs.lemmas.Slice.Zip.{zip_turn, zip_end}
-use Rattle.std.specs.Simd.Lanes.{zip2}
 use Rattle.enumset_array.proofs.WordLanes.{lanes_ended, next_chunk, next_word, ended_words}
 use Rattle.enumset_array.proofs.lanes.any_of.Goals as goal
 

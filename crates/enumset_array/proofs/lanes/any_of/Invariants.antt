@@ -1,6 +1,5 @@
-use Rattle.std.proofs.Common.{◌≡◌, ◌+◌, ◌*◌, ◌/◌, length, take}
-use Rattle.std.specs.Prelude.{◌==◌}
-use Rattle.std.specs.Simd.Lanes.{zip2}
+use Rattle.std.proofs.Common.{◌≡◌, ◌+◌, ◌*◌, ◌/◌, length, take, ◌==◌}
+use Rattle.enumset_repr.specs.Laws.Common.{zip2}
 use Rattle.enumset_array.proofs.WordLanes.{none_in}
 use Rattle.enumset_array.proofs.lanes.any_of.Given as goal
 

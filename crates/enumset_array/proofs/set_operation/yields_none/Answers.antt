@@ -1,5 +1,4 @@
-use Rattle.std.proofs.lemmas.Bool.Decides.{same_from_decides}
-use Rattle.enumset_repr.specs.Laws.Ascending.{is_empty_iff}
+use Rattle.enumset_repr.specs.Laws.Common.{same_from_decides, is_empty_iff}
 use Rattle.enumset_array.proofs.CombinedWords.{made_none}
 use Rattle.enumset_array.proofs.set_operation.yields_none.Goals as goal
 

@@ -1,8 +1,7 @@
 use Rattle.std.proofs.Common.{◌≡◌, ◌+◌, ◌≤◌, Contains, length, None, take, vec_len, vec_capacity}
-use Rattle.enumset_repr.specs.BitSet.{ascending, difference, from_list}
+use Rattle.enumset_repr.specs.Laws.Common.{ascending, difference, from_list, bits_of}
 use Rattle.enumset_array.specs.Cursors.{span, Covers}
 use Rattle.enumset_array.specs.Walks.{answers, without_answers, items_among}
-use Rattle.enumset_repr.specs.Words.{bits_of}
 use Rattle.enumset_array.proofs.traversal.walk.Given as goal
 
 -- what the function ensures, for the ends taken so far; each word between the cursors counts as one ask to come

@@ -1,5 +1,4 @@
-use Rattle.std.proofs.Common.{◌≡◌, ◌++◌, take}
-use Rattle.std.specs.String.{string_bytes}
+use Rattle.std.proofs.Common.{◌≡◌, ◌++◌, take, string_bytes}
 use Rattle.enumset_commands.specs.Texts.{words_text}
 use Rattle.enumset_commands.proofs.transcript.write_words.Given as goal
 

@@ -1,7 +1,5 @@
 use Rattle.std.proofs.Common.{◌==◌, ◌^◌, sum_by}
-use Rattle.std.proofs.lemmas.Bool.{and_parts}
-use Rattle.std.proofs.lemmas.List.{length-map}
-use Rattle.enumset_repr.specs.Words.{lists_words}
+use Rattle.enumset_repr.specs.Laws.Common.{and_parts, length-map, lists_words}
 use Rattle.enumset_derive.specs.Variants.{bits_of}
 use Rattle.enumset_derive.proofs.Tests.{lawful_of}
 use Rattle.enumset_derive.proofs.plan.store_of.Goals as goal

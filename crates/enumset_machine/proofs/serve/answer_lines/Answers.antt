@@ -1,6 +1,5 @@
-use Rattle.std.proofs.Common.{rules, ◌≡◌, ◌+◌, ◌∷◌, ◌++◌, Some, ap, sym, ◌∙◌, codes}
-use Rattle.std.specs.Result.{result_err}
-use Rattle.std.specs.String.{string_bytes}
+use Rattle.std.proofs.Common.{rules, ◌≡◌, ◌+◌, ◌∷◌, ◌++◌, Some, ap, sym, ◌∙◌, codes, string_bytes}
+use Rattle.enumset_repr.specs.Laws.Common.{result_err}
 use Rattle.enumset_commands.specs.Lines.{before, commands_from}
 use Rattle.enumset_commands.specs.Texts.{text_of}
 use Rattle.enumset_machine.specs.Plans.{outcome_by}

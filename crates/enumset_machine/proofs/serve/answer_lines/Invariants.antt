@@ -1,6 +1,5 @@
-use Rattle.std.proofs.Common.{◌≡◌, ◌+◌, ◌<◌, ◌^◌, true, length}
-use Rattle.std.specs.Result.{result_err}
-use Rattle.std.specs.String.{string_bytes}
+use Rattle.std.proofs.Common.{◌≡◌, ◌+◌, ◌<◌, ◌^◌, true, length, string_bytes}
+use Rattle.enumset_repr.specs.Laws.Common.{result_err}
 use Rattle.enumset_commands.specs.Lines.{commands_from, commands_of_text}
 use Rattle.enumset_machine.specs.States.{start}
 use Rattle.enumset_machine.specs.Plans.{outcome_by, replies_by}

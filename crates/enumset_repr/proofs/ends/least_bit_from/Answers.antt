@@ -1,11 +1,5 @@
 use Rattle.std.proofs.Common.{◌≡◌, ◌≢◌, ◌<◌, ℕ, ◌+◌, ◌*◌, ◌/◌, ◌%◌, ◌^◌, Some, sym, ap, ◌∙◌, arith}
-use Rattle.std.specs.Int.Count.{count_trailing_zeros}
-use Rattle.std.proofs.Math.Nat.{div-le_self}
-use Rattle.enumset_repr.specs.BitSet.{BitSet, below, difference}
-use Rattle.enumset_repr.specs.Ends.{least}
-use Rattle.enumset_repr.specs.Words.{word}
-use Rattle.enumset_repr.specs.Laws.Ends.{least_below}
-use Rattle.enumset_repr.specs.Laws.Members.{difference_is_subset}
+use Rattle.enumset_repr.specs.Laws.Common.{count_trailing_zeros, div-le_self, BitSet, below, difference, least, word, least_below, difference_is_subset}
 use Rattle.enumset_repr.proofs.EndWords.{least_at, least_past}
 use Rattle.enumset_repr.proofs.ends.least_bit_from.Goals as goal
 

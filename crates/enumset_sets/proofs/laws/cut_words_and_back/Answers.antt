@@ -1,5 +1,4 @@
-use Rattle.enumset_repr.specs.Laws.Algebra.{intersection_within}
-use Rattle.enumset_repr.specs.Laws.WordLists.{bits_of_words}
+use Rattle.enumset_repr.specs.Laws.Common.{intersection_within, bits_of_words}
 use Rattle.enumset_sets.specs.Laws.Conversions.{low_part_within}
 use Rattle.enumset_sets.proofs.laws.cut_words_and_back.Goals as goal
 

@@ -1,6 +1,5 @@
 use Rattle.std.proofs.Common.{◌∙◌, ap}
-use Rattle.enumset_repr.specs.BitSet.{intersection}
-use Rattle.enumset_repr.specs.Laws.Algebra.{intersection_right}
+use Rattle.enumset_repr.specs.Laws.Common.{intersection, intersection_right}
 use Rattle.enumset_sets.proofs.validated.truncated.Goals as goal
 
 pub of_repr-requires : goal.of_repr-requires

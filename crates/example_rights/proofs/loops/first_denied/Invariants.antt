@@ -1,5 +1,4 @@
-use Rattle.std.proofs.Common.{◌≡◌}
-use Rattle.std.specs.List.{find}
+use Rattle.std.proofs.Common.{◌≡◌, find}
 use Rattle.enumset_repr.specs.BitSet.{contains, ascending}
 use Rattle.example_rights.proofs.loops.first_denied.Given as goal
 

@@ -1,5 +1,4 @@
-use Rattle.std.proofs.Common.{◌≡◌, nat_lt}
-use Rattle.std.specs.List.{find}
+use Rattle.std.proofs.Common.{◌≡◌, nat_lt, find}
 use Rattle.enumset_repr.specs.BitSet.{ascending}
 use Rattle.example_rights.proofs.loops.next_granted.Given as goal
 

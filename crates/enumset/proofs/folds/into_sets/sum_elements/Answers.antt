@@ -1,7 +1,5 @@
-use Rattle.std.proofs.Common.{true≢false, sym, subst}
-use Rattle.std.specs.Iterator.{Drains}
-use Rattle.std.specs.Prelude.{Result, Ok, Err, IsOk, MatchResult}
-use Rattle.enumset_sets.specs.Laws.Folds.{all_of_extended}
+use Rattle.std.proofs.Common.{true≢false, sym, subst, Result, Ok, Err, IsOk, MatchResult}
+use Rattle.enumset.proofs.Common.{Drains, all_of_extended}
 use Rattle.enumset.proofs.folds.into_sets.sum_elements.Goals as goal
 
 -- what is known of a result that is `Ok`

@@ -1,5 +1,4 @@
-use Rattle.enumset_repr.specs.Laws.Algebra.{complement_twice, complement_union, complement_apart}
-use Rattle.enumset_repr.specs.Laws.Sets.{complement_of_complement, complement_within}
+use Rattle.enumset.proofs.Common.{complement_twice, complement_union, complement_apart, complement_of_complement, complement_within}
 use Rattle.enumset.proofs.laws.complementary.complements.Goals as goal
 
 pub returns : goal.returns

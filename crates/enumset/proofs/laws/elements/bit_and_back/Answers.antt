@@ -1,6 +1,5 @@
 use Rattle.std.proofs.Common.{sym, ap, ◌∙◌}
-use Rattle.enumset_repr.specs.BitSet.{contains}
-use Rattle.enumset_repr.specs.Laws.Members.{member_below}
+use Rattle.enumset.proofs.Common.{contains, member_below}
 use Rattle.enumset.proofs.laws.elements.bit_and_back.Goals as goal
 
 pub returns : goal.returns

@@ -1,7 +1,5 @@
 use Rattle.std.proofs.Common.{sym, ap, length, ◌∙◌, arith}
-use Rattle.enumset_repr.specs.Laws.Members.{contains_from_list, is_subset_contains}
-use Rattle.enumset_repr.specs.Laws.Algebra.{is_subset_trans}
-use Rattle.enumset_repr.specs.Laws.Ascending.{len_ascending}
+use Rattle.enumset.proofs.Common.{contains_from_list, is_subset_contains, is_subset_trans, len_ascending}
 use Rattle.enumset.proofs.laws.elements.members_are_valid.Goals as goal
 
 pub returns : goal.returns

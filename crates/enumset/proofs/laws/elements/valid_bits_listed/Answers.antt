@@ -1,7 +1,5 @@
 use Rattle.std.proofs.Common.{sym, ap, ◌∙◌}
-use Rattle.enumset_repr.specs.Laws.Members.{contains_from_list}
-use Rattle.enumset_repr.specs.BitSet.{len}
-use Rattle.enumset_sets.specs.Elements.{one_past_greatest}
+use Rattle.enumset.proofs.Common.{contains_from_list, len, one_past_greatest}
 use Rattle.enumset.proofs.laws.elements.valid_bits_listed.Goals as goal
 
 pub returns : goal.returns

@@ -1,7 +1,5 @@
 use Rattle.std.proofs.Common.{map, sym, ap, ◌∙◌}
-use Rattle.std.proofs.lemmas.Bool.{cond-true, cond-false}
-use Rattle.std.proofs.lemmas.List.{drop_all}
-use Rattle.enumset.specs.Names.{bit_named}
+use Rattle.enumset.proofs.Common.{cond-true, cond-false, drop_all, bit_named}
 use Rattle.enumset.proofs.NameLists.{left_at, bit_first}
 use Rattle.enumset.proofs.names.EnumSetNames.of_name.Goals as goal
 

@@ -1,7 +1,5 @@
 use Rattle.std.proofs.Common.{◌≡◌, None, map, drop}
-use Rattle.enumset_repr.specs.BitSet.{empty}
-use Rattle.serde_json.specs.View.{view}
-use Rattle.enumset.specs.Names.{names_of}
+use Rattle.enumset.proofs.Common.{empty, view, names_of}
 use Rattle.enumset.proofs.NamesRead.{list_on}
 use Rattle.enumset.proofs.set_json.lists.set_of_values.Given as goal
 

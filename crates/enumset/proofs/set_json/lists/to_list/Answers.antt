@@ -1,8 +1,5 @@
 use Rattle.std.proofs.Common.{arith, ◌++◌, map, append-nil, sym, ap, ◌∙◌}
-use Rattle.std.proofs.lemmas.Grind.{common_steps}
-use Rattle.serde_json.specs.Data.{array, string}
-use Rattle.serde_json.specs.View.{view, items_of}
-use Rattle.enumset.specs.Names.{names_of, name_of}
+use Rattle.enumset.proofs.Common.{common_steps, array, string, view, items_of, names_of, name_of}
 use Rattle.enumset.proofs.set_json.lists.to_list.Goals as goal
 
 pub loop-element-init : goal.loop-element-init

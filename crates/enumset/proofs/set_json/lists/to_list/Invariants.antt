@@ -1,7 +1,5 @@
 use Rattle.std.proofs.Common.{◌≡◌, ◌++◌, map}
-use Rattle.serde_json.specs.Data.{string}
-use Rattle.serde_json.specs.View.{view}
-use Rattle.enumset.specs.Names.{names_of, name_of}
+use Rattle.enumset.proofs.Common.{string, view, names_of, name_of}
 use Rattle.enumset.proofs.set_json.lists.to_list.Given as goal
 
 -- the names so far, with those of the members that are left

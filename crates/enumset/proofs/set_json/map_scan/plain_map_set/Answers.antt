@@ -1,10 +1,5 @@
 use Rattle.std.proofs.Common.{rules, arith, ◌≡◌, cond, Ok, sym, subst, ◌∙◌}
-use Rattle.std.proofs.lemmas.Bool.{not-true}
-use Rattle.std.proofs.lemmas.Grind.{common_steps}
-use Rattle.enumset_repr.specs.BitSet.{empty, insert}
-use Rattle.enumset.specs.JsonNames.{set_of_map}
-use Rattle.enumset.specs.JsonReads.{IsReadOf}
-use Rattle.enumset.specs.Names.{names_of}
+use Rattle.enumset.proofs.Common.{not-true, common_steps, empty, insert, set_of_map, IsReadOf, names_of}
 use Rattle.enumset.proofs.PlainWords.{kept_if}
 use Rattle.enumset.proofs.MapsRead.{Scanned, scan_begins, scan_next, scan_ends, scan_none}
 use Rattle.enumset.proofs.set_json.map_scan.plain_map_set.Goals as goal

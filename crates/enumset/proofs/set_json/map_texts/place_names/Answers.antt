@@ -1,6 +1,5 @@
 use Rattle.std.proofs.Common.{refl, ap, subst, ◌∙◌}
-use Rattle.enumset.specs.JsonPlain.{IsName}
-use Rattle.enumset.specs.Names.{names_of}
+use Rattle.enumset.proofs.Common.{IsName, names_of}
 use Rattle.enumset.proofs.set_json.map_texts.place_names.Goals as goal
 
 pub loop-element-init : goal.loop-element-init

@@ -1,8 +1,5 @@
-use Rattle.std.proofs.Common.{◌≡◌, ℕ, List, length}
-use Rattle.std.specs.List.{All}
-use Rattle.enumset_repr.specs.BitSet.{ascending}
-use Rattle.enumset.specs.JsonPlain.{IsName}
-use Rattle.enumset.specs.Names.{names_of}
+use Rattle.std.proofs.Common.{◌≡◌, ℕ, List, length, All}
+use Rattle.enumset.proofs.Common.{ascending, IsName, names_of}
 use Rattle.enumset.proofs.set_json.map_texts.place_names.Given as goal
 
 -- all are names of the set's members, and so are those of the bits that are left

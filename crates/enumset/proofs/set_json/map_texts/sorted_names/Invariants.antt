@@ -1,8 +1,5 @@
-use Rattle.std.proofs.Common.{◌≡◌, ◌≤◌, ◌+◌, ℕ, List, length}
-use Rattle.std.specs.List.{All}
-use Rattle.enumset_repr.specs.BitSet.{ascending}
-use Rattle.enumset.specs.JsonPlain.{AreRising, IsName}
-use Rattle.enumset.specs.Names.{names_of}
+use Rattle.std.proofs.Common.{◌≡◌, ◌≤◌, ◌+◌, ℕ, List, length, All}
+use Rattle.enumset.proofs.Common.{ascending, AreRising, IsName, names_of}
 use Rattle.enumset.proofs.set_json.map_texts.sorted_names.Given as goal
 
 -- the names so far rise, and they and those of the bits that are left are those of the set's members

@@ -1,10 +1,6 @@
 use Rattle.std.proofs.Common.{arith, ◌≡◌, ℕ, List, Bor, string_bytes, rules, ap, get_or, ◌++◌, ◌∷◌, [], true, append_assoc, sym, ◌∙◌}
+use Rattle.enumset.proofs.Common.{drop_more, common_steps, comma_if, boolean_before, names_of}
 use Rattle.std.proofs.Math.ListN.{drop_of_length-le}
-use Rattle.std.proofs.lemmas.List.{drop_more}
-use Rattle.std.proofs.lemmas.Grind.{common_steps}
-use Rattle.serde_json.specs.Written.{comma_if}
-use Rattle.enumset.specs.JsonPlain.{boolean_before}
-use Rattle.enumset.specs.Names.{names_of}
 use Rattle.enumset.proofs.JsonLists.{opened, in_two}
 use Rattle.enumset.proofs.MapsWritten.{begins, next_name, ended}
 use Rattle.enumset.proofs.set_json.map_texts.text_of_names.Goals as goal

@@ -1,10 +1,5 @@
 use Rattle.std.proofs.Common.{◌≡◌, ◌+◌, false, None, Some, Err, is_none, option_map, unwrap_or, string_bytes, length, map, sym, ap, ◌∙◌, arith, rules}
-use Rattle.enumset_repr.specs.BitSet.{empty}
-use Rattle.serde_json.specs.View.{view, members_view}
-use Rattle.serde_json.specs.Find.{as_bool}
-use Rattle.enumset.specs.Names.{names_of, bit_named}
-use Rattle.enumset.specs.JsonNames.{members_in, set_of_members}
-use Rattle.enumset.specs.declared.set_json.fault.JsonFault.TheVariants.{NotABoolean}
+use Rattle.enumset.proofs.Common.{empty, view, members_view, as_bool, names_of, bit_named, members_in, set_of_members, NotABoolean}
 use Rattle.enumset.proofs.NamesRead.{seen, map_on, map_read, read_fault, read_next, read_end}
 use Rattle.enumset.proofs.set_json.maps.set_of_members.Goals as goal
 

@@ -1,6 +1,5 @@
 use Rattle.std.proofs.Common.{◌≡◌, ◌+◌, ◌<◌, ◌^◌, None, map}
-use Rattle.enumset_repr.specs.BitSet.{empty}
-use Rattle.enumset.specs.Names.{names_of}
+use Rattle.enumset.proofs.Common.{empty, names_of}
 use Rattle.enumset.proofs.NamesRead.{map_on, seen}
 use Rattle.enumset.proofs.set_json.maps.set_of_members.Given as goal
 

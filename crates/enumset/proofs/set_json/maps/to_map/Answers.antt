@@ -1,9 +1,5 @@
 use Rattle.std.proofs.Common.{arith, sym, ap, ◌∙◌}
-use Rattle.std.proofs.lemmas.Grind.{common_steps}
-use Rattle.serde_json.specs.Data.{object, no_members}
-use Rattle.serde_json.specs.View.{members_view}
-use Rattle.enumset.specs.Names.{names_of}
-use Rattle.enumset.specs.JsonNames.{with_bits_true}
+use Rattle.enumset.proofs.Common.{common_steps, object, no_members, members_view, names_of, with_bits_true}
 use Rattle.enumset.proofs.set_json.maps.to_map.Goals as goal
 
 pub loop-element-init : goal.loop-element-init

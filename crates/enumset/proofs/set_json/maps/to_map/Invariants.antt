@@ -1,8 +1,5 @@
 use Rattle.std.proofs.Common.{◌≡◌}
-use Rattle.serde_json.specs.Data.{no_members}
-use Rattle.serde_json.specs.View.{members_view}
-use Rattle.enumset.specs.Names.{names_of}
-use Rattle.enumset.specs.JsonNames.{with_bits_true}
+use Rattle.enumset.proofs.Common.{no_members, members_view, names_of, with_bits_true}
 use Rattle.enumset.proofs.set_json.maps.to_map.Given as goal
 
 -- the members so far, with those of the bits that are left

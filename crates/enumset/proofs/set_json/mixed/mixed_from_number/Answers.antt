@@ -1,8 +1,5 @@
 use Rattle.std.proofs.Common.{Ok, ap, subst, ◌<◌, ◌^◌, ◌∙◌}
-use Rattle.enumset_repr.specs.Laws.Low.{low_within}
-use Rattle.enumset_repr.specs.Laws.Numbers.{bits_within}
-use Rattle.enumset.specs.Json.{all_bits, number_below}
-use Rattle.serde_json.specs.View.{view}
+use Rattle.enumset.proofs.Common.{low_within, bits_within, all_bits, number_below, view}
 use Rattle.enumset.proofs.set_json.mixed.mixed_from_number.Goals as goal
 
 pub returns : goal.returns

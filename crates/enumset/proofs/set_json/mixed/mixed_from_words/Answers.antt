@@ -1,6 +1,5 @@
 use Rattle.std.proofs.Common.{sym, ap, ◌∙◌}
-use Rattle.enumset_repr.specs.Words.{bits_of}
-use Rattle.enumset.specs.Json.{kept_of}
+use Rattle.enumset.proofs.Common.{bits_of, kept_of}
 use Rattle.enumset.proofs.set_json.mixed.mixed_from_words.Goals as goal
 
 pub returns : goal.returns

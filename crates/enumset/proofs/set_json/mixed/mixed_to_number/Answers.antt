@@ -1,7 +1,5 @@
 use Rattle.std.proofs.Common.{ap, ◌∙◌}
-use Rattle.enumset_repr.specs.Number.{number}
-use Rattle.enumset_repr.specs.Laws.Low.{low_within, is_subset_wider}
-use Rattle.enumset.specs.Json.{number_value}
+use Rattle.enumset.proofs.Common.{number, low_within, is_subset_wider, number_value}
 use Rattle.enumset.proofs.set_json.mixed.mixed_to_number.Goals as goal
 
 pub returns-clause-value : goal.returns-clause-value

@@ -1,6 +1,5 @@
 use Rattle.std.proofs.Common.{option_map, sym, ap, ◌∙◌}
-use Rattle.enumset_repr.specs.Words.{bits_of}
-use Rattle.enumset.specs.Json.{kept_of, mixed_set_of_words, words_value}
+use Rattle.enumset.proofs.Common.{bits_of, kept_of, mixed_set_of_words, words_value}
 use Rattle.enumset.proofs.JsonLaws.{words_back}
 use Rattle.enumset.proofs.PlainLists.{is_read}
 use Rattle.enumset.proofs.set_json.mixed_texts.mixed_from_words_text.Goals as goal

@@ -1,8 +1,5 @@
-use Rattle.std.proofs.Common.{◌<◌, ◌^◌, refl, sym, subst, ◌∙◌, true≢false}
-use Rattle.std.proofs.lemmas.Bool.{ltb-true, lt-ltb}
-use Rattle.enumset_repr.specs.Laws.Low.{fits_number, is_subset_wider}
-use Rattle.enumset_repr.specs.Laws.Numbers.{number_within}
-use Rattle.enumset.specs.Json.{width_of}
+use Rattle.std.proofs.Common.{◌<◌, ◌^◌, refl, sym, subst, ◌∙◌, true≢false, ltb-true, lt-ltb}
+use Rattle.enumset.proofs.Common.{fits_number, is_subset_wider, number_within, width_of}
 use Rattle.enumset.proofs.set_json.numbers.to_number.Goals.{in_default-via-in-Some+else-fits, in_default-via-in_default}
 use Rattle.enumset.proofs.set_json.numbers.to_number.Goals as goal
 

@@ -1,7 +1,5 @@
 use Rattle.std.proofs.Common.{rules, arith, ◌≡◌, [], ◌∷◌, ◌++◌, string_bytes, ap, append_assoc, subst, sym, ◌∙◌}
-use Rattle.std.proofs.lemmas.Grind.{common_steps}
-use Rattle.serde_json.specs.Written.{comma_if}
-use Rattle.enumset.specs.Names.{names_of}
+use Rattle.enumset.proofs.Common.{common_steps, comma_if, names_of}
 use Rattle.enumset.proofs.JsonLists.{Writes, begins, next_name, ended, opened, in_two}
 use Rattle.enumset.proofs.set_json.plain_lists.plain_list.Goals as goal
 

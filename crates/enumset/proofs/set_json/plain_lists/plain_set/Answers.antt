@@ -1,7 +1,5 @@
 use Rattle.std.proofs.Common.{Ok, None, option_map, sym, subst}
-use Rattle.enumset_repr.specs.BitSet.{empty}
-use Rattle.enumset.specs.JsonNames.{set_of_list, decided}
-use Rattle.enumset.specs.Names.{names_of}
+use Rattle.enumset.proofs.Common.{empty, set_of_list, decided, names_of}
 use Rattle.enumset.proofs.PlainWords.{kept_if}
 use Rattle.enumset.proofs.PlainLists.{GoesOn, is_read, none_named, goes_on_from, goes_on, ends, no_unknown}
 use Rattle.enumset.proofs.set_json.plain_lists.plain_set.Goals as goal

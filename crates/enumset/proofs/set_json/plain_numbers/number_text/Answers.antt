@@ -1,8 +1,5 @@
-use Rattle.std.proofs.Common.{◌≡◌, ◌<◌, ◌^◌, ◌++◌, [], decimal, unwrap_or, ap, subst, sym, ◌∙◌, append-nil, arith}
-use Rattle.std.specs.Str.{IsAscii}
-use Rattle.std.proofs.lemmas.Fmt.{IsAscii-decimal}
-use Rattle.serde_json.specs.Read.{read}
-use Rattle.enumset.specs.Json.{word_of}
+use Rattle.std.proofs.Common.{◌≡◌, ◌<◌, ◌^◌, ◌++◌, [], decimal, unwrap_or, ap, subst, sym, ◌∙◌, append-nil, arith, IsAscii}
+use Rattle.enumset.proofs.Common.{IsAscii-decimal, read, word_of}
 use Rattle.enumset.proofs.JsonNumbers.{number_alone}
 use Rattle.enumset.proofs.set_json.plain_numbers.number_text.Goals as goal
 

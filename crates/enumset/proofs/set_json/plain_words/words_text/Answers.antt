@@ -1,7 +1,5 @@
-use Rattle.std.proofs.Common.{◌≡◌, ◌++◌, ◌∷◌, [], nat_lt, decimal, ap, sym, ◌∙◌, append-nil, append_assoc, arith}
-use Rattle.std.proofs.lemmas.Bool.{lt-ltb, le-ltb}
-use Rattle.serde_json.specs.Written.{comma_if}
-use Rattle.serde_json.specs.Read.{read}
+use Rattle.std.proofs.Common.{◌≡◌, ◌++◌, ◌∷◌, [], nat_lt, decimal, ap, sym, ◌∙◌, append-nil, append_assoc, arith, lt-ltb, le-ltb}
+use Rattle.enumset.proofs.Common.{comma_if, read}
 use Rattle.enumset.proofs.WordsWritten.{none_written, one_written, all_written, words_reads}
 use Rattle.enumset.proofs.set_json.plain_words.words_text.Goals.{then-i-gt0+in_ok-push-2, else-i-gt0}
 use Rattle.enumset.proofs.set_json.plain_words.words_text.Goals as goal

@@ -1,7 +1,5 @@
-use Rattle.std.proofs.Common.{◌-◌, length, take, drop, subst, arith}
-use Rattle.std.proofs.lemmas.Bool.{eqb-true}
-use Rattle.std.proofs.lemmas.List.{take_all}
-use Rattle.enumset.specs.JsonPlain.{IsPlain, IsPlainByte}
+use Rattle.std.proofs.Common.{◌-◌, length, take, drop, subst, arith, eqb-true, take_all}
+use Rattle.enumset.proofs.Common.{IsPlain, IsPlainByte}
 use Rattle.enumset.proofs.JsonScans.{run_on}
 use Rattle.enumset.proofs.set_json.scan.are_ends_plain.Goals as goal
 

@@ -1,11 +1,7 @@
-use Rattle.std.proofs.Common.{◌≡◌, ◌≤◌, ◌+◌, ℕ, zero, suc, Bool, true, false, not, cond, eqb, ltb, List, [], ◌∷◌, take, drop, refl, ap, subst, ◌∙◌, arith, w8}
-use Rattle.std.specs.List.{prefix_len}
+use Rattle.std.proofs.Common.{◌≡◌, ◌≤◌, ◌+◌, ℕ, zero, suc, Bool, true, false, not, cond, eqb, ltb, List, [], ◌∷◌, take, drop, refl, ap, subst, ◌∙◌, arith, w8, take-take}
+use Rattle.enumset.proofs.Common.{prefix_len, prefix_len-le-length, length-chunk, bitmask_splat, first_set_mask_l, IsPlain}
 use lib.Count.{count_trailing_zeros}
 use lib.Lanes.{chunk}
-use Rattle.std.proofs.lemmas.List.{take-take}
-use Rattle.std.proofs.lemmas.List.Sums.{prefix_len-le-length}
-use Rattle.std.proofs.lemmas.Simd.{length-chunk, bitmask_splat, first_set_mask_l}
-use Rattle.enumset.specs.JsonPlain.{IsPlain}
 use Rattle.enumset.proofs.set_json.scan.plain_before.Goals as goal
 
 step : (p : Bool) (n r : ℕ) → suc r ≤ cond (not p) (1 + n) 0 → (p ≡ false) × (r ≤ n)

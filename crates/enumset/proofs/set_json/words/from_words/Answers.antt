@@ -1,7 +1,5 @@
 use Rattle.std.proofs.Common.{sym, ap, ◌∙◌}
-use Rattle.enumset_repr.specs.Words.{bits_of}
-use Rattle.enumset_sets.specs.Elements.{valid_bits}
-use Rattle.enumset.specs.Json.{accepted_of}
+use Rattle.enumset.proofs.Common.{bits_of, valid_bits, accepted_of}
 use Rattle.enumset.proofs.set_json.words.from_words.Goals as goal
 
 pub returns : goal.returns

@@ -1,9 +1,5 @@
 use Rattle.std.proofs.Common.{◌≡◌, ◌+◌, ◌&&◌, None, Some, Err, true, option_map, map, refl, sym, ap, subst, ◌∙◌, arith, rules, is_none, if◌then◌else◌}
-use Rattle.std.specs.List.{position_from}
-use Rattle.std.proofs.lemmas.List.{drop_all}
-use Rattle.serde_json.specs.View.{view, items_view}
-use Rattle.enumset.specs.Json.{is_no_word, words_of, words_in}
-use Rattle.enumset.specs.declared.set_json.fault.JsonFault.TheVariants.{NotAWord}
+use Rattle.enumset.proofs.Common.{position_from, drop_all, view, items_view, is_no_word, words_of, words_in, NotAWord}
 use Rattle.enumset.proofs.JsonWords.{AreRead, other_from, other_at, word_here, words_read, length-words_of, none_read, taken, all_read}
 use Rattle.enumset.proofs.set_json.words.read_words.Goals as goal
 

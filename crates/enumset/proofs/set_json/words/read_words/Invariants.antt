@@ -1,6 +1,5 @@
 use Rattle.std.proofs.Common.{◌≡◌, map}
-use Rattle.serde_json.specs.View.{view}
-use Rattle.enumset.specs.Json.{words_of}
+use Rattle.enumset.proofs.Common.{view, words_of}
 use Rattle.enumset.proofs.JsonWords.{AreRead, other_from}
 use Rattle.enumset.proofs.set_json.words.read_words.Given as goal
 

@@ -1,7 +1,5 @@
-use Rattle.std.proofs.Common.{ap, sym, ◌∙◌, if◌then◌else◌, arith}
-use Rattle.std.specs.Prelude.{◌==◌}
-use Rattle.std.proofs.lemmas.Bool.{lt-ltb, le-ltb}
-use Rattle.enumset_repr.specs.Words.{with_word}
+use Rattle.std.proofs.Common.{ap, sym, ◌∙◌, if◌then◌else◌, arith, ◌==◌, lt-ltb, le-ltb}
+use Rattle.enumset.proofs.Common.{with_word}
 use Rattle.enumset.proofs.set_json.words.take_word.Goals.{then-place-PREFERRED_ARRAY_LEN, else-place-PREFERRED_ARRAY_LEN}
 use Rattle.enumset.proofs.set_json.words.take_word.Goals as goal
 

@@ -1,10 +1,5 @@
 use Rattle.std.proofs.Common.{◌≡◌, ◌++◌, [], ◌∷◌, map, sym, ap, ◌∙◌, arith}
-use Rattle.std.proofs.lemmas.List.{map-append}
-use Rattle.enumset_repr.specs.Words.{word, words}
-use Rattle.enumset_repr.specs.Laws.WordLists.{words_none, words_more}
-use Rattle.serde_json.specs.Data.{array}
-use Rattle.serde_json.specs.View.{view, items_of}
-use Rattle.enumset.specs.Json.{number_value}
+use Rattle.enumset.proofs.Common.{map-append, word, words, words_none, words_more, array, view, items_of, number_value}
 use Rattle.enumset.proofs.set_json.words.words_of.Goals as goal
 
 pub loop-i-init : goal.loop-i-init

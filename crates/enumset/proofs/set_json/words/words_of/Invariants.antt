@@ -1,7 +1,5 @@
 use Rattle.std.proofs.Common.{◌≡◌, map}
-use Rattle.enumset_repr.specs.Words.{words}
-use Rattle.serde_json.specs.View.{view}
-use Rattle.enumset.specs.Json.{number_value}
+use Rattle.enumset.proofs.Common.{words, view, number_value}
 use Rattle.enumset.proofs.set_json.words.words_of.Given as goal
 
 -- the words before this one are written

@@ -1,5 +1,4 @@
-use Rattle.std.proofs.Common.{◌≡◌, true, length}
-use Rattle.std.specs.Option.{is_some}
+use Rattle.std.proofs.Common.{◌≡◌, true, length, is_some}
 use Rattle.enumset_commands.specs.Fields.{words_of}
 use Rattle.enumset_commands.proofs.WordTokens.{after_words}
 use Rattle.enumset_commands.proofs.grammar.words.read_words.Given as goal

@@ -1,7 +1,5 @@
 use Rattle.std.proofs.Common.{◌≡◌, true, rules, arith}
-use Rattle.std.proofs.lemmas.Bool.Decides.{nat_tests}
-use Rattle.enumset_repr.specs.BitSet.{contains, below}
-use Rattle.enumset_repr.specs.Laws.Members.{contains_below}
+use Rattle.enumset_repr.specs.Laws.Common.{nat_tests, contains, below, contains_below}
 use Rattle.enumset_machine.specs.Runs.{mixed_plan}
 use Rattle.enumset_machine.proofs.mixed_commands.MixedEnumSetRun.carry_out.Goals as goal
 

@@ -1,6 +1,5 @@
 use Rattle.std.proofs.Common.{Some, ap, sym, ◌∙◌}
-use Rattle.enumset_repr.specs.Ends.{last, without_last}
-use Rattle.enumset_repr.specs.Laws.Steps.{last_push, without_last_push}
+use Rattle.enumset_repr.specs.Laws.Common.{last, without_last, last_push, without_last_push}
 use Rattle.enumset_mixed.specs.Mixed.{bit_with_validity}
 use Rattle.enumset_sets.specs.Elements.{valid_bits}
 use Rattle.enumset_mixed.specs.Laws.Items.{none_left, gave_last}

@@ -1,7 +1,5 @@
 use Rattle.std.proofs.Common.{ℕ, List, Option, refl, ap, inr, ◌∙◌, arith}
-use Rattle.std.proofs.lemmas.List.{length_push}
-use Rattle.std.proofs.lemmas.Bool.Decides.{nat_tests}
-use Rattle.std.proofs.lemmas.Iterator.Consumers.{YieldsList-end}
+use Rattle.enumset_repr.specs.Laws.Common.{length_push, nat_tests, YieldsList-end}
 use Rattle.enumset_sets.specs.Laws.Iterators.{of_shown}
 use Rattle.enumset_sets.specs.Elements.{valid_bits}
 use Rattle.enumset_sets.specs.Texts.{text_at}

@@ -1,6 +1,5 @@
-use Rattle.std.proofs.Common.{refl, sym, ◌∙◌, arith}
-use Rattle.std.proofs.lemmas.Bool.{le-ltb}
-use Rattle.enumset_repr.specs.Laws.Members.{contains_past}
+use Rattle.std.proofs.Common.{refl, sym, ◌∙◌, arith, le-ltb}
+use Rattle.enumset_repr.specs.Laws.Common.{contains_past}
 use Rattle.enumset_sets.specs.Laws.Elements.{contains_is_in}
 use Rattle.enumset_sets.proofs.enum_set.EnumSet+T.is_bit_valid.Goals as goal
 

@@ -1,7 +1,6 @@
 use Rattle.std.proofs.Common.{ap, length, arith, sym}
+use Rattle.enumset_repr.specs.Laws.Common.{is_subset_trans, len_ascending, len_below}
 use Rattle.std.proofs.iter.runs.Sources.{from_front}
-use Rattle.enumset_repr.specs.Laws.Algebra.{is_subset_trans}
-use Rattle.enumset_repr.specs.Laws.Ascending.{len_ascending, len_below}
 use Rattle.enumset_sets.proofs.enum_set.EnumSet+T.iter.Goals as goal
 
 pub returns-clause-runs : goal.returns-clause-runs

@@ -1,7 +1,5 @@
 use Rattle.std.proofs.Common.{ap, ◌∙◌, arith}
-use Rattle.std.proofs.lemmas.List.{length_push}
-use Rattle.std.proofs.lemmas.Bool.Decides.{nat_tests}
-use Rattle.std.proofs.lemmas.Iterator.Consumers.{YieldsList-end}
+use Rattle.enumset_repr.specs.Laws.Common.{length_push, nat_tests, YieldsList-end}
 use Rattle.enumset_sets.specs.Laws.Iterators.{of_bits}
 use Rattle.enumset_sets.specs.Laws.Texts.{writes_one_more, writes_at, text_at-tells}
 use Rattle.enumset_sets.proofs.text.EnumSetDisplay.fmt.Goals as goal

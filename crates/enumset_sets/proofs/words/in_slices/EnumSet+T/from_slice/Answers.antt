@@ -1,6 +1,5 @@
 use Rattle.std.proofs.Common.{◌∙◌}
-use Rattle.enumset_repr.specs.Laws.Algebra.{is_subset_trans}
-use Rattle.enumset_repr.specs.Laws.Low.{low_within}
+use Rattle.enumset_repr.specs.Laws.Common.{is_subset_trans, low_within}
 use Rattle.enumset_sets.specs.Laws.Conversions.{low_part_within}
 use Rattle.enumset_sets.proofs.words.in_slices.EnumSet+T.from_slice.Goals as goal
 
