@@ -1,7 +1,8 @@
-//! Tests of the crate `enumset`: macros, folds, steps and JSON, at the worked types and at those of `types`; and of
-//! users' code over it, with its proofs. What strings of JSON are read and written as is in `scripts/random-json`.
+//! Tests of the crate `enumset`: macros, folds, steps and JSON, at the worked types and at those that
+//! `enumset_derived_types` has for tests; and of users' code over it, with its proofs. What strings of JSON are read and
+//! written as is in `scripts/random-json`.
 //!
-//! They are in a crate of their own so that they are proved beside the tests of sets. The scripts use `types` too.
+//! They are in a crate of their own so that they are proved beside the tests of sets.
 #![tactic(auto)]
 
 #[cfg(test)]
@@ -35,5 +36,6 @@ mod sending_json;
 #[cfg(test)]
 mod sent;
 #[cfg(test)]
+mod sizes;
+#[cfg(test)]
 mod steps;
-pub mod types;

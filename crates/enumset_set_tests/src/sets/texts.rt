@@ -1,7 +1,6 @@
-//! The texts of sets at each representation: of the empty set, of one element and of all.
+//! The texts of sets over integers and over words: of the empty set, of one element and of all.
 
 use crate::expect::{expect, same_lines};
-use crate::sets::integers::{In16, In32, In64};
 use enumset_sets::{EnumSet, EnumSetType};
 use enumset_worked::{Letters, Sparse, Wide};
 use std::alloc::AllocError;
@@ -21,12 +20,9 @@ fn write_texts<T: EnumSetType + fmt::Debug + fmt::Display>(
 }
 
 #[test]
-fn each_representation_has_texts(rt: HostRuntime) -> Result<(), Fail> {
+fn sets_have_texts(rt: HostRuntime) -> Result<(), Fail> {
     let mut text = String::new(rt.alloc());
     write_texts(&mut text, Letters::C)?;
-    write_texts(&mut text, In16::B)?;
-    write_texts(&mut text, In32::B)?;
-    write_texts(&mut text, In64::B)?;
     write_texts(&mut text, Sparse::D)?;
     write_texts(&mut text, Wide::R)?;
     same_lines(&rt, &text, TEXTS);
@@ -35,9 +31,6 @@ fn each_representation_has_texts(rt: HostRuntime) -> Result<(), Fail> {
 
 const TEXTS: &str = "\
 <> EnumSet() C A | B | C | D | E | F | G EnumSet(A | B | C | D | E | F | G)
-<> EnumSet() B A | B EnumSet(A | B)
-<> EnumSet() B A | B EnumSet(A | B)
-<> EnumSet() B A | B EnumSet(A | B)
 <> EnumSet() D A | B | C | D EnumSet(A | B | C | D)
 <> EnumSet() R P | Q | R EnumSet(P | Q | R)
 ";

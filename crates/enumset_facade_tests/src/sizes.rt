@@ -4,7 +4,7 @@
 //! words 16 more, for two cursors. Each pattern of bits is a set, so an `Option` needs a flag, which takes the bytes of
 //! the alignment: those of the integer, or 8 over words. Rust's `enumset` has the same sizes of sets.
 use crate::expect::expect;
-use crate::sets::integers::{In16, In32, In64};
+use enumset_derived_types::types::{In32Bits, Of64, Priority};
 use enumset_mixed::{MixedEnumSet, MixedEnumSetIter};
 use enumset_sets::{EnumSet, EnumSetIter};
 use enumset_worked::{Letters, PairWords, Sparse, Wide};
@@ -25,9 +25,9 @@ macro_rules! sizes {
 fn each_representation_has_its_sizes(rt: HostRuntime) {
     for (repr, sizes, wanted) in [
         ("u8", sizes!(EnumSet, EnumSetIter, Letters), [1, 2, 1]),
-        ("u16", sizes!(EnumSet, EnumSetIter, In16), [2, 4, 2]),
-        ("u32", sizes!(EnumSet, EnumSetIter, In32), [4, 8, 4]),
-        ("u64", sizes!(EnumSet, EnumSetIter, In64), [8, 16, 8]),
+        ("u16", sizes!(EnumSet, EnumSetIter, Priority), [2, 4, 2]),
+        ("u32", sizes!(EnumSet, EnumSetIter, In32Bits), [4, 8, 4]),
+        ("u64", sizes!(EnumSet, EnumSetIter, Of64), [8, 16, 8]),
         ("u128", sizes!(EnumSet, EnumSetIter, Sparse), [16, 32, 16]),
         (
             "2 words",
