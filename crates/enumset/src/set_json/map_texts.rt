@@ -113,34 +113,32 @@ fn sorted_names<T: EnumSetNames>(
     let mut place = 0;
     for element in set.iter() {
         let name = element.name();
-        if !fits(&names, place, name) {
-            let Some(found) = place_of(&names, name) else {
-                return Ok(None);
-            };
-            place = found;
-        }
-        names.insert(place, name)?;
-        place += 1;
+        let Some(found) = place_of(&names, place, name) else {
+            return Ok(None);
+        };
+        names.insert(found, name)?;
+        place = found + 1;
     }
     Ok(Some(names))
 }
 
-// Whether a name comes after those before a place, and before those from it on.
+// Where a name goes among names in the order of bytes, unless it is there. One that goes to a place that is tried first,
+// or before all, is not searched for; one that goes behind that place is searched for from there on.
 #[inline(always)]
-fn fits(names: &[&str], place: usize, name: &str) -> bool
-    requires { place ≤ length names.now }
-    ensures { IsTrue result → AreRising names.now → AreRising (insert names.now place name.entry) }
-{
-    (place == 0 || names[place - 1] < name) && (place == names.len() || name < names[place])
-}
-
-// Where a name goes among names in the order of bytes, unless it is there.
-#[inline(always)]
-fn place_of(names: &[&str], name: &str) -> Option<usize>
+fn place_of(names: &[&str], tried: usize, name: &str) -> Option<usize>
+    requires { tried ≤ length names.now }
     ensures { IfSome result (λ place. AreRising names.now
         → (place ≤ length names.now) × AreRising (insert names.now place name.entry)) }
 {
-    names.binary_search(&name).err()
+    let start = if tried > 0 && names[tried - 1] < name {
+        tried
+    } else {
+        0
+    };
+    if start == names.len() || name < names[start] {
+        return Some(start);
+    }
+    Some(start + names.split_at(start).1.binary_search(&name).err()?)
 }
 
 // The map of the members' names, unless one of them needs an escape.
