@@ -1,10 +1,10 @@
 -- Names of members that rise, as many as there are members, are the names of all members in the order of a map.
-use Rattle.std.proofs.Common.{◌≡◌, ◌⊎◌, inl, inr, ℕ, List, [], ◌∷◌, Bor, refl, sym, ap, ◌∙◌, subst, nat_cmp, Ordering, Less, Equal, Greater, ◌<◌, ◌≤◌, ◌+◌, length, get_or, drop, ◌-◌, suc, arith, is_eq, true≢false}
+use Rattle.std.proofs.Common.{◌≡◌, ◌⊎◌, inl, inr, ℕ, List, [], ◌∷◌, Bor, refl, sym, ap, ◌∙◌, subst, nat_cmp, Ordering, Less, Equal, Greater, ◌<◌, ◌≤◌, ◌+◌, length, get_or, take, drop, ◌-◌, suc, arith, is_eq, true≢false}
 use Rattle.std.proofs.lemmas.Cmp.{nat_list_cmp_total, on_total, tied_itself}
-use Rattle.std.proofs.lemmas.List.{length-drop, get_or-drop}
+use Rattle.std.proofs.lemmas.List.{length-drop, length-take, get_or-drop, get_or-take}
 use Rattle.std.proofs.lemmas.List.Elements.{All-from_recursion, recursion_from_All}
 use Rattle.std.proofs.lemmas.List.Edits.{length-insert, get_or-insert_at, get_or-insert_below, get_or-insert_above}
-use Rattle.std.proofs.lemmas.List.Sorted.{IsNonDecreasingBy-drop, searchable_from_sorted}
+use Rattle.std.proofs.lemmas.List.Sorted.{IsNonDecreasingBy-drop, IsNonDecreasingBy-take, searchable_from_sorted}
 use Rattle.std.proofs.lemmas.Map.Keys.{Less-from_sorted, sorted_from_all_adjacent}
 use Rattle.std.specs.Cmp.{IsTotalOrder}
 use Rattle.std.proofs.lemmas.Map.Lookups.{exact_bytes}
@@ -179,29 +179,35 @@ put_between ns i name d inside after before r = sorted_from_all_adjacent by_byte
         let long = length-insert ns i name inside in
         grind (arith, long, within, after, before, get_or-insert_below ns i name d k, get_or-insert_below ns i name d (k + 1), get_or-insert_at ns i name d, get_or-insert_above ns i name d k, get_or-insert_above ns i name d (k - 1), Less-from_sorted by_bytes ns k (k + 1) d r, Less-from_sorted by_bytes ns (k - 1) k d r)
 
--- ---- a binary search for a name that is not there
+-- ---- a binary search for a name that is not there, between a name before it and one after it
 
-climbs : (ns : Texts) (name : Bor (List ℕ)) (start : ℕ) → AreRising ns → IsNonDecreasingBy (λ n. ordering_index (by_bytes n name)) (drop start ns)
-climbs ns name start rising =
-    IsNonDecreasingBy-drop (λ n. ordering_index (by_bytes n name)) start ns (searchable_from_sorted by_bytes_total (λ n. n) ns name (λ k d low within. ap is_lt (by_bytes_total.antisymm (get_or ns (k + 1) d) (get_or ns k d) ∙ ap ordering_reverse (Less-from_sorted by_bytes ns k (k + 1) d rising (omega arith) within))))
+climbs : (ns : Texts) (name : Bor (List ℕ)) (low n : ℕ) → AreRising ns → IsNonDecreasingBy (λ n. ordering_index (by_bytes n name)) (take n (drop low ns))
+climbs ns name low n rising =
+    let all = searchable_from_sorted by_bytes_total (λ n. n) ns name (λ k d first within. ap is_lt (by_bytes_total.antisymm (get_or ns (k + 1) d) (get_or ns k d) ∙ ap ordering_reverse (Less-from_sorted by_bytes ns k (k + 1) d rising (omega arith) within))) in
+    IsNonDecreasingBy-take (λ n. ordering_index (by_bytes n name)) n (drop low ns) (IsNonDecreasingBy-drop (λ n. ordering_index (by_bytes n name)) low ns all)
 
-put_further : (ns : Texts) (name d : Bor (List ℕ)) (start i : ℕ) → start ≤ length ns → i ≤ length (drop start ns) → (0 < start → by_bytes (get_or ns (start - 1) d) name ≡ Less)
-    → IsPartitionPoint (λ n. by_bytes n name ≡ Less) (λ n. by_bytes n name ≡ Greater) (drop start ns) i → AreRising ns → (start + i ≤ length ns) × AreRising (insert ns (start + i) name)
-put_further ns name d start i inside ends after found rising = (omega (arith, inside, ends, length-drop start ns), put_between ns (start + i) name d (omega (arith, inside, ends, length-drop start ns)) under over rising)
+put_within : (ns : Texts) (name d : Bor (List ℕ)) (low high i : ℕ) → low ≤ high → high ≤ length ns → i ≤ length (take (high - low) (drop low ns)) → (0 < low → by_bytes (get_or ns (low - 1) d) name ≡ Less)
+    → (high < length ns → by_bytes name (get_or ns high d) ≡ Less) → IsPartitionPoint (λ n. by_bytes n name ≡ Less) (λ n. by_bytes n name ≡ Greater) (take (high - low) (drop low ns)) i → AreRising ns
+    → (low + i ≤ length ns) × AreRising (insert ns (low + i) name)
+put_within ns name d low high i some inside ends after before found rising = (omega (arith, some, inside, few), put_between ns (low + i) name d (omega (arith, some, inside, few)) under over rising)
   where
-    under : 0 < start + i → by_bytes (get_or ns (start + i - 1) d) name ≡ Less
-    under some = grind (arith, some, after, get_or-drop start ns (i - 1) d, found.0 (i - 1) d)
+    many : length (take (high - low) (drop low ns)) ≡ high - low
+    many = grind (arith, some, inside, length-take (high - low) (drop low ns), length-drop low ns)
 
-    behind : start + i < length ns → by_bytes (get_or ns (start + i) d) name ≡ Greater
-    behind more = grind (arith, more, length-drop start ns, get_or-drop start ns i d, found.1 i d)
+    few : i ≤ high - low
+    few = omega (arith, ends, many)
 
-    over : start + i < length ns → by_bytes name (get_or ns (start + i) d) ≡ Less
-    over more = nat_list_cmp_total.antisymm name.now (get_or ns (start + i) d).now ∙ ap ordering_reverse (behind more)
+    at : (k : ℕ) → k < high - low → get_or (take (high - low) (drop low ns)) k d ≡ get_or ns (low + k) d
+    at k within = get_or-take (high - low) (drop low ns) k d within ∙ get_or-drop low ns k d
 
--- a binary search from a place on, where the name before this place is less
-pub searched : (ns rest : Texts) (name d : Bor (List ℕ)) (start : ℕ) (r : Result ℕ ℕ) → rest ≡ drop start ns → start ≤ length ns → (0 < start → by_bytes (get_or ns (start - 1) d) name ≡ Less) → IsSearchInRange r (length rest)
-    → IsBinarySearchResult (λ n. by_bytes n name) rest r → IfSome (result_err r) (λ i. AreRising ns → (start + i ≤ length ns) × AreRising (insert ns (start + i) name))
-searched ns rest name d start (Ok i) here inside after ends found = tt
-searched ns rest name d start (Err i) here inside after ends found = λ rising.
-    let at = found (subst (IsNonDecreasingBy (λ n. ordering_index (by_bytes n name))) (sym here) (climbs ns name start rising)) in
-    put_further ns name d start i inside (subst (λ xs. i ≤ length xs) here ends) after (subst (λ xs. IsPartitionPoint (λ n. by_bytes n name ≡ Less) (λ n. by_bytes n name ≡ Greater) xs i) here at) rising
+    under : 0 < low + i → by_bytes (get_or ns (low + i - 1) d) name ≡ Less
+    under more = grind (arith, more, few, after, at (i - 1), found.0 (i - 1) d)
+
+    over : low + i < length ns → by_bytes name (get_or ns (low + i) d) ≡ Less
+    over more = grind (arith, more, some, few, many, before, at i, found.1 i d, nat_list_cmp_total.antisymm name.now (get_or ns (low + i) d).now)
+
+pub searched : (ns : Texts) (name d : Bor (List ℕ)) (low high : ℕ) (r : Result ℕ ℕ) → low ≤ high → high ≤ length ns → (0 < low → by_bytes (get_or ns (low - 1) d) name ≡ Less) → (high < length ns → by_bytes name (get_or ns high d) ≡ Less)
+    → IsSearchInRange r (length (take (high - low) (drop low ns))) → IsBinarySearchResult (λ n. by_bytes n name) (take (high - low) (drop low ns)) r
+    → IfSome (result_err r) (λ i. AreRising ns → (low + i ≤ length ns) × AreRising (insert ns (low + i) name))
+searched ns name d low high (Ok i) some inside after before ends found = tt
+searched ns name d low high (Err i) some inside after before ends found = λ rising. put_within ns name d low high i some inside ends after before (found (climbs ns name low (high - low) rising)) rising
