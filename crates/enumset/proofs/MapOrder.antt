@@ -1,13 +1,27 @@
 -- Names of members that rise, as many as there are members, are the names of all members in the order of a map.
-use Rattle.std.proofs.Common.{◌≡◌, ◌⊎◌, inl, inr, ℕ, List, [], ◌∷◌, Bor, refl, sym, ap, ◌∙◌, subst, nat_cmp, Ordering, Less, Equal, Greater, ◌<◌, ◌≤◌, ◌+◌, length, get_or, ◌-◌, suc, arith, is_eq, true≢false, is_lt, true, IfSome, Result, Ok, Err}
-use Rattle.enumset.proofs.Common.{nat_list_cmp_total, All-from_recursion, recursion_from_All, slice_cmp, AllByRecursion, IsBinarySearchResult, IsSearchInRange, IsStrictlySortedBy, ordering_index, ordering_reverse, match_ordering, result_err, BitSet, ascending, len_ascending, boolean, Members, member, no_members, put, by_bytes, AreRising, IsName, AreMembers, with_bits_true, Names, name_of}
-use Rattle.std.proofs.lemmas.Cmp.{tied_itself}
+use Rattle.std.proofs.Common.{◌≡◌, ◌⊎◌, inl, inr, ℕ, List, [], ◌∷◌, Bor, refl, sym, ap, ◌∙◌, subst, nat_cmp, Ordering, Less, Equal, Greater, ◌<◌, ◌≤◌, ◌+◌, length, get_or, take, drop, ◌-◌, suc, arith, is_eq, true≢false}
+use Rattle.std.proofs.lemmas.Cmp.{nat_list_cmp_total, on_total, tied_itself}
+use Rattle.std.proofs.lemmas.List.{length-drop, length-take, get_or-drop, get_or-take}
+use Rattle.std.proofs.lemmas.List.Elements.{All-from_recursion, recursion_from_All}
 use Rattle.std.proofs.lemmas.List.Edits.{length-insert, get_or-insert_at, get_or-insert_below, get_or-insert_above}
-use Rattle.std.proofs.lemmas.Map.Keys.{Less-from_sorted}
+use Rattle.std.proofs.lemmas.List.Sorted.{IsNonDecreasingBy-drop, IsNonDecreasingBy-take, searchable_from_sorted}
+use Rattle.std.proofs.lemmas.Map.Keys.{Less-from_sorted, sorted_from_all_adjacent}
+use Rattle.std.specs.Cmp.{IsTotalOrder}
 use Rattle.std.proofs.lemmas.Map.Lookups.{exact_bytes}
 use Rattle.std.proofs.lemmas.Map.Views.{All-insert_key}
 use Rattle.std.specs.BTreeSet.{insert_key}
-use Rattle.std.specs.List.{insert}
+use Rattle.std.specs.Cmp.Lexicographic.{slice_cmp}
+use Rattle.std.specs.List.{AllByRecursion, insert}
+use Rattle.std.specs.List.Sorted.{IsBinarySearchResult, IsNonDecreasingBy, IsPartitionPoint, IsSearchInRange, IsStrictlySortedBy}
+use Rattle.std.specs.Ordering.{is_lt, ordering_index, ordering_reverse, match_ordering}
+use Rattle.std.specs.Prelude.{true, IfSome, Result, Ok, Err}
+use Rattle.std.specs.Result.{result_err}
+use Rattle.enumset_repr.specs.BitSet.{BitSet, ascending}
+use Rattle.enumset_repr.specs.Laws.Ascending.{len_ascending}
+use Rattle.serde_json.specs.Data.{boolean, Members, member, no_members, put}
+use Rattle.enumset.specs.JsonPlain.{by_bytes, AreRising, IsName, AreMembers}
+use Rattle.enumset.specs.JsonNames.{with_bits_true}
+use Rattle.enumset.specs.Names.{Names, name_of}
 
 -- names, as the code has them
 abbrev pub Texts : Type 0
@@ -17,6 +31,9 @@ Texts = List (Bor (List ℕ))
 abbrev pub all_true : Texts → Members
 all_true [] = no_members
 all_true (name ∷ names) = member name.now (boolean true) (all_true names)
+
+pub by_bytes_total : IsTotalOrder by_bytes
+by_bytes_total = on_total (λ n. n.now) nat_list_cmp_total
 
 -- ---- names put in one after another
 
@@ -153,43 +170,44 @@ less Less is = refl
 less Equal is = absurd (cc)
 less Greater is = absurd (cc)
 
-pub rises : (ns : Texts) (d : Bor (List ℕ)) → ((k : ℕ) → k + 1 < length ns → by_bytes (get_or ns k d) (get_or ns (k + 1) d) ≡ Less) → AreRising ns
-unfolding IsStrictlySortedBy
-rises [] d each = tt
-rises (n ∷ []) d each = (tt, tt)
-rises (n ∷ m ∷ ns) d each =
-    let next : (k : ℕ) → suc k + 1 ≡ suc (k + 1) = λ k. omega arith in
-    let r = rises (m ∷ ns) d (λ k within. subst (λ j. by_bytes (get_or (m ∷ ns) k d) (get_or (n ∷ m ∷ ns) j d) ≡ Less) (next k) (each (suc k) (omega (arith, within)))) in
-    let first : by_bytes n m ≡ Less = each 0 (omega arith) in
-    ((first, above_all ns n m first r.0), r)
-
 -- a name that comes after the one before a place, and before the one there
 pub put_between : (ns : Texts) (i : ℕ) (name d : Bor (List ℕ)) → i ≤ length ns → (0 < i → by_bytes (get_or ns (i - 1) d) name ≡ Less) → (i < length ns → by_bytes name (get_or ns i d) ≡ Less) → AreRising ns → AreRising (insert ns i name)
-put_between ns i name d inside after before r = rises (insert ns i name) d each
+put_between ns i name d inside after before r = sorted_from_all_adjacent by_bytes_total (insert ns i name) d each
   where
     each : (k : ℕ) → k + 1 < length (insert ns i name) → by_bytes (get_or (insert ns i name) k d) (get_or (insert ns i name) (k + 1) d) ≡ Less
     each k within =
         let long = length-insert ns i name inside in
         grind (arith, long, within, after, before, get_or-insert_below ns i name d k, get_or-insert_below ns i name d (k + 1), get_or-insert_at ns i name d, get_or-insert_above ns i name d k, get_or-insert_above ns i name d (k - 1), Less-from_sorted by_bytes ns k (k + 1) d r, Less-from_sorted by_bytes ns (k - 1) k d r)
 
--- a binary search for a name that is not there
-compared : (n m name : Bor (List ℕ)) → by_bytes n m ≡ Less → ordering_index (by_bytes n name) ≤ ordering_index (by_bytes m name)
-compared n m name less = by_order (by_bytes m name) refl where
-  by_order : (o : Ordering) → by_bytes m name ≡ o → ordering_index (by_bytes n name) ≤ ordering_index o
-  by_order Less is = omega (arith, ap ordering_index (nat_list_cmp_total.trans n.now m.now name.now less is))
-  by_order Equal is = omega (arith, ap ordering_index (ap (slice_cmp nat_cmp n.now) (sym (exact_bytes m.now name.now is)) ∙ less))
-  by_order Greater is = at_most (by_bytes n name)
-    where
-      at_most : (o : Ordering) → ordering_index o ≤ 2
-      at_most Less = omega arith
-      at_most Equal = omega arith
-      at_most Greater = omega arith
+-- ---- a binary search for a name that is not there, between a name before it and one after it
 
-pub searched : (ns : Texts) (name : Bor (List ℕ)) (r : Result ℕ ℕ) → IsSearchInRange r (length ns) → IsBinarySearchResult (λ n. by_bytes n name) ns r
-    → IfSome (result_err r) (λ i. AreRising ns → (i ≤ length ns) × AreRising (insert ns i name))
-searched ns name (Ok i) inside found = tt
-searched ns name (Err i) inside found = λ rising.
-    let (before, after) = found (λ j k d low within. grind (arith, low, within, compared (get_or ns j d) (get_or ns k d) name, Less-from_sorted by_bytes ns j k d rising)) in (
-      inside,
-      put_between ns i name name inside (λ some. before (i - 1) name (omega arith) (omega (arith, some))) (λ within. nat_list_cmp_total.antisymm name.now (get_or ns i name).now ∙ ap ordering_reverse (after i name (omega arith) within)) rising,
-    )
+climbs : (ns : Texts) (name : Bor (List ℕ)) (low n : ℕ) → AreRising ns → IsNonDecreasingBy (λ n. ordering_index (by_bytes n name)) (take n (drop low ns))
+climbs ns name low n rising =
+    let all = searchable_from_sorted by_bytes_total (λ n. n) ns name (λ k d first within. ap is_lt (by_bytes_total.antisymm (get_or ns (k + 1) d) (get_or ns k d) ∙ ap ordering_reverse (Less-from_sorted by_bytes ns k (k + 1) d rising (omega arith) within))) in
+    IsNonDecreasingBy-take (λ n. ordering_index (by_bytes n name)) n (drop low ns) (IsNonDecreasingBy-drop (λ n. ordering_index (by_bytes n name)) low ns all)
+
+put_within : (ns : Texts) (name d : Bor (List ℕ)) (low high i : ℕ) → low ≤ high → high ≤ length ns → i ≤ length (take (high - low) (drop low ns)) → (0 < low → by_bytes (get_or ns (low - 1) d) name ≡ Less)
+    → (high < length ns → by_bytes name (get_or ns high d) ≡ Less) → IsPartitionPoint (λ n. by_bytes n name ≡ Less) (λ n. by_bytes n name ≡ Greater) (take (high - low) (drop low ns)) i → AreRising ns
+    → (low + i ≤ length ns) × AreRising (insert ns (low + i) name)
+put_within ns name d low high i some inside ends after before found rising = (omega (arith, some, inside, few), put_between ns (low + i) name d (omega (arith, some, inside, few)) under over rising)
+  where
+    many : length (take (high - low) (drop low ns)) ≡ high - low
+    many = grind (arith, some, inside, length-take (high - low) (drop low ns), length-drop low ns)
+
+    few : i ≤ high - low
+    few = omega (arith, ends, many)
+
+    at : (k : ℕ) → k < high - low → get_or (take (high - low) (drop low ns)) k d ≡ get_or ns (low + k) d
+    at k within = get_or-take (high - low) (drop low ns) k d within ∙ get_or-drop low ns k d
+
+    under : 0 < low + i → by_bytes (get_or ns (low + i - 1) d) name ≡ Less
+    under more = grind (arith, more, few, after, at (i - 1), found.0 (i - 1) d)
+
+    over : low + i < length ns → by_bytes name (get_or ns (low + i) d) ≡ Less
+    over more = grind (arith, more, some, few, many, before, at i, found.1 i d, nat_list_cmp_total.antisymm name.now (get_or ns (low + i) d).now)
+
+pub searched : (ns : Texts) (name d : Bor (List ℕ)) (low high : ℕ) (r : Result ℕ ℕ) → low ≤ high → high ≤ length ns → (0 < low → by_bytes (get_or ns (low - 1) d) name ≡ Less) → (high < length ns → by_bytes name (get_or ns high d) ≡ Less)
+    → IsSearchInRange r (length (take (high - low) (drop low ns))) → IsBinarySearchResult (λ n. by_bytes n name) (take (high - low) (drop low ns)) r
+    → IfSome (result_err r) (λ i. AreRising ns → (low + i ≤ length ns) × AreRising (insert ns (low + i) name))
+searched ns name d low high (Ok i) some inside after before ends found = tt
+searched ns name d low high (Err i) some inside after before ends found = λ rising. put_within ns name d low high i some inside ends after before (found (climbs ns name low (high - low) rising)) rising

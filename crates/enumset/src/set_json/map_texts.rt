@@ -15,6 +15,7 @@ use super::scan::is_plain;
 use crate::names::EnumSetNames;
 use enumset_sets::EnumSet;
 use std::alloc::{AllocError, Global};
+use std::cmp::Ordering;
 use std::simd::prelude::*;
 
 // The map of the members' names, unless one of them needs an escape, or two are the same.
@@ -26,11 +27,13 @@ pub(super) fn plain_map<T: EnumSetNames>(
         (string_bytes text ≡ compact_text (map_value (names_of T.elements T.names) set.now))
         × (read (string_bytes text) ≡ Some (map_value (names_of T.elements T.names) set.now)))) }
 {
+    let mut keys = [u32::MAX; 32];
     if let Some(first) = set.first()
         && set.len() <= 32
+        && put_keys(&mut keys, set)
     {
         let mut names = [first.name(); 32];
-        place_names(&mut names, set);
+        place_names(&mut names, set, &keys);
         let names = &names[..set.len()];
         if names.is_sorted_by(|one, other| comes_before(one, other)) {
             return text_of_names(alloc, set, names);
@@ -42,21 +45,15 @@ pub(super) fn plain_map<T: EnumSetNames>(
     }
 }
 
-// Puts the names of at most 32 members at the places that their first four bytes have among those of all, unless two
-// neighbours begin alike. No branch depends on the order.
+// Puts down the first four bytes of each of at most 32 names. False if those of two neighbours are the same.
 #[inline(always)]
-fn place_names<T: EnumSetNames>(names: &mut [&'static str; 32], set: &EnumSet<T>)
-    requires { All (λ name. IsName (names_of T.elements T.names) (ascending set.now) name.now) names.old }
-    ensures named { All (λ name. IsName (names_of T.elements T.names) (ascending set.now) name.now) names.new }
-    ensures len { length names.new ≡ length names.old }
-{
-    let mut keys = [u32::MAX; 32];
+fn put_keys<T: EnumSetNames>(keys: &mut [u32; 32], set: &EnumSet<T>) -> bool {
     let mut last = u32::MAX;
     let mut next = 0;
-    for member in set.iter() {
-        let key = key_of(member.name().as_bytes());
+    for element in set.iter() {
+        let key = key_of(element.name().as_bytes());
         if key == last {
-            return;
+            return false;
         }
         if next < 32 {
             keys[next] = key;
@@ -64,18 +61,7 @@ fn place_names<T: EnumSetNames>(names: &mut [&'static str; 32], set: &EnumSet<T>
         }
         last = key;
     }
-    let lanes = Simd::<u32, 32>::from_array(keys);
-    let mut next = 0;
-    for element in set.iter() {
-        if next < 32 {
-            let less = lanes.simd_lt(Simd::splat(keys[next])).to_bitmask();
-            let place = less.count_ones() as usize;
-            if place < 32 {
-                names[place] = element.name();
-            }
-            next += 1;
-        }
-    }
+    true
 }
 
 // The first four bytes as a number, with zeros for those that are missing.
@@ -87,6 +73,27 @@ fn key_of(name: &[u8]) -> u32 {
         [a, b] => u32::from_be_bytes([*a, *b, 0, 0]),
         [a] => u32::from_be_bytes([*a, 0, 0, 0]),
         [] => 0,
+    }
+}
+
+// Puts the name of each member at the place that its key has among all keys. No branch depends on the order.
+#[inline(always)]
+fn place_names<T: EnumSetNames>(names: &mut [&'static str; 32], set: &EnumSet<T>, keys: &[u32; 32])
+    requires { All (λ name. IsName (names_of T.elements T.names) (ascending set.now) name.now) names.old }
+    ensures named { All (λ name. IsName (names_of T.elements T.names) (ascending set.now) name.now) names.new }
+    ensures len { length names.new ≡ length names.old }
+{
+    let lanes = Simd::<u32, 32>::from_array(*keys);
+    let mut next = 0;
+    for element in set.iter() {
+        if next < 32 {
+            let less = lanes.simd_lt(Simd::splat(keys[next])).to_bitmask();
+            let place = less.count_ones() as usize;
+            if place < 32 {
+                names[place] = element.name();
+            }
+            next += 1;
+        }
     }
 }
 
@@ -113,34 +120,36 @@ fn sorted_names<T: EnumSetNames>(
     let mut place = 0;
     for element in set.iter() {
         let name = element.name();
-        if !fits(&names, place, name) {
-            let Some(found) = place_of(&names, name) else {
-                return Ok(None);
-            };
-            place = found;
-        }
-        names.insert(place, name)?;
-        place += 1;
+        let Some(found) = place_of(&names, place, name) else {
+            return Ok(None);
+        };
+        names.insert(found, name)?;
+        place = found + 1;
     }
     Ok(Some(names))
 }
 
-// Whether a name comes after those before a place, and before those from it on.
+// Where a name goes among names in the order of bytes, unless it is there. It is compared with the name before a place; if
+// it goes to the front of the part that is left, it is not searched for.
 #[inline(always)]
-fn fits(names: &[&str], place: usize, name: &str) -> bool
-    requires { place ≤ length names.now }
-    ensures { IsTrue result → AreRising names.now → AreRising (insert names.now place name.entry) }
-{
-    (place == 0 || names[place - 1] < name) && (place == names.len() || name < names[place])
-}
-
-// Where a name goes among names in the order of bytes, unless it is there.
-#[inline(always)]
-fn place_of(names: &[&str], name: &str) -> Option<usize>
+fn place_of(names: &[&str], tried: usize, name: &str) -> Option<usize>
+    requires { tried ≤ length names.now }
     ensures { IfSome result (λ place. AreRising names.now
         → (place ≤ length names.now) × AreRising (insert names.now place name.entry)) }
 {
-    names.binary_search(&name).err()
+    let mut low = 0;
+    let mut high = names.len();
+    if tried > 0 {
+        match names[tried - 1].cmp(name) {
+            Ordering::Less => low = tried,
+            Ordering::Equal => return None,
+            Ordering::Greater => high = tried - 1,
+        }
+    }
+    if low == high || name < names[low] {
+        return Some(low);
+    }
+    Some(low + names[low..high].binary_search(&name).err()?)
 }
 
 // The map of the members' names, unless one of them needs an escape.

@@ -71,8 +71,8 @@ pub(super) fn plain_set<T: EnumSetNames>(
     None
 }
 
-// Whether a text ends as a list whose last string is plain. A long text with a fault at its end is not read twice so; a
-// short one is read in little more time than this test takes.
+// Whether a text ends as a list of one string or more, whose last string is plain and comes after a comma or the bracket. A
+// long text with a fault there is not read twice so; a short one is read in little more time than this test takes.
 fn ends_as_list(bytes: &[u8]) -> bool {
     let [inside @ .., b']'] = bytes.trim_ascii_end() else {
         return false;
@@ -80,6 +80,8 @@ fn ends_as_list(bytes: &[u8]) -> bool {
     let [string @ .., b'"'] = inside.trim_ascii_end() else {
         return false;
     };
-    let before = string.iter().rev().find(|byte| !is_plain_byte(**byte));
-    before.is_some_and(|byte| *byte == b'"')
+    let mut before = string.iter().rev().skip_while(|byte| is_plain_byte(**byte));
+    let is_quote = before.next().is_some_and(|byte| *byte == b'"');
+    let separator = before.find(|byte| !byte.is_ascii_whitespace());
+    is_quote && separator.is_some_and(|byte| *byte == b',' || *byte == b'[')
 }

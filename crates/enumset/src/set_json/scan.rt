@@ -1,4 +1,5 @@
-//! Steps over a JSON text whose strings stand for themselves, byte by byte.
+//! Steps over a JSON text whose strings stand for themselves: spaces byte by byte, strings sixteen bytes at a time where
+//! as many are left.
 
 ghost use Rattle.std.specs.Prelude.{◌≡◌, ◌≤◌, ◌==◌, ◌+◌, ◌*◌, ◌++◌, ◌∷◌, [], if◌then◌else◌, IfSome, IsTrue, length, take, drop};
 ghost use Rattle.std.specs.Int.{trailing_zeros, w64};

@@ -1,6 +1,16 @@
-use Rattle.std.proofs.Common.{ℕ, List, [], Bor, ◌≡◌, Some, inl, sym, ap, subst, ◌∙◌, arith, rules, length-take, is_lt, option_map}
-use Rattle.enumset.proofs.Common.{All-replicate, All-take, answers_always, ascending, ascending_least, least, by_bytes, IsName, names_of}
-use Rattle.enumset.proofs.MapOrder.{less, rises}
+use Rattle.std.proofs.Common.{ℕ, List, [], Bor, ◌≡◌, Some, inl, sym, ap, subst, ◌∙◌, arith, rules}
+use Rattle.std.proofs.lemmas.List.{length-take}
+use Rattle.std.proofs.lemmas.List.Elements.{All-replicate, All-take}
+use Rattle.std.proofs.lemmas.List.Sorted.{answers_always}
+use Rattle.std.specs.Ordering.{is_lt}
+use Rattle.std.specs.Prelude.{option_map}
+use Rattle.enumset_repr.specs.BitSet.{ascending}
+use Rattle.enumset_repr.specs.Laws.Ends.{ascending_least}
+use Rattle.enumset_repr.specs.Ends.{least}
+use Rattle.enumset.specs.JsonPlain.{by_bytes, IsName}
+use Rattle.enumset.specs.Names.{names_of}
+use Rattle.std.proofs.lemmas.Map.Keys.{sorted_from_all_adjacent}
+use Rattle.enumset.proofs.MapOrder.{less, by_bytes_total}
 use Rattle.enumset.proofs.set_json.map_texts.plain_map.Goals as goal
 
 pub place_names-requires-after_bounds : goal.place_names-requires-after_bounds
@@ -18,7 +28,7 @@ text_of_names-requires-after_bounds g c κs within =
     let named : Bor (List ℕ) → Type 0 = λ n. IsName (names_of g.T.EnumSetType.elements g.T.EnumSetNames.names) (ascending c.args.set.now) n.now in
     let names = c.place_names.new.names in
     let many = length-take c.len-2.result names in (
-      rises _ d (λ k within. less _ (sym (c.if-is_sorted_by.ensures.cases (λ x y. is_lt (by_bytes x y)) (answers_always _ _ _ (λ f a r g h. search rules)) k d within))),
+      sorted_from_all_adjacent by_bytes_total _ d (λ k within. less _ (sym (c.if-is_sorted_by.ensures.cases (λ x y. is_lt (by_bytes x y)) (answers_always _ _ _ (λ f a r g h. search rules)) k d within))),
       All-take named c.len-2.result names c.place_names.ensures.named,
       omega (arith, many, c.len-2.ensures.members, c.len.ensures.members, c.if-len-le32.true, c.place_names.ensures.len),
     )

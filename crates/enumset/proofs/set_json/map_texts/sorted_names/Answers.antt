@@ -1,7 +1,13 @@
-use Rattle.std.proofs.Common.{◌≡◌, ◌≤◌, ℕ, List, Bor, ◌∷◌, length, arith, sym, subst, ap, ◌∙◌, inl, inr, refl, All}
-use Rattle.enumset.proofs.Common.{common_steps, All-cons, All-permutation, IsPermutation-insert, IsStrictlySortedBy, ascending, len_ascending, AreRising, IsName, names_of}
-use Rattle.std.specs.List.{insert}
-use Rattle.enumset.proofs.set_json.map_texts.sorted_names.Goals.{then-not-fits+in-Some-place_of, else-not-fits}
+use Rattle.std.proofs.Common.{◌≡◌, ◌≤◌, ℕ, List, Bor, ◌∷◌, length, arith, sym, subst, ap, ◌∙◌, inl, inr}
+use Rattle.std.proofs.lemmas.Grind.{common_steps}
+use Rattle.std.proofs.lemmas.List.Elements.{All-cons}
+use Rattle.std.proofs.lemmas.List.Sorted.{All-permutation, IsPermutation-insert}
+use Rattle.std.specs.List.{All, insert}
+use Rattle.std.specs.List.Sorted.{IsStrictlySortedBy}
+use Rattle.enumset_repr.specs.BitSet.{ascending}
+use Rattle.enumset_repr.specs.Laws.Ascending.{len_ascending}
+use Rattle.enumset.specs.JsonPlain.{AreRising, IsName}
+use Rattle.enumset.specs.Names.{names_of}
 use Rattle.enumset.proofs.set_json.map_texts.sorted_names.Goals as goal
 
 pub loop-element-init : goal.loop-element-init
@@ -21,13 +27,8 @@ loop-element-preserved g c =
     let names = c.loop-element.names.items in
     let all = names_of g.T.EnumSetType.elements g.T.EnumSetNames.names in
     let (inside, rising, many, named, left) = c.loop-element.invariant in
-    let place = c.if-not-fits.place in
     let name = c.name-name.result in
-    let Fits : List (Bor (List ℕ)) → ℕ → Type 0 = λ l i. (i ≤ length l) × AreRising (insert l i name) in
-    let there : Fits names place = elim c.if-not-fits.branch [
-      | then-not-fits+in-Some-place_of w ↦ subst (Fits names) (sym w.place-is) (subst (λ l. AreRising l → Fits l w.in-Some-place_of.found) w.deref-then-not-fits.ensures.value w.in-Some-place_of.ensures rising)
-      | else-not-fits w ↦ (omega (arith, inside, w.place-is), subst (λ l. AreRising l → AreRising (insert l place name)) c.deref.ensures.value (subst (λ i. AreRising c.deref.result.now → AreRising (insert c.deref.result.now i name)) (sym w.place-is) (w.if-not-fits.ensures refl)) rising)
-    ] in
+    let there : (c.in-Some-place_of.found ≤ length names) × AreRising (insert names c.in-Some-place_of.found name) = subst (λ l. AreRising l → (c.in-Some-place_of.found ≤ length l) × AreRising (insert l c.in-Some-place_of.found name)) c.deref.ensures.value c.in-Some-place_of.ensures rising in
     let put = c.in_ok-insert.ensures.items in
     let here : c.loop-element.element-iterator.items ≡ g.T.EnumSetType.elements.bit c.in-Some.element ∷ c.next.new.self.items = grind (arith, common_steps) in
     let P : Bor (List ℕ) → Type 0 = λ n. IsName all (ascending c.args.set.now) n.now in
@@ -35,7 +36,7 @@ loop-element-preserved g c =
       omega (arith, there.0, c.in_ok-insert.ensures.len),
       subst AreRising (sym put) there.1,
       omega (arith, many, ap length here, c.in_ok-insert.ensures.len),
-      subst (All P) (sym put) (All-permutation P _ _ (IsPermutation-insert names place name) (All-cons P name names one named)),
+      subst (All P) (sym put) (All-permutation P _ _ (IsPermutation-insert names c.in-Some-place_of.found name) (All-cons P name names one named)),
       λ text later. left text (subst (λ bits. IsName all bits text) (sym here) (inr later)),
     )
 
