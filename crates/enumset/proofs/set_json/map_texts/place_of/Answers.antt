@@ -1,7 +1,5 @@
 use Rattle.std.proofs.Common.{ℕ, List, Bor, [], ◌≡◌, ◌≤◌, ◌<◌, ◌-◌, length, get_or, Less, Greater, arith, ap, ◌∙◌, rules}
-use Rattle.std.proofs.lemmas.Grind.{common_steps}
-use Rattle.std.specs.Ordering.{ordering_reverse}
-use Rattle.enumset.specs.JsonPlain.{by_bytes}
+use Rattle.enumset.proofs.Common.{common_steps, ordering_reverse, by_bytes}
 use Rattle.enumset.proofs.MapOrder.{less, by_bytes_total, put_between, searched}
 use Rattle.enumset.proofs.set_json.map_texts.place_of.Goals as goal
 

@@ -1,14 +1,5 @@
-use Rattle.std.proofs.Common.{ℕ, List, [], Bor, ◌≡◌, Some, inl, sym, ap, subst, ◌∙◌, arith, rules}
-use Rattle.std.proofs.lemmas.List.{length-take}
-use Rattle.std.proofs.lemmas.List.Elements.{All-replicate, All-take}
-use Rattle.std.proofs.lemmas.List.Sorted.{answers_always}
-use Rattle.std.specs.Ordering.{is_lt}
-use Rattle.std.specs.Prelude.{option_map}
-use Rattle.enumset_repr.specs.BitSet.{ascending}
-use Rattle.enumset_repr.specs.Laws.Ends.{ascending_least}
-use Rattle.enumset_repr.specs.Ends.{least}
-use Rattle.enumset.specs.JsonPlain.{by_bytes, IsName}
-use Rattle.enumset.specs.Names.{names_of}
+use Rattle.std.proofs.Common.{ℕ, List, [], Bor, ◌≡◌, Some, inl, sym, ap, subst, ◌∙◌, arith, rules, length-take, is_lt, option_map}
+use Rattle.enumset.proofs.Common.{All-replicate, All-take, answers_always, ascending, ascending_least, least, by_bytes, IsName, names_of}
 use Rattle.std.proofs.lemmas.Map.Keys.{sorted_from_all_adjacent}
 use Rattle.enumset.proofs.MapOrder.{less, by_bytes_total}
 use Rattle.enumset.proofs.set_json.map_texts.plain_map.Goals as goal

@@ -1,13 +1,6 @@
-use Rattle.std.proofs.Common.{◌≡◌, ◌≤◌, ℕ, List, Bor, ◌∷◌, length, arith, sym, subst, ap, ◌∙◌, inl, inr}
-use Rattle.std.proofs.lemmas.Grind.{common_steps}
-use Rattle.std.proofs.lemmas.List.Elements.{All-cons}
-use Rattle.std.proofs.lemmas.List.Sorted.{All-permutation, IsPermutation-insert}
-use Rattle.std.specs.List.{All, insert}
-use Rattle.std.specs.List.Sorted.{IsStrictlySortedBy}
-use Rattle.enumset_repr.specs.BitSet.{ascending}
-use Rattle.enumset_repr.specs.Laws.Ascending.{len_ascending}
-use Rattle.enumset.specs.JsonPlain.{AreRising, IsName}
-use Rattle.enumset.specs.Names.{names_of}
+use Rattle.std.proofs.Common.{◌≡◌, ◌≤◌, ℕ, List, Bor, ◌∷◌, length, arith, sym, subst, ap, ◌∙◌, inl, inr, All}
+use Rattle.enumset.proofs.Common.{common_steps, All-cons, All-permutation, IsPermutation-insert, IsStrictlySortedBy, ascending, len_ascending, AreRising, IsName, names_of}
+use Rattle.std.specs.List.{insert}
 use Rattle.enumset.proofs.set_json.map_texts.sorted_names.Goals as goal
 
 pub loop-element-init : goal.loop-element-init
