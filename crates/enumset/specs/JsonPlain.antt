@@ -1,5 +1,5 @@
 -- Texts that stand for themselves in JSON. No clause of a public call cites this file: it serves the contracts of private
--- functions, which read and write such texts byte by byte.
+-- functions, which read and write such texts.
 --     IsPlainByte, IsPlain      a byte of a string that needs no escape;  bytes
 --     is_space, AreSpaces      a byte that may stand between tokens;  bytes
 --     Passed      spaces, a byte, and what follows it
