@@ -1,4 +1,4 @@
-//! The element types of facts, over words.
+//! The element type of facts, over words.
 
 use enumset::EnumSetType;
 
@@ -166,22 +166,4 @@ pub enum Symbol {
     S157 = 251,
     S158,
     S159 = 254,
-}
-
-/// Twelve variants, far from one another, in 1024 words.
-#[derive(EnumSetType)]
-#[enumset(no_ops)]
-pub enum Far {
-    F0 = 5,
-    F1 = 900,
-    F2 = 7001,
-    F3 = 12345,
-    F4 = 20000,
-    F5 = 26001,
-    F6 = 32767,
-    F7 = 40000,
-    F8 = 47123,
-    F9 = 51200,
-    F10 = 60001,
-    F11 = 65535,
 }

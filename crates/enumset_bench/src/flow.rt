@@ -1,8 +1,9 @@
 //! The flow of facts through a graph, to its fixed point.
 
 use crate::digest::Digest;
+use crate::far::Far;
 use crate::random::Random;
-use crate::symbols::{Far, Symbol};
+use crate::symbols::Symbol;
 use enumset::{EnumSet, EnumSetType};
 use std::alloc::{AllocError, Global};
 

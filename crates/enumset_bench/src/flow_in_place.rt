@@ -2,9 +2,9 @@
 //! take members out.
 
 use crate::digest::Digest;
+use crate::far::Far;
 use crate::flow::{Node, PASSES, random_far_nodes, random_nodes};
 use crate::random::Random;
-use crate::symbols::Far;
 use enumset::{EnumSet, EnumSetType};
 use std::alloc::{AllocError, Global};
 

@@ -8,6 +8,7 @@ mod commands;
 mod decide;
 mod decode;
 mod digest;
+mod far;
 mod flow;
 mod flow_in_place;
 mod json;
