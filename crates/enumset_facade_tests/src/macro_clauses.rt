@@ -1,6 +1,6 @@
 //! The macros in functions with contracts, so that the check refuses a macro with another meaning: over sets of any
-//! enum, with none, one, two, three and five operands; over mixed sets, for which a macro writes the same calls; and
-//! `variant_of!` with as many variants as it takes without bits, and with more bits than a proof takes in at once.
+//! enum, with none to three operands; over mixed sets, for which a macro writes the same calls; and `variant_of!`, with
+//! as many variants as it takes without bits, and with more bits than a proof takes in at once.
 
 ghost use Rattle.std.specs.Prelude.{◌≡◌, ◌∷◌, [], IsTrue};
 ghost use Rattle.std.specs.List.{range_with_len};
@@ -15,30 +15,19 @@ use enumset::{
 };
 use enumset_derived_types::types::{Of64, Of256};
 
-fn elements<T: EnumSetType>(
-    a: T,
-    b: T,
-    c: T,
-    d: T,
-    e: T,
-) -> (EnumSet<T>, EnumSet<T>, EnumSet<T>, EnumSet<T>, EnumSet<T>)
+fn elements<T: EnumSetType>(a: T, b: T, c: T) -> (EnumSet<T>, EnumSet<T>, EnumSet<T>, EnumSet<T>)
     ensures none { result.0 ≡ set.empty }
     ensures one { result.1 ≡ set.only (T.elements.bit a) }
     ensures two { result.2 ≡ set.union (set.only (T.elements.bit a)) (set.only (T.elements.bit b)) }
     ensures three { result.3
         ≡ set.union (set.union (set.only (T.elements.bit a)) (set.only (T.elements.bit b)))
         (set.only (T.elements.bit c)) }
-    ensures five { result.4
-        ≡ set.union (set.union (set.union (set.union (set.only (T.elements.bit a))
-        (set.only (T.elements.bit b))) (set.only (T.elements.bit c))) (set.only (T.elements.bit d)))
-        (set.only (T.elements.bit e)) }
 {
     (
         enum_set!(),
         enum_set!(a),
         enum_set!(a | b),
         enum_set!(a | b | c),
-        enum_set!(a | b | c | d | e),
     )
 }
 
@@ -60,18 +49,6 @@ fn union_of_three<T: EnumSetType>(a: EnumSet<T>, b: EnumSet<T>, c: EnumSet<T>) -
     enum_set_union!(a, b, c)
 }
 
-fn union_of_five<T: EnumSetType>(
-    a: EnumSet<T>,
-    b: EnumSet<T>,
-    c: EnumSet<T>,
-    d: EnumSet<T>,
-    e: EnumSet<T>,
-) -> EnumSet<T>
-    ensures { result ≡ set.union (set.union (set.union (set.union a b) c) d) e }
-{
-    enum_set_union!(a, b, c, d, e)
-}
-
 fn intersection_of_one<T: EnumSetType>(a: EnumSet<T>) -> EnumSet<T>
     ensures { result ≡ a }
 {
@@ -88,18 +65,6 @@ fn intersection_of_three<T: EnumSetType>(a: EnumSet<T>, b: EnumSet<T>, c: EnumSe
     ensures { result ≡ set.intersection (set.intersection a b) c }
 {
     enum_set_intersection!(a, b, c)
-}
-
-fn intersection_of_five<T: EnumSetType>(
-    a: EnumSet<T>,
-    b: EnumSet<T>,
-    c: EnumSet<T>,
-    d: EnumSet<T>,
-    e: EnumSet<T>,
-) -> EnumSet<T>
-    ensures { result ≡ set.intersection (set.intersection (set.intersection (set.intersection a b) c) d) e }
-{
-    enum_set_intersection!(a, b, c, d, e)
 }
 
 fn difference_of_one<T: EnumSetType>(a: EnumSet<T>) -> EnumSet<T>
@@ -122,21 +87,6 @@ fn difference_of_three<T: EnumSetType>(a: EnumSet<T>, b: EnumSet<T>, c: EnumSet<
     enum_set_difference!(a, b, c)
 }
 
-fn difference_of_five<T: EnumSetType>(
-    a: EnumSet<T>,
-    b: EnumSet<T>,
-    c: EnumSet<T>,
-    d: EnumSet<T>,
-    e: EnumSet<T>,
-) -> EnumSet<T>
-    ensures { result
-        ≡ set.intersection (set.intersection (set.intersection (set.intersection a
-        (set.difference (valid_bits T.elements) b)) (set.difference (valid_bits T.elements) c))
-        (set.difference (valid_bits T.elements) d)) (set.difference (valid_bits T.elements) e) }
-{
-    enum_set_difference!(a, b, c, d, e)
-}
-
 fn symmetric_difference_of_one<T: EnumSetType>(a: EnumSet<T>) -> EnumSet<T>
     ensures { result ≡ a }
 {
@@ -157,20 +107,6 @@ fn symmetric_difference_of_three<T: EnumSetType>(
     ensures { result ≡ set.symmetric_difference (set.symmetric_difference a b) c }
 {
     enum_set_symmetric_difference!(a, b, c)
-}
-
-fn symmetric_difference_of_five<T: EnumSetType>(
-    a: EnumSet<T>,
-    b: EnumSet<T>,
-    c: EnumSet<T>,
-    d: EnumSet<T>,
-    e: EnumSet<T>,
-) -> EnumSet<T>
-    ensures { result
-        ≡ set.symmetric_difference (set.symmetric_difference (set.symmetric_difference
-        (set.symmetric_difference a b) c) d) e }
-{
-    enum_set_symmetric_difference!(a, b, c, d, e)
 }
 
 fn complement<T: EnumSetType>(a: EnumSet<T>) -> EnumSet<T>
