@@ -4,7 +4,7 @@ use Rattle.enumset.proofs.Common.{cons_option, position_from, match_ordering, sl
 use Rattle.enumset.proofs.JsonTokens.{tokens}
 use Rattle.enumset.proofs.MapTokens.{put_all, member_tokens}
 use Rattle.enumset.proofs.MapSteps.{first_member, next_member, last_member, no_member}
-use Rattle.enumset.proofs.NamesTaken.{Each, same_key, each_put}
+use Rattle.enumset.proofs.NamesTaken.{Each, put_cases, each_put}
 use Rattle.enumset.proofs.PlainLists.{no_unknown}
 
 module _ (names : Names) where
@@ -20,10 +20,8 @@ module _ (names : Names) where
   none_faulty : (seen : BitSet) (place : ℕ) (ms : Members) → Each (IsSeen seen) ms → (position_from is_no_boolean place (members_in ms) ≡ None) × (position_from (is_unknown names) place (names_in (members_in ms)) ≡ None)
   none_faulty seen place no_members each = (refl, refl)
   none_faulty seen place (member text d ms) each =
-      let rest = none_faulty seen (place + 1) ms each.1 in (
-        ap (λ e. cond (is_no_boolean (text, e)) (Some place) (position_from is_no_boolean (place + 1) (members_in ms))) each.0.0.1 ∙ rest.0,
-        ap (λ o. cond (is_none o) (Some place) (position_from (is_unknown names) (place + 1) (names_in (members_in ms)))) each.0.1.1 ∙ rest.1,
-      )
+      let rest = none_faulty seen (place + 1) ms each.1 in
+      (grind (arith, each.0.0.1, rest.0), grind (arith, each.0.1.1, rest.1))
 
   whole_set : (seen : BitSet) (unknown : Unknown) (ms : Members) → Each (IsSeen seen) ms → set_of_map names unknown (object ms) ≡ Ok (set_in ms)
   whole_set seen unknown ms each =
@@ -39,27 +37,21 @@ module _ (names : Names) where
   one_more false text c ms is = refl
 
   exchanged : (a b : Bool) (s : BitSet) (c e : ℕ) → cond a (insert (cond b (insert s e) s) c) (cond b (insert s e) s) ≡ cond b (insert (cond a (insert s c) s) e) (cond a (insert s c) s)
-  exchanged true true s c e = insert_comm s e c
-  exchanged true false s c e = refl
-  exchanged false true s c e = refl
-  exchanged false false s c e = refl
+  exchanged a b s c e = grind (arith, insert_comm s e c)
 
   set_put : (seen : BitSet) (text : List ℕ) (b : Bool) (c : ℕ) (ms : Members) → bit_named names text ≡ Some c → contains seen c ≡ false → Each (IsSeen seen) ms → set_in (put text (boolean b) ms) ≡ cond b (insert (set_in ms) c) (set_in ms)
-  set_put seen text b c no_members is new each = one_more b text c no_members is
-  set_put seen text b c (member t d ms) is new (((e, bool), (n, known, old)), each) = at _ refl (set_put seen text b c ms is new each)
-    where
-      there : (ms : Members) → set_in (member t d ms) ≡ cond e (insert (set_in ms) n) (set_in ms)
-      there ms = ap (λ v. set_in (member t v ms)) bool ∙ one_more e t n ms known
-
-      at : (o : Ordering) → slice_cmp nat_cmp text t ≡ o → set_in (put text (boolean b) ms) ≡ cond b (insert (set_in ms) c) (set_in ms)
-          → set_in (match_ordering o (member text (boolean b) (member t d ms)) (member t (boolean b) ms) (member t d (put text (boolean b) ms))) ≡ cond b (insert (set_in (member t d ms)) c) (set_in (member t d ms))
-      at Less order later = one_more b text c (member t d ms) is
-      at Equal order later =
-          let same : Some c ≡ Some n = sym is ∙ ap (bit_named names) (same_key text t order) ∙ known in
-          let bit : n ≡ c = cc in
-          absurd (true≢false (sym old ∙ ap (contains seen) bit ∙ new))
-      at Greater order later =
-          there (put text (boolean b) ms) ∙ ap (λ s. cond e (insert s n) s) later ∙ exchanged e b (set_in ms) n c ∙ ap (λ s. cond b (insert s c) s) (sym (there ms))
+  set_put seen text b c ms is new =
+      put_cases (λ before after. Each (IsSeen seen) before → set_in after ≡ cond b (insert (set_in before) c) (set_in before)) text (boolean b)
+      (λ ms each. one_more b text c ms is)
+      (λ e ms each.
+      let same : Some c ≡ Some each.0.1.0 = sym is ∙ each.0.1.1 in
+      let bit : each.0.1.0 ≡ c = cc in
+      absurd (true≢false (sym each.0.1.2 ∙ ap (contains seen) bit ∙ new)))
+      (λ t d ms after later each.
+      let ((e, bool), (n, known, old)) = each.0 in
+      let first : (ms : Members) → set_in (member t d ms) ≡ cond e (insert (set_in ms) n) (set_in ms) = λ ms. ap (λ v. set_in (member t v ms)) bool ∙ one_more e t n ms known in
+      first after ∙ ap (λ s. cond e (insert s n) s) (later each.1) ∙ exchanged e b (set_in ms) n c ∙ ap (λ s. cond b (insert s c) s) (sym (first ms)))
+      ms
 
   each_more : (seen : BitSet) (c : ℕ) (ms : Members) → Each (IsSeen seen) ms → Each (IsSeen (insert seen c)) ms
   each_more seen c no_members each = tt

@@ -1,6 +1,6 @@
 -- A name among those of a type, looked for in a later part of the list, then in the part before.
-use Rattle.std.proofs.Common.{◌≡◌, ℕ, true, cond, Some, None, List, [], ◌∷◌, ◌++◌, length, map, take, drop, refl, sym, ap, ◌∙◌, arith, inl, inr, true≢false, zip, bytes_eq, take-append-drop}
-use Rattle.enumset.proofs.Common.{list_any, or_left, or_right, and_parts, not-true, cases_Bool, cond-false, map-append, bytes_eq-Decides, Names, bit_named, are_distinct}
+use Rattle.std.proofs.Common.{◌≡◌, ℕ, true, false, cond, Some, None, List, [], ◌∷◌, ◌++◌, length, map, take, drop, refl, sym, ap, subst, ◌∙◌, arith, zip, bytes_eq, take-append-drop}
+use Rattle.enumset.proofs.Common.{list_any, and_parts, not-true, map-append, bytes_eq-Decides, Names, bit_named, are_distinct}
 
 texts : Names → List (List ℕ)
 texts ns = map (λ n. n.1) ns
@@ -14,10 +14,7 @@ texts_zip (b ∷ bs) [] len = absurd (omega (arith, len))
 
 among : (ns : Names) (t : List ℕ) (b : ℕ) → bit_named ns t ≡ Some b → list_any (λ m. bytes_eq m t) (texts ns) ≡ true
 unfolding texts
-among (n ∷ ns) t b is = elim (cases_Bool (bytes_eq n.1 t)) [
-  | inl here ↦ or_left (bytes_eq n.1 t) _ here
-  | inr other ↦ or_right (bytes_eq n.1 t) _ (among ns t b (sym (cond-false (bytes_eq n.1 t) (Some n.0) _ other) ∙ is))
-]
+among (n ∷ ns) t b is = grind (arith, is, among ns t b)
 among [] t b is = absurd (cc)
 
 -- where no name comes twice, one that is found in the later part is the first
@@ -26,10 +23,8 @@ unfolding texts
 later_at [] ys t b apart is = is
 later_at (x ∷ xs) ys t b apart is =
     let rest = later_at xs ys t b (and_parts _ _ apart).1 is in
-    elim (cases_Bool (bytes_eq x.1 t)) [
-      | inl here ↦ absurd (true≢false (sym (among (xs ++ ys) t b rest) ∙ ap (λ u. list_any (λ m. bytes_eq m u) (texts (xs ++ ys))) (sym ((bytes_eq-Decides x.1 t).0 here)) ∙ not-true _ (and_parts _ _ apart).0))
-      | inr other ↦ cond-false (bytes_eq x.1 t) (Some x.0) _ other ∙ rest
-    ]
+    let twice : x.1 ≡ t → list_any (λ m. bytes_eq m t) (texts (xs ++ ys)) ≡ false = λ same. subst (λ u. list_any (λ m. bytes_eq m u) (texts (xs ++ ys)) ≡ false) same (not-true _ (and_parts _ _ apart).0) in
+    grind (arith, rest, among (xs ++ ys) t b rest, twice, bytes_eq-Decides x.1 t)
 
 earlier_at : (xs ys : Names) (t : List ℕ) → bit_named ys t ≡ None → bit_named (xs ++ ys) t ≡ bit_named xs t
 earlier_at [] ys t none = none

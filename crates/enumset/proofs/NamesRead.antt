@@ -1,5 +1,5 @@
 -- Lists and maps of names that are read one by one, up to the first that is a fault, and what they are read as.
-use Rattle.std.proofs.Common.{◌≡◌, ◌+◌, Bool, true, false, cond, ℕ, Option, Some, None, Err, List, [], ◌∷◌, map, String, string_bytes, refl, sym, ap, ◌∙◌, position, filter, filter_map, is_none, Result, Global}
+use Rattle.std.proofs.Common.{◌≡◌, ◌+◌, Bool, true, false, cond, ℕ, Option, Some, None, Err, List, [], ◌∷◌, map, String, string_bytes, refl, sym, ap, ◌∙◌, arith, position, filter, filter_map, is_none, Result, Global}
 use Rattle.enumset.proofs.Common.{cons_option, position_from, option_or, position_from-zero, BitSet, empty, union, from_list, empty_union, union_insert, insert_union, union_none, Data, view, items_view, members_view, Value, Names, bit_named, unless_fault, values_of, members_in, text_of, is_true, is_no_text, is_no_boolean, is_unknown, known_set, decided, set_of_values, set_of_members, with_named, Unknown, JsonFault, NotAText, NotABoolean}
 use Rattle.enumset.proofs.JsonLaws.{values_back}
 
@@ -9,13 +9,10 @@ named_first None s bs = refl
 named_first (Some b) s bs = insert_union s (from_list bs) b ∙ sym (union_insert s (from_list bs) b)
 
 pub or_none : (first : Option ℕ) → first ≡ option_or first None
-or_none None = refl
-or_none (Some place) = refl
+or_none first = grind arith
 
 first_place : (first : Option ℕ) (b : Bool) (place : ℕ) (later : Option ℕ) → option_or (option_or first (cond b (Some place) None)) later ≡ option_or first (cond b (Some place) later)
-first_place None true place later = refl
-first_place None false place later = refl
-first_place (Some p) b place later = refl
+first_place first b place later = grind arith
 
 -- ---- what is read of items, each a name that is taken or not, or a fault
 
@@ -43,11 +40,8 @@ module _ {X : Type 0} (is_fault is_taken : X → Bool) (name : X → List ℕ) (
         → read_on place s first xs ≡ read_on (place + 1) (cond taken (with_named bit s) s) (option_or first (cond (is_none bit) (Some place) None)) rest
     unfolding read_on
     read_next bit taken none here named =
-        let later = position_from (is_unknown names) (place + 1) (map name rest) in
-        let all : Bool → Result BitSet JsonFault = λ b. unless_fault fault (cond b (Some place) (position_from is_fault (place + 1) rest)) (decided unknown (option_or first (cond (is_unknown names (name x)) (Some place) later)) (union s (known_set names (map name (filter is_taken (x ∷ rest)))))) in
-        ap (read_on place s first) is ∙ ap all none
-        ∙ (λ j. unless_fault fault (position_from is_fault (place + 1) rest) (decided unknown (sym (first_place first (is_unknown names (name x)) place later) j) (sym (one_added (is_taken x) s x (filter is_taken rest)) j)))
-        ∙ (λ j. read_on (place + 1) (cond (here j) (with_named (named j) s) s) (option_or first (cond (is_none (named j)) (Some place) None)) rest)
+        rw (is, none, ← here, ← named)
+        (λ j. unless_fault fault (position_from is_fault (place + 1) rest) (decided unknown (sym (first_place first (is_unknown names (name x)) place (position_from (is_unknown names) (place + 1) (map name rest))) j) (sym (one_added (is_taken x) s x (filter is_taken rest)) j)))
 
   read_all : (xs : List X) → read_on 0 empty None xs ≡ unless_fault fault (position is_fault xs) (decided unknown (position (is_unknown names) (map name xs)) (known_set names (map name (filter is_taken xs))))
   unfolding read_on

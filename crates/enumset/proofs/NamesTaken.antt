@@ -1,6 +1,6 @@
 -- What a reader takes of the names that a writer wrote of a set, as a list and as a map.
-use Rattle.std.proofs.Common.{◌≡◌, ◌+◌, ℕ, Bool, true, false, cond, Ordering, Less, Equal, Greater, Option, Some, None, Result, Ok, Err, List, [], ◌∷◌, map, refl, sym, ap, subst, ◌∙◌, arith, inl, inr, position, ◌||◌, not, nat_lt, if◌then◌else◌, zip, filter, filter_map, is_none, length, nat_cmp, is_eq}
-use Rattle.enumset.proofs.Common.{list_all, prefix_len, position_or_len, cons_option, position_from, match_ordering, slice_cmp, and_parts, cond-true, cond-false, cases_Bool, nat_tests, same_from_decides, position_from-zero, length-map, map-map, bytes_eq-Decides, BitSet, is_in, contains, insert, intersection, from_list, ascending, is_subset, same_set, contains_from_list, contains_ascending, contains_is_subset, is_subset_contains, list_all_any, list_all_each, from_list_ascending, insert_inside, empty_intersection, intersection_within, intersection_insert, AreBitsOf-ascending, Data, boolean, string, Members, no_members, member, put, Names, name_of, bit_named, names_agree, unless_fault, members_in, names_in, true_names, text_of, is_true, is_no_text, is_no_boolean, is_unknown, decided, named_set, set_of_values, set_of_list, set_of_map, list_value, with_bits_true, map_value, in_map, accepted_by_name, Unknown, Drop, Refuse, JsonFault, NotAText, NotABoolean, UnknownName}
+use Rattle.std.proofs.Common.{◌≡◌, ◌+◌, ℕ, Bool, true, cond, Ordering, Less, Equal, Greater, Option, Some, None, Result, Ok, List, [], ◌∷◌, map, refl, sym, ap, subst, ◌∙◌, arith, position, ◌||◌, not, nat_lt, zip, filter_map, is_none, length, nat_cmp, is_eq}
+use Rattle.enumset.proofs.Common.{AllByRecursion, list_all, prefix_len, position_or_len, cons_option, position_from, match_ordering, slice_cmp, and_parts, cond-true, nat_tests, same_from_decides, position_from-zero, length-map, map-map, bytes_eq-Decides, BitSet, is_in, contains, intersection, from_list, ascending, is_subset, same_set, contains_from_list, contains_ascending, contains_is_subset, is_subset_contains, list_all_any, list_all_each, from_list_ascending, insert_inside, empty_intersection, intersection_within, intersection_insert, AreBitsOf-ascending, Data, boolean, string, Members, no_members, member, put, Names, name_of, bit_named, names_agree, unless_fault, members_in, names_in, true_names, text_of, is_no_text, is_no_boolean, is_unknown, decided, named_set, set_of_values, set_of_list, set_of_map, list_value, with_bits_true, map_value, in_map, accepted_by_name, Unknown, Drop, Refuse, JsonFault, NotAText, NotABoolean}
 use Rattle.std.proofs.lemmas.List.Recursion.{same_from_clauses}
 use Rattle.std.proofs.lemmas.Map.Text.{is_eq-slice_cmp}
 use Rattle.enumset.proofs.NameLaws.{AreNames, name_back, agree_at}
@@ -26,10 +26,7 @@ module _ (valid : BitSet) where
   kept : (bs : List ℕ) → from_list (filter_map (λ o. o) (map known bs)) ≡ intersection (from_list bs) valid
   unfolding from_list
   kept [] = sym (empty_intersection valid)
-  kept (b ∷ bs) = elim (cases_Bool (contains valid b)) [
-    | inl one ↦ ap (λ o. from_list (cons_option o (filter_map (λ o. o) (map known bs)))) (cond-true (contains valid b) (Some b) None one) ∙ ap (λ s. insert s b) (kept bs) ∙ sym (insert_inside (from_list bs) valid b one)
-    | inr none ↦ ap (λ o. from_list (cons_option o (filter_map (λ o. o) (map known bs)))) (cond-false (contains valid b) (Some b) None none) ∙ kept bs ∙ sym (intersection_insert (from_list bs) valid b none)
-  ]
+  kept (b ∷ bs) = grind (arith, kept bs, insert_inside (from_list bs) valid b, intersection_insert (from_list bs) valid b)
 
   first_other : (bs : List ℕ) → position_or_len is_none (map known bs) ≡ prefix_len (contains valid) bs
   first_other [] = refl
@@ -46,14 +43,7 @@ module _ (valid : BitSet) where
 
   accepted : (unknown : Unknown) (s : BitSet) (bs : List ℕ) → from_list bs ≡ s → taken unknown (map known bs) ≡ accepted_by_name valid unknown s bs
   accepted Drop s bs is = ap Ok (kept bs ∙ ap (λ t. intersection t valid) is)
-  accepted Refuse s bs is =
-      (λ j. unless_fault UnknownName (cond (nat_lt (first_other bs j) (length-map bs known j)) (Some (first_other bs j)) None) (Ok ((kept bs ∙ ap (λ t. intersection t valid) is) j)))
-      ∙ ap (λ b. unless_fault UnknownName (cond b (Some (prefix_len (contains valid) bs)) None) (Ok (intersection s valid))) (other_within bs ∙ ap not (all_valid bs ∙ ap (λ t. is_subset t valid) is))
-      ∙ at (is_subset s valid) (prefix_len (contains valid) bs) (intersection s valid) (intersection_within s valid)
-    where
-      at : (b : Bool) (n : ℕ) (t : BitSet) → (b ≡ true → t ≡ s) → unless_fault UnknownName (cond (not b) (Some n) None) (Ok t) ≡ (if b then Ok s else Err (UnknownName n))
-      at true n t all = ap Ok (all refl)
-      at false n t all = refl
+  accepted Refuse s bs is = grind (arith, nat_tests, is, kept bs, first_other bs, other_within bs, all_valid bs, length-map bs known, intersection_within s valid)
 
   -- a set of valid bits is taken as it is
   pub accepted_whole : (unknown : Unknown) (s : BitSet) (bs : List ℕ) → is_subset s valid ≡ true → accepted_by_name valid unknown s bs ≡ Ok s
@@ -70,20 +60,24 @@ all_texts f place (b ∷ bs) = all_texts f (place + 1) bs
 
 -- what is so of each member
 abbrev pub Each : (List ℕ → Data → Type 0) → Members → Type 0
-Each P no_members = Unit {0}
-Each P (member t d ms) = P t d × Each P ms
+Each P ms = AllByRecursion (λ m. P m.0 m.1) (members_in ms)
 
 pub same_key : (k l : List ℕ) → slice_cmp nat_cmp k l ≡ Equal → k ≡ l
 same_key k l tied = (bytes_eq-Decides k l).0 (sym (is_eq-slice_cmp k l) ∙ ap is_eq tied)
 
-pub each_put : (P : List ℕ → Data → Type 0) (k : List ℕ) (d : Data) (ms : Members) → P k d → Each P ms → Each P (put k d ms)
-each_put P k d no_members one each = (one, tt)
-each_put P k d (member l e ms) one each = at _ refl (each_put P k d ms one each.1)
+-- a member that is put in comes before the others, in the place of one, or behind one
+pub put_cases : (P : Members → Members → Type 0) (k : List ℕ) (d : Data) → ((ms : Members) → P ms (member k d ms)) → ((e : Data) (ms : Members) → P (member k e ms) (member k d ms))
+    → ((l : List ℕ) (e : Data) (ms new : Members) → P ms new → P (member l e ms) (member l e new)) → (ms : Members) → P ms (put k d ms)
+put_cases P k d before same behind no_members = before no_members
+put_cases P k d before same behind (member l e ms) = at _ refl (put_cases P k d before same behind ms)
   where
-    at : (o : Ordering) → slice_cmp nat_cmp k l ≡ o → Each P (put k d ms) → Each P (match_ordering o (member k d (member l e ms)) (member l d ms) (member l e (put k d ms)))
-    at Less is later = (one, each)
-    at Equal is later = (subst (λ t. P t d) (same_key k l is) one, each.1)
-    at Greater is later = (each.0, later)
+    at : (o : Ordering) → slice_cmp nat_cmp k l ≡ o → P ms (put k d ms) → P (member l e ms) (match_ordering o (member k d (member l e ms)) (member l d ms) (member l e (put k d ms)))
+    at Less is later = before (member l e ms)
+    at Equal is later = subst (λ t. P (member t e ms) (member t d ms)) (same_key k l is) (same e ms)
+    at Greater is later = behind l e ms (put k d ms) later
+
+pub each_put : (P : List ℕ → Data → Type 0) (k : List ℕ) (d : Data) (ms : Members) → P k d → Each P ms → Each P (put k d ms)
+each_put P k d ms one = put_cases (λ old new. Each P old → Each P new) k d (λ ms each. (one, each)) (λ e ms each. (one, each.1)) (λ l e ms new later each. (each.0, later each.1)) ms
 
 pub each_written : (P : List ℕ → Data → Type 0) (names : Names) (bs all : List ℕ) (done : Members) → ((b : ℕ) → is_in b all ≡ true → P (name_of names b) (boolean true)) → list_all (λ b. is_in b all) bs ≡ true → Each P done → Each P (with_bits_true names done bs)
 each_written P names [] all done one within each = each
@@ -103,26 +97,19 @@ either (Some b) q bs = grind arith
 
 -- a member that is put in adds its bit
 is_among-put : (names : Names) (q : ℕ) (k : List ℕ) (d : Data) (ms : Members) → is_among names q (put k d ms) ≡ (is_of names q k || is_among names q ms)
-is_among-put names q k d no_members = either (bit_named names k) q []
-is_among-put names q k d (member l e ms) = at _ refl (is_among-put names q k d ms)
+is_among-put names q k d =
+    put_cases (λ old new. is_among names q new ≡ (is_of names q k || is_among names q old)) k d
+    (λ ms. first k d ms) (λ e ms. grind (arith, first k d ms, first k e ms)) (λ l e ms new later. grind (arith, first l e ms, first l e new, later))
   where
-    among : (ms : Members) → is_among names q (member l e ms) ≡ (is_of names q l || is_among names q ms)
-    among ms = either (bit_named names l) q (filter_map (bit_named names) (names_in (members_in ms)))
-
-    at : (o : Ordering) → slice_cmp nat_cmp k l ≡ o → is_among names q (put k d ms) ≡ (is_of names q k || is_among names q ms)
-        → is_among names q (match_ordering o (member k d (member l e ms)) (member l d ms) (member l e (put k d ms))) ≡ (is_of names q k || is_among names q (member l e ms))
-    at Less is later = either (bit_named names k) q _
-    at Equal is later = let same = ap (is_of names q) (same_key k l is) in grind (arith, among ms)
-    at Greater is later = grind (arith, among ms, among (put k d ms))
+    first : (l : List ℕ) (e : Data) (ms : Members) → is_among names q (member l e ms) ≡ (is_of names q l || is_among names q ms)
+    first l e ms = either (bit_named names l) q (filter_map (bit_named names) (names_in (members_in ms)))
 
 -- each member of a map that was written is a name with `true`: so none is a fault, and all are taken
 all_true : (P : List ℕ → Type 0) (place : ℕ) (ms : Members) → Each (λ t d. (d ≡ boolean true) × P t) ms → (position_from is_no_boolean place (members_in ms) ≡ None) × (true_names (members_in ms) ≡ names_in (members_in ms))
 all_true P place no_members each = (refl, refl)
 all_true P place (member t d ms) each =
-    let rest = all_true P (place + 1) ms each.1 in (
-      ap (λ e. cond (is_no_boolean (t, e)) (Some place) (position_from is_no_boolean (place + 1) (members_in ms))) each.0.0 ∙ rest.0,
-      ap (λ e. names_in (cond (is_true (t, e)) ((t, e) ∷ filter is_true (members_in ms)) (filter is_true (members_in ms)))) each.0.0 ∙ ap (λ ts. t ∷ ts) rest.1,
-    )
+    let rest = all_true P (place + 1) ms each.1 in
+    (grind (arith, each.0.0, rest.0), grind (arith, each.0.0, rest.1))
 
 module _ (readers writers : Names) (valid : BitSet) (bs : List ℕ) (back : (b : ℕ) → is_in b bs ≡ true → bit_named writers (name_of writers b) ≡ Some b)
     (as_known : (b : ℕ) → is_in b bs ≡ true → bit_named readers (name_of writers b) ≡ known valid b) where

@@ -18,12 +18,9 @@ pub(super) fn decided<T: EnumSetNames>(
 ) -> Result<EnumSet<T>, JsonFault>
     ensures { result ≡ decided unknown first_unknown set }
 {
-    match unknown {
-        Unknown::Drop => Ok(set),
-        Unknown::Refuse => match first_unknown {
-            Some(place) => Err(JsonFault::UnknownName(place)),
-            None => Ok(set),
-        },
+    match (unknown, first_unknown) {
+        (Unknown::Refuse, Some(place)) => Err(JsonFault::UnknownName(place)),
+        _ => Ok(set),
     }
 }
 

@@ -1,10 +1,9 @@
 //! Sets as JSON arrays of names.
 
 ghost use Rattle.std.specs.Prelude.{◌≡◌, IfOk, IfErr};
-ghost use Rattle.serde_json.specs.View.{view, items_view};
+ghost use Rattle.serde_json.specs.View.{view};
 ghost use Rattle.enumset.specs.Names.{names_of};
-ghost use Rattle.enumset.specs.Json.{values_of};
-ghost use Rattle.enumset.specs.JsonNames.{set_of_values, set_of_list, list_value};
+ghost use Rattle.enumset.specs.JsonNames.{set_of_list, list_value};
 ghost use Rattle.enumset.specs.declared.set_json.fault.JsonFault.TheVariants.{OutOfMemory};
 
 use super::fault::JsonFault;
@@ -38,17 +37,6 @@ pub fn from_list<T: EnumSetNames>(value: &Value, unknown: Unknown) -> Result<Enu
     ensures { result ≡ set_of_list (names_of T.elements T.names) unknown (view value.now) }
 {
     let items = value.as_array().ok_or(JsonFault::NotAnArray)?;
-    set_of_values(items, unknown)
-}
-
-// The set of the names of an array's elements.
-fn set_of_values<T: EnumSetNames>(
-    items: &[Value],
-    unknown: Unknown,
-) -> Result<EnumSet<T>, JsonFault>
-    ensures { result ≡ set_of_values (names_of T.elements T.names) unknown
-        (values_of (items_view items.now)) }
-{
     let mut set = EnumSet::new();
     let mut first_unknown = None;
     let mut next = 0;

@@ -1,9 +1,9 @@
 //! Sets as JSON objects, whose members are names with booleans.
 
 ghost use Rattle.std.specs.Prelude.{◌≡◌, IfOk, IfErr};
-ghost use Rattle.serde_json.specs.View.{view, members_view};
+ghost use Rattle.serde_json.specs.View.{view};
 ghost use Rattle.enumset.specs.Names.{names_of};
-ghost use Rattle.enumset.specs.JsonNames.{members_in, set_of_members, set_of_map, map_value};
+ghost use Rattle.enumset.specs.JsonNames.{set_of_map, map_value};
 ghost use Rattle.enumset.specs.declared.set_json.fault.JsonFault.TheVariants.{OutOfMemory};
 
 use super::fault::JsonFault;
@@ -38,17 +38,6 @@ pub fn from_map<T: EnumSetNames>(value: &Value, unknown: Unknown) -> Result<Enum
     ensures { result ≡ set_of_map (names_of T.elements T.names) unknown (view value.now) }
 {
     let members = value.as_object().ok_or(JsonFault::NotAnObject)?;
-    set_of_members(members, unknown)
-}
-
-// The set of the names with `true` of an object's members.
-fn set_of_members<T: EnumSetNames>(
-    members: &Map<String, Value>,
-    unknown: Unknown,
-) -> Result<EnumSet<T>, JsonFault>
-    ensures { result ≡ set_of_members (names_of T.elements T.names) unknown
-        (members_in (members_view members.now.entries)) }
-{
     let mut set = EnumSet::new();
     let mut first_unknown = None;
     let mut next = 0;

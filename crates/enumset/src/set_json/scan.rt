@@ -1,9 +1,8 @@
 //! Steps over a JSON text whose strings stand for themselves: spaces byte by byte, strings sixteen bytes at a time where
 //! as many are left.
 
-ghost use Rattle.std.specs.Prelude.{◌≡◌, ◌≤◌, ◌==◌, ◌+◌, ◌*◌, ◌++◌, ◌∷◌, [], if◌then◌else◌, IfSome, IsTrue, length, take, drop};
-ghost use Rattle.std.specs.Int.{trailing_zeros, w64};
-ghost use Rattle.enumset.specs.JsonPlain.{IsPlain, AreSpaces, Passed, is_space};
+ghost use Rattle.std.specs.Prelude.{◌≡◌, ◌≤◌, ◌+◌, ◌*◌, ◌++◌, ◌∷◌, [], IfSome, IsTrue, length, take, drop};
+ghost use Rattle.enumset.specs.JsonPlain.{IsPlain, AreSpaces, Passed};
 
 use std::simd::prelude::*;
 
@@ -62,30 +61,10 @@ fn plain_before<const N: usize>(bytes: &[u8], begin: usize) -> usize
     ensures { (result ≤ N) × IsPlain (take result (drop begin bytes.now)) }
 {
     let lanes = Simd::<u8, N>::from_slice(&bytes[begin..]);
-    let quote = first_bit(lanes.simd_eq(Simd::splat(b'"')).to_bitmask(), N);
-    let slash = first_bit(lanes.simd_eq(Simd::splat(b'\\')).to_bitmask(), N);
-    let control = first_bit(lanes.simd_lt(Simd::splat(b' ')).to_bitmask(), N);
-    quote.min(slash).min(control)
-}
-
-// The place of the lowest bit, or what stands in for it.
-#[inline(always)]
-fn first_bit(mask: u64, none: usize) -> usize
-    ensures { result ≡ (if mask == 0 then none else trailing_zeros w64 mask) }
-{
-    if mask == 0 {
-        none
-    } else {
-        mask.trailing_zeros() as usize
-    }
-}
-
-// Whether a byte may stand between tokens.
-#[inline(always)]
-fn is_space_byte(byte: u8) -> bool
-    ensures { result ≡ is_space byte }
-{
-    byte == b' ' || byte == b'\t' || byte == b'\n' || byte == b'\r'
+    let special = lanes.simd_eq(Simd::splat(b'"'))
+        | lanes.simd_eq(Simd::splat(b'\\'))
+        | lanes.simd_lt(Simd::splat(b' '));
+    N.min(special.to_bitmask().trailing_zeros() as usize)
 }
 
 // The spaces at the front, and what follows them.
@@ -95,7 +74,9 @@ pub(super) fn split_spaces(bytes: &[u8]) -> (&[u8], &[u8])
     ensures spaces { AreSpaces result.0.now }
 {
     for i in 0..bytes.len() {
-        if !is_space_byte(bytes[i]) {
+        let byte = bytes[i];
+        let is_space = byte == b' ' || byte == b'\t' || byte == b'\n' || byte == b'\r';
+        if !is_space {
             return bytes.split_at(i);
         }
     }

@@ -1,32 +1,51 @@
-use Rattle.std.proofs.Common.{◌≡◌, ◌≤◌, ◌+◌, ℕ, zero, suc, Bool, true, false, not, cond, eqb, ltb, List, [], ◌∷◌, take, drop, refl, ap, subst, ◌∙◌, arith, w8, take-take}
-use Rattle.enumset.proofs.Common.{prefix_len, prefix_len-le-length, length-chunk, bitmask_splat, first_set_mask_l, IsPlain}
+use Rattle.std.proofs.Common.{◌≡◌, ◌≤◌, ◌+◌, ℕ, zero, suc, Bool, true, false, not, cond, eqb, ltb, ◌||◌, List, [], ◌∷◌, length, map, take, drop, refl, sym, ap, subst, ◌∙◌, arith, w8, ◌%◌, ◌^◌, replicate, take-take}
+use Rattle.std.proofs.lemmas.Simd.{zip2_splat, zip2_of_maps}
+use Rattle.enumset.proofs.Common.{or_parts, prefix_len, length-chunk, bitmask_splat, first_set_mask_l, IsPlain}
+use lib.Bits.{bit_or}
 use lib.Count.{count_trailing_zeros}
-use lib.Lanes.{chunk}
+use lib.Lanes.{chunk, mask_l, top, zip2}
 use Rattle.enumset.proofs.set_json.scan.plain_before.Goals as goal
+
+abbrev is_special : ℕ → Bool
+is_special x = (eqb x 34 || eqb x 92) || ltb x 32
+
+either : (a b : Bool) → bit_or (cond a 255 0) (cond b 255 0) ≡ cond (a || b) 255 0
+either true true = refl
+either true false = refl
+either false true = refl
+either false false = refl
 
 step : (p : Bool) (n r : ℕ) → suc r ≤ cond (not p) (1 + n) 0 → (p ≡ false) × (r ≤ n)
 step false n r le = (refl, omega arith)
 step true n r le = absurd (omega arith)
 
-plain_run : (v : List ℕ) (r : ℕ) → r ≤ prefix_len (λ x. not (eqb x 34)) v → r ≤ prefix_len (λ x. not (eqb x 92)) v → r ≤ prefix_len (λ x. not (ltb x 32)) v → IsPlain (take r v)
-plain_run v zero q s k = tt
-plain_run [] (suc r) q s k = tt
-plain_run (x ∷ v) (suc r) q s k =
-    let a = step (eqb x 34) (prefix_len (λ x. not (eqb x 34)) v) r q in
-    let b = step (eqb x 92) (prefix_len (λ x. not (eqb x 92)) v) r s in
-    let d = step (ltb x 32) (prefix_len (λ x. not (ltb x 32)) v) r k in
-    ((a.0, b.0, d.0), plain_run v r a.1 b.1 d.1)
+plain_run : (v : List ℕ) (r : ℕ) → r ≤ prefix_len (λ x. not (is_special x)) v → IsPlain (take r v)
+plain_run v zero le = tt
+plain_run [] (suc r) le = tt
+plain_run (x ∷ v) (suc r) le =
+    let (none, rest) = step (is_special x) (prefix_len (λ x. not (is_special x)) v) r le in
+    let (text, control) = or_parts _ _ none in
+    let (quote, slash) = or_parts _ _ text in
+    ((quote, slash, control), plain_run v r rest)
 
-abbrev lowest : ℕ → ℕ → ℕ
-lowest n m = cond (eqb m 0) n (count_trailing_zeros 64 m)
+-- the mask of the bytes that a test finds, which each stand for 255
+abbrev found : (ℕ → ℕ → Bool) → List ℕ → ℕ → ℕ → List ℕ
+found t v n y = zip2 (λ a b. cond (t a b) 255 0) v (replicate n y)
+
+mask : (v : List ℕ) (n : ℕ) → length v ≡ n → n ≤ 64 → mask_l (map (top 7) (zip2 bit_or (zip2 bit_or (found eqb v n 34) (found eqb v n 92)) (found ltb v n 32))) % 2 ^ 64 ≡ mask_l (map is_special v)
+mask v n long few =
+    let lanes = zip2_of_maps bit_or _ _ v (zip2_of_maps bit_or _ _ v (zip2_splat (λ a b. cond (eqb a b) 255 0) v n 34 long) (zip2_splat (λ a b. cond (eqb a b) 255 0) v n 92 long)) (zip2_splat (λ a b. cond (ltb a b) 255 0) v n 32 long)
+    ∙ (λ j. map (λ x. bit_or (either (eqb x 34) (eqb x 92) j) (cond (ltb x 32) 255 0)) v) ∙ (λ j. map (λ x. either (eqb x 34 || eqb x 92) (ltb x 32) j) v) ∙ sym (zip2_splat (λ a b. cond (is_special a) 255 0) v n 0 long) in
+    ap (λ l. mask_l (map (top 7) l) % 2 ^ 64) lanes ∙ bitmask_splat w8 (λ a b. is_special a) v n 0 long few
+
+-- no more bytes than stand before the lowest bit
+before : (v : List ℕ) (n m r : ℕ) → length v ≡ n → n ≤ 64 → m ≡ mask_l (map is_special v) → r ≤ n → r ≤ count_trailing_zeros 64 m → r ≤ prefix_len (λ x. not (is_special x)) v
+before v n m r long few is all low = grind (arith, first_set_mask_l is_special v n long few, is, all, low)
 
 pub returns : goal.returns
 returns g c =
     let n = g.row.N in
     let v = chunk c.args.begin n c.args.bytes.now in
     let long = length-chunk c.args.begin n c.args.bytes.now c.requires.0 in
-    let quote : c.first_bit-quote.result ≡ prefix_len (λ x. not (eqb x 34)) v = c.first_bit-quote.ensures ∙ ap (lowest n) (bitmask_splat w8 eqb v n 34 long (omega arith)) ∙ first_set_mask_l (λ x. eqb x 34) v n long (omega arith) in
-    let slash : c.first_bit-slash.result ≡ prefix_len (λ x. not (eqb x 92)) v = c.first_bit-slash.ensures ∙ ap (lowest n) (bitmask_splat w8 eqb v n 92 long (omega arith)) ∙ first_set_mask_l (λ x. eqb x 92) v n long (omega arith) in
-    let control : c.first_bit-control.result ≡ prefix_len (λ x. not (ltb x 32)) v = c.first_bit-control.ensures ∙ ap (lowest n) (bitmask_splat w8 ltb v n 32 long (omega arith)) ∙ first_set_mask_l (λ x. ltb x 32) v n long (omega arith) in
-    let few : c.min-2.result ≤ n = omega (arith, prefix_len-le-length (λ x. not (eqb x 34)) v) in
-    (few, subst IsPlain (take-take c.min-2.result n (drop c.args.begin c.args.bytes.now) few) (plain_run v c.min-2.result (omega arith) (omega arith) (omega arith)))
+    let all : c.min.result ≤ n = omega arith in
+    (all, subst IsPlain (take-take c.min.result n (drop c.args.begin c.args.bytes.now) all) (plain_run v c.min.result (before v n _ c.min.result long (omega arith) (mask v n long (omega arith)) all (omega arith))))

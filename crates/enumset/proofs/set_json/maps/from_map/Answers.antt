@@ -1,7 +1,7 @@
 use Rattle.std.proofs.Common.{◌≡◌, ◌+◌, false, None, Some, Err, is_none, option_map, unwrap_or, string_bytes, length, map, sym, ap, ◌∙◌, arith, rules}
-use Rattle.enumset.proofs.Common.{empty, view, members_view, as_bool, names_of, bit_named, members_in, set_of_members, NotABoolean}
+use Rattle.enumset.proofs.Common.{common_steps, empty, view, members_view, as_bool, names_of, bit_named, members_in, set_of_members, NotABoolean}
 use Rattle.enumset.proofs.NamesRead.{seen, map_on, map_read, read_fault, read_next, read_end}
-use Rattle.enumset.proofs.set_json.maps.set_of_members.Goals as goal
+use Rattle.enumset.proofs.set_json.maps.from_map.Goals as goal
 
 pub loop-place-init : goal.loop-place-init
 loop-place-init g c = (omega (arith, c.iter-name-items.ensures.fits, ap length c.iter-name-items.ensures.rest), ap (λ s. map_on (names_of g.T.EnumSetType.elements g.T.EnumSetNames.names) c.args.unknown 0 s None (map seen c.iter-name-items.result)) c.new-set.ensures)
@@ -10,8 +10,8 @@ pub returns-in_err-is_member : goal.returns-in_err-is_member
 returns-in_err-is_member g c =
     let names = names_of g.T.EnumSetType.elements g.T.EnumSetNames.names in
     let no_boolean : as_bool (view c.in-Some.value.now) ≡ None = grind (arith, c.as_bool.ensures, c.in_err-is_member.ensures.variant) in
-    let whole : set_of_members names c.args.unknown (members_in (members_view c.args.members.now.entries)) ≡ Err (NotABoolean c.loop-place.place) =
-    sym (map_read names c.args.unknown c.args.members.now.entries)
+    let whole : set_of_members names c.args.unknown (members_in (members_view c.in_ok-members.members.now.entries)) ≡ Err (NotABoolean c.loop-place.place) =
+    sym (map_read names c.args.unknown c.in_ok-members.members.now.entries)
     ∙ ap (λ ms. map_on names c.args.unknown 0 empty None (map seen ms)) (sym c.iter-name-items.ensures.rest)
     ∙ sym c.loop-place.invariant.1
     ∙ read_fault _ _ _ _ _ _ c.loop-place.place c.loop-place.set c.loop-place.first_unknown _ _ _ (ap (map seen) c.in-Some.ensures.steps) (ap is_none no_boolean) in
@@ -32,8 +32,10 @@ loop-place-preserved g c =
 pub returns : goal.returns
 returns g c =
     let names = names_of g.T.EnumSetType.elements g.T.EnumSetNames.names in
+    let whole : c.decided.result ≡ set_of_members names c.args.unknown (members_in (members_view c.in_ok-members.members.now.entries)) =
     c.decided.ensures
     ∙ sym (read_end _ _ _ _ names c.args.unknown c.loop-place.place c.loop-place.set c.loop-place.first_unknown _ (ap (map seen) c.in-None.ensures.steps.0))
     ∙ c.loop-place.invariant.1
     ∙ ap (λ ms. map_on names c.args.unknown 0 empty None (map seen ms)) c.iter-name-items.ensures.rest
-    ∙ map_read names c.args.unknown c.args.members.now.entries
+    ∙ map_read names c.args.unknown c.in_ok-members.members.now.entries in
+    first_of (search rules, grind (arith, common_steps, whole))

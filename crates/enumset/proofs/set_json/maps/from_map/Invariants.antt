@@ -1,7 +1,7 @@
 use Rattle.std.proofs.Common.{◌≡◌, ◌+◌, ◌<◌, ◌^◌, None, map}
 use Rattle.enumset.proofs.Common.{empty, names_of}
 use Rattle.enumset.proofs.NamesRead.{map_on, seen}
-use Rattle.enumset.proofs.set_json.maps.set_of_members.Given as goal
+use Rattle.enumset.proofs.set_json.maps.from_map.Given as goal
 
 -- what is left is read as it is after what was read
 abbrev pub invariant-loop-place : goal.invariant-loop-place
