@@ -1,14 +1,12 @@
 //! Texts of maps of names that stand for themselves in JSON.
 
-ghost use Rattle.std.specs.Prelude.{◌≡◌, ◌≤◌, Some, IfOk, IfSome, IsTrue, length, string_bytes};
+ghost use Rattle.std.specs.Prelude.{◌≡◌, ◌≤◌, IfOk, IfSome, IsTrue, length, string_bytes};
 ghost use Rattle.std.specs.Cmp.Lexicographic.{slice_cmp};
 ghost use Rattle.std.specs.List.{All, insert};
 ghost use Rattle.std.specs.Ordering.{is_lt, nat_cmp};
-ghost use Rattle.serde_json.specs.Read.{read};
-ghost use Rattle.serde_json.specs.Written.{compact_text};
 ghost use Rattle.enumset_repr.specs.BitSet.{ascending};
 ghost use Rattle.enumset.specs.JsonNames.{map_value};
-ghost use Rattle.enumset.specs.JsonPlain.{AreRising, IsName, AreMembers};
+ghost use Rattle.enumset.specs.JsonPlain.{AreRising, IsName, AreMembers, IsTextOf};
 ghost use Rattle.enumset.specs.Names.{names_of};
 
 use super::scan::is_plain;
@@ -24,8 +22,7 @@ pub(super) fn plain_map<T: EnumSetNames>(
     set: &EnumSet<T>,
 ) -> Result<Option<String>, AllocError>
     ensures { IfOk result (λ o. IfSome o (λ text.
-        (string_bytes text ≡ compact_text (map_value (names_of T.elements T.names) set.now))
-        × (read (string_bytes text) ≡ Some (map_value (names_of T.elements T.names) set.now)))) }
+        IsTextOf (map_value (names_of T.elements T.names) set.now) (string_bytes text))) }
 {
     let mut keys = [u32::MAX; 32];
     if let Some(first) = set.first()
@@ -160,8 +157,7 @@ fn text_of_names<T: EnumSetNames>(
 ) -> Result<Option<String>, AllocError>
     requires { AreMembers (names_of T.elements T.names) set.now names.now }
     ensures { IfOk result (λ o. IfSome o (λ text.
-        (string_bytes text ≡ compact_text (map_value (names_of T.elements T.names) set.now))
-        × (read (string_bytes text) ≡ Some (map_value (names_of T.elements T.names) set.now)))) }
+        IsTextOf (map_value (names_of T.elements T.names) set.now) (string_bytes text))) }
 {
     // One request for memory is enough: each name has quotes, a colon, `true` and a comma.
     let bytes = names

@@ -1,9 +1,8 @@
 //! Texts of lists of names that stand for themselves, written and read without a tree of values.
 
-ghost use Rattle.std.specs.Prelude.{◌≡◌, IfOk, IfSome, Some, string_bytes};
-ghost use Rattle.serde_json.specs.Read.{read};
-ghost use Rattle.serde_json.specs.Written.{compact_text};
+ghost use Rattle.std.specs.Prelude.{IfOk, IfSome, string_bytes};
 ghost use Rattle.enumset.specs.JsonNames.{list_value, set_of_list};
+ghost use Rattle.enumset.specs.JsonPlain.{IsTextOf};
 ghost use Rattle.enumset.specs.JsonReads.{IsReadOf};
 ghost use Rattle.enumset.specs.Names.{names_of};
 
@@ -21,8 +20,7 @@ pub(super) fn plain_list<T: EnumSetNames>(
     set: &EnumSet<T>,
 ) -> Result<Option<String>, AllocError>
     ensures { IfOk result (λ o. IfSome o (λ text.
-        (string_bytes text ≡ compact_text (list_value (names_of T.elements T.names) set.now))
-        × (read (string_bytes text) ≡ Some (list_value (names_of T.elements T.names) set.now)))) }
+        IsTextOf (list_value (names_of T.elements T.names) set.now) (string_bytes text))) }
 {
     // Most names have at most thirteen bytes.
     let mut text = String::with_capacity(alloc, set.len().saturating_mul(16))?;
