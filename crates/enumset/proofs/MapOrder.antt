@@ -56,7 +56,7 @@ has_more name (member n d ms) rises = at _ refl (has_more name ms rises.2)
     at Greater is later = (
       (rises.0, each_put _ name (boolean true) ms (nat_list_cmp_total.antisymm n name ∙ ap ordering_reverse is) rises.1, later.0),
       inr later.1,
-      λ t i. elim i [ | inl e ↦ inl e | inr i ↦ inr (later.2 t i) ],
+      λ t i. elim i [ inl e ↦ inl e | inr i ↦ inr (later.2 t i) ],
       omega (arith, later.3),
     )
 
@@ -69,7 +69,7 @@ has_all names (b ∷ bs) ms rises =
     let rest = has_all names bs (put (name_of names b) (boolean true) ms) one.0 in (
       rest.0,
       λ t i. rest.1 t (one.2 t i),
-      λ t i. elim i [ | inl e ↦ subst (λ u. IsIn u (with_bits_true names ms (b ∷ bs))) e (rest.1 _ one.1) | inr i ↦ rest.2 t i ],
+      λ t i. elim i [ inl e ↦ subst (λ u. IsIn u (with_bits_true names ms (b ∷ bs))) e (rest.1 _ one.1) | inr i ↦ rest.2 t i ],
       omega (arith, one.3, rest.3),
     )
 
@@ -122,36 +122,3 @@ put_between ns i name d inside after before r = sorted_from_all_adjacent by_byte
     each k within =
         let long = length-insert ns i name inside in
         grind (arith, long, within, after, before, get_or-insert_below ns i name d k, get_or-insert_below ns i name d (k + 1), get_or-insert_at ns i name d, get_or-insert_above ns i name d k, get_or-insert_above ns i name d (k - 1), Less-from_sorted by_bytes ns k (k + 1) d r, Less-from_sorted by_bytes ns (k - 1) k d r)
-
--- ---- a binary search for a name that is not there, between a name before it and one after it
-
-climbs : (ns : Texts) (name : Bor (List ℕ)) (low n : ℕ) → AreRising ns → IsNonDecreasingBy (λ n. ordering_index (by_bytes n name)) (take n (drop low ns))
-climbs ns name low n rising =
-    let all = searchable_from_sorted by_bytes_total (λ n. n) ns name (λ k d first within. ap is_lt (by_bytes_total.antisymm (get_or ns (k + 1) d) (get_or ns k d) ∙ ap ordering_reverse (Less-from_sorted by_bytes ns k (k + 1) d rising (omega arith) within))) in
-    IsNonDecreasingBy-take (λ n. ordering_index (by_bytes n name)) n (drop low ns) (IsNonDecreasingBy-drop (λ n. ordering_index (by_bytes n name)) low ns all)
-
-put_within : (ns : Texts) (name d : Bor (List ℕ)) (low high i : ℕ) → low ≤ high → high ≤ length ns → i ≤ length (take (high - low) (drop low ns)) → (0 < low → by_bytes (get_or ns (low - 1) d) name ≡ Less)
-    → (high < length ns → by_bytes name (get_or ns high d) ≡ Less) → IsPartitionPoint (λ n. by_bytes n name ≡ Less) (λ n. by_bytes n name ≡ Greater) (take (high - low) (drop low ns)) i → AreRising ns
-    → (low + i ≤ length ns) × AreRising (insert ns (low + i) name)
-put_within ns name d low high i some inside ends after before found rising = (omega (arith, some, inside, few), put_between ns (low + i) name d (omega (arith, some, inside, few)) under over rising)
-  where
-    many : length (take (high - low) (drop low ns)) ≡ high - low
-    many = grind (arith, some, inside, length-take (high - low) (drop low ns), length-drop low ns)
-
-    few : i ≤ high - low
-    few = omega (arith, ends, many)
-
-    at : (k : ℕ) → k < high - low → get_or (take (high - low) (drop low ns)) k d ≡ get_or ns (low + k) d
-    at k within = get_or-take (high - low) (drop low ns) k d within ∙ get_or-drop low ns k d
-
-    under : 0 < low + i → by_bytes (get_or ns (low + i - 1) d) name ≡ Less
-    under more = grind (arith, more, few, after, at (i - 1), found.0 (i - 1) d)
-
-    over : low + i < length ns → by_bytes name (get_or ns (low + i) d) ≡ Less
-    over more = grind (arith, more, some, few, many, before, at i, found.1 i d, nat_list_cmp_total.antisymm name.now (get_or ns (low + i) d).now)
-
-pub searched : (ns : Texts) (name d : Bor (List ℕ)) (low high : ℕ) (r : Result ℕ ℕ) → low ≤ high → high ≤ length ns → (0 < low → by_bytes (get_or ns (low - 1) d) name ≡ Less) → (high < length ns → by_bytes name (get_or ns high d) ≡ Less)
-    → IsSearchInRange r (length (take (high - low) (drop low ns))) → IsBinarySearchResult (λ n. by_bytes n name) (take (high - low) (drop low ns)) r
-    → IfSome (result_err r) (λ i. AreRising ns → (low + i ≤ length ns) × AreRising (insert ns (low + i) name))
-searched ns name d low high (Ok i) some inside after before ends found = tt
-searched ns name d low high (Err i) some inside after before ends found = λ rising. put_within ns name d low high i some inside ends after before (found (climbs ns name low (high - low) rising)) rising

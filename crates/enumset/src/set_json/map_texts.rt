@@ -24,14 +24,13 @@ pub(super) fn plain_map<T: EnumSetNames>(
     ensures { IfOk result (λ o. IfSome o (λ text.
         IsTextOf (map_value (names_of T.elements T.names) set.now) (string_bytes text))) }
 {
-    let mut keys = [u32::MAX; 32];
-    if let Some(first) = set.first()
-        && set.len() <= 32
-        && put_keys(&mut keys, set)
+    let count = set.len();
+    if let (Some(first), Some(last)) = (set.first(), set.last())
+        && (count == 1 || count <= 32 && key_of(first.name()) != key_of(last.name()))
     {
         let mut names = [first.name(); 32];
-        place_names(&mut names, set, &keys);
-        let names = &names[..set.len()];
+        place_names(&mut names, set);
+        let names = &names[..count];
         if names.is_sorted_by(|one, other| comes_before(one, other)) {
             return text_of_names(alloc, set, names);
         }
@@ -42,29 +41,10 @@ pub(super) fn plain_map<T: EnumSetNames>(
     }
 }
 
-// Puts down the first four bytes of each of at most 32 names. False if those of two neighbours are the same.
-#[inline(always)]
-fn put_keys<T: EnumSetNames>(keys: &mut [u32; 32], set: &EnumSet<T>) -> bool {
-    let mut last = u32::MAX;
-    let mut next = 0;
-    for element in set.iter() {
-        let key = key_of(element.name().as_bytes());
-        if key == last {
-            return false;
-        }
-        if next < 32 {
-            keys[next] = key;
-            next += 1;
-        }
-        last = key;
-    }
-    true
-}
-
 // The first four bytes as a number, with zeros for those that are missing.
 #[inline(always)]
-fn key_of(name: &[u8]) -> u32 {
-    match name {
+fn key_of(name: &str) -> u32 {
+    match name.as_bytes() {
         [a, b, c, d, ..] => u32::from_be_bytes([*a, *b, *c, *d]),
         [a, b, c] => u32::from_be_bytes([*a, *b, *c, 0]),
         [a, b] => u32::from_be_bytes([*a, *b, 0, 0]),
@@ -75,22 +55,19 @@ fn key_of(name: &[u8]) -> u32 {
 
 // Puts the name of each member at the place that its key has among all keys. No branch depends on the order.
 #[inline(always)]
-fn place_names<T: EnumSetNames>(names: &mut [&'static str; 32], set: &EnumSet<T>, keys: &[u32; 32])
+fn place_names<T: EnumSetNames>(names: &mut [&'static str; 32], set: &EnumSet<T>)
     requires { All (λ name. IsName (names_of T.elements T.names) (ascending set.now) name.now) names.old }
     ensures named { All (λ name. IsName (names_of T.elements T.names) (ascending set.now) name.now) names.new }
     ensures len { length names.new ≡ length names.old }
 {
-    let lanes = Simd::<u32, 32>::from_array(*keys);
-    let mut next = 0;
-    for element in set.iter() {
-        if next < 32 {
-            let less = lanes.simd_lt(Simd::splat(keys[next])).to_bitmask();
-            let place = less.count_ones() as usize;
-            if place < 32 {
-                names[place] = element.name();
-            }
-            next += 1;
-        }
+    let mut keys = [u32::MAX; 32];
+    for (key, element) in keys.iter_mut().zip(set.iter()) {
+        *key = key_of(element.name());
+    }
+    let lanes = Simd::from_array(keys);
+    for (key, element) in keys.iter().zip(set.iter()) {
+        let less = lanes.simd_lt(Simd::splat(*key)).to_bitmask();
+        names[less.count_ones().min(31) as usize] = element.name();
     }
 }
 
@@ -105,7 +82,7 @@ fn comes_before(one: &str, other: &str) -> bool
     }
 }
 
-// The names of the set's members, in the order of their bytes, unless two are the same. Most go next to the one before.
+// The names of the set's members, in the order of their bytes, unless two are the same.
 fn sorted_names<T: EnumSetNames>(
     alloc: Global,
     set: &EnumSet<T>,
@@ -114,39 +91,44 @@ fn sorted_names<T: EnumSetNames>(
         AreMembers (names_of T.elements T.names) set.now names.items)) }
 {
     let mut names = Vec::with_capacity(alloc, set.len())?;
-    let mut place = 0;
+    let mut last = 0;
     for element in set.iter() {
         let name = element.name();
-        let Some(found) = place_of(&names, place, name) else {
+        let Some(place) = place_of(&names, last, name) else {
             return Ok(None);
         };
-        names.insert(found, name)?;
-        place = found + 1;
+        names.insert(place, name)?;
+        last = place;
     }
     Ok(Some(names))
 }
 
-// Where a name goes among names in the order of bytes, unless it is there. It is compared with the name before a place; if
-// it goes to the front of the part that is left, it is not searched for.
+// Where a name goes among names in the order of bytes, unless it is there. It is compared with the last one that was put
+// in, then with the one beside it: names that rise or fall take a step or two each. Then the search halves what is left.
 #[inline(always)]
-fn place_of(names: &[&str], tried: usize, name: &str) -> Option<usize>
-    requires { tried ≤ length names.now }
+fn place_of(names: &[&str], last: usize, name: &str) -> Option<usize>
     ensures { IfSome result (λ place. AreRising names.now
         → (place ≤ length names.now) × AreRising (insert names.now place name.entry)) }
 {
     let mut low = 0;
     let mut high = names.len();
-    if tried > 0 {
-        match names[tried - 1].cmp(name) {
-            Ordering::Less => low = tried,
+    let mut middle = last.min(high.saturating_sub(1));
+    let mut reach = 0;
+    while low < high {
+        match names[middle].cmp(name) {
+            Ordering::Less => {
+                low = middle + 1;
+                middle = low + reach.min((high - low) / 2);
+            }
             Ordering::Equal => return None,
-            Ordering::Greater => high = tried - 1,
+            Ordering::Greater => {
+                high = middle;
+                middle = high.saturating_sub(1 + reach.min((high - low) / 2));
+            }
         }
+        reach = names.len();
     }
-    if low == high || name < names[low] {
-        return Some(low);
-    }
-    Some(low + names[low..high].binary_search(&name).err()?)
+    Some(low)
 }
 
 // The map of the members' names, unless one of them needs an escape.

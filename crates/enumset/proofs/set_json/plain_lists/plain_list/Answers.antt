@@ -23,5 +23,5 @@ returns g c =
     let later = c.loop-element.later in
     let piece : c.if-later-2.push_str.now ≡ cond later (34 ∷ []) (91 ∷ []) ++ 93 ∷ [] = first_of (search rules, grind (arith, common_steps)) in
     let (is, plain) = ended _ _ _ later _ (ap (map (name_of names)) c.in-None.ensures.steps.0.0) piece c.in_ok-push_str-3.ensures.bytes
-        (subst (λ bs. Writes (91 ∷ []) (34 ∷ []) (93 ∷ []) (map (name_of names) bs) (string_bytes c.loop-element.text) later (map (name_of names) c.loop-element.element-iterator.items)) items c.loop-element.invariant) in
+    (subst (λ bs. Writes (91 ∷ []) (34 ∷ []) (93 ∷ []) (map (name_of names) bs) (string_bytes c.loop-element.text) later (map (name_of names) c.loop-element.element-iterator.items)) items c.loop-element.invariant) in
     list_written names c.args.set.now _ is plain
