@@ -1,14 +1,12 @@
 -- Names of members that rise, as many as there are members, are the names of all members in the order of a map.
-use Rattle.std.proofs.Common.{◌≡◌, ◌⊎◌, inl, inr, ℕ, List, [], ◌∷◌, Bor, refl, sym, ap, ◌∙◌, subst, nat_cmp, Ordering, Less, Equal, Greater, ◌<◌, ◌≤◌, ◌+◌, length, get_or, take, drop, ◌-◌, suc, arith, is_eq, true≢false, length-drop, length-take, get_or-drop, get_or-take, is_lt, true, IfSome, Result, Ok, Err}
-use Rattle.enumset.proofs.Common.{⊤, Data, nat_list_cmp_total, All-from_recursion, recursion_from_All, IsTotalOrder, slice_cmp, AllByRecursion, IsBinarySearchResult, IsSearchInRange, IsStrictlySortedBy, ordering_index, ordering_reverse, match_ordering, result_err, BitSet, ascending, len_ascending, boolean, Members, member, no_members, put, by_bytes, AreRising, IsName, AreMembers, with_bits_true, Names, name_of}
+use Rattle.std.proofs.Common.{◌≡◌, ◌⊎◌, inl, inr, ℕ, List, [], ◌∷◌, Bor, refl, sym, ap, ◌∙◌, subst, nat_cmp, Ordering, Less, Equal, Greater, ◌<◌, ◌≤◌, ◌+◌, length, get_or, ◌-◌, suc, arith, is_eq, true≢false, is_lt, true}
+use Rattle.enumset.proofs.Common.{⊤, Data, nat_list_cmp_total, recursion_from_All, IsTotalOrder, slice_cmp, AllByRecursion, IsStrictlySortedBy, ordering_reverse, match_ordering, BitSet, ascending, len_ascending, boolean, Members, member, no_members, put, by_bytes, AreRising, IsName, AreMembers, with_bits_true, Names, name_of}
 use Rattle.std.proofs.lemmas.Cmp.{on_total, tied_itself}
 use Rattle.std.proofs.lemmas.List.Edits.{length-insert, get_or-insert_at, get_or-insert_below, get_or-insert_above}
-use Rattle.std.proofs.lemmas.List.Sorted.{IsNonDecreasingBy-drop, IsNonDecreasingBy-take, searchable_from_sorted}
 use Rattle.std.proofs.lemmas.Map.Keys.{Less-from_sorted, sorted_from_all_adjacent}
 use Rattle.std.proofs.lemmas.List.Elements.{All-weaker}
 use Rattle.enumset.proofs.NamesTaken.{Each, each_put, same_key}
 use Rattle.std.specs.List.{insert}
-use Rattle.std.specs.List.Sorted.{IsNonDecreasingBy, IsPartitionPoint}
 
 -- names, as the code has them
 abbrev pub Texts : Type 0

@@ -1,5 +1,5 @@
 -- The text of names that rise, as members of an object, and what it reads as.
-use Rattle.std.proofs.Common.{◌≡◌, List, [], ◌∷◌, ◌++◌, Bor, Some, map, refl, sym, ap, ◌∙◌, append_assoc, subst, Less, ℕ, Bool, true, false}
+use Rattle.std.proofs.Common.{◌≡◌, List, [], ◌∷◌, ◌++◌, Bor, Some, map, refl, sym, ap, ◌∙◌, Less, ℕ, Bool, true, false}
 use Rattle.enumset.proofs.Common.{nat_list_cmp_total, AllByRecursion, IsStrictlySortedBy, ordering_reverse, BitSet, object, boolean, Members, no_members, member, put, read, compact_text, members_text, comma_if, IsTextOf, boolean_before, by_bytes, AreRising, AreMembers, map_value, Names}
 use Rattle.enumset.proofs.JsonLists.{ArePlain, joined, text_before}
 use Rattle.enumset.proofs.JsonTokens.{tokens}

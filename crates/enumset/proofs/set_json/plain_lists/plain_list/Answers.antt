@@ -1,4 +1,4 @@
-use Rattle.std.proofs.Common.{rules, arith, ◌≡◌, [], ◌∷◌, ◌++◌, List, ℕ, string_bytes, map, cond, ap, subst, sym, ◌∙◌}
+use Rattle.std.proofs.Common.{rules, arith, ◌≡◌, [], ◌∷◌, ◌++◌, string_bytes, map, cond, ap, subst, sym, ◌∙◌}
 use Rattle.enumset.proofs.Common.{common_steps, comma_if, names_of, name_of}
 use Rattle.enumset.proofs.JsonLists.{Writes, begins, next_name, ended, list_written}
 use Rattle.enumset.proofs.set_json.plain_lists.plain_list.Goals as goal
