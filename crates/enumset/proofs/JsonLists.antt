@@ -53,8 +53,13 @@ abbrev pub joined : List ℕ → List ℕ → Bool → List (List ℕ) → List 
 joined close end later [] = end
 joined close end later (name ∷ names) = comma_if later ++ (34 ∷ (name ++ (close ++ joined close end true names)))
 
-regroup : (text front comma name close rest : List ℕ) → (((text ++ (front ++ (comma ++ 34 ∷ []))) ++ name) ++ close) ++ rest ≡ (text ++ front) ++ (comma ++ (34 ∷ (name ++ (close ++ rest))))
-regroup text front comma name close rest = simp append_assoc
+regroup : (text front close name rest : List ℕ) (later : Bool) → (((text ++ cond later (close ++ 44 ∷ 34 ∷ []) (front ++ 34 ∷ [])) ++ name) ++ close) ++ rest ≡ (text ++ cond later close front) ++ (comma_if later ++ (34 ∷ (name ++ (close ++ rest))))
+regroup text front close name rest true = simp append_assoc
+regroup text front close name rest false = simp append_assoc
+
+close_up : (text front close end : List ℕ) (later : Bool) → text ++ cond later (close ++ end) (front ++ end) ≡ (text ++ cond later close front) ++ end
+close_up text front close end true = simp append_assoc
+close_up text front close end false = simp append_assoc
 
 -- a text so far, with what opens it or closes the last name, and with the names that are left; all names are plain if those are
 pub record Writes (front close end : List ℕ) (all : List (List ℕ)) (text : List ℕ) (later : Bool) (left : List (List ℕ)) : Type 0 where
@@ -65,20 +70,19 @@ module _ {front close end : List ℕ} {all : List (List ℕ)} where
   pub begins : (text : List ℕ) → text ≡ [] → Writes front close end all text false all
   begins text none = record { so_far = ap (λ t. (t ++ front) ++ joined close end false all) none; plain = λ plain. plain }
 
-  pub next_name : (text piece name next : List ℕ) (later : Bool) (left rest : List (List ℕ)) → left ≡ name ∷ rest → IsPlain name
-      → piece ≡ cond later close front ++ (comma_if later ++ 34 ∷ []) → next ≡ (text ++ piece) ++ name → Writes front close end all text later left → Writes front close end all next true rest
-  next_name text piece name next later left rest here plain is put before = record {
+  pub next_name : (text name next : List ℕ) (later : Bool) (left rest : List (List ℕ)) → left ≡ name ∷ rest → IsPlain name
+      → next ≡ (text ++ cond later (close ++ 44 ∷ 34 ∷ []) (front ++ 34 ∷ [])) ++ name → Writes front close end all text later left → Writes front close end all next true rest
+  next_name text name next later left rest here plain put before = record {
     so_far =
-        ap (λ t. (t ++ close) ++ joined close end true rest) (put ∙ ap (λ t. (text ++ t) ++ name) is)
-        ∙ regroup text _ (comma_if later) name close _
+        ap (λ t. (t ++ close) ++ joined close end true rest) put ∙ regroup text front close name _ later
         ∙ ap (λ l. (text ++ cond later close front) ++ joined close end later l) (sym here) ∙ before.so_far;
     plain = λ ps. before.plain (subst ArePlain (sym here) (plain, ps));
   }
 
-  pub ended : (text piece whole : List ℕ) (later : Bool) (left : List (List ℕ)) → left ≡ [] → piece ≡ cond later close front ++ end → whole ≡ text ++ piece → Writes front close end all text later left
+  pub ended : (text whole : List ℕ) (later : Bool) (left : List (List ℕ)) → left ≡ [] → whole ≡ text ++ cond later (close ++ end) (front ++ end) → Writes front close end all text later left
       → (whole ≡ front ++ joined close end false all) × ArePlain all
-  ended text piece whole later left none is put before = (
-    put ∙ ap (λ t. text ++ t) is ∙ sym (append_assoc text _ end) ∙ ap (λ l. (text ++ cond later close front) ++ joined close end later l) (sym none) ∙ before.so_far,
+  ended text whole later left none put before = (
+    put ∙ close_up text front close end later ∙ ap (λ l. (text ++ cond later close front) ++ joined close end later l) (sym none) ∙ before.so_far,
     before.plain (subst ArePlain (sym none) tt),
   )
 

@@ -9,6 +9,7 @@ ghost use Rattle.enumset.specs.JsonNames.{map_value};
 ghost use Rattle.enumset.specs.JsonPlain.{AreRising, IsName, AreMembers, IsTextOf};
 ghost use Rattle.enumset.specs.Names.{names_of};
 
+use super::plain_lists::push_either;
 use super::scan::is_plain;
 use crate::names::EnumSetNames;
 use enumset_sets::EnumSet;
@@ -60,7 +61,8 @@ fn place_names<T: EnumSetNames>(names: &mut [&'static str; 32], set: &EnumSet<T>
     ensures named { All (λ name. IsName (names_of T.elements T.names) (ascending set.now) name.now) names.new }
     ensures len { length names.new ≡ length names.old }
 {
-    let mut keys = [u32::MAX; 32];
+    // No text has the byte 255. Where all bytes were the same, a call would fill the array.
+    let mut keys = [0xff00_0000; 32];
     for (key, element) in keys.iter_mut().zip(set.iter()) {
         *key = key_of(element.name());
     }
@@ -142,19 +144,19 @@ fn text_of_names<T: EnumSetNames>(
         IsTextOf (map_value (names_of T.elements T.names) set.now) (string_bytes text))) }
 {
     // One request for memory is enough: each name has quotes, a colon, `true` and a comma.
-    let bytes = names
-        .iter()
-        .fold(2usize, |bytes, name| bytes.saturating_add(name.len()));
-    let mut text = String::with_capacity(alloc, set.len().saturating_mul(8).saturating_add(bytes))?;
+    let bytes = names.iter().fold(2usize, |bytes, name| {
+        bytes.saturating_add(name.len()).saturating_add(8)
+    });
+    let mut text = String::with_capacity(alloc, bytes)?;
     let mut later = false;
     for name in names.iter() {
         if !is_plain(name) {
             return Ok(None);
         }
-        text.push_str(if later { "\":true,\"" } else { "{\"" })?;
+        push_either(&mut text, later, "\":true,\"", "{\"")?;
         text.push_str(name)?;
         later = true;
     }
-    text.push_str(if later { "\":true}" } else { "{}" })?;
+    push_either(&mut text, later, "\":true}", "{}")?;
     Ok(Some(text))
 }

@@ -1,6 +1,6 @@
 //! Texts of lists of names that stand for themselves, written and read without a tree of values.
 
-ghost use Rattle.std.specs.Prelude.{IfOk, IfSome, string_bytes};
+ghost use Rattle.std.specs.Prelude.{◌≡◌, ◌++◌, if◌then◌else◌, IfOk, IfSome, OnOk, string_bytes};
 ghost use Rattle.enumset.specs.JsonNames.{list_value, set_of_list};
 ghost use Rattle.enumset.specs.JsonPlain.{IsTextOf};
 ghost use Rattle.enumset.specs.JsonReads.{IsReadOf};
@@ -30,12 +30,30 @@ pub(super) fn plain_list<T: EnumSetNames>(
         if !is_plain(name) {
             return Ok(None);
         }
-        text.push_str(if later { "\",\"" } else { "[\"" })?;
+        push_either(&mut text, later, "\",\"", "[\"")?;
         text.push_str(name)?;
         later = true;
     }
-    text.push_str(if later { "\"]" } else { "[]" })?;
+    push_either(&mut text, later, "\"]", "[]")?;
     Ok(Some(text))
+}
+
+// Puts one text or the other behind a text. Each has a known length at each call, so no call copies it.
+#[inline(always)]
+pub(super) fn push_either(
+    text: &mut String,
+    is_one: bool,
+    one: &str,
+    other: &str,
+) -> Result<(), AllocError>
+    ensures { OnOk result (string_bytes text.new
+        ≡ string_bytes text.old ++ (if is_one then one.now else other.now)) }
+{
+    if is_one {
+        text.push_str(one)
+    } else {
+        text.push_str(other)
+    }
 }
 
 // What is read of a list of plain strings, with spaces anywhere between its tokens. No other text is read.

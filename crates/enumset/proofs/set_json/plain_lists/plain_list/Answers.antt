@@ -1,5 +1,5 @@
-use Rattle.std.proofs.Common.{rules, arith, ◌≡◌, [], ◌∷◌, ◌++◌, string_bytes, map, cond, ap, subst, sym, ◌∙◌}
-use Rattle.enumset.proofs.Common.{common_steps, comma_if, names_of, name_of}
+use Rattle.std.proofs.Common.{rules, arith, ◌≡◌, [], ◌∷◌, ◌++◌, string_bytes, map, ap, subst, sym, ◌∙◌}
+use Rattle.enumset.proofs.Common.{common_steps, names_of, name_of}
 use Rattle.enumset.proofs.JsonLists.{Writes, begins, next_name, ended, list_written}
 use Rattle.enumset.proofs.set_json.plain_lists.plain_list.Goals as goal
 
@@ -11,17 +11,13 @@ loop-element-preserved g c =
     let texts = map (name_of (names_of g.T.EnumSetType.elements g.T.EnumSetNames.names)) in
     let b = g.T.EnumSetType.elements.bit c.in-Some.element in
     let here : c.loop-element.element-iterator.items ≡ b ∷ c.next.new.self.items = grind (arith, common_steps) in
-    let later = c.loop-element.later in
-    let piece : c.if-later.push_str.now ≡ cond later (34 ∷ []) (91 ∷ []) ++ (comma_if later ++ 34 ∷ []) = first_of (search rules, grind (arith, common_steps)) in
-    next_name _ _ c.name-name.result.now _ later _ _ (ap texts here ∙ ap (λ t. t ∷ texts c.next.new.self.items) (sym c.name-name.ensures)) (search rules)
-    piece (c.in_ok-push_str-2.ensures.bytes ∙ ap (λ t. t ++ c.name-name.result.now) c.in_ok-push_str.ensures.bytes) c.loop-element.invariant
+    next_name _ c.name-name.result.now _ c.loop-element.later _ _ (ap texts here ∙ ap (λ t. t ∷ texts c.next.new.self.items) (sym c.name-name.ensures)) (search rules)
+    (c.in_ok-push_str.ensures.bytes ∙ ap (λ t. t ++ c.name-name.result.now) c.in_ok-push_either.ensures) c.loop-element.invariant
 
 pub returns : goal.returns
 returns g c =
     let names = names_of g.T.EnumSetType.elements g.T.EnumSetNames.names in
     let items = ap (λ i. i.items) c.into_iter-element-iterator.ensures.into_iter_gives ∙ c.iter-element-items.ensures.ascending in
-    let later = c.loop-element.later in
-    let piece : c.if-later-2.push_str.now ≡ cond later (34 ∷ []) (91 ∷ []) ++ 93 ∷ [] = first_of (search rules, grind (arith, common_steps)) in
-    let (is, plain) = ended _ _ _ later _ (ap (map (name_of names)) c.in-None.ensures.steps.0.0) piece c.in_ok-push_str-3.ensures.bytes
-    (subst (λ bs. Writes (91 ∷ []) (34 ∷ []) (93 ∷ []) (map (name_of names) bs) (string_bytes c.loop-element.text) later (map (name_of names) c.loop-element.element-iterator.items)) items c.loop-element.invariant) in
+    let (is, plain) = ended _ _ c.loop-element.later _ (ap (map (name_of names)) c.in-None.ensures.steps.0.0) c.in_ok-push_either-2.ensures
+    (subst (λ bs. Writes (91 ∷ []) (34 ∷ []) (93 ∷ []) (map (name_of names) bs) (string_bytes c.loop-element.text) c.loop-element.later (map (name_of names) c.loop-element.element-iterator.items)) items c.loop-element.invariant) in
     list_written names c.args.set.now _ is plain
