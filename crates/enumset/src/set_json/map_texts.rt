@@ -2,9 +2,9 @@
 
 ghost use Rattle.std.specs.Prelude.{◌≡◌, ◌≤◌, IfOk, IfSome, IsTrue, length, string_bytes};
 ghost use Rattle.std.specs.Cmp.Lexicographic.{slice_cmp};
-ghost use Rattle.std.specs.List.{All, insert};
+ghost use Rattle.std.specs.List.{insert};
 ghost use Rattle.std.specs.Ordering.{is_lt, nat_cmp};
-ghost use Rattle.enumset_repr.specs.BitSet.{ascending};
+ghost use Rattle.enumset_repr.specs.BitSet.{ascending, len};
 ghost use Rattle.enumset.specs.JsonNames.{map_value};
 ghost use Rattle.enumset.specs.JsonPlain.{AreRising, IsName, AreMembers, IsTextOf};
 ghost use Rattle.enumset.specs.Names.{names_of};
@@ -29,16 +29,9 @@ pub(super) fn plain_map<T: EnumSetNames>(
     if let (Some(first), Some(last)) = (set.first(), set.last())
         && (count == 1 || count <= 32 && key_of(first.name()) != key_of(last.name()))
     {
-        let mut names = [first.name(); 32];
-        place_names(&mut names, set);
-        let names = &names[..count];
-        if names.is_sorted_by(|one, other| comes_before(one, other)) {
-            return text_of_names(alloc, set, names);
-        }
-    }
-    match sorted_names(alloc, set)? {
-        Some(names) => text_of_names(alloc, set, &names),
-        None => Ok(None),
+        map_by_keys(alloc, set, first.name())
+    } else {
+        map_by_search(alloc, set)
     }
 }
 
@@ -54,13 +47,18 @@ fn key_of(name: &str) -> u32 {
     }
 }
 
-// Puts the name of each member at the place that its key has among all keys. No branch depends on the order.
-#[inline(always)]
-fn place_names<T: EnumSetNames>(names: &mut [&'static str; 32], set: &EnumSet<T>)
-    requires { All (λ name. IsName (names_of T.elements T.names) (ascending set.now) name.now) names.old }
-    ensures named { All (λ name. IsName (names_of T.elements T.names) (ascending set.now) name.now) names.new }
-    ensures len { length names.new ≡ length names.old }
+// The map of at most 32 names. The name of each member goes to the place that its key has among all keys, and no branch
+// depends on the order. A function that holds an array pays for it at its start.
+fn map_by_keys<T: EnumSetNames>(
+    alloc: Global,
+    set: &EnumSet<T>,
+    first: &'static str,
+) -> Result<Option<String>, AllocError>
+    requires { IsName (names_of T.elements T.names) (ascending set.now) first.now × (len set.now ≤ 32) }
+    ensures { IfOk result (λ o. IfSome o (λ text.
+        IsTextOf (map_value (names_of T.elements T.names) set.now) (string_bytes text))) }
 {
+    let mut names = [first; 32];
     // No text has the byte 255. Where all bytes were the same, a call would fill the array.
     let mut keys = [0xff00_0000; 32];
     for (key, element) in keys.iter_mut().zip(set.iter()) {
@@ -70,6 +68,12 @@ fn place_names<T: EnumSetNames>(names: &mut [&'static str; 32], set: &EnumSet<T>
     for (key, element) in keys.iter().zip(set.iter()) {
         let less = lanes.simd_lt(Simd::splat(*key)).to_bitmask();
         names[less.count_ones().min(31) as usize] = element.name();
+    }
+    let names = &names[..set.len()];
+    if names.is_sorted_by(|one, other| comes_before(one, other)) {
+        text_of_names(alloc, set, names)
+    } else {
+        map_by_search(alloc, set)
     }
 }
 
@@ -84,13 +88,13 @@ fn comes_before(one: &str, other: &str) -> bool
     }
 }
 
-// The names of the set's members, in the order of their bytes, unless two are the same.
-fn sorted_names<T: EnumSetNames>(
+// The map of names that are put in one after another.
+fn map_by_search<T: EnumSetNames>(
     alloc: Global,
     set: &EnumSet<T>,
-) -> Result<Option<Vec<&'static str>>, AllocError>
-    ensures { IfOk result (λ o. IfSome o (λ names.
-        AreMembers (names_of T.elements T.names) set.now names.items)) }
+) -> Result<Option<String>, AllocError>
+    ensures { IfOk result (λ o. IfSome o (λ text.
+        IsTextOf (map_value (names_of T.elements T.names) set.now) (string_bytes text))) }
 {
     let mut names = Vec::with_capacity(alloc, set.len())?;
     let mut last = 0;
@@ -102,7 +106,7 @@ fn sorted_names<T: EnumSetNames>(
         names.insert(place, name)?;
         last = place;
     }
-    Ok(Some(names))
+    text_of_names(alloc, set, &names)
 }
 
 // Where a name goes among names in the order of bytes, unless it is there. It is compared with the last one that was put

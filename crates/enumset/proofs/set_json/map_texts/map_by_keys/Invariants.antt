@@ -1,7 +1,7 @@
 use Rattle.std.proofs.Common.{◌≡◌, ℕ, List, length, All}
 use Rattle.std.specs.Iterator.Adapters.{zip_second}
 use Rattle.enumset.proofs.Common.{ascending, IsName, names_of}
-use Rattle.enumset.proofs.set_json.map_texts.place_names.Given as goal
+use Rattle.enumset.proofs.set_json.map_texts.map_by_keys.Given as goal
 
 -- all are names of the set's members, and so are those of the bits that are left
 abbrev pub invariant-loop-key-2 : goal.invariant-loop-key-2

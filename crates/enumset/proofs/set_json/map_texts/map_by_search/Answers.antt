@@ -1,7 +1,7 @@
 use Rattle.std.proofs.Common.{◌≡◌, ◌≤◌, ℕ, List, Bor, ◌∷◌, length, arith, sym, subst, ap, ◌∙◌, inl, inr, All}
-use Rattle.enumset.proofs.Common.{common_steps, All-cons, All-permutation, IsPermutation-insert, IsStrictlySortedBy, ascending, len_ascending, AreRising, IsName, names_of}
+use Rattle.enumset.proofs.Common.{common_steps, All-cons, All-permutation, IsPermutation-insert, IsStrictlySortedBy, ascending, len_ascending, AreMembers, AreRising, IsName, names_of}
 use Rattle.std.specs.List.{insert}
-use Rattle.enumset.proofs.set_json.map_texts.sorted_names.Goals as goal
+use Rattle.enumset.proofs.set_json.map_texts.map_by_search.Goals as goal
 
 pub loop-element-init : goal.loop-element-init
 unfolding IsStrictlySortedBy
@@ -31,7 +31,8 @@ loop-element-preserved g c =
       λ text later. left text (subst (λ bits. IsName all bits text) (sym here) (inr later)),
     )
 
-pub returns : goal.returns
-returns g c =
+pub text_of_names-requires-after_bounds : goal.text_of_names-requires-after_bounds
+text_of_names-requires-after_bounds g c κs within =
     let (rising, many, named, left) = c.loop-element.invariant in
+    subst (AreMembers (names_of g.T.EnumSetType.elements g.T.EnumSetNames.names) c.args.set.now) (sym c.deref-2.ensures.value)
     (rising, named, omega (arith, many, len_ascending c.args.set.now, ap length c.in-None.ensures.steps.0.0))
