@@ -1,5 +1,5 @@
 use Rattle.std.proofs.Common.{◌≡◌, Some, inl, sym, ap, subst, ◌∙◌, arith, option_map}
-use Rattle.enumset.proofs.Common.{ascending, ascending_least, least, IsName, names_of}
+use Rattle.enumset.proofs.Common.{ascending_least, least, IsName, names_of}
 use Rattle.enumset.proofs.set_json.map_texts.plain_map.Goals as goal
 
 pub map_by_keys-requires-after_bounds : goal.map_by_keys-requires-after_bounds
