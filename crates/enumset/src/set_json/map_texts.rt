@@ -61,13 +61,21 @@ fn map_by_keys<T: EnumSetNames>(
     let mut names = [first; 32];
     // No text has the byte 255. Where all bytes were the same, a call would fill the array.
     let mut keys = [0xff00_0000; 32];
-    for (key, element) in keys.iter_mut().zip(set.iter()) {
-        *key = key_of(element.name());
+    let mut next = 0;
+    for element in set.iter() {
+        if next < 32 {
+            keys[next] = key_of(element.name());
+            next += 1;
+        }
     }
     let lanes = Simd::from_array(keys);
-    for (key, element) in keys.iter().zip(set.iter()) {
-        let less = lanes.simd_lt(Simd::splat(*key)).to_bitmask();
-        names[less.count_ones().min(31) as usize] = element.name();
+    let mut next = 0;
+    for element in set.iter() {
+        if next < 32 {
+            let less = lanes.simd_lt(Simd::splat(keys[next])).to_bitmask();
+            names[less.count_ones().min(31) as usize] = element.name();
+            next += 1;
+        }
     }
     let names = &names[..set.len()];
     if names.is_sorted_by(|one, other| comes_before(one, other)) {
