@@ -117,8 +117,8 @@ fn map_by_search<T: EnumSetNames>(
     text_of_names(alloc, set, &names)
 }
 
-// Where a name goes among names in the order of bytes, unless it is there. It is compared with the last one that was put
-// in, then with the one beside it: names that rise or fall take a step or two each. Then the search halves what is left.
+// Where a name goes among names in the order of bytes, unless it is there. It is compared with the last one put in, then
+// with the one beside it: names that rise or fall take a step or two each. Then the search halves what is left.
 #[inline(always)]
 fn place_of(names: &[&str], last: usize, name: &str) -> Option<usize>
     ensures { IfSome result (λ place. AreRising names.now
