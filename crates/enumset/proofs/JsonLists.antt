@@ -1,6 +1,6 @@
 -- What serde_json reads of a list of plain strings, one string at a time, and what it writes for one.
 use Rattle.std.proofs.Common.{◌≡◌, ℕ, List, [], ◌∷◌, ◌++◌, Some, map, refl, sym, ap, ◌∙◌, arith, append_assoc, subst, Bool, false, true, cond}
-use Rattle.enumset.proofs.Common.{⊤, array, string, item, no_items, Items, read, items_of, compact_text, items_text, comma_if, text_token, serde_json_on_literals, BitSet, ascending, map-map, Names, name_of, list_value, IsPlainByte, IsPlain, AreSpaces}
+use Rattle.enumset.proofs.Common.{⊤, array, string, item, no_items, Items, read, items_of, compact_text, items_text, comma_if, text_token, serde_json_on_literals, BitSet, ascending, map-map, Names, name_of, list_value, IsPlainByte, IsPlain, IsTextOf, AreSpaces}
 use Rattle.enumset.proofs.JsonTokens.{tokens, Tokens}
 use Rattle.enumset.proofs.JsonSteps.{plain_byte, quote_comma, quote_end, empty_list, item_step}
 use Rattle.enumset.proofs.JsonSpaces.{same_read, spaces_first, spaces_after_bracket, spaces_after_string, spaces_after_comma, spaces_after_last, spaces_after_none}
@@ -46,55 +46,61 @@ plain_text (x ∷ s) p = plain_text_step x s p.0 (plain_text s p.1)
 pub text_before : (s rest : List ℕ) → IsPlain s → compact_text (string s) ++ rest ≡ 34 ∷ (s ++ 34 ∷ rest)
 text_before s rest p = ap (λ t. t ++ rest) (plain_text s p) ∙ ap (λ t. 34 ∷ t) (append_assoc s (34 ∷ []) rest)
 
--- the list that serde_json writes reads as itself
-list_reads : (ss : List (List ℕ)) → ArePlain ss → read (compact_text (array (items_of (map string ss)))) ≡ Some (array (items_of (map string ss)))
-list_reads [] p = empty_list
-list_reads (s ∷ []) p = ap (λ t. read (91 ∷ t)) (text_before s (93 ∷ []) p.0) ∙ last_string s [] [] p.0 tt tt
-list_reads (s ∷ t ∷ ss) p =
-    let rest = items_text true (items_of (map string ss)) in
-    ap (λ r. read (91 ∷ r)) (text_before s (44 ∷ (compact_text (string t) ++ rest)) p.0 ∙ ap (λ r. 34 ∷ (s ++ 34 ∷ 44 ∷ r)) (text_before t rest p.1.0))
-    ∙ next_string s [] [] (t ++ 34 ∷ rest) (items_of (map string (t ∷ ss))) p.0 tt tt (ap (λ r. read (91 ∷ r)) (sym (text_before t rest p.1.0)) ∙ list_reads (t ∷ ss) p.1)
+-- ---- what the loop of a writer keeps
 
-names_reads : (names : Names) (s : BitSet) → ArePlain (map (name_of names) (ascending s)) → read (compact_text (list_value names s)) ≡ Some (list_value names s)
-names_reads names s plain =
-    let same = map-map string (name_of names) (ascending s) in
-    subst (λ ds. read (compact_text (array (items_of ds))) ≡ Some (array (items_of ds))) same (list_reads (map (name_of names) (ascending s)) plain)
+-- names with what closes each, and commas between them, before the end
+abbrev pub joined : List ℕ → List ℕ → Bool → List (List ℕ) → List ℕ
+joined close end later [] = end
+joined close end later (name ∷ names) = comma_if later ++ (34 ∷ (name ++ (close ++ joined close end true names)))
 
--- ---- what the loop of the writer keeps
+regroup : (text front close name rest : List ℕ) (later : Bool) → (((text ++ cond later (close ++ 44 ∷ 34 ∷ []) (front ++ 34 ∷ [])) ++ name) ++ close) ++ rest ≡ (text ++ cond later close front) ++ (comma_if later ++ (34 ∷ (name ++ (close ++ rest))))
+regroup text front close name rest true = simp append_assoc
+regroup text front close name rest false = simp append_assoc
 
--- what stands before the next comma or the end: what opens the text, or closes a name
-abbrev pub opened : List ℕ → List ℕ → Bool → List ℕ
-opened front close later = cond later close front
+close_up : (text front close end : List ℕ) (later : Bool) → text ++ cond later (close ++ end) (front ++ end) ≡ (text ++ cond later close front) ++ end
+close_up text front close end true = simp append_assoc
+close_up text front close end false = simp append_assoc
 
--- a name after what closes the one before it
-pub in_two : (front close text name : List ℕ) (later : Bool)
-    → ((text ++ (opened front close later ++ (comma_if later ++ 34 ∷ []))) ++ name) ++ close ≡ (text ++ opened front close later) ++ (comma_if later ++ (34 ∷ (name ++ close)))
-in_two front close text name true = simp append_assoc
-in_two front close text name false = simp append_assoc
+-- a text so far, with what opens it or closes the last name, and with the names that are left; all names are plain if those are
+pub record Writes (front close end : List ℕ) (all : List (List ℕ)) (text : List ℕ) (later : Bool) (left : List (List ℕ)) : Type 0 where
+  pub so_far : (text ++ cond later close front) ++ joined close end later left ≡ front ++ joined close end false all
+  pub plain : ArePlain left → ArePlain all
 
-abbrev values : Names → List ℕ → Items
-values names bits = items_of (map (λ b. string (name_of names b)) bits)
+module _ {front close end : List ℕ} {all : List (List ℕ)} where
+  pub begins : (text : List ℕ) → text ≡ [] → Writes front close end all text false all
+  begins text none = record { so_far = ap (λ t. (t ++ front) ++ joined close end false all) none; plain = λ plain. plain }
 
--- the text so far, with the names of the bits that are left; all names are plain if those are
-abbrev pub Writes : Names → List ℕ → List ℕ → Bool → List ℕ → Type 0
-Writes names bits text later left =
-    (text ++ items_text later (values names left) ≡ compact_text (array (values names bits))) × (ArePlain (map (name_of names) left) → ArePlain (map (name_of names) bits))
+  pub next_name : (text name next : List ℕ) (later : Bool) (left rest : List (List ℕ)) → left ≡ name ∷ rest → IsPlain name
+      → next ≡ (text ++ cond later (close ++ 44 ∷ 34 ∷ []) (front ++ 34 ∷ [])) ++ name → Writes front close end all text later left → Writes front close end all next true rest
+  next_name text name next later left rest here plain put before = record {
+    so_far =
+        ap (λ t. (t ++ close) ++ joined close end true rest) put ∙ regroup text front close name _ later
+        ∙ ap (λ l. (text ++ cond later close front) ++ joined close end later l) (sym here) ∙ before.so_far;
+    plain = λ ps. before.plain (subst ArePlain (sym here) (plain, ps));
+  }
 
-pub begins : (names : Names) (bits text : List ℕ) → text ≡ 91 ∷ [] → Writes names bits text false bits
-begins names bits text is = (ap (λ t. t ++ items_text false (values names bits)) is, λ plain. plain)
+  pub ended : (text whole : List ℕ) (later : Bool) (left : List (List ℕ)) → left ≡ [] → whole ≡ text ++ cond later (close ++ end) (front ++ end) → Writes front close end all text later left
+      → (whole ≡ front ++ joined close end false all) × ArePlain all
+  ended text whole later left none put before = (
+    put ∙ close_up text front close end later ∙ ap (λ l. (text ++ cond later close front) ++ joined close end later l) (sym none) ∙ before.so_far,
+    before.plain (subst ArePlain (sym none) tt),
+  )
 
-pub next_name : (names : Names) (bits left rest : List ℕ) (b : ℕ) (name text next : List ℕ) (later : Bool) → left ≡ b ∷ rest → name ≡ name_of names b → IsPlain name
-    → next ≡ text ++ (comma_if later ++ (34 ∷ (name ++ 34 ∷ []))) → Writes names bits text later left → Writes names bits next true rest
-next_name names bits left rest b name text next later here is plain put (so_far, all) =
-    let others = items_text true (values names rest) in (
-      ap (λ t. t ++ others) put ∙ append_assoc text (comma_if later ++ (34 ∷ (name ++ 34 ∷ []))) others
-          ∙ ap (λ t. text ++ t) (append_assoc (comma_if later) (34 ∷ (name ++ 34 ∷ [])) others ∙ ap (λ t. comma_if later ++ (t ++ others)) (sym (plain_text name plain) ∙ ap (λ t. compact_text (string t)) is))
-          ∙ ap (λ l. text ++ items_text later (values names l)) (sym here) ∙ so_far,
-      λ ps. all (subst (λ l. ArePlain (map (name_of names) l)) (sym here) (subst IsPlain is plain, ps)),
-    )
+-- ---- lists of names
 
-pub ended : (names : Names) (s : BitSet) (left text end : List ℕ) (later : Bool) → left ≡ [] → end ≡ text ++ 93 ∷ [] → Writes names (ascending s) text later left
-    → (end ≡ compact_text (list_value names s)) × (read end ≡ Some (list_value names s))
-ended names s left text end later none closed (so_far, all) =
-    let whole : end ≡ compact_text (list_value names s) = closed ∙ ap (λ l. text ++ items_text later (values names l)) (sym none) ∙ so_far in
-    (whole, ap read whole ∙ names_reads names s (all (subst (λ l. ArePlain (map (name_of names) l)) (sym none) tt)))
+abbrev pub strings : List (List ℕ) → List ℕ
+strings names = 91 ∷ joined (34 ∷ []) (93 ∷ []) false names
+
+strings_are : (later : Bool) (names : List (List ℕ)) → ArePlain names → joined (34 ∷ []) (93 ∷ []) later names ≡ items_text later (items_of (map string names))
+strings_are later [] p = refl
+strings_are later (name ∷ names) p = ap (λ t. comma_if later ++ t) (ap (λ t. 34 ∷ (name ++ 34 ∷ t)) (strings_are true names p.1) ∙ sym (text_before name _ p.0))
+
+strings_read : (names : List (List ℕ)) → ArePlain names → read (strings names) ≡ Some (array (items_of (map string names)))
+strings_read [] p = empty_list
+strings_read (name ∷ []) p = last_string name [] [] p.0 tt tt
+strings_read (name ∷ other ∷ names) p = next_string name [] [] _ (items_of (map string (other ∷ names))) p.0 tt tt (strings_read (other ∷ names) p.1)
+
+pub list_written : (names : Names) (s : BitSet) (text : List ℕ) → let texts = map (name_of names) (ascending s) in text ≡ strings texts → ArePlain texts → IsTextOf (list_value names s) text
+list_written names s text is plain =
+    let texts = map (name_of names) (ascending s) in
+    subst (λ ds. IsTextOf (array (items_of ds)) text) (map-map string (name_of names) (ascending s)) (is ∙ ap (λ t. 91 ∷ t) (strings_are false texts plain), ap read is ∙ strings_read texts plain)

@@ -5,6 +5,7 @@
 --     Passed      spaces, a byte, and what follows it
 --     with_named      a set with the bit of a name, if the name has one
 --     boolean_before      a boolean's text, before what follows it
+--     IsTextOf      the text that a value is written as, which reads as the value
 --     IsMember      a plain name up to its closing quote and a boolean, with spaces, and what follows them
 --     by_bytes, AreRising      how the bytes of two names compare;  names, each of whose bytes come before those of later ones
 --     IsName      whether a text is the name of one of some bits
@@ -17,6 +18,9 @@ use Rattle.std.specs.List.Sorted.{IsStrictlySortedBy}
 use Rattle.std.specs.Ordering.{nat_cmp}
 use Rattle.std.specs.declared.cmp.Ordering.{Ordering}
 use Rattle.enumset_repr.specs.BitSet.{BitSet, ascending, insert, len}
+use Rattle.serde_json.specs.Data.{Data}
+use Rattle.serde_json.specs.Read.{read}
+use Rattle.serde_json.specs.Written.{compact_text}
 use Rattle.enumset.specs.Names.{Names, name_of}
 
 abbrev pub IsPlainByte : ℕ → Type 0
@@ -41,6 +45,9 @@ with_named (Some b) s = insert s b
 abbrev pub boolean_before : Bool → List ℕ → List ℕ
 boolean_before true rest = 116 ∷ 114 ∷ 117 ∷ 101 ∷ rest
 boolean_before false rest = 102 ∷ 97 ∷ 108 ∷ 115 ∷ 101 ∷ rest
+
+abbrev pub IsTextOf : Data → List ℕ → Type 0
+IsTextOf value text = (text ≡ compact_text value) × (read text ≡ Some value)
 
 abbrev pub IsMember : List ℕ → List ℕ → Bool → List ℕ → Type 0
 IsMember text name b rest =

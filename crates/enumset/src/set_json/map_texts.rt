@@ -1,16 +1,15 @@
 //! Texts of maps of names that stand for themselves in JSON.
 
-ghost use Rattle.std.specs.Prelude.{◌≡◌, ◌≤◌, Some, IfOk, IfSome, IsTrue, length, string_bytes};
+ghost use Rattle.std.specs.Prelude.{◌≡◌, ◌≤◌, IfOk, IfSome, IsTrue, length, string_bytes};
 ghost use Rattle.std.specs.Cmp.Lexicographic.{slice_cmp};
-ghost use Rattle.std.specs.List.{All, insert};
+ghost use Rattle.std.specs.List.{insert};
 ghost use Rattle.std.specs.Ordering.{is_lt, nat_cmp};
-ghost use Rattle.serde_json.specs.Read.{read};
-ghost use Rattle.serde_json.specs.Written.{compact_text};
-ghost use Rattle.enumset_repr.specs.BitSet.{ascending};
+ghost use Rattle.enumset_repr.specs.BitSet.{ascending, len};
 ghost use Rattle.enumset.specs.JsonNames.{map_value};
-ghost use Rattle.enumset.specs.JsonPlain.{AreRising, IsName, AreMembers};
+ghost use Rattle.enumset.specs.JsonPlain.{AreRising, IsName, AreMembers, IsTextOf};
 ghost use Rattle.enumset.specs.Names.{names_of};
 
+use super::plain_lists::push_either;
 use super::scan::is_plain;
 use crate::names::EnumSetNames;
 use enumset_sets::EnumSet;
@@ -24,50 +23,22 @@ pub(super) fn plain_map<T: EnumSetNames>(
     set: &EnumSet<T>,
 ) -> Result<Option<String>, AllocError>
     ensures { IfOk result (λ o. IfSome o (λ text.
-        (string_bytes text ≡ compact_text (map_value (names_of T.elements T.names) set.now))
-        × (read (string_bytes text) ≡ Some (map_value (names_of T.elements T.names) set.now)))) }
+        IsTextOf (map_value (names_of T.elements T.names) set.now) (string_bytes text))) }
 {
-    let mut keys = [u32::MAX; 32];
-    if let Some(first) = set.first()
-        && set.len() <= 32
-        && put_keys(&mut keys, set)
+    let count = set.len();
+    if let (Some(first), Some(last)) = (set.first(), set.last())
+        && (count == 1 || count <= 32 && key_of(first.name()) != key_of(last.name()))
     {
-        let mut names = [first.name(); 32];
-        place_names(&mut names, set, &keys);
-        let names = &names[..set.len()];
-        if names.is_sorted_by(|one, other| comes_before(one, other)) {
-            return text_of_names(alloc, set, names);
-        }
+        map_by_keys(alloc, set, first.name())
+    } else {
+        map_by_search(alloc, set)
     }
-    match sorted_names(alloc, set)? {
-        Some(names) => text_of_names(alloc, set, &names),
-        None => Ok(None),
-    }
-}
-
-// Puts down the first four bytes of each of at most 32 names. False if those of two neighbours are the same.
-#[inline(always)]
-fn put_keys<T: EnumSetNames>(keys: &mut [u32; 32], set: &EnumSet<T>) -> bool {
-    let mut last = u32::MAX;
-    let mut next = 0;
-    for element in set.iter() {
-        let key = key_of(element.name().as_bytes());
-        if key == last {
-            return false;
-        }
-        if next < 32 {
-            keys[next] = key;
-            next += 1;
-        }
-        last = key;
-    }
-    true
 }
 
 // The first four bytes as a number, with zeros for those that are missing.
 #[inline(always)]
-fn key_of(name: &[u8]) -> u32 {
-    match name {
+fn key_of(name: &str) -> u32 {
+    match name.as_bytes() {
         [a, b, c, d, ..] => u32::from_be_bytes([*a, *b, *c, *d]),
         [a, b, c] => u32::from_be_bytes([*a, *b, *c, 0]),
         [a, b] => u32::from_be_bytes([*a, *b, 0, 0]),
@@ -76,24 +47,41 @@ fn key_of(name: &[u8]) -> u32 {
     }
 }
 
-// Puts the name of each member at the place that its key has among all keys. No branch depends on the order.
-#[inline(always)]
-fn place_names<T: EnumSetNames>(names: &mut [&'static str; 32], set: &EnumSet<T>, keys: &[u32; 32])
-    requires { All (λ name. IsName (names_of T.elements T.names) (ascending set.now) name.now) names.old }
-    ensures named { All (λ name. IsName (names_of T.elements T.names) (ascending set.now) name.now) names.new }
-    ensures len { length names.new ≡ length names.old }
+// The map of at most 32 names. The name of each member goes to the place that its key has among all keys, and no branch
+// depends on the order. A function that holds an array pays for it at its start.
+fn map_by_keys<T: EnumSetNames>(
+    alloc: Global,
+    set: &EnumSet<T>,
+    first: &'static str,
+) -> Result<Option<String>, AllocError>
+    requires { IsName (names_of T.elements T.names) (ascending set.now) first.now × (len set.now ≤ 32) }
+    ensures { IfOk result (λ o. IfSome o (λ text.
+        IsTextOf (map_value (names_of T.elements T.names) set.now) (string_bytes text))) }
 {
-    let lanes = Simd::<u32, 32>::from_array(*keys);
+    let mut names = [first; 32];
+    // No text has the byte 255. Where all bytes were the same, a call would fill the array.
+    let mut keys = [0xff00_0000; 32];
+    let mut next = 0;
+    for element in set.iter() {
+        if next < 32 {
+            keys[next] = key_of(element.name());
+            next += 1;
+        }
+    }
+    let lanes = Simd::from_array(keys);
     let mut next = 0;
     for element in set.iter() {
         if next < 32 {
             let less = lanes.simd_lt(Simd::splat(keys[next])).to_bitmask();
-            let place = less.count_ones() as usize;
-            if place < 32 {
-                names[place] = element.name();
-            }
+            names[less.count_ones().min(31) as usize] = element.name();
             next += 1;
         }
+    }
+    let names = &names[..set.len()];
+    if names.is_sorted_by(|one, other| comes_before(one, other)) {
+        text_of_names(alloc, set, names)
+    } else {
+        map_by_search(alloc, set)
     }
 }
 
@@ -108,48 +96,53 @@ fn comes_before(one: &str, other: &str) -> bool
     }
 }
 
-// The names of the set's members, in the order of their bytes, unless two are the same. Most go next to the one before.
-fn sorted_names<T: EnumSetNames>(
+// The map of names that are put in one after another.
+fn map_by_search<T: EnumSetNames>(
     alloc: Global,
     set: &EnumSet<T>,
-) -> Result<Option<Vec<&'static str>>, AllocError>
-    ensures { IfOk result (λ o. IfSome o (λ names.
-        AreMembers (names_of T.elements T.names) set.now names.items)) }
+) -> Result<Option<String>, AllocError>
+    ensures { IfOk result (λ o. IfSome o (λ text.
+        IsTextOf (map_value (names_of T.elements T.names) set.now) (string_bytes text))) }
 {
     let mut names = Vec::with_capacity(alloc, set.len())?;
-    let mut place = 0;
+    let mut last = 0;
     for element in set.iter() {
         let name = element.name();
-        let Some(found) = place_of(&names, place, name) else {
+        let Some(place) = place_of(&names, last, name) else {
             return Ok(None);
         };
-        names.insert(found, name)?;
-        place = found + 1;
+        names.insert(place, name)?;
+        last = place;
     }
-    Ok(Some(names))
+    text_of_names(alloc, set, &names)
 }
 
-// Where a name goes among names in the order of bytes, unless it is there. It is compared with the name before a place; if
-// it goes to the front of the part that is left, it is not searched for.
+// Where a name goes among names in the order of bytes, unless it is there. It is compared with the last one put in, then
+// with the one beside it: names that rise or fall take a step or two each. Then the search halves what is left.
 #[inline(always)]
-fn place_of(names: &[&str], tried: usize, name: &str) -> Option<usize>
-    requires { tried ≤ length names.now }
+fn place_of(names: &[&str], last: usize, name: &str) -> Option<usize>
     ensures { IfSome result (λ place. AreRising names.now
         → (place ≤ length names.now) × AreRising (insert names.now place name.entry)) }
 {
     let mut low = 0;
     let mut high = names.len();
-    if tried > 0 {
-        match names[tried - 1].cmp(name) {
-            Ordering::Less => low = tried,
+    let mut middle = last.min(high.saturating_sub(1));
+    let mut reach = 0;
+    while low < high {
+        match names[middle].cmp(name) {
+            Ordering::Less => {
+                low = middle + 1;
+                middle = low + reach.min((high - low) / 2);
+            }
             Ordering::Equal => return None,
-            Ordering::Greater => high = tried - 1,
+            Ordering::Greater => {
+                high = middle;
+                middle = high.saturating_sub(1 + reach.min((high - low) / 2));
+            }
         }
+        reach = names.len();
     }
-    if low == high || name < names[low] {
-        return Some(low);
-    }
-    Some(low + names[low..high].binary_search(&name).err()?)
+    Some(low)
 }
 
 // The map of the members' names, unless one of them needs an escape.
@@ -160,23 +153,22 @@ fn text_of_names<T: EnumSetNames>(
 ) -> Result<Option<String>, AllocError>
     requires { AreMembers (names_of T.elements T.names) set.now names.now }
     ensures { IfOk result (λ o. IfSome o (λ text.
-        (string_bytes text ≡ compact_text (map_value (names_of T.elements T.names) set.now))
-        × (read (string_bytes text) ≡ Some (map_value (names_of T.elements T.names) set.now)))) }
+        IsTextOf (map_value (names_of T.elements T.names) set.now) (string_bytes text))) }
 {
     // One request for memory is enough: each name has quotes, a colon, `true` and a comma.
-    let bytes = names
-        .iter()
-        .fold(2usize, |bytes, name| bytes.saturating_add(name.len()));
-    let mut text = String::with_capacity(alloc, set.len().saturating_mul(8).saturating_add(bytes))?;
+    let bytes = names.iter().fold(2usize, |bytes, name| {
+        bytes.saturating_add(name.len()).saturating_add(8)
+    });
+    let mut text = String::with_capacity(alloc, bytes)?;
     let mut later = false;
     for name in names.iter() {
         if !is_plain(name) {
             return Ok(None);
         }
-        text.push_str(if later { "\":true,\"" } else { "{\"" })?;
+        push_either(&mut text, later, "\":true,\"", "{\"")?;
         text.push_str(name)?;
         later = true;
     }
-    text.push_str(if later { "\":true}" } else { "{}" })?;
+    push_either(&mut text, later, "\":true}", "{}")?;
     Ok(Some(text))
 }

@@ -1,9 +1,8 @@
 //! Texts of lists of names that stand for themselves, written and read without a tree of values.
 
-ghost use Rattle.std.specs.Prelude.{◌≡◌, IfOk, IfSome, Some, string_bytes};
-ghost use Rattle.serde_json.specs.Read.{read};
-ghost use Rattle.serde_json.specs.Written.{compact_text};
+ghost use Rattle.std.specs.Prelude.{◌≡◌, ◌++◌, if◌then◌else◌, IfOk, IfSome, OnOk, string_bytes};
 ghost use Rattle.enumset.specs.JsonNames.{list_value, set_of_list};
+ghost use Rattle.enumset.specs.JsonPlain.{IsTextOf};
 ghost use Rattle.enumset.specs.JsonReads.{IsReadOf};
 ghost use Rattle.enumset.specs.Names.{names_of};
 
@@ -21,8 +20,7 @@ pub(super) fn plain_list<T: EnumSetNames>(
     set: &EnumSet<T>,
 ) -> Result<Option<String>, AllocError>
     ensures { IfOk result (λ o. IfSome o (λ text.
-        (string_bytes text ≡ compact_text (list_value (names_of T.elements T.names) set.now))
-        × (read (string_bytes text) ≡ Some (list_value (names_of T.elements T.names) set.now)))) }
+        IsTextOf (list_value (names_of T.elements T.names) set.now) (string_bytes text))) }
 {
     // Most names have at most thirteen bytes.
     let mut text = String::with_capacity(alloc, set.len().saturating_mul(16))?;
@@ -32,12 +30,30 @@ pub(super) fn plain_list<T: EnumSetNames>(
         if !is_plain(name) {
             return Ok(None);
         }
-        text.push_str(if later { "\",\"" } else { "[\"" })?;
+        push_either(&mut text, later, "\",\"", "[\"")?;
         text.push_str(name)?;
         later = true;
     }
-    text.push_str(if later { "\"]" } else { "[]" })?;
+    push_either(&mut text, later, "\"]", "[]")?;
     Ok(Some(text))
+}
+
+// Puts one text or the other behind a text. Each has a known length at each call, so no call copies it.
+#[inline(always)]
+pub(super) fn push_either(
+    text: &mut String,
+    is_one: bool,
+    one: &str,
+    other: &str,
+) -> Result<(), AllocError>
+    ensures { OnOk result (string_bytes text.new
+        ≡ string_bytes text.old ++ (if is_one then one.now else other.now)) }
+{
+    if is_one {
+        text.push_str(one)
+    } else {
+        text.push_str(other)
+    }
 }
 
 // What is read of a list of plain strings, with spaces anywhere between its tokens. No other text is read.

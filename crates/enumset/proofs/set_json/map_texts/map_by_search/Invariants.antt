@@ -1,11 +1,11 @@
-use Rattle.std.proofs.Common.{◌≡◌, ◌≤◌, ◌+◌, ℕ, List, length, All}
+use Rattle.std.proofs.Common.{◌≡◌, ◌+◌, ℕ, List, length, All}
 use Rattle.enumset.proofs.Common.{ascending, AreRising, IsName, names_of}
-use Rattle.enumset.proofs.set_json.map_texts.sorted_names.Given as goal
+use Rattle.enumset.proofs.set_json.map_texts.map_by_search.Given as goal
 
 -- the names so far rise, and they and those of the bits that are left are those of the set's members
 abbrev pub invariant-loop-element : goal.invariant-loop-element
 invariant-loop-element g l =
-    (l.place ≤ length l.names.items) × AreRising l.names.items × (length l.names.items + length l.element-iterator.items ≡ length (ascending l.set))
+    AreRising l.names.items × (length l.names.items + length l.element-iterator.items ≡ length (ascending l.set))
     × All (λ name. IsName (names_of g.T.EnumSetType.elements g.T.EnumSetNames.names) (ascending l.set) name.now) l.names.items
     × ((text : List ℕ) → IsName (names_of g.T.EnumSetType.elements g.T.EnumSetNames.names) l.element-iterator.items text
     → IsName (names_of g.T.EnumSetType.elements g.T.EnumSetNames.names) (ascending l.set) text)

@@ -1,0 +1,24 @@
+use Rattle.std.proofs.Common.{ℕ, List, [], Bor, refl, sym, ap, subst, ◌∙◌, arith, rules, length-take, is_lt}
+use Rattle.std.proofs.lemmas.Map.Keys.{sorted_from_all_adjacent}
+use Rattle.enumset.proofs.Common.{All-replicate, All-take, answers_always, ascending, by_bytes, IsName, names_of}
+use Rattle.enumset.proofs.MapOrder.{less, by_bytes_total}
+use Rattle.enumset.proofs.set_json.map_texts.map_by_keys.Goals as goal
+
+pub loop-element-2-init : goal.loop-element-2-init
+loop-element-2-init g c =
+    let names = names_of g.T.EnumSetType.elements g.T.EnumSetNames.names in (
+      All-replicate (λ name. IsName names (ascending c.args.set.now) name.now) 32 c.args.first c.requires.0,
+      refl,
+      λ text. subst (λ bits. IsName names bits text) (ap (λ i. i.items) c.into_iter-element-iterator-2.ensures.into_iter_gives ∙ c.iter-element-items-2.ensures.ascending),
+    )
+
+pub text_of_names-requires-after_bounds : goal.text_of_names-requires-after_bounds
+text_of_names-requires-after_bounds g c κs within =
+    let d : Bor (List ℕ) = record { ref_ptr = (0, 0); now = [] } in
+    let named : Bor (List ℕ) → Type 0 = λ n. IsName (names_of g.T.EnumSetType.elements g.T.EnumSetNames.names) (ascending c.args.set.now) n.now in
+    let names = c.loop-element-2.names in
+    let many = length-take c.len.result names in (
+      sorted_from_all_adjacent by_bytes_total _ d (λ k within. less _ (sym (c.if-is_sorted_by.ensures.cases (λ x y. is_lt (by_bytes x y)) (answers_always _ _ _ (λ f a r g h. search rules)) k d within))),
+      All-take named c.len.result names c.loop-element-2.invariant.0,
+      omega (arith, many, c.len.ensures.members, c.loop-element-2.invariant.1),
+    )
