@@ -1,6 +1,6 @@
 //! The macros in functions with contracts, so that the check refuses a macro with another meaning: over sets of any
-//! enum, with none to three operands; over mixed sets, for which a macro writes the same calls; and `variant_of!`, with
-//! as many variants as it takes without bits, and with more bits than a proof takes in at once.
+//! enum, with one and with three operands; over mixed sets, with two; and `variant_of!`, with as many variants as it
+//! takes without bits, and with more bits than a proof takes in at once.
 
 ghost use Rattle.std.specs.Prelude.{◌≡◌, ◌∷◌, [], IsTrue};
 ghost use Rattle.std.specs.List.{range_with_len};
@@ -37,12 +37,6 @@ fn union_of_one<T: EnumSetType>(a: EnumSet<T>) -> EnumSet<T>
     enum_set_union!(a)
 }
 
-fn union_of_two<T: EnumSetType>(a: EnumSet<T>, b: EnumSet<T>) -> EnumSet<T>
-    ensures { result ≡ set.union a b }
-{
-    enum_set_union!(a, b)
-}
-
 fn union_of_three<T: EnumSetType>(a: EnumSet<T>, b: EnumSet<T>, c: EnumSet<T>) -> EnumSet<T>
     ensures { result ≡ set.union (set.union a b) c }
 {
@@ -53,12 +47,6 @@ fn intersection_of_one<T: EnumSetType>(a: EnumSet<T>) -> EnumSet<T>
     ensures { result ≡ a }
 {
     enum_set_intersection!(a)
-}
-
-fn intersection_of_two<T: EnumSetType>(a: EnumSet<T>, b: EnumSet<T>) -> EnumSet<T>
-    ensures { result ≡ set.intersection a b }
-{
-    enum_set_intersection!(a, b)
 }
 
 fn intersection_of_three<T: EnumSetType>(a: EnumSet<T>, b: EnumSet<T>, c: EnumSet<T>) -> EnumSet<T>
@@ -73,12 +61,6 @@ fn difference_of_one<T: EnumSetType>(a: EnumSet<T>) -> EnumSet<T>
     enum_set_difference!(a)
 }
 
-fn difference_of_two<T: EnumSetType>(a: EnumSet<T>, b: EnumSet<T>) -> EnumSet<T>
-    ensures { result ≡ set.intersection a (set.difference (valid_bits T.elements) b) }
-{
-    enum_set_difference!(a, b)
-}
-
 fn difference_of_three<T: EnumSetType>(a: EnumSet<T>, b: EnumSet<T>, c: EnumSet<T>) -> EnumSet<T>
     ensures { result
         ≡ set.intersection (set.intersection a (set.difference (valid_bits T.elements) b))
@@ -91,12 +73,6 @@ fn symmetric_difference_of_one<T: EnumSetType>(a: EnumSet<T>) -> EnumSet<T>
     ensures { result ≡ a }
 {
     enum_set_symmetric_difference!(a)
-}
-
-fn symmetric_difference_of_two<T: EnumSetType>(a: EnumSet<T>, b: EnumSet<T>) -> EnumSet<T>
-    ensures { result ≡ set.symmetric_difference a b }
-{
-    enum_set_symmetric_difference!(a, b)
 }
 
 fn symmetric_difference_of_three<T: EnumSetType>(
