@@ -2,6 +2,7 @@
 
 use crate::fault::Place;
 use crate::plan::{EnumDeclaration, Plan};
+use crate::tokens::Token;
 use std::alloc::{AllocError, Global};
 use std::mem;
 
@@ -50,14 +51,13 @@ pub enum Form<'a> {
 /// An import.
 #[derive(Drop)]
 pub struct Import<'a> {
-    pub place: Place,
     pub text: String,
     /// What stands after `use`.
     pub path: String,
     /// The names that it brings, or `*` or `_`.
     pub names: Vec<Name<'a>>,
-    /// Whether it is of a crate that is there. Another import is written if something uses it.
-    pub is_known: bool,
+    /// Where it is, if it is of a crate that may not be there. Such an import is written if something uses it.
+    pub unknown: Option<Place>,
 }
 
 /// An enum that is to be an element type, with its plan.
@@ -73,14 +73,8 @@ pub struct Element<'a> {
     pub guard: &'static str,
 }
 
-/// A name that a source gives to something.
-#[derive(Clone, Copy)]
-pub struct Name<'a> {
-    pub text: &'a str,
-    pub place: Place,
-    /// The crate of which it is imported, if it is.
-    pub root: &'a str,
-}
+/// A name that a source gives to something: the crate of which it is imported, if it is, and the name.
+pub type Name<'a> = (&'a str, Token<'a>);
 
 /// The space since the last item.
 #[derive(Clone, Copy, Default)]

@@ -192,12 +192,10 @@ fn block_comment(text: &str) -> (Kind, &str) {
 /// What a token is that begins as a word, and the text after it: a word, or a text in quotes.
 fn word(text: &str) -> (Kind, &str) {
     let rest = text.trim_start_matches(is_word);
-    let next = rest.chars().next();
-    let after_next = after(rest, 0);
-    match (before(text, rest), next) {
+    match (before(text, rest), rest.chars().next()) {
         ("r" | "br" | "cr", Some('#' | '"')) => after_raw_prefix(rest),
-        ("b" | "c", Some('"')) => after_quote(after_next),
-        ("b" | "c", Some('\'')) => after_tick(after_next),
+        ("b" | "c", Some('"')) => after_quote(after(rest, 0)),
+        ("b" | "c", Some('\'')) => after_tick(after(rest, 0)),
         (word, _) if !word.is_ascii() => (Kind::Fault("names are ASCII here"), rest),
         _ => (Kind::Letters, rest),
     }

@@ -44,7 +44,6 @@ impl<'a, 'b> Reader<'a, 'b> {
             let note = String::from_str(alloc, DROPPED)?;
             self.source.notes.push((named.place, note))?;
         }
-        let has_discriminants = past.is_none();
         let json_names = self.json_names(&declaration)?;
         for (part, _, is_kept) in &self.serde {
             if !*is_kept && !declaration.options.are_named() {
@@ -55,17 +54,16 @@ impl<'a, 'b> Reader<'a, 'b> {
         self.source.facade = declaration.options.crate_name.unwrap_or(self.source.facade);
         let is_test = parts.iter().any(|part| part.name.is("cfg"));
         let element = Element {
+            has_discriminants: past.is_none(),
             declaration,
             plan,
             json_names,
-            has_discriminants,
             guard: if is_test { FOR_TESTS } else { "" },
         };
         Ok(self.source.push(Form::Element(element))?)
     }
 
-    /// Takes comments and attributes of the enum, or of a variant if the enum's name is known. Gives those that are kept,
-    /// a line each.
+    /// Takes comments and attributes of the enum, or of a variant if its name is known. Gives those kept, a line each.
     fn take(&mut self, of: &mut EnumDeclaration<'a>, parts: &[Part<'a, 'b>]) -> Outcome<String> {
         let mut kept = String::new(self.alloc);
         let (variant, start, bearer) = match of.name {
@@ -103,16 +101,13 @@ impl<'a, 'b> Reader<'a, 'b> {
     /// Reads an enum, whose comments and attributes are these, from its visibility up to the `}` at its end.
     fn read_enum(&mut self, of: &mut EnumDeclaration<'a>, parts: &[Part<'a, 'b>]) -> Done {
         let first = parts.iter().position(|part| part.name.is("derive"));
-        let (before, after) = parts
-            .split_at_checked(first.unwrap_or(0))
-            .unwrap_or((parts, &[]));
+        let (before, after) = parts.split_at(first.unwrap_or(0));
         of.attributes = self.take(of, before)?;
         of.later_attributes = self.take(of, after)?;
         of.visibility = self.cursor.read_visibility()?;
         let name = self.cursor.read_enum_name()?;
         of.name = name.text;
-        let (text, place, root) = (name.text, name.place, "");
-        self.source.names.push(Name { text, place, root })?;
+        self.source.names.push(("", *name))?;
         for _ in self.cursor.rest {
             self.test_options(&of.options)?;
             let parts = self.cursor.read_parts(self.alloc)?;
@@ -126,7 +121,7 @@ impl<'a, 'b> Reader<'a, 'b> {
         }
         if of.variants.is_empty() {
             let note = String::from_str(self.alloc, NO_VARIANTS)?;
-            self.source.notes.push((place, note))?;
+            self.source.notes.push((name.place, note))?;
         }
         Ok(())
     }
@@ -172,8 +167,7 @@ impl<'a, 'b> Cursor<'a, 'b> {
     /// Reads the keyword and the name of an enum, and the `{` after them.
     fn read_enum_name(&mut self) -> Outcome<&'b Token<'a>> {
         let keyword = self.token;
-        let is_end = matches!(keyword.kind, Kind::End);
-        keyword.want(!is_end, "wanted: an item")?;
+        keyword.want(!matches!(keyword.kind, Kind::End), "wanted: an item")?;
         keyword.want(keyword.is("enum"), "`EnumSetType` is for enums alone")?;
         self.advance_to_word()?;
         let name = self.token;
@@ -215,10 +209,9 @@ impl<'a, 'b> Cursor<'a, 'b> {
         let end = self.token;
         end.want(!end.is_mark("({"), "a variant must have no fields")?;
         end.want(end.is_mark(",}"), "wanted: `,` or `}`")?;
-        if end.is_mark("}") {
-            return Ok(());
+        if end.is_mark(",") {
+            self.advance()?;
         }
-        self.advance()?;
         for _ in self.rest {
             let is_comment = matches!(self.token.kind, Kind::Comment);
             if !is_comment || self.token.space.contains('\n') {

@@ -34,11 +34,10 @@ impl<'a, 'b> Reader<'a, 'b> {
             let is_ours = root.text.starts_with("enumset");
             let is_there = is_among("std core alloc crate self super", root.text);
             self.source.push(Form::Import(Import {
-                place,
                 text: format!(in alloc; "{before}{line}")?,
                 path,
                 names,
-                is_known: !is_own || is_ours || is_there,
+                unknown: (is_own && !is_ours && !is_there).then_some(place),
             }))?;
         }
         Ok(())
@@ -61,11 +60,10 @@ impl<'a, 'b> Reader<'a, 'b> {
                     let name = spelled(alloc, name)?;
                     self.source.add_space("\n");
                     self.source.push(Form::Import(Import {
-                        place,
                         text: format!(in alloc; "use enumset{name};")?,
                         path: format!(in alloc; "enumset{name}")?,
                         names: Vec::new(alloc),
-                        is_known: true,
+                        unknown: None,
                     }))?;
                 }
                 tree => self.source.imports.push(spelled(alloc, tree)?)?,
@@ -78,16 +76,16 @@ impl<'a, 'b> Reader<'a, 'b> {
     pub(super) fn settle_imports(&mut self) -> Done {
         for item in mem::replace(&mut self.source.items, Vec::new(self.alloc)) {
             if let Form::Import(import) = &item.form {
-                let (place, is_known) = (import.place, import.is_known);
                 let mut names = import.names.iter();
-                if !is_known && !names.any(|name| self.used.contains(name.text)) {
+                let is_used = names.any(|(_, name)| self.used.contains(name.text));
+                if let (Some(place), false) = (import.unknown, is_used) {
                     let note = format!(in self.alloc; "left out: {} {UNUSED}", import.text)?;
                     self.source.notes.push((place, note))?;
                     continue;
                 }
-                for name in &import.names {
-                    let place = if is_known { name.place } else { place };
-                    self.source.names.push(Name { place, ..*name })?;
+                for (root, name) in &import.names {
+                    let place = import.unknown.unwrap_or(name.place);
+                    self.source.names.push((root, Token { place, ..*name }))?;
                 }
             }
             self.source.items.push(item)?;
@@ -151,8 +149,7 @@ fn names_in<'a>(alloc: Global, tree: &[Token<'a>], is_own: bool) -> Outcome<Vec<
             is_right,
             "`pub use` takes no `*` here: name what is exported",
         )?;
-        let (text, place) = (name.text, name.place);
-        names.push(Name { text, place, root })?;
+        names.push((root, *name))?;
     }
     Ok(names)
 }

@@ -28,8 +28,7 @@ impl<'a, 'b> Reader<'a, 'b> {
         }
         let next = self.cursor.words.first().unwrap_or(keyword);
         if is_among(NAMED, keyword.text) && next.is_name() {
-            let (text, place, root) = (next.text, next.place, "");
-            self.source.names.push(Name { text, place, root })?;
+            self.source.names.push(("", *next))?;
         }
         self.cursor.skip_to(";}", 0)?;
         if keyword.is("extern") && next.is("crate") {
