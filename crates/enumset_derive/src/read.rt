@@ -34,7 +34,7 @@ pub fn read_source<'a>(alloc: Global, text: &'a str, tokens: &[Token<'a>]) -> Ou
         notes: Vec::new(alloc),
         gap: Gap::default(),
     };
-    let Some(token) = tokens.first() else {
+    let [token, ..] = tokens else {
         return Ok(source);
     };
     let words = tokens.iter().copied().filter(|token| !token.is_comment());

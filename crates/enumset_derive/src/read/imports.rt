@@ -85,7 +85,7 @@ impl<'a, 'b> Reader<'a, 'b> {
                 }
                 for (root, name) in &import.names {
                     let place = import.unknown.unwrap_or(name.place);
-                    self.source.names.push((root, Token { place, ..*name }))?;
+                    self.source.names.push((*root, Token { place, ..*name }))?;
                 }
             }
             self.source.items.push(item)?;
@@ -135,21 +135,19 @@ fn names_in<'a>(alloc: Global, tree: &[Token<'a>], is_own: bool) -> Outcome<Vec<
     let mut names = Vec::new(alloc);
     let mut parent = None;
     for path in tree.split(|token| token.is_mark(",{}")) {
-        let name = match path {
-            [] => continue,
-            [.., name, mark] if mark.is_mark(":") => {
-                parent = Some(name);
-                continue;
-            }
-            [own] if own.is("self") => parent.unwrap_or(own),
-            [.., name] => name,
-        };
+        match path {
+            [.., name, mark] if mark.is_mark(":") => parent = Some(name),
+            [own] if own.is("self") => names.push((root, *parent.unwrap_or(own)))?,
+            [.., name] => names.push((root, *name))?,
+            [] => {}
+        }
+    }
+    for (_, name) in &names {
         let is_right = is_own || !name.is_mark("*");
         name.want(
             is_right,
             "`pub use` takes no `*` here: name what is exported",
         )?;
-        names.push((root, *name))?;
     }
     Ok(names)
 }
