@@ -22,6 +22,18 @@ type Done = Outcome<()>;
 
 /// What a source text has of which these are the tokens, or the first fault, of reading or of planning.
 pub fn read_source<'a>(alloc: Global, text: &'a str, tokens: &[Token<'a>]) -> Outcome<Source<'a>> {
+    let words = tokens.iter().copied().filter(|token| !token.is_comment());
+    let words: Vec<Token<'a>> = words.collect(alloc)?;
+    read_words(alloc, text, tokens, &words)
+}
+
+/// The same, of which the tokens that are no comments are these words.
+fn read_words<'a, 'b>(
+    alloc: Global,
+    text: &'a str,
+    tokens: &'b [Token<'a>],
+    words: &'b [Token<'a>],
+) -> Outcome<Source<'a>> {
     let source = Source {
         alloc,
         items: Vec::new(alloc),
@@ -37,18 +49,18 @@ pub fn read_source<'a>(alloc: Global, text: &'a str, tokens: &[Token<'a>]) -> Ou
     let [token, ..] = tokens else {
         return Ok(source);
     };
-    let words = tokens.iter().copied().filter(|token| !token.is_comment());
-    let words: Vec<Token<'a>> = words.collect(alloc)?;
+    // It begins before the first token.
+    let cursor = Cursor {
+        text,
+        token,
+        rest: tokens,
+        words,
+    };
     let mut reader = Reader {
         alloc,
-        cursor: Cursor {
-            text,
-            token,
-            rest: tokens,
-            words: &words,
-        },
+        cursor,
         source,
-        derive: renamed_derive(&words),
+        derive: renamed_derive(words),
         is_in_head: true,
         used: BTreeSet::new(alloc),
         given: Vec::new(alloc),
