@@ -42,10 +42,10 @@ fn needed_by(element: &Element) -> [(bool, &'static str); 8] {
 /// Whether a source does not import a path of `enumset` itself. It is a fault if it gives the name to something else.
 fn is_free(source: &Source, path: &str) -> Outcome<bool> {
     let name = path.strip_prefix("internal::").unwrap_or(path);
-    let Some(other) = source.names.iter().find(|other| other.text == name) else {
+    let Some((root, other)) = source.names.iter().find(|(_, other)| other.is(name)) else {
         return Ok(true);
     };
-    match other.root {
+    match *root {
         "crate" | "self" | "super" => Ok(false),
         root if root == source.facade || root.starts_with("enumset") => Ok(false),
         _ => Err(Reason::Text(TAKEN).at(other.place).into()),
