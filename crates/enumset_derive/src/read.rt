@@ -176,6 +176,20 @@ impl<'a, 'b> Cursor<'a, 'b> {
         Ok(())
     }
 
+    /// Reads the path of an import from the keyword before it on, up to the `;` after it.
+    pub fn read_path(&mut self) -> Outcome<&'b [Token<'a>]> {
+        let keyword = *self;
+        self.skip_to(";", 0)?;
+        let [path @ .., _] = self.words_since(&keyword) else {
+            return Ok(&[]);
+        };
+        for word in path {
+            let is_part = word.is_name() || word.is_mark(":{},*");
+            word.want(is_part, "wanted: a path, or `;`")?;
+        }
+        Ok(path)
+    }
+
     /// Whether a mark comes next after the token.
     pub fn is_before(&self, mark: &str) -> bool {
         matches!(self.rest, [next, ..] if next.is_mark(mark))

@@ -4,6 +4,8 @@ use super::*;
 
 const UNUSED: &str = "is of a crate that may not be there, and nothing here names it";
 
+const EXPORTS_ALL: &str = "`pub use` takes no `*` here: name what is exported";
+
 impl<'a, 'b> Reader<'a, 'b> {
     /// Reads an import from its keyword on. Its attributes are given, a line each; its visibility begins at `item`.
     pub(super) fn read_use(&mut self, place: Place, before: &str, item: Cursor<'a, 'b>) -> Done {
@@ -94,22 +96,6 @@ impl<'a, 'b> Reader<'a, 'b> {
     }
 }
 
-impl<'a, 'b> Cursor<'a, 'b> {
-    /// Reads the path of an import from the keyword before it on, up to the `;` after it.
-    fn read_path(&mut self) -> Outcome<&'b [Token<'a>]> {
-        let keyword = *self;
-        self.skip_to(";", 0)?;
-        let [path @ .., _] = self.words_since(&keyword) else {
-            return Ok(&[]);
-        };
-        for word in path {
-            let is_part = word.is_name() || word.is_mark(":{},*");
-            word.want(is_part, "wanted: a path, or `;`")?;
-        }
-        Ok(path)
-    }
-}
-
 /// The paths in the brackets that a path begins with, or the path alone, each without `::` at its beginning.
 fn trees_of<'a, 'b>(alloc: Global, path: &'b [Token<'a>]) -> Outcome<Vec<&'b [Token<'a>]>> {
     match after_root(path) {
@@ -142,14 +128,10 @@ fn names_in<'a>(alloc: Global, tree: &[Token<'a>], is_own: bool) -> Outcome<Vec<
             [] => {}
         }
     }
-    for (_, name) in &names {
-        let is_right = is_own || !name.is_mark("*");
-        name.want(
-            is_right,
-            "`pub use` takes no `*` here: name what is exported",
-        )?;
+    match names.iter().find(|(_, name)| name.is_mark("*")) {
+        Some((_, all)) if !is_own => Err(all.fault(EXPORTS_ALL)),
+        _ => Ok(names),
     }
-    Ok(names)
 }
 
 /// A path as it is laid out on a line. Rust's `core` and `alloc` are `std` here.

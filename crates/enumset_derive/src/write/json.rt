@@ -29,6 +29,10 @@ const MAP: &str = "object with the name of each of the set's members and `true`"
 
 const NO_MEMORY: &str = ". The only fault is\n    /// [`set_json::JsonFault::OutOfMemory`].";
 
+const TOO_WIDE: &str = "
+    ///
+    /// The only fault is [`set_json::JsonFault::TooWide`], of a member that is past its bits. It takes no memory.";
+
 /// The width of the number that a set is in JSON, if it is one. A value in JSON holds no number of 128 bits, so it is of
 /// 64, or words.
 fn width_of(serialized: Serialized, plan: &Plan) -> Option<u32> {
@@ -71,26 +75,18 @@ pub(super) fn write_json(out: &mut String, of: &Subject, serialized: Serialized)
         Serialized::Map => ["map", OF_NAMES, MAP],
     };
     let [value, read_by] = model_of(of, name, width)?;
-    let (argument, fits, fault, faults) = match width {
-        None => (
-            String::new(alloc),
-            String::new(alloc),
-            "OutOfMemory",
-            String::from_str(alloc, NO_MEMORY)?,
-        ),
-        Some(width) => (
-            format!(in alloc; ", set_json::JsonWidth::U{width}")?,
-            format!(in alloc;
-                "\n        ensures fits {{ IsOk result ↔ IsTrue (is_subset set.now (below {width})) }}"
-            )?,
-            "TooWide",
-            format!(in alloc;
-                ", which JSON takes as a `u{width}`.
-    ///
-    /// The only fault is [`set_json::JsonFault::TooWide`], of a member that is past its bits. It takes no memory."
-            )?,
-        ),
-    };
+    let (mut argument, mut fits) = (String::new(alloc), String::new(alloc));
+    let mut fault = "OutOfMemory";
+    let mut faults = String::from_str(alloc, NO_MEMORY)?;
+    if let Some(width) = width {
+        write!(argument, ", set_json::JsonWidth::U{width}")?;
+        write!(
+            fits,
+            "\n        ensures fits {{ IsOk result ↔ IsTrue (is_subset set.now (below {width})) }}"
+        )?;
+        fault = "TooWide";
+        faults = format!(in alloc; ", which JSON takes as a `u{width}`.{TOO_WIDE}")?;
+    }
     let (unknown, unknown_doc) = match (options.denies_unknown, options.are_named()) {
         (true, true) => ("Refuse", "A name that no variant has is a fault."),
         (true, false) => ("Refuse", "A bit that no variant has is a fault."),
