@@ -9,12 +9,10 @@ use thiserror::Error;
 /// Why the program wrote no module, or not all of it. Its text is what standard error says.
 #[derive(Debug, Drop, Error)]
 pub enum DeriveError {
-    /// The source has a fault.
     #[error("{0}")]
     Fault(#[from] Fault),
     #[error("out of memory")]
     OutOfMemory(#[from(alloc)] AllocError),
-    /// The arguments are wrong.
     #[error("{0}")]
     Arguments(&'static str),
     /// Standard input or standard output failed.

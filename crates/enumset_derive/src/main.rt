@@ -89,18 +89,16 @@ fn request_of(alloc: Global, arguments: &[String]) -> Outcome<Request<'_>> {
 
 /// Whether a text is a name: a small letter or `_`, and then small letters, digits and `_`; at most 256 of them.
 fn is_name(name: &str) -> bool {
-    let mut letters = name.chars();
-    let is_short = matches!(name.len(), 1..=256);
-    let is_plain = letters.all(|letter| matches!(letter, 'a'..='z' | '0'..='9' | '_'));
-    is_short && is_plain && !name.starts_with(|letter: char| letter.is_ascii_digit())
+    let is_digit = |letter: char| letter.is_ascii_digit();
+    let is_plain = |letter| matches!(letter, 'a'..='z' | '0'..='9' | '_');
+    matches!(name.len(), 1..=256) && name.chars().all(is_plain) && !name.starts_with(is_digit)
 }
 
 /// The module that the input stands for. Standard error says what is left out, and that a text has no element type.
 fn derive<R: Input + Eprint + AllocGlobal>(rt: &R, request: &Request) -> Outcome<String> {
     let alloc = rt.alloc();
     let mut input = Vec::new(alloc);
-    let mut reader = rt.reader();
-    let read = reader.read_to_end(&mut input);
+    let read = rt.reader().read_to_end(&mut input);
     read.map_err(|error| fault_of(error, DeriveError::Stream("reading failed")))?;
     let text = text_of(&input)?.replace(alloc, "\r\n", "\n")?;
     let tokens = tokens_of(alloc, text.as_str())?;

@@ -100,10 +100,7 @@ fn store_of(
 {
     match kind_of(asked, width) {
         Representation::Integer(integer) => Ok(Store::Integer(integer, number_of(named))),
-        Representation::Words => {
-            let words = words_of(alloc, named, width.div_ceil(64))?;
-            Ok(Store::Words(words))
-        }
+        Representation::Words => Ok(Store::Words(words_of(alloc, named, width.div_ceil(64))?)),
     }
 }
 

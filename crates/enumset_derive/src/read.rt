@@ -9,11 +9,10 @@ mod parts;
 
 use crate::fault::{Outcome, Place, Reason};
 use crate::plan::*;
-use crate::source::{Element, Form, Import, Name, Source};
+use crate::source::{Element, Form, Gap, Import, Name, Source};
 use crate::tokens::{Kind, Token, UNCLOSED_BRACKET, is_among, names_last};
-use enums::Draft;
 use imports::after_root;
-use parts::{Bearer, Part, place_of_derive, renamed_derive};
+use parts::{Bearer, Part, derive_among, renamed_derive};
 use std::alloc::{AllocError, Global};
 use std::collections::BTreeSet;
 use std::mem;
@@ -23,28 +22,53 @@ type Done = Outcome<()>;
 
 /// What a source text has of which these are the tokens, or the first fault, of reading or of planning.
 pub fn read_source<'a>(alloc: Global, text: &'a str, tokens: &[Token<'a>]) -> Outcome<Source<'a>> {
-    let [token, rest @ ..] = tokens else {
-        return Ok(Source::new(alloc));
-    };
-    let words = rest.iter().copied().filter(|token| !token.is_comment());
+    let words = tokens.iter().copied().filter(|token| !token.is_comment());
     let words: Vec<Token<'a>> = words.collect(alloc)?;
+    read_words(alloc, text, tokens, &words)
+}
+
+/// The same, of which the tokens that are no comments are these words.
+fn read_words<'a, 'b>(
+    alloc: Global,
+    text: &'a str,
+    tokens: &'b [Token<'a>],
+    words: &'b [Token<'a>],
+) -> Outcome<Source<'a>> {
+    let source = Source {
+        alloc,
+        items: Vec::new(alloc),
+        head: 0,
+        imports: Vec::new(alloc),
+        has_imports: false,
+        names: Vec::new(alloc),
+        facade: "enumset",
+        has_enums: false,
+        notes: Vec::new(alloc),
+        gap: Gap::default(),
+    };
+    let [token, ..] = tokens else {
+        return Ok(source);
+    };
+    // It begins before the first token.
     let cursor = Cursor {
         text,
         token,
-        rest,
-        words: &words,
+        rest: tokens,
+        words,
     };
     let mut reader = Reader {
         alloc,
         cursor,
-        source: Source::new(alloc),
-        derive: renamed_derive(&words),
+        source,
+        derive: renamed_derive(words),
         is_in_head: true,
         used: BTreeSet::new(alloc),
+        given: Vec::new(alloc),
+        serde: Vec::new(alloc),
     };
-    for _ in rest {
-        reader.read_token()?;
+    for _ in tokens {
         reader.cursor.advance()?;
+        reader.read_token()?;
     }
     reader.settle_imports()?;
     let notes = &mut reader.source.notes;
@@ -64,6 +88,10 @@ struct Reader<'a, 'b> {
     is_in_head: bool,
     /// The words of the kept derives and of items but imports and element types, and with such an item `*` and `_`.
     used: BTreeSet<&'a str>,
+    /// The names of the options that the enum is given, in their order.
+    given: Vec<&'b Token<'a>>,
+    /// Its attributes that `serde` is in: of each how many variants come before it, if it is a variant's; if it stays.
+    serde: Vec<(Part<'a, 'b>, Option<usize>, bool)>,
 }
 
 impl<'a, 'b> Reader<'a, 'b> {
@@ -72,32 +100,29 @@ impl<'a, 'b> Reader<'a, 'b> {
         let begin = self.cursor.token;
         let is_attribute = begin.is_mark("#") && self.cursor.is_before("!");
         self.source.add_space(begin.space);
-        match begin.kind {
-            Kind::Begin | Kind::End => {}
-            Kind::Comment | Kind::InnerDoc => self.source.push_text(begin.text)?,
+        let is_kept = match begin.kind {
+            Kind::End => return Ok(()),
+            Kind::Comment | Kind::InnerDoc => true,
             _ if is_attribute => {
                 self.cursor.advance()?;
-                let part = self.cursor.read_part()?;
-                let text = self.cursor.text_since(begin.begin);
-                match part.has_meaning(Bearer::Text)? {
-                    true => self.source.push_text(text)?,
-                    false => self.leave_out(begin.place, text)?,
-                }
+                self.cursor.read_part()?.has_meaning(Bearer::Text)?
             }
             _ => {
                 self.is_in_head = false;
-                self.read_item()?;
+                return self.read_item();
             }
+        };
+        let text = self.cursor.text_since(begin.begin);
+        if is_kept {
+            let text = String::from_str(self.alloc, text)?;
+            self.source.push(Form::Text(text))?;
+        } else {
+            self.source.leave_out(begin.place, text)?;
         }
-        if self.is_in_head && (is_attribute || matches!(begin.kind, Kind::InnerDoc)) {
+        if self.is_in_head && !matches!(begin.kind, Kind::Comment) {
             self.source.head = self.source.items.len();
         }
         Ok(())
-    }
-
-    /// Leaves out what means nothing here.
-    fn leave_out(&mut self, place: Place, text: &str) -> Done {
-        Ok(self.source.leave_out(place, text, "has no meaning here")?)
     }
 }
 
@@ -131,12 +156,11 @@ impl<'a, 'b> Cursor<'a, 'b> {
 
     /// Goes on to the next word.
     pub fn advance_to_word(&mut self) -> Done {
-        self.advance()?;
         for _ in self.rest {
+            self.advance()?;
             if !self.token.is_comment() {
                 break;
             }
-            self.advance()?;
         }
         Ok(())
     }
@@ -150,6 +174,20 @@ impl<'a, 'b> Cursor<'a, 'b> {
             self.advance()?;
         }
         Ok(())
+    }
+
+    /// Reads the path of an import from the keyword before it on, up to the `;` after it.
+    pub fn read_path(&mut self) -> Outcome<&'b [Token<'a>]> {
+        let keyword = *self;
+        self.skip_to(";", 0)?;
+        let [path @ .., _] = self.words_since(&keyword) else {
+            return Ok(&[]);
+        };
+        for word in path {
+            let is_part = word.is_name() || word.is_mark(":{},*");
+            word.want(is_part, "wanted: a path, or `;`")?;
+        }
+        Ok(path)
     }
 
     /// Whether a mark comes next after the token.

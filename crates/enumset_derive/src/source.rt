@@ -2,6 +2,7 @@
 
 use crate::fault::Place;
 use crate::plan::{EnumDeclaration, Plan};
+use crate::tokens::Token;
 use std::alloc::{AllocError, Global};
 use std::mem;
 
@@ -23,7 +24,7 @@ pub struct Source<'a> {
     pub has_enums: bool,
     /// What is said of it on standard error, and of which place.
     pub notes: Vec<(Place, String)>,
-    gap: Gap,
+    pub gap: Gap,
 }
 
 /// An item of a source text, or a comment between items.
@@ -50,14 +51,13 @@ pub enum Form<'a> {
 /// An import.
 #[derive(Drop)]
 pub struct Import<'a> {
-    pub place: Place,
     pub text: String,
     /// What stands after `use`.
     pub path: String,
     /// The names that it brings, or `*` or `_`.
     pub names: Vec<Name<'a>>,
-    /// Whether it is of a crate that is there. Another import is written if something uses it.
-    pub is_known: bool,
+    /// Where it is, if it is of a crate that may not be there. Such an import is written if something uses it.
+    pub unknown: Option<Place>,
 }
 
 /// An enum that is to be an element type, with its plan.
@@ -73,18 +73,12 @@ pub struct Element<'a> {
     pub guard: &'static str,
 }
 
-/// A name that a source gives to something.
-#[derive(Clone, Copy)]
-pub struct Name<'a> {
-    pub text: &'a str,
-    pub place: Place,
-    /// The crate of which it is imported, if it is.
-    pub root: &'a str,
-}
+/// A name that a source gives to something: the crate of which it is imported, if it is, and the name.
+pub type Name<'a> = (&'a str, Token<'a>);
 
 /// The space since the last item.
 #[derive(Clone, Copy, Default)]
-struct Gap {
+pub struct Gap {
     lines: usize,
     has_space: bool,
     /// Whether something was left out after it.
@@ -110,35 +104,17 @@ impl<'a> Item<'a> {
 }
 
 impl<'a> Source<'a> {
-    /// What is known of a source before it is read.
-    pub fn new(alloc: Global) -> Source<'a> {
-        Source {
-            alloc,
-            items: Vec::new(alloc),
-            head: 0,
-            imports: Vec::new(alloc),
-            has_imports: false,
-            names: Vec::new(alloc),
-            facade: "enumset",
-            has_enums: false,
-            notes: Vec::new(alloc),
-            gap: Gap::default(),
-        }
-    }
-
     /// Adds an item, after the space since the last. Before an element type, a new line begins, and after the imports or
     /// another element type an empty line comes first.
     pub fn push(&mut self, form: Form<'a>) -> Result<(), AllocError> {
         let gap = mem::take(&mut self.gap);
-        let is_after_head = self.items.len() == self.head;
-        let lines = match (&form, self.items.last()) {
-            (Form::Element(_), Some(last)) if !is_after_head => match last.form {
-                Form::Imports | Form::Element(_) => 2,
-                _ => gap.lines.max(1),
-            },
-            _ => gap.lines,
+        let least = match (&form, self.items.last().map(|last| &last.form)) {
+            _ if self.items.len() == self.head => 0,
+            (Form::Element(_), Some(Form::Imports | Form::Element(_))) => 2,
+            (Form::Element(_), _) => 1,
+            _ => 0,
         };
-        let gap = match lines {
+        let gap = match gap.lines.max(least) {
             0 if gap.has_space => " ",
             0 => "",
             1 => "\n",
@@ -162,12 +138,6 @@ impl<'a> Source<'a> {
         Ok(())
     }
 
-    /// Adds a text that goes through unchanged.
-    pub fn push_text(&mut self, text: &str) -> Result<(), AllocError> {
-        let text = String::from_str(self.alloc, text)?;
-        self.push(Form::Text(text))
-    }
-
     /// Adds space. Where something was left out in it, it is not more than before or after that.
     pub fn add_space(&mut self, space: &str) {
         let lines = space.matches('\n').count();
@@ -178,16 +148,10 @@ impl<'a> Source<'a> {
         self.gap.has_space |= !space.is_empty();
     }
 
-    /// Says that a text at a place is left out, and why.
-    pub fn leave_out(&mut self, place: Place, text: &str, why: &str) -> Result<(), AllocError> {
+    /// Leaves out a text at a place, which means nothing here.
+    pub fn leave_out(&mut self, place: Place, text: &str) -> Result<(), AllocError> {
         self.gap.is_after_left_out = true;
-        let note = format!(in self.alloc; "left out: {text} {why}")?;
+        let note = format!(in self.alloc; "left out: {text} has no meaning here")?;
         Ok(self.notes.push((place, note))?)
-    }
-
-    /// Adds the name of an item.
-    pub fn name(&mut self, text: &'a str, place: Place) -> Result<(), AllocError> {
-        let root = "";
-        Ok(self.names.push(Name { text, place, root })?)
     }
 }

@@ -6,8 +6,6 @@ use std::alloc::Global;
 /// What a token is.
 #[derive(Clone, Copy)]
 pub enum Kind {
-    /// The beginning of the text.
-    Begin,
     /// A comment that documents nothing.
     Comment,
     /// A comment that documents what follows it, as `/// ..`.
@@ -80,8 +78,7 @@ impl<'a> Token<'a> {
 
     /// Whether the token is a name or a keyword: letters without a digit first.
     pub fn is_name(&self) -> bool {
-        let is_digit = |letter: char| letter.is_ascii_digit();
-        matches!(self.kind, Kind::Letters) && !self.text.starts_with(is_digit)
+        matches!(self.kind, Kind::Letters) && !self.text.starts_with(|c: char| c.is_ascii_digit())
     }
 }
 
@@ -102,68 +99,58 @@ const RAW_NAME: &str = "no raw names here: choose one that is no keyword";
 
 const LONE_RETURN: &str = "a carriage return stands only before a line feed";
 
-/// The tokens of a text: its beginning, those that it has, and its end.
+/// The tokens of a text, and its end. It is a fault if a token ends the text or another bracket in a bracket.
 pub fn tokens_of(alloc: Global, text: &str) -> Outcome<Vec<Token<'_>>> {
     let mut tokens = Vec::new(alloc);
+    // Of the brackets that have begun, the character that is to end each, and where it is.
     let mut open = Vec::new(alloc);
-    let mut place = Place::BEGIN;
-    let mut end = 0;
-    tokens.push(token_of(&mut open, Kind::Begin, "", "", 0, place)?)?;
-    for (begin, character) in text.char_indices() {
-        if begin >= end && !matches!(character, ' ' | '\t' | '\n') {
-            let space = text.get(end..begin).unwrap_or("");
-            let onward = text.get(begin..).unwrap_or("");
-            let (kind, rest) = first_token(character, onward);
-            end = text.len().saturating_sub(rest.len());
-            tokens.push(token_of(&mut open, kind, space, before(onward, rest), begin, place)?)?;
+    let mut end = Place::BEGIN;
+    let mut rest = text;
+    for _ in 0..=text.len() {
+        let onward = rest.trim_start_matches(|c| matches!(c, ' ' | '\t' | '\n'));
+        let (kind, after) = first_token(onward);
+        let (space, written) = (before(rest, onward), before(onward, after));
+        let place = space.chars().fold(end, Place::after);
+        let mut unclosed = None;
+        match kind {
+            Kind::Mark('(') => open.push((')', place))?,
+            Kind::Mark('[') => open.push((']', place))?,
+            Kind::Mark('{') => open.push(('}', place))?,
+            Kind::Mark(mark @ (')' | ']' | '}')) => {
+                unclosed = open.pop().filter(|(end, _)| *end != mark);
+            }
+            Kind::End => unclosed = open.first().copied(),
+            _ => {}
         }
-        place = place.after(character);
+        end = written.chars().fold(place, Place::after);
+        let fault = Kind::Fault(UNCLOSED_BRACKET);
+        let (kind, place) = unclosed.map_or((kind, place), |(_, place)| (fault, place));
+        tokens.push(Token {
+            kind,
+            space,
+            text: written,
+            begin: before(text, onward).len(),
+            place,
+            depth: open.len(),
+        })?;
+        if onward.is_empty() {
+            break;
+        }
+        rest = after;
     }
-    tokens.push(token_of(&mut open, Kind::End, "", "", text.len(), place)?)?;
     Ok(tokens)
 }
 
-/// A token, which may begin or end a bracket. It is a fault if it ends the text or another bracket in a bracket. Of the
-/// brackets that have begun, the character that is to end each is known, and where it is.
-fn token_of<'a>(
-    open: &mut Vec<(char, Place)>,
-    kind: Kind,
-    space: &'a str,
-    text: &'a str,
-    begin: usize,
-    place: Place,
-) -> Outcome<Token<'a>> {
-    match kind {
-        Kind::Mark('(') => open.push((')', place))?,
-        Kind::Mark('[') => open.push((']', place))?,
-        Kind::Mark('{') => open.push(('}', place))?,
-        _ => {}
-    }
-    let unclosed = match kind {
-        Kind::Mark(mark @ (')' | ']' | '}')) => open.pop().filter(|(end, _)| *end != mark),
-        Kind::End => open.first().copied(),
-        _ => None,
-    };
-    let fault = Kind::Fault(UNCLOSED_BRACKET);
-    let (kind, place) = unclosed.map_or((kind, place), |(_, place)| (fault, place));
-    Ok(Token {
-        kind,
-        space,
-        text,
-        begin,
-        place,
-        depth: open.len(),
-    })
-}
-
 /// What the first token of a text is, and the text after it.
-fn first_token(first: char, text: &str) -> (Kind, &str) {
-    let rest = text.strip_prefix(first).unwrap_or("");
+fn first_token(text: &str) -> (Kind, &str) {
+    let mut characters = text.chars();
+    let Some(first) = characters.next() else {
+        return (Kind::End, "");
+    };
+    let rest = characters.as_str();
+    let is_in_line = |character| character != '\n';
     match first {
-        '/' if rest.starts_with('/') => (
-            comment_kind(text),
-            rest.trim_start_matches(|c| c != '\n'),
-        ),
+        '/' if rest.starts_with('/') => (comment_kind(text), rest.trim_start_matches(is_in_line)),
         '/' if rest.starts_with('*') => block_comment(text),
         '\r' => (Kind::Fault(LONE_RETURN), ""),
         '"' => after_quote(rest),
@@ -205,12 +192,10 @@ fn block_comment(text: &str) -> (Kind, &str) {
 /// What a token is that begins as a word, and the text after it: a word, or a text in quotes.
 fn word(text: &str) -> (Kind, &str) {
     let rest = text.trim_start_matches(is_word);
-    let next = rest.chars().next();
-    let after_next = after(rest, 0);
-    match (before(text, rest), next) {
+    match (before(text, rest), rest.chars().next()) {
         ("r" | "br" | "cr", Some('#' | '"')) => after_raw_prefix(rest),
-        ("b" | "c", Some('"')) => after_quote(after_next),
-        ("b" | "c", Some('\'')) => after_tick(after_next),
+        ("b" | "c", Some('"')) => after_quote(after(rest, 0)),
+        ("b" | "c", Some('\'')) => after_tick(after(rest, 0)),
         (word, _) if !word.is_ascii() => (Kind::Fault("names are ASCII here"), rest),
         _ => (Kind::Letters, rest),
     }
@@ -259,7 +244,8 @@ fn after_raw_prefix(text: &str) -> (Kind, &str) {
 
 /// What stands in a text before the rest of it.
 fn before<'a>(text: &'a str, rest: &str) -> &'a str {
-    text.strip_suffix(rest).unwrap_or("")
+    text.get(..text.len().saturating_sub(rest.len()))
+        .unwrap_or("")
 }
 
 /// The text after the ASCII character at an index.

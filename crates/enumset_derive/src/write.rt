@@ -17,27 +17,24 @@ use element_type::{is_in_table, is_narrow};
 use layout::*;
 use std::alloc::{AllocError, Global};
 use std::collections::BTreeSet;
+use std::fmt::Display;
 
-/// Nothing, unless memory ran out.
-type Written = Result<(), AllocError>;
+/// What is written, unless memory ran out.
+type Written<T = ()> = Result<T, AllocError>;
 
-/// A text, unless memory ran out.
-type Text = Result<String, AllocError>;
+type Text = Written<String>;
 
 /// An element type that is written: what it is, and where.
 #[derive(Clone, Copy)]
-struct Subject<'a> {
+struct Subject<'a, 'b> {
     alloc: Global,
-    crate_name: &'a str,
-    /// The modules down to its own, with dots between them.
-    module: &'a str,
+    request: &'b Request<'b>,
     facade: &'a str,
     name: &'a str,
     element: &'a Element<'a>,
 }
 
 /// The text of the module that a source stands for, or the fault of a name that the module needs itself.
-///
 /// The imports stand where the first of the source stand, or after its head.
 pub fn module_text(alloc: Global, request: &Request, source: &Source) -> Outcome<String> {
     let imports = imports::imports_of(source)?;
@@ -58,8 +55,7 @@ pub fn module_text(alloc: Global, request: &Request, source: &Source) -> Outcome
                 enums::write_enum(&mut text, alloc, element)?;
                 let subject = Subject {
                     alloc,
-                    crate_name: request.crate_name,
-                    module: request.module.as_str(),
+                    request: &*request,
                     facade: source.facade,
                     name: element.declaration.name,
                     element,

@@ -70,10 +70,8 @@ impl Number {
         ensures { result ≡ next_number self }
     {
         match self {
-            Number::Small(number) => match number.checked_add(1) {
-                Some(next) => Some(Number::Small(next)),
-                None => Some(Number::PowerOfTwo(128)),
-            },
+            Number::Small(u128::MAX) => Some(Number::PowerOfTwo(128)),
+            Number::Small(number) => Some(Number::Small(number + 1)),
             Number::PowerOfTwo(_) => None,
             Number::Negative(number) if number <= 1 => Some(Number::Small(0)),
             Number::Negative(number) => Some(Number::Negative(number - 1)),

@@ -134,14 +134,10 @@ fn bit_of(map: Map, width: u32, place: u32, number: Number) -> Result<u32, Reaso
         (Map::Mask, Number::Small(_) | Number::Negative(_)) => Err(Reason::NotAMask),
         (Map::Mask, Number::PowerOfTwo(bit)) if bit < BIT_LIMIT => Ok(bit),
         (Map::Lsb, Number::Small(bit)) if bit < u128::from(BIT_LIMIT) => Ok(bit as u32),
-        (Map::Msb, Number::Small(bit)) if bit < u128::from(BIT_LIMIT) => {
-            let bit = bit as u32;
-            if bit < width {
-                Ok(width - 1 - bit)
-            } else {
-                Err(Reason::PastRepresentation { bit, width })
-            }
-        }
+        (Map::Msb, Number::Small(bit)) if bit < u128::from(BIT_LIMIT) => match bit as u32 {
+            bit if bit < width => Ok(width - 1 - bit),
+            bit => Err(Reason::PastRepresentation { bit, width }),
+        },
         _ => Err(Reason::PastGreatest),
     }
 }

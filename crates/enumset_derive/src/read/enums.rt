@@ -13,32 +13,121 @@ const DROPPED: &str =
 
 const SERDE_ALONE: &str = "here nothing comes of the names: write `#[serde(..)]` alone";
 
-/// How a literal begins that is not decimal, and its base.
-const PREFIXES: [(&str, u32); 3] = [("0x", 16), ("0o", 8), ("0b", 2)];
-
 /// The attribute of what is there for tests alone. In one piece it would have the toolchain look for tests here.
 const FOR_TESTS: &str = concat!("#", "[cfg(test)]\n");
 
-/// What is known of an enum that is to be an element type.
-#[derive(Drop)]
-pub(super) struct Draft<'a, 'b> {
-    pub declaration: EnumDeclaration<'a>,
-    /// The names of the options that are given, in their order.
-    pub given: Vec<&'b Token<'a>>,
-    /// The attributes that `serde` is in: of each how many variants come before it, if it is a variant's; if it stays.
-    pub serde: Vec<(Part<'a, 'b>, Option<usize>, bool)>,
-}
+impl<'a, 'b> Reader<'a, 'b> {
+    /// Reads an enum, whose comments and attributes are these, and plans it.
+    pub(super) fn read_element(&mut self, parts: &[Part<'a, 'b>]) -> Done {
+        let alloc = self.alloc;
+        let mut declaration = EnumDeclaration {
+            attributes: String::new(alloc),
+            later_attributes: String::new(alloc),
+            derives: Vec::new(alloc),
+            visibility: ("", ""),
+            name: "",
+            variants: Vec::new(alloc),
+            last_comments: String::new(alloc),
+            options: Options::default(),
+        };
+        self.given.clear();
+        self.serde.clear();
+        self.read_enum(&mut declaration, parts)?;
+        let plan = plan_enum(alloc, &declaration)?;
+        // The first discriminant that no enum of Rattle has.
+        let past = plan.variants.iter().find(|named| match named.number {
+            Number::Small(number) => number >= 1 << 63,
+            Number::Negative(number) => number > 1 << 63,
+            Number::PowerOfTwo(_) => true,
+        });
+        if let Some(named) = past {
+            let note = String::from_str(alloc, DROPPED)?;
+            self.source.notes.push((named.place, note))?;
+        }
+        let json_names = self.json_names(&declaration)?;
+        for (part, _, is_kept) in &self.serde {
+            if !*is_kept && !declaration.options.are_named() {
+                self.source.leave_out(part.begin.place, part.text)?;
+            }
+        }
+        self.source.has_enums = true;
+        self.source.facade = declaration.options.crate_name.unwrap_or(self.source.facade);
+        let is_test = parts.iter().any(|part| part.name.is("cfg"));
+        let element = Element {
+            has_discriminants: past.is_none(),
+            declaration,
+            plan,
+            json_names,
+            guard: if is_test { FOR_TESTS } else { "" },
+        };
+        Ok(self.source.push(Form::Element(element))?)
+    }
 
-impl<'a, 'b> Draft<'a, 'b> {
-    /// Whether something of this name is derived.
-    fn derives(&self, name: &str) -> bool {
-        let mut derives = self.declaration.derives.iter();
-        derives.any(|path| names_last(path.as_str(), name))
+    /// Takes comments and attributes of the enum, or of a variant if its name is known. Gives those kept, a line each.
+    fn take(&mut self, of: &mut EnumDeclaration<'a>, parts: &[Part<'a, 'b>]) -> Outcome<String> {
+        let mut kept = String::new(self.alloc);
+        let (variant, start, bearer) = match of.name {
+            "" => (None, "", Bearer::Enum),
+            _ => (Some(of.variants.len()), "    ", Bearer::Variant),
+        };
+        for part in parts {
+            let is_kept = match part.name.text {
+                "derive" if variant.is_none() => {
+                    let (mut derives, _) = self.kept_of(part)?;
+                    of.derives.append(&mut derives)?;
+                    continue;
+                }
+                "enumset" if variant.is_none() => {
+                    self.read_options(&mut of.options, part)?;
+                    continue;
+                }
+                "serde" => derives(of, "Serialize") || derives(of, "Deserialize"),
+                "default" if variant.is_some() => derives(of, "Default"),
+                "error" => derives(of, "Error"),
+                _ => part.has_meaning(bearer)?,
+            };
+            if is_kept {
+                write!(kept, "{start}{}\n", part.text)?;
+            }
+            if part.name.is("serde") || (part.name.is("cfg_attr") && part.calls("serde")) {
+                self.serde.push((*part, variant, is_kept))?;
+            } else if !is_kept {
+                self.source.leave_out(part.begin.place, part.text)?;
+            }
+        }
+        Ok(kept)
+    }
+
+    /// Reads an enum, whose comments and attributes are these, from its visibility up to the `}` at its end.
+    fn read_enum(&mut self, of: &mut EnumDeclaration<'a>, parts: &[Part<'a, 'b>]) -> Done {
+        let first = parts.iter().position(|part| part.name.is("derive"));
+        let (before, after) = parts.split_at(first.unwrap_or(0));
+        of.attributes = self.take(of, before)?;
+        of.later_attributes = self.take(of, after)?;
+        of.visibility = self.cursor.read_visibility()?;
+        let name = self.cursor.read_enum_name()?;
+        of.name = name.text;
+        self.source.names.push(("", *name))?;
+        for _ in self.cursor.rest {
+            self.test_options(&of.options)?;
+            let parts = self.cursor.read_parts(self.alloc)?;
+            let kept = self.take(of, parts.as_slice())?;
+            let has_attribute = parts.iter().any(|part| !part.begin.is_comment());
+            if self.cursor.token.is_mark("}") && !has_attribute {
+                of.last_comments = kept;
+                break;
+            }
+            of.variants.push(self.read_variant(kept)?)?;
+        }
+        if of.variants.is_empty() {
+            let note = String::from_str(self.alloc, NO_VARIANTS)?;
+            self.source.notes.push((name.place, note))?;
+        }
+        Ok(())
     }
 
     /// A fault if an option or an attribute of the enum means nothing without another.
-    pub fn test_options(&self) -> Done {
-        let options = &self.declaration.options;
+    fn test_options(&self, options: &Options) -> Done {
         for given in &self.given {
             let is_right = options.serialized.is_some() || !given.is("serialize_deny_unknown");
             given.want(is_right, "`serialize_deny_unknown` needs `serialize_repr`")?;
@@ -46,121 +135,6 @@ impl<'a, 'b> Draft<'a, 'b> {
         for (part, _, _) in &self.serde {
             let is_right = !options.are_named() || !part.name.is("cfg_attr");
             part.name.want(is_right, SERDE_ALONE)?;
-        }
-        Ok(())
-    }
-}
-
-impl<'a, 'b> Reader<'a, 'b> {
-    /// Reads an enum, whose comments and attributes are these, and plans it.
-    pub(super) fn read_element(&mut self, parts: &[Part<'a, 'b>]) -> Done {
-        let alloc = self.alloc;
-        let mut draft = Draft {
-            declaration: EnumDeclaration {
-                attributes: String::new(alloc),
-                later_attributes: String::new(alloc),
-                derives: Vec::new(alloc),
-                visibility: ("", ""),
-                name: "",
-                variants: Vec::new(alloc),
-                last_comments: String::new(alloc),
-                options: Options::default(),
-            },
-            given: Vec::new(alloc),
-            serde: Vec::new(alloc),
-        };
-        self.read_enum(&mut draft, parts)?;
-        let plan = plan_enum(alloc, &draft.declaration)?;
-        let mut named = plan.variants.iter();
-        let past = named.find(|named| is_past_enum(named.number));
-        if let Some(named) = past {
-            let note = String::from_str(alloc, DROPPED)?;
-            self.source.notes.push((named.place, note))?;
-        }
-        let json_names = draft.json_names(alloc)?;
-        for (part, _, is_kept) in &draft.serde {
-            if !*is_kept && !draft.declaration.options.are_named() {
-                self.leave_out(part.begin.place, part.text)?;
-            }
-        }
-        let has_discriminants = past.is_none();
-        let declaration = draft.declaration;
-        self.source.has_enums = true;
-        self.source.facade = declaration.options.crate_name.unwrap_or(self.source.facade);
-        let is_test = parts.iter().any(|part| part.name.is("cfg"));
-        let element = Element {
-            declaration,
-            plan,
-            json_names,
-            has_discriminants,
-            guard: if is_test { FOR_TESTS } else { "" },
-        };
-        Ok(self.source.push(Form::Element(element))?)
-    }
-
-    /// Takes the comments and the attributes of the enum, or of a variant if the enum's name is known. Gives those that
-    /// are kept, a line each, but for those before a derive.
-    fn take(&mut self, draft: &mut Draft<'a, 'b>, parts: &[Part<'a, 'b>]) -> Outcome<String> {
-        let mut kept = String::new(self.alloc);
-        let mut has_derive = false;
-        let is_enum = draft.declaration.name.is_empty();
-        let variant = (!is_enum).then_some(draft.declaration.variants.len());
-        let (start, bearer) = match variant {
-            Some(_) => ("    ", Bearer::Variant),
-            None => ("", Bearer::Enum),
-        };
-        for part in parts {
-            let is_kept = match part.name.text {
-                "derive" if is_enum => {
-                    if !mem::replace(&mut has_derive, true) {
-                        draft.declaration.attributes = mem::try_take(&mut kept)?;
-                    }
-                    let (mut derives, _) = self.kept_of(part)?;
-                    draft.declaration.derives.append(&mut derives)?;
-                    continue;
-                }
-                "enumset" if is_enum => {
-                    draft.read_options(self.alloc, part)?;
-                    continue;
-                }
-                "serde" => draft.derives("Serialize") || draft.derives("Deserialize"),
-                "default" if !is_enum => draft.derives("Default"),
-                "error" => draft.derives("Error"),
-                _ => part.has_meaning(bearer)?,
-            };
-            if is_kept {
-                write!(kept, "{start}{}\n", part.text)?;
-            }
-            if part.name.is("serde") || (part.name.is("cfg_attr") && part.calls("serde")) {
-                draft.serde.push((*part, variant, is_kept))?;
-            } else if !is_kept {
-                self.leave_out(part.begin.place, part.text)?;
-            }
-        }
-        Ok(kept)
-    }
-
-    /// Reads an enum, whose comments and attributes are these, from its visibility up to the `}` at its end.
-    fn read_enum(&mut self, draft: &mut Draft<'a, 'b>, parts: &[Part<'a, 'b>]) -> Done {
-        draft.declaration.later_attributes = self.take(draft, parts)?;
-        draft.declaration.visibility = self.cursor.read_visibility()?;
-        let name = self.cursor.read_enum_name()?;
-        draft.declaration.name = name.text;
-        self.source.name(name.text, name.place)?;
-        for _ in self.cursor.rest {
-            draft.test_options()?;
-            let parts = self.cursor.read_parts(self.alloc)?;
-            let kept = self.take(draft, parts.as_slice())?;
-            let has_attribute = parts.iter().any(|part| !part.begin.is_comment());
-            if self.cursor.token.is_mark("}") && !has_attribute {
-                draft.declaration.last_comments = kept;
-                break;
-            }
-            draft.declaration.variants.push(self.read_variant(kept)?)?;
-        }
-        if draft.declaration.variants.is_empty() {
-            let note = String::from_str(self.alloc, NO_VARIANTS)?;
-            self.source.notes.push((name.place, note))?;
         }
         Ok(())
     }
@@ -172,7 +146,7 @@ impl<'a, 'b> Reader<'a, 'b> {
         name.want(name.is_name(), "wanted: a name of a variant, or `}`")?;
         self.cursor.advance_to_word()?;
         let discriminant = self.cursor.read_discriminant()?;
-        self.cursor.end_variant(discriminant)?;
+        self.cursor.end_variant()?;
         let mut comments = String::new(self.alloc);
         let end = self.cursor.token.begin;
         let passed = begin.rest.iter().take_while(|token| token.begin < end);
@@ -193,8 +167,7 @@ impl<'a, 'b> Cursor<'a, 'b> {
     /// Reads the keyword and the name of an enum, and the `{` after them.
     fn read_enum_name(&mut self) -> Outcome<&'b Token<'a>> {
         let keyword = self.token;
-        let is_end = matches!(keyword.kind, Kind::End);
-        keyword.want(!is_end, "wanted: an item")?;
+        keyword.want(!matches!(keyword.kind, Kind::End), "wanted: an item")?;
         keyword.want(keyword.is("enum"), "`EnumSetType` is for enums alone")?;
         self.advance_to_word()?;
         let name = self.token;
@@ -208,40 +181,37 @@ impl<'a, 'b> Cursor<'a, 'b> {
         Ok(name)
     }
 
-    /// Reads `=` and a discriminant, if they are there, up to what stands after them.
+    /// Reads `=` and a discriminant, if they are there, up to the `,` or `}` after them.
     fn read_discriminant(&mut self) -> Outcome<Option<Discriminant<'a>>> {
         if !self.token.is_mark("=") {
             return Ok(None);
         }
         self.advance_to_word()?;
         let begin = self.token;
-        let is_negative = begin.is_mark("-");
-        if is_negative {
+        let sign = if begin.is_mark("-") { "-" } else { "" };
+        if begin.is_mark("-") {
             self.advance_to_word()?;
         }
-        let read = number_of(self.token.text, is_negative);
+        let read = number_of(self.token.text, begin.is_mark("-"));
         let (literal, number) = read.map_err(|text| begin.fault(text))?;
         self.advance_to_word()?;
+        begin.want(self.token.is_mark(",}"), NOT_A_LITERAL)?;
         Ok(Some(Discriminant {
             place: begin.place,
-            sign: if is_negative { "-" } else { "" },
+            sign,
             literal,
             number,
         }))
     }
 
-    /// Reads what ends a variant, and the comments on its line after a `,`. A literal with more after it is none.
-    fn end_variant(&mut self, discriminant: Option<Discriminant>) -> Done {
+    /// Reads what ends a variant, and the comments on its line after a `,`.
+    fn end_variant(&mut self) -> Done {
         let end = self.token;
-        if let (false, Some(given)) = (end.is_mark(",}"), discriminant) {
-            return Err(Reason::Text(NOT_A_LITERAL).at(given.place).into());
-        }
         end.want(!end.is_mark("({"), "a variant must have no fields")?;
         end.want(end.is_mark(",}"), "wanted: `,` or `}`")?;
-        if end.is_mark("}") {
-            return Ok(());
+        if end.is_mark(",") {
+            self.advance()?;
         }
-        self.advance()?;
         for _ in self.rest {
             let is_comment = matches!(self.token.kind, Kind::Comment);
             if !is_comment || self.token.space.contains('\n') {
@@ -253,13 +223,10 @@ impl<'a, 'b> Cursor<'a, 'b> {
     }
 }
 
-/// Whether a discriminant is past those that an enum of Rattle has.
-fn is_past_enum(number: Number) -> bool {
-    match number {
-        Number::Small(number) => number >= 1 << 63,
-        Number::Negative(number) => number > 1 << 63,
-        Number::PowerOfTwo(_) => true,
-    }
+/// Whether an enum derives something of this name.
+fn derives(of: &EnumDeclaration, name: &str) -> bool {
+    let mut derives = of.derives.iter();
+    derives.any(|path| names_last(path.as_str(), name))
 }
 
 /// A literal without the type after it, and the number that it writes, or that a minus sign before it makes of it.
@@ -269,7 +236,7 @@ fn number_of(literal: &str, is_negative: bool) -> Result<(&str, Number), &'stati
     let mut types = "u8 u16 u32 u64 u128 usize i8 i16 i32 i64 i128 isize".split(' ');
     let untyped = types.find_map(|name| literal.strip_suffix(name));
     let written = untyped.unwrap_or(literal).trim_end_matches('_');
-    let mut prefixes = PREFIXES.iter();
+    let mut prefixes = [("0x", 16), ("0o", 8), ("0b", 2)].iter();
     let digits_of = |(prefix, radix): &(&str, u32)| Some((*radix, written.strip_prefix(prefix)?));
     let (radix, digits) = prefixes.find_map(digits_of).unwrap_or((10, written));
     if digits.is_empty() || !written.starts_with(|first: char| first.is_ascii_digit()) {

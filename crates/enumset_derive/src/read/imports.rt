@@ -4,114 +4,71 @@ use super::*;
 
 const UNUSED: &str = "is of a crate that may not be there, and nothing here names it";
 
-/// The crates that are there, beside those whose names begin with `enumset`.
-const KNOWN: &str = "std core alloc crate self super";
-
-/// A line of imports.
-#[derive(Drop)]
-struct Use<'a> {
-    place: Place,
-    /// Its attributes, a line each.
-    attributes: String,
-    /// What stands before `use`.
-    visibility: &'a str,
-    /// As it is written without its attributes, if it is one path that may stay so.
-    written: Option<&'a str>,
-}
+const EXPORTS_ALL: &str = "`pub use` takes no `*` here: name what is exported";
 
 impl<'a, 'b> Reader<'a, 'b> {
-    /// Reads an import from its keyword on, of which the attributes are given. Its visibility begins at `item`.
-    pub(super) fn read_use(&mut self, place: Place, before: String, item: Cursor<'a, 'b>) -> Done {
-        let keyword = self.cursor;
-        self.cursor.skip_to(";", 0)?;
-        let [path @ .., _] = self.cursor.words_since(&keyword) else {
-            return Ok(());
-        };
-        for word in path {
-            let is_part = word.is_name() || word.is_mark(":{},*");
-            word.want(is_part, "wanted: a path, or `;`")?;
-        }
-        let is_path = path.first().is_some_and(|root| {
-            root.is_name() && !is_among("core alloc", root.text)
-        });
-        let visibility = item.text.get(item.token.begin..keyword.token.begin);
-        let line = Use {
-            place,
-            attributes: before,
-            visibility: visibility.unwrap_or("").trim_end(),
-            written: is_path.then_some(self.cursor.text_since(item.token.begin)),
-        };
-        for (index, tree) in trees_of(self.alloc, path)?.iter().enumerate() {
+    /// Reads an import from its keyword on. Its attributes are given, a line each; its visibility begins at `item`.
+    pub(super) fn read_use(&mut self, place: Place, before: &str, item: Cursor<'a, 'b>) -> Done {
+        let alloc = self.alloc;
+        let visibility = item.text.get(item.token.begin..self.cursor.token.begin);
+        let visibility = visibility.unwrap_or("").trim_end();
+        let is_own = visibility.is_empty();
+        let path = self.cursor.read_path()?;
+        let may_stay = |root: &Token| root.is_name() && !is_among("core alloc", root.text);
+        let is_path = path.first().is_some_and(may_stay);
+        let written = is_path.then_some(self.cursor.text_since(item.token.begin));
+        for (index, tree) in trees_of(alloc, path)?.iter().enumerate() {
             if index > 0 {
                 self.source.add_space("\n");
             }
-            self.read_tree(&line, tree)?;
+            let [root, rest @ ..] = tree else {
+                continue;
+            };
+            let mut names = names_in(alloc, tree, is_own)?;
+            if is_own && root.is("enumset") && rest.iter().any(|word| word.is_mark(":")) {
+                self.source.names.append(&mut names)?;
+                self.read_names(place, before, rest)?;
+                continue;
+            }
+            let path = spelled(alloc, tree)?;
+            let line = format!(in alloc; "{visibility} use {path};")?;
+            let line = written.unwrap_or(line.as_str().trim_start());
+            let is_ours = root.text.starts_with("enumset");
+            let is_there = is_among("std core alloc crate self super", root.text);
+            self.source.push(Form::Import(Import {
+                text: format!(in alloc; "{before}{line}")?,
+                path,
+                names,
+                unknown: (is_own && !is_ours && !is_there).then_some(place),
+            }))?;
         }
         Ok(())
     }
 
-    /// Takes in what a line imports of one crate.
-    fn read_tree(&mut self, line: &Use<'a>, tree: &[Token<'a>]) -> Done {
-        let [root, path @ ..] = tree else {
-            return Ok(());
-        };
-        let is_own = line.visibility.is_empty();
-        let is_enumset = root.text.starts_with("enumset");
-        let is_known = !is_own || is_enumset || is_among(KNOWN, root.text);
-        let mut names = Vec::new(self.alloc);
-        for token in names_in(self.alloc, tree)? {
-            if token.is_mark("*") && !is_own {
-                return Err(token.fault("`pub use` takes no `*` here: name what is exported"));
-            }
-            let place = if is_known { token.place } else { line.place };
-            let (text, root) = (token.text, root.text);
-            names.push(Name { text, place, root })?;
-        }
-        if is_own && root.is("enumset") && path.iter().any(|token| token.is_mark(":")) {
-            self.source.names.append(&mut names)?;
-            return self.read_names(line, path);
-        }
-        let path = spelled(self.alloc, tree)?;
-        let (attributes, visibility) = (line.attributes.as_str(), line.visibility);
-        let gap = if is_own { "" } else { " " };
-        let text = match line.written {
-            Some(written) => format!(in self.alloc; "{attributes}{written}")?,
-            None => format!(in self.alloc; "{attributes}{visibility}{gap}use {path};")?,
-        };
-        let import = Import {
-            place: line.place,
-            text,
-            path,
-            names,
-            is_known,
-        };
-        Ok(self.source.push(Form::Import(import))?)
-    }
-
     /// Takes in what a line imports of the crate `enumset`: a path after its name, or some in brackets.
-    fn read_names(&mut self, line: &Use<'a>, path: &[Token<'a>]) -> Done {
-        if !line.attributes.is_empty() {
-            self.leave_out(line.place, line.attributes.trim_end())?;
+    fn read_names(&mut self, place: Place, attributes: &str, path: &[Token<'a>]) -> Done {
+        let alloc = self.alloc;
+        if !attributes.is_empty() {
+            self.source.leave_out(place, attributes.trim_end())?;
         }
         if !mem::replace(&mut self.source.has_imports, true) {
             self.source.push(Form::Imports)?;
         }
-        for tree in trees_of(self.alloc, path)? {
+        for tree in trees_of(alloc, path)? {
             match tree {
                 [] => {}
                 [own] if own.is("self") => {}
                 [own, name @ ..] if own.is("self") => {
-                    let name = spelled(self.alloc, name)?;
+                    let name = spelled(alloc, name)?;
                     self.source.add_space("\n");
                     self.source.push(Form::Import(Import {
-                        place: line.place,
-                        text: format!(in self.alloc; "use enumset{name};")?,
-                        path: format!(in self.alloc; "enumset{name}")?,
-                        names: Vec::new(self.alloc),
-                        is_known: true,
+                        text: format!(in alloc; "use enumset{name};")?,
+                        path: format!(in alloc; "enumset{name}")?,
+                        names: Vec::new(alloc),
+                        unknown: None,
                     }))?;
                 }
-                tree => self.source.imports.push(spelled(self.alloc, tree)?)?,
+                tree => self.source.imports.push(spelled(alloc, tree)?)?,
             }
         }
         Ok(())
@@ -122,14 +79,16 @@ impl<'a, 'b> Reader<'a, 'b> {
         for item in mem::replace(&mut self.source.items, Vec::new(self.alloc)) {
             if let Form::Import(import) = &item.form {
                 let mut names = import.names.iter();
-                let is_used = names.any(|name| self.used.contains(name.text));
-                if !import.is_known && !is_used {
-                    let text = import.text.as_str();
-                    self.source.leave_out(import.place, text, UNUSED)?;
+                let is_used = names.any(|(_, name)| self.used.contains(name.text));
+                if let (Some(place), false) = (import.unknown, is_used) {
+                    let note = format!(in self.alloc; "left out: {} {UNUSED}", import.text)?;
+                    self.source.notes.push((place, note))?;
                     continue;
                 }
-                let names = &mut self.source.names;
-                names.extend_from_slice(import.names.as_slice())?;
+                for (root, name) in &import.names {
+                    let place = import.unknown.unwrap_or(name.place);
+                    self.source.names.push((*root, Token { place, ..*name }))?;
+                }
             }
             self.source.items.push(item)?;
         }
@@ -156,19 +115,23 @@ pub(super) fn after_root<'a, 'b>(path: &'b [Token<'a>]) -> &'b [Token<'a>] {
     }
 }
 
-/// The names that a path brings, and the `*`. A lone `self` stands for the name before its bracket.
-fn names_in<'a, 'b>(alloc: Global, tree: &'b [Token<'a>]) -> Outcome<Vec<&'b Token<'a>>> {
+/// The names that a path of this crate brings, and the `*`. A lone `self` stands for the name before its bracket.
+fn names_in<'a>(alloc: Global, tree: &[Token<'a>], is_own: bool) -> Outcome<Vec<Name<'a>>> {
+    let root = tree.first().map_or("", |root| root.text);
     let mut names = Vec::new(alloc);
     let mut parent = None;
     for path in tree.split(|token| token.is_mark(",{}")) {
         match path {
             [.., name, mark] if mark.is_mark(":") => parent = Some(name),
-            [own] if own.is("self") => names.push(parent.unwrap_or(own))?,
-            [.., name] => names.push(name)?,
+            [own] if own.is("self") => names.push((root, *parent.unwrap_or(own)))?,
+            [.., name] => names.push((root, *name))?,
             [] => {}
         }
     }
-    Ok(names)
+    match names.iter().find(|(_, name)| name.is_mark("*")) {
+        Some((_, all)) if !is_own => Err(all.fault(EXPORTS_ALL)),
+        _ => Ok(names),
+    }
 }
 
 /// A path as it is laid out on a line. Rust's `core` and `alloc` are `std` here.

@@ -16,7 +16,7 @@ impl<'a, 'b> Reader<'a, 'b> {
     pub(super) fn read_item(&mut self) -> Done {
         let begin = self.cursor;
         let parts = self.cursor.read_parts(self.alloc)?;
-        if place_of_derive(self.cursor.words_since(&begin), self.derive).is_some() {
+        if derive_among(self.cursor.words_since(&begin), self.derive).is_some() {
             return self.read_element(parts.as_slice());
         }
         let mut text = self.kept_parts(parts.as_slice())?;
@@ -24,20 +24,20 @@ impl<'a, 'b> Reader<'a, 'b> {
         let _ = self.cursor.read_visibility()?;
         let keyword = self.cursor.token;
         if keyword.is("use") {
-            return self.read_use(begin.token.place, text, item);
+            return self.read_use(begin.token.place, text.as_str(), item);
         }
         let next = self.cursor.words.first().unwrap_or(keyword);
         if is_among(NAMED, keyword.text) && next.is_name() {
-            self.source.name(next.text, next.place)?;
+            self.source.names.push(("", *next))?;
         }
         self.cursor.skip_to(";}", 0)?;
         if keyword.is("extern") && next.is("crate") {
             let text = self.cursor.text_since(begin.token.begin);
-            return self.leave_out(begin.token.place, text);
+            return Ok(self.source.leave_out(begin.token.place, text)?);
         }
         let words = self.cursor.words_since(&item);
-        if let Some(place) = place_of_derive(words, self.derive) {
-            return Err(Reason::Text(INSIDE).at(place).into());
+        if let Some(derive) = derive_among(words, self.derive) {
+            return Err(derive.fault(INSIDE));
         }
         self.used.extend(words.iter().map(|word| word.text))?;
         self.used.extend(["*", "_"])?;
@@ -59,7 +59,7 @@ impl<'a, 'b> Reader<'a, 'b> {
             } else if part.has_meaning(Bearer::Item)? {
                 write!(out, "{text}\n")?;
             } else {
-                self.leave_out(part.begin.place, text)?;
+                self.source.leave_out(part.begin.place, text)?;
             }
         }
         Ok(out)
@@ -75,17 +75,15 @@ impl<'a, 'b> Reader<'a, 'b> {
             if begin.begin >= self.cursor.token.begin || is_macro {
                 break;
             }
-            if !begin.is_mark("#") || !cursor.is_before("[") {
-                cursor.advance()?;
-                continue;
+            if begin.is_mark("#") && cursor.is_before("[") {
+                let part = cursor.read_part()?;
+                if !is_among(HELPERS, part.name.text) && !part.has_meaning(Bearer::Item)? {
+                    out.push_str(cursor.text.get(from..begin.begin).unwrap_or(""))?;
+                    self.source.leave_out(begin.place, part.text)?;
+                    from = cursor.rest.first().map_or(from, |next| next.begin);
+                }
             }
-            let part = cursor.read_part()?;
             cursor.advance()?;
-            if !is_among(HELPERS, part.name.text) && !part.has_meaning(Bearer::Item)? {
-                out.push_str(cursor.text.get(from..begin.begin).unwrap_or(""))?;
-                self.leave_out(begin.place, part.text)?;
-                from = cursor.token.begin;
-            }
         }
         Ok(out.push_str(self.cursor.text_since(from))?)
     }

@@ -17,11 +17,8 @@ const STYLES: &str = "lowercase UPPERCASE PascalCase camelCase snake_case SCREAM
 
 /// The name of a variant, which is words that each begin with a capital, in a style of `serde`.
 fn styled(alloc: Global, style: &str, name: &str) -> Result<String, AllocError> {
-    let separator = match style {
-        "snake_case" | "SCREAMING_SNAKE_CASE" => "_",
-        "kebab-case" | "SCREAMING-KEBAB-CASE" => "-",
-        _ => "",
-    };
+    let mut separators = style.matches(|letter| matches!(letter, '_' | '-'));
+    let separator = separators.next().unwrap_or("");
     let mut text = String::new(alloc);
     for (at, character) in name.char_indices() {
         if at > 0 && character.is_ascii_uppercase() {
@@ -41,17 +38,18 @@ fn styled(alloc: Global, style: &str, name: &str) -> Result<String, AllocError> 
     Ok(text)
 }
 
-impl<'a, 'b> Draft<'a, 'b> {
+impl<'a, 'b> Reader<'a, 'b> {
     /// The names of the variants in JSON, and where each is given, if one may not be the variant's own.
-    pub fn json_names(&self, alloc: Global) -> Outcome<Vec<(Place, String)>> {
+    pub(super) fn json_names(&self, of: &EnumDeclaration) -> Outcome<Vec<(Place, String)>> {
+        let alloc = self.alloc;
         let mut names: Vec<(Place, String)> = Vec::new(alloc);
-        if !self.declaration.options.are_named() || self.serde.is_empty() {
+        if !of.options.are_named() || self.serde.is_empty() {
             return Ok(names);
         }
-        let given = self.given_names(alloc)?;
+        let given = self.given_names()?;
         let style = given.iter().rfind(|(of, _, _)| of.is_none());
         let style = style.map_or("PascalCase", |(_, _, style)| *style);
-        for (index, variant) in self.declaration.variants.iter().enumerate() {
+        for (index, variant) in of.variants.iter().enumerate() {
             let (place, name) = match given.iter().find(|(of, _, _)| *of == Some(index)) {
                 Some((_, place, given)) => (*place, String::from_str(alloc, given)?),
                 None => (variant.place, styled(alloc, style, variant.name)?),
@@ -65,17 +63,16 @@ impl<'a, 'b> Draft<'a, 'b> {
     }
 
     /// What the attributes of `serde` give: of each the variant that it stands before, the place and the text.
-    fn given_names(&self, alloc: Global) -> Outcome<Vec<(Option<usize>, Place, &'a str)>> {
-        let mut given = Vec::new(alloc);
+    fn given_names(&self) -> Outcome<Vec<(Option<usize>, Place, &'a str)>> {
+        let mut given = Vec::new(self.alloc);
         for (part, variant, _) in &self.serde {
-            for argument in part.arguments(alloc)? {
+            for argument in part.arguments(self.alloc)? {
                 let [name, rest @ ..] = argument? else {
                     continue;
                 };
                 match (name.text, variant) {
                     ("rename_all", None) | ("rename", Some(_)) => {
-                        let has_value = matches!(rest, [equal, ..] if equal.is_mark("="));
-                        name.want(has_value, OTHER)?;
+                        name.want(rest.first().is_some_and(|next| next.is_mark("=")), OTHER)?;
                         let (value, text) = value_of(name, rest)?;
                         let is_style = variant.is_some() || is_among(STYLES, text);
                         value.want(is_style, WRONG_STYLE)?;

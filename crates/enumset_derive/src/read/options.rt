@@ -11,10 +11,10 @@ const WRONG_FORM: &str =
 
 const OLD_LIST: &str = "`serialize_as_list` is written `serialize_repr = \"list\"`";
 
-impl<'a, 'b> Draft<'a, 'b> {
+impl<'a, 'b> Reader<'a, 'b> {
     /// Reads the options in an attribute.
-    pub fn read_options(&mut self, alloc: Global, part: &Part<'a, 'b>) -> Done {
-        for argument in part.arguments(alloc)? {
+    pub(super) fn read_options(&mut self, to: &mut Options<'a>, part: &Part<'a, 'b>) -> Done {
+        for argument in part.arguments(self.alloc)? {
             let [name, rest @ ..] = argument? else {
                 continue;
             };
@@ -25,7 +25,7 @@ impl<'a, 'b> Draft<'a, 'b> {
                 return Err(twice.at(name.place).into());
             }
             self.given.push(name)?;
-            self.read_option(name, rest)?;
+            read_option(to, name, rest)?;
             let has_value = matches!(rest, [equal, ..] if equal.is_mark("="));
             if let Some([more, _, ..]) = rest.get(if has_value { 2 } else { 0 }..) {
                 return Err(more.fault("wanted: `,` or `)`"));
@@ -33,48 +33,45 @@ impl<'a, 'b> Draft<'a, 'b> {
         }
         Ok(())
     }
+}
 
-    /// Reads an option, which is a name and what comes after it.
-    fn read_option(&mut self, name: &'b Token<'a>, rest: &'b [Token<'a>]) -> Done {
-        let options = &mut self.declaration.options;
-        match name.text {
-            "map" => {
-                let (value, text) = value_of(name, rest)?;
-                let map = match text {
-                    "lsb" => Map::Lsb,
-                    "msb" => Map::Msb,
-                    "mask" => Map::Mask,
-                    "compact" => Map::Compact,
-                    _ => return Err(value.fault(
-                        "`map` is \"lsb\", \"msb\", \"mask\" or \"compact\"",
-                    )),
-                };
-                options.map = Some((map, value.place));
-            }
-            "repr" => {
-                let (value, text) = value_of(name, rest)?;
-                let fault = value.fault(WRONG_REPRESENTATION);
-                options.representation = Some(representation_of(text).ok_or(fault)?);
-            }
-            "serialize_repr" => {
-                let (value, text) = value_of(name, rest)?;
-                let bits = representation_of(text).map(Serialized::Bits);
-                options.serialized = Some(match text {
-                    "list" => Serialized::List,
-                    "map" => Serialized::Map,
-                    _ => bits.ok_or(value.fault(WRONG_FORM))?,
-                });
-            }
-            "crate_name" => options.crate_name = Some(value_of(name, rest)?.1),
-            "serialize_deny_unknown" => options.denies_unknown = boolean_of(rest)?,
-            "no_ops" => options.leaves_out_operators = boolean_of(rest)?,
-            "no_super_impls" => options.leaves_out_supertraits = boolean_of(rest)?,
-            "display" => options.has_display = boolean_of(rest)?,
-            "serialize_as_list" => return Err(name.fault(OLD_LIST)),
-            _ => return Err(name.fault("there is no such option")),
+/// Reads an option, which is a name and what comes after it.
+fn read_option<'a>(options: &mut Options<'a>, name: &Token<'a>, rest: &[Token<'a>]) -> Done {
+    match name.text {
+        "map" => {
+            let (value, text) = value_of(name, rest)?;
+            let map = match text {
+                "lsb" => Map::Lsb,
+                "msb" => Map::Msb,
+                "mask" => Map::Mask,
+                "compact" => Map::Compact,
+                _ => return Err(value.fault("`map` is \"lsb\", \"msb\", \"mask\" or \"compact\"")),
+            };
+            options.map = Some((map, value.place));
         }
-        Ok(())
+        "repr" => {
+            let (value, text) = value_of(name, rest)?;
+            let fault = value.fault(WRONG_REPRESENTATION);
+            options.representation = Some(representation_of(text).ok_or(fault)?);
+        }
+        "serialize_repr" => {
+            let (value, text) = value_of(name, rest)?;
+            let bits = representation_of(text).map(Serialized::Bits);
+            options.serialized = Some(match text {
+                "list" => Serialized::List,
+                "map" => Serialized::Map,
+                _ => bits.ok_or(value.fault(WRONG_FORM))?,
+            });
+        }
+        "crate_name" => options.crate_name = Some(value_of(name, rest)?.1),
+        "serialize_deny_unknown" => options.denies_unknown = boolean_of(rest)?,
+        "no_ops" => options.leaves_out_operators = boolean_of(rest)?,
+        "no_super_impls" => options.leaves_out_supertraits = boolean_of(rest)?,
+        "display" => options.has_display = boolean_of(rest)?,
+        "serialize_as_list" => return Err(name.fault(OLD_LIST)),
+        _ => return Err(name.fault("there is no such option")),
     }
+    Ok(())
 }
 
 /// The value after `=` in what comes after a name, and the text in its quotes.

@@ -67,7 +67,7 @@ impl<'a, 'b> Part<'a, 'b> {
                 true
             }
             "cfg_attr" => {
-                name.want(place_of_derive(self.words, "").is_none(), DERIVE_ALONE)?;
+                name.want(derive_among(self.words, "").is_none(), DERIVE_ALONE)?;
                 name.want(!self.calls("enumset"), OPTIONS_ALONE)?;
                 false
             }
@@ -92,37 +92,32 @@ impl<'a, 'b> Part<'a, 'b> {
 
     /// Its arguments, each with the mark at its end. The last is a fault if the attribute does not end after them.
     pub fn arguments(&self, alloc: Global) -> Outcome<Vec<Outcome<&'b [Token<'a>]>>> {
-        let mut arguments = Vec::new(alloc);
         let [bracket, _, open, rest @ ..] = self.words else {
-            return Ok(arguments);
+            return Ok(Vec::new(alloc));
         };
         open.want(open.is_mark("("), "wanted: `(`")?;
         let depth = open.depth;
         let is_end = |word: &Token| {
             (word.is_mark(",") && word.depth == depth) || (word.is_mark(")") && word.depth < depth)
         };
-        for argument in rest.split_inclusive(is_end) {
-            match argument {
-                [end] if end.is_mark(")]") => {}
-                [.., end] if end.is_mark("]") => {
-                    arguments.push(Err(bracket.fault(UNCLOSED_BRACKET)))?;
-                }
-                argument => arguments.push(Ok(argument))?,
-            }
-        }
-        Ok(arguments)
+        let arguments = rest.split_inclusive(is_end);
+        let arguments = arguments.filter_map(|argument| match argument {
+            [end] if end.is_mark(")]") => None,
+            [.., end] if end.is_mark("]") => Some(Err(bracket.fault(UNCLOSED_BRACKET))),
+            argument => Some(Ok(argument)),
+        });
+        Ok(arguments.collect(alloc)?)
     }
 }
 
-/// Where `EnumSetType` is derived among these words, or its other name.
-pub(super) fn place_of_derive(words: &[Token], renamed: &str) -> Option<Place> {
+/// The first `EnumSetType`, or its other name, that is derived among these words.
+pub(super) fn derive_among<'b>(words: &'b [Token<'b>], renamed: &str) -> Option<&'b Token<'b>> {
     let mut derives = words.split(|word| word.is("derive")).skip(1);
-    let found = derives.find_map(|words| {
+    derives.find_map(|words| {
         let (open, derived) = words.split_first().filter(|(open, _)| open.is_mark("("))?;
         let mut derived = derived.iter().take_while(|word| word.depth >= open.depth);
         derived.find(|word| word.is("EnumSetType") || word.is(renamed))
-    });
-    found.map(|word| word.place)
+    })
 }
 
 /// The name `F` of `EnumSetType as F` among these words, or an empty text.
@@ -135,15 +130,13 @@ pub(super) fn renamed_derive<'a>(words: &[Token<'a>]) -> &'a str {
 /// The path that an argument of a derive is.
 fn path_of(alloc: Global, argument: &[Token]) -> Outcome<String> {
     let mut path = String::new(alloc);
-    let mut wants_name = true;
-    for word in after_root(argument) {
-        match wants_name {
-            true => word.want(word.is_name(), "wanted: a path, or `)`")?,
-            false if word.is_mark(",)") => break,
-            false => word.want(word.is_mark(":"), "wanted: `,` or `)`")?,
+    for (index, word) in after_root(argument).iter().enumerate() {
+        match index % 2 {
+            0 => word.want(word.is_name(), "wanted: a path, or `)`")?,
+            _ if word.is_mark(",)") => break,
+            _ => word.want(word.is_mark(":"), "wanted: `,` or `)`")?,
         }
         path.push_str(word.text)?;
-        wants_name = !wants_name;
     }
     Ok(path)
 }
@@ -223,7 +216,7 @@ impl<'a, 'b> Reader<'a, 'b> {
                 kept.push(path)?;
             } else if let (false, [begin, ..]) = (is_own, argument) {
                 let text = format!(in self.alloc; "#[derive({path})]")?;
-                self.leave_out(begin.place, text.as_str())?;
+                self.source.leave_out(begin.place, text.as_str())?;
             }
         }
         Ok((kept, is_whole))

@@ -47,43 +47,41 @@ fn are_places(plan: &Plan) -> bool {
 }
 
 /// Whether each bit is its variant's number, as `as` gives it.
-fn are_cast(of: &Subject) -> bool {
-    let plan = &of.element.plan;
-    if !of.element.has_discriminants {
-        return are_places(plan);
+fn are_cast(element: &Element) -> bool {
+    let is_cast = |named: &NamedVariant| named.number == Number::Small(u128::from(named.bit));
+    match element.has_discriminants {
+        true => element.plan.variants.iter().all(is_cast),
+        false => are_places(&element.plan),
     }
-    let mut variants = plan.variants.iter();
-    variants.all(|named| named.number == Number::Small(u128::from(named.bit)))
 }
 
 /// Writes the implementation of an element type.
 fn write_impl(out: &mut String, of: &Subject) -> Written {
-    let (alloc, crate_name, module, name) = (of.alloc, of.crate_name, of.module, of.name);
-    let plan = &of.element.plan;
-    let (width, count) = (plan.bit_width, plan.variants.len());
-    let [repr, model, all_bits] = store_text(alloc, &plan.store)?;
+    let (alloc, name) = (of.alloc, of.name);
+    let (crate_name, module) = (of.request.crate_name, &of.request.module);
+    let (plan, variants) = (&of.element.plan, &of.element.declaration.variants);
+    let (width, count) = (plan.bit_width, variants.len());
+    let [repr, model, all_bits] = store_text(of)?;
     let is_wide = matches!(plan.store, Store::Words(_));
     let law = if is_wide { "words" } else { "integer" };
-    let in_place = are_cast(of) && are_places(plan);
+    let in_place = are_cast(of.element) && are_places(plan);
     let made = if in_place { "in_place" } else { "with_bits" };
-    let (more, before, after) = if in_place {
-        (", lawful_in_place", "lawful_in_place the_type (", ")")
-    } else {
-        ("", "", "")
+    let (more, before, after) = match in_place {
+        true => (", lawful_in_place", "lawful_in_place the_type (", ")"),
+        false => ("", "", ""),
     };
     let mut bits = String::new(alloc);
     if !in_place {
-        for named in &plan.variants {
-            write!(bits, "{} ∷\n", named.bit)?;
-        }
-        bits = format!(in alloc; " ({})", list_of(alloc, 59, bits.as_str())?)?;
+        let all: Vec<u32> = plan.variants.iter().map(|named| named.bit).collect(alloc)?;
+        bits = format!(in alloc; " ({})", list_of(of, 59, &all, ["", ""])?)?;
     }
     let has_values = of.element.declaration.options.has_display;
-    let (mut variants, mut values) = (String::new(alloc), String::new(alloc));
+    let (mut imported, mut values) = (String::new(alloc), String::new(alloc));
     if has_values {
         let path = format!(in alloc; "Rattle.{crate_name}.specs.declared.{module}.{name}")?;
-        write!(variants, "    ghost use {path}.TheVariants as variant;\n")?;
-        let list = list_by_names(of, 79, "variant.", "")?;
+        write!(imported, "    ghost use {path}.TheVariants as variant;\n")?;
+        let all: Vec<&str> = variants.iter().map(|variant| variant.name).collect(alloc)?;
+        let list = list_of(of, 79, &all, ["variant.", ""])?;
         write!(values, "    ghost values = {{ {list} }};\n\n")?;
     }
     write_head(out, of, "", "EnumSetType")?;
@@ -94,7 +92,7 @@ fn write_impl(out: &mut String, of: &Subject) -> Written {
         out,
         "    ghost use Rattle.enumset_sets.specs.Laws.Elements.{{{made}, lawful_in_{law}{more}}};
     ghost use Rattle.{crate_name}.specs.contracts.{module}.{name}.{{the_type}};
-{variants}
+{imported}
     type Repr = {repr};
 
     ghost elements = {{ {made} the_type{bits} }};
@@ -129,7 +127,7 @@ fn write_into_u32(out: &mut String, of: &Subject) -> Written {
     if variants.is_empty() {
         return out.push_str("        match self {}\n");
     }
-    if are_cast(of) {
+    if are_cast(of.element) {
         return out.push_str("        self as u32\n");
     }
     out.push_str("        match self {\n")?;
@@ -174,10 +172,10 @@ fn write_from_u32(out: &mut String, of: &Subject) -> Written {
 }
 
 /// What keeps a set, as a module writes it: the type, and the set of all bits in a clause and in code.
-///
 /// Words are on one line if they fit, on filled lines, or on a line each if one has over ten digits.
-fn store_text(alloc: Global, store: &Store) -> Result<[String; 3], AllocError> {
-    let all = match store {
+fn store_text(of: &Subject) -> Written<[String; 3]> {
+    let alloc = of.alloc;
+    let all = match &of.element.plan.store {
         Store::Words(words) => words,
         Store::Integer(integer, number) => {
             let repr = format!(in alloc; "u{}", integer.width())?;
@@ -185,19 +183,15 @@ fn store_text(alloc: Global, store: &Store) -> Result<[String; 3], AllocError> {
         }
     };
     let repr = format!(in alloc; "ArrayRepr<{}>", all.len())?;
-    let mut words = String::new(alloc);
-    for word in all {
-        write!(words, "{word},\n")?;
-    }
-    let items = words.replace(alloc, ",", " ∷")?;
+    let words = all.iter().map(|word| format!(in alloc; "{word},\n"));
+    let words: String = words.try_collect(alloc)?;
     let line = on_a_line(alloc, words.as_str())?;
-    let all_bits = if line.len().saturating_add(repr.len()) < 64 {
-        format!(in alloc; "ArrayRepr([{line}])")?
-    } else {
-        let is_wide = all.iter().any(|word| *word >= 10_000_000_000);
-        let room = if is_wide { 0 } else { LIST_ROOM };
-        let lines = wrapped(alloc, LIST_START, [room, room], words.as_str())?;
-        format!(in alloc; "ArrayRepr([\n        {lines}\n    ])")?
+    let is_wide = all.iter().any(|word| *word >= 10_000_000_000);
+    let room = if is_wide { 0 } else { 92 };
+    let lines = wrapped(alloc, "\n        ", [room, room], words.as_str())?;
+    let all_bits = match line.len().saturating_add(repr.len()) {
+        ..64 => format!(in alloc; "ArrayRepr([{line}])")?,
+        _ => format!(in alloc; "ArrayRepr([\n        {lines}\n    ])")?,
     };
-    Ok([repr, list_of(alloc, 77, items.as_str())?, all_bits])
+    Ok([repr, list_of(of, 77, all, ["", ""])?, all_bits])
 }

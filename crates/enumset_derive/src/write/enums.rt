@@ -48,12 +48,10 @@ fn write_derives(out: &mut String, alloc: Global, declaration: &EnumDeclaration)
         }
     }
     let line = on_a_line(alloc, words.as_str())?;
+    let lines = wrapped(alloc, "\n    ", [0, 0], words.as_str())?;
     match line.len() {
         0 => Ok(()),
         1..90 => write!(out, "#[derive({line})]\n"),
-        _ => {
-            let lines = wrapped(alloc, "\n    ", [0, 0], words.as_str())?;
-            write!(out, "#[derive(\n    {lines}\n)]\n")
-        }
+        _ => write!(out, "#[derive(\n    {lines}\n)]\n"),
     }
 }

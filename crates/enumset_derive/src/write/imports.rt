@@ -42,10 +42,10 @@ fn needed_by(element: &Element) -> [(bool, &'static str); 8] {
 /// Whether a source does not import a path of `enumset` itself. It is a fault if it gives the name to something else.
 fn is_free(source: &Source, path: &str) -> Outcome<bool> {
     let name = path.strip_prefix("internal::").unwrap_or(path);
-    let Some(other) = source.names.iter().find(|other| other.text == name) else {
+    let Some((root, other)) = source.names.iter().find(|(_, other)| other.is(name)) else {
         return Ok(true);
     };
-    match other.root {
+    match *root {
         "crate" | "self" | "super" => Ok(false),
         root if root == source.facade || root.starts_with("enumset") => Ok(false),
         _ => Err(Reason::Text(TAKEN).at(other.place).into()),
@@ -60,22 +60,20 @@ fn lines_of(source: &Source, imports: &BTreeSet<&str>) -> Text {
     let mut paths = String::new(alloc);
     let has_all = imports.contains("*");
     for name in imports {
-        if is_ours && *name == "internal::ArrayRepr" {
-            paths.push_str("use enumset_array::ArrayRepr;\n")?;
-        } else if name.contains(':') {
-            write!(paths, "use {facade}::{name};\n")?;
-        } else if !has_all || name.contains(' ') {
-            write!(words, "{name},\n")?;
+        match *name {
+            "internal::ArrayRepr" if is_ours => paths.push_str("use enumset_array::ArrayRepr;\n")?,
+            path if path.contains(':') => write!(paths, "use {facade}::{path};\n")?,
+            name if !has_all || name.contains(' ') => write!(words, "{name},\n")?,
+            _ => {}
         }
     }
     if has_all {
         words.push_str("*,\n")?;
     }
     let names = names_of(alloc, facade, words.as_str())?;
-    let lines = if words.lines().count() == 1 && !is_ours {
-        format!(in alloc; "{names}{paths}")?
-    } else {
-        format!(in alloc; "{paths}{names}")?
+    let lines = match words.lines().count() {
+        1 if !is_ours => format!(in alloc; "{names}{paths}")?,
+        _ => format!(in alloc; "{paths}{names}")?,
     };
     String::from_str(alloc, lines.trim_end())
 }
@@ -84,15 +82,13 @@ fn lines_of(source: &Source, imports: &BTreeSet<&str>) -> Text {
 /// names alone has four columns before it, and at most 99 with them, or 100 if it has them all.
 fn names_of(alloc: Global, facade: &str, words: &str) -> Text {
     let line = on_a_line(alloc, words)?;
-    let whole = match words.lines().count() {
-        0 => return Ok(line),
-        1 => return format!(in alloc; "use {facade}::{line};\n"),
-        _ => format!(in alloc; "use {facade}::{{{line}}};\n")?,
-    };
-    if whole.len() <= 99 {
-        return Ok(whole);
-    }
     let room = if line.len() <= 95 { 96 } else { 95 };
     let lines = wrapped(alloc, "\n    ", [room, 95], words)?;
-    format!(in alloc; "use {facade}::{{\n    {lines}\n}};\n")
+    let whole = format!(in alloc; "use {facade}::{{{line}}};\n")?;
+    match words.lines().count() {
+        0 => Ok(line),
+        1 => format!(in alloc; "use {facade}::{line};\n"),
+        _ if whole.len() <= 99 => Ok(whole),
+        _ => format!(in alloc; "use {facade}::{{\n    {lines}\n}};\n"),
+    }
 }

@@ -2,12 +2,6 @@
 
 use super::*;
 
-/// How a new line of a list in an `impl` begins.
-pub(super) const LIST_START: &str = "\n        ";
-
-/// How many columns such a line has left.
-pub(super) const LIST_ROOM: usize = 92;
-
 /// The lines of a text as words with spaces between them. Where the next word would pass the last column, a new line
 /// begins, by the text `start`. `rooms` is how many columns are left on the first line, and on the others after `start`.
 pub(super) fn wrapped(alloc: Global, start: &str, rooms: [usize; 2], words: &str) -> Text {
@@ -33,19 +27,15 @@ pub(super) fn on_a_line(alloc: Global, words: &str) -> Text {
     words.replace(alloc, "\n", " ")
 }
 
-/// A list in a clause, of which these are the words but the last. Its first line has this room.
-pub(super) fn list_of(alloc: Global, room: usize, words: &str) -> Text {
-    let words = format!(in alloc; "{words}[]")?;
-    wrapped(alloc, LIST_START, [room, LIST_ROOM], words.as_str())
-}
-
-/// The list of the names of the variants, each with what is before and after it.
-pub(super) fn list_by_names(of: &Subject, room: usize, before: &str, after: &str) -> Text {
+/// A list in a clause, of items each with these texts before and after it. Its first line has this room.
+pub(super) fn list_of(of: &Subject, room: usize, items: &[impl Display], ends: [&str; 2]) -> Text {
+    let [before, after] = ends;
     let mut words = String::new(of.alloc);
-    for variant in &of.element.declaration.variants {
-        write!(words, "{before}{}{after} ∷\n", variant.name)?;
+    for item in items {
+        write!(words, "{before}{item}{after} ∷\n")?;
     }
-    list_of(of.alloc, room, words.as_str())
+    words.push_str("[]")?;
+    wrapped(of.alloc, "\n        ", [room, 92], words.as_str())
 }
 
 /// Writes the body of a function that calls a macro with words, on one line if it fits.

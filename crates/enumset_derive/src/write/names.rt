@@ -6,18 +6,17 @@ use super::*;
 pub(super) fn write_names(out: &mut String, of: &Subject) -> Written {
     let (alloc, name, element) = (of.alloc, of.name, of.element);
     let mut words = format!(in alloc; "{name}:\n")?;
-    let mut codes = String::new(alloc);
+    let mut names = Vec::new(alloc);
     for (index, variant) in element.declaration.variants.iter().enumerate() {
         let own = variant.name;
         let given = element.json_names.get(index);
-        let json = given.map_or(own, |(_, json)| json.as_str());
-        write!(codes, "codes \"{json}\" ∷\n")?;
+        names.push(given.map_or(own, |(_, json)| json.as_str()))?;
         match given {
-            Some(_) => write!(words, "{own} \"{json}\"\n")?,
+            Some((_, json)) => write!(words, "{own} \"{json}\"\n")?,
             None => write!(words, "{own}\n")?,
         }
     }
-    let names = list_of(alloc, 80, codes.as_str())?;
+    let names = list_of(of, 80, &names, ["codes \"", "\""])?;
     write_head(out, of, "", "EnumSetNames")?;
     write!(
         out,
@@ -34,9 +33,11 @@ pub(super) fn write_names(out: &mut String, of: &Subject) -> Written {
 
 /// Writes the `Display` by the names of the variants.
 pub(super) fn write_display(out: &mut String, of: &Subject) -> Written {
-    let (crate_name, module, name) = (of.crate_name, of.module, of.name);
+    let (alloc, name) = (of.alloc, of.name);
+    let (crate_name, module) = (of.request.crate_name, &of.request.module);
     let variants = &of.element.declaration.variants;
-    let names = list_by_names(of, 90, "codes \"", "\"")?;
+    let names: Vec<&str> = variants.iter().map(|variant| variant.name).collect(alloc)?;
+    let list = list_of(of, 90, &names, ["codes \"", "\""])?;
     let doc = "/// The name of the variant.\n";
     write_head(out, of, doc, "std::fmt::Display")?;
     write!(
@@ -47,18 +48,17 @@ pub(super) fn write_display(out: &mut String, of: &Subject) -> Written {
     ghost use Rattle.{crate_name}.specs.contracts.{module}.{name}.{{the_type}};
 
     ghost output = {{ λ v. Some (slice_index_or
-        ({names})
+        ({list})
         (tag_of the_type v) []) }};
 
     fn fmt<W: std::fmt::Write>(&self, f: &mut std::fmt::Formatter<W>) -> std::fmt::Result {{
 "
     )?;
-    if variants.is_empty() {
+    if names.is_empty() {
         return out.push_str("        match *self {}\n    }\n}");
     }
     out.push_str("        match self {\n")?;
-    for variant in variants {
-        let name = variant.name;
+    for name in names {
         let (gap, end) = match name.len() {
             ..=31 => ("", ""),
             _ => ("\n                ", ",\n            "),

@@ -13,9 +13,16 @@ const OPERATORS: [[&str; 4]; 4] = [
 /// Writes the five operators. Those with two operands take an element or a set after the element.
 pub(super) fn write_operators(out: &mut String, of: &Subject) -> Written {
     let name = of.name;
+    let set = format!(in of.alloc; "<EnumSet<{name}>>")?;
+    let only = format!(in of.alloc;
+        "\n        (set.only (⟦<{name} as EnumSetType>⟧.elements.bit b))"
+    )?;
+    let (set, only) = (set.as_str(), only.as_str());
+    let element = ["that of the other", "", "Self", "EnumSet::only(rhs)", only];
+    let set = ["the other", set, "EnumSet<Self>", "rhs", " b"];
     for operator in OPERATORS {
-        write_operator(out, of, operator, false)?;
-        write_operator(out, of, operator, true)?;
+        write_operator(out, of, operator, element)?;
+        write_operator(out, of, operator, set)?;
     }
     write_head(out, of, "/// The set of all the others.\n", "std::ops::Not")?;
     write!(
@@ -37,24 +44,15 @@ pub(super) fn write_operators(out: &mut String, of: &Subject) -> Written {
     )
 }
 
-/// Writes an operator that takes an element or a set after the element.
-fn write_operator(out: &mut String, of: &Subject, operator: [&str; 4], is_set: bool) -> Written {
+/// Writes an operator with this after the element: what the comment calls it, the parameter of the trait, the type, and
+/// the set that it is in code and in the model.
+fn write_operator(out: &mut String, of: &Subject, operator: [&str; 4], rhs: [&str; 5]) -> Written {
     let (alloc, name) = (of.alloc, of.name);
     let [form, function, sign, operation] = operator;
+    let [other, parameter, operand, value, model] = rhs;
     let words = operation.replace(alloc, "_", " ")?;
-    let (other, operand, value) = match is_set {
-        true => ("the other", "EnumSet<Self>", "rhs"),
-        false => ("that of the other", "Self", "EnumSet::only(rhs)"),
-    };
     let doc = format!(in alloc; "/// The {words} of the set of the one and {other}.\n")?;
-    let mut form = format!(in alloc; "std::ops::{form}")?;
-    let mut model = String::from_str(alloc, " b")?;
-    match is_set {
-        true => write!(form, "<EnumSet<{name}>>")?,
-        false => model = format!(in alloc;
-            "\n        (set.only (⟦<{name} as EnumSetType>⟧.elements.bit b))"
-        )?,
-    }
+    let form = format!(in alloc; "std::ops::{form}{parameter}")?;
     write_head(out, of, doc.as_str(), form.as_str())?;
     write!(
         out,

@@ -10,8 +10,8 @@ returns-in-Integer-clause-lawful c =
     let lists = and_parts _ _ c.number_of.ensures in
     lawful_of _ bs (sum_by (λ b. 2 ^ b) bs == c.number_of.result) _ c.args.width (length-map c.args.named.now _) lists.1 lists.0 c.requires.width
 
-pub returns-in_ok-words-in-Words-clause-lawful : goal.returns-in_ok-words-in-Words-clause-lawful
-returns-in_ok-words-in-Words-clause-lawful c =
+pub returns-in_ok-words_of-in-Words-clause-lawful : goal.returns-in_ok-words_of-in-Words-clause-lawful
+returns-in_ok-words_of-in-Words-clause-lawful c =
     let bs = bits_of c.args.named.now in
-    let words = c.in_ok-words-in-Words in
-    lawful_of _ bs (lists_words bs words.words.items) _ c.args.width (length-map c.args.named.now _) words.ensures.bits c.requires.distinct c.requires.width
+    let words = c.in_ok-words_of-in-Words in
+    lawful_of _ bs (lists_words bs words.field-0.items) _ c.args.width (length-map c.args.named.now _) words.ensures.bits c.requires.distinct c.requires.width
