@@ -1,6 +1,6 @@
 //! The macros in functions with contracts, so that the check refuses a macro with another meaning: over sets of any
-//! enum, with one and with three operands; over mixed sets, with two; and `variant_of!`, with as many variants as it
-//! takes without bits, and with more bits than a proof takes in at once.
+//! enum, with three operands; over mixed sets, with two; and `variant_of!`, with as many variants as it takes without
+//! bits, and with more bits than a proof takes in at once.
 
 ghost use Rattle.std.specs.Prelude.{◌≡◌, ◌∷◌, [], IsTrue};
 ghost use Rattle.std.specs.List.{range_with_len};
@@ -31,22 +31,10 @@ fn elements<T: EnumSetType>(a: T, b: T, c: T) -> (EnumSet<T>, EnumSet<T>, EnumSe
     )
 }
 
-fn union_of_one<T: EnumSetType>(a: EnumSet<T>) -> EnumSet<T>
-    ensures { result ≡ a }
-{
-    enum_set_union!(a)
-}
-
 fn union_of_three<T: EnumSetType>(a: EnumSet<T>, b: EnumSet<T>, c: EnumSet<T>) -> EnumSet<T>
     ensures { result ≡ set.union (set.union a b) c }
 {
     enum_set_union!(a, b, c)
-}
-
-fn intersection_of_one<T: EnumSetType>(a: EnumSet<T>) -> EnumSet<T>
-    ensures { result ≡ a }
-{
-    enum_set_intersection!(a)
 }
 
 fn intersection_of_three<T: EnumSetType>(a: EnumSet<T>, b: EnumSet<T>, c: EnumSet<T>) -> EnumSet<T>
@@ -55,24 +43,12 @@ fn intersection_of_three<T: EnumSetType>(a: EnumSet<T>, b: EnumSet<T>, c: EnumSe
     enum_set_intersection!(a, b, c)
 }
 
-fn difference_of_one<T: EnumSetType>(a: EnumSet<T>) -> EnumSet<T>
-    ensures { result ≡ a }
-{
-    enum_set_difference!(a)
-}
-
 fn difference_of_three<T: EnumSetType>(a: EnumSet<T>, b: EnumSet<T>, c: EnumSet<T>) -> EnumSet<T>
     ensures { result
         ≡ set.intersection (set.intersection a (set.difference (valid_bits T.elements) b))
         (set.difference (valid_bits T.elements) c) }
 {
     enum_set_difference!(a, b, c)
-}
-
-fn symmetric_difference_of_one<T: EnumSetType>(a: EnumSet<T>) -> EnumSet<T>
-    ensures { result ≡ a }
-{
-    enum_set_symmetric_difference!(a)
 }
 
 fn symmetric_difference_of_three<T: EnumSetType>(

@@ -37,16 +37,19 @@ fn sets_have_operations(rt: HostRuntime) {
     let sets = [
         enum_set_union!(a),
         enum_set_union!(a, abd, bc,),
+        enum_set_intersection!(bc),
         enum_set_intersection!(abd, bc),
         enum_set_intersection!(abd, all, bc,),
+        enum_set_difference!(abd),
         enum_set_difference!(all, bc),
         enum_set_difference!(all, bc, a,),
+        enum_set_symmetric_difference!(abd),
         enum_set_symmetric_difference!(abd, bc),
         enum_set_symmetric_difference!(abd, bc, a,),
         enum_set_complement!(bc),
         enum_set_complement!(a,),
     ];
     let numbers = sets.map(|set| set.as_u8_truncated());
-    let wanted = [1, 15, 2, 2, 9, 8, 13, 12, 9, 14];
+    let wanted = [1, 15, 6, 2, 2, 11, 9, 8, 11, 13, 12, 9, 14];
     expect(&rt, "operations", numbers, wanted);
 }
