@@ -37,7 +37,7 @@ abbrev pub JsonMembers : Type 0
 JsonMembers = TypeOf (members_outline no_members)
 
 -- the token of an opening brace, before others
-abbrev pub brace_before : Tokens → Tokens
+abbrev brace_before : Tokens → Tokens
 brace_before ts = tokens (123 ∷ []) ++ ts
 
 abbrev pub pick_members : (d n : ℕ) (ts : Tokens) (f : JsonMembers × Tokens → Option (Json × Tokens)) (o : Option (JsonMembers × Tokens))
