@@ -1,11 +1,10 @@
 -- What serde_json reads of the digits of a number, digit by digit, before what ends it.
 use Rattle.std.proofs.Common.{◌≡◌, ◌≤◌, ◌<◌, ◌^◌, ℕ, zero, suc, ◌+◌, ◌-◌, List, [], ◌∷◌, ◌++◌, length, take, drop, get_or, cond, refl, ap, ◌∙◌, ◌⊎◌, inl, inr, decimal, arith, length-append, Bool, true, false, ◌==◌, ◌||◌, nat_lt}
-use Rattle.enumset.proofs.Common.{take-append_seam, decimal_is_IsNumeral, decimal_digit, first_decimal, ⊤, prefix_len, nat_tests, text_token, number_token, serde_json_on_literals, is_space}
+use Rattle.enumset.proofs.Common.{take-append_seam, decimal_is_IsNumeral, decimal_digit, first_decimal, ⊤, prefix_len, nat_tests, number_token, serde_json_on_literals, is_space}
 use Rattle.std.proofs.lemmas.Str.Parse.{digit_from_value}
 use Rattle.std.specs.Str.Parse.{AllDigits}
 use Rattle.std.specs.Char.{is_ascii_digit}
-use Rattle.enumset.proofs.JsonTokens.{tokens, Tokens}
-use Rattle.enumset.proofs.JsonSpaces.{at_space}
+use Rattle.enumset.proofs.JsonTokens.{tokens, after_value}
 
 abbrev pub IsDigit : ℕ → Type 0
 IsDigit x = (48 ≤ x) × (x ≤ 57)
@@ -40,25 +39,9 @@ Ends e =
     ((first_of e == 46) ≡ false) × ((first_of e == 101) ≡ false) × ((first_of e == 69) ≡ false) × (is_ascii_digit (first_of e) ≡ false)
     × (((first_of e == 123) || (first_of e == 125) || (first_of e == 91) || (first_of e == 93) || (first_of e == 58) || (first_of e == 44) || is_space (first_of e)) ≡ true)
 
--- after a number that e ends stand the tokens ts
-abbrev pub Before : List ℕ → Tokens → Type 0
-Before xs ts = drop 1 (tokens (49 ∷ xs)) ≡ ts
-
 no_digits : (e : List ℕ) → is_ascii_digit (first_of e) ≡ false → prefix_len is_ascii_digit e ≡ 0
 no_digits [] none = refl
 no_digits (c ∷ e) none = ap (λ b. cond b (1 + prefix_len is_ascii_digit e) 0) none
-
-pub comma_ends : (z : List ℕ) (ts : Tokens) → tokens (34 ∷ 34 ∷ 44 ∷ z) ≡ text_token false [] ∷ ts → Before (44 ∷ z) ts
-unfolding serde_json_on_literals
-comma_ends z ts e = ap (drop 1) e
-
-pub bracket_ends : (z : List ℕ) (ts : Tokens) → tokens (34 ∷ 34 ∷ 93 ∷ z) ≡ text_token false [] ∷ ts → Before (93 ∷ z) ts
-unfolding serde_json_on_literals
-bracket_ends z ts e = ap (drop 1) e
-
-pub space_ends : (x : ℕ) (z : List ℕ) (ts : Tokens) → is_space x ≡ true → tokens (34 ∷ 34 ∷ x ∷ z) ≡ text_token false [] ∷ ts → Before (x ∷ z) ts
-unfolding serde_json_on_literals
-space_ends x z ts = at_space (λ x. tokens (34 ∷ 34 ∷ x ∷ z) ≡ text_token false [] ∷ ts → Before (x ∷ z) ts) (λ e. grind (arith, e)) (λ e. grind (arith, e)) (λ e. grind (arith, e)) (λ e. grind (arith, e)) x
 
 -- ---- digits before it
 
@@ -81,7 +64,7 @@ unfolding serde_json_on_literals
 further x xs s z (a, b, c, d, e, f, g, h, i, j, k, l, m, n, o, p, q) first (u, count, rest) taken (dot, lower, upper, none, ends) =
     rw (a, b, c, d, e, f, g, h, i, j, k, l, m, n, o, p, q, first, count, not_zero u, rest, dot, lower, upper, ends, taken)
 
-comma_further : (x : ℕ) (xs z : List ℕ) → IsOther x → (x == 48) ≡ false → IsRun xs z → Ends z → tokens (34 ∷ 34 ∷ 44 ∷ x ∷ xs) ≡ text_token false [] ∷ tokens (x ∷ xs)
+comma_further : (x : ℕ) (xs z : List ℕ) → IsOther x → (x == 48) ≡ false → IsRun xs z → Ends z → after_value (44 ∷ x ∷ xs) ≡ tokens (x ∷ xs)
 unfolding serde_json_on_literals
 comma_further x xs z (a, b, c, d, e, f, g, h, i, j, k, l, m, n, o, p, q) first (u, count, rest) (dot, lower, upper, none, ends) =
     rw (a, b, c, d, e, f, g, h, i, j, k, l, m, n, o, p, q, first, count, not_zero u, rest, dot, lower, upper, ends)
@@ -96,7 +79,7 @@ nought : (z : List ℕ) → Ends z → tokens (48 ∷ z) ≡ number_token false 
 unfolding serde_json_on_literals
 nought z (dot, lower, upper, none, ends) = rw (no_digits z none, dot, lower, upper, ends, whole_is 48 [] z)
 
-comma_nought : (z : List ℕ) → Ends z → tokens (34 ∷ 34 ∷ 44 ∷ 48 ∷ z) ≡ text_token false [] ∷ tokens (48 ∷ z)
+comma_nought : (z : List ℕ) → Ends z → after_value (44 ∷ 48 ∷ z) ≡ tokens (48 ∷ z)
 unfolding serde_json_on_literals
 comma_nought z (dot, lower, upper, none, ends) = rw (dot, lower, upper, ends)
 
@@ -131,12 +114,12 @@ short : (n : ℕ) → n < 2 ^ 64 → IsShort (decimal n)
 short zero h = inl (decimal_digit 0 (omega arith))
 short (suc n) h = further_short (decimal (suc n)) (decimal_is_IsNumeral (suc n) h).0.1 (first_decimal (suc n) (omega arith) h)
 
-short_before : (s e : List ℕ) → IsShort s → Ends e → (tokens (s ++ e) ≡ number_token false s ∷ drop 1 (tokens (49 ∷ e))) × (tokens (34 ∷ 34 ∷ 44 ∷ (s ++ e)) ≡ text_token false [] ∷ tokens (s ++ e))
+short_before : (s e : List ℕ) → IsShort s → Ends e → (tokens (s ++ e) ≡ number_token false s ∷ drop 1 (tokens (49 ∷ e))) × (after_value (44 ∷ (s ++ e)) ≡ tokens (s ++ e))
 short_before s e (inl is) ends = rw is (nought e ends, comma_nought e ends)
 short_before s e (inr (x, ds, is, first, digit, p)) ends = rw is (
   further x (ds ++ e) (x ∷ ds) e (is_other x digit) first (run ds e p ends) (whole_is x ds e) ends ∙ ap (λ ts. number_token false (x ∷ ds) ∷ ts) (after_digits ds e p ends),
   comma_further x (ds ++ e) e (is_other x digit) first (run ds e p ends) ends,
 )
 
-pub decimal_before : (n : ℕ) (e : List ℕ) → n < 2 ^ 64 → Ends e → (tokens (decimal n ++ e) ≡ number_token false (decimal n) ∷ drop 1 (tokens (49 ∷ e))) × (tokens (34 ∷ 34 ∷ 44 ∷ (decimal n ++ e)) ≡ text_token false [] ∷ tokens (decimal n ++ e))
+pub decimal_before : (n : ℕ) (e : List ℕ) → n < 2 ^ 64 → Ends e → (tokens (decimal n ++ e) ≡ number_token false (decimal n) ∷ drop 1 (tokens (49 ∷ e))) × (after_value (44 ∷ (decimal n ++ e)) ≡ tokens (decimal n ++ e))
 decimal_before n e fits ends = short_before (decimal n) e (short n fits) ends

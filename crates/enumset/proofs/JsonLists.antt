@@ -1,32 +1,27 @@
 -- What serde_json reads of a list of plain strings, one string at a time, and what it writes for one.
 use Rattle.std.proofs.Common.{◌≡◌, ℕ, List, [], ◌∷◌, ◌++◌, Some, map, refl, sym, ap, ◌∙◌, arith, append_assoc, subst, Bool, false, true, cond}
-use Rattle.enumset.proofs.Common.{⊤, array, string, item, no_items, Items, read, items_of, compact_text, items_text, comma_if, text_token, serde_json_on_literals, BitSet, ascending, map-map, Names, name_of, list_value, IsPlainByte, IsPlain, IsTextOf, AreSpaces}
-use Rattle.enumset.proofs.JsonTokens.{tokens, Tokens}
-use Rattle.enumset.proofs.JsonSteps.{plain_byte, quote_comma, quote_end, empty_list, item_step}
-use Rattle.enumset.proofs.JsonSpaces.{same_read, spaces_first, spaces_after_bracket, spaces_after_string, spaces_after_comma, spaces_after_last, spaces_after_none}
-
-string_before : (s rest : List ℕ) (ts : Tokens) → IsPlain s → tokens (34 ∷ 34 ∷ rest) ≡ text_token false [] ∷ ts → tokens (34 ∷ (s ++ 34 ∷ rest)) ≡ text_token false s ∷ ts
-string_before [] rest ts p e = e
-string_before (x ∷ s) rest ts p e = plain_byte x (s ++ 34 ∷ rest) s ts p.0.0 p.0.1 p.0.2 (string_before s rest ts p.1 e)
+use Rattle.enumset.proofs.Common.{⊤, array, string, item, no_items, Items, read, items_of, compact_text, items_text, comma_if, text_token, serde_json_on_literals, BitSet, ascending, map-map, Names, name_of, list_value, IsPlainByte, IsPlain, IsTextOf, AreSpaces, Passed}
+use Rattle.enumset.proofs.JsonTokens.{tokens}
+use Rattle.enumset.proofs.JsonItems.{name_item, quote_next, next_item, passed, opens, closes, last_item, no_item}
+use Rattle.enumset.proofs.JsonSteps.{same_read, empty_list, item_step}
 
 -- ---- what is read, with spaces between tokens
 
-pub no_strings : (f g h : List ℕ) → AreSpaces f → AreSpaces g → AreSpaces h → read (f ++ 91 ∷ (g ++ 93 ∷ h)) ≡ Some (array no_items)
-no_strings f g h fs gs hs = same_read (f ++ 91 ∷ (g ++ 93 ∷ h)) (91 ∷ 93 ∷ []) (spaces_first f _ fs ∙ spaces_after_bracket g (93 ∷ h) gs ∙ spaces_after_none h hs) ∙ empty_list
+-- a list from its first item on
+pub opened : (text rest left : List ℕ) → Passed text 91 rest → tokens rest ≡ tokens left → read text ≡ read (91 ∷ left)
+opened text rest left found same = same_read text (91 ∷ left) (passed text 91 rest found ∙ opens.0 rest ∙ ap (λ ts. tokens (91 ∷ []) ++ ts) same ∙ sym (opens.0 left))
 
-pub first_string : (f g left : List ℕ) → AreSpaces f → AreSpaces g → read (f ++ 91 ∷ (g ++ 34 ∷ left)) ≡ read (91 ∷ 34 ∷ left)
-first_string f g left fs gs = same_read (f ++ 91 ∷ (g ++ 34 ∷ left)) (91 ∷ 34 ∷ left) (spaces_first f _ fs ∙ spaces_after_bracket g (34 ∷ left) gs)
+pub no_items_read : (text rest end : List ℕ) → Passed text 91 rest → Passed rest 93 end → AreSpaces end → read text ≡ Some (array no_items)
+no_items_read text rest end found close spaced = opened text rest (93 ∷ []) found (no_item 93 closes.0 rest end close spaced) ∙ empty_list
 
-pub next_string : (s g h next : List ℕ) (ds : Items) → IsPlain s → AreSpaces g → AreSpaces h → read (91 ∷ 34 ∷ next) ≡ Some (array ds)
-    → read (91 ∷ 34 ∷ (s ++ 34 ∷ (g ++ 44 ∷ (h ++ 34 ∷ next)))) ≡ Some (array (item (string s) ds))
-next_string s g h next ds p gs hs =
-    item_step (34 ∷ (s ++ 34 ∷ (g ++ 44 ∷ (h ++ 34 ∷ next)))) (34 ∷ next) s ds
-    (string_before s (g ++ 44 ∷ (h ++ 34 ∷ next)) (tokens (34 ∷ next)) p (spaces_after_string g (44 ∷ (h ++ 34 ∷ next)) gs ∙ spaces_after_comma h (34 ∷ next) hs ∙ quote_comma next))
+module _ (left s rest : List ℕ) (plain : IsPlain s) (split : left ≡ s ++ 34 ∷ rest) where
+  pub next_string : (after next : List ℕ) (ds : Items) → Passed rest 44 after → Passed after 34 next → read (91 ∷ 34 ∷ next) ≡ Some (array ds) → read (91 ∷ 34 ∷ left) ≡ Some (array (item (string s) ds))
+  next_string after next ds comma quote =
+      item_step (34 ∷ left) (34 ∷ next) s ds (next_item (34 ∷ left) (text_token false s ∷ []) rest (name_item left s rest plain split) after _ comma (quote_next after next quote))
 
-pub last_string : (s g h : List ℕ) → IsPlain s → AreSpaces g → AreSpaces h → read (91 ∷ 34 ∷ (s ++ 34 ∷ (g ++ 93 ∷ h))) ≡ Some (array (item (string s) no_items))
-last_string s g h p gs hs =
-    item_step (34 ∷ (s ++ 34 ∷ (g ++ 93 ∷ h))) (93 ∷ []) s no_items
-    (string_before s (g ++ 93 ∷ h) (tokens (93 ∷ [])) p (spaces_after_string g (93 ∷ h) gs ∙ spaces_after_last h hs ∙ quote_end)) empty_list
+  pub last_string : (end : List ℕ) → Passed rest 93 end → AreSpaces end → read (91 ∷ 34 ∷ left) ≡ Some (array (item (string s) no_items))
+  last_string end close spaced =
+      item_step (34 ∷ left) (93 ∷ []) s no_items (last_item 93 closes.0 rest end close spaced (34 ∷ left) (text_token false s ∷ []) (name_item left s rest plain split)) empty_list
 
 -- ---- what is written
 
@@ -97,8 +92,8 @@ strings_are later (name ∷ names) p = ap (λ t. comma_if later ++ t) (ap (λ t.
 
 strings_read : (names : List (List ℕ)) → ArePlain names → read (strings names) ≡ Some (array (items_of (map string names)))
 strings_read [] p = empty_list
-strings_read (name ∷ []) p = last_string name [] [] p.0 tt tt
-strings_read (name ∷ other ∷ names) p = next_string name [] [] _ (items_of (map string (other ∷ names))) p.0 tt tt (strings_read (other ∷ names) p.1)
+strings_read (name ∷ []) p = last_string _ name _ p.0 refl [] ([], tt, refl) tt
+strings_read (name ∷ other ∷ names) p = next_string _ name _ p.0 refl _ _ (items_of (map string (other ∷ names))) ([], tt, refl) ([], tt, refl) (strings_read (other ∷ names) p.1)
 
 pub list_written : (names : Names) (s : BitSet) (text : List ℕ) → let texts = map (name_of names) (ascending s) in text ≡ strings texts → ArePlain texts → IsTextOf (list_value names s) text
 list_written names s text is plain =

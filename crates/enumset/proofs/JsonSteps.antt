@@ -1,22 +1,11 @@
 -- One step of the reader of serde_json at a time, from the end of a text to its front.
-use Rattle.std.proofs.Common.{◌≡◌, ℕ, suc, List, [], ◌∷◌, refl, Some, arith, false, nat_lt, ◌==◌}
+use Rattle.std.proofs.Common.{◌≡◌, ℕ, suc, List, [], ◌∷◌, refl, Some, arith, false}
 use Rattle.enumset.proofs.Common.{array, string, item, no_items, Items, read, text_token, serde_json_on_literals}
-use Rattle.enumset.proofs.JsonTokens.{tokens, Tokens}
+use Rattle.enumset.proofs.JsonTokens.{tokens}
 
--- one more plain byte of a string
-pub plain_byte : (x : ℕ) (xs s : List ℕ) (ts : Tokens) → (x == 34) ≡ false → (x == 92) ≡ false → nat_lt x 32 ≡ false
-    → tokens (34 ∷ xs) ≡ text_token false s ∷ ts → tokens (34 ∷ x ∷ xs) ≡ text_token false (x ∷ s) ∷ ts
-unfolding serde_json_on_literals
-plain_byte x xs s ts q b c h = grind (arith, h, q, b, c)
-
--- the end of a string before a further one
-pub quote_comma : (xs : List ℕ) → tokens (34 ∷ 34 ∷ 44 ∷ 34 ∷ xs) ≡ text_token false [] ∷ tokens (34 ∷ xs)
-unfolding serde_json_on_literals
-quote_comma xs = grind arith
-
-pub quote_end : tokens (34 ∷ 34 ∷ 93 ∷ []) ≡ text_token false [] ∷ tokens (93 ∷ [])
-unfolding serde_json_on_literals
-quote_end = refl
+-- texts of the same tokens read as the same
+pub same_read : (a b : List ℕ) → tokens a ≡ tokens b → read a ≡ read b
+same_read a b e = rw e refl
 
 pub empty_list : read (91 ∷ 93 ∷ []) ≡ Some (array no_items)
 unfolding serde_json_on_literals

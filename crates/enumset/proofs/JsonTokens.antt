@@ -1,6 +1,6 @@
 -- The tokens of a text, taken from a definition of serde_json that speaks of them, since they stand in a crate that this
 -- one does not name.
-use Rattle.std.proofs.Common.{◌≡◌, ℕ, List, false}
+use Rattle.std.proofs.Common.{◌≡◌, ℕ, List, ◌∷◌, drop, false}
 use Rattle.enumset.proofs.Common.{Data, null, IsInOrder, outline, start}
 
 abbrev pub TypeOf : {A : Type 0} → A → Type 0
@@ -18,3 +18,7 @@ by f g h same = f
 -- the tokens of a text
 abbrev pub tokens : List ℕ → Tokens
 tokens = by _ _ _ (λ text d w. w)
+
+-- the tokens of what stands after a value
+abbrev pub after_value : List ℕ → Tokens
+after_value rest = drop 1 (tokens (49 ∷ 32 ∷ rest))

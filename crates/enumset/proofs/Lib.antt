@@ -10,12 +10,12 @@ pub mod JsonWords
 pub mod JsonLaws
 pub mod WrittenValues
 mod JsonTokens
+mod JsonDigits
+mod JsonItems
 mod JsonSteps
-mod JsonSpaces
 mod JsonLists
 mod JsonScans
 mod PlainLists
-mod JsonDigits
 mod JsonNumbers
 mod NumberScans
 mod PlainWords
@@ -23,7 +23,6 @@ mod DigitsWritten
 mod WordsWritten
 mod MapHandles
 mod MapTokens
-mod MapSteps
 mod MapsWritten
 mod MapOrder
 mod MapsRead

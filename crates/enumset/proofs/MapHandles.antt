@@ -13,6 +13,11 @@ unfolding then
 then_is f None = refl
 then_is f (Some a) = refl
 
+pub mapped_is : {A B : Type 0} (f : A → B) (o : Option A) → option_map f o ≡ then (λ a. Some (f a)) o
+unfolding then
+mapped_is f None = refl
+mapped_is f (Some a) = refl
+
 abbrev pub pick : (d : ℕ) (ts : Tokens) (f : Json → Option Data) (g : Json × Tokens → Option Json) (o : Option (Json × Tokens))
     → ((text : List ℕ) → d ≡ 127 → ts ≡ tokens text → then f (then g o) ≡ then f (then g o)) → Option (Json × Tokens)
 pick d ts f g o same = o
@@ -31,22 +36,12 @@ whole text j e = rw e refl
 abbrev pub JsonMembers : Type 0
 JsonMembers = TypeOf (members_outline no_members)
 
--- `option_map`, which does not unfold
-unfoldable pub mapped : {A B : Type 0} → (A → B) → Option A → Option B
-mapped f None = None
-mapped f (Some a) = Some (f a)
-
-pub mapped_is : {A B : Type 0} (f : A → B) (o : Option A) → option_map f o ≡ mapped f o
-unfolding mapped
-mapped_is f None = refl
-mapped_is f (Some a) = refl
-
 -- the token of an opening brace, before others
-abbrev pub brace_before : Tokens → Tokens
+abbrev brace_before : Tokens → Tokens
 brace_before ts = tokens (123 ∷ []) ++ ts
 
-abbrev pub pick_members : (d n : ℕ) (ts : Tokens) (f : JsonMembers × Tokens → Json × Tokens) (o : Option (JsonMembers × Tokens))
-    → (n ≡ length ts → mapped f o ≡ mapped f o) → Option (JsonMembers × Tokens)
+abbrev pub pick_members : (d n : ℕ) (ts : Tokens) (f : JsonMembers × Tokens → Option (Json × Tokens)) (o : Option (JsonMembers × Tokens))
+    → (n ≡ length ts → then f o ≡ then f o) → Option (JsonMembers × Tokens)
 pick_members d n ts f o same = o
 
 -- the members at the front of tokens, up to a closing brace, and the tokens after it

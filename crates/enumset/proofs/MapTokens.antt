@@ -1,8 +1,9 @@
 -- What serde_json reads of the tokens of an object of booleans.
-use Rattle.std.proofs.Common.{◌≡◌, ◌≤◌, ℕ, zero, suc, List, [], ◌∷◌, ◌++◌, length, Some, refl, ap, ◌∙◌, arith, Bool, nat_lt, ◌==◌, true, false, option_map}
-use Rattle.enumset.proofs.Common.{object, boolean, Members, no_members, member, put, read, of_members, outline, members_outline, text_token, bool_token, serde_json_on_literals, IsPlain}
+use Rattle.std.proofs.Common.{◌≡◌, ◌+◌, ◌≤◌, ℕ, zero, suc, List, [], ◌∷◌, ◌++◌, length, Some, refl, ap, ◌∙◌, arith, Bool, true, false, option_map}
+use Rattle.enumset.proofs.Common.{object, boolean, Members, no_members, member, put, read, of_members, outline, members_outline, text_token, bool_token, serde_json_on_literals, AreSpaces, Passed, IsMember}
 use Rattle.enumset.proofs.JsonTokens.{tokens, Tokens}
-use Rattle.enumset.proofs.MapHandles.{value, members, whole, brace_before, members_end, member_step, object_value}
+use Rattle.enumset.proofs.JsonItems.{member_item, quote_next, next_item, passed, opens, closes, last_item}
+use Rattle.enumset.proofs.MapHandles.{value, members, whole, members_end, member_step, object_value}
 
 -- the members of names with booleans, in the order given
 abbrev listed : List (List ℕ × Bool) → Members
@@ -14,46 +15,39 @@ abbrev pub put_all : List (List ℕ × Bool) → Members → Members
 put_all [] found = found
 put_all (m ∷ ms) found = put_all ms (put m.0 (boolean m.1) found)
 
-plain_byte_of_key : (x : ℕ) (xs s : List ℕ) (ts : Tokens) → (x == 34) ≡ false → (x == 92) ≡ false → nat_lt x 32 ≡ false
-    → tokens (34 ∷ xs) ≡ text_token true s ∷ ts → tokens (34 ∷ x ∷ xs) ≡ text_token true (x ∷ s) ∷ ts
-unfolding serde_json_on_literals
-plain_byte_of_key x xs s ts q b c h = grind (arith, h, q, b, c)
-
-pub key_before : (s rest : List ℕ) (ts : Tokens) → IsPlain s → tokens (34 ∷ 34 ∷ rest) ≡ text_token true [] ∷ ts → tokens (34 ∷ (s ++ 34 ∷ rest)) ≡ text_token true s ∷ ts
-key_before [] rest ts p e = e
-key_before (x ∷ s) rest ts p e = plain_byte_of_key x (s ++ 34 ∷ rest) s ts p.0.0 p.0.1 p.0.2 (key_before s rest ts p.1 e)
-
 -- the tokens after the brace
-unfoldable pub member_tokens : List (List ℕ × Bool) → Tokens
+abbrev pub member_tokens : List (List ℕ × Bool) → Tokens
 member_tokens [] = tokens (125 ∷ [])
 member_tokens (m ∷ ms) = text_token true m.0 ∷ bool_token false m.1 ∷ member_tokens ms
 
 -- the members are read, with fuel for one step each and for the end
 all_members : (d n : ℕ) (ms : List (List ℕ × Bool)) → length ms ≤ n → members (suc d) (suc n) (member_tokens ms) ≡ Some (members_outline (listed ms), [])
-unfolding member_tokens
 all_members d n [] enough = members_end (suc d) n
-all_members d zero (m ∷ ms) enough = grind (arith, enough)
+all_members d zero (m ∷ ms) enough = absurd (omega (arith, enough))
 all_members d (suc n) (m ∷ ms) enough = member_step d (suc n) (member_tokens ms) m.0 m.1 (listed ms) (all_members d n ms (omega (arith, enough)))
 
-one_token : length (tokens (125 ∷ [])) ≡ 1
+count_tokens : (ms : List (List ℕ × Bool)) → length (member_tokens ms) ≡ suc (length ms + length ms)
 unfolding serde_json_on_literals
-one_token = refl
-
-count_tokens : (ms : List (List ℕ × Bool)) → (n : ℕ) × (length (member_tokens ms) ≡ suc n) × (length ms ≤ n)
-unfolding member_tokens
-count_tokens [] = (0, one_token, omega arith)
-count_tokens (m ∷ ms) = let rest = count_tokens ms in (suc (suc rest.0), ap (λ n. suc (suc n)) rest.1, omega (arith, rest.2))
-
-object_at : (d : ℕ) (ms : List (List ℕ × Bool)) → value (suc (suc d)) (brace_before (member_tokens ms)) ≡ Some (outline (object (listed ms)), [])
-object_at d ms =
-    let count = count_tokens ms in
-    object_value (suc d) (member_tokens ms) (listed ms) (ap (λ n. members (suc d) n (member_tokens ms)) count.1 ∙ all_members d count.0 ms count.2)
+count_tokens [] = refl
+count_tokens (m ∷ ms) = omega (arith, count_tokens ms)
 
 put_in : (ms : List (List ℕ × Bool)) (found : Members) → of_members (members_outline (listed ms)) found ≡ Some (put_all ms found)
 put_in [] found = refl
 put_in (m ∷ ms) found = put_in ms (put m.0 (boolean m.1) found)
 
--- a text with the tokens of members reads as the members, put in one after another
-pub read_members : (text : List ℕ) (ms : List (List ℕ × Bool)) → tokens text ≡ brace_before (member_tokens ms) → read text ≡ Some (object (put_all ms no_members))
-read_members text ms e =
-    whole text (outline (object (listed ms))) (ap (value 127) e ∙ object_at 125 ms) ∙ ap (option_map object) (put_in ms no_members)
+-- a text of members after an opening brace reads as the members, put in one after another
+pub opened : (text rest : List ℕ) (ms : List (List ℕ × Bool)) → Passed text 123 rest → tokens rest ≡ member_tokens ms → read text ≡ Some (object (put_all ms no_members))
+opened text rest ms found later =
+    let all = passed text 123 rest found ∙ opens.1 rest ∙ ap (λ ts. tokens (123 ∷ []) ++ ts) later in
+    let fuel = ap (λ n. members 126 n (member_tokens ms)) (count_tokens ms) ∙ all_members 125 (length ms + length ms) ms (omega arith) in
+    whole text (outline (object (listed ms))) (ap (value 127) all ∙ object_value 126 (member_tokens ms) (listed ms) fuel) ∙ ap (option_map object) (put_in ms no_members)
+
+module _ (left name : List ℕ) (b : Bool) (rest : List ℕ) (here : IsMember left name b rest) where
+  abbrev here_are : Tokens
+  here_are = text_token true name ∷ bool_token false b ∷ []
+
+  pub next_member : (after next : List ℕ) (ms : List (List ℕ × Bool)) → Passed rest 44 after → Passed after 34 next → tokens (34 ∷ next) ≡ member_tokens ms → tokens (34 ∷ left) ≡ member_tokens ((name, b) ∷ ms)
+  next_member after next ms comma quote later = next_item (34 ∷ left) here_are rest (member_item left name b rest here) after _ comma (quote_next after next quote ∙ later)
+
+  pub last_member : (end : List ℕ) → Passed rest 125 end → AreSpaces end → tokens (34 ∷ left) ≡ member_tokens ((name, b) ∷ [])
+  last_member end close spaced = last_item 125 closes.1 rest end close spaced (34 ∷ left) here_are (member_item left name b rest here)

@@ -1,9 +1,9 @@
 -- What a scanner of maps keeps, and what the map that it has read is as a set.
 use Rattle.std.proofs.Common.{◌≡◌, ◌+◌, ℕ, Bool, true, false, cond, Ordering, Less, Equal, Greater, Some, None, Ok, List, [], ◌∷◌, ◌++◌, refl, sym, ap, subst, ◌∙◌, inr, true≢false, arith, is_none, option_map, filter_map, nat_cmp}
-use Rattle.enumset.proofs.Common.{cons_option, position_from, match_ordering, slice_cmp, position_from-zero, insert_comm, contains_inserted, members, nat_tests, BitSet, empty, contains, insert, from_list, Data, boolean, object, Members, no_members, member, put, read, Names, bit_named, unless_fault, boolean_before, IsMember, members_in, names_in, true_names, is_no_boolean, is_unknown, known_set, decided, set_of_map, AreSpaces, Passed, IsResult, IsReadOf, Unknown, NotABoolean}
+use Rattle.enumset.proofs.Common.{cons_option, position_from, match_ordering, slice_cmp, position_from-zero, insert_comm, contains_inserted, members, nat_tests, BitSet, empty, contains, insert, from_list, Data, boolean, object, Members, no_members, member, put, read, Names, bit_named, unless_fault, IsMember, members_in, names_in, true_names, is_no_boolean, is_unknown, known_set, decided, set_of_map, AreSpaces, Passed, IsResult, IsReadOf, Unknown, NotABoolean}
 use Rattle.enumset.proofs.JsonTokens.{tokens}
-use Rattle.enumset.proofs.MapTokens.{put_all, member_tokens}
-use Rattle.enumset.proofs.MapSteps.{first_member, next_member, last_member, no_member}
+use Rattle.enumset.proofs.JsonItems.{passed, closes, no_item}
+use Rattle.enumset.proofs.MapTokens.{put_all, member_tokens, opened, next_member, last_member}
 use Rattle.enumset.proofs.NamesTaken.{Each, put_cases, each_put}
 use Rattle.enumset.proofs.PlainLists.{no_unknown}
 
@@ -66,8 +66,7 @@ module _ (names : Names) where
 
   pub scan_begins : (text bytes rest left : List ℕ) → bytes ≡ text → Passed bytes 123 rest → Passed rest 34 left → Scanned text left empty empty
   unfolding from_list
-  scan_begins text bytes rest left same (f, fs, first) (g, gs, second) =
-      (no_members, tt, refl, λ ms later. ap read (sym same ∙ first ∙ ap (λ r. f ++ 123 ∷ r) second) ∙ first_member f g (34 ∷ left) ms fs gs later)
+  scan_begins text bytes rest left same found quote = (no_members, tt, refl, λ ms later. ap read (sym same) ∙ opened bytes rest ms found (passed rest 34 left quote ∙ later))
 
   module _ (text left : List ℕ) (seen s : BitSet) (name : List ℕ) (b : Bool) (rest : List ℕ) (c : ℕ) (so_far : Scanned text left seen s) (here : IsMember left name b rest) (is : bit_named names name ≡ Some c) (new : contains seen c ≡ false) where
     abbrev done : Members
@@ -80,23 +79,20 @@ module _ (names : Names) where
     set_done = set_put seen name b c so_far.0 is new so_far.1 ∙ ap (λ t. cond b (insert t c) t) so_far.2
 
     pub scan_next : (after next : List ℕ) → Passed rest 44 after → Passed after 34 next → Scanned text next (insert seen c) (cond b (insert s c) s)
-    scan_next after next (i, is_i, comma) (j, is_j, quote) = (
+    scan_next after next comma quote = (
       done,
       each_done,
       set_done,
-      λ ms later.
-          let (plain, (g, h, gs, hs, left_is)) = here in
-          so_far.3 ((name, b) ∷ ms) (ap (λ l. tokens (34 ∷ l)) (left_is ∙ ap (λ r. name ++ 34 ∷ (g ++ 58 ∷ (h ++ boolean_before b r))) (comma ∙ ap (λ r. i ++ 44 ∷ r) quote)) ∙ next_member name b g h i j plain gs hs is_i is_j next ms later),
+      λ ms later. so_far.3 ((name, b) ∷ ms) (next_member left name b rest here after next ms comma quote later),
     )
 
     pub scan_ends : (end : List ℕ) (unknown : Unknown) → Passed rest 125 end → AreSpaces end → IsReadOf (set_of_map names unknown) text (Ok (cond b (insert s c) s))
-    scan_ends end unknown (i, is_i, brace) is_end =
-        let (plain, (g, h, gs, hs, left_is)) = here in
-        let whole : read text ≡ Some (object done) = so_far.3 ((name, b) ∷ []) (ap (λ l. tokens (34 ∷ l)) (left_is ∙ ap (λ r. name ++ 34 ∷ (g ++ 58 ∷ (h ++ boolean_before b r))) brace) ∙ last_member name b g h i end plain gs hs is_i is_end) in
+    scan_ends end unknown close spaced =
+        let whole : read text ≡ Some (object done) = so_far.3 ((name, b) ∷ []) (last_member left name b rest here end close spaced) in
         inr (subst (λ o. IsResult (option_map (set_of_map names unknown) o) (Ok (cond b (insert s c) s))) (sym whole) (ap Ok (sym set_done) ∙ sym (whole_set (insert seen c) unknown done each_done)))
 
   pub scan_none : (text bytes rest end : List ℕ) (unknown : Unknown) → bytes ≡ text → Passed bytes 123 rest → Passed rest 125 end → AreSpaces end → IsReadOf (set_of_map names unknown) text (Ok empty)
   unfolding from_list
-  scan_none text bytes rest end unknown same (f, fs, first) (g, gs, second) is_end =
-      let whole : read text ≡ Some (object no_members) = ap read (sym same ∙ first ∙ ap (λ r. f ++ 123 ∷ r) second) ∙ first_member f g (125 ∷ end) [] fs gs (no_member end is_end) in
+  scan_none text bytes rest end unknown same found close spaced =
+      let whole : read text ≡ Some (object no_members) = ap read (sym same) ∙ opened bytes rest [] found (no_item 125 closes.1 rest end close spaced) in
       inr (subst (λ o. IsResult (option_map (set_of_map names unknown) o) (Ok empty)) (sym whole) (sym (whole_set empty unknown no_members tt)))

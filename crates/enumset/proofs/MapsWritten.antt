@@ -4,8 +4,7 @@ use Rattle.enumset.proofs.Common.{nat_list_cmp_total, AllByRecursion, IsStrictly
 use Rattle.enumset.proofs.JsonLists.{ArePlain, joined, text_before}
 use Rattle.enumset.proofs.JsonTokens.{tokens}
 use Rattle.enumset.proofs.MapOrder.{Texts, all_true, all_sorted}
-use Rattle.enumset.proofs.MapTokens.{put_all, member_tokens}
-use Rattle.enumset.proofs.MapSteps.{next_member, last_member, first_member, no_member}
+use Rattle.enumset.proofs.MapTokens.{put_all, member_tokens, opened, next_member, last_member}
 
 abbrev pairs : Texts → List (List ℕ × Bool)
 pairs names = map (λ n. (n.now, true)) names
@@ -36,13 +35,13 @@ members_are later [] p = refl
 members_are later (n ∷ names) p = ap (λ t. comma_if later ++ t) (ap (λ t. 34 ∷ (n.now ++ 34 ∷ 58 ∷ boolean_before true t)) (members_are true names p.1) ∙ sym (text_before n.now _ p.0))
 
 members_tokens : (names : Texts) → ArePlain (map (λ n. n.now) names) → tokens (left_of false names) ≡ member_tokens (pairs names)
-members_tokens [] p = no_member [] tt
-members_tokens (n ∷ []) p = last_member n.now true [] [] [] [] p.0 tt tt tt tt
-members_tokens (n ∷ m ∷ names) p = next_member n.now true [] [] [] [] p.0 tt tt tt tt _ (pairs (m ∷ names)) (members_tokens (m ∷ names) p.1)
+members_tokens [] p = refl
+members_tokens (n ∷ []) p = last_member _ n.now true _ (p.0, ([], [], tt, tt, refl)) [] ([], tt, refl) tt
+members_tokens (n ∷ m ∷ names) p = next_member _ n.now true _ (p.0, ([], [], tt, tt, refl)) _ _ (pairs (m ∷ names)) ([], tt, refl) ([], tt, refl) (members_tokens (m ∷ names) p.1)
 
 pub map_written : (bits : Names) (s : BitSet) (names : Texts) (text : List ℕ) → AreMembers bits s names → text ≡ 123 ∷ left_of false names → ArePlain (map (λ n. n.now) names) → IsTextOf (map_value bits s) text
 map_written bits s names text are is plain =
     let same = all_sorted bits s names are in (
       is ∙ ap (λ t. 123 ∷ t) (members_are false names plain) ∙ ap (λ ms. compact_text (object ms)) same,
-      ap read is ∙ first_member [] [] (left_of false names) (pairs names) tt tt (members_tokens names plain) ∙ ap (λ ms. Some (object ms)) (put_rising names are.0 ∙ same),
+      ap read is ∙ opened _ (left_of false names) (pairs names) ([], tt, refl) (members_tokens names plain) ∙ ap (λ ms. Some (object ms)) (put_rising names are.0 ∙ same),
     )

@@ -1,7 +1,8 @@
 -- What the loop of the reader of plain lists keeps.
 use Rattle.std.proofs.Common.{◌≡◌, ◌+◌, ℕ, cond, List, [], ◌∷◌, ◌++◌, Option, Some, None, Ok, refl, sym, ap, ◌∙◌, inr, subst, is_none, option_map, Result, true}
 use Rattle.enumset.proofs.Common.{option_or, BitSet, empty, Data, array, string, item, no_items, Items, read, values_of, set_of_list, decided, IsPlain, AreSpaces, Passed, with_named, value_read, IsResult, IsReadOf, Names, bit_named, JsonFault, Unknown, Drop, Refuse}
-use Rattle.enumset.proofs.JsonLists.{no_strings, first_string, next_string, last_string}
+use Rattle.enumset.proofs.JsonItems.{passed}
+use Rattle.enumset.proofs.JsonLists.{opened, no_items_read, next_string, last_string}
 use Rattle.enumset.proofs.NamesRead.{list_on, list_read_all, read_next, read_end}
 
 -- what a text's value is read as is what is read of the text
@@ -23,11 +24,11 @@ module _ (names : Names) (unknown : Unknown) (text : List ℕ) where
   read_as ds e = ap (option_map (set_of_list names unknown)) e ∙ ap Some (sym (list_read_all names unknown (values_of ds)))
 
   pub none_named : (bytes rest end : List ℕ) → bytes ≡ text → Passed bytes 91 rest → Passed rest 93 end → AreSpaces end → value_read (set_of_list names unknown) text ≡ Some (decided unknown None empty)
-  none_named bytes rest end same (f, fs, is) (g, gs, here) hs =
-      read_as no_items (ap read (sym same ∙ is ∙ ap (λ r. f ++ 91 ∷ r) here) ∙ no_strings f g end fs gs hs) ∙ ap Some (read_end _ _ _ _ names unknown 0 empty None [] refl)
+  none_named bytes rest end same found close spaced =
+      read_as no_items (ap read (sym same) ∙ no_items_read bytes rest end found close spaced) ∙ ap Some (read_end _ _ _ _ names unknown 0 empty None [] refl)
 
   pub goes_on_from : (bytes rest left : List ℕ) → bytes ≡ text → Passed bytes 91 rest → Passed rest 34 left → GoesOn left 0 empty None
-  goes_on_from bytes rest left same (f, fs, is) (g, gs, here) ds e = read_as ds (ap read (sym same ∙ is ∙ ap (λ r. f ++ 91 ∷ r) here) ∙ first_string f g left fs gs ∙ e)
+  goes_on_from bytes rest left same found quote ds e = read_as ds (ap read (sym same) ∙ opened bytes rest (34 ∷ left) found (passed rest 34 left quote) ∙ e)
 
   module _ (left name rest : List ℕ) (place : ℕ) (s next : BitSet) (first later : Option ℕ) (bit : Option ℕ) (so_far : GoesOn left place s first) (plain : IsPlain name) (split : left ≡ name ++ 34 ∷ rest)
       (named : bit ≡ bit_named names name) (added : next ≡ with_named bit s) (seen : later ≡ option_or first (cond (is_none bit) (Some place) None)) where
@@ -37,11 +38,8 @@ module _ (names : Names) (unknown : Unknown) (text : List ℕ) where
         ∙ (λ j. list_on names unknown (place + 1) (sym added j) (sym seen j) (values_of ds))
 
     pub goes_on : (after following : List ℕ) → Passed rest 44 after → Passed after 34 following → GoesOn following (place + 1) next later
-    goes_on after following (g, gs, is) (h, hs, here) ds e =
-        so_far (item (string name) ds) (ap (λ l. read (91 ∷ 34 ∷ l)) (split ∙ ap (λ r. name ++ 34 ∷ r) (is ∙ ap (λ r. g ++ 44 ∷ r) here)) ∙ next_string name g h following ds plain gs hs e)
-        ∙ ap Some (one_read ds)
+    goes_on after following comma quote ds e = so_far (item (string name) ds) (next_string left name rest plain split after following ds comma quote e) ∙ ap Some (one_read ds)
 
     pub ends : (end : List ℕ) → Passed rest 93 end → AreSpaces end → value_read (set_of_list names unknown) text ≡ Some (decided unknown later next)
-    ends end (g, gs, is) hs =
-        so_far (item (string name) no_items) (ap (λ l. read (91 ∷ 34 ∷ l)) (split ∙ ap (λ r. name ++ 34 ∷ r) is) ∙ last_string name g end plain gs hs)
-        ∙ ap Some (one_read no_items ∙ read_end _ _ _ _ names unknown (place + 1) next later [] refl)
+    ends end close spaced =
+        so_far (item (string name) no_items) (last_string left name rest plain split end close spaced) ∙ ap Some (one_read no_items ∙ read_end _ _ _ _ names unknown (place + 1) next later [] refl)

@@ -1,8 +1,10 @@
 -- What the loop of the reader of plain words keeps.
 use Rattle.std.proofs.Common.{◌≡◌, ◌<◌, ◌+◌, ◌/◌, ◌^◌, ℕ, Bool, true, false, ◌&&◌, if◌then◌else◌, Option, Some, IfSome, List, [], ◌∷◌, ◌++◌, length, length-append, decimal, refl, sym, ap, subst, ◌∙◌, append_assoc, arith, slice_index, ◌==◌, nat_lt}
 use Rattle.enumset.proofs.Common.{get_or-append_seam, get_or_append_left, then_some, BitSet, empty, is_subset, below, low, word, with_word, bits_of, read, words_value, AreSpaces, Passed}
-use Rattle.enumset.proofs.JsonLists.{no_strings}
-use Rattle.enumset.proofs.JsonNumbers.{IsNumberFirst, before_stop, comma_stops, bracket_stops, first_number, next_number, last_number}
+use Rattle.enumset.proofs.JsonTokens.{tokens}
+use Rattle.enumset.proofs.JsonLists.{opened, no_items_read}
+use Rattle.enumset.proofs.JsonItems.{spaces, comma_stops, closes, passed_stops}
+use Rattle.enumset.proofs.JsonNumbers.{IsNumberFirst, next_number, last_number}
 use Rattle.enumset.proofs.JsonWords.{AreRead, none_read, taken, same_before, all_read}
 
 -- what a value that is kept under a condition has
@@ -23,16 +25,16 @@ module _ (text : List ℕ) (width : ℕ) where
       (ws : List ℕ) × (read text ≡ Some (words_value ws)) × (s ≡ low (bits_of ws) width) × (is_whole ≡ is_subset (bits_of ws) (below width))
 
   pub no_words : (rest end : List ℕ) (s : BitSet) → Passed text 91 rest → Passed rest 93 end → AreSpaces end → s ≡ empty → IsRead s true
-  no_words rest end s (f, fs, is) (g, gs, here) hs none =
+  no_words rest end s found close spaced none =
       let all = all_read [] 0 width s true (subst (λ s. AreRead [] 0 width s true) (sym none) (none_read [] width)) (omega arith) in
-      ([], ap read (is ∙ ap (λ r. f ++ 91 ∷ r) here) ∙ no_strings f g end fs gs hs, all.0, all.1)
+      ([], no_items_read text rest end found close spaced, all.0, all.1)
 
   pub goes_on_from : (rest : List ℕ) (s : BitSet) → Passed text 91 rest → s ≡ empty → GoesOn rest 0 s true
-  goes_on_from rest s (f, fs, is) none = (
+  goes_on_from rest s found none = (
     [],
     refl,
     subst (λ s. AreRead [] 0 width s true) (sym none) (none_read [] width),
-    λ g digits more gs here first e. ap read (is ∙ ap (λ r. f ++ 91 ∷ r) here) ∙ first_number f g digits fs gs ∙ e,
+    λ g digits more gs here first e. opened text rest digits found (ap tokens here ∙ (spaces g digits gs).0) ∙ e,
   )
 
   module _ (left g digits rest : List ℕ) (place n x : ℕ) (s r : BitSet) (is_whole kept : Bool) (so_far : GoesOn left place s is_whole) (gs : AreSpaces g) (begin : left ≡ g ++ digits)
@@ -48,22 +50,20 @@ module _ (text : List ℕ) (width : ℕ) where
         taken done place width s is_whole (same_before so_far.0 place width s is_whole so_far.2 done same) n x r kept count here fits made whole
 
     pub goes_on : (after : List ℕ) → Passed rest 44 after → GoesOn after (place + 1) r kept
-    goes_on after (f, fs, is) = (
+    goes_on after comma = (
       done,
       omega (arith, length-append so_far.0 (x ∷ []), so_far.1),
       one_more,
       λ h next more hs here first e.
-          let all = split ∙ ap (λ t. decimal x ++ t) (is ∙ ap (λ t. f ++ 44 ∷ t) here) in
-          so_far.3 g digits (x ∷ more) gs begin (subst IsNumberFirst (sym all) (before_stop x f (44 ∷ (h ++ next)) fits fs (comma_stops (h ++ next)))) (ap (λ l. read (91 ∷ l)) all ∙ next_number x f h next _ fits fs hs first e)
+          so_far.3 g digits (x ∷ more) gs begin (x, rest, fits, (passed_stops rest 44 after (comma_stops after) comma).0, split) (next_number x digits rest fits split after h next _ comma hs here first e)
           ∙ ap (λ ws. Some (words_value ws)) (sym (append_assoc so_far.0 (x ∷ []) more)),
     )
 
     pub ends : (end : List ℕ) → Passed rest 93 end → AreSpaces end → IsRead r kept
-    ends end (f, fs, is) hs =
-        let text = split ∙ ap (λ t. decimal x ++ t) is in
+    ends end close spaced =
         let all = all_read done (place + 1) width r kept one_more (omega (arith, length-append so_far.0 (x ∷ []), so_far.1)) in (
           done,
-          so_far.3 g digits (x ∷ []) gs begin (subst IsNumberFirst (sym text) (before_stop x f (93 ∷ end) fits fs (bracket_stops end))) (ap (λ l. read (91 ∷ l)) text ∙ last_number x f end fits fs hs),
+          so_far.3 g digits (x ∷ []) gs begin (x, rest, fits, (passed_stops rest 93 end (closes.0 end).0 close).0, split) (last_number x digits rest fits split end close spaced),
           all.0,
           all.1,
         )

@@ -54,10 +54,10 @@ items_end (n ∷ ns) = (refl, refl, refl, refl, refl)
 
 array_reads : (ns : List ℕ) → AreSmall ns → read (compact_text (words_value ns)) ≡ Some (words_value ns)
 array_reads [] small = empty_list
-array_reads (n ∷ []) small = last_number n [] [] small.0 tt tt
+array_reads (n ∷ []) small = last_number n _ _ small.0 refl [] ([], tt, refl) tt
 array_reads (n ∷ m ∷ ns) small =
     let rest = items_text true (items_of (map number_value ns)) in
-    next_number n [] [] (decimal m ++ rest) (items_of (map number_value (m ∷ ns))) small.0 tt tt (m, rest, small.1.0, items_end ns, refl) (array_reads (m ∷ ns) small.1)
+    next_number n _ _ small.0 refl _ [] (decimal m ++ rest) (items_of (map number_value (m ∷ ns))) ([], tt, refl) tt refl (m, rest, small.1.0, items_end ns, refl) (array_reads (m ∷ ns) small.1)
 
 are_small : (s : BitSet) (ns : List ℕ) → AreSmall (map (word s) ns)
 are_small s [] = tt
