@@ -1,10 +1,10 @@
 -- What serde_json reads of the digits of a number, digit by digit, before what ends it.
-use Rattle.std.proofs.Common.{◌≡◌, ◌≤◌, ◌<◌, ◌^◌, ℕ, zero, suc, ◌+◌, ◌-◌, List, [], ◌∷◌, ◌++◌, length, take, drop, get_or, cond, refl, ap, ◌∙◌, ◌⊎◌, inl, inr, decimal, arith, length-append, Bool, true, false, ◌==◌, ◌||◌, nat_lt}
+use Rattle.std.proofs.Common.{◌≡◌, ◌≤◌, ◌<◌, ◌^◌, ℕ, zero, suc, ◌+◌, ◌-◌, List, [], ◌∷◌, ◌++◌, length, take, drop, get_or, cond, refl, ap, subst, ◌∙◌, ◌⊎◌, inl, inr, decimal, arith, length-append, Bool, true, false, ◌==◌, ◌||◌, nat_lt}
 use Rattle.enumset.proofs.Common.{take-append_seam, decimal_is_IsNumeral, decimal_digit, first_decimal, ⊤, prefix_len, nat_tests, number_token, serde_json_on_literals, is_space}
 use Rattle.std.proofs.lemmas.Str.Parse.{digit_from_value}
 use Rattle.std.specs.Str.Parse.{AllDigits}
 use Rattle.std.specs.Char.{is_ascii_digit}
-use Rattle.enumset.proofs.JsonTokens.{tokens, after_value}
+use Rattle.enumset.proofs.JsonTokens.{tokens, Tokens, after_value}
 
 abbrev pub IsDigit : ℕ → Type 0
 IsDigit x = (48 ≤ x) × (x ≤ 57)
@@ -58,16 +58,15 @@ whole_is x ds e =
     let count : suc (length (ds ++ e)) - length e ≡ suc (length ds) = omega (arith, length-append ds e) in
     ap (λ n. take n (x ∷ (ds ++ e))) count ∙ take-append_seam (x ∷ ds) e
 
+-- a text's tokens, first or after a comma
+abbrev pub Stands : List ℕ → Tokens → Type 0
+Stands text ts = (tokens text ≡ ts) × (after_value (44 ∷ text) ≡ ts)
+
 -- a number with no leading zero
-further : (x : ℕ) (xs s z : List ℕ) → IsOther x → (x == 48) ≡ false → IsRun xs z → whole x xs z ≡ s → Ends z → tokens (x ∷ xs) ≡ number_token false s ∷ drop 1 (tokens (49 ∷ xs))
+further : (x : ℕ) (xs s z : List ℕ) → IsOther x → (x == 48) ≡ false → IsRun xs z → whole x xs z ≡ s → Ends z → Stands (x ∷ xs) (number_token false s ∷ drop 1 (tokens (49 ∷ xs)))
 unfolding serde_json_on_literals
 further x xs s z (a, b, c, d, e, f, g, h, i, j, k, l, m, n, o, p, q) first (u, count, rest) taken (dot, lower, upper, none, ends) =
-    rw (a, b, c, d, e, f, g, h, i, j, k, l, m, n, o, p, q, first, count, not_zero u, rest, dot, lower, upper, ends, taken)
-
-comma_further : (x : ℕ) (xs z : List ℕ) → IsOther x → (x == 48) ≡ false → IsRun xs z → Ends z → after_value (44 ∷ x ∷ xs) ≡ tokens (x ∷ xs)
-unfolding serde_json_on_literals
-comma_further x xs z (a, b, c, d, e, f, g, h, i, j, k, l, m, n, o, p, q) first (u, count, rest) (dot, lower, upper, none, ends) =
-    rw (a, b, c, d, e, f, g, h, i, j, k, l, m, n, o, p, q, first, count, not_zero u, rest, dot, lower, upper, ends)
+    rw (a, b, c, d, e, f, g, h, i, j, k, l, m, n, o, p, q, first, count, not_zero u, rest, dot, lower, upper, ends, taken) (refl, refl)
 
 -- one more digit after the first
 longer : (x : ℕ) (xs z : List ℕ) → IsOther x → IsRun xs z → IsRun (x ∷ xs) z → Ends z → drop 1 (tokens (49 ∷ x ∷ xs)) ≡ drop 1 (tokens (49 ∷ xs))
@@ -75,13 +74,9 @@ unfolding serde_json_on_literals
 longer x xs z (a, b, c, d, e, f, g, h, i, j, k, l, m, n, o, p, q) (u, count, rest) (v, count', rest') (dot, lower, upper, none, ends) =
     rw (a, b, c, d, e, f, g, h, i, j, k, l, count', count, not_zero u, not_zero v, rest, rest', dot, lower, upper, ends)
 
-nought : (z : List ℕ) → Ends z → tokens (48 ∷ z) ≡ number_token false (48 ∷ []) ∷ drop 1 (tokens (49 ∷ z))
+nought : (z : List ℕ) → Ends z → Stands (48 ∷ z) (number_token false (48 ∷ []) ∷ drop 1 (tokens (49 ∷ z)))
 unfolding serde_json_on_literals
-nought z (dot, lower, upper, none, ends) = rw (no_digits z none, dot, lower, upper, ends, whole_is 48 [] z)
-
-comma_nought : (z : List ℕ) → Ends z → after_value (44 ∷ 48 ∷ z) ≡ tokens (48 ∷ z)
-unfolding serde_json_on_literals
-comma_nought z (dot, lower, upper, none, ends) = rw (dot, lower, upper, ends)
+nought z (dot, lower, upper, none, ends) = rw (no_digits z none, dot, lower, upper, ends, whole_is 48 [] z) (refl, refl)
 
 -- ---- the digits of a number before e
 
@@ -114,12 +109,10 @@ short : (n : ℕ) → n < 2 ^ 64 → IsShort (decimal n)
 short zero h = inl (decimal_digit 0 (omega arith))
 short (suc n) h = further_short (decimal (suc n)) (decimal_is_IsNumeral (suc n) h).0.1 (first_decimal (suc n) (omega arith) h)
 
-short_before : (s e : List ℕ) → IsShort s → Ends e → (tokens (s ++ e) ≡ number_token false s ∷ drop 1 (tokens (49 ∷ e))) × (after_value (44 ∷ (s ++ e)) ≡ tokens (s ++ e))
-short_before s e (inl is) ends = rw is (nought e ends, comma_nought e ends)
-short_before s e (inr (x, ds, is, first, digit, p)) ends = rw is (
-  further x (ds ++ e) (x ∷ ds) e (is_other x digit) first (run ds e p ends) (whole_is x ds e) ends ∙ ap (λ ts. number_token false (x ∷ ds) ∷ ts) (after_digits ds e p ends),
-  comma_further x (ds ++ e) e (is_other x digit) first (run ds e p ends) ends,
-)
+short_before : (s e : List ℕ) → IsShort s → Ends e → Stands (s ++ e) (number_token false s ∷ drop 1 (tokens (49 ∷ e)))
+short_before s e (inl is) ends = rw is (nought e ends)
+short_before s e (inr (x, ds, is, first, digit, p)) ends =
+    rw is (subst (λ ts. Stands (x ∷ (ds ++ e)) (number_token false (x ∷ ds) ∷ ts)) (after_digits ds e p ends) (further x (ds ++ e) (x ∷ ds) e (is_other x digit) first (run ds e p ends) (whole_is x ds e) ends))
 
-pub decimal_before : (n : ℕ) (e : List ℕ) → n < 2 ^ 64 → Ends e → (tokens (decimal n ++ e) ≡ number_token false (decimal n) ∷ drop 1 (tokens (49 ∷ e))) × (after_value (44 ∷ (decimal n ++ e)) ≡ tokens (decimal n ++ e))
+pub decimal_before : (n : ℕ) (e : List ℕ) → n < 2 ^ 64 → Ends e → Stands (decimal n ++ e) (number_token false (decimal n) ∷ drop 1 (tokens (49 ∷ e)))
 decimal_before n e fits ends = short_before (decimal n) e (short n fits) ends

@@ -38,7 +38,7 @@ abbrev pub IsNumberFirst : List ℕ → Type 0
 IsNumberFirst text = (n : ℕ) × (e : List ℕ) × (n < 2 ^ 64) × Ends e × (text ≡ decimal n ++ e)
 
 number_next : (next : List ℕ) → IsNumberFirst next → after_value (44 ∷ next) ≡ tokens next
-number_next next (n, e, fits, ends, is) = ap (λ t. after_value (44 ∷ t)) is ∙ (decimal_before n e fits ends).1 ∙ ap tokens (sym is)
+number_next next (n, e, fits, ends, is) = let (first, later) = decimal_before n e fits ends in ap (λ t. after_value (44 ∷ t)) is ∙ later ∙ sym first ∙ ap tokens (sym is)
 
 module _ (n : ℕ) (left rest : List ℕ) (fits : n < 2 ^ 64) (split : left ≡ decimal n ++ rest) where
   pub next_number : (after g next : List ℕ) (ds : Items) → Passed rest 44 after → AreSpaces g → after ≡ g ++ next → IsNumberFirst next → read (91 ∷ next) ≡ Some (array ds) → read (91 ∷ left) ≡ Some (array (item (number (unsigned n)) ds))

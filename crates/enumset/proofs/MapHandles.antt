@@ -8,23 +8,24 @@ unfoldable pub then : {A B : Type 0} → (A → Option B) → Option A → Optio
 then f None = None
 then f (Some a) = f a
 
-pub then_is : {A B : Type 0} (f : A → Option B) (o : Option A) → option_and_then f o ≡ then f o
+pub nested_is : {A B C : Type 0} (f : B → Option C) (g : A → Option B) (o : Option A) → option_and_then f (option_and_then g o) ≡ then (λ a. option_and_then f (g a)) o
 unfolding then
-then_is f None = refl
-then_is f (Some a) = refl
+nested_is f g None = refl
+nested_is f g (Some a) = refl
 
 pub mapped_is : {A B : Type 0} (f : A → B) (o : Option A) → option_map f o ≡ then (λ a. Some (f a)) o
 unfolding then
 mapped_is f None = refl
 mapped_is f (Some a) = refl
 
-abbrev pub pick : (d : ℕ) (ts : Tokens) (f : Json → Option Data) (g : Json × Tokens → Option Json) (o : Option (Json × Tokens))
-    → ((text : List ℕ) → d ≡ 127 → ts ≡ tokens text → then f (then g o) ≡ then f (then g o)) → Option (Json × Tokens)
-pick d ts f g o same = o
+abbrev pub pick : {A B Given : Type 0} (f : A → Option B) (o : Option A) → (Given → then f o ≡ then f o) → Option A
+pick f o same = o
 
 -- the value at the front of tokens, and those after it
 unfoldable pub value : ℕ → Tokens → Option (Json × Tokens)
-value d ts = pick d ts _ _ _ (λ text depth left. let same : read text ≡ read text = refl in rw (then_is {A = Json} {B = Data}, then_is {A = Json × Tokens} {B = Json}, ← depth, ← left) at same)
+value d ts =
+    pick {A = Json × Tokens} {B = Data} {Given = (text : List ℕ) × (d ≡ 127) × (ts ≡ tokens text)} _ _
+    (λ (text, depth, left). let same : read text ≡ read text = refl in rw (nested_is {A = Json × Tokens} {B = Json} {C = Data}, ← depth, ← left) at same)
 
 -- a text whose tokens are one value reads as that value
 pub whole : (text : List ℕ) (j : Json) → value 127 (tokens text) ≡ Some (j, []) → read text ≡ of_json j
@@ -40,14 +41,12 @@ JsonMembers = TypeOf (members_outline no_members)
 abbrev brace_before : Tokens → Tokens
 brace_before ts = tokens (123 ∷ []) ++ ts
 
-abbrev pub pick_members : (d n : ℕ) (ts : Tokens) (f : JsonMembers × Tokens → Option (Json × Tokens)) (o : Option (JsonMembers × Tokens))
-    → (n ≡ length ts → then f o ≡ then f o) → Option (JsonMembers × Tokens)
-pick_members d n ts f o same = o
-
 -- the members at the front of tokens, up to a closing brace, and the tokens after it
 unfoldable pub members : ℕ → ℕ → Tokens → Option (JsonMembers × Tokens)
 unfolding serde_json_on_literals value
-members d n ts = pick_members d n ts _ _ (λ count. let same : value (suc d) (brace_before ts) ≡ value (suc d) (brace_before ts) = refl in rw (mapped_is {A = JsonMembers × Tokens} {B = Json × Tokens}, ← count) at same)
+members d n ts =
+    pick {A = JsonMembers × Tokens} {B = Json × Tokens} {Given = n ≡ length ts} _ _
+    (λ count. let same : value (suc d) (brace_before ts) ≡ value (suc d) (brace_before ts) = refl in rw (mapped_is {A = JsonMembers × Tokens} {B = Json × Tokens}, ← count) at same)
 
 pub members_end : (d n : ℕ) → members d (suc n) (tokens (125 ∷ [])) ≡ Some (members_outline no_members, [])
 unfolding members

@@ -1,6 +1,6 @@
 -- What a scanner of maps keeps, and what the map that it has read is as a set.
-use Rattle.std.proofs.Common.{◌≡◌, ◌+◌, ℕ, Bool, true, false, cond, Ordering, Less, Equal, Greater, Some, None, Ok, List, [], ◌∷◌, ◌++◌, refl, sym, ap, subst, ◌∙◌, inr, true≢false, arith, is_none, option_map, filter_map, nat_cmp}
-use Rattle.enumset.proofs.Common.{cons_option, position_from, match_ordering, slice_cmp, position_from-zero, insert_comm, contains_inserted, members, nat_tests, BitSet, empty, contains, insert, from_list, Data, boolean, object, Members, no_members, member, put, read, Names, bit_named, unless_fault, IsMember, members_in, names_in, true_names, is_no_boolean, is_unknown, known_set, decided, set_of_map, AreSpaces, Passed, IsResult, IsReadOf, Unknown, NotABoolean}
+use Rattle.std.proofs.Common.{◌≡◌, ◌+◌, ℕ, Bool, true, false, cond, Some, None, Ok, List, [], ◌∷◌, refl, sym, ap, subst, ◌∙◌, inr, true≢false, arith, option_map, filter_map}
+use Rattle.enumset.proofs.Common.{cons_option, position_from, position_from-zero, insert_comm, contains_inserted, members, nat_tests, BitSet, empty, contains, insert, from_list, Data, boolean, object, Members, no_members, member, put, read, Names, bit_named, unless_fault, IsMember, members_in, names_in, true_names, is_no_boolean, is_unknown, known_set, decided, set_of_map, AreSpaces, Passed, IsResult, IsReadOf, Unknown, NotABoolean}
 use Rattle.enumset.proofs.JsonTokens.{tokens}
 use Rattle.enumset.proofs.JsonItems.{passed, closes, no_item}
 use Rattle.enumset.proofs.MapTokens.{put_all, member_tokens, opened, next_member, last_member}

@@ -1,16 +1,10 @@
 -- A name among those of a type, looked for in a later part of the list, then in the part before.
 use Rattle.std.proofs.Common.{◌≡◌, ℕ, true, false, cond, Some, None, List, [], ◌∷◌, ◌++◌, length, map, take, drop, refl, sym, ap, subst, ◌∙◌, arith, zip, bytes_eq, take-append-drop}
+use Rattle.std.proofs.lemmas.Slice.Zip.{seconds-zip}
 use Rattle.enumset.proofs.Common.{list_any, and_parts, not-true, map-append, bytes_eq-Decides, Names, bit_named, are_distinct}
 
 texts : Names → List (List ℕ)
 texts ns = map (λ n. n.1) ns
-
-texts_zip : (bs : List ℕ) (names : List (List ℕ)) → length names ≡ length bs → texts (zip bs names) ≡ names
-unfolding texts
-texts_zip [] [] len = refl
-texts_zip (b ∷ bs) (n ∷ names) len = ap (λ ts. n ∷ ts) (texts_zip bs names (omega (arith, len)))
-texts_zip [] (n ∷ names) len = absurd (omega (arith, len))
-texts_zip (b ∷ bs) [] len = absurd (omega (arith, len))
 
 among : (ns : Names) (t : List ℕ) (b : ℕ) → bit_named ns t ≡ Some b → list_any (λ m. bytes_eq m t) (texts ns) ≡ true
 unfolding texts
@@ -33,7 +27,8 @@ earlier_at (x ∷ xs) ys t none = ap (λ o. cond (bytes_eq x.1 t) (Some x.0) o) 
 -- what the two searches find, of the names of a type cut in two
 module _ (bs : List ℕ) (names : List (List ℕ)) (xs ys : Names) (t : List ℕ) (whole : xs ++ ys ≡ zip bs names) where
   pub found_later : length names ≡ length bs → are_distinct names ≡ true → (b : ℕ) → bit_named ys t ≡ Some b → bit_named (zip bs names) t ≡ Some b
-  found_later len apart b is = ap (λ ns. bit_named ns t) (sym whole) ∙ later_at xs ys t b (ap are_distinct (ap texts whole ∙ texts_zip bs names len) ∙ apart) is
+  unfolding texts
+  found_later len apart b is = ap (λ ns. bit_named ns t) (sym whole) ∙ later_at xs ys t b (ap are_distinct (ap texts whole ∙ seconds-zip bs names len) ∙ apart) is
 
   pub found_earlier : bit_named ys t ≡ None → bit_named (zip bs names) t ≡ bit_named xs t
   found_earlier none = ap (λ ns. bit_named ns t) (sym whole) ∙ earlier_at xs ys t none
