@@ -5,7 +5,7 @@
 --     Passed      spaces, a byte, and what follows it
 --     with_named      a set with the bit of a name, if the name has one
 --     boolean_before      a boolean's text, before what follows it
---     IsTextOf, IsTextIfPlain      the text that a value is written as, which reads as the value;  what a call returns, if a text
+--     IsTextOf, IsTextIfPlain      the text that a value is written as, which reads as the value;  it, where there is a text
 --     IsMember      a plain name up to its closing quote and a boolean, with spaces, and what follows them
 --     by_bytes, AreRising      how the bytes of two names compare;  names, each of whose bytes come before those of later ones
 --     IsName      whether a text is the name of one of some bits
