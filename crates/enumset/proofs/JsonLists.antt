@@ -29,13 +29,10 @@ abbrev pub ArePlain : List (List ℕ) → Type 0
 ArePlain [] = ⊤
 ArePlain (s ∷ ss) = IsPlain s × ArePlain ss
 
-plain_text_step : (x : ℕ) (s : List ℕ) → IsPlainByte x → compact_text (string s) ≡ 34 ∷ (s ++ 34 ∷ []) → compact_text (string (x ∷ s)) ≡ 34 ∷ x ∷ (s ++ 34 ∷ [])
-unfolding serde_json_on_literals
-plain_text_step x s p h = grind (arith, h, p.0, p.1, p.2)
-
 pub plain_text : (s : List ℕ) → IsPlain s → compact_text (string s) ≡ 34 ∷ (s ++ 34 ∷ [])
+unfolding serde_json_on_literals
 plain_text [] p = refl
-plain_text (x ∷ s) p = plain_text_step x s p.0 (plain_text s p.1)
+plain_text (x ∷ s) p = grind (arith, plain_text s p.1, p.0.0, p.0.1, p.0.2)
 
 -- a string's text before others
 pub text_before : (s rest : List ℕ) → IsPlain s → compact_text (string s) ++ rest ≡ 34 ∷ (s ++ 34 ∷ rest)
@@ -67,19 +64,14 @@ module _ {front close end : List ℕ} {all : List (List ℕ)} where
 
   pub next_name : (text name next : List ℕ) (later : Bool) (left rest : List (List ℕ)) → left ≡ name ∷ rest → IsPlain name
       → next ≡ (text ++ cond later (close ++ 44 ∷ 34 ∷ []) (front ++ 34 ∷ [])) ++ name → Writes front close end all text later left → Writes front close end all next true rest
-  next_name text name next later left rest here plain put before = record {
-    so_far =
-        ap (λ t. (t ++ close) ++ joined close end true rest) put ∙ regroup text front close name _ later
-        ∙ ap (λ l. (text ++ cond later close front) ++ joined close end later l) (sym here) ∙ before.so_far;
-    plain = λ ps. before.plain (subst ArePlain (sym here) (plain, ps));
-  }
+  next_name text name next later left rest here plain put before =
+      let was = subst (Writes front close end all text later) here before in
+      record { so_far = ap (λ t. (t ++ close) ++ joined close end true rest) put ∙ regroup text front close name _ later ∙ was.so_far; plain = λ ps. was.plain (plain, ps) }
 
   pub ended : (text whole : List ℕ) (later : Bool) (left : List (List ℕ)) → left ≡ [] → whole ≡ text ++ cond later (close ++ end) (front ++ end) → Writes front close end all text later left
       → (whole ≡ front ++ joined close end false all) × ArePlain all
-  ended text whole later left none put before = (
-    put ∙ close_up text front close end later ∙ ap (λ l. (text ++ cond later close front) ++ joined close end later l) (sym none) ∙ before.so_far,
-    before.plain (subst ArePlain (sym none) tt),
-  )
+  ended text whole later left none put before =
+      let was = subst (Writes front close end all text later) none before in (put ∙ close_up text front close end later ∙ was.so_far, was.plain tt)
 
 -- ---- lists of names
 

@@ -1,6 +1,6 @@
 -- Names of members that rise, as many as there are members, are the names of all members in the order of a map.
 use Rattle.std.proofs.Common.{◌≡◌, ◌⊎◌, inl, inr, ℕ, List, [], ◌∷◌, Bor, refl, sym, ap, ◌∙◌, subst, nat_cmp, Ordering, Less, Equal, Greater, ◌<◌, ◌≤◌, ◌+◌, length, get_or, ◌-◌, suc, arith, is_eq, true≢false, is_lt, true}
-use Rattle.enumset.proofs.Common.{⊤, Data, nat_list_cmp_total, recursion_from_All, IsTotalOrder, slice_cmp, AllByRecursion, IsStrictlySortedBy, ordering_reverse, match_ordering, BitSet, ascending, len_ascending, boolean, Members, member, no_members, put, by_bytes, AreRising, IsName, AreMembers, with_bits_true, Names, name_of}
+use Rattle.enumset.proofs.Common.{⊤, Data, nat_list_cmp_total, recursion_from_All, IsTotalOrder, slice_cmp, AllByRecursion, IsStrictlySortedBy, ordering_reverse, match_ordering, BitSet, ascending, len_ascending, boolean, Members, member, members_in, no_members, put, by_bytes, AreRising, IsName, AreMembers, with_bits_true, Names, name_of}
 use Rattle.std.proofs.lemmas.Cmp.{on_total, tied_itself}
 use Rattle.std.proofs.lemmas.List.Edits.{length-insert, get_or-insert_at, get_or-insert_below, get_or-insert_above}
 use Rattle.std.proofs.lemmas.Map.Keys.{Less-from_sorted, sorted_from_all_adjacent}
@@ -32,12 +32,12 @@ IsIn t no_members = ⊥
 IsIn t (member name d ms) = (name ≡ t) ⊎ IsIn t ms
 
 abbrev count : Members → ℕ
-count no_members = 0
-count (member name d ms) = suc (count ms)
+count ms = length (members_in ms)
 
-before_all : (a b : List ℕ) (ms : Members) → slice_cmp nat_cmp a b ≡ Less → Each (λ t d. slice_cmp nat_cmp b t ≡ Less) ms → Each (λ t d. slice_cmp nat_cmp a t ≡ Less) ms
-before_all a b no_members less all = tt
-before_all a b (member t d ms) less all = (nat_list_cmp_total.trans a b t less all.0, before_all a b ms less all.1)
+-- what a name comes before, an earlier one does too
+before_all : {A : Type 0} (f : A → List ℕ) (a b : List ℕ) (xs : List A) → slice_cmp nat_cmp a b ≡ Less → AllByRecursion (λ x. slice_cmp nat_cmp b (f x) ≡ Less) xs → AllByRecursion (λ x. slice_cmp nat_cmp a (f x) ≡ Less) xs
+before_all f a b [] less all = tt
+before_all f a b (x ∷ xs) less all = (nat_list_cmp_total.trans a b (f x) less all.0, before_all f a b xs less all.1)
 
 -- members with a name more, or with the name that they had
 abbrev HasMore : List ℕ → Members → Members → Type 0
@@ -49,7 +49,7 @@ has_more name (member n d ms) rises = at _ refl (has_more name ms rises.2)
   where
     at : (o : Ordering) → slice_cmp nat_cmp name n ≡ o → HasMore name ms (put name (boolean true) ms)
         → HasMore name (member n d ms) (match_ordering o (member name (boolean true) (member n d ms)) (member n (boolean true) ms) (member n d (put name (boolean true) ms)))
-    at Less is later = ((refl, (is, before_all name n ms is rises.1), rises), inl refl, λ t i. inr i, omega arith)
+    at Less is later = ((refl, (is, before_all (λ m. m.0) name n (members_in ms) is rises.1), rises), inl refl, λ t i. inr i, omega arith)
     at Equal is later = ((refl, rises.1, rises.2), inl (sym (same_key name n is)), λ t i. i, omega arith)
     at Greater is later = (
       (rises.0, each_put _ name (boolean true) ms (nat_list_cmp_total.antisymm n name ∙ ap ordering_reverse is) rises.1, later.0),
@@ -84,10 +84,6 @@ past name d ms (n ∷ ns) above (inl e, is) =
     absurd (true≢false (ap is_eq (sym (tied_itself nat_list_cmp_total name) ∙ subst (λ t. slice_cmp nat_cmp name t ≡ Less) (sym e) above.0)))
 past name d ms (n ∷ ns) above (inr i, is) = (i, past name d ms ns above.1 is)
 
-above_all : (a : List ℕ) (n : Bor (List ℕ)) (ns : Texts) → slice_cmp nat_cmp a n.now ≡ Less → AllByRecursion (λ m. by_bytes n m ≡ Less) ns → AllByRecursion (λ m. slice_cmp nat_cmp a m.now ≡ Less) ns
-above_all a n [] less all = tt
-above_all a n (m ∷ ns) less all = (nat_list_cmp_total.trans a n.now m.now less all.0, above_all a n ns less all.1)
-
 within : (ns : Texts) (ms : Members) → AreRising ns → Rises ms → AllByRecursion (λ n. IsIn n.now ms) ns → (length ns ≤ count ms) × (count ms ≤ length ns → all_true ns ≡ ms)
 unfolding IsStrictlySortedBy
 within [] no_members r s i = (omega arith, λ le. refl)
@@ -97,7 +93,7 @@ within (n ∷ ns) (member name d ms) r s (inl e, is) =
     let (le, same) = within ns ms r.1 s.2 (past name d ms ns (subst (λ t. AllByRecursion (λ m. slice_cmp nat_cmp t m.now ≡ Less) ns) (sym e) r.0) is) in
     (omega (arith, le), λ more. (λ j. member (sym e j) (sym s.0 j) (same (omega (arith, more)) j)))
 within (n ∷ ns) (member name d ms) r s (inr i, is) =
-    let (le, same) = within (n ∷ ns) ms r s.2 (i, past name d ms ns (above_all name n ns (before_in name n.now ms i s.1) r.0) is) in
+    let (le, same) = within (n ∷ ns) ms r s.2 (i, past name d ms ns (before_all (λ m. m.now) name n.now ns (before_in name n.now ms i s.1) r.0) is) in
     (omega (arith, le), λ more. absurd (omega (arith, le, more)))
 
 pub all_sorted : (names : Names) (s : BitSet) (ns : Texts) → AreMembers names s ns → all_true ns ≡ with_bits_true names no_members (ascending s)

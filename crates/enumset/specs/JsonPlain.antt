@@ -5,12 +5,12 @@
 --     Passed      spaces, a byte, and what follows it
 --     with_named      a set with the bit of a name, if the name has one
 --     boolean_before      a boolean's text, before what follows it
---     IsTextOf      the text that a value is written as, which reads as the value
+--     IsTextOf, IsTextIfPlain      the text that a value is written as, which reads as the value;  it, where there is a text
 --     IsMember      a plain name up to its closing quote and a boolean, with spaces, and what follows them
 --     by_bytes, AreRising      how the bytes of two names compare;  names, each of whose bytes come before those of later ones
 --     IsName      whether a text is the name of one of some bits
 --     AreMembers      the names of a set's members, in the order of their bytes
-use Rattle.std.specs.Prelude.{◌≡◌, ◌⊎◌, ℕ, List, [], ◌∷◌, ◌++◌, length, Bool, true, false, nat_lt, ◌==◌, ◌||◌, Option, Some, None}
+use Rattle.std.specs.Prelude.{◌≡◌, ◌⊎◌, ℕ, List, [], ◌∷◌, ◌++◌, length, Bool, true, false, nat_lt, ◌==◌, ◌||◌, Option, Some, None, Result, String, IfOk, IfSome, string_bytes}
 use Rattle.std.specs.Borrow.{Bor}
 use Rattle.std.specs.Cmp.Lexicographic.{slice_cmp}
 use Rattle.std.specs.List.{All, AllByRecursion}
@@ -48,6 +48,9 @@ boolean_before false rest = 102 ∷ 97 ∷ 108 ∷ 115 ∷ 101 ∷ rest
 
 abbrev pub IsTextOf : Data → List ℕ → Type 0
 IsTextOf value text = (text ≡ compact_text value) × (read text ≡ Some value)
+
+abbrev pub IsTextIfPlain : {Z E : Type 0} → Data → Result (Option (String Z)) E → Type 0
+IsTextIfPlain value result = IfOk result (λ o. IfSome o (λ text. IsTextOf value (string_bytes text)))
 
 abbrev pub IsMember : List ℕ → List ℕ → Bool → List ℕ → Type 0
 IsMember text name b rest =

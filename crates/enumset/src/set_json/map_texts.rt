@@ -1,29 +1,25 @@
 //! Texts of maps of names that stand for themselves in JSON.
 
-ghost use Rattle.std.specs.Prelude.{◌≡◌, ◌≤◌, IfOk, IfSome, IsTrue, length, string_bytes};
+ghost use Rattle.std.specs.Prelude.{◌≡◌, ◌≤◌, IfSome, length};
 ghost use Rattle.std.specs.Cmp.Lexicographic.{slice_cmp};
 ghost use Rattle.std.specs.List.{insert};
 ghost use Rattle.std.specs.Ordering.{is_lt, nat_cmp};
 ghost use Rattle.enumset_repr.specs.BitSet.{ascending, len};
 ghost use Rattle.enumset.specs.JsonNames.{map_value};
-ghost use Rattle.enumset.specs.JsonPlain.{AreRising, IsName, AreMembers, IsTextOf};
+ghost use Rattle.enumset.specs.JsonPlain.{AreRising, IsName, AreMembers, IsTextIfPlain};
 ghost use Rattle.enumset.specs.Names.{names_of};
 
-use super::plain_lists::push_either;
+use super::plain_lists::{TextIfPlain, push_either};
 use super::scan::is_plain;
 use crate::names::EnumSetNames;
 use enumset_sets::EnumSet;
-use std::alloc::{AllocError, Global};
+use std::alloc::Global;
 use std::cmp::Ordering;
 use std::simd::prelude::*;
 
 // The map of the members' names, unless one of them needs an escape, or two are the same.
-pub(super) fn plain_map<T: EnumSetNames>(
-    alloc: Global,
-    set: &EnumSet<T>,
-) -> Result<Option<String>, AllocError>
-    ensures { IfOk result (λ o. IfSome o (λ text.
-        IsTextOf (map_value (names_of T.elements T.names) set.now) (string_bytes text))) }
+pub(super) fn plain_map<T: EnumSetNames>(alloc: Global, set: &EnumSet<T>) -> TextIfPlain
+    ensures { IsTextIfPlain (map_value (names_of T.elements T.names) set.now) result }
 {
     let count = set.len();
     if let (Some(first), Some(last)) = (set.first(), set.last())
@@ -49,14 +45,9 @@ fn key_of(name: &str) -> u32 {
 
 // The map of at most 32 names. The name of each member goes to the place that its key has among all keys, and no branch
 // depends on the order. A function that holds an array pays for it at its start.
-fn map_by_keys<T: EnumSetNames>(
-    alloc: Global,
-    set: &EnumSet<T>,
-    first: &'static str,
-) -> Result<Option<String>, AllocError>
+fn map_by_keys<T: EnumSetNames>(alloc: Global, set: &EnumSet<T>, first: &'static str) -> TextIfPlain
     requires { IsName (names_of T.elements T.names) (ascending set.now) first.now × (len set.now ≤ 32) }
-    ensures { IfOk result (λ o. IfSome o (λ text.
-        IsTextOf (map_value (names_of T.elements T.names) set.now) (string_bytes text))) }
+    ensures { IsTextIfPlain (map_value (names_of T.elements T.names) set.now) result }
 {
     let mut names = [first; 32];
     // No text has the byte 255. Where all bytes were the same, a call would fill the array.
@@ -97,12 +88,8 @@ fn comes_before(one: &str, other: &str) -> bool
 }
 
 // The map of names that are put in one after another.
-fn map_by_search<T: EnumSetNames>(
-    alloc: Global,
-    set: &EnumSet<T>,
-) -> Result<Option<String>, AllocError>
-    ensures { IfOk result (λ o. IfSome o (λ text.
-        IsTextOf (map_value (names_of T.elements T.names) set.now) (string_bytes text))) }
+fn map_by_search<T: EnumSetNames>(alloc: Global, set: &EnumSet<T>) -> TextIfPlain
+    ensures { IsTextIfPlain (map_value (names_of T.elements T.names) set.now) result }
 {
     let mut names = Vec::with_capacity(alloc, set.len())?;
     let mut last = 0;
@@ -146,14 +133,9 @@ fn place_of(names: &[&str], last: usize, name: &str) -> Option<usize>
 }
 
 // The map of the members' names, unless one of them needs an escape.
-fn text_of_names<T: EnumSetNames>(
-    alloc: Global,
-    set: &EnumSet<T>,
-    names: &[&str],
-) -> Result<Option<String>, AllocError>
+fn text_of_names<T: EnumSetNames>(alloc: Global, set: &EnumSet<T>, names: &[&str]) -> TextIfPlain
     requires { AreMembers (names_of T.elements T.names) set.now names.now }
-    ensures { IfOk result (λ o. IfSome o (λ text.
-        IsTextOf (map_value (names_of T.elements T.names) set.now) (string_bytes text))) }
+    ensures { IsTextIfPlain (map_value (names_of T.elements T.names) set.now) result }
 {
     // One request for memory is enough: each name has quotes, a colon, `true` and a comma.
     let bytes = names.iter().fold(2usize, |bytes, name| {

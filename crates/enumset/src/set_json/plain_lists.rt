@@ -1,8 +1,8 @@
 //! Texts of lists of names that stand for themselves, written and read without a tree of values.
 
-ghost use Rattle.std.specs.Prelude.{◌≡◌, ◌++◌, if◌then◌else◌, IfOk, IfSome, OnOk, string_bytes};
+ghost use Rattle.std.specs.Prelude.{◌≡◌, ◌++◌, if◌then◌else◌, IfSome, OnOk, string_bytes};
 ghost use Rattle.enumset.specs.JsonNames.{list_value, set_of_list};
-ghost use Rattle.enumset.specs.JsonPlain.{IsTextOf};
+ghost use Rattle.enumset.specs.JsonPlain.{IsTextIfPlain};
 ghost use Rattle.enumset.specs.JsonReads.{IsReadOf};
 ghost use Rattle.enumset.specs.Names.{names_of};
 
@@ -14,13 +14,12 @@ use crate::names::{EnumSetNames, find_name};
 use enumset_sets::EnumSet;
 use std::alloc::{AllocError, Global};
 
+// A text of names that stand for themselves, or none where one of them needs an escape.
+pub(super) type TextIfPlain = Result<Option<String>, AllocError>;
+
 // The list of the members' names, unless one of them needs an escape.
-pub(super) fn plain_list<T: EnumSetNames>(
-    alloc: Global,
-    set: &EnumSet<T>,
-) -> Result<Option<String>, AllocError>
-    ensures { IfOk result (λ o. IfSome o (λ text.
-        IsTextOf (list_value (names_of T.elements T.names) set.now) (string_bytes text))) }
+pub(super) fn plain_list<T: EnumSetNames>(alloc: Global, set: &EnumSet<T>) -> TextIfPlain
+    ensures { IsTextIfPlain (list_value (names_of T.elements T.names) set.now) result }
 {
     // Most names have at most thirteen bytes.
     let mut text = String::with_capacity(alloc, set.len().saturating_mul(16))?;
