@@ -5,7 +5,6 @@
 
 mod digits;
 mod fault;
-mod known;
 mod lists;
 mod map_scan;
 mod map_texts;
@@ -19,7 +18,6 @@ mod plain_words;
 mod scan;
 mod texts;
 mod unknown;
-mod whole;
 mod width;
 mod words;
 

@@ -7,8 +7,7 @@ ghost use Rattle.enumset.specs.JsonNames.{set_of_list, list_value};
 ghost use Rattle.enumset.specs.declared.set_json.fault.JsonFault.TheVariants.{OutOfMemory};
 
 use super::fault::JsonFault;
-use super::known::{decided, take_name};
-use super::unknown::Unknown;
+use super::unknown::{Unknown, decided, take_name};
 use crate::names::{EnumSetNames, find_name};
 use enumset_sets::EnumSet;
 use serde_json::Value;

@@ -11,7 +11,7 @@ ghost use Rattle.enumset.specs.declared.set_json.fault.JsonFault.TheVariants.{Ou
 
 use super::fault::JsonFault;
 use super::unknown::Unknown;
-use super::whole::number_below;
+use super::width::number_below;
 use super::words::{read_words, words_of};
 use enumset_mixed::MixedEnumSet;
 use enumset_repr::EnumSetTypeRepr;

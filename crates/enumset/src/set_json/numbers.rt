@@ -10,8 +10,7 @@ ghost use Rattle.enumset_sets.specs.Elements.{valid_bits};
 
 use super::fault::JsonFault;
 use super::unknown::Unknown;
-use super::whole::{fits, number_below};
-use super::width::JsonWidth;
+use super::width::{JsonWidth, fits, number_below};
 use enumset_sets::{EnumSet, EnumSetType};
 use serde_json::Value;
 use std::alloc::Global;

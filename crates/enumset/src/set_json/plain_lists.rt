@@ -7,9 +7,8 @@ ghost use Rattle.enumset.specs.JsonReads.{IsReadOf};
 ghost use Rattle.enumset.specs.Names.{names_of};
 
 use super::fault::JsonFault;
-use super::known::{decided, take_name};
 use super::scan::{after_byte, are_spaces, is_plain, is_plain_byte, split_string};
-use super::unknown::Unknown;
+use super::unknown::{Unknown, decided, take_name};
 use crate::names::{EnumSetNames, find_name};
 use enumset_sets::EnumSet;
 use std::alloc::{AllocError, Global};

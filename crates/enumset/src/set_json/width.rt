@@ -1,7 +1,11 @@
-//! How many bits a set's number may have.
+//! How many bits a set's number may have, and the whole numbers of JSON values that have no more.
 
-ghost use Rattle.std.specs.Prelude.{◌≡◌, ◌≤◌};
-ghost use Rattle.enumset.specs.Json.{width_of};
+ghost use Rattle.std.specs.Prelude.{◌≡◌, ◌≤◌, ◌<◌, ◌^◌, nat_lt, IfOk};
+ghost use Rattle.serde_json.specs.View.{view};
+ghost use Rattle.enumset.specs.Json.{width_of, number_below};
+
+use super::fault::JsonFault;
+use serde_json::Value;
 
 /// The type of numbers that a set is written as or read from: 8, 16, 32 or 64 bits. Rust's `enumset` names it by
 /// `serialize_repr`.
@@ -29,5 +33,25 @@ impl JsonWidth {
             JsonWidth::U32 => u32::BITS,
             JsonWidth::U64 => u64::BITS,
         }
+    }
+}
+
+// Whether a number has no bit at or past a width.
+pub(super) fn fits(number: u64, width: u32) -> bool
+    ensures { result ≡ nat_lt number (2 ^ width) }
+{
+    width >= u64::BITS || number >> width == 0
+}
+
+// The whole number below 2^width that a value holds.
+pub(super) fn number_below(value: &Value, width: u32) -> Result<u64, JsonFault>
+    ensures read { result ≡ number_below width (view value.now) }
+    ensures small { IfOk result (λ number. number < 2 ^ width) }
+{
+    match value.as_u64() {
+        Some(number) if fits(number, width) => Ok(number),
+        Some(_) => Err(JsonFault::OutOfRange),
+        None if value.is_number() => Err(JsonFault::NotWhole),
+        None => Err(JsonFault::NotANumber),
     }
 }
