@@ -1,4 +1,4 @@
-//! What a reader does with bits and names that no variant has, and the names that it takes one by one.
+//! What a reader does with bits and names that no variant has.
 
 ghost use Rattle.std.specs.Prelude.{◌≡◌, Some, None, cond, is_none, option_map};
 ghost use Rattle.std.specs.Option.{option_or};

@@ -1,4 +1,4 @@
-//! How many bits a set's number may have, and the whole numbers of JSON values that have no more.
+//! How many bits a set's number may have.
 
 ghost use Rattle.std.specs.Prelude.{◌≡◌, ◌≤◌, ◌<◌, ◌^◌, nat_lt, IfOk};
 ghost use Rattle.serde_json.specs.View.{view};
