@@ -3,7 +3,7 @@ pub use Rattle.enumset_repr.specs.Laws.Common.{All-cons, All-from_recursion, All
 unfoldable pub use Rattle.enumset_repr.specs.Laws.Common.{IsStrictlySortedBy, ascending, below, bits, bits_of, compare, contains, count_ones, count_trailing_zeros, difference, empty, from_list, greatest, insert, insert_each, intersection, is_disjoint, is_empty, is_same, is_subset, least, len, low, number, remove, retain, symmetric_difference, union, upward_shift, with_word, word, words}
 pub use Rattle.enumset.specs.Json.{accepted, accepted_of, all_bits, is_no_word, kept_below, kept_of, mixed_set_of_number, mixed_set_of_words, number_below, number_value, set_of_number, set_of_words, unless_fault, values_of, width_of, word_of, words_among, words_in, words_of, words_value}
 pub use Rattle.enumset.specs.JsonNames.{accepted_by_name, decided, in_map, is_no_boolean, is_no_text, is_true, is_unknown, known_set, list_value, map_value, members_in, named_set, names_in, set_of_list, set_of_map, set_of_members, set_of_values, text_of, true_names, with_bits_true}
-pub use Rattle.enumset.specs.JsonPlain.{AreMembers, AreRising, AreSpaces, IsMember, IsName, IsPlain, IsPlainByte, IsTextOf, Passed, boolean_before, by_bytes, is_space, with_named}
+pub use Rattle.enumset.specs.JsonPlain.{AreMembers, AreRising, AreSpaces, IsMember, IsName, IsPlain, IsPlainByte, IsTextOf, Passed, is_space}
 pub use Rattle.enumset.specs.JsonReads.{IsReadOf, IsResult, value_read}
 pub use Rattle.enumset.specs.Names.{IsNaming, NameCountShouldBe, Names, NamesAValueTwice, are_distinct, bit_named, name_of, names_agree, names_of}
 pub use Rattle.enumset.specs.declared.set_json.fault.JsonFault.{JsonFault}

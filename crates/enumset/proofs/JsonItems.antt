@@ -1,7 +1,7 @@
 -- The tokens of lists and maps whose strings stand for themselves, one item or member at a time, with spaces of any kind
 -- between them.
 use Rattle.std.proofs.Common.{◌≡◌, ℕ, List, [], ◌∷◌, ◌++◌, Bool, true, false, drop, nat_lt, ◌==◌, refl, sym, ap, subst, ◌∙◌, arith, append-nil, ◌⊎◌, inl, inr}
-use Rattle.enumset.proofs.Common.{text_token, bool_token, serde_json_on_literals, is_space, AreSpaces, Passed, IsPlain, IsMember, boolean_before}
+use Rattle.enumset.proofs.Common.{text_token, bool_token, serde_json_on_literals, is_space, AreSpaces, Passed, IsPlain, IsMember, boolean, compact_text}
 use Rattle.enumset.proofs.JsonTokens.{tokens, Tokens, after_value}
 use Rattle.enumset.proofs.JsonDigits.{Ends}
 
@@ -34,8 +34,8 @@ spaces (x ∷ g) z h = let rest = spaces g z h.1 in at_space (λ x. Same (x ∷ 
 abbrev pub Stops : List ℕ → Type 0
 Stops rest =
     Ends rest × (drop 1 (tokens (49 ∷ rest)) ≡ after_value rest) × (tokens (34 ∷ 34 ∷ rest) ≡ text_token false [] ∷ after_value rest)
-    × (tokens (34 ∷ 34 ∷ 58 ∷ boolean_before true rest) ≡ text_token true [] ∷ bool_token false true ∷ after_value rest)
-    × (tokens (34 ∷ 34 ∷ 58 ∷ boolean_before false rest) ≡ text_token true [] ∷ bool_token false false ∷ after_value rest)
+    × (tokens (34 ∷ 34 ∷ 58 ∷ (compact_text (boolean true) ++ rest)) ≡ text_token true [] ∷ bool_token false true ∷ after_value rest)
+    × (tokens (34 ∷ 34 ∷ 58 ∷ (compact_text (boolean false) ++ rest)) ≡ text_token true [] ∷ bool_token false false ∷ after_value rest)
 
 pub comma_stops : (z : List ℕ) → Stops (44 ∷ z)
 unfolding serde_json_on_literals
@@ -74,14 +74,14 @@ string_before is_key (x ∷ s) rest ts p e = plain_byte is_key x (s ++ 34 ∷ re
 pub name_item : (left s rest : List ℕ) → IsPlain s → left ≡ s ++ 34 ∷ rest → IsItem (34 ∷ left) (text_token false s ∷ []) rest
 name_item left s rest p is stop = ap (λ l. tokens (34 ∷ l)) is ∙ string_before false s rest _ p stop.2
 
-boolean_item : (b : Bool) (rest : List ℕ) → Stops rest → tokens (34 ∷ 34 ∷ 58 ∷ boolean_before b rest) ≡ text_token true [] ∷ bool_token false b ∷ after_value rest
+boolean_item : (b : Bool) (rest : List ℕ) → Stops rest → tokens (34 ∷ 34 ∷ 58 ∷ (compact_text (boolean b) ++ rest)) ≡ text_token true [] ∷ bool_token false b ∷ after_value rest
 boolean_item true rest stop = stop.3
 boolean_item false rest stop = stop.4
 
 pub member_item : (left s : List ℕ) (b : Bool) (rest : List ℕ) → IsMember left s b rest → IsItem (34 ∷ left) (text_token true s ∷ bool_token false b ∷ []) rest
 member_item left s b rest (p, (g, h, gs, hs, is)) stop =
     ap (λ l. tokens (34 ∷ l)) is
-    ∙ string_before true s (g ++ 58 ∷ (h ++ boolean_before b rest)) _ p ((spaces g (58 ∷ (h ++ boolean_before b rest)) gs).1 ∙ (spaces h (boolean_before b rest) hs).2 ∙ boolean_item b rest stop)
+    ∙ string_before true s (g ++ 58 ∷ (h ++ (compact_text (boolean b) ++ rest))) _ p ((spaces g (58 ∷ (h ++ (compact_text (boolean b) ++ rest))) gs).1 ∙ (spaces h (compact_text (boolean b) ++ rest) hs).2 ∙ boolean_item b rest stop)
 
 -- a quote begins a further item
 pub quote_next : (after next : List ℕ) → Passed after 34 next → after_value (44 ∷ after) ≡ tokens (34 ∷ next)

@@ -1,6 +1,6 @@
 -- What serde_json reads of a list of plain strings, one string at a time, and what it writes for one.
-use Rattle.std.proofs.Common.{◌≡◌, ℕ, List, [], ◌∷◌, ◌++◌, Some, map, refl, sym, ap, ◌∙◌, arith, append_assoc, subst, Bool, false, true, cond}
-use Rattle.enumset.proofs.Common.{⊤, array, string, item, no_items, Items, read, items_of, compact_text, items_text, comma_if, text_token, serde_json_on_literals, BitSet, ascending, map-map, Names, name_of, list_value, IsPlainByte, IsPlain, IsTextOf, AreSpaces, Passed}
+use Rattle.std.proofs.Common.{◌≡◌, ℕ, List, [], ◌∷◌, ◌++◌, Some, map, refl, sym, ap, ◌∙◌, arith, append_assoc, subst, Bool, false, true, not, cond, length, ◌==◌, length-append}
+use Rattle.enumset.proofs.Common.{⊤, array, string, item, no_items, Items, read, items_of, compact_text, items_text, comma_if, text_token, serde_json_on_literals, BitSet, ascending, map-map, Names, name_of, list_value, IsPlain, IsTextOf, AreSpaces, Passed}
 use Rattle.enumset.proofs.JsonTokens.{tokens}
 use Rattle.enumset.proofs.JsonItems.{name_item, quote_next, next_item, passed, opens, closes, last_item, no_item}
 use Rattle.enumset.proofs.JsonSteps.{same_read, empty_list, item_step}
@@ -45,33 +45,38 @@ abbrev pub joined : List ℕ → List ℕ → Bool → List (List ℕ) → List 
 joined close end later [] = end
 joined close end later (name ∷ names) = comma_if later ++ (34 ∷ (name ++ (close ++ joined close end true names)))
 
-regroup : (text front close name rest : List ℕ) (later : Bool) → (((text ++ cond later (close ++ 44 ∷ 34 ∷ []) (front ++ 34 ∷ [])) ++ name) ++ close) ++ rest ≡ (text ++ cond later close front) ++ (comma_if later ++ (34 ∷ (name ++ (close ++ rest))))
+regroup : (text front close name rest : List ℕ) (is_new : Bool) → (((text ++ cond is_new (front ++ 34 ∷ []) (close ++ 44 ∷ 34 ∷ [])) ++ name) ++ close) ++ rest ≡ (text ++ cond is_new front close) ++ (comma_if (not is_new) ++ (34 ∷ (name ++ (close ++ rest))))
 regroup text front close name rest true = simp append_assoc
 regroup text front close name rest false = simp append_assoc
 
-close_up : (text front close end : List ℕ) (later : Bool) → text ++ cond later (close ++ end) (front ++ end) ≡ (text ++ cond later close front) ++ end
+close_up : (text front close end : List ℕ) (is_new : Bool) → text ++ cond is_new (front ++ end) (close ++ end) ≡ (text ++ cond is_new front close) ++ end
 close_up text front close end true = simp append_assoc
 close_up text front close end false = simp append_assoc
 
+not_new : (text front close name : List ℕ) (is_new : Bool) → (length ((text ++ cond is_new (front ++ 34 ∷ []) (close ++ 44 ∷ 34 ∷ [])) ++ name) == 0) ≡ false
+not_new text front close name true = grind (arith, length-append (text ++ (front ++ 34 ∷ [])) name, length-append text (front ++ 34 ∷ []), length-append front (34 ∷ []))
+not_new text front close name false = grind (arith, length-append (text ++ (close ++ 44 ∷ 34 ∷ [])) name, length-append text (close ++ 44 ∷ 34 ∷ []), length-append close (44 ∷ 34 ∷ []))
+
 -- a text so far, with what opens it or closes the last name, and with the names that are left; all names are plain if those are
-pub record Writes (front close end : List ℕ) (all : List (List ℕ)) (text : List ℕ) (later : Bool) (left : List (List ℕ)) : Type 0 where
-  pub so_far : (text ++ cond later close front) ++ joined close end later left ≡ front ++ joined close end false all
+pub record Writes (front close end : List ℕ) (all : List (List ℕ)) (text : List ℕ) (left : List (List ℕ)) : Type 0 where
+  pub so_far : (text ++ cond (length text == 0) front close) ++ joined close end (not (length text == 0)) left ≡ front ++ joined close end false all
   pub plain : ArePlain left → ArePlain all
 
 module _ {front close end : List ℕ} {all : List (List ℕ)} where
-  pub begins : (text : List ℕ) → text ≡ [] → Writes front close end all text false all
-  begins text none = record { so_far = ap (λ t. (t ++ front) ++ joined close end false all) none; plain = λ plain. plain }
+  pub begins : (text : List ℕ) → text ≡ [] → Writes front close end all text all
+  begins text none = record { so_far = ap (λ t. (t ++ cond (length t == 0) front close) ++ joined close end (not (length t == 0)) all) none; plain = λ plain. plain }
 
-  pub next_name : (text name next : List ℕ) (later : Bool) (left rest : List (List ℕ)) → left ≡ name ∷ rest → IsPlain name
-      → next ≡ (text ++ cond later (close ++ 44 ∷ 34 ∷ []) (front ++ 34 ∷ [])) ++ name → Writes front close end all text later left → Writes front close end all next true rest
-  next_name text name next later left rest here plain put before =
-      let was = subst (Writes front close end all text later) here before in
-      record { so_far = ap (λ t. (t ++ close) ++ joined close end true rest) put ∙ regroup text front close name _ later ∙ was.so_far; plain = λ ps. was.plain (plain, ps) }
+  pub next_name : (text name next : List ℕ) (left rest : List (List ℕ)) → left ≡ name ∷ rest → IsPlain name
+      → next ≡ (text ++ cond (length text == 0) (front ++ 34 ∷ []) (close ++ 44 ∷ 34 ∷ [])) ++ name → Writes front close end all text left → Writes front close end all next rest
+  next_name text name next left rest here plain put before =
+      let was = subst (Writes front close end all text) here before in
+      let later = ap (λ t. length t == 0) put ∙ not_new text front close name (length text == 0) in
+      record { so_far = (λ j. (put j ++ cond (later j) front close) ++ joined close end (not (later j)) rest) ∙ regroup text front close name _ (length text == 0) ∙ was.so_far; plain = λ ps. was.plain (plain, ps) }
 
-  pub ended : (text whole : List ℕ) (later : Bool) (left : List (List ℕ)) → left ≡ [] → whole ≡ text ++ cond later (close ++ end) (front ++ end) → Writes front close end all text later left
+  pub ended : (text whole : List ℕ) (left : List (List ℕ)) → left ≡ [] → whole ≡ text ++ cond (length text == 0) (front ++ end) (close ++ end) → Writes front close end all text left
       → (whole ≡ front ++ joined close end false all) × ArePlain all
-  ended text whole later left none put before =
-      let was = subst (Writes front close end all text later) none before in (put ∙ close_up text front close end later ∙ was.so_far, was.plain tt)
+  ended text whole left none put before =
+      let was = subst (Writes front close end all text) none before in (put ∙ close_up text front close end (length text == 0) ∙ was.so_far, was.plain tt)
 
 -- ---- lists of names
 

@@ -1,6 +1,6 @@
 -- Names of members that rise, as many as there are members, are the names of all members in the order of a map.
 use Rattle.std.proofs.Common.{◌≡◌, ◌⊎◌, inl, inr, ℕ, List, [], ◌∷◌, Bor, refl, sym, ap, ◌∙◌, subst, nat_cmp, Ordering, Less, Equal, Greater, ◌<◌, ◌≤◌, ◌+◌, length, get_or, ◌-◌, suc, arith, is_eq, true≢false, is_lt, true}
-use Rattle.enumset.proofs.Common.{⊤, Data, nat_list_cmp_total, recursion_from_All, IsTotalOrder, slice_cmp, AllByRecursion, IsStrictlySortedBy, ordering_reverse, match_ordering, BitSet, ascending, len_ascending, boolean, Members, member, members_in, no_members, put, by_bytes, AreRising, IsName, AreMembers, with_bits_true, Names, name_of}
+use Rattle.enumset.proofs.Common.{⊤, Data, nat_list_cmp_total, recursion_from_All, IsTotalOrder, slice_cmp, AllByRecursion, IsStrictlySortedBy, ordering_reverse, match_ordering, BitSet, ascending, len_ascending, boolean, Members, member, members_in, no_members, put, AreRising, IsName, AreMembers, with_bits_true, Names, name_of}
 use Rattle.std.proofs.lemmas.Cmp.{on_total, tied_itself}
 use Rattle.std.proofs.lemmas.List.Edits.{length-insert, get_or-insert_at, get_or-insert_below, get_or-insert_above}
 use Rattle.std.proofs.lemmas.Map.Keys.{Less-from_sorted, sorted_from_all_adjacent}
@@ -16,6 +16,9 @@ Texts = List (Bor (List ℕ))
 abbrev pub all_true : Texts → Members
 all_true [] = no_members
 all_true (name ∷ names) = member name.now (boolean true) (all_true names)
+
+abbrev pub by_bytes : Bor (List ℕ) → Bor (List ℕ) → Ordering
+by_bytes x y = slice_cmp nat_cmp x.now y.now
 
 pub by_bytes_total : IsTotalOrder by_bytes
 by_bytes_total = on_total (λ n. n.now) nat_list_cmp_total

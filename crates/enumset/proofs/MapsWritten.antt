@@ -1,9 +1,9 @@
 -- The text of names that rise, as members of an object, and what it reads as.
 use Rattle.std.proofs.Common.{◌≡◌, List, [], ◌∷◌, ◌++◌, Bor, Some, map, refl, sym, ap, ◌∙◌, Less, ℕ, Bool, true, false}
-use Rattle.enumset.proofs.Common.{nat_list_cmp_total, AllByRecursion, IsStrictlySortedBy, ordering_reverse, BitSet, object, boolean, Members, no_members, member, put, read, compact_text, members_text, comma_if, IsTextOf, boolean_before, by_bytes, AreRising, AreMembers, map_value, Names}
+use Rattle.enumset.proofs.Common.{nat_list_cmp_total, AllByRecursion, IsStrictlySortedBy, ordering_reverse, BitSet, object, boolean, Members, no_members, member, put, read, compact_text, members_text, comma_if, IsTextOf, AreRising, AreMembers, map_value, Names}
 use Rattle.enumset.proofs.JsonLists.{ArePlain, joined, text_before}
 use Rattle.enumset.proofs.JsonTokens.{tokens}
-use Rattle.enumset.proofs.MapOrder.{Texts, all_true, all_sorted}
+use Rattle.enumset.proofs.MapOrder.{by_bytes, Texts, all_true, all_sorted}
 use Rattle.enumset.proofs.MapTokens.{put_all, member_tokens, opened, next_member, last_member}
 
 abbrev pairs : Texts → List (List ℕ × Bool)
@@ -25,14 +25,14 @@ put_rising (n ∷ names) rising = put_behind n names no_members rising.0 ∙ ap 
 -- ---- the text
 
 abbrev pub closed : List ℕ
-closed = 34 ∷ 58 ∷ boolean_before true []
+closed = 34 ∷ 58 ∷ compact_text (boolean true)
 
 abbrev left_of : Bool → Texts → List ℕ
 left_of later names = joined closed (125 ∷ []) later (map (λ n. n.now) names)
 
 members_are : (later : Bool) (names : Texts) → ArePlain (map (λ n. n.now) names) → left_of later names ≡ members_text later (all_true names)
 members_are later [] p = refl
-members_are later (n ∷ names) p = ap (λ t. comma_if later ++ t) (ap (λ t. 34 ∷ (n.now ++ 34 ∷ 58 ∷ boolean_before true t)) (members_are true names p.1) ∙ sym (text_before n.now _ p.0))
+members_are later (n ∷ names) p = ap (λ t. comma_if later ++ t) (ap (λ t. 34 ∷ (n.now ++ 34 ∷ 58 ∷ (compact_text (boolean true) ++ t))) (members_are true names p.1) ∙ sym (text_before n.now _ p.0))
 
 members_tokens : (names : Texts) → ArePlain (map (λ n. n.now) names) → tokens (left_of false names) ≡ member_tokens (pairs names)
 members_tokens [] p = refl

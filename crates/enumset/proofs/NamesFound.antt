@@ -1,5 +1,5 @@
 -- A name among those of a type, looked for in a later part of the list, then in the part before.
-use Rattle.std.proofs.Common.{◌≡◌, ℕ, true, false, cond, Some, None, List, [], ◌∷◌, ◌++◌, length, map, take, drop, refl, sym, ap, subst, ◌∙◌, arith, zip, bytes_eq, take-append-drop}
+use Rattle.std.proofs.Common.{◌≡◌, ℕ, true, false, cond, Some, None, List, [], ◌∷◌, ◌++◌, length, map, take, drop, sym, ap, subst, ◌∙◌, arith, zip, bytes_eq, take-append-drop}
 use Rattle.std.proofs.lemmas.Slice.Zip.{seconds-zip}
 use Rattle.enumset.proofs.Common.{list_any, and_parts, not-true, map-append, bytes_eq-Decides, Names, bit_named, are_distinct}
 

@@ -1,9 +1,10 @@
 -- Lists and maps of names that are read one by one, up to the first that is a fault, and what they are read as.
 use Rattle.std.proofs.Common.{◌≡◌, ◌+◌, Bool, true, false, cond, ℕ, Option, Some, None, Err, List, [], ◌∷◌, map, String, string_bytes, refl, sym, ap, ◌∙◌, arith, position, filter, filter_map, is_none, Result, Global}
-use Rattle.enumset.proofs.Common.{cons_option, position_from, option_or, position_from-zero, BitSet, empty, union, from_list, empty_union, union_insert, insert_union, union_none, Data, view, items_view, members_view, Value, Names, bit_named, unless_fault, values_of, members_in, text_of, is_true, is_no_text, is_no_boolean, is_unknown, known_set, decided, set_of_values, set_of_members, with_named, Unknown, JsonFault, NotAText, NotABoolean}
+use Rattle.enumset.proofs.Common.{cons_option, position_from, option_or, position_from-zero, BitSet, empty, insert, union, from_list, empty_union, union_insert, insert_union, union_none, Data, view, items_view, members_view, Value, Names, bit_named, unless_fault, values_of, members_in, text_of, is_true, is_no_text, is_no_boolean, is_unknown, known_set, decided, set_of_values, set_of_members, Unknown, JsonFault, NotAText, NotABoolean}
+use Rattle.std.specs.Option.{option_map_or}
 use Rattle.enumset.proofs.JsonLaws.{values_back}
 
-named_first : (o : Option ℕ) (s : BitSet) (bs : List ℕ) → union (with_named o s) (from_list bs) ≡ union s (from_list (cons_option o bs))
+named_first : (o : Option ℕ) (s : BitSet) (bs : List ℕ) → union (option_map_or (insert s) o s) (from_list bs) ≡ union s (from_list (cons_option o bs))
 unfolding from_list
 named_first None s bs = refl
 named_first (Some b) s bs = insert_union s (from_list bs) b ∙ sym (union_insert s (from_list bs) b)
@@ -26,7 +27,7 @@ module _ {X : Type 0} (is_fault is_taken : X → Bool) (name : X → List ℕ) (
   unfolding read_on
   read_end place s first xs none = ap (read_on place s first) none ∙ (λ j. decided unknown (sym (or_none first) j) (union_none s j))
 
-  one_added : (b : Bool) (s : BitSet) (x : X) (xs : List X) → union (cond b (with_named (bit_named names (name x)) s) s) (known_set names (map name xs)) ≡ union s (known_set names (map name (cond b (x ∷ xs) xs)))
+  one_added : (b : Bool) (s : BitSet) (x : X) (xs : List X) → union (cond b (option_map_or (insert s) (bit_named names (name x)) s) s) (known_set names (map name xs)) ≡ union s (known_set names (map name (cond b (x ∷ xs) xs)))
   one_added true s x xs = named_first (bit_named names (name x)) s (filter_map (bit_named names) (map name xs))
   one_added false s x xs = refl
 
@@ -37,7 +38,7 @@ module _ {X : Type 0} (is_fault is_taken : X → Bool) (name : X → List ℕ) (
 
     -- a name that has a bit, or has none
     pub read_next : (bit : Option ℕ) (taken : Bool) → is_fault x ≡ false → is_taken x ≡ taken → bit_named names (name x) ≡ bit
-        → read_on place s first xs ≡ read_on (place + 1) (cond taken (with_named bit s) s) (option_or first (cond (is_none bit) (Some place) None)) rest
+        → read_on place s first xs ≡ read_on (place + 1) (cond taken (option_map_or (insert s) bit s) s) (option_or first (cond (is_none bit) (Some place) None)) rest
     unfolding read_on
     read_next bit taken none here named =
         rw (is, none, ← here, ← named)

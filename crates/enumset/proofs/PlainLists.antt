@@ -1,6 +1,7 @@
 -- What the loop of the reader of plain lists keeps.
 use Rattle.std.proofs.Common.{◌≡◌, ◌+◌, ℕ, cond, List, [], ◌∷◌, ◌++◌, Option, Some, None, Ok, refl, sym, ap, ◌∙◌, inr, subst, is_none, option_map, Result, true}
-use Rattle.enumset.proofs.Common.{option_or, BitSet, empty, Data, array, string, item, no_items, Items, read, values_of, set_of_list, decided, IsPlain, AreSpaces, Passed, with_named, value_read, IsResult, IsReadOf, Names, bit_named, JsonFault, Unknown, Drop, Refuse}
+use Rattle.enumset.proofs.Common.{option_or, BitSet, empty, insert, Data, array, string, item, no_items, Items, read, values_of, set_of_list, decided, IsPlain, AreSpaces, Passed, value_read, IsResult, IsReadOf, Names, bit_named, JsonFault, Unknown, Drop, Refuse}
+use Rattle.std.specs.Option.{option_map_or}
 use Rattle.enumset.proofs.JsonItems.{passed}
 use Rattle.enumset.proofs.JsonLists.{opened, no_items_read, next_string, last_string}
 use Rattle.enumset.proofs.NamesRead.{list_on, list_read_all, read_next, read_end}
@@ -31,7 +32,7 @@ module _ (names : Names) (unknown : Unknown) (text : List ℕ) where
   goes_on_from bytes rest left same found quote ds e = read_as ds (ap read (sym same) ∙ opened bytes rest (34 ∷ left) found (passed rest 34 left quote) ∙ e)
 
   module _ (left name rest : List ℕ) (place : ℕ) (s next : BitSet) (first later : Option ℕ) (bit : Option ℕ) (so_far : GoesOn left place s first) (plain : IsPlain name) (split : left ≡ name ++ 34 ∷ rest)
-      (named : bit ≡ bit_named names name) (added : next ≡ with_named bit s) (seen : later ≡ option_or first (cond (is_none bit) (Some place) None)) where
+      (named : bit ≡ bit_named names name) (added : next ≡ option_map_or (insert s) bit s) (seen : later ≡ option_or first (cond (is_none bit) (Some place) None)) where
     one_read : (ds : Items) → list_on names unknown place s first (string name ∷ values_of ds) ≡ list_on names unknown (place + 1) next later (values_of ds)
     one_read ds =
         read_next _ _ _ _ names unknown place s first _ (values_of ds) (string name) refl bit true refl refl (sym named)

@@ -3,22 +3,19 @@
 --     IsPlainByte, IsPlain      a byte of a string that needs no escape;  bytes
 --     is_space, AreSpaces      a byte that may stand between tokens;  bytes
 --     Passed      spaces, a byte, and what follows it
---     with_named      a set with the bit of a name, if the name has one
---     boolean_before      a boolean's text, before what follows it
 --     IsTextOf, IsTextIfPlain      the text that a value is written as, which reads as the value;  it, where there is a text
 --     IsMember      a plain name up to its closing quote and a boolean, with spaces, and what follows them
---     by_bytes, AreRising      how the bytes of two names compare;  names, each of whose bytes come before those of later ones
+--     AreRising      names, each of whose bytes come before those of later ones
 --     IsName      whether a text is the name of one of some bits
 --     AreMembers      the names of a set's members, in the order of their bytes
-use Rattle.std.specs.Prelude.{◌≡◌, ◌⊎◌, ℕ, List, [], ◌∷◌, ◌++◌, length, Bool, true, false, nat_lt, ◌==◌, ◌||◌, Option, Some, None, Result, String, IfOk, IfSome, string_bytes}
+use Rattle.std.specs.Prelude.{◌≡◌, ◌⊎◌, ℕ, List, [], ◌∷◌, ◌++◌, length, Bool, true, false, nat_lt, ◌==◌, ◌||◌, Option, Some, Result, String, IfOk, IfSome, string_bytes}
 use Rattle.std.specs.Borrow.{Bor}
 use Rattle.std.specs.Cmp.Lexicographic.{slice_cmp}
 use Rattle.std.specs.List.{All, AllByRecursion}
 use Rattle.std.specs.List.Sorted.{IsStrictlySortedBy}
 use Rattle.std.specs.Ordering.{nat_cmp}
-use Rattle.std.specs.declared.cmp.Ordering.{Ordering}
-use Rattle.enumset_repr.specs.BitSet.{BitSet, ascending, insert, len}
-use Rattle.serde_json.specs.Data.{Data}
+use Rattle.enumset_repr.specs.BitSet.{BitSet, ascending, len}
+use Rattle.serde_json.specs.Data.{Data, boolean}
 use Rattle.serde_json.specs.Read.{read}
 use Rattle.serde_json.specs.Written.{compact_text}
 use Rattle.enumset.specs.Names.{Names, name_of}
@@ -38,14 +35,6 @@ AreSpaces = AllByRecursion (λ x. is_space x ≡ true)
 abbrev pub Passed : List ℕ → ℕ → List ℕ → Type 0
 Passed text byte rest = (spaces : List ℕ) × AreSpaces spaces × (text ≡ spaces ++ byte ∷ rest)
 
-abbrev pub with_named : Option ℕ → BitSet → BitSet
-with_named None s = s
-with_named (Some b) s = insert s b
-
-abbrev pub boolean_before : Bool → List ℕ → List ℕ
-boolean_before true rest = 116 ∷ 114 ∷ 117 ∷ 101 ∷ rest
-boolean_before false rest = 102 ∷ 97 ∷ 108 ∷ 115 ∷ 101 ∷ rest
-
 abbrev pub IsTextOf : Data → List ℕ → Type 0
 IsTextOf value text = (text ≡ compact_text value) × (read text ≡ Some value)
 
@@ -54,13 +43,10 @@ IsTextIfPlain value result = IfOk result (λ o. IfSome o (λ text. IsTextOf valu
 
 abbrev pub IsMember : List ℕ → List ℕ → Bool → List ℕ → Type 0
 IsMember text name b rest =
-    IsPlain name × ((g : List ℕ) × (h : List ℕ) × AreSpaces g × AreSpaces h × (text ≡ name ++ 34 ∷ (g ++ 58 ∷ (h ++ boolean_before b rest))))
-
-abbrev pub by_bytes : Bor (List ℕ) → Bor (List ℕ) → Ordering
-by_bytes x y = slice_cmp nat_cmp x.now y.now
+    IsPlain name × ((g : List ℕ) × (h : List ℕ) × AreSpaces g × AreSpaces h × (text ≡ name ++ 34 ∷ (g ++ 58 ∷ (h ++ (compact_text (boolean b) ++ rest)))))
 
 abbrev pub AreRising : List (Bor (List ℕ)) → Type 0
-AreRising = IsStrictlySortedBy by_bytes
+AreRising = IsStrictlySortedBy (λ x y. slice_cmp nat_cmp x.now y.now)
 
 abbrev pub IsName : Names → List ℕ → List ℕ → Type 0
 IsName names [] text = ⊥

@@ -44,12 +44,8 @@ pub trait EnumSetNames: EnumSetType + 'static {
         ensures { option_map Self.elements.bit result
             ≡ bit_named (names_of Self.elements names) text.now }
     {
-        for (value, name) in Self::names() {
-            if *name == text {
-                return Some(*value);
-            }
-        }
-        None
+        let (_, value) = find_in(Self::names(), text.as_bytes())?;
+        Some(value)
     }
 
     ghost named: { IsNaming Self.elements.bit_list names };

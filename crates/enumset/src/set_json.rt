@@ -6,13 +6,12 @@
 mod digits;
 mod fault;
 mod lists;
-mod map_scan;
-mod map_texts;
 mod maps;
 mod mixed;
 mod mixed_texts;
 mod numbers;
 mod plain_lists;
+mod plain_maps;
 mod plain_numbers;
 mod plain_words;
 mod scan;

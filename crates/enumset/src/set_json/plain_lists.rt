@@ -1,19 +1,19 @@
 //! Texts of lists of names that stand for themselves, written and read without a tree of values.
 
-ghost use Rattle.std.specs.Prelude.{◌≡◌, ◌++◌, if◌then◌else◌, IfSome, OnOk, string_bytes};
+ghost use Rattle.std.specs.Prelude.{◌≡◌, ◌==◌, ◌++◌, if◌then◌else◌, IfSome, OnOk, length, string_bytes};
 ghost use Rattle.enumset.specs.JsonNames.{list_value, set_of_list};
 ghost use Rattle.enumset.specs.JsonPlain.{IsTextIfPlain};
 ghost use Rattle.enumset.specs.JsonReads.{IsReadOf};
 ghost use Rattle.enumset.specs.Names.{names_of};
 
 use super::fault::JsonFault;
-use super::scan::{after_byte, are_spaces, is_plain, is_plain_byte, split_string};
+use super::scan::{after_byte, are_spaces, is_plain, split_string};
 use super::unknown::{Unknown, decided, take_name};
 use crate::names::{EnumSetNames, find_name};
 use enumset_sets::EnumSet;
 use std::alloc::{AllocError, Global};
 
-// A text of names that stand for themselves, or none where one of them needs an escape.
+// A text of names that stand for themselves. There is none where one needs an escape or, of a map, two are the same.
 pub(super) type TextIfPlain = Result<Option<String>, AllocError>;
 
 // The list of the members' names, unless one of them needs an escape.
@@ -22,35 +22,28 @@ pub(super) fn plain_list<T: EnumSetNames>(alloc: Global, set: &EnumSet<T>) -> Te
 {
     // Most names have at most thirteen bytes.
     let mut text = String::with_capacity(alloc, set.len().saturating_mul(16))?;
-    let mut later = false;
     for element in set.iter() {
         let name = element.name();
         if !is_plain(name) {
             return Ok(None);
         }
-        push_either(&mut text, later, "\",\"", "[\"")?;
+        push_either(&mut text, "[\"", "\",\"")?;
         text.push_str(name)?;
-        later = true;
     }
-    push_either(&mut text, later, "\"]", "[]")?;
+    push_either(&mut text, "[]", "\"]")?;
     Ok(Some(text))
 }
 
-// Puts one text or the other behind a text. Each has a known length at each call, so no call copies it.
+// Begins a text, or goes on with it. Each piece has a known length at each call, so no call copies it.
 #[inline(always)]
-pub(super) fn push_either(
-    text: &mut String,
-    is_one: bool,
-    one: &str,
-    other: &str,
-) -> Result<(), AllocError>
+pub(super) fn push_either(text: &mut String, first: &str, later: &str) -> Result<(), AllocError>
     ensures { OnOk result (string_bytes text.new
-        ≡ string_bytes text.old ++ (if is_one then one.now else other.now)) }
+        ≡ string_bytes text.old ++ (if length (string_bytes text.old) == 0 then first.now else later.now)) }
 {
-    if is_one {
-        text.push_str(one)
+    if text.is_empty() {
+        text.push_str(first)
     } else {
-        text.push_str(other)
+        text.push_str(later)
     }
 }
 
@@ -62,8 +55,8 @@ pub(super) fn plain_set<T: EnumSetNames>(
     ensures { IfSome result (λ set.
         IsReadOf (set_of_list (names_of T.elements T.names) unknown) text.now set) }
 {
-    if text.len() >= 256 && !ends_as_list(text.as_bytes()) {
-        return None;
+    if text.len() >= 256 {
+        ends_as_list(text)?;
     }
     let rest = after_byte(text.as_bytes(), b'[')?;
     if let Some(end) = after_byte(rest, b']') {
@@ -85,17 +78,11 @@ pub(super) fn plain_set<T: EnumSetNames>(
     None
 }
 
-// Whether a text ends as a list of one string or more, whose last string is plain and comes after a comma or the bracket. A
-// long text with a fault there is not read twice so; a short one is read in little more time than this test takes.
-fn ends_as_list(bytes: &[u8]) -> bool {
-    let [inside @ .., b']'] = bytes.trim_ascii_end() else {
-        return false;
-    };
-    let [string @ .., b'"'] = inside.trim_ascii_end() else {
-        return false;
-    };
-    let mut before = string.iter().rev().skip_while(|byte| is_plain_byte(**byte));
-    let is_quote = before.next().is_some_and(|byte| *byte == b'"');
-    let separator = before.find(|byte| !byte.is_ascii_whitespace());
-    is_quote && separator.is_some_and(|byte| *byte == b',' || *byte == b'[')
+// None unless a text ends as a list of one string or more, whose last string is plain and comes after a comma or the
+// bracket. A long text with a fault there is not read twice so; a short one is read in little more time than this takes.
+fn ends_as_list(text: &str) -> Option<()> {
+    let inside = text.trim_ascii_end().strip_suffix(']')?;
+    let strings = inside.trim_ascii_end().strip_suffix('"')?;
+    let (before, last) = strings.rsplit_once('"')?;
+    (is_plain(last) && before.trim_ascii_end().ends_with([',', '['])).then_some(())
 }

@@ -8,7 +8,7 @@ use std::simd::prelude::*;
 
 // Whether a byte stands for itself in a JSON string.
 #[inline(always)]
-pub(super) fn is_plain_byte(byte: u8) -> bool
+fn is_plain_byte(byte: u8) -> bool
     ensures { IsTrue result → IsPlain (byte ∷ []) }
 {
     byte != b'"' && byte != b'\\' && byte >= b' '

@@ -17,11 +17,10 @@ ghost use Rattle.enumset_sets.specs.Elements.{valid_bits};
 
 use super::fault::JsonFault;
 use super::lists::{from_list, to_list};
-use super::map_scan::plain_map_set;
-use super::map_texts::plain_map;
 use super::maps::{from_map, to_map};
 use super::numbers::{from_number, to_number};
 use super::plain_lists::{plain_list, plain_set};
+use super::plain_maps::{plain_map, plain_map_set};
 use super::plain_numbers::{number_text, plain_number};
 use super::plain_words::{plain_words, words_text};
 use super::unknown::Unknown;

@@ -1,9 +1,9 @@
 //! What a reader does with bits and names that no variant has.
 
 ghost use Rattle.std.specs.Prelude.{◌≡◌, Some, None, cond, is_none, option_map};
-ghost use Rattle.std.specs.Option.{option_or};
+ghost use Rattle.std.specs.Option.{option_map_or, option_or};
+ghost use Rattle.enumset_repr.specs.BitSet.{insert};
 ghost use Rattle.enumset.specs.JsonNames.{decided};
-ghost use Rattle.enumset.specs.JsonPlain.{with_named};
 
 use super::fault::JsonFault;
 use crate::names::EnumSetNames;
@@ -42,7 +42,7 @@ pub(super) fn take_name<T: EnumSetNames>(
     is_member: bool,
     place: usize,
 )
-    ensures set { set.new ≡ cond is_member (with_named (option_map T.elements.bit value) set.old) set.old }
+    ensures set { set.new ≡ cond is_member (option_map_or (insert set.old) (option_map T.elements.bit value) set.old) set.old }
     ensures first { first_unknown.new ≡ option_or first_unknown.old
         (cond (is_none (option_map T.elements.bit value)) (Some place) None) }
 {

@@ -11,13 +11,13 @@ loop-element-preserved g c =
     let texts = map (name_of (names_of g.T.EnumSetType.elements g.T.EnumSetNames.names)) in
     let b = g.T.EnumSetType.elements.bit c.in-Some.element in
     let here : c.loop-element.element-iterator.items ≡ b ∷ c.next.new.self.items = grind (arith, common_steps) in
-    next_name _ c.name-name.result.now _ c.loop-element.later _ _ (ap texts here ∙ ap (λ t. t ∷ texts c.next.new.self.items) (sym c.name-name.ensures)) (search rules)
+    next_name _ c.name-name.result.now _ _ _ (ap texts here ∙ ap (λ t. t ∷ texts c.next.new.self.items) (sym c.name-name.ensures)) (search rules)
     (c.in_ok-push_str.ensures.bytes ∙ ap (λ t. t ++ c.name-name.result.now) c.in_ok-push_either.ensures) c.loop-element.invariant
 
 pub returns : goal.returns
 returns g c =
     let names = names_of g.T.EnumSetType.elements g.T.EnumSetNames.names in
     let items = ap (λ i. i.items) c.into_iter-element-iterator.ensures.into_iter_gives ∙ c.iter-element-items.ensures.ascending in
-    let (is, plain) = ended _ _ c.loop-element.later _ (ap (map (name_of names)) c.in-None.ensures.steps.0.0) c.in_ok-push_either-2.ensures
-    (subst (λ bs. Writes (91 ∷ []) (34 ∷ []) (93 ∷ []) (map (name_of names) bs) (string_bytes c.loop-element.text) c.loop-element.later (map (name_of names) c.loop-element.element-iterator.items)) items c.loop-element.invariant) in
+    let (is, plain) = ended _ _ _ (ap (map (name_of names)) c.in-None.ensures.steps.0.0) c.in_ok-push_either-2.ensures
+    (subst (λ bs. Writes (91 ∷ []) (34 ∷ []) (93 ∷ []) (map (name_of names) bs) (string_bytes c.loop-element.text) (map (name_of names) c.loop-element.element-iterator.items)) items c.loop-element.invariant) in
     list_written names c.args.set.now _ is plain

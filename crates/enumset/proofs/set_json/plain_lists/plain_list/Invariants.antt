@@ -7,4 +7,4 @@ use Rattle.enumset.proofs.set_json.plain_lists.plain_list.Given as goal
 abbrev pub invariant-loop-element : goal.invariant-loop-element
 invariant-loop-element g l =
     let text_of = map (name_of (names_of g.T.EnumSetType.elements g.T.EnumSetNames.names)) in
-    Writes (91 ∷ []) (34 ∷ []) (93 ∷ []) (text_of l.initial.element-iterator.items) (string_bytes l.text) l.later (text_of l.element-iterator.items)
+    Writes (91 ∷ []) (34 ∷ []) (93 ∷ []) (text_of l.initial.element-iterator.items) (string_bytes l.text) (text_of l.element-iterator.items)

@@ -8,14 +8,14 @@ pub returns-in-Some : goal.returns-in-Some
 returns-in-Some g c =
     let names = names_of g.T.EnumSetType.elements g.T.EnumSetNames.names in
     kept_if _ c.then_some.result _ _ c.then_some.ensures (λ all. is_read (set_of_list names c.args.unknown) c.args.text.now (decided c.args.unknown None empty) (Ok c.new.result)
-    (none_named names c.args.unknown c.args.text.now _ c.in_ok-rest.rest.now c.in-Some.end.now c.as_bytes-2.ensures.value c.in_ok-rest.ensures c.in-Some.ensures (c.are_spaces.ensures all))
+    (none_named names c.args.unknown c.args.text.now _ c.in_ok-rest.rest.now c.in-Some.end.now c.as_bytes.ensures.value c.in_ok-rest.ensures c.in-Some.ensures (c.are_spaces.ensures all))
     (no_unknown c.args.unknown c.new.result empty c.new.ensures))
 
 pub loop-place-init : goal.loop-place-init
 loop-place-init g c =
     let names = names_of g.T.EnumSetType.elements g.T.EnumSetNames.names in
     subst (λ s. GoesOn names c.args.unknown c.args.text.now c.in_ok-left.left.now 0 s None) (sym c.new-set.ensures)
-    (goes_on_from names c.args.unknown c.args.text.now _ c.in_ok-rest.rest.now c.in_ok-left.left.now c.as_bytes-2.ensures.value c.in_ok-rest.ensures c.in_ok-left.ensures)
+    (goes_on_from names c.args.unknown c.args.text.now _ c.in_ok-rest.rest.now c.in_ok-left.left.now c.as_bytes.ensures.value c.in_ok-rest.ensures c.in_ok-left.ensures)
 
 pub loop-place-preserved : goal.loop-place-preserved
 loop-place-preserved g c =

@@ -1,6 +1,6 @@
 use Rattle.enumset.specs.Names.{names_of}
 use Rattle.enumset.proofs.MapsRead.{Scanned}
-use Rattle.enumset.proofs.set_json.map_scan.plain_map_set.Given as goal
+use Rattle.enumset.proofs.set_json.plain_maps.plain_map_set.Given as goal
 
 -- what is left goes on the map
 abbrev pub invariant-loop : goal.invariant-loop

@@ -1,8 +1,8 @@
 use Rattle.std.proofs.Common.{ℕ, List, [], Bor, refl, sym, ap, subst, ◌∙◌, arith, rules, length-take, is_lt}
 use Rattle.std.proofs.lemmas.Map.Keys.{sorted_from_all_adjacent}
-use Rattle.enumset.proofs.Common.{All-replicate, All-take, answers_always, ascending, by_bytes, IsName, names_of}
-use Rattle.enumset.proofs.MapOrder.{less, by_bytes_total}
-use Rattle.enumset.proofs.set_json.map_texts.map_by_keys.Goals as goal
+use Rattle.enumset.proofs.Common.{All-replicate, All-take, answers_always, ascending, IsName, names_of}
+use Rattle.enumset.proofs.MapOrder.{less, by_bytes, by_bytes_total}
+use Rattle.enumset.proofs.set_json.plain_maps.map_by_keys.Goals as goal
 
 pub loop-element-2-init : goal.loop-element-2-init
 loop-element-2-init g c =

@@ -1,7 +1,7 @@
 use Rattle.std.proofs.Common.{◌≡◌, ◌≤◌, ℕ, List, Bor, ◌∷◌, length, arith, sym, subst, ap, ◌∙◌, inl, inr, All}
 use Rattle.enumset.proofs.Common.{common_steps, All-cons, All-permutation, IsPermutation-insert, IsStrictlySortedBy, ascending, len_ascending, AreMembers, AreRising, IsName, names_of}
 use Rattle.std.specs.List.{insert}
-use Rattle.enumset.proofs.set_json.map_texts.map_by_search.Goals as goal
+use Rattle.enumset.proofs.set_json.plain_maps.map_by_search.Goals as goal
 
 pub loop-element-init : goal.loop-element-init
 unfolding IsStrictlySortedBy

@@ -1,17 +1,19 @@
-//! Texts of maps of names that stand for themselves in JSON.
+//! Texts of maps of names that stand for themselves, written and read without a tree of values.
 
-ghost use Rattle.std.specs.Prelude.{◌≡◌, ◌≤◌, IfSome, length};
+ghost use Rattle.std.specs.Prelude.{◌≡◌, ◌≤◌, Ok, IfSome, length};
 ghost use Rattle.std.specs.Cmp.Lexicographic.{slice_cmp};
 ghost use Rattle.std.specs.List.{insert};
 ghost use Rattle.std.specs.Ordering.{is_lt, nat_cmp};
 ghost use Rattle.enumset_repr.specs.BitSet.{ascending, len};
-ghost use Rattle.enumset.specs.JsonNames.{map_value};
-ghost use Rattle.enumset.specs.JsonPlain.{AreRising, IsName, AreMembers, IsTextIfPlain};
+ghost use Rattle.enumset.specs.JsonNames.{map_value, set_of_map};
+ghost use Rattle.enumset.specs.JsonPlain.{AreRising, IsName, AreMembers, IsMember, IsTextIfPlain};
+ghost use Rattle.enumset.specs.JsonReads.{IsReadOf};
 ghost use Rattle.enumset.specs.Names.{names_of};
+ghost use Rattle.enumset.specs.declared.set_json.unknown.Unknown.{Unknown};
 
 use super::plain_lists::{TextIfPlain, push_either};
-use super::scan::is_plain;
-use crate::names::EnumSetNames;
+use super::scan::{after_byte, are_spaces, is_plain, split_spaces, split_string};
+use crate::names::{EnumSetNames, find_name};
 use enumset_sets::EnumSet;
 use std::alloc::Global;
 use std::cmp::Ordering;
@@ -114,6 +116,7 @@ fn place_of(names: &[&str], last: usize, name: &str) -> Option<usize>
     let mut low = 0;
     let mut high = names.len();
     let mut middle = last.min(high.saturating_sub(1));
+    // How far the next step may go: to the name beside the last one at first, then as far as names go.
     let mut reach = 0;
     while low < high {
         match names[middle].cmp(name) {
@@ -142,15 +145,68 @@ fn text_of_names<T: EnumSetNames>(alloc: Global, set: &EnumSet<T>, names: &[&str
         bytes.saturating_add(name.len()).saturating_add(8)
     });
     let mut text = String::with_capacity(alloc, bytes)?;
-    let mut later = false;
     for name in names.iter() {
         if !is_plain(name) {
             return Ok(None);
         }
-        push_either(&mut text, later, "\":true,\"", "{\"")?;
+        push_either(&mut text, "{\"", "\":true,\"")?;
         text.push_str(name)?;
-        later = true;
     }
-    push_either(&mut text, later, "\":true}", "{}")?;
+    push_either(&mut text, "{}", "\":true}")?;
     Ok(Some(text))
+}
+
+// The name and the boolean of a member after its opening quote, and what follows them.
+#[inline(always)]
+fn split_member(bytes: &[u8]) -> Option<(&[u8], bool, &[u8])>
+    ensures { IfSome result (λ parts. IsMember bytes.now parts.0.now parts.1 parts.2.now) }
+{
+    let (name, rest) = split_string(bytes)?;
+    let (_, value) = split_spaces(after_byte(rest, b':')?);
+    match value {
+        [b't', b'r', b'u', b'e', rest @ ..] => Some((name, true, rest)),
+        [b'f', b'a', b'l', b's', b'e', rest @ ..] => Some((name, false, rest)),
+        _ => None,
+    }
+}
+
+// The set of a map of plain names, if they are all known and none comes twice. No other text is read.
+pub(super) fn plain_map_set<T: EnumSetNames>(text: &str) -> Option<EnumSet<T>>
+    ensures { IfSome result (λ set. (unknown : Unknown)
+        → IsReadOf (set_of_map (names_of T.elements T.names) unknown) text.now (Ok set)) }
+{
+    if !ends_as_map(text.as_bytes()) {
+        return None;
+    }
+    let members = after_byte(text.as_bytes(), b'{')?;
+    if let Some(end) = after_byte(members, b'}') {
+        return are_spaces(end).then_some(EnumSet::new());
+    }
+    let mut left = after_byte(members, b'"')?;
+    let mut seen = EnumSet::new();
+    let mut set = EnumSet::new();
+    let mut next = 0;
+    for _ in 0..text.len() {
+        let (name, is_member, rest) = split_member(left)?;
+        let element: T = find_name(name, &mut next)?;
+        if !seen.insert(element) {
+            return None;
+        }
+        if is_member {
+            set.insert(element);
+        }
+        if let Some(end) = after_byte(rest, b'}') {
+            return are_spaces(end).then_some(set);
+        }
+        left = after_byte(after_byte(rest, b',')?, b'"')?;
+    }
+    None
+}
+
+// Whether the end of a text may be that of a map of booleans. A text with a fault at its end is not read twice so.
+fn ends_as_map(bytes: &[u8]) -> bool {
+    match bytes.trim_ascii_end() {
+        [inside @ .., b'}'] => matches!(inside.trim_ascii_end(), [.., b'e' | b'{']),
+        _ => false,
+    }
 }

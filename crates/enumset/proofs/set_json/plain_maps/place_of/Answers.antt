@@ -1,8 +1,8 @@
 use Rattle.std.proofs.Common.{get_or, arith}
 use Rattle.enumset.proofs.Common.{common_steps, nat_list_cmp_total}
 use Rattle.enumset.proofs.MapOrder.{put_between}
-use Rattle.enumset.proofs.set_json.map_texts.place_of.Invariants.{none}
-use Rattle.enumset.proofs.set_json.map_texts.place_of.Goals as goal
+use Rattle.enumset.proofs.set_json.plain_maps.place_of.Invariants.{none}
+use Rattle.enumset.proofs.set_json.plain_maps.place_of.Goals as goal
 
 pub loop-low-preserved : goal.loop-low-preserved
 loop-low-preserved c =

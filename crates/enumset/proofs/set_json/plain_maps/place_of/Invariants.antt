@@ -1,6 +1,6 @@
 use Rattle.std.proofs.Common.{◌≡◌, ◌≤◌, ◌<◌, ◌-◌, ℕ, List, Bor, [], length, get_or, Less, nat_cmp}
 use Rattle.enumset.proofs.Common.{slice_cmp}
-use Rattle.enumset.proofs.set_json.map_texts.place_of.Given as goal
+use Rattle.enumset.proofs.set_json.plain_maps.place_of.Given as goal
 
 abbrev pub none : Bor (List ℕ)
 none = record { ref_ptr = (0, 0); now = [] }

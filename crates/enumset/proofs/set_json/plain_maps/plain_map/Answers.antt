@@ -1,6 +1,6 @@
 use Rattle.std.proofs.Common.{◌≡◌, Some, inl, sym, ap, subst, ◌∙◌, arith, option_map}
 use Rattle.enumset.proofs.Common.{ascending_least, least, IsName, names_of}
-use Rattle.enumset.proofs.set_json.map_texts.plain_map.Goals as goal
+use Rattle.enumset.proofs.set_json.plain_maps.plain_map.Goals as goal
 
 pub map_by_keys-requires-after_bounds : goal.map_by_keys-requires-after_bounds
 map_by_keys-requires-after_bounds g c κs within =

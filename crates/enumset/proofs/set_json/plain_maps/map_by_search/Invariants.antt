@@ -1,6 +1,6 @@
 use Rattle.std.proofs.Common.{◌≡◌, ◌+◌, ℕ, List, length, All}
 use Rattle.enumset.proofs.Common.{ascending, AreRising, IsName, names_of}
-use Rattle.enumset.proofs.set_json.map_texts.map_by_search.Given as goal
+use Rattle.enumset.proofs.set_json.plain_maps.map_by_search.Given as goal
 
 -- the names so far rise, and they and those of the bits that are left are those of the set's members
 abbrev pub invariant-loop-element : goal.invariant-loop-element

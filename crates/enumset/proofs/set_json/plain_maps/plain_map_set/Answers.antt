@@ -2,7 +2,7 @@ use Rattle.std.proofs.Common.{rules, arith, ◌≡◌, cond, Ok, sym, subst, ◌
 use Rattle.enumset.proofs.Common.{not-true, common_steps, empty, insert, set_of_map, IsReadOf, names_of}
 use Rattle.enumset.proofs.PlainWords.{kept_if}
 use Rattle.enumset.proofs.MapsRead.{Scanned, scan_begins, scan_next, scan_ends, scan_none}
-use Rattle.enumset.proofs.set_json.map_scan.plain_map_set.Goals as goal
+use Rattle.enumset.proofs.set_json.plain_maps.plain_map_set.Goals as goal
 
 pub returns-in-Some : goal.returns-in-Some
 returns-in-Some g c =

@@ -1,6 +1,6 @@
 use Rattle.std.proofs.Common.{◌≡◌, ℕ, List, length, All}
 use Rattle.enumset.proofs.Common.{ascending, IsName, names_of}
-use Rattle.enumset.proofs.set_json.map_texts.map_by_keys.Given as goal
+use Rattle.enumset.proofs.set_json.plain_maps.map_by_keys.Given as goal
 
 -- all are names of the set's members, and so are those of the bits that are left
 abbrev pub invariant-loop-element-2 : goal.invariant-loop-element-2
