@@ -10,9 +10,12 @@ mod flag;
 mod machine;
 
 use door::Door;
+use enumset_sets::EnumSet;
 use event::Event;
-use std::io;
+use flag::Flag;
+use machine::Refusal;
 use std::process::ExitCode;
+use std::{fmt, io};
 
 // Lets the events happen in turn, up to the first line that is none.
 fn take_all<R: Input + Print + Eprint + AllocGlobal>(rt: &R) -> io::Result<ExitCode> {
@@ -22,25 +25,41 @@ fn take_all<R: Input + Print + Eprint + AllocGlobal>(rt: &R) -> io::Result<ExitC
         let line = line?;
         let word = line.trim();
         let Some(event) = Event::named(word) else {
-            eprintln!(rt; "example_door: line {number}: no event `{line}`")?;
-            return Ok(ExitCode::from(2));
+            return stop(rt, format_args!("line {number}: no event `{line}`"));
         };
-        match door.take(event) {
-            Ok(()) => println!(rt; "{word}: [{}]", door.flags)?,
-            Err(refusal) => {
-                println!(rt; "{word}: {refusal}")?;
-                status = ExitCode::from(1);
-            }
+        let taken = door.take(event);
+        show(rt, word, taken, door.flags)?;
+        if taken.is_err() {
+            status = ExitCode::from(1);
         }
     }
     Ok(status)
+}
+
+// Prints the flags after an event, or why it was refused.
+fn show<R: Print>(
+    rt: &R,
+    word: &str,
+    taken: Result<(), Refusal>,
+    flags: EnumSet<Flag>,
+) -> io::Result<()> {
+    match taken {
+        Ok(()) => println!(rt; "{word}: [{flags}]"),
+        Err(refusal) => println!(rt; "{word}: {refusal}"),
+    }
+}
+
+// Says why the program stops.
+fn stop(rt: &impl Eprint, why: impl fmt::Display + Drop) -> io::Result<ExitCode> {
+    eprintln!(rt; "example_door: {why}")?;
+    Ok(ExitCode::from(2))
 }
 
 fn main(rt: HostRuntime) -> ExitCode {
     match take_all(&rt) {
         Ok(status) => status,
         Err(error) => {
-            let _ = eprintln!(rt; "example_door: {error}");
+            let _ = stop(&rt, error);
             ExitCode::from(2)
         }
     }
