@@ -1,7 +1,9 @@
 //! What the program does: its input and its output.
 
+ghost use Rattle.std.specs.Prelude.{◌<◌, length};
+
 use crate::digits::decode;
-use crate::frame::{read_frame, write_frame};
+use crate::frame::{Frame, read_frame, write_frame};
 use std::process::ExitCode;
 use std::{fmt, io};
 
@@ -15,17 +17,27 @@ pub fn relay<R: Input + Print + Eprint + AllocGlobal>(rt: &R) -> io::Result<Exit
         let Some(bytes) = decode(rt.alloc(), line.as_str())? else {
             return stop(rt, number, "not two digits for each byte");
         };
-        let frame = match read_frame(&bytes) {
-            Ok(frame) => frame,
+        match read_frame(&bytes) {
+            Ok(frame) => relay_frame(rt, number, &frame)?,
             Err(fault) => return stop(rt, number, fault),
-        };
-        eprintln!(rt; "line {number}: {frame}")?;
-        for byte in &write_frame(rt.alloc(), &frame.relayed())? {
-            print!(rt; "{byte:02x}")?;
         }
-        println!(rt)?;
     }
     Ok(ExitCode::SUCCESS)
+}
+
+// Says what was understood of a frame, and relays it.
+fn relay_frame<R: Print + Eprint + AllocGlobal>(
+    rt: &R,
+    number: u64,
+    frame: &Frame<'_>,
+) -> io::Result<()>
+    requires { length frame.now.body.now < 256 }
+{
+    eprintln!(rt; "line {number}: {frame}")?;
+    for byte in &write_frame(rt.alloc(), &frame.relayed())? {
+        print!(rt; "{byte:02x}")?;
+    }
+    println!(rt)
 }
 
 // Says at which line the program stops, and why.
