@@ -18,7 +18,7 @@ use std::process::ExitCode;
 use std::rt::{Env, Files};
 use std::{env, fmt, fs, io};
 
-// Reads the policy, and answers each request in turn, up to the first line that is none.
+// Reads the policy, and answers the requests.
 fn answer_all<R>(rt: &R) -> io::Result<ExitCode>
 where
     R: Env + Files + Input + Print + Eprint + AllocGlobal,
@@ -27,10 +27,17 @@ where
     let (Some(path), None) = (args.next(), args.next()) else {
         return stop(rt, "usage: example_permissions POLICY < REQUESTS");
     };
-    let policy = match read_policy(rt, path.as_str()) {
-        Ok(policy) => policy,
-        Err(fault) => return stop(rt, format_args!("{path}: {fault}")),
-    };
+    match read_policy(rt, path.as_str()) {
+        Ok(policy) => answer_requests(rt, &policy),
+        Err(fault) => stop(rt, format_args!("{path}: {fault}")),
+    }
+}
+
+// Answers each request in turn, up to the first line that is none.
+fn answer_requests<R>(rt: &R, policy: &Policy) -> io::Result<ExitCode>
+where
+    R: Input + Print + Eprint + AllocGlobal,
+{
     let mut status = ExitCode::SUCCESS;
     for (line, number) in rt.lines(rt.alloc()).zip(1..=u64::MAX) {
         let decision = match policy.answer(rt.alloc(), line?.as_str()) {

@@ -22,22 +22,8 @@ impl Policy {
     /// The policy of a JSON text.
     pub fn from_json(alloc: Global, text: &str) -> Result<Policy, Fault> {
         let policy = Value::from_str(alloc, text).map_err(Fault::Json)?;
-        let mut grants = Vec::new(alloc);
-        for (name, rights) in object_in(&policy, "grants")?.iter() {
-            let Some(role) = Role::of_name(name.as_str()) else {
-                return Err(Fault::NoRole(name.clone()?));
-            };
-            let rights = read_list("grants", name, Some(rights))?;
-            add_grant(&mut grants, Grant { role, rights })?;
-        }
-        let mut users = BTreeMap::new(alloc);
-        for (name, user) in object_in(&policy, "users")?.iter() {
-            let user = User {
-                roles: read_list("roles", name, user.get("roles"))?,
-                denied: read_list("denials", name, user.get("denied"))?,
-            };
-            users.insert(name.clone()?, user).map_err(AllocError::from)?;
-        }
+        let grants = read_grants(alloc, object_in(&policy, "grants")?)?;
+        let users = read_users(alloc, object_in(&policy, "users")?)?;
         Ok(Policy { grants, users })
     }
 
@@ -65,6 +51,35 @@ impl Policy {
 fn object_in<'a>(value: &'a Value, name: &'static str) -> Result<&'a Map<String, Value>, Fault> {
     let object = value.get(name).and_then(|member| member.as_object());
     object.ok_or(Fault::NoObject(name))
+}
+
+// What each role is granted.
+fn read_grants(alloc: Global, roles: &Map<String, Value>) -> Result<Vec<Grant>, Fault> {
+    let mut grants = Vec::new(alloc);
+    for (name, rights) in roles.iter() {
+        let Some(role) = Role::of_name(name.as_str()) else {
+            return Err(Fault::NoRole(name.clone()?));
+        };
+        let rights = read_list("grants", name, Some(rights))?;
+        add_grant(&mut grants, Grant { role, rights })?;
+    }
+    Ok(grants)
+}
+
+// The users by name.
+fn read_users(
+    alloc: Global,
+    members: &Map<String, Value>,
+) -> Result<BTreeMap<String, User>, Fault> {
+    let mut users = BTreeMap::new(alloc);
+    for (name, member) in members.iter() {
+        let user = User {
+            roles: read_list("roles", name, member.get("roles"))?,
+            denied: read_list("denials", name, member.get("denied"))?,
+        };
+        users.insert(name.clone()?, user).map_err(AllocError::from)?;
+    }
+    Ok(users)
 }
 
 // The set of a list of names, empty where there is no list.
