@@ -24,7 +24,7 @@ pub enum DeriveError {
 }
 
 /// What comes of a part of the program, if it does not fail.
-pub type Outcome<T> = Result<T, DeriveError>;
+pub type Outcome<T = ()> = Result<T, DeriveError>;
 
 /// A fault of a source text, and where it is.
 #[derive(Clone, Copy, Debug, Error)]
@@ -99,16 +99,5 @@ impl Place {
             _ => (self.line, self.column.saturating_add(1)),
         };
         Place { line, column }
-    }
-}
-
-impl DeriveError {
-    /// The exit status of the program.
-    pub fn status(&self) -> u8 {
-        match self {
-            DeriveError::Arguments(_) => 2,
-            DeriveError::OutOfMemory(_) => 3,
-            _ => 1,
-        }
     }
 }

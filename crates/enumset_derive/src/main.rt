@@ -44,13 +44,17 @@ fn main(rt: HostRuntime) -> ExitCode {
         Ok(()) => ExitCode::SUCCESS,
         Err(fault) => {
             let _ = eprintln!(rt; "{fault}");
-            ExitCode::from(fault.status())
+            ExitCode::from(match fault {
+                DeriveError::Arguments(_) => 2,
+                DeriveError::OutOfMemory(_) => 3,
+                _ => 1,
+            })
         }
     }
 }
 
 /// Tests the arguments, reads the source and writes the module.
-fn answer<R: Env + Files + Input + Print + Eprint + AllocGlobal>(rt: &R) -> Outcome<()> {
+fn answer<R: Env + Files + Input + Print + Eprint + AllocGlobal>(rt: &R) -> Outcome {
     let arguments = env::args(rt).map_err(|error| fault_of(error, NOT_A_NAME))?;
     let arguments: Vec<String> = arguments.collect(rt.alloc())?;
     let request = request_of(rt.alloc(), &arguments)?;
@@ -124,7 +128,7 @@ fn text_of(input: &[u8]) -> Outcome<&str> {
 }
 
 /// Writes a text to a file, or to standard output.
-fn write_module<R: Files + Print + AllocGlobal>(rt: &R, to: &Request, text: &str) -> Outcome<()> {
+fn write_module<R: Files + Print + AllocGlobal>(rt: &R, to: &Request, text: &str) -> Outcome {
     let Some(file) = to.file else {
         let written = io::writer(rt).write_all(text.as_bytes());
         return written.map_err(|_| DeriveError::Stream("writing failed"));

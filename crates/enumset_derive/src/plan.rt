@@ -65,8 +65,13 @@ pub fn plan_enum(alloc: Global, declaration: &EnumDeclaration) -> Result<Plan, D
     }
     let variants = name_variants(alloc, options, declaration.variants.as_slice())?;
     let bit_width = width_of(variants.as_slice());
-    let store = store_of(alloc, asked, variants.as_slice(), bit_width);
-    let store = store.map_err(DeriveError::OutOfMemory)?;
+    let store = match kind_of(asked, bit_width) {
+        Representation::Integer(integer) => Store::Integer(integer, number_of(variants.as_slice())),
+        Representation::Words => {
+            let words = words_of(alloc, variants.as_slice(), bit_width.div_ceil(64));
+            Store::Words(words.map_err(DeriveError::OutOfMemory)?)
+        }
+    };
     Ok(Plan {
         variants,
         store,
@@ -82,25 +87,6 @@ fn width_of(named: &[NamedVariant]) -> u32
     match named.split_first() {
         None => 0,
         Some((first, rest)) => (first.bit + 1).max(width_of(rest)),
-    }
-}
-
-/// The set of the variants' bits, below a width, in what keeps a set.
-fn store_of(
-    alloc: Global,
-    asked: Option<Representation>,
-    named: &[NamedVariant],
-    width: u32,
-) -> Result<Store, AllocError>
-    requires distinct { IsTrue (is_distinct (bits_of named.now)) }
-    requires width { width ≡ one_past_all (bits_of named.now) }
-    requires room { width ≤ bit_limit asked }
-    ensures kind { IfOk result (IsStore (kind_of asked width) width) }
-    ensures lawful { IfOk result (λ s. IsLawfulStore (length named.now) (bits_of named.now) s width) }
-{
-    match kind_of(asked, width) {
-        Representation::Integer(integer) => Ok(Store::Integer(integer, number_of(named))),
-        Representation::Words => Ok(Store::Words(words_of(alloc, named, width.div_ceil(64))?)),
     }
 }
 

@@ -17,9 +17,6 @@ use std::alloc::{AllocError, Global};
 use std::collections::BTreeSet;
 use std::mem;
 
-/// Nothing, or the first fault.
-type Done = Outcome<()>;
-
 /// What a source text has of which these are the tokens, or the first fault, of reading or of planning.
 pub fn read_source<'a>(alloc: Global, text: &'a str, tokens: &[Token<'a>]) -> Outcome<Source<'a>> {
     let words = tokens.iter().copied().filter(|token| !token.is_comment());
@@ -35,7 +32,6 @@ fn read_words<'a, 'b>(
     words: &'b [Token<'a>],
 ) -> Outcome<Source<'a>> {
     let source = Source {
-        alloc,
         items: Vec::new(alloc),
         head: 0,
         imports: Vec::new(alloc),
@@ -49,16 +45,15 @@ fn read_words<'a, 'b>(
     let [token, ..] = tokens else {
         return Ok(source);
     };
-    // It begins before the first token.
-    let cursor = Cursor {
-        text,
-        token,
-        rest: tokens,
-        words,
-    };
     let mut reader = Reader {
         alloc,
-        cursor,
+        // It begins before the first token.
+        cursor: Cursor {
+            text,
+            token,
+            rest: tokens,
+            words,
+        },
         source,
         derive: renamed_derive(words),
         is_in_head: true,
@@ -96,33 +91,37 @@ struct Reader<'a, 'b> {
 
 impl<'a, 'b> Reader<'a, 'b> {
     /// Reads an item, or a token between items. At the end of the text there is nothing to read.
-    fn read_token(&mut self) -> Done {
+    fn read_token(&mut self) -> Outcome {
         let begin = self.cursor.token;
-        let is_attribute = begin.is_mark("#") && self.cursor.is_before("!");
         self.source.add_space(begin.space);
-        let is_kept = match begin.kind {
+        match begin.kind {
             Kind::End => return Ok(()),
-            Kind::Comment | Kind::InnerDoc => true,
-            _ if is_attribute => {
-                self.cursor.advance()?;
-                self.cursor.read_part()?.has_meaning(Bearer::Text)?
-            }
+            Kind::Comment | Kind::InnerDoc => {}
+            _ if begin.is_mark("#") && self.cursor.is_before("!") => self.cursor.advance()?,
             _ => {
                 self.is_in_head = false;
                 return self.read_item();
             }
-        };
+        }
+        let is_kept = self.cursor.read_part()?.has_meaning(Bearer::Text)?;
         let text = self.cursor.text_since(begin.begin);
         if is_kept {
             let text = String::from_str(self.alloc, text)?;
             self.source.push(Form::Text(text))?;
         } else {
-            self.source.leave_out(begin.place, text)?;
+            self.leave_out(begin.place, text)?;
         }
         if self.is_in_head && !matches!(begin.kind, Kind::Comment) {
             self.source.head = self.source.items.len();
         }
         Ok(())
+    }
+
+    /// Leaves out a text at a place, which means nothing here.
+    fn leave_out(&mut self, place: Place, text: &str) -> Outcome {
+        self.source.gap.is_after_left_out = true;
+        let note = format!(in self.alloc; "left out: {text} has no meaning here")?;
+        Ok(self.source.notes.push((place, note))?)
     }
 }
 
@@ -140,7 +139,7 @@ struct Cursor<'a, 'b> {
 
 impl<'a, 'b> Cursor<'a, 'b> {
     /// Goes on to the next token, if there is one. It fails at one from which on nothing can be read.
-    pub fn advance(&mut self) -> Done {
+    pub fn advance(&mut self) -> Outcome {
         if let [next, rest @ ..] = self.rest {
             self.token = next;
             self.rest = rest;
@@ -155,7 +154,7 @@ impl<'a, 'b> Cursor<'a, 'b> {
     }
 
     /// Goes on to the next word.
-    pub fn advance_to_word(&mut self) -> Done {
+    pub fn advance_to_word(&mut self) -> Outcome {
         for _ in self.rest {
             self.advance()?;
             if !self.token.is_comment() {
@@ -166,7 +165,7 @@ impl<'a, 'b> Cursor<'a, 'b> {
     }
 
     /// Goes on to the first of these marks in so many brackets, unless the cursor is at one, or to the last token.
-    pub fn skip_to(&mut self, marks: &str, depth: usize) -> Done {
+    pub fn skip_to(&mut self, marks: &str, depth: usize) -> Outcome {
         for _ in self.rest {
             if self.token.is_mark(marks) && self.token.depth == depth {
                 break;

@@ -9,7 +9,6 @@ use std::mem;
 /// What a source text has.
 #[derive(Drop)]
 pub struct Source<'a> {
-    pub alloc: Global,
     /// In their order.
     pub items: Vec<Item<'a>>,
     /// How many items stand before the end of the head: the inner comments and attributes at the beginning of the text.
@@ -82,25 +81,23 @@ pub struct Gap {
     lines: usize,
     has_space: bool,
     /// Whether something was left out after it.
-    is_after_left_out: bool,
+    pub is_after_left_out: bool,
 }
 
-impl<'a> Item<'a> {
-    /// By what `rt fmt` orders imports: those of the crate itself come first.
-    fn order<'b>(&'b self, facade: &'b str) -> Option<(usize, &'b str, &'b str)> {
-        let (root, path) = match &self.form {
-            Form::Imports => (facade, "{"),
-            Form::Import(import) => {
-                let path = import.path.as_str();
-                let root = path.split(' ').next().unwrap_or(path);
-                path.split_once("::").unwrap_or((root, ""))
-            }
-            _ => return None,
-        };
-        let mut own = ["self", "super", "crate"].iter();
-        let rank = own.position(|own| *own == root).unwrap_or(3);
-        Some((rank, root, path))
-    }
+/// By what `rt fmt` orders imports: those of the crate itself come first.
+fn order<'a>(item: &'a Item, facade: &'a str) -> Option<(usize, &'a str, &'a str)> {
+    let (root, path) = match &item.form {
+        Form::Imports => (facade, "{"),
+        Form::Import(import) => {
+            let path = import.path.as_str();
+            let root = path.split(' ').next().unwrap_or(path);
+            path.split_once("::").unwrap_or((root, ""))
+        }
+        _ => return None,
+    };
+    let mut own = ["self", "super", "crate"].iter();
+    let rank = own.position(|own| *own == root).unwrap_or(3);
+    Some((rank, root, path))
 }
 
 impl<'a> Source<'a> {
@@ -124,12 +121,12 @@ impl<'a> Source<'a> {
     }
 
     /// Puts imports on lines of their own into the order that `rt fmt` gives them.
-    pub fn sort_imports(&mut self) -> Result<(), AllocError> {
-        let (alloc, facade) = (self.alloc, self.facade);
+    pub fn sort_imports(&mut self, alloc: Global) -> Result<(), AllocError> {
+        let facade = self.facade;
         let is_run = |one: &Item, next: &Item| {
-            next.gap == "\n" && one.order(facade).is_some() && next.order(facade).is_some()
+            next.gap == "\n" && order(one, facade).is_some() && order(next, facade).is_some()
         };
-        let order = |one: &Item, other: &Item| one.order(facade).cmp(&other.order(facade));
+        let order = |one: &Item, other: &Item| order(one, facade).cmp(&order(other, facade));
         for run in self.items.chunk_by_mut(is_run) {
             let gap = mem::replace(&mut run[0].gap, "\n");
             run.sort_by(alloc, order)?;
@@ -146,12 +143,5 @@ impl<'a> Source<'a> {
             false => self.gap.lines.saturating_add(lines),
         };
         self.gap.has_space |= !space.is_empty();
-    }
-
-    /// Leaves out a text at a place, which means nothing here.
-    pub fn leave_out(&mut self, place: Place, text: &str) -> Result<(), AllocError> {
-        self.gap.is_after_left_out = true;
-        let note = format!(in self.alloc; "left out: {text} has no meaning here")?;
-        Ok(self.notes.push((place, note))?)
     }
 }

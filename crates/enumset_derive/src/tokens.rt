@@ -55,7 +55,7 @@ impl<'a> Token<'a> {
     }
 
     /// The fault, unless what is wanted is here.
-    pub fn want(&self, is_here: bool, wanted: &'static str) -> Outcome<()> {
+    pub fn want(&self, is_here: bool, wanted: &'static str) -> Outcome {
         is_here.then_some(()).ok_or(self.fault(wanted))
     }
 

@@ -1,7 +1,6 @@
 //! The text of a module.
 
 mod element_type;
-mod enums;
 mod imports;
 mod json;
 mod layout;
@@ -37,14 +36,14 @@ struct Subject<'a, 'b> {
 /// The text of the module that a source stands for, or the fault of a name that the module needs itself.
 /// The imports stand where the first of the source stand, or after its head.
 pub fn module_text(alloc: Global, request: &Request, source: &Source) -> Outcome<String> {
-    let imports = imports::imports_of(source)?;
+    let imports = imports::imports_of(alloc, source)?;
     let mut text = String::new(alloc);
     for (index, item) in source.items.iter().enumerate() {
         let lines = text.len().saturating_sub(text.trim_end_matches('\n').len());
         let written = if text.is_empty() { 2 } else { lines };
         text.push_str(item.gap.get(written..).unwrap_or(""))?;
         let has_place = source.has_imports || imports.is_empty();
-        if index == source.head && source.has_enums && !has_place {
+        if index == source.head && !has_place {
             write!(text, "{imports}\n\n")?;
         }
         match &item.form {
@@ -52,7 +51,6 @@ pub fn module_text(alloc: Global, request: &Request, source: &Source) -> Outcome
             Form::Import(import) => text.push_str(import.text.as_str())?,
             Form::Imports => text.push_str(imports.as_str())?,
             Form::Element(element) => {
-                enums::write_enum(&mut text, alloc, element)?;
                 let subject = Subject {
                     alloc,
                     request: &*request,

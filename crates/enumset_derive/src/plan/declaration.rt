@@ -8,10 +8,9 @@ use crate::fault::Place;
 /// An enum that is to be an element type.
 #[derive(Drop)]
 pub struct EnumDeclaration<'a> {
-    /// The comments and the attributes before its first derive, each as it is written, on a line of its own.
-    pub attributes: String,
-    /// The comments and the attributes after that. The derives and the options are not among them.
-    pub later_attributes: String,
+    /// The comments and the attributes before its first derive, and those after that, each as it is written, on a line of
+    /// its own. The derives and the options are not among them.
+    pub attributes: [String; 2],
     /// What is derived beside `EnumSetType`, in its order, each as it is written.
     pub derives: Vec<String>,
     /// `pub` and what stands in brackets after it, as `(crate)`; empty if they are not there.

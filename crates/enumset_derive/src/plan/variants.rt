@@ -39,10 +39,8 @@ pub fn name_variants(
     let mut named = Vec::new(alloc);
     let mut implied = Some(Number::Small(0));
     for (i, variant) in variants.iter().enumerate() {
-        let next = match name_variant(options, &variants[..i], &named, implied, variant) {
-            Ok(next) => next,
-            Err(fault) => return Err(DeriveError::Fault(fault)),
-        };
+        let next = name_variant(options, &variants[..i], &named, implied, variant);
+        let next = next.map_err(DeriveError::Fault)?;
         implied = next.number.next();
         let pushed = named.push(next);
         pushed.map_err(|_| DeriveError::OutOfMemory(AllocError))?;
@@ -74,10 +72,8 @@ fn name_variant(
         Some(given) => (given.number, given.place),
         None => (implied.ok_or(too_large)?, variant.place),
     };
-    match bit_among(options, named, number) {
-        Ok(bit) => Ok(NamedVariant { bit, number, place }),
-        Err(reason) => Err(reason.at(place)),
-    }
+    let bit = bit_among(options, named, number).map_err(|reason| reason.at(place))?;
+    Ok(NamedVariant { bit, number, place })
 }
 
 /// Where the first variant is that has the name of this one.

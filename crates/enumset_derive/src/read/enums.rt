@@ -18,11 +18,10 @@ const FOR_TESTS: &str = concat!("#", "[cfg(test)]\n");
 
 impl<'a, 'b> Reader<'a, 'b> {
     /// Reads an enum, whose comments and attributes are these, and plans it.
-    pub(super) fn read_element(&mut self, parts: &[Part<'a, 'b>]) -> Done {
+    pub(super) fn read_element(&mut self, parts: &[Part<'a, 'b>]) -> Outcome {
         let alloc = self.alloc;
         let mut declaration = EnumDeclaration {
-            attributes: String::new(alloc),
-            later_attributes: String::new(alloc),
+            attributes: [String::new(alloc), String::new(alloc)],
             derives: Vec::new(alloc),
             visibility: ("", ""),
             name: "",
@@ -31,7 +30,6 @@ impl<'a, 'b> Reader<'a, 'b> {
             options: Options::default(),
         };
         self.given.clear();
-        self.serde.clear();
         self.read_enum(&mut declaration, parts)?;
         let plan = plan_enum(alloc, &declaration)?;
         // The first discriminant that no enum of Rattle has.
@@ -45,9 +43,9 @@ impl<'a, 'b> Reader<'a, 'b> {
             self.source.notes.push((named.place, note))?;
         }
         let json_names = self.json_names(&declaration)?;
-        for (part, _, is_kept) in &self.serde {
-            if !*is_kept && !declaration.options.are_named() {
-                self.source.leave_out(part.begin.place, part.text)?;
+        for (part, _, is_kept) in mem::replace(&mut self.serde, Vec::new(alloc)) {
+            if !is_kept && !declaration.options.are_named() {
+                self.leave_out(part.begin.place, part.text)?;
             }
         }
         self.source.has_enums = true;
@@ -73,8 +71,7 @@ impl<'a, 'b> Reader<'a, 'b> {
         for part in parts {
             let is_kept = match part.name.text {
                 "derive" if variant.is_none() => {
-                    let (mut derives, _) = self.kept_of(part)?;
-                    of.derives.append(&mut derives)?;
+                    of.derives.extend(self.kept_of(part)?.0)?;
                     continue;
                 }
                 "enumset" if variant.is_none() => {
@@ -92,18 +89,17 @@ impl<'a, 'b> Reader<'a, 'b> {
             if part.name.is("serde") || (part.name.is("cfg_attr") && part.calls("serde")) {
                 self.serde.push((*part, variant, is_kept))?;
             } else if !is_kept {
-                self.source.leave_out(part.begin.place, part.text)?;
+                self.leave_out(part.begin.place, part.text)?;
             }
         }
         Ok(kept)
     }
 
     /// Reads an enum, whose comments and attributes are these, from its visibility up to the `}` at its end.
-    fn read_enum(&mut self, of: &mut EnumDeclaration<'a>, parts: &[Part<'a, 'b>]) -> Done {
+    fn read_enum(&mut self, of: &mut EnumDeclaration<'a>, parts: &[Part<'a, 'b>]) -> Outcome {
         let first = parts.iter().position(|part| part.name.is("derive"));
         let (before, after) = parts.split_at(first.unwrap_or(0));
-        of.attributes = self.take(of, before)?;
-        of.later_attributes = self.take(of, after)?;
+        of.attributes = [self.take(of, before)?, self.take(of, after)?];
         of.visibility = self.cursor.read_visibility()?;
         let name = self.cursor.read_enum_name()?;
         of.name = name.text;
@@ -127,7 +123,7 @@ impl<'a, 'b> Reader<'a, 'b> {
     }
 
     /// A fault if an option or an attribute of the enum means nothing without another.
-    fn test_options(&self, options: &Options) -> Done {
+    fn test_options(&self, options: &Options) -> Outcome {
         for given in &self.given {
             let is_right = options.serialized.is_some() || !given.is("serialize_deny_unknown");
             given.want(is_right, "`serialize_deny_unknown` needs `serialize_repr`")?;
@@ -147,18 +143,16 @@ impl<'a, 'b> Reader<'a, 'b> {
         self.cursor.advance_to_word()?;
         let discriminant = self.cursor.read_discriminant()?;
         self.cursor.end_variant()?;
-        let mut comments = String::new(self.alloc);
-        let end = self.cursor.token.begin;
+        let (alloc, end) = (self.alloc, self.cursor.token.begin);
         let passed = begin.rest.iter().take_while(|token| token.begin < end);
-        for comment in passed.filter(|token| token.is_comment()) {
-            write!(comments, " {}", comment.text)?;
-        }
+        let comments = passed.filter(|token| token.is_comment());
+        let comments = comments.map(|comment| format!(in alloc; " {}", comment.text));
         Ok(Variant {
             place: name.place,
             attributes,
             name: name.text,
             discriminant,
-            comments,
+            comments: comments.try_collect(alloc)?,
         })
     }
 }
@@ -205,7 +199,7 @@ impl<'a, 'b> Cursor<'a, 'b> {
     }
 
     /// Reads what ends a variant, and the comments on its line after a `,`.
-    fn end_variant(&mut self) -> Done {
+    fn end_variant(&mut self) -> Outcome {
         let end = self.token;
         end.want(!end.is_mark("({"), "a variant must have no fields")?;
         end.want(end.is_mark(",}"), "wanted: `,` or `}`")?;
@@ -242,6 +236,7 @@ fn number_of(literal: &str, is_negative: bool) -> Result<(&str, Number), &'stati
     if digits.is_empty() || !written.starts_with(|first: char| first.is_ascii_digit()) {
         return Err(NOT_A_LITERAL);
     }
+    let step = radix.trailing_zeros();
     let mut value = Some(0u128);
     let mut exponent = None;
     for character in digits.chars().filter(|character| *character != '_') {
@@ -249,9 +244,7 @@ fn number_of(literal: &str, is_negative: bool) -> Result<(&str, Number), &'stati
         let digit = digit.ok_or(NOT_A_LITERAL)?;
         exponent = match (value, digit) {
             (Some(0), 1 | 2 | 4 | 8) => Some(digit.trailing_zeros()),
-            (_, 0) if radix != 10 => exponent.and_then(|exponent: u32| {
-                exponent.checked_add(radix.trailing_zeros())
-            }),
+            (_, 0) if radix != 10 => exponent.and_then(|exponent: u32| exponent.checked_add(step)),
             _ => None,
         };
         let shifted = value.and_then(|value| value.checked_mul(u128::from(radix)));

@@ -8,7 +8,7 @@ const EXPORTS_ALL: &str = "`pub use` takes no `*` here: name what is exported";
 
 impl<'a, 'b> Reader<'a, 'b> {
     /// Reads an import from its keyword on. Its attributes are given, a line each; its visibility begins at `item`.
-    pub(super) fn read_use(&mut self, place: Place, before: &str, item: Cursor<'a, 'b>) -> Done {
+    pub(super) fn read_use(&mut self, place: Place, before: &str, item: Cursor<'a, 'b>) -> Outcome {
         let alloc = self.alloc;
         let visibility = item.text.get(item.token.begin..self.cursor.token.begin);
         let visibility = visibility.unwrap_or("").trim_end();
@@ -46,10 +46,10 @@ impl<'a, 'b> Reader<'a, 'b> {
     }
 
     /// Takes in what a line imports of the crate `enumset`: a path after its name, or some in brackets.
-    fn read_names(&mut self, place: Place, attributes: &str, path: &[Token<'a>]) -> Done {
+    fn read_names(&mut self, place: Place, attributes: &str, path: &[Token<'a>]) -> Outcome {
         let alloc = self.alloc;
         if !attributes.is_empty() {
-            self.source.leave_out(place, attributes.trim_end())?;
+            self.leave_out(place, attributes.trim_end())?;
         }
         if !mem::replace(&mut self.source.has_imports, true) {
             self.source.push(Form::Imports)?;
@@ -75,7 +75,7 @@ impl<'a, 'b> Reader<'a, 'b> {
     }
 
     /// Leaves out each import of a crate that may not be there, of which nothing is used and nothing may be by others.
-    pub(super) fn settle_imports(&mut self) -> Done {
+    pub(super) fn settle_imports(&mut self) -> Outcome {
         for item in mem::replace(&mut self.source.items, Vec::new(self.alloc)) {
             if let Form::Import(import) = &item.form {
                 let mut names = import.names.iter();
@@ -92,7 +92,7 @@ impl<'a, 'b> Reader<'a, 'b> {
             }
             self.source.items.push(item)?;
         }
-        Ok(self.source.sort_imports()?)
+        Ok(self.source.sort_imports(self.alloc)?)
     }
 }
 

@@ -13,7 +13,7 @@ const NAMED: &str = "struct enum union trait type mod fn const static";
 
 impl<'a, 'b> Reader<'a, 'b> {
     /// Reads an item with the comments and attributes before it, up to its last token.
-    pub(super) fn read_item(&mut self) -> Done {
+    pub(super) fn read_item(&mut self) -> Outcome {
         let begin = self.cursor;
         let parts = self.cursor.read_parts(self.alloc)?;
         if derive_among(self.cursor.words_since(&begin), self.derive).is_some() {
@@ -33,14 +33,14 @@ impl<'a, 'b> Reader<'a, 'b> {
         self.cursor.skip_to(";}", 0)?;
         if keyword.is("extern") && next.is("crate") {
             let text = self.cursor.text_since(begin.token.begin);
-            return Ok(self.source.leave_out(begin.token.place, text)?);
+            return self.leave_out(begin.token.place, text);
         }
         let words = self.cursor.words_since(&item);
         if let Some(derive) = derive_among(words, self.derive) {
             return Err(derive.fault(INSIDE));
         }
-        self.used.extend(words.iter().map(|word| word.text))?;
-        self.used.extend(["*", "_"])?;
+        let words = words.iter().map(|word| word.text);
+        self.used.extend(words.chain(["*", "_"]))?;
         self.write_item(&mut text, item)?;
         Ok(self.source.push(Form::Text(text))?)
     }
@@ -59,14 +59,14 @@ impl<'a, 'b> Reader<'a, 'b> {
             } else if part.has_meaning(Bearer::Item)? {
                 write!(out, "{text}\n")?;
             } else {
-                self.source.leave_out(part.begin.place, text)?;
+                self.leave_out(part.begin.place, text)?;
             }
         }
         Ok(out)
     }
 
     /// Writes an item up to the cursor, without the attributes in it that have no meaning. A macro is as it is.
-    fn write_item(&mut self, out: &mut String, item: Cursor<'a, 'b>) -> Done {
+    fn write_item(&mut self, out: &mut String, item: Cursor<'a, 'b>) -> Outcome {
         let mut cursor = item;
         let mut from = item.token.begin;
         for _ in item.rest {
@@ -79,7 +79,7 @@ impl<'a, 'b> Reader<'a, 'b> {
                 let part = cursor.read_part()?;
                 if !is_among(HELPERS, part.name.text) && !part.has_meaning(Bearer::Item)? {
                     out.push_str(cursor.text.get(from..begin.begin).unwrap_or(""))?;
-                    self.source.leave_out(begin.place, part.text)?;
+                    self.leave_out(begin.place, part.text)?;
                     from = cursor.rest.first().map_or(from, |next| next.begin);
                 }
             }

@@ -13,7 +13,7 @@ const OLD_LIST: &str = "`serialize_as_list` is written `serialize_repr = \"list\
 
 impl<'a, 'b> Reader<'a, 'b> {
     /// Reads the options in an attribute.
-    pub(super) fn read_options(&mut self, to: &mut Options<'a>, part: &Part<'a, 'b>) -> Done {
+    pub(super) fn read_options(&mut self, to: &mut Options<'a>, part: &Part<'a, 'b>) -> Outcome {
         for argument in part.arguments(self.alloc)? {
             let [name, rest @ ..] = argument? else {
                 continue;
@@ -36,7 +36,7 @@ impl<'a, 'b> Reader<'a, 'b> {
 }
 
 /// Reads an option, which is a name and what comes after it.
-fn read_option<'a>(options: &mut Options<'a>, name: &Token<'a>, rest: &[Token<'a>]) -> Done {
+fn read_option<'a>(options: &mut Options<'a>, name: &Token<'a>, rest: &[Token<'a>]) -> Outcome {
     match name.text {
         "map" => {
             let (value, text) = value_of(name, rest)?;

@@ -216,7 +216,7 @@ impl<'a, 'b> Reader<'a, 'b> {
                 kept.push(path)?;
             } else if let (false, [begin, ..]) = (is_own, argument) {
                 let text = format!(in self.alloc; "#[derive({path})]")?;
-                self.source.leave_out(begin.place, text.as_str())?;
+                self.leave_out(begin.place, text.as_str())?;
             }
         }
         Ok((kept, is_whole))

@@ -1,10 +1,18 @@
-//! What makes an enum an element type.
+//! An enum, and what makes it an element type.
 
 use super::*;
 
-/// Writes what makes an enum an element type.
+/// Why an enum has no discriminants.
+const DROPPED: &str =
+    "// Its discriminants are left out: one of them is past those that Rattle takes, -2^63 to 2^63 - 1.\n";
+
+/// What an element type needs, a line each.
+const SUPERTRAITS: &str = "Clone,\nCopy,\nPartialEq,\nEq,\n";
+
+/// Writes the enum, and what makes it an element type.
 pub(super) fn write_element_type(out: &mut String, of: &Subject) -> Written {
     let options = &of.element.declaration.options;
+    write_enum(out, of.alloc, of.element)?;
     write_impl(out, of)?;
     if is_narrow(&of.element.plan) {
         write_head(out, of, "", "EnumSetTypeWithRepr")?;
@@ -28,6 +36,51 @@ pub(super) fn write_element_type(out: &mut String, of: &Subject) -> Written {
         Some(serialized) => json::write_json(out, of, serialized),
         None => Ok(()),
     }
+}
+
+/// Writes the enum.
+fn write_enum(out: &mut String, alloc: Global, element: &Element) -> Written {
+    let declaration = &element.declaration;
+    let (visibility, restriction) = declaration.visibility;
+    let (name, last_comments) = (declaration.name, &declaration.last_comments);
+    let [attributes, later_attributes] = &declaration.attributes;
+    out.push_str(attributes.as_str())?;
+    if !element.has_discriminants {
+        out.push_str(DROPPED)?;
+    }
+    write_derives(out, alloc, declaration)?;
+    out.push_str(later_attributes.as_str())?;
+    let gap = if visibility.is_empty() { "" } else { " " };
+    let is_empty = declaration.variants.is_empty() && last_comments.is_empty();
+    let line = if is_empty { "" } else { "\n" };
+    write!(out, "{visibility}{restriction}{gap}enum {name} {{{line}")?;
+    for variant in &declaration.variants {
+        write!(out, "{}    {}", variant.attributes, variant.name)?;
+        let given = variant.discriminant.filter(|_| element.has_discriminants);
+        if let Some(Discriminant { sign, literal, .. }) = given {
+            write!(out, " = {sign}{literal}")?;
+        }
+        write!(out, ",{}\n", variant.comments)?;
+    }
+    write!(out, "{last_comments}}}")
+}
+
+/// Writes the derives, on a line or on a line each: those that an element type needs, and those of the source.
+fn write_derives(out: &mut String, alloc: Global, declaration: &EnumDeclaration) -> Written {
+    let is_full = !declaration.options.leaves_out_supertraits;
+    let needed = if is_full { SUPERTRAITS } else { "" };
+    let mut words = String::from_str(alloc, needed)?;
+    for path in &declaration.derives {
+        let mut names = needed.lines().map(|line| line.trim_end_matches(','));
+        if !names.any(|name| names_last(path.as_str(), name)) {
+            write!(words, "{path},\n")?;
+        }
+    }
+    if words.is_empty() {
+        return Ok(());
+    }
+    let derives = in_brackets(alloc, "\n    ", [89, 0], words.as_str())?;
+    write!(out, "#[derive({derives})]\n")
 }
 
 /// Whether what keeps a set has at most 128 bits.
@@ -159,11 +212,14 @@ fn write_from_u32(out: &mut String, of: &Subject) -> Written {
     if count <= 32 {
         return out.push_str("            _ => unreachable!(),\n        }\n");
     }
+    let rooms = [61usize.saturating_sub(facade.len()), 78];
+    let words = format!(in alloc; "val,\n{count},\n")?;
+    let words = in_brackets(alloc, "\n                    ", rooms, words.as_str())?;
     // A proof takes in no more bits by itself.
     write!(
         out,
         "            _ => {{
-                {facade}::variants::is_below(val, {count});
+                {facade}::variants::is_below({words});
                 unreachable!()
             }}
         }}
@@ -185,13 +241,10 @@ fn store_text(of: &Subject) -> Written<[String; 3]> {
     let repr = format!(in alloc; "ArrayRepr<{}>", all.len())?;
     let words = all.iter().map(|word| format!(in alloc; "{word},\n"));
     let words: String = words.try_collect(alloc)?;
-    let line = on_a_line(alloc, words.as_str())?;
     let is_wide = all.iter().any(|word| *word >= 10_000_000_000);
     let room = if is_wide { 0 } else { 92 };
-    let lines = wrapped(alloc, "\n        ", [room, room], words.as_str())?;
-    let all_bits = match line.len().saturating_add(repr.len()) {
-        ..64 => format!(in alloc; "ArrayRepr([{line}])")?,
-        _ => format!(in alloc; "ArrayRepr([\n        {lines}\n    ])")?,
-    };
+    let rooms = [63usize.saturating_sub(repr.len()), room];
+    let words = in_brackets(alloc, "\n        ", rooms, words.as_str())?;
+    let all_bits = format!(in alloc; "ArrayRepr([{words}])")?;
     Ok([repr, list_of(of, 77, all, ["", ""])?, all_bits])
 }

@@ -6,9 +6,9 @@ const TAKEN: &str = "the module needs this name for what it imports of `enumset`
 
 /// What a module imports of `enumset`, in order, each once. Paths have lines of their own. It is a fault if the source
 /// gives a needed name to something else.
-pub(super) fn imports_of(source: &Source) -> Outcome<String> {
+pub(super) fn imports_of(alloc: Global, source: &Source) -> Outcome<String> {
     let imported = source.imports.iter().map(|name| name.as_str());
-    let mut imports: BTreeSet<&str> = imported.collect(source.alloc)?;
+    let mut imports: BTreeSet<&str> = imported.collect(alloc)?;
     for item in &source.items {
         if let Form::Element(element) = &item.form {
             for (is_needed, name) in needed_by(element) {
@@ -18,7 +18,7 @@ pub(super) fn imports_of(source: &Source) -> Outcome<String> {
             }
         }
     }
-    Ok(lines_of(source, &imports)?)
+    Ok(lines_of(alloc, source.facade, &imports)?)
 }
 
 /// What the module of an element type may need of `enumset`, in order, and whether it does.
@@ -52,9 +52,9 @@ fn is_free(source: &Source, path: &str) -> Outcome<bool> {
     }
 }
 
-/// The lines that import these.
-fn lines_of(source: &Source, imports: &BTreeSet<&str>) -> Text {
-    let (alloc, facade) = (source.alloc, source.facade);
+/// The lines that import these. `rt fmt` breaks a line of several names past 98 columns. A line of names alone has four
+/// columns before it, and at most 99 with them, or 100 if it has them all.
+fn lines_of(alloc: Global, facade: &str, imports: &BTreeSet<&str>) -> Text {
     let is_ours = facade == "enumset_sets";
     let mut words = String::new(alloc);
     let mut paths = String::new(alloc);
@@ -70,25 +70,15 @@ fn lines_of(source: &Source, imports: &BTreeSet<&str>) -> Text {
     if has_all {
         words.push_str("*,\n")?;
     }
-    let names = names_of(alloc, facade, words.as_str())?;
+    let room = if words.len() <= 97 { 96 } else { 95 };
+    let rooms = [89usize.saturating_sub(facade.len()), room];
+    let names = in_brackets(alloc, "\n    ", rooms, words.as_str())?;
+    let name = words.strip_suffix(",\n").unwrap_or("");
     let lines = match words.lines().count() {
-        1 if !is_ours => format!(in alloc; "{names}{paths}")?,
-        _ => format!(in alloc; "{paths}{names}")?,
+        0 => paths,
+        1 if is_ours => format!(in alloc; "{paths}use {facade}::{name};")?,
+        1 => format!(in alloc; "use {facade}::{name};\n{paths}")?,
+        _ => format!(in alloc; "{paths}use {facade}::{{{names}}};")?,
     };
     String::from_str(alloc, lines.trim_end())
-}
-
-/// The line that imports these names, or the lines. `rt fmt` breaks a line of several names past 98 columns. A line of
-/// names alone has four columns before it, and at most 99 with them, or 100 if it has them all.
-fn names_of(alloc: Global, facade: &str, words: &str) -> Text {
-    let line = on_a_line(alloc, words)?;
-    let room = if line.len() <= 95 { 96 } else { 95 };
-    let lines = wrapped(alloc, "\n    ", [room, 95], words)?;
-    let whole = format!(in alloc; "use {facade}::{{{line}}};\n")?;
-    match words.lines().count() {
-        0 => Ok(line),
-        1 => format!(in alloc; "use {facade}::{line};\n"),
-        _ if whole.len() <= 99 => Ok(whole),
-        _ => format!(in alloc; "use {facade}::{{\n    {lines}\n}};\n"),
-    }
 }

@@ -6,19 +6,15 @@ const OF_NUMBERS: &str =
     "    ghost use Rattle.std.specs.Prelude.{◌≡◌, ◌↔◌, IsOk, IfOk, IfErr, IsTrue};
     ghost use Rattle.enumset_repr.specs.BitSet.{is_subset, below};
     ghost use Rattle.enumset_repr.specs.Number.{number};
-    ghost use Rattle.enumset_sets.specs.Elements.{valid_bits};
-    ghost use Rattle.serde_json.specs.View.{view};
-    ghost use Rattle.enumset.specs.Json";
+    ghost use Rattle.enumset_sets.specs.Elements.{valid_bits};";
 
 const OF_WORDS: &str = "    ghost use Rattle.std.specs.Prelude.{◌≡◌, IfOk, IfErr};
     ghost use Rattle.enumset_repr.specs.Words.{words};
-    ghost use Rattle.enumset_sets.specs.Elements.{valid_bits};
-    ghost use Rattle.serde_json.specs.View.{view};
-    ghost use Rattle.enumset.specs.Json";
+    ghost use Rattle.enumset_sets.specs.Elements.{valid_bits};";
 
-const OF_NAMES: &str = "    ghost use Rattle.std.specs.Prelude.{◌≡◌, IfOk, IfErr};
-    ghost use Rattle.serde_json.specs.View.{view};
-    ghost use Rattle.enumset.specs.Names.{names_of};
+const OF_NAMES: &str = "    ghost use Rattle.std.specs.Prelude.{◌≡◌, IfOk, IfErr};";
+
+const NAMES: &str = "Names.{names_of};
     ghost use Rattle.enumset.specs.JsonNames";
 
 const WORDS: &str = "array of the set's words of 64 bits, the lowest first";
@@ -68,11 +64,11 @@ pub(super) fn write_json(out: &mut String, of: &Subject, serialized: Serialized)
     let (alloc, own, guard) = (of.alloc, of.name, of.element.guard);
     let options = &of.element.declaration.options;
     let width = width_of(serialized, &of.element.plan);
-    let [name, cited, doc] = match serialized {
-        Serialized::Bits(_) if width.is_some() => ["number", OF_NUMBERS, "set's number"],
-        Serialized::Bits(_) => ["words", OF_WORDS, WORDS],
-        Serialized::List => ["list", OF_NAMES, LIST],
-        Serialized::Map => ["map", OF_NAMES, MAP],
+    let [name, cited, module, doc] = match serialized {
+        Serialized::Bits(_) if width.is_some() => ["number", OF_NUMBERS, "Json", "set's number"],
+        Serialized::Bits(_) => ["words", OF_WORDS, "Json", WORDS],
+        Serialized::List => ["list", OF_NAMES, NAMES, LIST],
+        Serialized::Map => ["map", OF_NAMES, NAMES, MAP],
     };
     let [value, read_by] = model_of(of, name, width)?;
     let (mut argument, mut fits) = (String::new(alloc), String::new(alloc));
@@ -98,7 +94,9 @@ pub(super) fn write_json(out: &mut String, of: &Subject, serialized: Serialized)
         "
 
 {guard}impl {own} {{
-{cited}.{{{name}_value, set_of_{name}}};
+{cited}
+    ghost use Rattle.serde_json.specs.View.{{view}};
+    ghost use Rattle.enumset.specs.{module}.{{{name}_value, set_of_{name}}};
     ghost use Rattle.enumset.specs.declared.set_json.fault.JsonFault.TheVariants.{{{fault}}};
     ghost use Rattle.enumset.specs.declared.set_json.unknown.Unknown.TheVariants as unknown;
 

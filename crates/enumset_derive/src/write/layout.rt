@@ -4,7 +4,7 @@ use super::*;
 
 /// The lines of a text as words with spaces between them. Where the next word would pass the last column, a new line
 /// begins, by the text `start`. `rooms` is how many columns are left on the first line, and on the others after `start`.
-pub(super) fn wrapped(alloc: Global, start: &str, rooms: [usize; 2], words: &str) -> Text {
+fn wrapped(alloc: Global, start: &str, rooms: [usize; 2], words: &str) -> Text {
     let [mut room, room_of_line] = rooms;
     let mut out = String::new(alloc);
     for word in words.lines() {
@@ -21,10 +21,16 @@ pub(super) fn wrapped(alloc: Global, start: &str, rooms: [usize; 2], words: &str
     Ok(out)
 }
 
-/// The words, each with a comma, on one line without the comma at its end.
-pub(super) fn on_a_line(alloc: Global, words: &str) -> Text {
-    let words = words.strip_suffix(",\n").unwrap_or("");
-    words.replace(alloc, "\n", " ")
+/// What stands in brackets: the words on one line, without a comma at its end, if the line has room for it, else on lines
+/// that begin by `start`. `rooms` is how many columns are left on the line, and on the others after `start`.
+pub(super) fn in_brackets(alloc: Global, start: &str, rooms: [usize; 2], words: &str) -> Text {
+    let line = words.trim_end_matches(|end| matches!(end, ',' | '\n'));
+    if line.len() <= rooms[0] {
+        return line.replace(alloc, "\n", " ");
+    }
+    let lines = wrapped(alloc, start, [rooms[1], rooms[1]], words)?;
+    let end = start.strip_suffix("    ").unwrap_or("");
+    format!(in alloc; "{start}{lines}{end}")
 }
 
 /// A list in a clause, of items each with these texts before and after it. Its first line has this room.
@@ -40,12 +46,9 @@ pub(super) fn list_of(of: &Subject, room: usize, items: &[impl Display], ends: [
 
 /// Writes the body of a function that calls a macro with words, on one line if it fits.
 pub(super) fn write_call(out: &mut String, alloc: Global, name: &str, words: &str) -> Written {
-    if words.len().saturating_add(name.len()) <= 91 {
-        let words = words.trim_end().replace(alloc, "\n", " ")?;
-        return write!(out, "        {name}({words})\n");
-    }
-    let words = wrapped(alloc, "\n            ", [88, 88], words)?;
-    write!(out, "        {name}(\n            {words}\n        )\n")
+    let rooms = [90usize.saturating_sub(name.len()), 88];
+    let words = in_brackets(alloc, "\n            ", rooms, words)?;
+    write!(out, "        {name}({words})\n")
 }
 
 /// Writes an arm of a match, of which the value has a line of its own where that line would be too long.
@@ -61,7 +64,9 @@ pub(super) fn write_arm(out: &mut String, arm: &str) -> Written {
 /// Writes the head of an implementation of a trait, after an empty line and the comment of its own.
 pub(super) fn write_head(out: &mut String, of: &Subject, doc: &str, form: &str) -> Written {
     let (name, guard) = (of.name, of.element.guard);
-    let is_short = form.len().saturating_add(name.len()) <= 88;
+    let last = form.rsplit('\n').next().unwrap_or(form);
+    let room = if last.len() == form.len() { 88 } else { 93 };
+    let is_short = last.len().saturating_add(name.len()) <= room;
     let gap = if is_short { " " } else { "\n    " };
     write!(out, "\n\n{doc}{guard}impl {form}{gap}for {name} {{\n")
 }

@@ -59,13 +59,15 @@ pub(super) fn write_display(out: &mut String, of: &Subject) -> Written {
     }
     out.push_str("        match self {\n")?;
     for name in names {
-        let (gap, end) = match name.len() {
-            ..=31 => ("", ""),
-            _ => ("\n                ", ",\n            "),
+        let (gap, start, room) = match name.len() {
+            ..=66 => (" ", "\n                ", 33),
+            _ => ("\n                ", "\n                    ", 70),
         };
+        let text = format!(in alloc; "\"{name}\",\n")?;
+        let text = in_brackets(alloc, start, [room, 0], text.as_str())?;
         write!(
             out,
-            "            Self::{name} => f.write_str({gap}\"{name}\"{end}),\n"
+            "            Self::{name} =>{gap}f.write_str({text}),\n"
         )?;
     }
     out.push_str("        }\n    }\n}")

@@ -12,18 +12,51 @@ const OPERATORS: [[&str; 4]; 4] = [
 
 /// Writes the five operators. Those with two operands take an element or a set after the element.
 pub(super) fn write_operators(out: &mut String, of: &Subject) -> Written {
-    let name = of.name;
-    let set = format!(in of.alloc; "<EnumSet<{name}>>")?;
-    let only = format!(in of.alloc;
-        "\n        (set.only (⟦<{name} as EnumSetType>⟧.elements.bit b))"
-    )?;
+    let (alloc, name) = (of.alloc, of.name);
+    let words = format!(in alloc; "{name},\n")?;
+    let output = in_brackets(alloc, "\n        ", [72, 0], words.as_str())?;
+    let inner = in_brackets(alloc, "\n    ", [86, 0], words.as_str())?;
+    let set = format!(in alloc; "EnumSet<{inner}>,\n")?;
+    let own = format!(in alloc; "⟦<{name} as EnumSetType>⟧.elements")?;
+    let only = format!(in alloc; "\n        (set.only ({own}.bit b))")?;
     let (set, only) = (set.as_str(), only.as_str());
+    // What the comment calls the second operand, the parameter of the trait, the type, and the set in code and in the model.
     let element = ["that of the other", "", "Self", "EnumSet::only(rhs)", only];
     let set = ["the other", set, "EnumSet<Self>", "rhs", " b"];
-    for operator in OPERATORS {
-        write_operator(out, of, operator, element)?;
-        write_operator(out, of, operator, set)?;
+    for [form, function, sign, operation] in OPERATORS {
+        let words = operation.replace(alloc, "_", " ")?;
+        for [other, parameter, operand, value, model] in [element, set] {
+            let doc = format!(in alloc; "/// The {words} of the set of the one and {other}.\n")?;
+            let room = 83usize.saturating_sub(form.len());
+            let parameter = in_brackets(alloc, "\n    ", [room, 0], parameter)?;
+            let form = match parameter.is_empty() {
+                true => format!(in alloc; "std::ops::{form}")?,
+                false => format!(in alloc; "std::ops::{form}<{parameter}>")?,
+            };
+            write_head(out, of, doc.as_str(), form.as_str())?;
+            write!(
+                out,
+                "    ghost use Rattle.std.specs.Prelude.{{◌≡◌}};
+    ghost use Rattle.enumset_repr.specs.BitSet as set;
+
+    type Output = EnumSet<{output}>;
+
+    ghost {function}_gives = {{ λ a b r. r ≡ set.{operation}
+        (set.only ({own}.bit a)){model} }};
+
+    fn {function}(self, rhs: {operand}) -> EnumSet<Self> {{
+        EnumSet::only(self) {sign} {value}
+    }}
+}}"
+            )?;
+        }
     }
+    write_not(out, of, output.as_str())
+}
+
+/// Writes `!`, of which the result has this between the brackets of its type.
+fn write_not(out: &mut String, of: &Subject, output: &str) -> Written {
+    let name = of.name;
     write_head(out, of, "/// The set of all the others.\n", "std::ops::Not")?;
     write!(
         out,
@@ -31,7 +64,7 @@ pub(super) fn write_operators(out: &mut String, of: &Subject) -> Written {
     ghost use Rattle.enumset_repr.specs.BitSet as set;
     ghost use Rattle.enumset_sets.specs.Elements.{{valid_bits}};
 
-    type Output = EnumSet<{name}>;
+    type Output = EnumSet<{output}>;
 
     ghost not_gives = {{ λ a r. r ≡ set.difference
         (valid_bits ⟦<{name} as EnumSetType>⟧.elements)
@@ -39,33 +72,6 @@ pub(super) fn write_operators(out: &mut String, of: &Subject) -> Written {
 
     fn not(self) -> EnumSet<Self> {{
         !EnumSet::only(self)
-    }}
-}}"
-    )
-}
-
-/// Writes an operator with this after the element: what the comment calls it, the parameter of the trait, the type, and
-/// the set that it is in code and in the model.
-fn write_operator(out: &mut String, of: &Subject, operator: [&str; 4], rhs: [&str; 5]) -> Written {
-    let (alloc, name) = (of.alloc, of.name);
-    let [form, function, sign, operation] = operator;
-    let [other, parameter, operand, value, model] = rhs;
-    let words = operation.replace(alloc, "_", " ")?;
-    let doc = format!(in alloc; "/// The {words} of the set of the one and {other}.\n")?;
-    let form = format!(in alloc; "std::ops::{form}{parameter}")?;
-    write_head(out, of, doc.as_str(), form.as_str())?;
-    write!(
-        out,
-        "    ghost use Rattle.std.specs.Prelude.{{◌≡◌}};
-    ghost use Rattle.enumset_repr.specs.BitSet as set;
-
-    type Output = EnumSet<{name}>;
-
-    ghost {function}_gives = {{ λ a b r. r ≡ set.{operation}
-        (set.only (⟦<{name} as EnumSetType>⟧.elements.bit a)){model} }};
-
-    fn {function}(self, rhs: {operand}) -> EnumSet<Self> {{
-        EnumSet::only(self) {sign} {value}
     }}
 }}"
     )

@@ -1,0 +1,22 @@
+use Rattle.std.proofs.Common.{rules, ◌≡◌, ◌==◌, ◌^◌, ◌∙◌, true, length, sum_by}
+use Rattle.enumset_repr.specs.Laws.Common.{and_parts, length-map, lists_words, one_past_all}
+use Rattle.enumset_derive.specs.Variants.{bits_of}
+use Rattle.enumset_derive.proofs.Tests.{lawful_of}
+use Rattle.enumset_derive.proofs.plan.plan_enum.Goals as goal
+use Rattle.enumset_derive.proofs.plan.plan_enum.Goals.{in-Integer, in-Words+in_ok-map_err-in-Words}
+
+pub returns-clause-lawful : goal.returns-clause-lawful
+returns-clause-lawful c =
+    let named = c.in_ok-variants.variants.items in
+    let bs = bits_of named in
+    let many : length named ≡ length c.args.declaration.now.variants.items = search rules in
+    let width : c.width_of-bit_width.result ≡ one_past_all bs = rw c.as_slice-2.ensures.value at c.width_of-bit_width.ensures in
+    elim c.match-kind_of.branch [
+      | in-Integer w ↦
+          let lists = and_parts _ _ (rw w.as_slice-in-Integer.ensures.value at w.number_of.ensures) in
+          rw w.store-is (lawful_of _ bs (sum_by (λ b. 2 ^ b) bs == w.number_of.result) _ _ (length-map named _ ∙ many) lists.1 lists.0 width)
+      | in-Words+in_ok-map_err-in-Words w ↦
+          let words = w.in_ok-map_err-in-Words.field-0.items in
+          let lists : lists_words (bits_of w.as_slice-in-Words.result.now) words ≡ true = search rules in
+          rw w.store-is (lawful_of _ bs (lists_words bs words) _ _ (length-map named _ ∙ many) (rw w.as_slice-in-Words.ensures.value at lists) c.in_ok-variants.ensures.distinct width)
+    ]
