@@ -2,7 +2,7 @@
 //!
 //! The modules are what the program writes from the files in `enums/`: change such a file, and call
 //! `scripts/written-types`. They hold what else stands in such sources: attributes, derives, imports, comments, functions
-//! and names in JSON as serde has them. Those of `types` are for the tests of `enumset` and for scripts.
+//! and names in JSON as serde has them.
 #![tactic(auto)]
 
 pub mod axes;
@@ -13,6 +13,5 @@ pub mod nodes;
 pub mod permissions;
 pub mod states;
 pub mod tokens;
-pub mod types;
 pub mod verbs;
 pub mod wire;

@@ -1,10 +1,10 @@
 //! Frames of a protocol.
 
 use enumset::{EnumSet, EnumSetNames, EnumSetType, EnumSetTypeWithRepr, names_of, set_json};
-use serde::{Deserialize, Serialize};
+use serde::Serialize;
 
 /// A kind of frame.
-#[derive(Clone, Copy, PartialEq, Eq, Debug, Serialize, Deserialize)]
+#[derive(Clone, Copy, PartialEq, Eq, Debug, Serialize)]
 #[serde(rename_all = "kebab-case")]
 pub enum Frame {
     OpenStream,

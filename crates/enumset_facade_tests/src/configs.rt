@@ -2,7 +2,7 @@
 
 use crate::config::{ConfigFault, with_flag_in_list};
 use crate::expect::expect;
-use enumset_derived_types::types::Letters;
+use crate::types::Letters;
 use std::alloc::{AllocError, Global};
 use std::test::Fail;
 

@@ -1,9 +1,9 @@
 //! Each law that no other program of this repository calls, at a concrete type.
 
+use crate::types::{Letters, Numbered};
 use enumset::set::MixedEnumSet;
 use enumset::set_json::{JsonWidth, Unknown};
 use enumset::{EnumSet, laws};
-use enumset_derived_types::types::{Letters, Numbered};
 use enumset_worked::Marks;
 
 #[test]

@@ -1,11 +1,11 @@
 //! The texts of faults of JSON, and the lines of parse errors. What strings are read as is in `scripts/json-rows.txt`.
 
 use crate::expect::expect;
+use crate::types::Letters;
 use enumset::set_json::{
     JsonFault, JsonWidth, Unknown, from_list_text, from_map_text, from_number_text,
     from_words_text, mixed_from_number_text, mixed_from_words_text,
 };
-use enumset_derived_types::types::Letters;
 use std::test::Fail;
 
 #[test]

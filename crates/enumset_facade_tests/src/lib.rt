@@ -1,6 +1,6 @@
-//! Tests of the crate `enumset`: macros, folds, steps and JSON, at the worked types and at those that
-//! `enumset_derived_types` has for tests; and of users' code over it, with its proofs. What strings of JSON are read and
-//! written as is in `scripts/random-json`.
+//! Tests of the crate `enumset`: macros, folds, steps and JSON, at the worked types and at those of `types`, which
+//! scripts use too; and of users' code over it, with its proofs. What strings of JSON are read and written as is in
+//! `scripts/random-json`.
 //!
 //! They are in a crate of their own so that they are proved beside the tests of sets.
 #![tactic(auto)]
@@ -39,3 +39,4 @@ mod sent;
 mod sizes;
 #[cfg(test)]
 mod steps;
+pub mod types;

@@ -5,6 +5,7 @@
 
 use crate::expect::expect;
 use crate::form::{Form, read, write};
+use crate::types::{Letters, Priority, Wide};
 use enumset::EnumSet;
 use enumset::set::MixedEnumSet;
 use enumset::set_json::{
@@ -12,7 +13,6 @@ use enumset::set_json::{
     mixed_to_words_text, to_list_text, to_map_text,
 };
 use enumset_array::{ArrayRepr, End, ShownRow, walk};
-use enumset_derived_types::types::{Letters, Priority, Wide};
 use enumset_worked::{Marks, Sparse};
 use std::alloc::Global;
 use std::fmt;

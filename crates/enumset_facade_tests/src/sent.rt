@@ -3,10 +3,10 @@
 use crate::expect::expect;
 use crate::reading_newer::read_by_older;
 use crate::sending_json::{sent_as_list_text, sent_as_number, sent_as_words, sent_with_unknown};
+use crate::types::{LaterLetters, Letters};
 use enumset::EnumSet;
 use enumset::set::MixedEnumSet;
 use enumset::set_json::{JsonWidth, Unknown};
-use enumset_derived_types::types::{LaterLetters, Letters};
 use std::test::Fail;
 
 #[test]

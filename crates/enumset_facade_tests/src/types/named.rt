@@ -17,7 +17,7 @@ pub enum Letters {
 
 impl EnumSetType for Letters {
     ghost use Rattle.enumset_sets.specs.Laws.Elements.{in_place, lawful_in_integer, lawful_in_place};
-    ghost use Rattle.enumset_derived_types.specs.contracts.types.named.Letters.{the_type};
+    ghost use Rattle.enumset_facade_tests.specs.contracts.types.named.Letters.{the_type};
 
     type Repr = u8;
 
@@ -126,7 +126,7 @@ pub enum LaterLetters {
 impl EnumSetType for LaterLetters {
     ghost use Rattle.std.specs.Prelude.{◌∷◌, []};
     ghost use Rattle.enumset_sets.specs.Laws.Elements.{with_bits, lawful_in_words};
-    ghost use Rattle.enumset_derived_types.specs.contracts.types.named.LaterLetters.{the_type};
+    ghost use Rattle.enumset_facade_tests.specs.contracts.types.named.LaterLetters.{the_type};
 
     type Repr = ArrayRepr<2>;
 
@@ -232,7 +232,7 @@ pub enum Sparse {
 impl EnumSetType for Sparse {
     ghost use Rattle.std.specs.Prelude.{◌∷◌, []};
     ghost use Rattle.enumset_sets.specs.Laws.Elements.{with_bits, lawful_in_integer};
-    ghost use Rattle.enumset_derived_types.specs.contracts.types.named.Sparse.{the_type};
+    ghost use Rattle.enumset_facade_tests.specs.contracts.types.named.Sparse.{the_type};
 
     type Repr = u128;
 

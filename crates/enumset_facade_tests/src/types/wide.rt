@@ -14,7 +14,7 @@ pub enum Wide {
 impl EnumSetType for Wide {
     ghost use Rattle.std.specs.Prelude.{◌∷◌, []};
     ghost use Rattle.enumset_sets.specs.Laws.Elements.{with_bits, lawful_in_words};
-    ghost use Rattle.enumset_derived_types.specs.contracts.types.wide.Wide.{the_type};
+    ghost use Rattle.enumset_facade_tests.specs.contracts.types.wide.Wide.{the_type};
 
     type Repr = ArrayRepr<3>;
 
