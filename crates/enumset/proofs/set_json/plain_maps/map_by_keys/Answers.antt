@@ -1,7 +1,9 @@
 use Rattle.std.proofs.Common.{ℕ, List, [], Bor, refl, sym, ap, subst, ◌∙◌, arith, rules, length-take, is_lt}
+use Rattle.std.proofs.Math.ListN.{length-set}
+use Rattle.std.proofs.lemmas.List.Elements.{All-set}
 use Rattle.std.proofs.lemmas.Map.Keys.{sorted_from_all_adjacent}
 use Rattle.enumset.proofs.Common.{All-replicate, All-take, answers_always, ascending, IsName, names_of}
-use Rattle.enumset.proofs.MapOrder.{less, by_bytes, by_bytes_total}
+use Rattle.enumset.proofs.MapOrder.{first_named, less, by_bytes, by_bytes_total}
 use Rattle.enumset.proofs.set_json.plain_maps.map_by_keys.Goals as goal
 
 pub loop-element-2-init : goal.loop-element-2-init
@@ -11,6 +13,18 @@ loop-element-2-init g c =
       refl,
       λ text. subst (λ bits. IsName names bits text) (ap (λ i. i.items) c.into_iter-element-iterator-2.ensures.into_iter_gives ∙ c.iter-element-items-2.ensures.ascending),
     )
+
+pub loop-element-2-preserved-then-next-lt32-2 : goal.loop-element-2-preserved-then-next-lt32-2
+loop-element-2-preserved-then-next-lt32-2 g c =
+    let named = IsName (names_of g.T.EnumSetType.elements g.T.EnumSetNames.names) (ascending c.args.set.now) in
+    let (all, many, left) = c.loop-element-2.invariant in
+    let (one, rest) = first_named _ _ _ _ _ c.in-Some-element.ensures.steps.0 left in
+    (All-set (λ n. named n.now) _ _ _ (subst named (sym c.name-then-next-lt32-2.ensures) one) all, length-set _ _ _ ∙ many, rest)
+
+pub loop-element-2-preserved : goal.loop-element-2-preserved
+loop-element-2-preserved g c =
+    let (all, many, left) = c.loop-element-2.invariant in
+    (all, many, (first_named _ _ _ _ _ c.in-Some-element.ensures.steps.0 left).1)
 
 pub text_of_names-requires-after_bounds : goal.text_of_names-requires-after_bounds
 text_of_names-requires-after_bounds g c κs within =
