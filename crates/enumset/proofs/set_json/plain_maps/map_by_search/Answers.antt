@@ -32,8 +32,9 @@ loop-element-preserved g c =
       rest,
     )
 
-pub text_of_names-requires-after_bounds : goal.text_of_names-requires-after_bounds
-text_of_names-requires-after_bounds g c κs within =
+pub returns : goal.returns
+returns g c =
     let (rising, many, named, left) = c.loop-element.invariant in
-    subst (AreMembers (names_of g.T.EnumSetType.elements g.T.EnumSetNames.names) c.args.set.now) (sym c.deref-2.ensures.value)
-    (rising, named, omega (arith, many, len_ascending c.args.set.now, ap length c.in-None.ensures.steps.0.0))
+    let all = names_of g.T.EnumSetType.elements g.T.EnumSetNames.names in
+    c.text_of_names.ensures all c.args.set.now (subst (AreMembers all c.args.set.now) (sym c.deref-2.ensures.value)
+    (rising, named, omega (arith, many, len_ascending c.args.set.now, ap length c.in-None.ensures.steps.0.0)))
