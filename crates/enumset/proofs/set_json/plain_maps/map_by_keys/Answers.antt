@@ -26,6 +26,9 @@ loop-element-2-preserved g c =
     let (all, many, left) = c.loop-element-2.invariant in
     (all, many, (first_named _ _ _ _ _ c.in-Some-element.ensures.steps.0 left).1)
 
+pub slice_bounds-names-end : goal.slice_bounds-names-end
+slice_bounds-names-end g c = omega arith
+
 pub returns-then-is_sorted_by : goal.returns-then-is_sorted_by
 returns-then-is_sorted_by g c =
     let d : Bor (List ℕ) = record { ref_ptr = (0, 0); now = [] } in
