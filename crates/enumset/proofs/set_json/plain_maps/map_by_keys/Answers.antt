@@ -23,23 +23,17 @@ loop-element-2-preserved-then-next-lt32-2 g c =
 
 pub loop-element-2-preserved : goal.loop-element-2-preserved
 loop-element-2-preserved g c =
-    let (all, many, left) = c.loop-element-2.invariant in
-    (all, many, (first_named _ _ _ _ _ c.in-Some-element.ensures.steps.0 left).1)
-
-pub slice_bounds-names-end : goal.slice_bounds-names-end
-slice_bounds-names-end g c = omega arith
+    (c.loop-element-2.invariant.0, c.loop-element-2.invariant.1, (first_named _ _ _ _ _ c.in-Some-element.ensures.steps.0 c.loop-element-2.invariant.2).1)
 
 pub returns-then-is_sorted_by : goal.returns-then-is_sorted_by
 returns-then-is_sorted_by g c =
     let d : Bor (List ℕ) = record { ref_ptr = (0, 0); now = [] } in
     let all = names_of g.T.EnumSetType.elements g.T.EnumSetNames.names in
     let named : Bor (List ℕ) → Type 0 = λ n. IsName all (ascending c.args.set.now) n.now in
-    let names = c.loop-element-2.names in
-    let many = length-take c.len.result names in
     c.text_of_names.ensures all c.args.set.now (
       sorted_from_all_adjacent by_bytes_total _ d (λ k within. less _ (sym (c.if-is_sorted_by.ensures.cases (λ x y. is_lt (by_bytes x y)) (answers_always _ _ _ (λ f a r g h. search rules)) k d within))),
-      All-take named c.len.result names c.loop-element-2.invariant.0,
-      omega (arith, many, c.len.ensures.members, c.loop-element-2.invariant.1),
+      All-take named c.len.result c.loop-element-2.names c.loop-element-2.invariant.0,
+      omega (arith, length-take c.len.result c.loop-element-2.names, c.len.ensures.members, c.loop-element-2.invariant.1),
     )
 
 pub returns-else-is_sorted_by : goal.returns-else-is_sorted_by

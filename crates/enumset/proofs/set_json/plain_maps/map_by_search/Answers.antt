@@ -23,11 +23,10 @@ loop-element-preserved g c =
     let name = c.name-name.result in
     let (inside, there) = subst (λ l. AreRising l → (c.in-Some-place_of.place ≤ length l) × AreRising (insert l c.in-Some-place_of.place name)) c.deref.ensures.value c.in-Some-place_of.ensures rising in
     let put = c.in_ok-insert.ensures.items in
-    let here = c.in-Some.ensures.steps.0 in
-    let (one, rest) = first_named _ _ _ _ _ here left in
+    let (one, rest) = first_named _ _ _ _ _ c.in-Some.ensures.steps.0 left in
     let P : Bor (List ℕ) → Type 0 = λ n. named n.now in (
       subst AreRising (sym put) there,
-      omega (arith, many, ap length here, c.in_ok-insert.ensures.len),
+      omega (arith, many, ap length c.in-Some.ensures.steps.0, c.in_ok-insert.ensures.len),
       subst (All P) (sym put) (All-permutation P _ _ (IsPermutation-insert names c.in-Some-place_of.place name) (All-cons P name names (subst named (sym c.name-name.ensures) one) all)),
       rest,
     )
