@@ -104,6 +104,13 @@ all_sorted names s ns (rising, named, many) =
     let (rises, _, holds, few) = has_all names (ascending s) no_members tt in
     (within ns _ rising rises (recursion_from_All _ ns (All-weaker _ _ (λ n. holds n.now) ns named))).1 (omega (arith, few, many, len_ascending s))
 
+-- the name of the first of some bits, and those of the bits after it
+pub first_named : (names : Names) (bits rest all : List ℕ) (b : ℕ) → bits ≡ b ∷ rest → ((t : List ℕ) → IsName names bits t → IsName names all t)
+    → IsName names all (name_of names b) × ((t : List ℕ) → IsName names rest t → IsName names all t)
+first_named names bits rest all b first named =
+    let left = subst (λ bs. (t : List ℕ) → IsName names bs t → IsName names all t) first named in
+    (left _ (inl refl), λ t later. left t (inr later))
+
 -- ---- tests of neighbours
 
 pub less : (o : Ordering) → is_lt o ≡ true → o ≡ Less

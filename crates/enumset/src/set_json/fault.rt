@@ -45,21 +45,21 @@ impl fmt::Display for JsonFault {
 
     fn fmt<W: fmt::Write>(&self, f: &mut fmt::Formatter<W>) -> fmt::Result {
         match self {
-            JsonFault::TooWide => write!(f, "a member is too large for the width"),
-            JsonFault::NotANumber => write!(f, "not a number"),
-            JsonFault::NotWhole => write!(f, "not a whole number of 64 bits"),
-            JsonFault::OutOfRange => write!(f, "number out of range"),
-            JsonFault::NotAnArray => write!(f, "not an array"),
+            JsonFault::TooWide => f.write_str("a member is too large for the width"),
+            JsonFault::NotANumber => f.write_str("not a number"),
+            JsonFault::NotWhole => f.write_str("not a whole number of 64 bits"),
+            JsonFault::OutOfRange => f.write_str("number out of range"),
+            JsonFault::NotAnArray => f.write_str("not an array"),
             JsonFault::NotAWord(place) => {
                 write!(f, "element {place}: not a whole number of 64 bits")
             }
-            JsonFault::NotAnObject => write!(f, "not an object"),
+            JsonFault::NotAnObject => f.write_str("not an object"),
             JsonFault::NotAText(place) => write!(f, "element {place}: not a text"),
             JsonFault::NotABoolean(place) => write!(f, "name {place}: not a boolean"),
-            JsonFault::UnknownBits => write!(f, "unknown bits"),
+            JsonFault::UnknownBits => f.write_str("unknown bits"),
             JsonFault::UnknownName(place) => write!(f, "name {place}: unknown"),
             JsonFault::NotJson(line) => write!(f, "line {line}: not JSON"),
-            JsonFault::OutOfMemory => write!(f, "out of memory"),
+            JsonFault::OutOfMemory => f.write_str("out of memory"),
         }
     }
 }

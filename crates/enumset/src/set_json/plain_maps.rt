@@ -4,11 +4,11 @@ ghost use Rattle.std.specs.Prelude.{◌≡◌, ◌≤◌, Ok, IfSome, length};
 ghost use Rattle.std.specs.Cmp.Lexicographic.{slice_cmp};
 ghost use Rattle.std.specs.List.{insert};
 ghost use Rattle.std.specs.Ordering.{is_lt, nat_cmp};
-ghost use Rattle.enumset_repr.specs.BitSet.{ascending, len};
+ghost use Rattle.enumset_repr.specs.BitSet.{BitSet, ascending, len};
 ghost use Rattle.enumset.specs.JsonNames.{map_value, set_of_map};
 ghost use Rattle.enumset.specs.JsonPlain.{AreRising, IsName, AreMembers, IsMember, IsTextIfPlain};
 ghost use Rattle.enumset.specs.JsonReads.{IsReadOf};
-ghost use Rattle.enumset.specs.Names.{names_of};
+ghost use Rattle.enumset.specs.Names.{Names, names_of};
 ghost use Rattle.enumset.specs.declared.set_json.unknown.Unknown.{Unknown};
 
 use super::plain_lists::{TextIfPlain, push_either};
@@ -72,7 +72,7 @@ fn map_by_keys<T: EnumSetNames>(alloc: Global, set: &EnumSet<T>, first: &'static
     }
     let names = &names[..set.len()];
     if names.is_sorted_by(|one, other| comes_before(one, other)) {
-        text_of_names(alloc, set, names)
+        text_of_names(alloc, names)
     } else {
         map_by_search(alloc, set)
     }
@@ -103,7 +103,7 @@ fn map_by_search<T: EnumSetNames>(alloc: Global, set: &EnumSet<T>) -> TextIfPlai
         names.insert(place, name)?;
         last = place;
     }
-    text_of_names(alloc, set, &names)
+    text_of_names(alloc, &names)
 }
 
 // Where a name goes among names in the order of bytes, unless it is there. It is compared with the last one put in, then
@@ -136,9 +136,8 @@ fn place_of(names: &[&str], last: usize, name: &str) -> Option<usize>
 }
 
 // The map of the members' names, unless one of them needs an escape.
-fn text_of_names<T: EnumSetNames>(alloc: Global, set: &EnumSet<T>, names: &[&str]) -> TextIfPlain
-    requires { AreMembers (names_of T.elements T.names) set.now names.now }
-    ensures { IsTextIfPlain (map_value (names_of T.elements T.names) set.now) result }
+fn text_of_names(alloc: Global, names: &[&str]) -> TextIfPlain
+    ensures { (all : Names) (set : BitSet) → AreMembers all set names.now → IsTextIfPlain (map_value all set) result }
 {
     // One request for memory is enough: each name has quotes, a colon, `true` and a comma.
     let bytes = names.iter().fold(2usize, |bytes, name| {

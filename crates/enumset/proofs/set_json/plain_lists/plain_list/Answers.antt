@@ -1,5 +1,5 @@
-use Rattle.std.proofs.Common.{rules, arith, ◌≡◌, [], ◌∷◌, ◌++◌, string_bytes, map, ap, subst, sym, ◌∙◌}
-use Rattle.enumset.proofs.Common.{common_steps, names_of, name_of}
+use Rattle.std.proofs.Common.{rules, [], ◌∷◌, ◌++◌, string_bytes, map, ap, subst, sym, ◌∙◌}
+use Rattle.enumset.proofs.Common.{names_of, name_of}
 use Rattle.enumset.proofs.JsonLists.{Writes, begins, next_name, ended, list_written}
 use Rattle.enumset.proofs.set_json.plain_lists.plain_list.Goals as goal
 
@@ -9,9 +9,7 @@ loop-element-init g c = begins _ c.in_ok-text.ensures.bytes
 pub loop-element-preserved : goal.loop-element-preserved
 loop-element-preserved g c =
     let texts = map (name_of (names_of g.T.EnumSetType.elements g.T.EnumSetNames.names)) in
-    let b = g.T.EnumSetType.elements.bit c.in-Some.element in
-    let here : c.loop-element.element-iterator.items ≡ b ∷ c.next.new.self.items = grind (arith, common_steps) in
-    next_name _ c.name-name.result.now _ _ _ (ap texts here ∙ ap (λ t. t ∷ texts c.next.new.self.items) (sym c.name-name.ensures)) (search rules)
+    next_name _ c.name-name.result.now _ _ _ (ap texts c.in-Some.ensures.steps.0 ∙ ap (λ t. t ∷ texts c.next.new.self.items) (sym c.name-name.ensures)) (search rules)
     (c.in_ok-push_str.ensures.bytes ∙ ap (λ t. t ++ c.name-name.result.now) c.in_ok-push_either.ensures) c.loop-element.invariant
 
 pub returns : goal.returns
