@@ -117,6 +117,7 @@ impl<T: EnumSetTypeWithRepr> RunSet for MixedEnumSet<T> {
         }
     }
 
+    #[tactic(auto, using(enumset_mixed::specs::Laws::Items::none_left))]
     fn next_back(items: &mut MixedEnumSetIter<T>) -> Option<u32> {
         match items.next_back() {
             Some(value) => Some(bit_of(value)),
