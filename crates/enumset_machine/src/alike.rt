@@ -29,6 +29,20 @@ pub(crate) fn carry_out_alike<S: RunSet>(
 {
     Ok(match *command {
         New { r } => runner.put(r, S::new()),
+        Union { to, a, b }
+        | Intersection { to, a, b }
+        | Difference { to, a, b }
+        | SymmetricDifference { to, a, b } => {
+            runner.put(to, S::combined(command, runner.get(a), runner.get(b)))
+        }
+        InsertAll { r, a } | RemoveAll { r, a } => {
+            runner.put(r, S::combined(command, runner.get(r), runner.get(a)))
+        }
+        Disjoint { a, b }
+        | Superset { a, b }
+        | Subset { a, b }
+        | Equal { a, b }
+        | Compare { a, b } => S::compared(command, runner.get(a), runner.get(b)),
         Number { r, width } => number_of(runner.get(r), width),
         NumberCut { r, width } => Reply::Number(runner.get(r).number_cut(width)),
         FromNumber { r, width, value } => runner.put_number(r, width, value),

@@ -4,8 +4,8 @@ ghost use Rattle.std.specs.Prelude.{◌≡◌, true};
 ghost use Rattle.enumset_repr.specs.BitSet as set;
 ghost use Rattle.enumset_sets.specs.Elements.{valid_bits};
 
-use crate::run_set::RunSet;
-use enumset_commands::Reply;
+use crate::run_set::{RunSet, combine, compare};
+use enumset_commands::{Command, Reply};
 use enumset_repr::EnumSetTypeRepr;
 use enumset_sets::{EnumSet, EnumSetIter, EnumSetType};
 
@@ -38,6 +38,14 @@ impl<T: EnumSetType> RunSet for EnumSet<T> {
 
     fn new() -> Self {
         EnumSet::new()
+    }
+
+    fn combined(command: &Command, a: Self, b: Self) -> Self {
+        combine!(command, a, b)
+    }
+
+    fn compared(command: &Command, a: Self, b: Self) -> Reply {
+        compare!(command, a, b)
     }
 
     fn number(&self, width: u32) -> Option<u128> {

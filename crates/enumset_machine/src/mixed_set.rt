@@ -4,8 +4,8 @@ ghost use Rattle.std.specs.Prelude.{◌≡◌, ◌↔◌, IsSome, IfSome};
 ghost use Rattle.enumset_mixed.specs.Mixed.{bit_with_validity};
 ghost use Rattle.enumset_sets.specs.Elements.{valid_bits};
 
-use crate::run_set::RunSet;
-use enumset_commands::Reply;
+use crate::run_set::{RunSet, combine, compare};
+use enumset_commands::{Command, Reply};
 use enumset_mixed::{MixedEnumSet, MixedEnumSetIter, MixedValue};
 use enumset_repr::EnumSetTypeRepr;
 use enumset_sets::{EnumSetType, EnumSetTypeWithRepr};
@@ -35,6 +35,14 @@ impl<T: EnumSetTypeWithRepr> RunSet for MixedEnumSet<T> {
 
     fn new() -> Self {
         MixedEnumSet::new()
+    }
+
+    fn combined(command: &Command, a: Self, b: Self) -> Self {
+        combine!(command, a, b)
+    }
+
+    fn compared(command: &Command, a: Self, b: Self) -> Reply {
+        compare!(command, a, b)
     }
 
     fn number(&self, width: u32) -> Option<u128> {
@@ -101,7 +109,7 @@ impl<T: EnumSetTypeWithRepr> RunSet for MixedEnumSet<T> {
         self.iter()
     }
 
-    #[tactic(auto, using(enumset_mixed::specs::Laws::Items::gave_first))]
+    #[tactic(auto, using(enumset_mixed::specs::Laws::Items::none_left))]
     fn next(items: &mut MixedEnumSetIter<T>) -> Option<u32> {
         match items.next() {
             Some(value) => Some(bit_of(value)),
@@ -109,6 +117,7 @@ impl<T: EnumSetTypeWithRepr> RunSet for MixedEnumSet<T> {
         }
     }
 
+    #[tactic(auto, using(enumset_mixed::specs::Laws::Items::none_left))]
     fn next_back(items: &mut MixedEnumSetIter<T>) -> Option<u32> {
         match items.next_back() {
             Some(value) => Some(bit_of(value)),

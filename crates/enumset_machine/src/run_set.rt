@@ -6,9 +6,10 @@ ghost use Rattle.enumset_repr.specs.BitSet.{BitSet};
 ghost use Rattle.enumset_repr.specs.Number.{number as number_of, bits};
 ghost use Rattle.enumset_repr.specs.Words.{words as words_of, bits_of};
 ghost use Rattle.enumset_repr.specs.Ends.{first, last, without_first, without_last};
+ghost use Rattle.enumset_machine.specs.Alike.{combination, comparison};
 ghost use Rattle.enumset_machine.specs.Plans.{Rules, is_width};
 
-use enumset_commands::Reply;
+use enumset_commands::{Command, Reply};
 
 /// A set of a run: its members, and the calls that registers, refusals and replies need.
 pub trait RunSet: Copy {
@@ -35,6 +36,14 @@ pub trait RunSet: Copy {
     /// Returns the empty set.
     fn new() -> Self
         ensures { members result ≡ set.empty };
+
+    /// Returns the set that a command makes of two sets.
+    fn combined(command: &Command, a: Self, b: Self) -> Self
+        ensures { members result ≡ combination command.now (members a) (members b) };
+
+    /// Returns the reply to a command that compares two sets.
+    fn compared(command: &Command, a: Self, b: Self) -> Reply
+        ensures { result ≡ comparison command.now (members a) (members b) };
 
     /// Returns the number of the set, if each member is below a width.
     fn number(&self, width: u32) -> Option<u128>
@@ -98,3 +107,41 @@ pub trait RunSet: Copy {
     fn items_left(items: &Self::Items) -> usize
         ensures { result ≡ length (rest items.now) };
 }
+
+/// The set that a command makes of two sets of a kind, by the call of that name. The last of the commands is `RemoveAll`.
+macro_rules! combine {
+    ($command:ident, $a:ident, $b:ident) => {
+        match *$command {
+            Command::Union { .. } => $a.union($b),
+            Command::Intersection { .. } => $a.intersection($b),
+            Command::Difference { .. } => $a.difference($b),
+            Command::SymmetricDifference { .. } => $a.symmetric_difference($b),
+            Command::InsertAll { .. } => {
+                let mut set = $a;
+                set.insert_all($b);
+                set
+            }
+            _ => {
+                let mut set = $a;
+                set.remove_all($b);
+                set
+            }
+        }
+    };
+}
+
+/// The reply to a command that compares two sets of a kind, by the call of that name. The last of the commands is `Compare`.
+macro_rules! compare {
+    ($command:ident, $a:ident, $b:ident) => {
+        match *$command {
+            Command::Disjoint { .. } => Reply::Truth($a.is_disjoint($b)),
+            Command::Superset { .. } => Reply::Truth($a.is_superset($b)),
+            Command::Subset { .. } => Reply::Truth($a.is_subset($b)),
+            Command::Equal { .. } => Reply::Truth($a == $b),
+            _ => Reply::Order($a.cmp(&$b)),
+        }
+    };
+}
+
+pub(crate) use combine;
+pub(crate) use compare;

@@ -60,28 +60,7 @@ macro_rules! carry_out {
             }
             Len { r } => Reply::Count($runner.get(r).len() as u64),
             IsEmpty { r } => Reply::Truth($runner.get(r).is_empty()),
-            Union { to, a, b } => $runner.put(to, $runner.get(a).union($runner.get(b))),
-            Intersection { to, a, b } => $runner.put(to, $runner.get(a).intersection($runner.get(b))),
-            Difference { to, a, b } => $runner.put(to, $runner.get(a).difference($runner.get(b))),
-            SymmetricDifference { to, a, b } => {
-                $runner.put(to, $runner.get(a).symmetric_difference($runner.get(b)))
-            }
             Complement { to, a } => $runner.put(to, $runner.get(a).complement()),
-            InsertAll { r, a } => {
-                let mut set = $runner.get(r);
-                set.insert_all($runner.get(a));
-                $runner.put(r, set)
-            }
-            RemoveAll { r, a } => {
-                let mut set = $runner.get(r);
-                set.remove_all($runner.get(a));
-                $runner.put(r, set)
-            }
-            Disjoint { a, b } => Reply::Truth($runner.get(a).is_disjoint($runner.get(b))),
-            Superset { a, b } => Reply::Truth($runner.get(a).is_superset($runner.get(b))),
-            Subset { a, b } => Reply::Truth($runner.get(a).is_subset($runner.get(b))),
-            Equal { a, b } => Reply::Truth($runner.get(a) == $runner.get(b)),
-            Compare { a, b } => Reply::Order($runner.get(a).cmp(&$runner.get(b))),
             _ => carry_out_alike($runner, $alloc, $command)?,
         }
     };

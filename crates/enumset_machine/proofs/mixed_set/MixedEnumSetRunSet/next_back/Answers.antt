@@ -2,13 +2,8 @@ use Rattle.std.proofs.Common.{Some, ap, sym, ◌∙◌}
 use Rattle.enumset_repr.specs.Laws.Common.{last, without_last, last_push, without_last_push}
 use Rattle.enumset_mixed.specs.Mixed.{bit_with_validity}
 use Rattle.enumset_sets.specs.Elements.{valid_bits}
-use Rattle.enumset_mixed.specs.Laws.Items.{none_left, gave_last}
+use Rattle.enumset_mixed.specs.Laws.Items.{gave_last}
 use Rattle.enumset_machine.proofs.mixed_set.MixedEnumSetRunSet.next_back.Goals as goal
-
-pub returns-in-None-clause-given : goal.returns-in-None-clause-given
-returns-in-None-clause-given g c =
-    let valid = valid_bits g.T.EnumSetType.elements in
-    sym (ap last (none_left valid c.args.items.now.items c.in-None.ensures.steps.0.0))
 
 pub returns-in-Some-clause-given : goal.returns-in-Some-clause-given
 returns-in-Some-clause-given g c =
