@@ -109,7 +109,7 @@ impl<T: EnumSetTypeWithRepr> RunSet for MixedEnumSet<T> {
         self.iter()
     }
 
-    #[tactic(auto, using(enumset_mixed::specs::Laws::Items::none_left))]
+    #[tactic(auto, using(enumset_mixed::specs::Laws::Items::gave_first))]
     fn next(items: &mut MixedEnumSetIter<T>) -> Option<u32> {
         match items.next() {
             Some(value) => Some(bit_of(value)),
