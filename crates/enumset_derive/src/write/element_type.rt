@@ -16,12 +16,8 @@ pub(super) fn write_element_type(out: &mut String, of: &Subject) -> Written {
     write_impl(out, of)?;
     if is_narrow(&of.element.plan) {
         write_head(out, of, "", "EnumSetTypeWithRepr")?;
-        out.push_str(
-            "    ghost use Rattle.std.proofs.Common.{rules};
-
-    ghost narrow = { Prim.search rules };
-}",
-        )?;
+        out.push_str("    ghost use Rattle.std.proofs.Common.{rules};\n\n")?;
+        out.push_str("    ghost narrow = { Prim.search rules };\n}")?;
     }
     if options.are_named() {
         names::write_names(out, of)?;
