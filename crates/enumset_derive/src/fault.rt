@@ -78,9 +78,8 @@ impl Reason {
     }
 }
 
-/// A place in a text: its line, and the character in that line, both counted from 1.
-///
-/// A line feed ends a line. A character is a Unicode scalar value, so a tab is one.
+/// A place in a text: its line, and the character in that line, both counted from 1. A line feed ends a line.
+/// A character is a Unicode scalar value, so a tab is one.
 #[derive(Clone, Copy, Debug, Error)]
 #[error("line {line}, column {column}")]
 pub struct Place {

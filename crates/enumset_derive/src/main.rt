@@ -58,8 +58,7 @@ fn answer<R: Env + Files + Input + Print + Eprint + AllocGlobal>(rt: &R) -> Outc
     let arguments = env::args(rt).map_err(|error| fault_of(error, NOT_A_NAME))?;
     let arguments: Vec<String> = arguments.collect(rt.alloc())?;
     let request = request_of(rt.alloc(), &arguments)?;
-    let module = derive(rt, &request)?;
-    write_module(rt, &request, module.as_str())
+    write_module(rt, &request, derive(rt, &request)?.as_str())
 }
 
 /// The fault that a failure of the system is: that memory ran out, or this one.
@@ -105,8 +104,7 @@ fn derive<R: Input + Eprint + AllocGlobal>(rt: &R, request: &Request) -> Outcome
     let read = rt.reader().read_to_end(&mut input);
     read.map_err(|error| fault_of(error, DeriveError::Stream("reading failed")))?;
     let text = text_of(&input)?.replace(alloc, "\r\n", "\n")?;
-    let tokens = tokens_of(alloc, text.as_str())?;
-    let source = read_source(alloc, text.as_str(), &tokens)?;
+    let source = read_source(alloc, text.as_str(), &tokens_of(alloc, text.as_str())?)?;
     let module = module_text(alloc, request, &source)?;
     for (place, note) in &source.notes {
         let _ = eprintln!(rt; "{place}: {note}");

@@ -49,9 +49,8 @@ pub enum Store {
     Words(Vec<u64>),
 }
 
-/// The plan of an element type, or the first fault of its declaration.
-///
-/// The fault of `map = "msb"` without an integer comes first. Then the variants are looked at one after another.
+/// The plan of an element type, or the first fault of its declaration. The fault of `map = "msb"` without an integer
+/// comes first. Then the variants are looked at one after another.
 pub fn plan_enum(alloc: Global, declaration: &EnumDeclaration) -> Result<Plan, DeriveError>
     ensures bits { IfOk result (IsPlanned declaration.now) }
     ensures lawful { IfOk result (IsLawfulPlan (length declaration.now.variants.items)) }

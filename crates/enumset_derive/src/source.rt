@@ -101,8 +101,7 @@ fn order<'a>(item: &'a Item, facade: &'a str) -> Option<(usize, &'a str, &'a str
 }
 
 impl<'a> Source<'a> {
-    /// Adds an item, after the space since the last. Before an element type, a new line begins, and after the imports or
-    /// another element type an empty line comes first.
+    /// Adds an item, after the space since the last: an element type on a new line, or two after the imports or another.
     pub fn push(&mut self, form: Form<'a>) -> Result<(), AllocError> {
         let gap = mem::take(&mut self.gap);
         let least = match (&form, self.items.last().map(|last| &last.form)) {

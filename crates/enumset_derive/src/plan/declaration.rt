@@ -49,10 +49,8 @@ pub struct Discriminant<'a> {
     pub number: Number,
 }
 
-/// The number of a discriminant. Each number has one form: zero is `Small(0)`.
-///
-/// A literal past 2^128 - 1 names a bit only if it is the mask of the bit, a power of two. So no other number past
-/// 2^128 - 1 is kept.
+/// The number of a discriminant. Each number has one form: zero is `Small(0)`. A literal past 2^128 - 1 names a bit only
+/// if it is the mask of the bit, a power of two. So no other is kept.
 #[derive(Clone, Copy, PartialEq, Eq)]
 pub enum Number {
     /// A number from 0 to 2^128 - 1.

@@ -48,8 +48,7 @@ pub fn name_variants(
     Ok(named)
 }
 
-/// The variant with its bit, or its first fault. The variants before it are given, with their bits, and the
-/// discriminant that it has if it gives none.
+/// The variant with its bit, or its first fault. Those before it are given, with their bits, and its implied number.
 fn name_variant(
     options: &Options,
     earlier: &[Variant],

@@ -6,8 +6,6 @@ const NO_VARIANTS: &str = "`rt ci` refuses what this enum without variants has: 
 
 const NOT_A_LITERAL: &str = "a discriminant must be a literal of an integer";
 
-const TOO_LARGE: &str = "a literal past 2^128 - 1 must be a power of two, and not decimal";
-
 const DROPPED: &str =
     "left out: the discriminants of this enum, as this one is past -2^63 to 2^63 - 1";
 
@@ -113,7 +111,9 @@ impl<'a, 'b> Reader<'a, 'b> {
                 of.last_comments = kept;
                 break;
             }
-            of.variants.push(self.read_variant(kept)?)?;
+            let mut variant = self.read_variant()?;
+            variant.attributes = kept;
+            of.variants.push(variant)?;
         }
         if of.variants.is_empty() {
             let note = String::from_str(self.alloc, NO_VARIANTS)?;
@@ -135,24 +135,18 @@ impl<'a, 'b> Reader<'a, 'b> {
         Ok(())
     }
 
-    /// Reads a variant, of which the attributes are given, up to what stands after the `,` and the comments on its line.
-    fn read_variant(&mut self, attributes: String) -> Outcome<Variant<'a>> {
+    /// Reads a variant without its attributes, up to what stands after the `,` and the comments on its line.
+    fn read_variant(&mut self) -> Outcome<Variant<'a>> {
         let begin = self.cursor;
         let name = begin.token;
         name.want(name.is_name(), "wanted: a name of a variant, or `}`")?;
         self.cursor.advance_to_word()?;
-        let discriminant = self.cursor.read_discriminant()?;
-        self.cursor.end_variant()?;
-        let (alloc, end) = (self.alloc, self.cursor.token.begin);
-        let passed = begin.rest.iter().take_while(|token| token.begin < end);
-        let comments = passed.filter(|token| token.is_comment());
-        let comments = comments.map(|comment| format!(in alloc; " {}", comment.text));
         Ok(Variant {
             place: name.place,
-            attributes,
             name: name.text,
-            discriminant,
-            comments: comments.try_collect(alloc)?,
+            discriminant: self.cursor.read_discriminant()?,
+            comments: self.cursor.end_variant(self.alloc, &begin)?,
+            attributes: String::new(self.alloc),
         })
     }
 }
@@ -198,8 +192,8 @@ impl<'a, 'b> Cursor<'a, 'b> {
         }))
     }
 
-    /// Reads what ends a variant, and the comments on its line after a `,`.
-    fn end_variant(&mut self) -> Outcome {
+    /// Reads what ends a variant, and the comments on its line after a `,`. Gives the comments since it began.
+    fn end_variant(&mut self, alloc: Global, begin: &Cursor<'a, 'b>) -> Outcome<String> {
         let end = self.token;
         end.want(!end.is_mark("({"), "a variant must have no fields")?;
         end.want(end.is_mark(",}"), "wanted: `,` or `}`")?;
@@ -213,7 +207,11 @@ impl<'a, 'b> Cursor<'a, 'b> {
             }
             self.advance()?;
         }
-        Ok(())
+        let end = self.token.begin;
+        let passed = begin.rest.iter().take_while(|token| token.begin < end);
+        let comments = passed.filter(|token| token.is_comment());
+        let comments = comments.map(|comment| format!(in alloc; " {}", comment.text));
+        Ok(comments.try_collect(alloc)?)
     }
 }
 
@@ -224,7 +222,6 @@ fn derives(of: &EnumDeclaration, name: &str) -> bool {
 }
 
 /// A literal without the type after it, and the number that it writes, or that a minus sign before it makes of it.
-///
 /// Past 128 bits it is a power of two up to 2^(2^32 - 1): after leading zeros a digit with one bit, and then zeros.
 fn number_of(literal: &str, is_negative: bool) -> Result<(&str, Number), &'static str> {
     let mut types = "u8 u16 u32 u64 u128 usize i8 i16 i32 i64 i128 isize".split(' ');
@@ -255,7 +252,7 @@ fn number_of(literal: &str, is_negative: bool) -> Result<(&str, Number), &'stati
         (Some(number), _) if is_negative => Number::Negative(number),
         (Some(number), _) => Number::Small(number),
         (None, Some(exponent)) if !is_negative => Number::PowerOfTwo(exponent),
-        _ => return Err(TOO_LARGE),
+        _ => return Err("a literal past 2^128 - 1 must be a power of two, and not decimal"),
     };
     Ok((written, number))
 }

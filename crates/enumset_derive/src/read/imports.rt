@@ -47,29 +47,35 @@ impl<'a, 'b> Reader<'a, 'b> {
 
     /// Takes in what a line imports of the crate `enumset`: a path after its name, or some in brackets.
     fn read_names(&mut self, place: Place, attributes: &str, path: &[Token<'a>]) -> Outcome {
-        let alloc = self.alloc;
         if !attributes.is_empty() {
             self.leave_out(place, attributes.trim_end())?;
         }
         if !mem::replace(&mut self.source.has_imports, true) {
             self.source.push(Form::Imports)?;
         }
-        for tree in trees_of(alloc, path)? {
-            match tree {
-                [] => {}
-                [own] if own.is("self") => {}
-                [own, name @ ..] if own.is("self") => {
-                    let name = spelled(alloc, name)?;
-                    self.source.add_space("\n");
-                    self.source.push(Form::Import(Import {
-                        text: format!(in alloc; "use enumset{name};")?,
-                        path: format!(in alloc; "enumset{name}")?,
-                        names: Vec::new(alloc),
-                        unknown: None,
-                    }))?;
-                }
-                tree => self.source.imports.push(spelled(alloc, tree)?)?,
+        for tree in trees_of(self.alloc, path)? {
+            self.read_name(tree)?;
+        }
+        Ok(())
+    }
+
+    /// Takes in a path of these.
+    fn read_name(&mut self, tree: &[Token<'a>]) -> Outcome {
+        let alloc = self.alloc;
+        match tree {
+            [] => {}
+            [own] if own.is("self") => {}
+            [own, name @ ..] if own.is("self") => {
+                let path = format!(in alloc; "enumset{}", spelled(alloc, name)?)?;
+                self.source.add_space("\n");
+                self.source.push(Form::Import(Import {
+                    text: format!(in alloc; "use {path};")?,
+                    path,
+                    names: Vec::new(alloc),
+                    unknown: None,
+                }))?;
             }
+            tree => self.source.imports.push(spelled(alloc, tree)?)?,
         }
         Ok(())
     }

@@ -19,7 +19,10 @@ impl<'a, 'b> Reader<'a, 'b> {
         if derive_among(self.cursor.words_since(&begin), self.derive).is_some() {
             return self.read_element(parts.as_slice());
         }
-        let mut text = self.kept_parts(parts.as_slice())?;
+        let mut text = String::new(self.alloc);
+        for part in &parts {
+            self.write_part(&mut text, part)?;
+        }
         let item = self.cursor;
         let _ = self.cursor.read_visibility()?;
         let keyword = self.cursor.token;
@@ -45,46 +48,48 @@ impl<'a, 'b> Reader<'a, 'b> {
         Ok(self.source.push(Form::Text(text))?)
     }
 
-    /// What is kept of the comments and attributes of an item that is no element type, a line each.
-    fn kept_parts(&mut self, parts: &[Part<'a, 'b>]) -> Outcome<String> {
-        let mut out = String::new(self.alloc);
-        for part in parts {
-            let text = part.text;
-            if part.name.is("derive") {
-                match self.kept_of(part)? {
-                    (_, true) => write!(out, "{text}\n")?,
-                    (kept, _) if kept.is_empty() => {}
-                    (kept, _) => write!(out, "#[derive({})]\n", kept.join(self.alloc, ", ")?)?,
-                }
-            } else if part.has_meaning(Bearer::Item)? {
-                write!(out, "{text}\n")?;
-            } else {
-                self.leave_out(part.begin.place, text)?;
-            }
+    /// Writes what is kept of a comment or an attribute of an item that is no element type, on a line of its own.
+    fn write_part(&mut self, out: &mut String, part: &Part<'a, 'b>) -> Outcome {
+        if !part.name.is("derive") {
+            return match part.has_meaning(Bearer::Item)? {
+                true => Ok(write!(out, "{}\n", part.text)?),
+                false => self.leave_out(part.begin.place, part.text),
+            };
         }
-        Ok(out)
+        let (kept, is_whole) = self.kept_of(part)?;
+        let kept = kept.join(self.alloc, ", ")?;
+        Ok(match kept.as_str() {
+            _ if is_whole => write!(out, "{}\n", part.text)?,
+            "" => {}
+            kept => write!(out, "#[derive({kept})]\n")?,
+        })
     }
 
     /// Writes an item up to the cursor, without the attributes in it that have no meaning. A macro is as it is.
     fn write_item(&mut self, out: &mut String, item: Cursor<'a, 'b>) -> Outcome {
-        let mut cursor = item;
-        let mut from = item.token.begin;
+        let (mut cursor, mut from) = (item, item.token.begin);
         for _ in item.rest {
             let begin = cursor.token;
             let is_macro = begin.is_name() && cursor.is_before("!");
             if begin.begin >= self.cursor.token.begin || is_macro {
                 break;
             }
-            if begin.is_mark("#") && cursor.is_before("[") {
-                let part = cursor.read_part()?;
-                if !is_among(HELPERS, part.name.text) && !part.has_meaning(Bearer::Item)? {
-                    out.push_str(cursor.text.get(from..begin.begin).unwrap_or(""))?;
-                    self.leave_out(begin.place, part.text)?;
-                    from = cursor.rest.first().map_or(from, |next| next.begin);
-                }
-            }
-            cursor.advance()?;
+            self.write_to(out, &mut cursor, &mut from)?;
         }
         Ok(out.push_str(self.cursor.text_since(from))?)
+    }
+
+    /// Goes on by a token or an attribute. It writes the text before an attribute without meaning, and begins after it.
+    fn write_to(&mut self, out: &mut String, at: &mut Cursor<'a, 'b>, from: &mut usize) -> Outcome {
+        let begin = at.token;
+        if begin.is_mark("#") && at.is_before("[") {
+            let part = at.read_part()?;
+            if !is_among(HELPERS, part.name.text) && !part.has_meaning(Bearer::Item)? {
+                out.push_str(at.text.get(*from..begin.begin).unwrap_or(""))?;
+                self.leave_out(begin.place, part.text)?;
+                *from = at.rest.first().map_or(*from, |next| next.begin);
+            }
+        }
+        at.advance()
     }
 }

@@ -67,26 +67,31 @@ impl<'a, 'b> Reader<'a, 'b> {
         let mut given = Vec::new(self.alloc);
         for (part, variant, _) in &self.serde {
             for argument in part.arguments(self.alloc)? {
-                let [name, rest @ ..] = argument? else {
-                    continue;
-                };
-                match (name.text, variant) {
-                    ("rename_all", None) | ("rename", Some(_)) => {
-                        name.want(rest.first().is_some_and(|next| next.is_mark("=")), OTHER)?;
-                        let (value, text) = value_of(name, rest)?;
-                        let is_style = variant.is_some() || is_among(STYLES, text);
-                        value.want(is_style, WRONG_STYLE)?;
-                        let is_plain = |letter| matches!(letter, ' '..='!' | '#'..='[' | ']'..='~');
-                        value.want(text.chars().all(is_plain), NOT_PLAIN)?;
-                        given.push((*variant, value.place, text))?;
-                    }
-                    ("rename" | "rename_all_fields" | "deny_unknown_fields", None)
-                    | ("rename_all", Some(_))
-                    | ("crate" | "bound" | "expecting", _) => {}
-                    _ => return Err(name.fault(OTHER)),
-                }
+                let name = argument.and_then(|argument| given_name(argument, variant.is_some()))?;
+                given.extend(name.map(|(place, text)| (*variant, place, text)))?;
             }
         }
         Ok(given)
+    }
+}
+
+/// The name of a variant or the style that an argument of `serde` gives, if it does, and where.
+fn given_name<'a>(argument: &[Token<'a>], is_variant: bool) -> Outcome<Option<(Place, &'a str)>> {
+    let [name, rest @ ..] = argument else {
+        return Ok(None);
+    };
+    match (name.text, is_variant) {
+        ("rename_all", false) | ("rename", true) => {
+            name.want(rest.first().is_some_and(|next| next.is_mark("=")), OTHER)?;
+            let (value, text) = value_of(name, rest)?;
+            value.want(is_variant || is_among(STYLES, text), WRONG_STYLE)?;
+            let is_plain = |letter| matches!(letter, ' '..='!' | '#'..='[' | ']'..='~');
+            value.want(text.chars().all(is_plain), NOT_PLAIN)?;
+            Ok(Some((value.place, text)))
+        }
+        ("rename" | "rename_all_fields" | "deny_unknown_fields", false)
+        | ("rename_all", true)
+        | ("crate" | "bound" | "expecting", _) => Ok(None),
+        _ => Err(name.fault(OTHER)),
     }
 }

@@ -50,28 +50,22 @@ pub(super) struct Part<'a, 'b> {
 impl<'a, 'b> Part<'a, 'b> {
     /// Whether it is kept. It is a fault if nothing right would come of keeping it or of leaving it out.
     pub fn has_meaning(&self, bearer: Bearer) -> Outcome<bool> {
-        let name = self.name;
+        let (name, words) = (self.name, self.words);
         let is_item = matches!(bearer, Bearer::Item);
         let is_type = is_item || matches!(bearer, Bearer::Enum);
         Ok(match name.text {
-            "doc" => match self.words {
+            "doc" => match words {
                 [_, _, equal, text, _] if equal.is_mark("=") => matches!(text.kind, Kind::Quoted),
                 _ => self.is_written("( hidden ) ]"),
             },
             "deprecated" | "non_exhaustive" => !matches!(bearer, Bearer::Text),
             "repr" => is_item
                 && (self.is_written("( C ) ]") || self.is_written("( transparent ) ]")),
-            "cfg" => {
-                name.want(!matches!(bearer, Bearer::Variant), ON_VARIANT)?;
-                name.want(self.is_written("( test ) ]"), CONFIGURATION)?;
-                true
-            }
-            "cfg_attr" => {
-                name.want(derive_among(self.words, "").is_none(), DERIVE_ALONE)?;
-                name.want(!self.calls("enumset"), OPTIONS_ALONE)?;
-                false
-            }
-            "allow" | "warn" | "deny" | "forbid" | "expect" | "clippy" | "tactic" => true,
+            "cfg" if matches!(bearer, Bearer::Variant) => return Err(name.fault(ON_VARIANT)),
+            "cfg" if !self.is_written("( test ) ]") => return Err(name.fault(CONFIGURATION)),
+            "cfg_attr" if derive_among(words, "").is_some() => return Err(name.fault(DERIVE_ALONE)),
+            "cfg_attr" if self.calls("enumset") => return Err(name.fault(OPTIONS_ALONE)),
+            "cfg" | "allow" | "warn" | "deny" | "forbid" | "expect" | "clippy" | "tactic" => true,
             "must_use" | "rattlefmt" | "cycle" | "derive_where" => is_type,
             word if is_among(OF_ITEMS, word) => is_item,
             _ => name.is_comment(),
@@ -173,11 +167,10 @@ impl<'a, 'b> Cursor<'a, 'b> {
             self.skip_to("]", begin.token.depth)?;
         }
         let words = self.words_since(&begin);
-        let begin = begin.token;
         Ok(Part {
-            begin,
-            text: self.text_since(begin.begin),
-            name: words.get(1).unwrap_or(begin),
+            begin: begin.token,
+            text: self.text_since(begin.token.begin),
+            name: words.get(1).unwrap_or(begin.token),
             words,
         })
     }
@@ -202,23 +195,26 @@ impl<'a, 'b> Cursor<'a, 'b> {
 impl<'a, 'b> Reader<'a, 'b> {
     /// The kept paths that an attribute derives, and whether all are. Others but `EnumSetType` are left out.
     pub(super) fn kept_of(&mut self, part: &Part<'a, 'b>) -> Outcome<(Vec<String>, bool)> {
-        let mut kept = Vec::new(self.alloc);
-        let mut is_whole = true;
+        let (mut kept, mut is_whole) = (Vec::new(self.alloc), true);
         for argument in part.arguments(self.alloc)? {
-            let argument = argument?;
-            let path = path_of(self.alloc, argument)?;
-            let is_known = is_known(path.as_str());
-            is_whole = is_whole && is_known;
-            let own = ["EnumSetType", self.derive];
-            let is_own = own.iter().any(|own| names_last(path.as_str(), own));
-            if is_known && !is_own {
-                self.used.extend(argument.iter().map(|word| word.text))?;
-                kept.push(path)?;
-            } else if let (false, [begin, ..]) = (is_own, argument) {
-                let text = format!(in self.alloc; "#[derive({path})]")?;
-                self.leave_out(begin.place, text.as_str())?;
-            }
+            is_whole &= argument.and_then(|argument| self.keep(&mut kept, argument))?;
         }
         Ok((kept, is_whole))
+    }
+
+    /// Keeps the path that an argument of a derive is, among these, or leaves it out. It says whether the path is known.
+    fn keep(&mut self, kept: &mut Vec<String>, argument: &[Token<'a>]) -> Outcome<bool> {
+        let path = path_of(self.alloc, argument)?;
+        let is_known = is_known(path.as_str());
+        let own = ["EnumSetType", self.derive];
+        let is_own = own.iter().any(|own| names_last(path.as_str(), own));
+        if is_known && !is_own {
+            self.used.extend(argument.iter().map(|word| word.text))?;
+            kept.push(path)?;
+        } else if let (false, [begin, ..]) = (is_own, argument) {
+            let text = format!(in self.alloc; "#[derive({path})]")?;
+            self.leave_out(begin.place, text.as_str())?;
+        }
+        Ok(is_known)
     }
 }

@@ -16,12 +16,8 @@ pub(super) fn write_element_type(out: &mut String, of: &Subject) -> Written {
     write_impl(out, of)?;
     if is_narrow(&of.element.plan) {
         write_head(out, of, "", "EnumSetTypeWithRepr")?;
-        out.push_str(
-            "    ghost use Rattle.std.proofs.Common.{rules};
-
-    ghost narrow = { Prim.search rules };
-}",
-        )?;
+        out.push_str("    ghost use Rattle.std.proofs.Common.{rules};\n\n")?;
+        out.push_str("    ghost narrow = { Prim.search rules };\n}")?;
     }
     if options.are_named() {
         names::write_names(out, of)?;
@@ -55,14 +51,19 @@ fn write_enum(out: &mut String, alloc: Global, element: &Element) -> Written {
     let line = if is_empty { "" } else { "\n" };
     write!(out, "{visibility}{restriction}{gap}enum {name} {{{line}")?;
     for variant in &declaration.variants {
-        write!(out, "{}    {}", variant.attributes, variant.name)?;
-        let given = variant.discriminant.filter(|_| element.has_discriminants);
-        if let Some(Discriminant { sign, literal, .. }) = given {
-            write!(out, " = {sign}{literal}")?;
-        }
-        write!(out, ",{}\n", variant.comments)?;
+        write_variant(out, variant, element.has_discriminants)?;
     }
     write!(out, "{last_comments}}}")
+}
+
+/// Writes a variant, with its discriminant if the enum has them.
+fn write_variant(out: &mut String, variant: &Variant, has_discriminant: bool) -> Written {
+    write!(out, "{}    {}", variant.attributes, variant.name)?;
+    let given = variant.discriminant.filter(|_| has_discriminant);
+    if let Some(Discriminant { sign, literal, .. }) = given {
+        write!(out, " = {sign}{literal}")?;
+    }
+    write!(out, ",{}\n", variant.comments)
 }
 
 /// Writes the derives, on a line or on a line each: those that an element type needs, and those of the source.

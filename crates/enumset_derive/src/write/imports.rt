@@ -4,8 +4,7 @@ use super::*;
 
 const TAKEN: &str = "the module needs this name for what it imports of `enumset`: choose another";
 
-/// What a module imports of `enumset`, in order, each once. Paths have lines of their own. It is a fault if the source
-/// gives a needed name to something else.
+/// What a module imports of `enumset`, each once. It is a fault if the source gives a needed name to something else.
 pub(super) fn imports_of(alloc: Global, source: &Source) -> Outcome<String> {
     let imported = source.imports.iter().map(|name| name.as_str());
     let mut imports: BTreeSet<&str> = imported.collect(alloc)?;
@@ -56,8 +55,7 @@ fn is_free(source: &Source, path: &str) -> Outcome<bool> {
 /// columns before it, and at most 99 with them, or 100 if it has them all.
 fn lines_of(alloc: Global, facade: &str, imports: &BTreeSet<&str>) -> Text {
     let is_ours = facade == "enumset_sets";
-    let mut words = String::new(alloc);
-    let mut paths = String::new(alloc);
+    let (mut words, mut paths) = (String::new(alloc), String::new(alloc));
     let has_all = imports.contains("*");
     for name in imports {
         match *name {

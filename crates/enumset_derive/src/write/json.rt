@@ -29,8 +29,7 @@ const TOO_WIDE: &str = "
     ///
     /// The only fault is [`set_json::JsonFault::TooWide`], of a member that is past its bits. It takes no memory.";
 
-/// The width of the number that a set is in JSON, if it is one. A value in JSON holds no number of 128 bits, so it is of
-/// 64, or words.
+/// The width of the number that a set is in JSON, if it is one: at most 64, as no value in JSON has a number of 128 bits.
 fn width_of(serialized: Serialized, plan: &Plan) -> Option<u32> {
     match serialized {
         Serialized::Bits(Representation::Integer(IntegerType::U128)) if plan.bit_width > 64 => None,
@@ -76,10 +75,8 @@ pub(super) fn write_json(out: &mut String, of: &Subject, serialized: Serialized)
     let mut faults = String::from_str(alloc, NO_MEMORY)?;
     if let Some(width) = width {
         write!(argument, ", set_json::JsonWidth::U{width}")?;
-        write!(
-            fits,
-            "\n        ensures fits {{ IsOk result ↔ IsTrue (is_subset set.now (below {width})) }}"
-        )?;
+        let below = format!(in alloc; "IsTrue (is_subset set.now (below {width}))")?;
+        write!(fits, "\n        ensures fits {{ IsOk result ↔ {below} }}")?;
         fault = "TooWide";
         faults = format!(in alloc; ", which JSON takes as a `u{width}`.{TOO_WIDE}")?;
     }

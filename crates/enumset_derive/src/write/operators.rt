@@ -19,39 +19,43 @@ pub(super) fn write_operators(out: &mut String, of: &Subject) -> Written {
     let set = format!(in alloc; "EnumSet<{inner}>,\n")?;
     let own = format!(in alloc; "⟦<{name} as EnumSetType>⟧.elements")?;
     let only = format!(in alloc; "\n        (set.only ({own}.bit b))")?;
-    let (set, only) = (set.as_str(), only.as_str());
-    // What the comment calls the second operand, the parameter of the trait, the type, and the set in code and in the model.
+    let (output, set, only) = (output.as_str(), set.as_str(), only.as_str());
     let element = ["that of the other", "", "Self", "EnumSet::only(rhs)", only];
     let set = ["the other", set, "EnumSet<Self>", "rhs", " b"];
     for [form, function, sign, operation] in OPERATORS {
-        let words = operation.replace(alloc, "_", " ")?;
-        for [other, parameter, operand, value, model] in [element, set] {
-            let doc = format!(in alloc; "/// The {words} of the set of the one and {other}.\n")?;
-            let room = 83usize.saturating_sub(form.len());
-            let parameter = in_brackets(alloc, "\n    ", [room, 0], parameter)?;
-            let form = match parameter.is_empty() {
-                true => format!(in alloc; "std::ops::{form}")?,
-                false => format!(in alloc; "std::ops::{form}<{parameter}>")?,
-            };
-            write_head(out, of, doc.as_str(), form.as_str())?;
-            write!(
-                out,
-                "    ghost use Rattle.std.specs.Prelude.{{◌≡◌}};
+        let operator = [form, function, sign, operation, output];
+        write_operator(out, of, operator, element)?;
+        write_operator(out, of, operator, set)?;
+    }
+    write_not(out, of, output)
+}
+
+/// Writes an operator. Of its second operand `with` has what the comment, trait, type, code and model name it.
+fn write_operator(out: &mut String, of: &Subject, by: [&str; 5], with: [&str; 5]) -> Written {
+    let [form, function, sign, operation, output] = by;
+    let [other, parameter, operand, value, model] = with;
+    let (alloc, name) = (of.alloc, of.name);
+    let words = operation.replace(alloc, "_", " ")?;
+    let doc = format!(in alloc; "/// The {words} of the set of the one and {other}.\n")?;
+    let rooms = [83usize.saturating_sub(form.len()), 0];
+    let parameter = in_brackets(alloc, "\n    ", rooms, parameter)?;
+    let form = format!(in alloc; "std::ops::{form}<{parameter}>")?;
+    write_head(out, of, doc.as_str(), form.as_str().trim_end_matches("<>"))?;
+    write!(
+        out,
+        "    ghost use Rattle.std.specs.Prelude.{{◌≡◌}};
     ghost use Rattle.enumset_repr.specs.BitSet as set;
 
     type Output = EnumSet<{output}>;
 
     ghost {function}_gives = {{ λ a b r. r ≡ set.{operation}
-        (set.only ({own}.bit a)){model} }};
+        (set.only (⟦<{name} as EnumSetType>⟧.elements.bit a)){model} }};
 
     fn {function}(self, rhs: {operand}) -> EnumSet<Self> {{
         EnumSet::only(self) {sign} {value}
     }}
 }}"
-            )?;
-        }
-    }
-    write_not(out, of, output.as_str())
+    )
 }
 
 /// Writes `!`, of which the result has this between the brackets of its type.
