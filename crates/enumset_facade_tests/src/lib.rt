@@ -39,4 +39,5 @@ mod sent;
 mod sizes;
 #[cfg(test)]
 mod steps;
+#[cfg(test)] // Scripts that use the types take this line out.
 pub mod types;
