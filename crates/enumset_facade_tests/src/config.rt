@@ -6,7 +6,7 @@ use std::alloc::{AllocError, Global};
 use std::{error, fmt};
 
 /// Why the flags of a config text were not changed.
-#[derive(Clone, Copy, Debug, PartialEq, Eq)]
+#[derive(Clone, Copy, Debug)]
 pub enum ConfigFault {
     /// The text is not JSON. The error was found at this line.
     NotJson(usize),
@@ -22,9 +22,9 @@ impl fmt::Display for ConfigFault {
     fn fmt<W: fmt::Write>(&self, f: &mut fmt::Formatter<W>) -> fmt::Result {
         match self {
             ConfigFault::NotJson(line) => write!(f, "line {line}: not JSON"),
-            ConfigFault::NoFlags => write!(f, "no flags"),
+            ConfigFault::NoFlags => f.write_str("no flags"),
             ConfigFault::Flags(fault) => write!(f, "flags: {fault}"),
-            ConfigFault::OutOfMemory => write!(f, "out of memory"),
+            ConfigFault::OutOfMemory => f.write_str("out of memory"),
         }
     }
 }
@@ -63,16 +63,20 @@ pub fn with_flag_in_list<T: EnumSetNames>(
     flag: T,
 ) -> Result<String, ConfigFault> {
     let mut config = Value::from_str(alloc, text)?;
-    let list = config.get("flags").ok_or(ConfigFault::NoFlags)?;
-    let mut flags: EnumSet<T> = from_list(list, Unknown::Refuse)?;
-    flags.insert(flag);
-    let list = to_list(alloc, &flags)?;
-    put_flags(alloc, &mut config, list)?;
+    insert_flag(alloc, &mut config, flag)?;
     Ok(config.to_string_pretty(alloc)?)
 }
 
-// Replaces the flags of a config.
-fn put_flags(alloc: Global, config: &mut Value, flags: Value) -> Result<(), ConfigFault> {
+// Inserts a flag into the list of a config.
+fn insert_flag<T: EnumSetNames>(
+    alloc: Global,
+    config: &mut Value,
+    flag: T,
+) -> Result<(), ConfigFault> {
     let members = config.as_object_mut().ok_or(ConfigFault::NoFlags)?;
-    Ok(put(members, alloc, "flags", flags)?)
+    let list = members.get("flags").ok_or(ConfigFault::NoFlags)?;
+    let mut flags: EnumSet<T> = from_list(list, Unknown::Refuse)?;
+    flags.insert(flag);
+    let list = to_list(alloc, &flags)?;
+    Ok(put(members, alloc, "flags", list)?)
 }

@@ -1,22 +1,29 @@
 //! Config texts, for the function that docs/JSON.md shows: what becomes of each.
 
-use crate::config::{ConfigFault, with_flag_in_list};
+use crate::config::with_flag_in_list;
 use crate::expect::expect;
 use crate::types::Letters;
 use std::alloc::{AllocError, Global};
+use std::process::Abort;
 use std::test::Fail;
 
-// The changed text, or that of the fault.
-fn text_of(alloc: Global, changed: Result<String, ConfigFault>) -> Result<String, AllocError> {
-    match changed {
-        Ok(text) => Ok(text),
-        Err(fault) => format!(in alloc; "{fault}"),
-    }
+// Tests the changed text, or that of the fault.
+fn expect_changed(
+    rt: &impl Abort,
+    alloc: Global,
+    config: &str,
+    wanted: &str,
+) -> Result<(), AllocError> {
+    let came = match with_flag_in_list(alloc, config, Letters::A) {
+        Ok(changed) => changed,
+        Err(fault) => format!(in alloc; "{fault}")?,
+    };
+    expect(rt, config, came.as_str(), wanted);
+    Ok(())
 }
 
 #[test]
 fn flags_in_lists(rt: HostRuntime) -> Result<(), Fail> {
-    let alloc = rt.alloc();
     for (config, wanted) in [
         (
             "{\"flags\": [\"C\"]}",
@@ -28,8 +35,7 @@ fn flags_in_lists(rt: HostRuntime) -> Result<(), Fail> {
         ("{\"flags\": [\"C\", 1]}", "flags: element 1: not a text"),
         ("{\"flags\": [\"C\", \"Cc\"]}", "flags: name 1: unknown"),
     ] {
-        let came = text_of(alloc, with_flag_in_list(alloc, config, Letters::A))?;
-        expect(&rt, config, came.as_str(), wanted);
+        expect_changed(&rt, rt.alloc(), config, wanted)?;
     }
     Ok(())
 }

@@ -1,11 +1,9 @@
 //! The texts of faults of JSON, and the lines of parse errors. What strings are read as is in `scripts/json-rows.txt`.
 
 use crate::expect::expect;
+use crate::form::{Form, read};
 use crate::types::Letters;
-use enumset::set_json::{
-    JsonFault, JsonWidth, Unknown, from_list_text, from_map_text, from_number_text,
-    from_words_text, mixed_from_number_text, mixed_from_words_text,
-};
+use enumset::set_json::{JsonFault, Unknown, mixed_from_number_text, mixed_from_words_text};
 use std::test::Fail;
 
 #[test]
@@ -52,14 +50,14 @@ out of memory
 // A comma comes before the bracket on the third line.
 #[test]
 fn parse_errors_have_their_lines(rt: HostRuntime) {
-    let (alloc, text, unknown) = (rt.alloc(), "[\n0,\n]", Unknown::Drop);
-    let faults = [
-        from_number_text::<Letters>(alloc, text, JsonWidth::U8, unknown).err(),
-        from_words_text::<Letters>(alloc, text, unknown).err(),
-        from_list_text::<Letters>(alloc, text, unknown).err(),
-        from_map_text::<Letters>(alloc, text, unknown).err(),
+    let (alloc, text, wanted) = (rt.alloc(), "[\n0,\n]", Some(JsonFault::NotJson(3)));
+    for form in [Form::Number, Form::Words, Form::List, Form::Map] {
+        let fault = read::<Letters>(alloc, form, text).err();
+        expect(&rt, "read", fault, wanted);
+    }
+    let mixed = [
         mixed_from_number_text::<Letters>(alloc, text).err(),
-        mixed_from_words_text::<Letters>(alloc, text, unknown).err(),
+        mixed_from_words_text::<Letters>(alloc, text, Unknown::Drop).err(),
     ];
-    expect(&rt, "faults", faults, [Some(JsonFault::NotJson(3)); 6]);
+    expect(&rt, "mixed", mixed, [wanted; 2]);
 }

@@ -8,10 +8,8 @@ use enumset_worked::{Letters, Marks};
 #[test]
 fn sets_are_folded(rt: HostRuntime) {
     let mut set = enum_set!(Letters::G);
-    extend_sets(
-        &mut set,
-        [Letters::C, Letters::A].map(EnumSet::only).iter().copied(),
-    );
+    let more = [EnumSet::only(Letters::C), EnumSet::only(Letters::A)];
+    extend_sets(&mut set, more.iter().copied());
     expect(&rt, "extend_sets", set.as_u8_truncated(), 69);
     let mixed: MixedEnumSet<Marks> = mixed_from_refs([Marks::C, Marks::A].iter());
     expect(&rt, "mixed_from_refs", mixed.as_repr(), 5);

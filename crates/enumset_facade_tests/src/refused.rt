@@ -47,8 +47,8 @@ fn expect_text<F: Fn() -> Result<String, JsonFault>>(
 
 // Reads the set of one letter in a form.
 fn expect_read(rt: &impl Abort, alloc: Global, form: Form, text: &str) -> Result<(), Fail> {
-    let (set, was_read) = returned(rt, || read(alloc, form, text));
-    expect(rt, "read", set, EnumSet::only(Letters::G));
+    let (set, was_read) = returned(rt, || read::<Letters>(alloc, form, text));
+    expect(rt, "read", set.as_u8_truncated(), 64);
     Ok(was_read?)
 }
 

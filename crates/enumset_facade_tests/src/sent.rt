@@ -17,10 +17,13 @@ fn flags_are_sent(rt: HostRuntime) -> Result<(), Fail> {
         sent_as_words(alloc, &flags, Unknown::Refuse)?,
         sent_as_list_text(alloc, &flags, Unknown::Refuse)?,
     ];
-    expect(&rt, "sent", read, [flags; 3]);
+    for set in read {
+        expect(&rt, "sent", set.as_u8_truncated(), 65);
+    }
     let mixed = MixedEnumSet::<Letters>::from_repr(129);
-    expect(&rt, "mixed", sent_with_unknown(alloc, &mixed)?, mixed);
-    let read = read_by_older(alloc, &EnumSet::<LaterLetters>::all())?;
-    expect(&rt, "older", read, EnumSet::<Letters>::all());
+    let read = sent_with_unknown(alloc, &mixed)?;
+    expect(&rt, "mixed", read.as_repr(), 129);
+    let read: EnumSet<Letters> = read_by_older(alloc, &EnumSet::<LaterLetters>::all())?;
+    expect(&rt, "older", read.as_u8_truncated(), 127);
     Ok(())
 }
