@@ -6,7 +6,7 @@ use std::process::Abort;
 
 /// Tests the reply to a call, or the replies to calls.
 pub fn expect<V: Copy + Eq + Debug>(rt: &impl Abort, call: &str, reply: V, wanted: V) {
-    assert_eq!(rt; reply, wanted, "{call}");
+    assert!(rt; reply == wanted, "{call}: {reply:?}, not {wanted:?}");
 }
 
 /// Tests the reply to a call of a representation.
@@ -17,14 +17,8 @@ pub fn expect_at<V: Copy + Eq + Debug>(
     reply: V,
     wanted: V,
 ) {
-    assert_eq!(rt; reply, wanted, "{call} at {repr}");
-}
-
-/// Fails the test at the first line that is not as wanted.
-pub fn same_lines(rt: &impl Abort, came: &str, wanted: &str) {
-    let mut lines = came.lines();
-    for line in wanted.lines() {
-        expect(rt, "a line", lines.next().unwrap_or("nothing"), line);
-    }
-    expect(rt, "the end", lines.next(), None);
+    assert!(rt;
+        reply == wanted,
+        "{call} at {repr}: {reply:?}, not {wanted:?}"
+    );
 }

@@ -9,11 +9,34 @@ mod operators;
 mod texts;
 
 use crate::expect::expect;
+use enumset_mixed::MixedEnumSet;
 use enumset_sets::{EnumSet, EnumSetType, laws, raw};
-use enumset_worked::{Letters, Wide};
+use enumset_worked::{Letters, Marks, Wide};
+use std::process::Abort;
 
 pub fn two_of<T: EnumSetType>(a: T, b: T) -> EnumSet<T> {
     EnumSet::only(a).union(EnumSet::only(b))
+}
+
+/// The mixed set of a number.
+pub fn marks(number: u8) -> MixedEnumSet<Marks> {
+    MixedEnumSet::from_repr(number)
+}
+
+/// Tests sets by their numbers. To compare sets in each test would take seconds more to prove.
+pub fn expect_letters(rt: &impl Abort, call: &str, sets: &[EnumSet<Letters>], wanted: &[u8]) {
+    expect(rt, call, sets.len(), wanted.len());
+    for (set, number) in sets.iter().zip(wanted) {
+        expect(rt, call, set.as_repr(), *number);
+    }
+}
+
+/// Tests mixed sets by their numbers.
+pub fn expect_marks(rt: &impl Abort, call: &str, sets: &[MixedEnumSet<Marks>], wanted: &[u8]) {
+    expect(rt, call, sets.len(), wanted.len());
+    for (set, number) in sets.iter().zip(wanted) {
+        expect(rt, call, set.as_repr(), *number);
+    }
 }
 
 #[test]
@@ -27,15 +50,18 @@ fn sets_of_letters(rt: HostRuntime) {
         EnumSet::from_repr(set.as_repr()),
         EnumSet::from_repr_unchecked(set.as_repr()),
         EnumSet::from_repr_truncated(133),
+        EnumSet::try_from_repr(5).unwrap_or(only),
         only.symmetrical_difference(EnumSet::only(Letters::C)),
     ];
-    expect(&rt, "copies and others", sets, [set; 7]);
-    let none = [EnumSet::<Letters>::empty(), EnumSet::default()];
-    expect(&rt, "empty and default", none, [EnumSet::new(); 2]);
-    let tried = [EnumSet::try_from_repr(5), EnumSet::try_from_repr(133)];
-    expect(&rt, "try_from_repr", tried, [Some(set), None]);
-    let answers = [only.eq_element(Letters::A), only < set];
-    expect(&rt, "eq_element and <", answers, [true; 2]);
+    expect_letters(&rt, "copies and others", &sets, &[5; 8]);
+    let none = [EnumSet::empty(), EnumSet::default(), EnumSet::new()];
+    expect_letters(&rt, "empty and default", &none, &[0; 3]);
+    let answers = [
+        EnumSet::<Letters>::try_from_repr(133).is_none(),
+        only.eq_element(Letters::A),
+        only < set,
+    ];
+    expect(&rt, "answers", answers, [true; 3]);
     let numbers = [
         EnumSet::bit_index(Letters::C),
         EnumSet::<Letters>::bit_width(),

@@ -8,8 +8,8 @@ use enumset_repr::{
 };
 use std::process::Abort;
 
-// The operators on {0, 3, 6} and {3, 4}.
-fn operators<R: EnumSetTypeRepr>(rt: &impl Abort, repr: &str) {
+// The operators in place, on {0, 3, 6} and {3, 4}.
+fn operators_in_place<R: EnumSetTypeRepr>(rt: &impl Abort, repr: &str) {
     let (a, b) = (R::from_u8(73), R::from_u8(24));
     let (mut or, mut and, mut xor, mut and_not) = (a, a, a, a);
     or.or_with(&b);
@@ -18,18 +18,18 @@ fn operators<R: EnumSetTypeRepr>(rt: &impl Abort, repr: &str) {
     and_not.and_not_with(&b);
     let changed = [or.to_u8(), and.to_u8(), xor.to_u8(), and_not.to_u8()];
     expect_at(rt, repr, "or_with and its like", changed, [89, 8, 81, 65]);
+}
+
+// The other operators, on the same.
+fn operators<R: EnumSetTypeRepr>(rt: &impl Abort, repr: &str) {
+    let (a, b, or) = (R::from_u8(73), R::from_u8(24), R::from_u8(89));
     let made = [(a | b).to_u8(), (a & b).to_u8(), (a ^ b).to_u8()];
     expect_at(rt, repr, "|, & and ^", made, [89, 8, 81]);
     let made = [a.and_not(b).to_u8(), (!a & b).to_u8(), R::EMPTY.to_u8()];
     expect_at(rt, repr, "and_not, ! and EMPTY", made, [65, 16, 0]);
     let answers = [a.is_empty(), a.is_subset_of(&or), a.is_disjoint_from(&b)];
-    expect_at(
-        rt,
-        repr,
-        "is_empty and its like",
-        answers,
-        [false, true, false],
-    );
+    let wanted = [false, true, false];
+    expect_at(rt, repr, "is_empty and its like", answers, wanted);
     let answers = [a == or, a < or];
     expect_at(rt, repr, "== and <", answers, [false, true]);
 }
@@ -64,15 +64,21 @@ fn ends<R: EnumSetTypeRepr>(rt: &impl Abort, repr: &str) {
 
 // The bits of {0, 3, 6}.
 fn bits<R: EnumSetTypeRepr>(rt: &impl Abort, repr: &str) {
-    let mut set = R::from_u8(24);
     if R::WIDTH > 6 && R::PREFERRED_ARRAY_LEN > 0 {
+        let mut set = R::from_u8(24);
         set.add_bit(6);
         set.remove_bit(4);
         let held = [set.has_bit(6), set.has_bit(4)];
         expect_at(rt, repr, "has_bit", held, [true, false]);
         let word = set.word(0);
         set.put_word(0, word | 1);
+        expect_at(rt, repr, "put_word", set.to_u8(), 73);
     }
+}
+
+// The items of {0, 3, 6}.
+fn items<R: EnumSetTypeRepr>(rt: &impl Abort, repr: &str) {
+    let set = R::from_u8(73);
     let mut iter = set.iter();
     let left = [
         set.count_ones() as usize,
@@ -145,10 +151,12 @@ fn words<R: EnumSetTypeRepr>(rt: &impl Abort, repr: &str) {
 }
 
 fn each_call<R: EnumSetTypeRepr>(rt: &impl Abort, repr: &str) {
+    operators_in_place::<R>(rt, repr);
     operators::<R>(rt, repr);
     changes::<R>(rt, repr);
     ends::<R>(rt, repr);
     bits::<R>(rt, repr);
+    items::<R>(rt, repr);
     numbers::<R>(rt, repr);
     sets_of_numbers::<R>(rt, repr);
     words::<R>(rt, repr);

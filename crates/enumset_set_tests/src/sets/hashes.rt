@@ -1,6 +1,7 @@
 //! What sets feed to a hasher, over an integer and over words.
 use crate::expect::expect;
-use enumset_mixed::{MixedEnumSet, MixedValue};
+use crate::sets::marks;
+use enumset_mixed::MixedValue;
 use enumset_sets::{EnumSet, EnumSetType, raw};
 use enumset_worked::{Letters, Marks, Wide};
 use std::hash::{DefaultHasher, Hash, Hasher};
@@ -22,10 +23,7 @@ fn a_set_feeds_a_hasher_its_representation(rt: HostRuntime) {
     let ([a, in_a], [b, in_b]) = (hashes(Letters::A), hashes(Letters::B));
     let ([p, in_p], [r, in_r]) = (hashes(Wide::P), hashes(Wide::R));
     expect(&rt, "hash", [a, b, p, r], [in_a, in_b, in_p, in_r]);
-    let (set, other) = (
-        MixedEnumSet::<Marks>::from_repr(1),
-        MixedEnumSet::<Marks>::from_repr(9),
-    );
+    let (set, other) = (marks(1), marks(9));
     let (valid, unknown) = (MixedValue::Valid(Marks::C), MixedValue::<Marks>::Invalid(2));
     let are_equal = [
         p == r,

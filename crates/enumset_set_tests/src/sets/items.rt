@@ -1,5 +1,6 @@
 //! Sets of items, by the traits of std.
 use crate::expect::expect;
+use crate::sets::{expect_letters, expect_marks};
 use enumset_mixed::MixedEnumSet;
 use enumset_sets::EnumSet;
 use enumset_worked::{Letters, Marks};
@@ -10,14 +11,14 @@ fn sets_are_made_of_items(rt: HostRuntime) -> Result<(), Fail> {
     let letters = [Letters::A, Letters::A, Letters::C];
     let mut extended = EnumSet::from(Letters::B);
     extended.extend(letters)?;
+    let pair = [EnumSet::from(Letters::A), EnumSet::only(Letters::C)];
     let sets = [
         EnumSet::from(letters),
         letters.iter().copied().collect(rt.alloc())?,
-        letters.map(EnumSet::only).iter().copied().sum(),
+        pair.iter().copied().sum(),
         extended,
     ];
-    let wanted = [5, 5, 5, 7].map(EnumSet::from_u8_truncated);
-    expect(&rt, "sets", sets, wanted);
+    expect_letters(&rt, "sets", &sets, &[5, 5, 5, 7]);
     let mut text = String::new(rt.alloc());
     for letter in extended {
         write!(text, "{letter} ")?;
@@ -42,8 +43,7 @@ fn mixed_sets_are_made_of_items(rt: HostRuntime) -> Result<(), Fail> {
         pair.iter().copied().sum(),
         extended,
     ];
-    let wanted = [5, 5, 5, 10, 133].map(MixedEnumSet::from_repr);
-    expect(&rt, "sets", sets, wanted);
+    expect_marks(&rt, "sets", &sets, &[5, 5, 5, 10, 133]);
     let mut text = String::new(rt.alloc());
     for member in extended {
         write!(text, "{member:?} ")?;

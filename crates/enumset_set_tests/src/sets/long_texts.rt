@@ -1,7 +1,7 @@
 //! Texts of many members, and texts that a writer does not take to their end.
 
 use crate::expect::expect;
-use crate::sets::two_of;
+use crate::sets::{marks, two_of};
 use enumset_mixed::{MixedEnumSet, MixedValue};
 use enumset_sets::EnumSet;
 use enumset_worked::{Letters, Marks, PairNumber};
@@ -46,10 +46,7 @@ impl fmt::Write for Pieces {
 // The refusal comes out, and nothing is written after it, whichever piece is refused.
 #[test]
 fn a_refused_piece_ends_a_text(rt: HostRuntime) {
-    let (set, mixed) = (
-        two_of(Letters::A, Letters::C),
-        MixedEnumSet::<Marks>::from_repr(13),
-    );
+    let (set, mixed) = (two_of(Letters::A, Letters::C), marks(13));
     let unknown = MixedValue::<Marks>::Invalid(3);
     let mut is_whole = false;
     for left in 0..100 {

@@ -1,6 +1,7 @@
 //! The calls of a mixed set and of its iterator that no command makes, and their texts.
 
 use crate::expect::expect;
+use crate::sets::{expect_marks, marks};
 use enumset_mixed::{MixedEnumSet, MixedValue, convert_mixed};
 use enumset_sets::EnumSet;
 use enumset_worked::{Letters, Marks};
@@ -20,11 +21,10 @@ fn sets_of_marks(rt: HostRuntime) {
         set.symmetrical_difference(MixedEnumSet::from_repr(12)),
         convert_mixed(only_c),
     ];
-    let wanted = [0, 0, 9, 9, 1, 5, 4].map(MixedEnumSet::from_repr);
-    expect(&rt, "calls that make sets", sets, wanted);
+    expect_marks(&rt, "calls that make sets", &sets, &[0, 0, 9, 9, 1, 5, 4]);
     expect(&rt, "as_repr", set.as_repr(), 9);
     if mixed_c.try_as_enumset().is_some() {
-        expect(&rt, "as_enumset", mixed_c.as_enumset(), only_c);
+        expect(&rt, "as_enumset", mixed_c.as_enumset().as_repr(), 4);
     }
     let equal = [
         mixed_c.eq_element(Marks::C),
@@ -41,8 +41,7 @@ fn sets_of_marks(rt: HostRuntime) {
 
 #[test]
 fn marks_in_place(rt: HostRuntime) {
-    let other = MixedEnumSet::<Marks>::from_repr(6);
-    let set = MixedEnumSet::<Marks>::from_repr(11);
+    let (other, set) = (marks(6), marks(11));
     let (mut united, mut shared, mut left) = (set, set, set);
     for has_changed in [true, false] {
         let told = [
@@ -65,10 +64,7 @@ fn marks_in_place(rt: HostRuntime) {
 
 #[test]
 fn marks_by_reference(rt: HostRuntime) {
-    let (few, many) = (
-        MixedEnumSet::<Marks>::from_repr(1),
-        MixedEnumSet::from_repr(9),
-    );
+    let (few, many) = (marks(1), marks(9));
     let answers = [
         few.is_subset_of(&many),
         few.is_superset_of(&many),
@@ -79,10 +75,7 @@ fn marks_by_reference(rt: HostRuntime) {
 
 #[test]
 fn texts_of_marks(rt: HostRuntime) -> Result<(), Fail> {
-    let (none, set) = (
-        MixedEnumSet::<Marks>::new(),
-        MixedEnumSet::<Marks>::from_repr(9),
-    );
+    let (none, set) = (MixedEnumSet::<Marks>::new(), marks(9));
     let mut iter = set.iter();
     let text = format!(in rt.alloc(); "<{none}> <{set}> {set:?} {iter:?}")?;
     let wanted = "<> <A | [3]> MixedEnumSet(A | [3]) MixedEnumSetIter { iter: PrimitiveIter(9) }";

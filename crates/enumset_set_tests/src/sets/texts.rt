@@ -1,6 +1,6 @@
 //! The texts of sets over integers and over words: of the empty set, of one element and of all.
 
-use crate::expect::{expect, same_lines};
+use crate::expect::expect;
 use enumset_sets::{EnumSet, EnumSetType};
 use enumset_worked::{Letters, Sparse, Wide};
 use std::alloc::AllocError;
@@ -25,7 +25,7 @@ fn sets_have_texts(rt: HostRuntime) -> Result<(), Fail> {
     write_texts(&mut text, Letters::C)?;
     write_texts(&mut text, Sparse::D)?;
     write_texts(&mut text, Wide::R)?;
-    same_lines(&rt, &text, TEXTS);
+    expect(&rt, "texts", text.as_str(), TEXTS);
     Ok(())
 }
 
