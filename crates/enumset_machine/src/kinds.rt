@@ -58,8 +58,9 @@ macro_rules! over_worked_types {
     ($kind:ident, $alloc:ident, $input:ident: $($of_sets:ident $of_mixed_sets:ident;)+) => {
         match $kind {
             $(
-                Worked::$of_sets => serve_either::<$of_sets>($alloc, false, $input),
-                Worked::$of_mixed_sets => serve_either::<$of_sets>($alloc, true, $input),
+                Worked::$of_sets | Worked::$of_mixed_sets => {
+                    serve_either::<$of_sets>($alloc, matches!($kind, Worked::$of_mixed_sets), $input)
+                }
             )+
             Worked::Wide => serve_text::<Wide>($alloc, $input),
             Worked::Nothing => serve_nothing($alloc, false, $input),

@@ -37,11 +37,11 @@ pub trait RunSet: Copy {
     fn new() -> Self
         ensures { members result ≡ set.empty };
 
-    /// Returns the set that a command makes of two sets.
+    /// Returns the set that a command makes of two sets. Any other command is taken as `Difference`.
     fn combined(command: &Command, a: Self, b: Self) -> Self
         ensures { members result ≡ combination command.now (members a) (members b) };
 
-    /// Returns the reply to a command that compares two sets.
+    /// Returns the reply to a command that compares two sets. Any other command is taken as `Compare`.
     fn compared(command: &Command, a: Self, b: Self) -> Reply
         ensures { result ≡ comparison command.now (members a) (members b) };
 
