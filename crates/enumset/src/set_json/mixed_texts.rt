@@ -33,7 +33,7 @@ pub fn mixed_to_number_text<T: EnumSetTypeWithRepr>(
         read (string_bytes text) ≡ Some (number_value (number set.now))) }
     ensures fault { IfErr result (λ fault. fault ≡ OutOfMemory) }
 {
-    number_text(alloc, mixed_to_number(alloc, set)?)
+    Ok(number_text(alloc, mixed_to_number(alloc, set)?)?)
 }
 
 /// Writes the set's words of 64 bits as an array without spaces, the lowest first, as many as its representation has,

@@ -1,24 +1,21 @@
 //! JSON texts of whole numbers, written and read digit by digit, without a tree of values.
 
-ghost use Rattle.std.specs.Prelude.{◌≡◌, ◌<◌, ◌+◌, ◌^◌, ◌++◌, ℕ, decimal, IfOk, IfErr, IfSome, Some, string_bytes};
+ghost use Rattle.std.specs.Prelude.{◌≡◌, ◌<◌, ◌+◌, ◌^◌, ◌++◌, ℕ, decimal, IfOk, IfSome, Some, string_bytes};
 ghost use Rattle.serde_json.specs.Read.{read};
 ghost use Rattle.serde_json.specs.View.{view};
 ghost use Rattle.enumset.specs.Json.{number_value};
-ghost use Rattle.enumset.specs.declared.set_json.fault.JsonFault.TheVariants.{OutOfMemory};
 
 use super::digits::{ascii_text, push_digits};
-use super::fault::JsonFault;
 use super::scan::{are_spaces, split_spaces};
 use serde_json::Value;
-use std::alloc::Global;
+use std::alloc::{AllocError, Global};
 
 // The text of a value that holds a whole number.
-pub(super) fn number_text(alloc: Global, value: Value) -> Result<String, JsonFault>
+pub(super) fn number_text(alloc: Global, value: Value) -> Result<String, AllocError>
     ensures text { (number : ℕ) → (view value ≡ number_value number)
         → IfOk result (λ text. string_bytes text ≡ decimal number) }
     ensures reads { (number : ℕ) → (view value ≡ number_value number)
         → IfOk result (λ text. read (string_bytes text) ≡ Some (number_value number)) }
-    ensures fault { IfErr result (λ fault. fault ≡ OutOfMemory) }
 {
     let mut bytes = Vec::with_capacity(alloc, 20)?;
     push_digits(&mut bytes, value.as_u64().unwrap_or(0))?;

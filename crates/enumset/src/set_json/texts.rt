@@ -45,7 +45,7 @@ pub fn to_number_text<T: EnumSetType>(
     ensures too_wide { (result ≡ Err TooWide) ↔ (is_subset set.now (below (width_of width)) ≡ false) }
     ensures fault { IfErr result (λ fault. (fault ≡ TooWide) ⊎ (fault ≡ OutOfMemory)) }
 {
-    number_text(alloc, to_number(alloc, set, width)?)
+    Ok(number_text(alloc, to_number(alloc, set, width)?)?)
 }
 
 /// Writes the set's words of 64 bits as an array without spaces, the lowest first, as many as its representation has.
