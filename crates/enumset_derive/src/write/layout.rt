@@ -44,6 +44,13 @@ pub(super) fn list_of(of: &Subject, room: usize, items: &[impl Display], ends: [
     wrapped(of.alloc, "\n        ", [room, 92], words.as_str())
 }
 
+/// A list in a clause, of the names of the variants.
+pub(super) fn list_of_names(of: &Subject, room: usize, ends: [&str; 2]) -> Text {
+    let variants = of.element.declaration.variants.iter();
+    let names: Vec<&str> = variants.map(|variant| variant.name).collect(of.alloc)?;
+    list_of(of, room, &names, ends)
+}
+
 /// Writes the body of a function that calls a macro with words, on one line if it fits.
 pub(super) fn write_call(out: &mut String, alloc: Global, name: &str, words: &str) -> Written {
     let rooms = [90usize.saturating_sub(name.len()), 88];

@@ -20,12 +20,9 @@ pub(super) fn write_names(out: &mut String, of: &Subject) -> Written {
     write_head(out, of, "", "EnumSetNames")?;
     write!(
         out,
-        "    ghost use Rattle.std.specs.Prelude.{{codes, ◌∷◌, []}};
-
-    ghost names = {{ {names} }};
-
-    fn names() -> &'static [(Self, &'static str)] {{
-"
+        "    ghost use Rattle.std.specs.Prelude.{{codes, ◌∷◌, []}};\n
+    ghost names = {{ {names} }};\n
+    fn names() -> &'static [(Self, &'static str)] {{\n"
     )?;
     write_call(out, alloc, "names_of!", words.as_str())?;
     out.push_str("    }\n\n    ghost named = { tt };\n}")
@@ -33,11 +30,9 @@ pub(super) fn write_names(out: &mut String, of: &Subject) -> Written {
 
 /// Writes the `Display` by the names of the variants.
 pub(super) fn write_display(out: &mut String, of: &Subject) -> Written {
-    let (alloc, name) = (of.alloc, of.name);
-    let (crate_name, module) = (of.request.crate_name, &of.request.module);
+    let (name, crate_name, module) = (of.name, of.request.crate_name, &of.request.module);
     let variants = &of.element.declaration.variants;
-    let names: Vec<&str> = variants.iter().map(|variant| variant.name).collect(alloc)?;
-    let list = list_of(of, 90, &names, ["codes \"", "\""])?;
+    let list = list_of_names(of, 90, ["codes \"", "\""])?;
     let doc = "/// The name of the variant.\n";
     write_head(out, of, doc, "std::fmt::Display")?;
     write!(
@@ -45,30 +40,25 @@ pub(super) fn write_display(out: &mut String, of: &Subject) -> Written {
         "    ghost use Rattle.std.specs.Prelude.{{Some, ◌∷◌, [], codes}};
     ghost use Rattle.std.specs.List.{{slice_index_or}};
     ghost use denote.Enum.Declared.{{tag_of}};
-    ghost use Rattle.{crate_name}.specs.contracts.{module}.{name}.{{the_type}};
-
+    ghost use Rattle.{crate_name}.specs.contracts.{module}.{name}.{{the_type}};\n
     ghost output = {{ λ v. Some (slice_index_or
         ({list})
-        (tag_of the_type v) []) }};
-
-    fn fmt<W: std::fmt::Write>(&self, f: &mut std::fmt::Formatter<W>) -> std::fmt::Result {{
-"
+        (tag_of the_type v) []) }};\n
+    fn fmt<W: std::fmt::Write>(&self, f: &mut std::fmt::Formatter<W>) -> std::fmt::Result {{\n"
     )?;
-    if names.is_empty() {
+    if variants.is_empty() {
         return out.push_str("        match *self {}\n    }\n}");
     }
     out.push_str("        match self {\n")?;
-    for name in names {
-        let (gap, start, room) = match name.len() {
-            ..=66 => (" ", "\n                ", 33),
-            _ => ("\n                ", "\n                    ", 70),
+    for variant in variants {
+        let name = variant.name;
+        let (to, start, room) = match name.len() {
+            ..=66 => ("=> ", "\n                ", 33),
+            _ => ("=>\n                ", "\n                    ", 70),
         };
-        let text = format!(in alloc; "\"{name}\",\n")?;
-        let text = in_brackets(alloc, start, [room, 0], text.as_str())?;
-        write!(
-            out,
-            "            Self::{name} =>{gap}f.write_str({text}),\n"
-        )?;
+        let text = format!(in of.alloc; "\"{name}\",\n")?;
+        let text = in_brackets(of.alloc, start, [room, 0], text.as_str())?;
+        write!(out, "            Self::{name} {to}f.write_str({text}),\n")?;
     }
     out.push_str("        }\n    }\n}")
 }

@@ -17,10 +17,9 @@ pub(super) fn write_operators(out: &mut String, of: &Subject) -> Written {
     let output = in_brackets(alloc, "\n        ", [72, 0], words.as_str())?;
     let inner = in_brackets(alloc, "\n    ", [86, 0], words.as_str())?;
     let set = format!(in alloc; "EnumSet<{inner}>,\n")?;
-    let own = format!(in alloc; "⟦<{name} as EnumSetType>⟧.elements")?;
-    let only = format!(in alloc; "\n        (set.only ({own}.bit b))")?;
-    let (output, set, only) = (output.as_str(), set.as_str(), only.as_str());
-    let element = ["that of the other", "", "Self", "EnumSet::only(rhs)", only];
+    let one = format!(in alloc; "\n        (set.only (⟦<{name} as EnumSetType>⟧.elements.bit b))")?;
+    let (output, set, one) = (output.as_str(), set.as_str(), one.as_str());
+    let element = ["that of the other", "", "Self", "EnumSet::only(rhs)", one];
     let set = ["the other", set, "EnumSet<Self>", "rhs", " b"];
     for [form, function, sign, operation] in OPERATORS {
         let operator = [form, function, sign, operation, output];
@@ -44,13 +43,10 @@ fn write_operator(out: &mut String, of: &Subject, by: [&str; 5], with: [&str; 5]
     write!(
         out,
         "    ghost use Rattle.std.specs.Prelude.{{◌≡◌}};
-    ghost use Rattle.enumset_repr.specs.BitSet as set;
-
-    type Output = EnumSet<{output}>;
-
+    ghost use Rattle.enumset_repr.specs.BitSet as set;\n
+    type Output = EnumSet<{output}>;\n
     ghost {function}_gives = {{ λ a b r. r ≡ set.{operation}
-        (set.only (⟦<{name} as EnumSetType>⟧.elements.bit a)){model} }};
-
+        (set.only (⟦<{name} as EnumSetType>⟧.elements.bit a)){model} }};\n
     fn {function}(self, rhs: {operand}) -> EnumSet<Self> {{
         EnumSet::only(self) {sign} {value}
     }}
@@ -66,14 +62,11 @@ fn write_not(out: &mut String, of: &Subject, output: &str) -> Written {
         out,
         "    ghost use Rattle.std.specs.Prelude.{{◌≡◌}};
     ghost use Rattle.enumset_repr.specs.BitSet as set;
-    ghost use Rattle.enumset_sets.specs.Elements.{{valid_bits}};
-
-    type Output = EnumSet<{output}>;
-
+    ghost use Rattle.enumset_sets.specs.Elements.{{valid_bits}};\n
+    type Output = EnumSet<{output}>;\n
     ghost not_gives = {{ λ a r. r ≡ set.difference
         (valid_bits ⟦<{name} as EnumSetType>⟧.elements)
-        (set.only (⟦<{name} as EnumSetType>⟧.elements.bit a)) }};
-
+        (set.only (⟦<{name} as EnumSetType>⟧.elements.bit a)) }};\n
     fn not(self) -> EnumSet<Self> {{
         !EnumSet::only(self)
     }}
