@@ -111,33 +111,16 @@ fn are_cast(element: &Element) -> bool {
 
 /// Writes the implementation of an element type.
 fn write_impl(out: &mut String, of: &Subject) -> Written {
-    let (alloc, name) = (of.alloc, of.name);
-    let (crate_name, module) = (of.request.crate_name, &of.request.module);
-    let (plan, variants) = (&of.element.plan, &of.element.declaration.variants);
-    let (width, count) = (plan.bit_width, variants.len());
-    let [repr, model, all_bits] = store_text(of)?;
-    let is_wide = matches!(plan.store, Store::Words(_));
+    let (name, crate_name, module) = (of.name, of.request.crate_name, &of.request.module);
+    let is_wide = matches!(of.element.plan.store, Store::Words(_));
     let law = if is_wide { "words" } else { "integer" };
-    let in_place = are_cast(of.element) && are_places(plan);
+    let in_place = are_cast(of.element) && are_places(&of.element.plan);
     let made = if in_place { "in_place" } else { "with_bits" };
     let (more, before, after) = match in_place {
         true => (", lawful_in_place", "lawful_in_place the_type (", ")"),
         false => ("", "", ""),
     };
-    let mut bits = String::new(alloc);
-    if !in_place {
-        let all: Vec<u32> = plan.variants.iter().map(|named| named.bit).collect(alloc)?;
-        bits = format!(in alloc; " ({})", list_of(of, 59, &all, ["", ""])?)?;
-    }
     let has_values = of.element.declaration.options.has_display;
-    let (mut imported, mut values) = (String::new(alloc), String::new(alloc));
-    if has_values {
-        let path = format!(in alloc; "Rattle.{crate_name}.specs.declared.{module}.{name}")?;
-        write!(imported, "    ghost use {path}.TheVariants as variant;\n")?;
-        let all: Vec<&str> = variants.iter().map(|variant| variant.name).collect(alloc)?;
-        let list = list_of(of, 79, &all, ["variant.", ""])?;
-        write!(values, "    ghost values = {{ {list} }};\n\n")?;
-    }
     write_head(out, of, "", "EnumSetType")?;
     if !in_place || has_values || is_wide {
         out.push_str("    ghost use Rattle.std.specs.Prelude.{◌∷◌, []};\n")?;
@@ -145,27 +128,13 @@ fn write_impl(out: &mut String, of: &Subject) -> Written {
     write!(
         out,
         "    ghost use Rattle.enumset_sets.specs.Laws.Elements.{{{made}, lawful_in_{law}{more}}};
-    ghost use Rattle.{crate_name}.specs.contracts.{module}.{name}.{{the_type}};
-{imported}
-    type Repr = {repr};
-
-    ghost elements = {{ {made} the_type{bits} }};
-
-{values}    ghost ALL_BITS = {{ {model} }};
-
-    const ALL_BITS: {repr} = {all_bits};
-
-    ghost BIT_WIDTH = {{ {width} }};
-
-    const BIT_WIDTH: u32 = {width};
-
-    ghost VARIANT_COUNT = {{ {count} }};
-
-    const VARIANT_COUNT: u32 = {count};
-
-    fn enum_into_u32(self) -> u32 {{
-"
+    ghost use Rattle.{crate_name}.specs.contracts.{module}.{name}.{{the_type}};\n"
     )?;
+    if has_values {
+        let path = format!(in of.alloc; "Rattle.{crate_name}.specs.declared.{module}.{name}")?;
+        write!(out, "    ghost use {path}.TheVariants as variant;\n")?;
+    }
+    write_constants(out, of, in_place)?;
     write_into_u32(out, of)?;
     out.push_str("    }\n\n    fn enum_from_u32(val: u32) -> Self {\n")?;
     write_from_u32(out, of)?;
@@ -173,6 +142,41 @@ fn write_impl(out: &mut String, of: &Subject) -> Written {
         out,
         "    }}\n\n    ghost lawful = {{ {before}lawful_in_{law} the_type _ tt{after} }};\n}}"
     )
+}
+
+/// Writes what keeps a set, the model of the elements, and the constants.
+fn write_constants(out: &mut String, of: &Subject, in_place: bool) -> Written {
+    let (width, count) = (of.element.plan.bit_width, of.element.plan.variants.len());
+    let [repr, model, all_bits] = store_text(of)?;
+    write!(out, "\n    type Repr = {repr};\n\n    ghost elements = {{ ")?;
+    write_elements(out, of, in_place)?;
+    write!(
+        out,
+        "    ghost ALL_BITS = {{ {model} }};\n
+    const ALL_BITS: {repr} = {all_bits};\n
+    ghost BIT_WIDTH = {{ {width} }};\n
+    const BIT_WIDTH: u32 = {width};\n
+    ghost VARIANT_COUNT = {{ {count} }};\n
+    const VARIANT_COUNT: u32 = {count};\n
+    fn enum_into_u32(self) -> u32 {{\n"
+    )
+}
+
+/// Writes how the elements are modelled, after the `{`, and the model of the variants by which `Display` is given.
+fn write_elements(out: &mut String, of: &Subject, in_place: bool) -> Written {
+    if in_place {
+        out.push_str("in_place the_type };\n\n")?;
+    } else {
+        let bits = of.element.plan.variants.iter().map(|named| named.bit);
+        let bits: Vec<u32> = bits.collect(of.alloc)?;
+        let bits = list_of(of, 59, &bits, ["", ""])?;
+        write!(out, "with_bits the_type ({bits}) }};\n\n")?;
+    }
+    if of.element.declaration.options.has_display {
+        let names = list_of_names(of, 79, ["variant.", ""])?;
+        write!(out, "    ghost values = {{ {names} }};\n\n")?;
+    }
+    Ok(())
 }
 
 /// Writes the body that converts a variant to its bit.
@@ -223,8 +227,7 @@ fn write_from_u32(out: &mut String, of: &Subject) -> Written {
                 {facade}::variants::is_below({words});
                 unreachable!()
             }}
-        }}
-"
+        }}\n"
     )
 }
 
