@@ -40,17 +40,15 @@ pub struct Request<'a> {
 }
 
 fn main(rt: HostRuntime) -> ExitCode {
-    match answer(&rt) {
-        Ok(()) => ExitCode::SUCCESS,
-        Err(fault) => {
-            let _ = eprintln!(rt; "{fault}");
-            ExitCode::from(match fault {
-                DeriveError::Arguments(_) => 2,
-                DeriveError::OutOfMemory(_) => 3,
-                _ => 1,
-            })
-        }
-    }
+    let Err(fault) = answer(&rt) else {
+        return ExitCode::SUCCESS;
+    };
+    let _ = eprintln!(rt; "{fault}");
+    ExitCode::from(match fault {
+        DeriveError::Arguments(_) => 2,
+        DeriveError::OutOfMemory(_) => 3,
+        _ => 1,
+    })
 }
 
 /// Tests the arguments, reads the source and writes the module.

@@ -62,7 +62,6 @@ fn read_words<'a, 'b>(
         serde: Vec::new(alloc),
     };
     for _ in tokens {
-        reader.cursor.advance()?;
         reader.read_token()?;
     }
     reader.settle_imports()?;
@@ -90,8 +89,9 @@ struct Reader<'a, 'b> {
 }
 
 impl<'a, 'b> Reader<'a, 'b> {
-    /// Reads an item, or a token between items. At the end of the text there is nothing to read.
+    /// Goes on, and reads an item or a token between items. At the end of the text there is nothing to read.
     fn read_token(&mut self) -> Outcome {
+        self.cursor.advance()?;
         let begin = self.cursor.token;
         self.source.add_space(begin.space);
         match begin.kind {

@@ -9,40 +9,48 @@ const EXPORTS_ALL: &str = "`pub use` takes no `*` here: name what is exported";
 impl<'a, 'b> Reader<'a, 'b> {
     /// Reads an import from its keyword on. Its attributes are given, a line each; its visibility begins at `item`.
     pub(super) fn read_use(&mut self, place: Place, before: &str, item: Cursor<'a, 'b>) -> Outcome {
-        let alloc = self.alloc;
         let visibility = item.text.get(item.token.begin..self.cursor.token.begin);
         let visibility = visibility.unwrap_or("").trim_end();
-        let is_own = visibility.is_empty();
         let path = self.cursor.read_path()?;
         let may_stay = |root: &Token| root.is_name() && !is_among("core alloc", root.text);
         let is_path = path.first().is_some_and(may_stay);
         let written = is_path.then_some(self.cursor.text_since(item.token.begin));
-        for (index, tree) in trees_of(alloc, path)?.iter().enumerate() {
+        let written = written.unwrap_or("");
+        for (index, tree) in trees_of(self.alloc, path)?.iter().enumerate() {
             if index > 0 {
                 self.source.add_space("\n");
             }
-            let [root, rest @ ..] = tree else {
-                continue;
-            };
-            let mut names = names_in(alloc, tree, is_own)?;
-            if is_own && root.is("enumset") && rest.iter().any(|word| word.is_mark(":")) {
-                self.source.names.append(&mut names)?;
-                self.read_names(place, before, rest)?;
-                continue;
-            }
-            let path = spelled(alloc, tree)?;
-            let line = format!(in alloc; "{visibility} use {path};")?;
-            let line = written.unwrap_or(line.as_str().trim_start());
-            let is_ours = root.text.starts_with("enumset");
-            let is_there = is_among("std core alloc crate self super", root.text);
-            self.source.push(Form::Import(Import {
-                text: format!(in alloc; "{before}{line}")?,
-                path,
-                names,
-                unknown: (is_own && !is_ours && !is_there).then_some(place),
-            }))?;
+            self.read_tree(place, [before, visibility, written], tree)?;
         }
         Ok(())
+    }
+
+    /// Reads one of its paths. The line is given as it is written, unless it may not stay so.
+    fn read_tree(&mut self, place: Place, by: [&str; 3], tree: &[Token<'a>]) -> Outcome {
+        let [before, visibility, written] = by;
+        let (alloc, is_own) = (self.alloc, visibility.is_empty());
+        let [root, rest @ ..] = tree else {
+            return Ok(());
+        };
+        let mut names = names_in(alloc, tree, is_own)?;
+        if is_own && root.is("enumset") && rest.iter().any(|word| word.is_mark(":")) {
+            self.source.names.append(&mut names)?;
+            return self.read_names(place, before, rest);
+        }
+        let path = spelled(alloc, tree)?;
+        let line = match written {
+            "" => format!(in alloc; "{visibility} use {path};")?,
+            _ => String::from_str(alloc, written)?,
+        };
+        let is_ours = root.text.starts_with("enumset");
+        let is_there = is_among("std core alloc crate self super", root.text);
+        let import = Import {
+            text: format!(in alloc; "{before}{}", line.as_str().trim_start())?,
+            path,
+            names,
+            unknown: (is_own && !is_ours && !is_there).then_some(place),
+        };
+        Ok(self.source.push(Form::Import(import))?)
     }
 
     /// Takes in what a line imports of the crate `enumset`: a path after its name, or some in brackets.
@@ -59,7 +67,7 @@ impl<'a, 'b> Reader<'a, 'b> {
         Ok(())
     }
 
-    /// Takes in a path of these.
+    /// Takes in one path of such a line. `self as NAME` imports the crate under that name, and `self` alone nothing.
     fn read_name(&mut self, tree: &[Token<'a>]) -> Outcome {
         let alloc = self.alloc;
         match tree {
