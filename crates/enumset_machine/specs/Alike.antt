@@ -6,22 +6,36 @@ use Rattle.enumset_repr.specs.BitSet as set
 use Rattle.enumset_repr.specs.BitSet.{BitSet}
 use Rattle.enumset_repr.specs.Order.{compare}
 use Rattle.enumset_commands.specs.declared.command.Command.{Command}
-use Rattle.enumset_commands.specs.declared.command.Command.TheVariants.{All, Only, Insert, Remove, Contains, Clear, Len, IsEmpty, Complement, Union, Intersection, SymmetricDifference, InsertAll, Disjoint, Superset, Subset, Equal}
+use Rattle.enumset_commands.specs.declared.command.Command.TheVariants.{Union, Intersection, Difference, SymmetricDifference, InsertAll, RemoveAll, Disjoint, Superset, Subset, Equal, Compare, New, Number, NumberCut, FromNumber, FromNumberCut, Words, WordsCut, FromWords, FromWordsCut, Iter, Next, NextBack, Left}
 use Rattle.enumset_commands.specs.declared.reply.Reply.{Reply}
 use Rattle.enumset_commands.specs.declared.reply.Reply.TheVariants.{Truth, Order}
 
--- the others are calls of the set itself
 abbrev pub is_alike : Command → Bool
-is_alike (All r) = false
-is_alike (Only r bit) = false
-is_alike (Insert r bit) = false
-is_alike (Remove r bit) = false
-is_alike (Contains r bit) = false
-is_alike (Clear r) = false
-is_alike (Len r) = false
-is_alike (IsEmpty r) = false
-is_alike (Complement to a) = false
-is_alike command = true
+is_alike (New r) = true
+is_alike (Union to a b) = true
+is_alike (Intersection to a b) = true
+is_alike (Difference to a b) = true
+is_alike (SymmetricDifference to a b) = true
+is_alike (InsertAll r a) = true
+is_alike (RemoveAll r a) = true
+is_alike (Disjoint a b) = true
+is_alike (Superset a b) = true
+is_alike (Subset a b) = true
+is_alike (Equal a b) = true
+is_alike (Compare a b) = true
+is_alike (Number r width) = true
+is_alike (NumberCut r width) = true
+is_alike (FromNumber r width value) = true
+is_alike (FromNumberCut r width value) = true
+is_alike (Words r count) = true
+is_alike (WordsCut r count) = true
+is_alike (FromWords r words) = true
+is_alike (FromWordsCut r words) = true
+is_alike (Iter i r) = true
+is_alike (Next i) = true
+is_alike (NextBack i) = true
+is_alike (Left i) = true
+is_alike command = false
 
 -- the others are `Difference` and `RemoveAll`
 abbrev pub combination : Command → BitSet → BitSet → BitSet

@@ -5,8 +5,8 @@ ghost use Rattle.enumset_machine.specs.Kinds.{worked_of, answer_over};
 ghost use Rattle.enumset_commands.specs.Texts.{IsFaultOf};
 
 use crate::nothing::serve_nothing;
-use crate::serve::{serve_either, serve_text};
 use crate::worked::Worked;
+use crate::{serve_mixed_text, serve_text};
 use enumset_commands::TextFault;
 use enumset_commands::names::is;
 use enumset_worked::{
@@ -58,9 +58,8 @@ macro_rules! over_worked_types {
     ($kind:ident, $alloc:ident, $input:ident: $($of_sets:ident $of_mixed_sets:ident;)+) => {
         match $kind {
             $(
-                Worked::$of_sets | Worked::$of_mixed_sets => {
-                    serve_either::<$of_sets>($alloc, matches!($kind, Worked::$of_mixed_sets), $input)
-                }
+                Worked::$of_sets => serve_text::<$of_sets>($alloc, $input),
+                Worked::$of_mixed_sets => serve_mixed_text::<$of_sets>($alloc, $input),
             )+
             Worked::Wide => serve_text::<Wide>($alloc, $input),
             Worked::Nothing => serve_nothing($alloc, false, $input),

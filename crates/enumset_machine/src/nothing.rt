@@ -5,7 +5,7 @@ ghost use Rattle.enumset_repr.specs.BitSet.{from_list};
 ghost use Rattle.enumset_machine.specs.Kinds.{answer_by_width};
 ghost use Rattle.enumset_commands.specs.Texts.{IsFaultOf};
 
-use crate::serve::serve_either;
+use crate::{serve_mixed_text, serve_text};
 use enumset_commands::TextFault;
 use enumset_sets::{EnumSetType, EnumSetTypeWithRepr, variant_of};
 use std::alloc::Global;
@@ -62,5 +62,9 @@ pub fn serve_nothing(alloc: Global, is_mixed: bool, input: &[u8]) -> Result<Vec<
         ghost narrow = { Prim.search rules };
     }
 
-    serve_either::<Nothing>(alloc, is_mixed, input)
+    if is_mixed {
+        serve_mixed_text::<Nothing>(alloc, input)
+    } else {
+        serve_text::<Nothing>(alloc, input)
+    }
 }

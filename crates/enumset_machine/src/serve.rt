@@ -1,11 +1,10 @@
 //! Answers a text of commands by the text of their replies.
 
-ghost use Rattle.std.specs.Prelude.{◌≡◌, ◌++◌, codes, Some, None, IfOk, IfErr, Ok, OnOk, if◌then◌else◌};
+ghost use Rattle.std.specs.Prelude.{◌≡◌, ◌++◌, codes, IfOk, IfErr, Ok, OnOk};
 ghost use Rattle.std.specs.String.{string_bytes};
 ghost use Rattle.enumset_machine.specs.States.{start};
 ghost use Rattle.enumset_machine.specs.Plans.{outcome_by, replies_by};
 ghost use Rattle.enumset_machine.specs.Answers.{answer_by, answer_to, commands_of, mixed_answer_to};
-ghost use Rattle.enumset_machine.specs.Kinds.{answer_by_width};
 ghost use Rattle.enumset_commands.specs.Lines.{commands_of_text};
 ghost use Rattle.enumset_commands.specs.Texts.{IsFaultOf, text_of};
 ghost use Rattle.enumset_sets.specs.Elements.{valid_bits};
@@ -56,24 +55,6 @@ pub fn serve_mixed_text<T: EnumSetTypeWithRepr>(
         IsFaultOf (mixed_answer_to (valid_bits T.elements) T.Repr.WIDTH input.now) fault) }
 {
     serve_over::<MixedEnumSet<T>>(alloc, input)
-}
-
-/// The same over the sets of a type, or over its mixed sets.
-pub(crate) fn serve_either<T: EnumSetTypeWithRepr>(
-    alloc: Global,
-    is_mixed: bool,
-    input: &[u8],
-) -> Result<Vec<u8>, TextFault>
-    ensures answer { IfOk result (λ out. answer_by_width (if is_mixed then Some T.Repr.WIDTH else None)
-        (valid_bits T.elements) input.now ≡ Ok out.items) }
-    ensures fault { IfErr result (λ fault. IsFaultOf (answer_by_width
-        (if is_mixed then Some T.Repr.WIDTH else None) (valid_bits T.elements) input.now) fault) }
-{
-    if is_mixed {
-        serve_mixed_text::<T>(alloc, input)
-    } else {
-        serve_text::<T>(alloc, input)
-    }
 }
 
 /// The text of the replies to the commands of an input over sets of one kind, from empty registers. The errors are those
