@@ -106,7 +106,8 @@ pub fn keep_allowed<T: EnumSetType>(granted: &mut EnumSet<T>, denied: &EnumSet<T
 /// Grants more rights, and returns whether one of them is new. If none is, nothing changes.
 #[tactic(auto, using(enumset_repr::specs::Laws::Algebra::algebra))]
 pub fn gain<T: EnumSetType>(granted: &mut EnumSet<T>, more: &EnumSet<T>) -> bool
-    ensures settled { result ≡ false → set.is_subset more.now granted.old ≡ true }
+    ensures granted { granted.new ≡ set.union granted.old more.now }
+    ensures is_new { result ≡ not (set.is_subset more.now granted.old) }
     ensures same { result ≡ false → granted.new ≡ granted.old }
 {
     granted.union_with(more)

@@ -53,6 +53,7 @@ pub fn first_missing<T: EnumSetType>(granted: &EnumSet<T>, requested: &EnumSet<T
 #[tactic(auto, using(enumset_repr::specs::Laws::Places::tests))]
 pub fn first_past<T: EnumSetType>(granted: &EnumSet<T>, bit: u32) -> Option<T>
     ensures granted { IfSome result (λ right. set.contains granted.now (T.elements.bit right) ≡ true) }
+    ensures past { IfSome result (λ right. bit < T.elements.bit right) }
     ensures least { IfSome result (λ right. (q : ℕ) → set.contains granted.now q ≡ true
         → bit < q → T.elements.bit right ≤ q) }
     ensures none { IfNone result ((q : ℕ) → set.contains granted.now q ≡ true → q ≤ bit) }
