@@ -23,8 +23,8 @@ module _ {T F : Type 0} (bit : T → ℕ) (g : Mut F (T × Unit {0}) Bool) (p : 
 
   pub kept : (f : F) (s t : BitSet) → Usual f → Retains bit g f s t → t ≡ retain s p
   kept f s t begun calls = same_set t (retain s p) (λ q.
-      let each = each_kept calls.0 (f, s) (calls.1, t) q begun calls.3 in
-      let listed = contains_ascending s q ∙ ap (is_in q) (sym calls.2) in
+      let each = each_kept calls.1.0 (f, s) (calls.0, t) q begun calls.1.2 in
+      let listed = contains_ascending s q ∙ ap (is_in q) (sym calls.1.1) in
       grind (arith, nat_tests, contains_retain s p q))
 
 module _ {T F : Type 0} (bit : T → ℕ) (g : Mut F (T × Unit {0}) Bool) (f : F) (p : ℕ → Bool) (s t : BitSet) (calls : Retains bit g f s t) where

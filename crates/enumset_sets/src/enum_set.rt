@@ -8,7 +8,7 @@ ghost use Rattle.enumset_repr.specs.BitSet as set;
 ghost use Rattle.enumset_repr.specs.Ends.{least, greatest};
 ghost use Rattle.enumset_repr.specs.Number.{bits};
 ghost use Rattle.enumset_sets.specs.Elements.{one_past_greatest, valid_bits};
-ghost use Rattle.enumset_sets.specs.Retained.{IsConstantTest, IsTest, Retains};
+ghost use Rattle.enumset_sets.specs.Retained.{IsConstantTest, IsTest, Retains, RetainsTo};
 
 use crate::element::EnumSetType;
 use crate::enum_set_iter::EnumSetIter;
@@ -541,6 +541,11 @@ impl<T: EnumSetType> EnumSet<T> {
 
     /// Removes each element for which `keep` returns false. It is called once for each, ascending by bit. If it tests the
     /// bit, the elements that pass stay; the test may read what `keep` captured, if no call changes it.
+    ///
+    /// No clause says what the calls leave in a variable that `keep` borrows and changes, like a count of its calls: the
+    /// variable has some value then. To count the removed elements, compare `len` before and after.
+    ///
+    /// Rust's `enumset` has no such call; `BTreeSet::retain` is its model.
     pub fn retain<F: FnMut(T) -> bool>(&mut self, keep: F)
         requires { F.IsAlwaysCallable keep }
         ensures calls { Retains T.elements.bit F.FnMut keep self.old self.new }
@@ -548,9 +553,18 @@ impl<T: EnumSetType> EnumSet<T> {
         ensures kept_unchanged { (p : ℕ → Bool) → IsConstantTest T.elements.bit F.FnMut keep p
             → self.new ≡ set.retain self.old p }
     {
-        let mut keeps = keep;
+        let mut keep_each = keep;
+        self.retain_by(&mut keep_each);
+    }
+
+    // The calls that `retain` makes. It takes the closure by reference, so that its clause can tell what they make of the
+    // closure: one call for each element, and no more.
+    fn retain_by<F: FnMut(T) -> bool>(&mut self, keep: &mut F)
+        requires { F.IsAlwaysCallable keep.old }
+        ensures { RetainsTo T.elements.bit F.FnMut keep.old keep.new self.old self.new }
+    {
         for element in self.iter() {
-            if !keeps(element) {
+            if !keep(element) {
                 self.remove(element);
             }
         }

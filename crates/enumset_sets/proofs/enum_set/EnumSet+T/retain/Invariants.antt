@@ -1,9 +1,0 @@
-use Rattle.std.specs.List.{FoldsTo}
-use Rattle.enumset_sets.specs.Retained.{Keeps}
-use Rattle.enumset_sets.proofs.enum_set.EnumSet+T.retain.Given as goal
-
--- the calls so far
-abbrev pub invariant-loop-element : goal.invariant-loop-element
-invariant-loop-element g l =
-    goal.F-IsAlwaysCallable g l.keeps
-    × FoldsTo (Keeps g.T.EnumSetType.elements.bit g.F.FnMut) (l.fn.keep, l.fn.self) l.yielded (l.keeps, l.self)
