@@ -1,7 +1,7 @@
 -- The tokens of lists and maps whose strings stand for themselves, one item or member at a time, with spaces of any kind
 -- between them.
 use Rattle.std.proofs.Common.{◌≡◌, ℕ, List, [], ◌∷◌, ◌++◌, Bool, true, false, drop, nat_lt, ◌==◌, refl, sym, ap, subst, ◌∙◌, arith, append-nil, ◌⊎◌, inl, inr}
-use Rattle.enumset.proofs.Common.{text_token, bool_token, serde_json_on_literals, is_space, AreSpaces, Passed, IsPlain, IsMember, boolean, compact_text}
+use Rattle.enumset.proofs.Common.{text_token, bool_token, serde_json_on_literals, is_space, AreSpaces, Passed, IsPlain, StartsWithMember, boolean, compact_text}
 use Rattle.enumset.proofs.JsonTokens.{tokens, Tokens, after_value}
 use Rattle.enumset.proofs.JsonDigits.{Ends}
 
@@ -78,7 +78,7 @@ boolean_item : (b : Bool) (rest : List ℕ) → Stops rest → tokens (34 ∷ 34
 boolean_item true rest stop = stop.3
 boolean_item false rest stop = stop.4
 
-pub member_item : (left s : List ℕ) (b : Bool) (rest : List ℕ) → IsMember left s b rest → IsItem (34 ∷ left) (text_token true s ∷ bool_token false b ∷ []) rest
+pub member_item : (left s : List ℕ) (b : Bool) (rest : List ℕ) → StartsWithMember left s b rest → IsItem (34 ∷ left) (text_token true s ∷ bool_token false b ∷ []) rest
 member_item left s b rest (p, (g, h, gs, hs, is)) stop =
     ap (λ l. tokens (34 ∷ l)) is
     ∙ string_before true s (g ++ 58 ∷ (h ++ (compact_text (boolean b) ++ rest))) _ p ((spaces g (58 ∷ (h ++ (compact_text (boolean b) ++ rest))) gs).1 ∙ (spaces h (compact_text (boolean b) ++ rest) hs).2 ∙ boolean_item b rest stop)

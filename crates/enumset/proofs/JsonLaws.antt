@@ -1,6 +1,6 @@
 -- What was written of a set is read as that set.
 use Rattle.std.proofs.Common.{◌≡◌, ℕ, ◌+◌, ◌*◌, ◌/◌, arith, true, None, Ok, Err, List, [], ◌∷◌, map, unwrap_or, position, refl, ap, ◌∙◌, map-id, lt-ltb}
-use Rattle.enumset.proofs.Common.{position_from, position_from-zero, map-map, cond-true, BitSet, is_subset, below, number, bits, words, bits_of, intersection_within, low_within, is_subset_wider, bits_number, number_within, Data, items_of, number_value, words_value, number_below, values_of, word_of, is_no_word, words_of, unless_fault, words_in, accepted, accepted_of, all_bits, set_of_number, set_of_words, kept_below, kept_of, mixed_set_of_number, mixed_set_of_words, Unknown, Drop, Refuse, NotAWord, OutOfRange, UnknownBits}
+use Rattle.enumset.proofs.Common.{position_from, position_from-zero, map-map, cond-true, BitSet, is_subset, below, number, bits, words, bits_of, intersection_within, low_within, is_subset_wider, bits_number, number_within, Data, items_of, number_value, words_value, number_below, values_of, word_of, is_no_word, words_of, unless_fault, words_in, accepted, and_then, set_of_number, set_of_words, kept_below, mixed_set_of_number, mixed_set_of_words, Unknown, Drop, Refuse, NotAWord, OutOfRange, UnknownBits}
 use Rattle.enumset_sets.specs.Laws.Conversions.{words_within}
 
 -- a set of valid bits is taken as it is, and so is one below the width
@@ -19,10 +19,10 @@ number_read s k fits = cond-true _ (Ok (number s)) (Err OutOfRange) (lt-ltb _ _ 
 
 pub number_accepted : (s valid : BitSet) (k : ℕ) (unknown : Unknown) → is_subset s (below k) ≡ true → set_of_number valid k unknown (number_value (number s)) ≡ accepted valid unknown s
 number_accepted s valid k unknown fits =
-    ap (accepted_of bits valid unknown) (number_read s k fits) ∙ ap (accepted valid unknown) (bits_number s)
+    ap (and_then (λ n. accepted valid unknown (bits n))) (number_read s k fits) ∙ ap (accepted valid unknown) (bits_number s)
 
 pub mixed_number_and_back : (s : BitSet) (k : ℕ) → is_subset s (below k) ≡ true → mixed_set_of_number k (number_value (number s)) ≡ Ok s
-mixed_number_and_back s k fits = ap all_bits (number_read s k fits) ∙ ap Ok (bits_number s)
+mixed_number_and_back s k fits = ap (and_then (λ n. Ok (bits n))) (number_read s k fits) ∙ ap Ok (bits_number s)
 
 -- ---- words
 
@@ -45,11 +45,11 @@ words_back ns =
 -- words that lose nothing of a set are read as the words that they are
 pub words_accepted : (s valid : BitSet) (n : ℕ) (unknown : Unknown) → bits_of (words s n) ≡ s → set_of_words valid unknown (words_value (words s n)) ≡ accepted valid unknown s
 words_accepted s valid n unknown back =
-    ap (accepted_of bits_of valid unknown) (words_back (words s n)) ∙ ap (accepted valid unknown) back
+    ap (and_then (λ ns. accepted valid unknown (bits_of ns))) (words_back (words s n)) ∙ ap (accepted valid unknown) back
 
 pub words_kept : (s : BitSet) (width n : ℕ) (past : Unknown) → is_subset s (below width) ≡ true → bits_of (words s n) ≡ s → mixed_set_of_words width past (words_value (words s n)) ≡ Ok s
 words_kept s width n past within back =
-    ap (kept_of width past) (words_back (words s n)) ∙ ap (kept_below width past) back ∙ kept_within s width past within
+    ap (and_then (λ ns. kept_below width past (bits_of ns))) (words_back (words s n)) ∙ ap (kept_below width past) back ∙ kept_within s width past within
 
 -- as many words as a representation of a width has lose nothing of a set below the width
 pub all_in_words : (s : BitSet) (n width : ℕ) → n ≡ (width + 63) / 64 → is_subset s (below width) ≡ true → bits_of (words s n) ≡ s

@@ -1,12 +1,9 @@
 -- Names of members that rise, as many as there are members, are the names of all members in the order of a map.
-use Rattle.std.proofs.Common.{◌≡◌, ◌⊎◌, inl, inr, ℕ, List, [], ◌∷◌, Bor, refl, sym, ap, ◌∙◌, subst, nat_cmp, Ordering, Less, Equal, Greater, ◌<◌, ◌≤◌, ◌+◌, length, get_or, ◌-◌, suc, arith, is_eq, true≢false, is_lt, true}
+use Rattle.std.proofs.Common.{◌≡◌, ◌⊎◌, inl, inr, ℕ, List, [], ◌∷◌, Bor, refl, sym, ap, ◌∙◌, subst, nat_cmp, Ordering, Less, Equal, Greater, ◌≤◌, ◌+◌, length, suc, arith, is_eq, true≢false, is_lt, true}
 use Rattle.enumset.proofs.Common.{⊤, Data, nat_list_cmp_total, recursion_from_All, IsTotalOrder, slice_cmp, AllByRecursion, IsStrictlySortedBy, ordering_reverse, match_ordering, BitSet, ascending, len_ascending, boolean, Members, member, members_in, no_members, put, AreRising, IsName, AreMembers, with_bits_true, Names, name_of}
 use Rattle.std.proofs.lemmas.Cmp.{on_total, tied_itself}
-use Rattle.std.proofs.lemmas.List.Edits.{length-insert, get_or-insert_at, get_or-insert_below, get_or-insert_above}
-use Rattle.std.proofs.lemmas.Map.Keys.{Less-from_sorted, sorted_from_all_adjacent}
 use Rattle.std.proofs.lemmas.List.Elements.{All-weaker}
 use Rattle.enumset.proofs.NamesTaken.{Each, each_put, same_key}
-use Rattle.std.specs.List.{insert}
 
 -- names, as the code has them
 abbrev pub Texts : Type 0
@@ -117,12 +114,3 @@ pub less : (o : Ordering) → is_lt o ≡ true → o ≡ Less
 less Less is = refl
 less Equal is = absurd (cc)
 less Greater is = absurd (cc)
-
--- a name that comes after the one before a place, and before the one there
-pub put_between : (ns : Texts) (i : ℕ) (name d : Bor (List ℕ)) → i ≤ length ns → (0 < i → by_bytes (get_or ns (i - 1) d) name ≡ Less) → (i < length ns → by_bytes name (get_or ns i d) ≡ Less) → AreRising ns → AreRising (insert ns i name)
-put_between ns i name d inside after before r = sorted_from_all_adjacent by_bytes_total (insert ns i name) d each
-  where
-    each : (k : ℕ) → k + 1 < length (insert ns i name) → by_bytes (get_or (insert ns i name) k d) (get_or (insert ns i name) (k + 1) d) ≡ Less
-    each k within =
-        let long = length-insert ns i name inside in
-        grind (arith, long, within, after, before, get_or-insert_below ns i name d k, get_or-insert_below ns i name d (k + 1), get_or-insert_at ns i name d, get_or-insert_above ns i name d k, get_or-insert_above ns i name d (k - 1), Less-from_sorted by_bytes ns k (k + 1) d r, Less-from_sorted by_bytes ns (k - 1) k d r)

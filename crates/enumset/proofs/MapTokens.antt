@@ -1,6 +1,6 @@
 -- What serde_json reads of the tokens of an object of booleans.
 use Rattle.std.proofs.Common.{◌≡◌, ◌+◌, ◌≤◌, ℕ, zero, suc, List, [], ◌∷◌, ◌++◌, length, Some, refl, ap, ◌∙◌, arith, Bool, true, false, option_map}
-use Rattle.enumset.proofs.Common.{object, boolean, Members, no_members, member, put, read, of_members, outline, members_outline, text_token, bool_token, serde_json_on_literals, AreSpaces, Passed, IsMember}
+use Rattle.enumset.proofs.Common.{object, boolean, Members, no_members, member, put, read, of_members, outline, members_outline, text_token, bool_token, serde_json_on_literals, AreSpaces, Passed, StartsWithMember}
 use Rattle.enumset.proofs.JsonTokens.{tokens, Tokens}
 use Rattle.enumset.proofs.JsonItems.{member_item, quote_next, next_item, passed, opens, closes, last_item}
 use Rattle.enumset.proofs.MapHandles.{value, members, whole, members_end, member_step, object_value}
@@ -42,7 +42,7 @@ opened text rest ms found later =
     let fuel = ap (λ n. members 126 n (member_tokens ms)) (count_tokens ms) ∙ all_members 125 (length ms + length ms) ms (omega arith) in
     whole text (outline (object (listed ms))) (ap (value 127) all ∙ object_value 126 (member_tokens ms) (listed ms) fuel) ∙ ap (option_map object) (put_in ms no_members)
 
-module _ (left name : List ℕ) (b : Bool) (rest : List ℕ) (here : IsMember left name b rest) where
+module _ (left name : List ℕ) (b : Bool) (rest : List ℕ) (here : StartsWithMember left name b rest) where
   abbrev here_are : Tokens
   here_are = text_token true name ∷ bool_token false b ∷ []
 

@@ -1,6 +1,6 @@
 -- What a scanner of maps keeps, and what the map that it has read is as a set.
 use Rattle.std.proofs.Common.{◌≡◌, ◌+◌, ℕ, Bool, true, false, cond, Some, None, Ok, List, [], ◌∷◌, refl, sym, ap, subst, ◌∙◌, inr, true≢false, arith, option_map, filter_map}
-use Rattle.enumset.proofs.Common.{cons_option, position_from, position_from-zero, insert_comm, contains_inserted, members, nat_tests, BitSet, empty, contains, insert, from_list, Data, boolean, object, Members, no_members, member, put, read, Names, bit_named, unless_fault, IsMember, members_in, names_in, true_names, is_no_boolean, is_unknown, known_set, decided, set_of_map, AreSpaces, Passed, IsResult, IsReadOf, Unknown, NotABoolean}
+use Rattle.enumset.proofs.Common.{cons_option, position_from, position_from-zero, insert_comm, contains_inserted, members, nat_tests, BitSet, empty, contains, insert, from_list, Data, boolean, object, Members, no_members, member, put, read, Names, bit_named, unless_fault, StartsWithMember, members_in, names_in, true_names, is_no_boolean, is_unknown, known_set, decided, set_of_map, AreSpaces, Passed, IsResult, IsReadOf, Unknown, NotABoolean}
 use Rattle.enumset.proofs.JsonTokens.{tokens}
 use Rattle.enumset.proofs.JsonItems.{passed, closes, no_item}
 use Rattle.enumset.proofs.MapTokens.{put_all, member_tokens, opened, next_member, last_member}
@@ -68,7 +68,7 @@ module _ (names : Names) where
   unfolding from_list
   scan_begins text bytes rest left same found quote = (no_members, tt, refl, λ ms later. ap read (sym same) ∙ opened bytes rest ms found (passed rest 34 left quote ∙ later))
 
-  module _ (text left : List ℕ) (seen s : BitSet) (name : List ℕ) (b : Bool) (rest : List ℕ) (c : ℕ) (so_far : Scanned text left seen s) (here : IsMember left name b rest) (is : bit_named names name ≡ Some c) (new : contains seen c ≡ false) where
+  module _ (text left : List ℕ) (seen s : BitSet) (name : List ℕ) (b : Bool) (rest : List ℕ) (c : ℕ) (so_far : Scanned text left seen s) (here : StartsWithMember left name b rest) (is : bit_named names name ≡ Some c) (new : contains seen c ≡ false) where
     abbrev done : Members
     done = put name (boolean b) so_far.0
 

@@ -1,15 +1,15 @@
 -- JSON values as sets, and what is wrong with one that is none.
 --     width_of      how many bits a width has
+--     and_then      what comes of what was read, or the fault
 --     whole_number      the whole number from 0 to 2 ^ 64 - 1 that a value holds, or the fault
---     below_power, number_below      what was read, or the fault where it is not below 2 ^ width;  the number of a value, so
+--     number_below      the number of a value, or the fault, also where it is not below 2 ^ width
 --     unless_fault      a result, or the fault of a place, if there is one
 --     values_of      the elements of an array
 --     word_of, words_of      the word that an element holds, if it holds one;  those of all elements, 0 where one holds none
 --     is_no_word      the test that finds a fault
 --     words_among, words_in      the words that the elements of an array hold, or the fault;  that a value holds
---     accepted, accepted_of      the set of valid bits that is taken of a set, or the fault;  of what was read
---     all_bits      the set of the number that was read, or the fault
---     kept_below, kept_of      the set of bits below a width that is taken of a set, or the fault;  of words that were read
+--     accepted      the set of valid bits that is taken of a set, or the fault
+--     kept_below      the set of bits below a width that is taken of a set, or the fault
 --     set_of_number, mixed_set_of_number, set_of_words, mixed_set_of_words      the set that a value is read as, or the fault
 --     number_value, words_value      the values that a number and words are written as
 use Rattle.std.specs.Prelude.{ℕ, Bool, ◌^◌, List, [], ◌∷◌, map, nat_lt, position, Option, Some, None, is_none, unwrap_or, option_and_then, Result, Ok, Err, if◌then◌else◌}
@@ -34,6 +34,10 @@ width_of U64 = 64
 
 -- ---- what is read
 
+abbrev pub and_then : {A B : Type 0} → (A → Result B JsonFault) → Result A JsonFault → Result B JsonFault
+and_then next (Ok read) = next read
+and_then next (Err fault) = Err fault
+
 abbrev pub whole_number : Data → Result ℕ JsonFault
 whole_number (number (unsigned n)) = Ok n
 whole_number (number (negative z)) = Err NotWhole
@@ -44,12 +48,8 @@ whole_number (string s) = Err NotANumber
 whole_number (array items) = Err NotANumber
 whole_number (object ms) = Err NotANumber
 
-abbrev pub below_power : ℕ → Result ℕ JsonFault → Result ℕ JsonFault
-below_power width (Ok n) = if nat_lt n (2 ^ width) then Ok n else Err OutOfRange
-below_power width (Err fault) = Err fault
-
 abbrev pub number_below : ℕ → Data → Result ℕ JsonFault
-number_below width value = below_power width (whole_number value)
+number_below width value = and_then (λ n. if nat_lt n (2 ^ width) then Ok n else Err OutOfRange) (whole_number value)
 
 -- what `as_u64` gives
 abbrev pub word_of : Data → Option ℕ
@@ -82,34 +82,22 @@ abbrev pub accepted : BitSet → Unknown → BitSet → Result BitSet JsonFault
 accepted valid Drop s = Ok (intersection s valid)
 accepted valid Refuse s = if is_subset s valid then Ok s else Err UnknownBits
 
-abbrev pub accepted_of : {A : Type 0} → (A → BitSet) → BitSet → Unknown → Result A JsonFault → Result BitSet JsonFault
-accepted_of set valid unknown (Ok read) = accepted valid unknown (set read)
-accepted_of set valid unknown (Err fault) = Err fault
-
 abbrev pub set_of_number : BitSet → ℕ → Unknown → Data → Result BitSet JsonFault
-set_of_number valid width unknown value = accepted_of bits valid unknown (number_below width value)
+set_of_number valid width unknown value = and_then (λ n. accepted valid unknown (bits n)) (number_below width value)
 
 abbrev pub set_of_words : BitSet → Unknown → Data → Result BitSet JsonFault
-set_of_words valid unknown value = accepted_of bits_of valid unknown (words_in value)
-
-abbrev pub all_bits : Result ℕ JsonFault → Result BitSet JsonFault
-all_bits (Ok n) = Ok (bits n)
-all_bits (Err fault) = Err fault
+set_of_words valid unknown value = and_then (λ ns. accepted valid unknown (bits_of ns)) (words_in value)
 
 abbrev pub mixed_set_of_number : ℕ → Data → Result BitSet JsonFault
-mixed_set_of_number width value = all_bits (number_below width value)
+mixed_set_of_number width value = and_then (λ n. Ok (bits n)) (number_below width value)
 
 -- bits at and past the width are left out, or refused
 abbrev pub kept_below : ℕ → Unknown → BitSet → Result BitSet JsonFault
 kept_below width Drop s = Ok (low s width)
 kept_below width Refuse s = if is_subset s (below width) then Ok s else Err OutOfRange
 
-abbrev pub kept_of : ℕ → Unknown → Result (List ℕ) JsonFault → Result BitSet JsonFault
-kept_of width past (Ok ns) = kept_below width past (bits_of ns)
-kept_of width past (Err fault) = Err fault
-
 abbrev pub mixed_set_of_words : ℕ → Unknown → Data → Result BitSet JsonFault
-mixed_set_of_words width past value = kept_of width past (words_in value)
+mixed_set_of_words width past value = and_then (λ ns. kept_below width past (bits_of ns)) (words_in value)
 
 -- ---- what is written
 

@@ -7,17 +7,18 @@
 --     decided      the set that was read, or the fault of the first unknown name
 --     named_set      the set of the names that are known, where unknown names are left out, or the first is the fault
 --     names_in, true_names      the names of members;  of those whose value is `true`
---     set_of_values, set_of_members      the set that items of an array are read as, or the fault;  that members of an object are
+--     set_of_values, set_of_items      the set that values in a list are read as, or the fault;  that the items of an array are
+--     set_of_members, set_of_object      the set that members in a list are read as, or the fault;  that those of an object are
 --     set_of_list, set_of_map      the set that a value is read as, or the fault
 --     list_value, map_value      the values that a set is written as
 --     with_bits_true      members, with `true` at the names of further bits
 --     in_map      the members of a set in the order in which a map has their names
 --     accepted_by_name      the set of valid bits that is taken of a set whose members' names come in an order, or the fault
-use Rattle.std.specs.Prelude.{ℕ, Bool, true, false, if◌then◌else◌, is_none, List, [], ◌∷◌, map, filter, filter_map, position, Option, unwrap_or, Result, Ok, Err}
+use Rattle.std.specs.Prelude.{ℕ, Bool, true, false, if◌then◌else◌, is_none, List, [], ◌∷◌, map, filter, filter_map, position, Option, Some, None, unwrap_or, Result, Ok, Err}
 use Rattle.std.specs.List.{prefix_len}
 use Rattle.enumset_repr.specs.BitSet.{BitSet, from_list, ascending, contains, intersection, is_subset}
-use Rattle.serde_json.specs.Data.{Data, null, boolean, number, string, array, object, Members, no_members, member, put}
-use Rattle.serde_json.specs.Find.{as_str, as_bool}
+use Rattle.serde_json.specs.Data.{Data, boolean, string, array, object, Items, Members, no_members, member, put}
+use Rattle.serde_json.specs.Find.{as_str, as_bool, as_array, as_object}
 use Rattle.serde_json.specs.View.{items_of}
 use Rattle.enumset.specs.Json.{unless_fault, values_of}
 use Rattle.enumset.specs.Names.{Names, name_of, bit_named}
@@ -63,13 +64,12 @@ abbrev pub set_of_values : Names → Unknown → List Data → Result BitSet Jso
 set_of_values names unknown values =
     unless_fault NotAText (position is_no_text values) (named_set names unknown (map text_of values) (map text_of values))
 
+abbrev pub set_of_items : Names → Unknown → Option Items → Result BitSet JsonFault
+set_of_items names unknown None = Err NotAnArray
+set_of_items names unknown (Some items) = set_of_values names unknown (values_of items)
+
 abbrev pub set_of_list : Names → Unknown → Data → Result BitSet JsonFault
-set_of_list names unknown (array items) = set_of_values names unknown (values_of items)
-set_of_list names unknown null = Err NotAnArray
-set_of_list names unknown (boolean b) = Err NotAnArray
-set_of_list names unknown (number n) = Err NotAnArray
-set_of_list names unknown (string s) = Err NotAnArray
-set_of_list names unknown (object ms) = Err NotAnArray
+set_of_list names unknown value = set_of_items names unknown (as_array value)
 
 abbrev pub names_in : List (List ℕ × Data) → List (List ℕ)
 names_in ms = map (λ m. m.0) ms
@@ -81,13 +81,12 @@ abbrev pub set_of_members : Names → Unknown → List (List ℕ × Data) → Re
 set_of_members names unknown ms =
     unless_fault NotABoolean (position is_no_boolean ms) (named_set names unknown (names_in ms) (true_names ms))
 
+abbrev pub set_of_object : Names → Unknown → Option Members → Result BitSet JsonFault
+set_of_object names unknown None = Err NotAnObject
+set_of_object names unknown (Some ms) = set_of_members names unknown (members_in ms)
+
 abbrev pub set_of_map : Names → Unknown → Data → Result BitSet JsonFault
-set_of_map names unknown (object ms) = set_of_members names unknown (members_in ms)
-set_of_map names unknown null = Err NotAnObject
-set_of_map names unknown (boolean b) = Err NotAnObject
-set_of_map names unknown (number n) = Err NotAnObject
-set_of_map names unknown (string s) = Err NotAnObject
-set_of_map names unknown (array items) = Err NotAnObject
+set_of_map names unknown value = set_of_object names unknown (as_object value)
 
 -- ---- what is written
 

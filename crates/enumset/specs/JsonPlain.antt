@@ -4,7 +4,7 @@
 --     is_space, AreSpaces      a byte that may stand between tokens;  bytes
 --     Passed      spaces, a byte, and what follows it
 --     IsTextOf, IsTextIfPlain      the text that a value is written as, which reads as the value;  it, where there is a text
---     IsMember      a plain name up to its closing quote and a boolean, with spaces, and what follows them
+--     StartsWithMember      a plain name up to its closing quote and a boolean, with spaces, and what follows them
 --     AreRising      names, each of whose bytes come before those of later ones
 --     IsName      whether a text is the name of one of some bits
 --     AreMembers      the names of a set's members, in the order of their bytes
@@ -41,8 +41,8 @@ IsTextOf value text = (text ≡ compact_text value) × (read text ≡ Some value
 abbrev pub IsTextIfPlain : {Z E : Type 0} → Data → Result (Option (String Z)) E → Type 0
 IsTextIfPlain value result = IfOk result (λ o. IfSome o (λ text. IsTextOf value (string_bytes text)))
 
-abbrev pub IsMember : List ℕ → List ℕ → Bool → List ℕ → Type 0
-IsMember text name b rest =
+abbrev pub StartsWithMember : List ℕ → List ℕ → Bool → List ℕ → Type 0
+StartsWithMember text name b rest =
     IsPlain name × ((g : List ℕ) × (h : List ℕ) × AreSpaces g × AreSpaces h × (text ≡ name ++ 34 ∷ (g ++ 58 ∷ (h ++ (compact_text (boolean b) ++ rest)))))
 
 abbrev pub AreRising : List (Bor (List ℕ)) → Type 0

@@ -51,10 +51,10 @@ pub trait EnumSetNames: EnumSetType + 'static {
     ghost named: { IsNaming Self.elements.bit_list names };
 }
 
-// The value that has this name, if there is one. The search begins at the place `next`, then goes from the front, since
-// most texts have their names in the order of the list; `next` becomes the place after the name that was found.
+/// The value that has this name, if there is one. The search begins at the place `next`, then goes from the front, since
+/// most texts have their names in the order of the list; `next` becomes the place after the name that was found.
 #[inline(always)]
-pub(crate) fn find_name<T: EnumSetNames>(text: &[u8], next: &mut usize) -> Option<T>
+pub(crate) fn find_value<T: EnumSetNames>(text: &[u8], next: &mut usize) -> Option<T>
     ensures { option_map T.elements.bit result
         ≡ bit_named (names_of T.elements T.names) text.now }
 {
@@ -70,7 +70,7 @@ pub(crate) fn find_name<T: EnumSetNames>(text: &[u8], next: &mut usize) -> Optio
     Some(value)
 }
 
-// The first value of a list that has this name, and its place.
+/// The first value of a list that has this name, and its place.
 #[inline(always)]
 fn find_in<T: EnumSetType>(names: &[(T, &str)], text: &[u8]) -> Option<(usize, T)>
     ensures within { IfSome result (λ found. found.0 < length names.now) }
@@ -85,7 +85,7 @@ fn find_in<T: EnumSetType>(names: &[(T, &str)], text: &[u8]) -> Option<(usize, T
     None
 }
 
-// Whether a name is these bytes. The last eight are compared first, since names that begin alike seldom end alike.
+/// Whether a name is these bytes. The last eight are compared first, since names that begin alike seldom end alike.
 #[inline(always)]
 fn has_bytes(name: &str, text: &[u8]) -> bool
     ensures { result ≡ bytes_eq name.now text.now }

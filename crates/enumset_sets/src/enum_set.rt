@@ -557,8 +557,8 @@ impl<T: EnumSetType> EnumSet<T> {
         self.retain_by(&mut keep_each);
     }
 
-    // The calls that `retain` makes. It takes the closure by reference, so that its clause can tell what they make of the
-    // closure: one call for each element, and no more.
+    /// Makes the calls of [`retain`](EnumSet::retain). It takes the closure by reference, so that its clause can tell what
+    /// they make of the closure: one call for each element, and no more.
     fn retain_by<F: FnMut(T) -> bool>(&mut self, keep: &mut F)
         requires { F.IsAlwaysCallable keep.old }
         ensures { RetainsTo T.elements.bit F.FnMut keep.old keep.new self.old self.new }

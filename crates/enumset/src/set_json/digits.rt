@@ -11,7 +11,7 @@ static PAIRS: [u8; 200] = *b"\
     0001020304050607080910111213141516171819202122232425262728293031323334353637383940414243444546474849\
     5051525354555657585960616263646566676869707172737475767778798081828384858687888990919293949596979899";
 
-// The string of ASCII bytes. That they are UTF-8 is proved and not tested: the test would take as long as the digits.
+/// The string of ASCII bytes. That they are UTF-8 is proved and not tested: the test would take as long as the digits.
 #[inline(always)]
 pub(super) fn ascii_text(bytes: Vec<u8>) -> String
     requires { IsAscii bytes.items }
@@ -20,7 +20,7 @@ pub(super) fn ascii_text(bytes: Vec<u8>) -> String
     unsafe { String::from_utf8_unchecked(bytes) }
 }
 
-// Appends a number's digits, over room for twenty. In a loop each division would wait for the one before it.
+/// Appends a number's digits, over room for twenty. In a loop each division would wait for the one before it.
 #[inline(always)]
 pub(super) fn push_digits(bytes: &mut Vec<u8>, number: u64) -> Result<(), AllocError>
     ensures { OnOk result (bytes.new.items ≡ bytes.old.items ++ decimal number) }
@@ -40,7 +40,7 @@ pub(super) fn push_digits(bytes: &mut Vec<u8>, number: u64) -> Result<(), AllocE
     Ok(())
 }
 
-// Writes the digits of a number below 10^12 from a place of a row on, and returns the place after them.
+/// Writes the digits of a number below 10^12 from a place of a row on, and returns the place after them.
 #[inline(always)]
 fn put_twelve(row: &mut [u8], at: usize, number: u64) -> usize
     requires small { number < 1000000000000 }
@@ -62,7 +62,7 @@ fn put_twelve(row: &mut [u8], at: usize, number: u64) -> usize
     next + 8
 }
 
-// The same, of at most four digits.
+/// The same, of at most four digits.
 #[inline(always)]
 fn put_short(row: &mut [u8], at: usize, number: u64) -> usize
     requires small { number < 10000 }
@@ -87,7 +87,7 @@ fn put_short(row: &mut [u8], at: usize, number: u64) -> usize
     at + 4
 }
 
-// Writes four digits to a place of a row.
+/// Writes four digits to a place of a row.
 #[inline(always)]
 fn put_four(row: &mut [u8], at: usize, number: u64)
     requires small { number < 10000 }
@@ -99,7 +99,7 @@ fn put_four(row: &mut [u8], at: usize, number: u64)
     put_pair(row, at + 2, number % 100);
 }
 
-// Writes two digits to a place of a row.
+/// Writes two digits to a place of a row.
 #[inline(always)]
 fn put_pair(row: &mut [u8], at: usize, pair: u64)
     requires small { pair < 100 }

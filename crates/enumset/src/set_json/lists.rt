@@ -8,7 +8,7 @@ ghost use Rattle.enumset.specs.declared.set_json.fault.JsonFault.TheVariants.{Ou
 
 use super::fault::JsonFault;
 use super::unknown::{Unknown, decided, take_name};
-use crate::names::{EnumSetNames, find_name};
+use crate::names::{EnumSetNames, find_value};
 use enumset_sets::EnumSet;
 use serde_json::Value;
 use std::alloc::Global;
@@ -41,7 +41,7 @@ pub fn from_list<T: EnumSetNames>(value: &Value, unknown: Unknown) -> Result<Enu
     let mut next = 0;
     for (place, item) in items.iter().enumerate() {
         let text = item.as_str().ok_or(JsonFault::NotAText(place))?;
-        let value = find_name(text.as_bytes(), &mut next);
+        let value = find_value(text.as_bytes(), &mut next);
         take_name(&mut set, &mut first_unknown, value, true, place);
     }
     decided(set, first_unknown, unknown)

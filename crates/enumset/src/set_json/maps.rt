@@ -8,7 +8,7 @@ ghost use Rattle.enumset.specs.declared.set_json.fault.JsonFault.TheVariants.{Ou
 
 use super::fault::JsonFault;
 use super::unknown::{Unknown, decided, take_name};
-use crate::names::{EnumSetNames, find_name};
+use crate::names::{EnumSetNames, find_value};
 use enumset_sets::EnumSet;
 use serde_json::{Map, Value, put};
 use std::alloc::Global;
@@ -42,7 +42,7 @@ pub fn from_map<T: EnumSetNames>(value: &Value, unknown: Unknown) -> Result<Enum
     let mut next = 0;
     for (place, (name, value)) in members.iter().enumerate() {
         let is_member = value.as_bool().ok_or(JsonFault::NotABoolean(place))?;
-        let element = find_name(name.as_bytes(), &mut next);
+        let element = find_value(name.as_bytes(), &mut next);
         take_name(&mut set, &mut first_unknown, element, is_member, place);
     }
     decided(set, first_unknown, unknown)

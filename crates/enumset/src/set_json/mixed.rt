@@ -11,7 +11,7 @@ ghost use Rattle.enumset.specs.declared.set_json.fault.JsonFault.TheVariants.{Ou
 
 use super::fault::JsonFault;
 use super::unknown::Unknown;
-use super::width::number_below;
+use super::width::{fits, whole_number};
 use super::words::{read_words, words_of};
 use enumset_mixed::MixedEnumSet;
 use enumset_repr::EnumSetTypeRepr;
@@ -30,10 +30,18 @@ pub fn mixed_to_number<T: EnumSetTypeWithRepr>(
     ensures succeeds { IsOk result }
     ensures value { IfOk result (λ value. view value ≡ number_value (number set.now)) }
 {
+    Ok(Value::from(mixed_number_of(set)))
+}
+
+/// The set's number, unknown bits included.
+pub(super) fn mixed_number_of<T: EnumSetTypeWithRepr>(set: &MixedEnumSet<T>) -> u64
+    requires { T.Repr.WIDTH ≤ 64 }
+    ensures { result ≡ number set.now }
+{
     let repr = set.as_repr();
     // That the members are below the width is a law of values.
     repr.learn_is_value();
-    Ok(Value::from(repr.to_u64()))
+    repr.to_u64()
 }
 
 /// Returns the set of all bits of a number below two to the representation's width, which may be 64 at most.
@@ -46,8 +54,19 @@ pub fn mixed_from_number<T: EnumSetTypeWithRepr>(
     requires narrow { T.Repr.WIDTH ≤ 64 }
     ensures { result ≡ mixed_set_of_number T.Repr.WIDTH (view value.now) }
 {
-    let bits = number_below(value, <T::Repr as EnumSetTypeRepr>::WIDTH)?;
-    Ok(MixedEnumSet::from_repr(T::Repr::from_u64(bits)))
+    mixed_set_of(whole_number(value)?)
+}
+
+/// The set of all bits of a number, if it is below two to the representation's width.
+pub(super) fn mixed_set_of<T: EnumSetTypeWithRepr>(
+    number: u64,
+) -> Result<MixedEnumSet<T>, JsonFault>
+    ensures { result ≡ mixed_set_of_number T.Repr.WIDTH (number_value number) }
+{
+    if !fits(number, <T::Repr as EnumSetTypeRepr>::WIDTH) {
+        return Err(JsonFault::OutOfRange);
+    }
+    Ok(MixedEnumSet::from_repr(T::Repr::from_u64(number)))
 }
 
 /// Returns the set's words of 64 bits, the lowest first, as many as its representation has, unknown bits included. The
@@ -81,7 +100,7 @@ pub fn mixed_from_words<T: EnumSetTypeWithRepr>(
     kept_below(repr, is_whole, past)
 }
 
-// The set of the bits below the representation's width, unless there are others and such bits are refused.
+/// The set of the bits below the representation's width, unless there are others and such bits are refused.
 pub(super) fn kept_below<T: EnumSetTypeWithRepr>(
     repr: T::Repr,
     is_whole: bool,

@@ -11,9 +11,11 @@ ghost use Rattle.enumset.specs.JsonReads.{IsReadOf};
 ghost use Rattle.enumset.specs.declared.set_json.fault.JsonFault.TheVariants.{OutOfMemory};
 
 use super::fault::JsonFault;
-use super::mixed::{kept_below, mixed_from_number, mixed_from_words, mixed_to_number};
-use super::plain_numbers::{number_text, plain_number};
-use super::plain_words::{plain_words, words_text};
+use super::mixed::{
+    kept_below, mixed_from_number, mixed_from_words, mixed_number_of, mixed_set_of,
+};
+use super::plain_numbers::{write_plain_number, read_plain_number};
+use super::plain_words::{read_plain_words, write_plain_words};
 use super::unknown::Unknown;
 use enumset_mixed::MixedEnumSet;
 use enumset_repr::EnumSetTypeRepr;
@@ -33,7 +35,7 @@ pub fn mixed_to_number_text<T: EnumSetTypeWithRepr>(
         read (string_bytes text) ≡ Some (number_value (number set.now))) }
     ensures fault { IfErr result (λ fault. fault ≡ OutOfMemory) }
 {
-    Ok(number_text(alloc, mixed_to_number(alloc, set)?)?)
+    Ok(write_plain_number(alloc, mixed_number_of(set))?)
 }
 
 /// Writes the set's words of 64 bits as an array without spaces, the lowest first, as many as its representation has,
@@ -49,7 +51,7 @@ pub fn mixed_to_words_text<T: EnumSetTypeWithRepr>(
         ≡ Some (words_value (words set.now T.Repr.PREFERRED_ARRAY_LEN))) }
     ensures fault { IfErr result (λ fault. fault ≡ OutOfMemory) }
 {
-    Ok(words_text(alloc, &set.as_repr())?)
+    Ok(write_plain_words(alloc, &set.as_repr())?)
 }
 
 /// Reads a set from a string of JSON that is a number, as [`mixed_from_number`] reads it from the number. The
@@ -63,8 +65,8 @@ pub fn mixed_from_number_text<T: EnumSetTypeWithRepr>(
     requires narrow { T.Repr.WIDTH ≤ 64 }
     ensures { IsReadOf (mixed_set_of_number T.Repr.WIDTH) text.now result }
 {
-    match plain_number(text) {
-        Some(number) => mixed_from_number(&Value::from(number)),
+    match read_plain_number(text) {
+        Some(number) => mixed_set_of(number),
         None => mixed_from_number(&Value::from_str(alloc, text)?),
     }
 }
@@ -79,7 +81,7 @@ pub fn mixed_from_words_text<T: EnumSetTypeWithRepr>(
 ) -> Result<MixedEnumSet<T>, JsonFault>
     ensures { IsReadOf (mixed_set_of_words T.Repr.WIDTH past) text.now result }
 {
-    match plain_words(text) {
+    match read_plain_words(text) {
         Some((repr, is_whole)) => kept_below(repr, is_whole, past),
         None => mixed_from_words(&Value::from_str(alloc, text)?, past),
     }

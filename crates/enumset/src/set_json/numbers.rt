@@ -10,7 +10,7 @@ ghost use Rattle.enumset_sets.specs.Elements.{valid_bits};
 
 use super::fault::JsonFault;
 use super::unknown::Unknown;
-use super::width::{JsonWidth, fits, number_below};
+use super::width::{JsonWidth, fits, whole_number};
 use enumset_sets::{EnumSet, EnumSetType};
 use serde_json::Value;
 use std::alloc::Global;
@@ -26,9 +26,21 @@ pub fn to_number<T: EnumSetType>(
     ensures value { IfOk result (λ value. view value ≡ number_value (number set.now)) }
     ensures fault { IfErr result (λ fault. fault ≡ TooWide) }
 {
+    Ok(Value::from(number_of(set, width)?))
+}
+
+/// The set's number, if each member is below the width.
+pub(super) fn number_of<T: EnumSetType>(
+    set: &EnumSet<T>,
+    width: JsonWidth,
+) -> Result<u64, JsonFault>
+    ensures fits { IsOk result ↔ IsTrue (is_subset set.now (below (width_of width))) }
+    ensures value { IfOk result (λ n. n ≡ number set.now) }
+    ensures fault { IfErr result (λ fault. fault ≡ TooWide) }
+{
     let bits = width.bits();
     match set.try_as_u64() {
-        Some(number) if fits(number, bits) => Ok(Value::from(number)),
+        Some(number) if fits(number, bits) => Ok(number),
         _ => Err(JsonFault::TooWide),
     }
 }
@@ -46,9 +58,23 @@ pub fn from_number<T: EnumSetType>(
     ensures { result
         ≡ set_of_number (valid_bits T.elements) (width_of width) unknown (view value.now) }
 {
-    let bits = number_below(value, width.bits())?;
+    set_of(whole_number(value)?, width, unknown)
+}
+
+/// The set of the valid bits of a number, if it is below two to the width.
+pub(super) fn set_of<T: EnumSetType>(
+    number: u64,
+    width: JsonWidth,
+    unknown: Unknown,
+) -> Result<EnumSet<T>, JsonFault>
+    ensures { result
+        ≡ set_of_number (valid_bits T.elements) (width_of width) unknown (number_value number) }
+{
+    if !fits(number, width.bits()) {
+        return Err(JsonFault::OutOfRange);
+    }
     match unknown {
-        Unknown::Drop => Ok(EnumSet::from_u64_truncated(bits)),
-        Unknown::Refuse => EnumSet::try_from_u64(bits).ok_or(JsonFault::UnknownBits),
+        Unknown::Drop => Ok(EnumSet::from_u64_truncated(number)),
+        Unknown::Refuse => EnumSet::try_from_u64(number).ok_or(JsonFault::UnknownBits),
     }
 }

@@ -9,15 +9,15 @@ ghost use Rattle.enumset.specs.Names.{names_of};
 use super::fault::JsonFault;
 use super::scan::{after_byte, are_spaces, is_plain, split_string};
 use super::unknown::{Unknown, decided, take_name};
-use crate::names::{EnumSetNames, find_name};
+use crate::names::{EnumSetNames, find_value};
 use enumset_sets::EnumSet;
 use std::alloc::{AllocError, Global};
 
 // A text of names that stand for themselves. There is none where one needs an escape or, of a map, two are the same.
 pub(super) type TextIfPlain = Result<Option<String>, AllocError>;
 
-// The list of the members' names, unless one of them needs an escape.
-pub(super) fn plain_list<T: EnumSetNames>(alloc: Global, set: &EnumSet<T>) -> TextIfPlain
+/// The list of the members' names, unless one of them needs an escape.
+pub(super) fn write_plain_list<T: EnumSetNames>(alloc: Global, set: &EnumSet<T>) -> TextIfPlain
     ensures { IsTextIfPlain (list_value (names_of T.elements T.names) set.now) result }
 {
     // Most names have at most thirteen bytes.
@@ -34,7 +34,7 @@ pub(super) fn plain_list<T: EnumSetNames>(alloc: Global, set: &EnumSet<T>) -> Te
     Ok(Some(text))
 }
 
-// Begins a text, or goes on with it. Each piece has a known length at each call, so no call copies it.
+/// Begins a text, or goes on with it. Each piece has a known length at each call, so no call copies it.
 #[inline(always)]
 pub(super) fn push_either(text: &mut String, first: &str, later: &str) -> Result<(), AllocError>
     ensures { OnOk result (string_bytes text.new
@@ -47,17 +47,14 @@ pub(super) fn push_either(text: &mut String, first: &str, later: &str) -> Result
     }
 }
 
-// What is read of a list of plain strings, with spaces anywhere between its tokens. No other text is read.
-pub(super) fn plain_set<T: EnumSetNames>(
+/// What is read of a list of plain strings, with spaces anywhere between its tokens. No other text is read.
+pub(super) fn read_plain_list<T: EnumSetNames>(
     text: &str,
     unknown: Unknown,
 ) -> Option<Result<EnumSet<T>, JsonFault>>
     ensures { IfSome result (λ set.
         IsReadOf (set_of_list (names_of T.elements T.names) unknown) text.now set) }
 {
-    if text.len() >= 256 {
-        ends_as_list(text)?;
-    }
     let rest = after_byte(text.as_bytes(), b'[')?;
     if let Some(end) = after_byte(rest, b']') {
         return are_spaces(end).then_some(Ok(EnumSet::new()));
@@ -68,7 +65,7 @@ pub(super) fn plain_set<T: EnumSetNames>(
     let mut next = 0;
     for place in 0..text.len() {
         let (name, rest) = split_string(left)?;
-        let value = find_name(name, &mut next);
+        let value = find_value(name, &mut next);
         take_name(&mut set, &mut first_unknown, value, true, place);
         if let Some(end) = after_byte(rest, b']') {
             return are_spaces(end).then_some(decided(set, first_unknown, unknown));
@@ -76,13 +73,4 @@ pub(super) fn plain_set<T: EnumSetNames>(
         left = after_byte(after_byte(rest, b',')?, b'"')?;
     }
     None
-}
-
-// None unless a text ends as a list of one string or more, whose last string is plain and comes after a comma or the
-// bracket. A long text with a fault there is not read twice so; a short one is read in little more time than this takes.
-fn ends_as_list(text: &str) -> Option<()> {
-    let inside = text.trim_ascii_end().strip_suffix(']')?;
-    let strings = inside.trim_ascii_end().strip_suffix('"')?;
-    let (before, last) = strings.rsplit_once('"')?;
-    (is_plain(last) && before.trim_ascii_end().ends_with([',', '['])).then_some(())
 }

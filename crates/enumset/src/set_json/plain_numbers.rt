@@ -1,29 +1,25 @@
 //! JSON texts of whole numbers, written and read digit by digit, without a tree of values.
 
-ghost use Rattle.std.specs.Prelude.{◌≡◌, ◌<◌, ◌+◌, ◌^◌, ◌++◌, ℕ, decimal, IfOk, IfSome, Some, string_bytes};
+ghost use Rattle.std.specs.Prelude.{◌≡◌, ◌<◌, ◌+◌, ◌^◌, ◌++◌, decimal, IfOk, IfSome, Some, string_bytes};
 ghost use Rattle.serde_json.specs.Read.{read};
-ghost use Rattle.serde_json.specs.View.{view};
 ghost use Rattle.enumset.specs.Json.{number_value};
 
 use super::digits::{ascii_text, push_digits};
 use super::scan::{are_spaces, split_spaces};
-use serde_json::Value;
 use std::alloc::{AllocError, Global};
 
-// The text of a value that holds a whole number.
-pub(super) fn number_text(alloc: Global, value: Value) -> Result<String, AllocError>
-    ensures text { (number : ℕ) → (view value ≡ number_value number)
-        → IfOk result (λ text. string_bytes text ≡ decimal number) }
-    ensures reads { (number : ℕ) → (view value ≡ number_value number)
-        → IfOk result (λ text. read (string_bytes text) ≡ Some (number_value number)) }
+/// The digits of a number.
+pub(super) fn write_plain_number(alloc: Global, number: u64) -> Result<String, AllocError>
+    ensures text { IfOk result (λ text. string_bytes text ≡ decimal number) }
+    ensures reads { IfOk result (λ text. read (string_bytes text) ≡ Some (number_value number)) }
 {
     let mut bytes = Vec::with_capacity(alloc, 20)?;
-    push_digits(&mut bytes, value.as_u64().unwrap_or(0))?;
+    push_digits(&mut bytes, number)?;
     Ok(ascii_text(bytes))
 }
 
-// The whole number below 2^64 that a text is, but for spaces at its ends. No other text is read.
-pub(super) fn plain_number(text: &str) -> Option<u64>
+/// The whole number below 2^64 that a text is, but for spaces at its ends. No other text is read.
+pub(super) fn read_plain_number(text: &str) -> Option<u64>
     ensures { IfSome result (λ number. read text.now ≡ Some (number_value number)) }
 {
     let (_, rest) = split_spaces(text.as_bytes());
@@ -31,7 +27,7 @@ pub(super) fn plain_number(text: &str) -> Option<u64>
     are_spaces(end).then_some(number)
 }
 
-// The whole number below 2^64 whose digits stand first, and what follows them.
+/// The whole number below 2^64 whose digits stand first, and what follows them.
 #[inline(always)]
 pub(super) fn split_number(bytes: &[u8]) -> Option<(u64, &[u8])>
     ensures { IfSome result (λ parts.
@@ -62,7 +58,7 @@ pub(super) fn split_number(bytes: &[u8]) -> Option<(u64, &[u8])>
     Some((number, left))
 }
 
-// The digit that a byte is.
+/// The digit that a byte is.
 #[inline(always)]
 fn digit_of(byte: u8) -> Option<u64>
     ensures { IfSome result (λ digit. (digit < 10) × (byte ≡ 48 + digit)) }

@@ -14,8 +14,8 @@ use super::words::take_word;
 use enumset_repr::EnumSetTypeRepr;
 use std::alloc::{AllocError, Global};
 
-// The array of the words of a value that represents a set.
-pub(super) fn words_text<R: EnumSetTypeRepr>(alloc: Global, repr: &R) -> Result<String, AllocError>
+/// The array of the words of a value that represents a set.
+pub(super) fn write_plain_words<R: EnumSetTypeRepr>(alloc: Global, repr: &R) -> Result<String, AllocError>
     ensures text { IfOk result (λ text. string_bytes text
         ≡ compact_text (words_value (words (R.members repr.now) R.PREFERRED_ARRAY_LEN))) }
     ensures reads { IfOk result (λ text. read (string_bytes text)
@@ -35,9 +35,9 @@ pub(super) fn words_text<R: EnumSetTypeRepr>(alloc: Global, repr: &R) -> Result<
     Ok(ascii_text(bytes))
 }
 
-// The set of the bits of an array's words below the representation's width, and whether these are all their bits. The
-// array has whole numbers below 2^64 alone, with spaces anywhere between its tokens. No other text is read.
-pub(super) fn plain_words<R: EnumSetTypeRepr>(text: &str) -> Option<(R, bool)>
+/// The set of the bits of an array's words below the representation's width, and whether these are all their bits. The
+/// array has whole numbers below 2^64 alone, with spaces anywhere between its tokens. No other text is read.
+pub(super) fn read_plain_words<R: EnumSetTypeRepr>(text: &str) -> Option<(R, bool)>
     ensures { IfSome result (λ found. (ws : List ℕ)
         × (read text.now ≡ Some (words_value ws))
         × (R.members found.0 ≡ low (bits_of ws) R.WIDTH)

@@ -6,7 +6,7 @@ ghost use Rattle.enumset.specs.JsonPlain.{IsPlain, AreSpaces, Passed};
 
 use std::simd::prelude::*;
 
-// Whether a byte stands for itself in a JSON string.
+/// Whether a byte stands for itself in a JSON string.
 #[inline(always)]
 fn is_plain_byte(byte: u8) -> bool
     ensures { IsTrue result → IsPlain (byte ∷ []) }
@@ -14,7 +14,7 @@ fn is_plain_byte(byte: u8) -> bool
     byte != b'"' && byte != b'\\' && byte >= b' '
 }
 
-// Whether a text stands for itself in a JSON string.
+/// Whether a text stands for itself in a JSON string.
 pub(super) fn is_plain(text: &str) -> bool
     ensures { IsTrue result → IsPlain text.now }
 {
@@ -26,7 +26,7 @@ pub(super) fn is_plain(text: &str) -> bool
     }
 }
 
-// Whether the first N bytes stand for themselves, and the last N: for short texts, faster than byte by byte.
+/// Whether the first N bytes stand for themselves, and the last N: for short texts, faster than byte by byte.
 #[inline(always)]
 fn are_ends_plain<const N: usize>(bytes: &[u8]) -> bool
     requires { (N ≤ length bytes.now) × (length bytes.now ≤ 2 * N) × (N ≤ 16) }
@@ -35,7 +35,7 @@ fn are_ends_plain<const N: usize>(bytes: &[u8]) -> bool
     plain_before::<N>(bytes, 0) == N && plain_before::<N>(bytes, bytes.len() - N) == N
 }
 
-// How many bytes at the front stand for themselves.
+/// How many bytes at the front stand for themselves.
 #[inline(always)]
 fn plain_len(bytes: &[u8]) -> usize
     ensures { (result ≤ length bytes.now) × IsPlain (take result bytes.now) }
@@ -54,7 +54,7 @@ fn plain_len(bytes: &[u8]) -> usize
     bytes.len()
 }
 
-// How many of the N bytes from a place on come before one that does not stand for itself.
+/// How many of the N bytes from a place on come before one that does not stand for itself.
 #[inline(always)]
 fn plain_before<const N: usize>(bytes: &[u8], begin: usize) -> usize
     requires { (begin + N ≤ length bytes.now) × (N ≤ 16) }
@@ -67,7 +67,7 @@ fn plain_before<const N: usize>(bytes: &[u8], begin: usize) -> usize
     N.min(special.to_bitmask().trailing_zeros() as usize)
 }
 
-// The spaces at the front, and what follows them.
+/// The spaces at the front, and what follows them.
 #[inline(always)]
 pub(super) fn split_spaces(bytes: &[u8]) -> (&[u8], &[u8])
     ensures whole { bytes.now ≡ result.0.now ++ result.1.now }
@@ -83,7 +83,7 @@ pub(super) fn split_spaces(bytes: &[u8]) -> (&[u8], &[u8])
     bytes.split_at(bytes.len())
 }
 
-// What follows a byte that stands first but for spaces.
+/// What follows a byte that stands first but for spaces.
 #[inline(always)]
 pub(super) fn after_byte(bytes: &[u8], byte: u8) -> Option<&[u8]>
     ensures { IfSome result (λ rest. Passed bytes.now byte rest.now) }
@@ -92,7 +92,7 @@ pub(super) fn after_byte(bytes: &[u8], byte: u8) -> Option<&[u8]>
     (*first == byte).then_some(rest)
 }
 
-// Whether there are spaces alone.
+/// Whether there are spaces alone.
 #[inline(always)]
 pub(super) fn are_spaces(bytes: &[u8]) -> bool
     ensures { IsTrue result → AreSpaces bytes.now }
@@ -100,7 +100,7 @@ pub(super) fn are_spaces(bytes: &[u8]) -> bool
     split_spaces(bytes).1.is_empty()
 }
 
-// The bytes of a plain string after its opening quote, and what follows its closing one.
+/// The bytes of a plain string after its opening quote, and what follows its closing one.
 #[inline(always)]
 pub(super) fn split_string(bytes: &[u8]) -> Option<(&[u8], &[u8])>
     ensures { IfSome result (λ parts.

@@ -18,11 +18,11 @@ ghost use Rattle.enumset_sets.specs.Elements.{valid_bits};
 use super::fault::JsonFault;
 use super::lists::{from_list, to_list};
 use super::maps::{from_map, to_map};
-use super::numbers::{from_number, to_number};
-use super::plain_lists::{plain_list, plain_set};
-use super::plain_maps::{plain_map, plain_map_set};
-use super::plain_numbers::{number_text, plain_number};
-use super::plain_words::{plain_words, words_text};
+use super::numbers::{from_number, number_of, set_of};
+use super::plain_lists::{write_plain_list, read_plain_list};
+use super::plain_maps::{write_plain_map, read_plain_map};
+use super::plain_numbers::{write_plain_number, read_plain_number};
+use super::plain_words::{read_plain_words, write_plain_words};
 use super::unknown::Unknown;
 use super::width::JsonWidth;
 use super::words::{accepted, from_words};
@@ -45,7 +45,7 @@ pub fn to_number_text<T: EnumSetType>(
     ensures too_wide { (result ≡ Err TooWide) ↔ (is_subset set.now (below (width_of width)) ≡ false) }
     ensures fault { IfErr result (λ fault. (fault ≡ TooWide) ⊎ (fault ≡ OutOfMemory)) }
 {
-    Ok(number_text(alloc, to_number(alloc, set, width)?)?)
+    Ok(write_plain_number(alloc, number_of(set, width)?)?)
 }
 
 /// Writes the set's words of 64 bits as an array without spaces, the lowest first, as many as its representation has.
@@ -58,7 +58,7 @@ pub fn to_words_text<T: EnumSetType>(alloc: Global, set: &EnumSet<T>) -> Result<
         ≡ Some (words_value (words set.now T.Repr.PREFERRED_ARRAY_LEN))) }
     ensures fault { IfErr result (λ fault. fault ≡ OutOfMemory) }
 {
-    Ok(words_text(alloc, &raw::get(set.copied()))?)
+    Ok(write_plain_words(alloc, &raw::get(set.copied()))?)
 }
 
 /// Writes the names of the set's members as an array without spaces, in ascending order of their bits, as
@@ -71,7 +71,7 @@ pub fn to_list_text<T: EnumSetNames>(alloc: Global, set: &EnumSet<T>) -> Result<
         ≡ Some (list_value (names_of T.elements T.names) set.now)) }
     ensures fault { IfErr result (λ fault. fault ≡ OutOfMemory) }
 {
-    match plain_list(alloc, set)? {
+    match write_plain_list(alloc, set)? {
         Some(text) => Ok(text),
         None => Ok(to_list(alloc, set)?.to_string(alloc)?),
     }
@@ -87,7 +87,7 @@ pub fn to_map_text<T: EnumSetNames>(alloc: Global, set: &EnumSet<T>) -> Result<S
         ≡ Some (map_value (names_of T.elements T.names) set.now)) }
     ensures fault { IfErr result (λ fault. fault ≡ OutOfMemory) }
 {
-    match plain_map(alloc, set)? {
+    match write_plain_map(alloc, set)? {
         Some(text) => Ok(text),
         None => Ok(to_map(alloc, set)?.to_string(alloc)?),
     }
@@ -104,8 +104,8 @@ pub fn from_number_text<T: EnumSetType>(
 ) -> Result<EnumSet<T>, JsonFault>
     ensures { IsReadOf (set_of_number (valid_bits T.elements) (width_of width) unknown) text.now result }
 {
-    match plain_number(text) {
-        Some(number) => from_number(&Value::from(number), width, unknown),
+    match read_plain_number(text) {
+        Some(number) => set_of(number, width, unknown),
         None => from_number(&Value::from_str(alloc, text)?, width, unknown),
     }
 }
@@ -120,7 +120,7 @@ pub fn from_words_text<T: EnumSetType>(
 ) -> Result<EnumSet<T>, JsonFault>
     ensures { IsReadOf (set_of_words (valid_bits T.elements) unknown) text.now result }
 {
-    match plain_words(text) {
+    match read_plain_words(text) {
         Some((repr, is_whole)) => accepted(repr, is_whole, unknown),
         None => from_words(&Value::from_str(alloc, text)?, unknown),
     }
@@ -136,7 +136,7 @@ pub fn from_list_text<T: EnumSetNames>(
 ) -> Result<EnumSet<T>, JsonFault>
     ensures { IsReadOf (set_of_list (names_of T.elements T.names) unknown) text.now result }
 {
-    match plain_set(text, unknown) {
+    match read_plain_list(text, unknown) {
         Some(set) => set,
         None => from_list(&Value::from_str(alloc, text)?, unknown),
     }
@@ -153,7 +153,7 @@ pub fn from_map_text<T: EnumSetNames>(
 ) -> Result<EnumSet<T>, JsonFault>
     ensures { IsReadOf (set_of_map (names_of T.elements T.names) unknown) text.now result }
 {
-    match plain_map_set(text) {
+    match read_plain_map(text) {
         Some(set) => Ok(set),
         None => from_map(&Value::from_str(alloc, text)?, unknown),
     }

@@ -19,7 +19,7 @@ pub enum Unknown {
     Refuse,
 }
 
-// The set of the names that were read, unless one is unknown and such names are refused.
+/// The set of the names that were read, unless one is unknown and such names are refused.
 pub(super) fn decided<T: EnumSetNames>(
     set: EnumSet<T>,
     first_unknown: Option<usize>,
@@ -33,7 +33,7 @@ pub(super) fn decided<T: EnumSetNames>(
     }
 }
 
-// One more name: the value that it names, if it names one, is put in where it is a member; else its place is kept.
+/// One more name: the value that it names, if it names one, is put in where it is a member; else its place is kept.
 #[inline(always)]
 pub(super) fn take_name<T: EnumSetNames>(
     set: &mut EnumSet<T>,

@@ -29,7 +29,7 @@ pub fn to_words<T: EnumSetType>(alloc: Global, set: &EnumSet<T>) -> Result<Value
     words_of(alloc, &raw::get(set.copied()))
 }
 
-// The words of a value that represents a set.
+/// The words of a value that represents a set.
 pub(super) fn words_of<R: EnumSetTypeRepr>(alloc: Global, repr: &R) -> Result<Value, JsonFault>
     ensures succeeds { R.PREFERRED_ARRAY_LEN ≡ 0 → IsOk result }
     ensures value { IfOk result (λ value.
@@ -56,7 +56,7 @@ pub fn from_words<T: EnumSetType>(value: &Value, unknown: Unknown) -> Result<Enu
     accepted(repr, is_whole, unknown)
 }
 
-// The set of the valid bits that words have below the width, unless the words have other bits and these are refused.
+/// The set of the valid bits that words have below the width, unless the words have other bits and these are refused.
 pub(super) fn accepted<T: EnumSetType>(
     repr: T::Repr,
     is_whole: bool,
@@ -74,7 +74,7 @@ pub(super) fn accepted<T: EnumSetType>(
     }
 }
 
-// The set of the bits of an array's words below the representation's width, and whether these are all their bits.
+/// The set of the bits of an array's words below the representation's width, and whether these are all their bits.
 pub(super) fn read_words<R: EnumSetTypeRepr>(value: &Value) -> Result<(R, bool), JsonFault>
     ensures read { IfOk result (λ read. (ws : List ℕ)
         × (words_in (view value.now) ≡ Ok ws)
@@ -92,7 +92,7 @@ pub(super) fn read_words<R: EnumSetTypeRepr>(value: &Value) -> Result<(R, bool),
     Ok((repr, is_whole))
 }
 
-// Writes a word of an array to its place, and returns whether no bit of it is at or past the width.
+/// Writes a word of an array to its place, and returns whether no bit of it is at or past the width.
 #[inline(always)]
 pub(super) fn take_word<R: EnumSetTypeRepr>(repr: &mut R, place: usize, word: u64) -> bool
     ensures put { R.members repr.new ≡ (if nat_lt place R.PREFERRED_ARRAY_LEN

@@ -22,8 +22,8 @@ loop-place-preserved g c =
     let rest = map view (drop (c.loop-place.place + 1) c.deref-item-items.result.now) in
     let text : as_str (view c.item-item.result) ≡ Some c.in_ok-text.text.now = sym c.as_str.ensures ∙ ap (option_map (λ t. t.now)) c.in_ok-text.ensures.ok_part in
     let here = ap (map view) (left_at c.deref-item-items.result.now c.loop-place.place c.item-item.result c.loop-place-test.true c.item-item.is) in
-    let bit = option_map g.T.EnumSetType.elements.bit c.find_name-value.result in
-    let named : bit ≡ bit_named names c.in_ok-text.text.now = c.find_name-value.ensures ∙ ap (bit_named names) c.as_bytes.ensures.value in
+    let bit = option_map g.T.EnumSetType.elements.bit c.find_value-value.result in
+    let named : bit ≡ bit_named names c.in_ok-text.text.now = c.find_value-value.ensures ∙ ap (bit_named names) c.as_bytes.ensures.value in
     (λ j. list_on names c.args.unknown (c.loop-place.place + 1) (c.take_name.ensures.set j) (c.take_name.ensures.first j) rest)
     ∙ sym (read_next _ _ _ _ _ _ c.loop-place.place c.loop-place.set c.loop-place.first_unknown _ rest _ here bit true (ap is_none text) refl (ap (λ o. bit_named names (unwrap_or o [])) text ∙ sym named)) ∙ c.loop-place.invariant
 

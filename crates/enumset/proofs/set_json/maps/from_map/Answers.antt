@@ -22,8 +22,8 @@ loop-place-preserved g c =
     let names = names_of g.T.EnumSetType.elements g.T.EnumSetNames.names in
     let rest = map seen c.next.new.self in
     let is : as_bool (view c.in-Some.value.now) ≡ Some c.in_ok-is_member.is_member = sym c.as_bool.ensures ∙ c.in_ok-is_member.ensures.ok_part in
-    let bit = option_map g.T.EnumSetType.elements.bit c.find_name-element.result in
-    let named : bit ≡ bit_named names (string_bytes c.in-Some.name.now) = c.find_name-element.ensures ∙ ap (bit_named names) c.as_bytes.ensures.value in (
+    let bit = option_map g.T.EnumSetType.elements.bit c.find_value-element.result in
+    let named : bit ≡ bit_named names (string_bytes c.in-Some.name.now) = c.find_value-element.ensures ∙ ap (bit_named names) c.as_bytes.ensures.value in (
       omega (arith, c.loop-place.invariant.0, ap length c.in-Some.ensures.steps),
       (λ j. map_on names c.args.unknown (c.loop-place.place + 1) (c.take_name.ensures.set j) (c.take_name.ensures.first j) rest)
           ∙ sym (read_next _ _ _ _ _ _ c.loop-place.place c.loop-place.set c.loop-place.first_unknown _ rest _ (ap (map seen) c.in-Some.ensures.steps) bit c.in_ok-is_member.is_member (ap is_none is) (ap (λ o. unwrap_or o false) is) (sym named)) ∙ c.loop-place.invariant.1,

@@ -1,8 +1,8 @@
 use Rattle.std.proofs.Common.{sym, ap, ◌∙◌}
-use Rattle.enumset.proofs.Common.{bits_of, kept_of}
+use Rattle.enumset.proofs.Common.{and_then, bits_of, kept_below}
 use Rattle.enumset.proofs.set_json.mixed.mixed_from_words.Goals as goal
 
 pub returns : goal.returns
 returns g c =
     let (ws, is, cut, whole) = c.in_ok-repr.ensures.read in
-    c.kept_below.ensures (bits_of ws) cut whole ∙ ap (kept_of g.T.Repr.EnumSetTypeRepr.WIDTH c.args.past) (sym is)
+    c.kept_below.ensures (bits_of ws) cut whole ∙ ap (and_then (λ ns. kept_below g.T.Repr.EnumSetTypeRepr.WIDTH c.args.past (bits_of ns))) (sym is)

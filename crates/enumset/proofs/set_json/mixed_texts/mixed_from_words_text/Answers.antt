@@ -1,5 +1,5 @@
 use Rattle.std.proofs.Common.{option_map, sym, ap, ◌∙◌}
-use Rattle.enumset.proofs.Common.{bits_of, kept_of, mixed_set_of_words, words_value}
+use Rattle.enumset.proofs.Common.{and_then, bits_of, kept_below, mixed_set_of_words, words_value}
 use Rattle.enumset.proofs.JsonLaws.{words_back}
 use Rattle.enumset.proofs.PlainLists.{is_read}
 use Rattle.enumset.proofs.set_json.mixed_texts.mixed_from_words_text.Goals as goal
@@ -9,4 +9,4 @@ returns-in-Some g c =
     let reader = mixed_set_of_words g.T.Repr.EnumSetTypeRepr.WIDTH c.args.past in
     let (ws, is, cut, whole) = c.in-Some.ensures in
     is_read reader c.args.text.now (reader (words_value ws)) c.kept_below.result (ap (option_map reader) is)
-    (c.kept_below.ensures (bits_of ws) cut whole ∙ ap (kept_of g.T.Repr.EnumSetTypeRepr.WIDTH c.args.past) (sym (words_back ws)))
+    (c.kept_below.ensures (bits_of ws) cut whole ∙ ap (and_then (λ ns. kept_below g.T.Repr.EnumSetTypeRepr.WIDTH c.args.past (bits_of ns))) (sym (words_back ws)))

@@ -1,5 +1,5 @@
 use Rattle.std.proofs.Common.{option_map, sym, ap, ◌∙◌}
-use Rattle.enumset.proofs.Common.{bits_of, valid_bits, accepted_of, set_of_words, words_value}
+use Rattle.enumset.proofs.Common.{bits_of, valid_bits, accepted, and_then, set_of_words, words_value}
 use Rattle.enumset.proofs.JsonLaws.{words_back}
 use Rattle.enumset.proofs.PlainLists.{is_read}
 use Rattle.enumset.proofs.set_json.texts.from_words_text.Goals as goal
@@ -10,4 +10,4 @@ returns-in-Some g c =
     let reader = set_of_words valid c.args.unknown in
     let (ws, is, cut, whole) = c.in-Some.ensures in
     is_read reader c.args.text.now (reader (words_value ws)) c.accepted.result (ap (option_map reader) is)
-    (c.accepted.ensures (bits_of ws) cut whole ∙ ap (accepted_of bits_of valid c.args.unknown) (sym (words_back ws)))
+    (c.accepted.ensures (bits_of ws) cut whole ∙ ap (and_then (λ ns. accepted valid c.args.unknown (bits_of ns))) (sym (words_back ws)))

@@ -1,8 +1,8 @@
 use Rattle.std.proofs.Common.{sym, ap, ◌∙◌}
-use Rattle.enumset.proofs.Common.{bits_of, valid_bits, accepted_of}
+use Rattle.enumset.proofs.Common.{accepted, and_then, bits_of, valid_bits}
 use Rattle.enumset.proofs.set_json.words.from_words.Goals as goal
 
 pub returns : goal.returns
 returns g c =
     let (ws, is, cut, whole) = c.in_ok-repr.ensures.read in
-    c.accepted.ensures (bits_of ws) cut whole ∙ ap (accepted_of bits_of (valid_bits g.T.EnumSetType.elements) c.args.unknown) (sym is)
+    c.accepted.ensures (bits_of ws) cut whole ∙ ap (and_then (λ ns. accepted (valid_bits g.T.EnumSetType.elements) c.args.unknown (bits_of ns))) (sym is)

@@ -5,5 +5,5 @@ use Rattle.enumset_sets.proofs.enum_set.EnumSet+T.retain_by.Given as goal
 -- the calls so far
 abbrev pub invariant-loop-element : goal.invariant-loop-element
 invariant-loop-element g l =
-    goal.F-IsAlwaysCallable g l.keep.now
-    × FoldsTo (Keeps g.T.EnumSetType.elements.bit g.F.FnMut) (l.fn.keep.now, l.fn.self) l.yielded (l.keep.now, l.self)
+    goal.F-IsAlwaysCallable g l.keep
+    × FoldsTo (Keeps g.T.EnumSetType.elements.bit g.F.FnMut) (l.fn.keep, l.fn.self) l.yielded (l.keep, l.self)

@@ -1,9 +1,0 @@
-use Rattle.std.proofs.Common.{ap, ◌∙◌}
-use Rattle.enumset.proofs.Common.{number, low_within, is_subset_wider, number_value}
-use Rattle.enumset.proofs.set_json.mixed.mixed_to_number.Goals as goal
-
-pub returns-clause-value : goal.returns-clause-value
-returns-clause-value g c =
-    c.from.ensures
-    ∙ ap number_value (c.to_u64.ensures
-    ∙ ap number (low_within _ 64 (is_subset_wider _ g.T.Repr.EnumSetTypeRepr.WIDTH 64 c.requires.narrow (g.met.T.Repr.EnumSetTypeRepr.represents.within _ c.learn_is_value.ensures)) ∙ c.as_repr-repr.ensures))
