@@ -14,7 +14,7 @@ use super::fault::JsonFault;
 use super::mixed::{
     kept_below, mixed_from_number, mixed_from_words, mixed_number_of, mixed_set_of,
 };
-use super::plain_numbers::{write_plain_number, read_plain_number};
+use super::plain_numbers::{read_plain_number, write_plain_number};
 use super::plain_words::{read_plain_words, write_plain_words};
 use super::unknown::Unknown;
 use enumset_mixed::MixedEnumSet;

@@ -15,7 +15,10 @@ use enumset_repr::EnumSetTypeRepr;
 use std::alloc::{AllocError, Global};
 
 /// The array of the words of a value that represents a set.
-pub(super) fn write_plain_words<R: EnumSetTypeRepr>(alloc: Global, repr: &R) -> Result<String, AllocError>
+pub(super) fn write_plain_words<R: EnumSetTypeRepr>(
+    alloc: Global,
+    repr: &R,
+) -> Result<String, AllocError>
     ensures text { IfOk result (λ text. string_bytes text
         ≡ compact_text (words_value (words (R.members repr.now) R.PREFERRED_ARRAY_LEN))) }
     ensures reads { IfOk result (λ text. read (string_bytes text)

@@ -1,6 +1,5 @@
 use Rattle.std.proofs.Common.{◌<◌, ◌^◌, refl, sym, subst, ◌∙◌, true≢false, ltb-true, lt-ltb}
 use Rattle.enumset.proofs.Common.{fits_number, is_subset_wider, number_within, width_of}
-use Rattle.enumset.proofs.set_json.numbers.number_of.Goals.{in_default-via-in-Some+else-fits, in_default-via-in_default}
 use Rattle.enumset.proofs.set_json.numbers.number_of.Goals as goal
 
 pub returns-in-Some-clause-fits : goal.returns-in-Some-clause-fits
@@ -11,10 +10,13 @@ returns-in-Some-clause-fits g c =
 pub returns-in_default-clause-fits : goal.returns-in_default-clause-fits
 returns-in_default-clause-fits g c = (
   λ ok. absurd (true≢false (sym ok)),
-  λ within. elim c.in_default.branch [
-    | in_default-via-in-Some+else-fits w ↦
-        let small = subst (λ n. n < 2 ^ width_of c.args.width) (sym w.in-Some.ensures.value) (number_within _ (width_of c.args.width) within) in
-        absurd (true≢false (sym (lt-ltb _ _ (subst (λ k. w.in-Some.number < 2 ^ k) (sym c.bits-bits.ensures.bits) small)) ∙ sym w.fits.ensures ∙ w.if-fits.false))
-    | in_default-via-in_default w ↦ absurd (true≢false (sym (w.in_default.ensures.fits.1 (is_subset_wider _ (width_of c.args.width) 64 c.bits-bits.ensures.narrow within))))
-  ],
+  λ within.
+      let small = subst (λ n. n < 2 ^ width_of c.args.width) (sym c.in-Some.ensures.value) (number_within _ (width_of c.args.width) within) in
+      absurd (true≢false (sym (lt-ltb _ _ (subst (λ k. c.in-Some.number < 2 ^ k) (sym c.bits-bits.ensures.bits) small)) ∙ sym c.fits.ensures ∙ c.if-fits.false)),
+)
+
+pub returns-in_default-2-clause-fits : goal.returns-in_default-2-clause-fits
+returns-in_default-2-clause-fits g c = (
+  λ ok. absurd (true≢false (sym ok)),
+  λ within. absurd (true≢false (sym (c.in_default.ensures.fits.1 (is_subset_wider _ (width_of c.args.width) 64 c.bits-bits.ensures.narrow within)))),
 )
