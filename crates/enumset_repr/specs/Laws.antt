@@ -22,6 +22,9 @@
 --     Ordering      the greater and the lesser of two sets
 --     Places      where members stand in their order: chains and tests over a set's iterator
 --     Found      what is found in a set: the least member that passes, the least, the greatest
+--     Decided      facts of sets, decided by their members: the ruleset for the root of a crate
+--     DecidedEnds      first and last members beside it
+--     DecidedCounts      how many members beside it
 --     Masks      numbers with bits masked out
 --     Loops      the steps of a loop over a set's iterator
 --     Common      names of all these, passed on from one place to proofs
@@ -47,6 +50,9 @@ pub mod Firsts
 pub mod Ordering
 pub mod Places
 pub mod Found
+pub mod Decided
+pub mod DecidedEnds
+pub mod DecidedCounts
 pub mod Masks
 pub mod Loops
 pub mod Common

@@ -1,0 +1,134 @@
+-- Facts of sets, decided by their members: each set that is made of others is read at each number in sight, and what is
+-- left is a question of cases. The ruleset `decided` proves equations, inclusions, disjointness, emptiness, sameness and
+-- membership of sets, from hypotheses of these kinds.
+--     some_member, differing      a number that decides whether a set is empty;  whether two sets are the same
+--     at, .._once      what `contains` returns for each set, at a number in sight
+--     .._each, .._not      what a test says of each number in sight, or of the number that decides it
+-- How a goal is proved. What asks for a number brings it into sight: `same_set`, `contains_is_subset` and
+-- `contains_is_disjoint`, which end in what is to be proved, any number; an `is_empty` or `is_same` that is false, the
+-- number that decides it. What is known to hold for all numbers, as that a set is a subset of another, is then taken at
+-- each of them, and `grind` splits the cases.
+-- Dummy variables. `grind` takes a law at the first call in its conclusion that shows all its variables, wherever that call
+-- is in sight. A law that shows `contains (union s t) q` is taken only where just that call stands, so a union of the
+-- hypotheses is not read at the number of the goal. `union_once` has a variable more, `w`, so that no one call shows all: it
+-- is taken wherever one call shows `union s t` and another one shows `at q w`. `at_each` makes `at q true` once for each
+-- number in sight. The first parts of such a law, as `union s t ≡ union s t`, only show the calls, and are always true.
+-- What must not be here:
+--     a law of a constant, as `len empty ≡ 0`, since the constant comes into sight of every goal
+--     a law that makes a witness of `is_subset s t ≡ false`:  the value of each set brings a fact on `is_subset`, and the
+--         cases run out;  `contains_is_subset` serves, and so does `contains_is_disjoint`
+--     a law that counts where `is_subset` or `is_disjoint` stands, since it makes terms at each of them:  see
+--         `counts_of_parts` of `DecidedCounts`
+-- `union_only` and `difference_only` are here since a goal like `result ≡ Some (insert s b)` is no equation between sets.
+use Rattle.std.proofs.Common.{◌≡◌, ◌↔◌, ℕ, Bool, true, false, arith, Option, Some, None, refl, sym, ap, subst, ◌∙◌, not, ◌&&◌, ◌||◌, true≢false, ◌==◌, nat_lt}
+use Rattle.enumset_repr.specs.Laws.Common.{BitSet, contains, empty, union, intersection, difference, symmetric_difference, is_subset, is_disjoint, is_same, is_empty, insert, remove, below, low, retain, least, least_facts, empty_of_ascending, ascending_no_least, is_empty_iff, same_from_decides, false_from_ne_true, contains_from_list, members, same_set, is_subset_contains, contains_is_subset, is_same_iff, contains_empty, contains_difference, contains_intersection, contains_symmetric_difference, contains_union, contains_insert, contains_remove, contains_retain, contains_below, contains_low, nat_tests, union_only, difference_only}
+use Rattle.enumset_repr.specs.Laws.Members.{is_disjoint_contains, contains_is_disjoint}
+
+-- ---- a number that decides a test
+
+one_of : Option ℕ → ℕ
+one_of None = 0
+one_of (Some m) = m
+
+-- the least member, or 0 if there is none
+pub some_member : BitSet → ℕ
+some_member s = one_of (least s)
+
+pub empty_at : (s : BitSet) → is_empty s ≡ not (contains s (some_member s))
+unfolding some_member one_of
+empty_at s = by (least s) refl where
+  by : (o : Option ℕ) → least s ≡ o → is_empty s ≡ not (contains s (one_of (least s)))
+  by None none =
+      let e = empty_of_ascending s (ascending_no_least s none) in
+      (is_empty_iff s).1 e ∙ sym (ap (λ u. not (contains u (one_of (least s)))) e ∙ ap not (contains_empty (one_of (least s))))
+  by (Some m) is =
+      let one : contains s (one_of (least s)) ≡ true = subst (λ o. contains s (one_of o) ≡ true) (sym is) (least_facts s m is).0 in
+      let no : is_empty s ≡ false = false_from_ne_true _ (λ e. true≢false (sym one ∙ ap (λ u. contains u (one_of (least s))) ((is_empty_iff s).0 e) ∙ contains_empty _)) in
+      no ∙ sym (ap not one)
+
+pub empty_each : (s : BitSet) → (is_empty s ≡ is_empty s) × (is_empty s ≡ true → (q : ℕ) → contains s q ≡ false)
+empty_each s = (refl, λ e q. ap (λ u. contains u q) ((is_empty_iff s).0 e) ∙ contains_empty q)
+
+pub empty_of : (s : BitSet) → (is_empty s ≡ is_empty s) × (is_empty s ≡ true → s ≡ empty)
+empty_of s = (refl, (is_empty_iff s).0)
+
+pub empty_not : (s : BitSet) → (is_empty s ≡ is_empty s) × (is_empty s ≡ false → contains s (some_member s) ≡ true)
+empty_not s = (refl, λ no. let h = empty_at s in grind arith)
+
+-- a number that one of two sets has and the other has not, or 0 if there is none
+pub differing : BitSet → BitSet → ℕ
+differing s t = some_member (symmetric_difference s t)
+
+same_empty : (s t : BitSet) → (is_empty (symmetric_difference s t) ≡ true) ↔ (s ≡ t)
+same_empty s t = (
+  λ e. same_set s t (λ q. let none = (empty_each (symmetric_difference s t)).1 e q in grind (arith, members)),
+  λ e. (is_empty_iff _).1 (same_set _ _ (λ q. let eq = ap (λ u. contains u q) e in grind (arith, members))),
+)
+
+pub same_at : (s t : BitSet) → is_same s t ≡ ((contains s (differing s t) && contains t (differing s t)) || (not (contains s (differing s t)) && not (contains t (differing s t))))
+unfolding differing
+same_at s t =
+    let same : is_same s t ≡ is_empty (symmetric_difference s t) = same_from_decides _ _ (is_same_iff s t) (same_empty s t) in
+    same ∙ empty_at (symmetric_difference s t) ∙ ap not (contains_symmetric_difference s t _) ∙ grind arith
+
+pub same_each : (s t : BitSet) → (is_same s t ≡ is_same s t) × (is_same s t ≡ true → s ≡ t)
+same_each s t = (refl, (is_same_iff s t).0)
+
+pub same_not : (s t : BitSet) → (is_same s t ≡ is_same s t) × (is_same s t ≡ false → contains s (differing s t) ≡ not (contains t (differing s t)))
+same_not s t = (refl, λ no. let h = same_at s t in grind arith)
+
+-- ---- each set in sight at each number in sight
+
+-- a call that shows a number
+pub at : ℕ → Bool → Bool
+at q w = w
+
+pub at_each : (u : BitSet) (q : ℕ) → (contains u q ≡ contains u q) × (at q true ≡ true)
+unfolding at
+at_each u q = (refl, refl)
+
+pub empty_once : (q : ℕ) (w : Bool) → (at q w ≡ at q w) × (contains empty q ≡ false)
+empty_once q w = (refl, contains_empty q)
+
+pub union_once : (s t : BitSet) (q : ℕ) (w : Bool) → (union s t ≡ union s t) × (at q w ≡ at q w) × (contains (union s t) q ≡ (contains s q || contains t q))
+union_once s t q w = (refl, refl, contains_union s t q)
+
+pub intersection_once : (s t : BitSet) (q : ℕ) (w : Bool) → (intersection s t ≡ intersection s t) × (at q w ≡ at q w) × (contains (intersection s t) q ≡ (contains s q && contains t q))
+intersection_once s t q w = (refl, refl, contains_intersection s t q)
+
+pub difference_once : (s t : BitSet) (q : ℕ) (w : Bool) → (difference s t ≡ difference s t) × (at q w ≡ at q w) × (contains (difference s t) q ≡ (contains s q && not (contains t q)))
+difference_once s t q w = (refl, refl, contains_difference s t q)
+
+pub symmetric_difference_once : (s t : BitSet) (q : ℕ) (w : Bool) → (symmetric_difference s t ≡ symmetric_difference s t) × (at q w ≡ at q w) × (contains (symmetric_difference s t) q ≡ ((contains s q && not (contains t q)) || (contains t q && not (contains s q))))
+symmetric_difference_once s t q w = (refl, refl, contains_symmetric_difference s t q)
+
+pub insert_once : (s : BitSet) (b : ℕ) (q : ℕ) (w : Bool) → (insert s b ≡ insert s b) × (at q w ≡ at q w) × (contains (insert s b) q ≡ ((q == b) || contains s q))
+insert_once s b q w = (refl, refl, contains_insert s b q)
+
+pub remove_once : (s : BitSet) (b : ℕ) (q : ℕ) (w : Bool) → (remove s b ≡ remove s b) × (at q w ≡ at q w) × (contains (remove s b) q ≡ (not (q == b) && contains s q))
+remove_once s b q w = (refl, refl, contains_remove s b q)
+
+pub retain_once : (s : BitSet) (p : ℕ → Bool) (q : ℕ) (w : Bool) → (retain s p ≡ retain s p) × (at q w ≡ at q w) × (contains (retain s p) q ≡ (contains s q && p q))
+retain_once s p q w = (refl, refl, contains_retain s p q)
+
+pub below_once : (n : ℕ) (q : ℕ) (w : Bool) → (below n ≡ below n) × (at q w ≡ at q w) × (contains (below n) q ≡ nat_lt q n)
+below_once n q w = (refl, refl, contains_below n q)
+
+pub low_once : (s : BitSet) (n : ℕ) (q : ℕ) (w : Bool) → (low s n ≡ low s n) × (at q w ≡ at q w) × (contains (low s n) q ≡ (contains s q && nat_lt q n))
+low_once s n q w = (refl, refl, contains_low s n q)
+
+pub insert_in : (s : BitSet) (b : ℕ) → (insert s b ≡ insert s b) × (contains (insert s b) b ≡ true)
+insert_in s b = (refl, grind (arith, members, nat_tests))
+
+-- ---- what a test says of a number in sight
+
+pub subset_each : (s t : BitSet) → (is_subset s t ≡ is_subset s t) × (is_subset s t ≡ true → (q : ℕ) → contains s q ≡ true → contains t q ≡ true)
+subset_each s t = (refl, λ sub q h. is_subset_contains s t sub q h)
+
+pub disjoint_each : (s t : BitSet) → (is_disjoint s t ≡ is_disjoint s t) × (is_disjoint s t ≡ true → (q : ℕ) → contains s q ≡ true → contains t q ≡ false)
+disjoint_each s t = (refl, λ apart q h. is_disjoint_contains s t apart q h)
+
+pub disjoint_back : (s t : BitSet) → (is_disjoint s t ≡ is_disjoint s t) × (is_disjoint s t ≡ true → (q : ℕ) → contains t q ≡ true → contains s q ≡ false)
+disjoint_back s t = (refl, λ apart q h. false_from_ne_true _ (λ one. true≢false (sym h ∙ is_disjoint_contains s t apart q one)))
+
+pub ruleset decided = (at_each, empty_once, union_once, intersection_once, difference_once, symmetric_difference_once, insert_once, remove_once, retain_once, below_once, low_once, contains_from_list, insert_in, union_only, difference_only, nat_tests, same_set, subset_each, disjoint_each, disjoint_back, contains_is_subset, contains_is_disjoint, empty_of, empty_not, same_not, same_each)

@@ -1,0 +1,62 @@
+-- How many members sets have, beside `decided` of `Decided`, which says why a law has a dummy variable.
+--     counts      how many members a union, an intersection, a difference and the like have
+--     counts_of_parts      what a subset and disjoint sets say of numbers of members:  with the above, on one function that
+--         counts;  at the root it makes terms at each `is_subset` in sight, and that is one for each set
+use Rattle.std.proofs.Common.{◌≡◌, ◌↔◌, ◌≤◌, ◌+◌, ◌*◌, ℕ, Bool, true, arith, refl, ap, ◌∙◌, ◌==◌}
+use Rattle.enumset_repr.specs.Laws.Common.{BitSet, below, empty, union, intersection, difference, symmetric_difference, is_subset, is_disjoint, is_empty, len, len_empty, len_insert, len_below, len_union_same, is_empty_iff, nat_tests}
+use Rattle.enumset_repr.specs.Laws.Algebra.{intersection_comm}
+use Rattle.enumset_repr.specs.Laws.Ascending.{len_remove}
+use Rattle.enumset_repr.specs.Laws.Counting.{len_union, len_parts, len_zero_iff}
+use Rattle.enumset_repr.specs.Laws.Sets.{len_symmetric_difference}
+use Rattle.enumset_repr.specs.Laws.Decided.{decided}
+
+pub is_empty_len : (s : BitSet) → is_empty s ≡ (len s == 0)
+unfolding is_empty
+is_empty_len s = refl
+
+subset_len : (s t : BitSet) → (is_subset s t ≡ true) ↔ (len (difference s t) ≡ 0)
+subset_len s t = (λ within. let e : difference s t ≡ empty = grind (arith, decided) in ap len e ∙ len_empty, λ none. let e = (len_zero_iff (difference s t)).0 none in grind (arith, decided))
+
+disjoint_len : (s t : BitSet) → (is_disjoint s t ≡ true) ↔ (len (intersection s t) ≡ 0)
+disjoint_len s t = (λ apart. let e : intersection s t ≡ empty = grind (arith, decided) in ap len e ∙ len_empty, λ none. let e = (len_zero_iff (intersection s t)).0 none in grind (arith, decided))
+
+pub len_none : (s : BitSet) → (len s ≡ len s) × ((len s ≡ 0) ↔ (s ≡ empty))
+len_none s = (refl, len_zero_iff s)
+
+pub len_of_union : (s t : BitSet) → (len (union s t) ≡ len (union s t)) × (len (union s t) + len (intersection s t) ≡ len s + len t) × ((is_disjoint s t ≡ true) ↔ (len (intersection s t) ≡ 0))
+len_of_union s t = (refl, len_union s t, disjoint_len s t)
+
+pub len_of_difference : (s t : BitSet) → (len (difference s t) ≡ len (difference s t)) × (len (difference s t) + len (intersection s t) ≡ len s)
+len_of_difference s t = (refl, len_parts s t)
+
+pub len_of_intersection : (s t : BitSet) → (len (intersection s t) ≡ len (intersection s t)) × (intersection s t ≡ intersection t s) × (len (difference s t) + len (intersection s t) ≡ len s) × (len (difference t s) + len (intersection s t) ≡ len t)
+len_of_intersection s t = (refl, intersection_comm s t, len_parts s t, let e = ap len (intersection_comm s t) in omega (arith, len_parts t s, e))
+
+pub len_of_symmetric_difference : (s t : BitSet) → (len (symmetric_difference s t) ≡ len (symmetric_difference s t)) × (len (symmetric_difference s t) + 2 * len (intersection s t) ≡ len s + len t)
+len_of_symmetric_difference s t = (refl, len_symmetric_difference s t)
+
+pub len_union_covers : (s t : BitSet) → (len (union s t) ≡ len (union s t)) × (len (union s t) ≡ len s → is_subset t s ≡ true) × (is_subset t s ≡ true → len (union s t) ≡ len s)
+len_union_covers s t = (refl, (λ e. let h = len_union_same s t in grind (arith, nat_tests)), (λ e. let h = len_union_same s t in grind (arith, nat_tests)))
+
+pub ruleset counts = (len_of_union, len_of_difference, len_of_intersection, len_of_symmetric_difference, len_insert, len_remove, len_none, is_empty_len, len_union_covers)
+
+-- ---- subsets and disjoint sets, in a proof that counts
+
+-- a call that shows a set whose members are counted
+pub counted : BitSet → Bool → Bool
+counted u w = w
+
+pub counted_at : (s : BitSet) → (len s ≡ len s) × (counted s true ≡ true)
+unfolding counted
+counted_at s = (refl, refl)
+
+pub len_of_subset : (s t u : BitSet) (w : Bool) → (is_subset s t ≡ is_subset s t) × (counted u w ≡ counted u w) × ((is_subset s t ≡ true) ↔ (len (difference s t) ≡ 0))
+len_of_subset s t u w = (refl, refl, subset_len s t)
+
+pub len_of_disjoint : (s t u : BitSet) (w : Bool) → (is_disjoint s t ≡ is_disjoint s t) × (counted u w ≡ counted u w) × ((is_disjoint s t ≡ true) ↔ (len (intersection s t) ≡ 0))
+len_of_disjoint s t u w = (refl, refl, disjoint_len s t)
+
+pub len_of_below : (s : BitSet) (n : ℕ) (u : BitSet) (w : Bool) → (is_subset s (below n) ≡ is_subset s (below n)) × (counted u w ≡ counted u w) × (is_subset s (below n) ≡ true → len s ≤ n)
+len_of_below s n u w = (refl, refl, len_below s n)
+
+pub ruleset counts_of_parts = (counted_at, len_of_subset, len_of_disjoint, len_of_below)
