@@ -9,6 +9,7 @@ use crate::{serve_mixed_text, serve_text};
 use enumset_commands::TextFault;
 use enumset_sets::{EnumSetType, EnumSetTypeWithRepr, variant_of};
 use std::alloc::Global;
+use std::fmt;
 
 /// Returns the answer of `serve_worked` over the sets of an enum without variants in a `u8`, or over its mixed sets.
 ///
@@ -60,6 +61,12 @@ pub fn serve_nothing(alloc: Global, is_mixed: bool, input: &[u8]) -> Result<Vec<
         ghost use Rattle.std.proofs.Common.{rules};
 
         ghost narrow = { Prim.search rules };
+    }
+
+    impl fmt::Display for Nothing {
+        fn fmt<W: fmt::Write>(&self, f: &mut fmt::Formatter<W>) -> fmt::Result {
+            match *self {}
+        }
     }
 
     if is_mixed {

@@ -3,7 +3,7 @@
 use enumset_sets::{EnumSetType, EnumSetTypeWithRepr};
 
 /// Three variants, on bits 7, 6 and 5: a discriminant counts down from the highest bit of the representation.
-#[derive(Clone, Copy, PartialEq, Eq, Debug)]
+#[derive(Clone, Copy, PartialEq, Eq, Debug, PartialOrd, Ord, Hash)]
 pub enum High {
     A,
     B,
@@ -14,10 +14,13 @@ impl EnumSetType for High {
     ghost use Rattle.std.specs.Prelude.{◌∷◌, []};
     ghost use Rattle.enumset_sets.specs.Laws.Elements.{with_bits, lawful_in_integer};
     ghost use Rattle.enumset_worked.specs.contracts.high.High.{the_type};
+    ghost use Rattle.enumset_worked.specs.declared.high.High.TheVariants as variant;
 
     type Repr = u8;
 
     ghost elements = { with_bits the_type (7 ∷ 6 ∷ 5 ∷ []) };
+
+    ghost values = { variant.A ∷ variant.B ∷ variant.C ∷ [] };
 
     ghost ALL_BITS = { 224 };
 
@@ -55,4 +58,24 @@ impl EnumSetTypeWithRepr for High {
     ghost use Rattle.std.proofs.Common.{rules};
 
     ghost narrow = { Prim.search rules };
+}
+
+/// The name of the variant.
+impl std::fmt::Display for High {
+    ghost use Rattle.std.specs.Prelude.{Some, ◌∷◌, [], codes};
+    ghost use Rattle.std.specs.List.{slice_index_or};
+    ghost use denote.Enum.Declared.{tag_of};
+    ghost use Rattle.enumset_worked.specs.contracts.high.High.{the_type};
+
+    ghost output = { λ v. Some (slice_index_or
+        (codes "A" ∷ codes "B" ∷ codes "C" ∷ [])
+        (tag_of the_type v) []) };
+
+    fn fmt<W: std::fmt::Write>(&self, f: &mut std::fmt::Formatter<W>) -> std::fmt::Result {
+        match self {
+            Self::A => f.write_str("A"),
+            Self::B => f.write_str("B"),
+            Self::C => f.write_str("C"),
+        }
+    }
 }

@@ -3,7 +3,7 @@
 use enumset_sets::{EnumSetType, EnumSetTypeWithRepr};
 
 /// Two variants, on bits 0 and 64 of one integer: the bits of [`PairWords`](crate::pair_words::PairWords).
-#[derive(Clone, Copy, PartialEq, Eq, Debug)]
+#[derive(Clone, Copy, PartialEq, Eq, Debug, PartialOrd, Ord, Hash)]
 pub enum PairNumber {
     A = 0,
     B = 64,

@@ -4,7 +4,7 @@ use enumset_array::ArrayRepr;
 use enumset_sets::{EnumSetType, EnumSetTypeWithRepr};
 
 /// Two variants, on bits 0 and 64, each in its own word: the bits of [`PairNumber`](crate::pair_number::PairNumber).
-#[derive(Clone, Copy, PartialEq, Eq, Debug)]
+#[derive(Clone, Copy, PartialEq, Eq, Debug, PartialOrd, Ord, Hash)]
 pub enum PairWords {
     A = 0,
     B = 64,
@@ -14,10 +14,13 @@ impl EnumSetType for PairWords {
     ghost use Rattle.std.specs.Prelude.{◌∷◌, []};
     ghost use Rattle.enumset_sets.specs.Laws.Elements.{with_bits, lawful_in_words};
     ghost use Rattle.enumset_worked.specs.contracts.pair_words.PairWords.{the_type};
+    ghost use Rattle.enumset_worked.specs.declared.pair_words.PairWords.TheVariants as variant;
 
     type Repr = ArrayRepr<2>;
 
     ghost elements = { with_bits the_type (0 ∷ 64 ∷ []) };
+
+    ghost values = { variant.A ∷ variant.B ∷ [] };
 
     ghost ALL_BITS = { 1 ∷ 1 ∷ [] };
 
@@ -50,4 +53,23 @@ impl EnumSetTypeWithRepr for PairWords {
     ghost use Rattle.std.proofs.Common.{rules};
 
     ghost narrow = { Prim.search rules };
+}
+
+/// The name of the variant.
+impl std::fmt::Display for PairWords {
+    ghost use Rattle.std.specs.Prelude.{Some, ◌∷◌, [], codes};
+    ghost use Rattle.std.specs.List.{slice_index_or};
+    ghost use denote.Enum.Declared.{tag_of};
+    ghost use Rattle.enumset_worked.specs.contracts.pair_words.PairWords.{the_type};
+
+    ghost output = { λ v. Some (slice_index_or
+        (codes "A" ∷ codes "B" ∷ [])
+        (tag_of the_type v) []) };
+
+    fn fmt<W: std::fmt::Write>(&self, f: &mut std::fmt::Formatter<W>) -> std::fmt::Result {
+        match self {
+            Self::A => f.write_str("A"),
+            Self::B => f.write_str("B"),
+        }
+    }
 }

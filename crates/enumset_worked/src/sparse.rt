@@ -3,7 +3,7 @@
 use enumset_sets::{EnumSetType, EnumSetTypeWithRepr};
 
 /// Four variants, on bits 10, 20, 30 and 127.
-#[derive(Clone, Copy, PartialEq, Eq, Debug)]
+#[derive(Clone, Copy, PartialEq, Eq, Debug, PartialOrd, Ord, Hash)]
 pub enum Sparse {
     A = 10,
     B = 20,

@@ -4,7 +4,7 @@ use enumset_array::ArrayRepr;
 use enumset_sets::EnumSetType;
 
 /// Three variants, on bits 3, 64 and 130, each in a word of its own.
-#[derive(Clone, Copy, PartialEq, Eq, Debug)]
+#[derive(Clone, Copy, PartialEq, Eq, Debug, PartialOrd, Ord, Hash)]
 pub enum Wide {
     P = 3,
     Q = 64,
