@@ -3,69 +3,125 @@
 ghost use Rattle.std.specs.Prelude.{◌≡◌};
 ghost use Rattle.enumset_derive.specs.Variants.{fault_at};
 
-use std::alloc::AllocError;
-use thiserror::Error;
+use std::alloc::{AllocError, AllocFailed};
+use std::error::Error;
+use std::fmt;
 
 /// Why the program wrote no module, or not all of it. Its text is what standard error says.
-#[derive(Debug, Drop, Error)]
+#[derive(Debug, Drop)]
 pub enum DeriveError {
-    #[error("{0}")]
-    Fault(#[from] Fault),
-    #[error("out of memory")]
-    OutOfMemory(#[from(alloc)] AllocError),
-    #[error("{0}")]
+    /// The source has a fault.
+    Fault(Fault),
+    OutOfMemory(AllocError),
+    /// The arguments are wrong, as this says.
     Arguments(&'static str),
     /// Standard input or standard output failed.
-    #[error("{0}")]
     Stream(&'static str),
     /// The file of this name could not be written.
-    #[error("{0}: {1}")]
     File(String, &'static str),
+}
+
+impl fmt::Display for DeriveError {
+    fn fmt<W: fmt::Write>(&self, f: &mut fmt::Formatter<W>) -> fmt::Result {
+        match self {
+            DeriveError::Fault(fault) => write!(f, "{fault}"),
+            DeriveError::OutOfMemory(_) => write!(f, "out of memory"),
+            DeriveError::Arguments(text) | DeriveError::Stream(text) => write!(f, "{text}"),
+            DeriveError::File(name, text) => write!(f, "{name}: {text}"),
+        }
+    }
+}
+
+impl Error for DeriveError {}
+
+impl From<Fault> for DeriveError {
+    fn from(fault: Fault) -> DeriveError {
+        DeriveError::Fault(fault)
+    }
+}
+
+impl From<AllocError> for DeriveError {
+    fn from(error: AllocError) -> DeriveError {
+        DeriveError::OutOfMemory(error)
+    }
+}
+
+impl<T: Drop> From<AllocFailed<T>> for DeriveError {
+    fn from(_failed: AllocFailed<T>) -> DeriveError {
+        DeriveError::OutOfMemory(AllocError)
+    }
 }
 
 /// What comes of a part of the program, if it does not fail.
 pub type Outcome<T = ()> = Result<T, DeriveError>;
 
 /// A fault of a source text, and where it is.
-#[derive(Clone, Copy, Debug, Error)]
-#[error("{place}: {reason}")]
+#[derive(Clone, Copy, Debug)]
 pub struct Fault {
     pub place: Place,
     pub reason: Reason,
 }
 
+impl fmt::Display for Fault {
+    fn fmt<W: fmt::Write>(&self, f: &mut fmt::Formatter<W>) -> fmt::Result {
+        write!(f, "{}: {}", self.place, self.reason)
+    }
+}
+
+impl Error for Fault {}
+
 /// What is wrong.
-#[derive(Clone, Copy, Debug, Error)]
+#[derive(Clone, Copy, Debug)]
 pub enum Reason {
     /// A fault of reading.
-    #[error("{0}")]
     Text(&'static str),
-    #[error("this {0} was given at {1}")]
+    /// What is given twice, as an option, and where it was given first.
     GivenTwice(&'static str, Place),
-    #[error("`map = \"msb\"` needs `repr` to be an integer")]
+    /// `map = "msb"` counts from the end of an integer, and none is asked for.
     IntegerMissing,
     /// The place is that of variant 257.
-    #[error("an enum may have at most 256 variants")]
     TooManyVariants,
-    #[error("this name was given at {0}")]
     NameTwice(Place),
-    #[error("a mask must be a power of two")]
     NotAMask,
     /// The bit is the discriminant, or the bit of which it is the mask.
-    #[error("a bit must be from 0 to 4294967231")]
     PastGreatest,
-    #[error("the implied discriminant is past 2^128")]
     ImpliedTooLarge,
-    #[error("`repr` is too small: bit {bit}, width {width}")]
     PastRepresentation { bit: u32, width: u32 },
-    #[error("`serialize_repr` is too small: bit {bit}, width {width}")]
     PastSerialized { bit: u32, width: u32 },
-    #[error("bit {0} is past 1024 words; `map = \"compact\"` takes the places as bits")]
     PastWords(u32),
-    #[error("this bit was taken at {0}")]
     BitTwice(Place),
-    #[error("this discriminant was taken at {0}")]
     DiscriminantTwice(Place),
+}
+
+impl fmt::Display for Reason {
+    fn fmt<W: fmt::Write>(&self, f: &mut fmt::Formatter<W>) -> fmt::Result {
+        match self {
+            Reason::Text(text) => write!(f, "{text}"),
+            Reason::GivenTwice(what, first) => write!(f, "this {what} was given at {first}"),
+            Reason::IntegerMissing => write!(f, "`map = \"msb\"` needs `repr` to be an integer"),
+            Reason::TooManyVariants => write!(f, "an enum may have at most 256 variants"),
+            Reason::NameTwice(first) => write!(f, "this name was given at {first}"),
+            Reason::NotAMask => write!(f, "a mask must be a power of two"),
+            Reason::PastGreatest => write!(f, "a bit must be from 0 to 4294967231"),
+            Reason::ImpliedTooLarge => write!(f, "the implied discriminant is past 2^128"),
+            Reason::PastRepresentation { bit, width } => {
+                write!(f, "`repr` is too small: bit {bit}, width {width}")
+            }
+            Reason::PastSerialized { bit, width } => {
+                write!(f, "`serialize_repr` is too small: bit {bit}, width {width}")
+            }
+            Reason::PastWords(bit) => {
+                write!(
+                    f,
+                    "bit {bit} is past 1024 words; `map = \"compact\"` takes the places as bits"
+                )
+            }
+            Reason::BitTwice(first) => write!(f, "this bit was taken at {first}"),
+            Reason::DiscriminantTwice(first) => {
+                write!(f, "this discriminant was taken at {first}")
+            }
+        }
+    }
 }
 
 impl Reason {
@@ -80,11 +136,16 @@ impl Reason {
 
 /// A place in a text: its line, and the character in that line, both counted from 1. A line feed ends a line.
 /// A character is a Unicode scalar value, so a tab is one.
-#[derive(Clone, Copy, Debug, Error)]
-#[error("line {line}, column {column}")]
+#[derive(Clone, Copy, Debug)]
 pub struct Place {
     pub line: u64,
     pub column: u64,
+}
+
+impl fmt::Display for Place {
+    fn fmt<W: fmt::Write>(&self, f: &mut fmt::Formatter<W>) -> fmt::Result {
+        write!(f, "line {}, column {}", self.line, self.column)
+    }
 }
 
 impl Place {
