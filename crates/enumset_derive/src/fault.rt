@@ -91,6 +91,8 @@ pub enum Reason {
     PastWords(u32),
     BitTwice(Place),
     DiscriminantTwice(Place),
+    /// Where an item is whose name is this in other letters.
+    OtherCase(Place),
 }
 
 impl fmt::Display for Reason {
@@ -101,7 +103,12 @@ impl fmt::Display for Reason {
             Reason::IntegerMissing => write!(f, "`map = \"msb\"` needs `repr` to be an integer"),
             Reason::TooManyVariants => write!(f, "an enum may have at most 256 variants"),
             Reason::NameTwice(first) => write!(f, "this name was given at {first}"),
-            Reason::NotAMask => write!(f, "a mask must be a power of two"),
+            Reason::NotAMask => {
+                write!(
+                    f,
+                    "a mask must be a power of two; a set without members is `EnumSet::empty()`"
+                )
+            }
             Reason::PastGreatest => write!(f, "a bit must be from 0 to 4294967231"),
             Reason::ImpliedTooLarge => write!(f, "the implied discriminant is past 2^128"),
             Reason::PastRepresentation { bit, width } => {
@@ -119,6 +126,12 @@ impl fmt::Display for Reason {
             Reason::BitTwice(first) => write!(f, "this bit was taken at {first}"),
             Reason::DiscriminantTwice(first) => {
                 write!(f, "this discriminant was taken at {first}")
+            }
+            Reason::OtherCase(first) => {
+                write!(
+                    f,
+                    "this name and that at {first} differ only in case: choose another"
+                )
             }
         }
     }

@@ -1,21 +1,34 @@
 //! Reads what a source text has, by a function for each thing of its grammar.
 
+mod discriminants;
 mod enums;
+mod expressions;
 mod imports;
 mod items;
 mod names;
 mod options;
 mod parts;
+mod values;
 
 use crate::fault::{Outcome, Place, Reason};
 use crate::plan::*;
 use crate::source::{Element, Form, Gap, Import, Name, Source};
 use crate::tokens::{Kind, Token, UNCLOSED_BRACKET, is_among, names_last};
-use imports::after_root;
+use imports::{after_root, has_alloc, renamed_crate};
 use parts::{Bearer, Part, derive_among, renamed_derive};
 use std::alloc::{AllocError, Global};
 use std::collections::BTreeSet;
 use std::mem;
+use values::NumberType;
+
+/// The words that are keywords in Rattle and names in Rust.
+const KEYWORDS: &str = "ghost requires ensures";
+
+const OWN_JSON: &str =
+    "a set in JSON is of the variants' names here: remove this, and give other names by \
+    `rename`, or write sets as numbers";
+
+const KEYWORD: &str = "this is a keyword here: choose another name";
 
 /// What a source text has of which these are the tokens, or the first fault, of reading or of planning.
 pub fn read_source<'a>(alloc: Global, text: &'a str, tokens: &[Token<'a>]) -> Outcome<Source<'a>> {
@@ -38,6 +51,7 @@ fn read_words<'a, 'b>(
         has_imports: false,
         names: Vec::new(alloc),
         facade: "enumset",
+        renamed: renamed_crate(words),
         has_enums: false,
         notes: Vec::new(alloc),
         gap: Gap::default(),
@@ -60,10 +74,16 @@ fn read_words<'a, 'b>(
         used: BTreeSet::new(alloc),
         given: Vec::new(alloc),
         serde: Vec::new(alloc),
+        discriminant_type: NumberType::OF_ENUMS,
+        declared: Vec::new(alloc),
+        serializers: Vec::new(alloc),
+        derived: Vec::new(alloc),
+        has_alloc: has_alloc(words),
     };
     for _ in tokens {
         reader.read_token()?;
     }
+    reader.test_serializers()?;
     reader.settle_imports()?;
     let notes = &mut reader.source.notes;
     notes.sort_by_key(|(place, _)| (place.line, place.column))?;
@@ -86,6 +106,16 @@ struct Reader<'a, 'b> {
     given: Vec<&'b Token<'a>>,
     /// Its attributes that `serde` is in: of each how many variants come before it, if it is a variant's; if it stays.
     serde: Vec<(Part<'a, 'b>, Option<usize>, bool)>,
+    /// The type of its discriminants.
+    discriminant_type: NumberType,
+    /// The names of the functions, types, traits and modules so far.
+    declared: Vec<&'b Token<'a>>,
+    /// Where `Serialize` and `Deserialize` are implemented by hand, and for which type.
+    serializers: Vec<(&'b Token<'a>, &'a str)>,
+    /// What the attributes of an item derive so far, by its last name.
+    derived: Vec<Token<'a>>,
+    /// Whether the source names Rust's crate `alloc`.
+    has_alloc: bool,
 }
 
 impl<'a, 'b> Reader<'a, 'b> {
@@ -97,7 +127,11 @@ impl<'a, 'b> Reader<'a, 'b> {
         match begin.kind {
             Kind::End => return Ok(()),
             Kind::Comment | Kind::InnerDoc => {}
-            _ if begin.is_mark("#") && self.cursor.is_before("!") => self.cursor.advance()?,
+            _ if begin.is_mark("#") && self.cursor.is_before("!") => {
+                self.cursor.advance()?;
+                let is_script = begin.begin == 0 && !self.cursor.is_before("[");
+                begin.want(!is_script, "remove the first line: a module has no `#!`")?;
+            }
             _ => {
                 self.is_in_head = false;
                 return self.read_item();

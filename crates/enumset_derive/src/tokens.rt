@@ -97,6 +97,8 @@ const UNCLOSED: (Kind, &str) = (Kind::Fault("this quote has no end"), "");
 
 const RAW_NAME: &str = "no raw names here: choose one that is no keyword";
 
+const CURLY_QUOTE: &str = "this is a quote of a text for readers: write `\"` or `'`";
+
 const LONE_RETURN: &str = "a carriage return stands only before a line feed";
 
 /// The tokens of a text, and its end. It is a fault if a token ends the text or another bracket in a bracket.
@@ -107,7 +109,7 @@ pub fn tokens_of(alloc: Global, text: &str) -> Outcome<Vec<Token<'_>>> {
     let mut end = Place::BEGIN;
     let mut rest = text;
     for _ in 0..=text.len() {
-        let onward = rest.trim_start_matches(|c| matches!(c, ' ' | '\t' | '\n'));
+        let onward = rest.trim_start_matches(is_space);
         let (kind, after) = first_token(onward);
         let (space, written) = (before(rest, onward), before(onward, after));
         let place = space.chars().fold(end, Place::after);
@@ -116,15 +118,20 @@ pub fn tokens_of(alloc: Global, text: &str) -> Outcome<Vec<Token<'_>>> {
             Kind::Mark('(') => open.push((')', place))?,
             Kind::Mark('[') => open.push((']', place))?,
             Kind::Mark('{') => open.push(('}', place))?,
-            Kind::Mark(mark @ (')' | ']' | '}')) => {
-                unclosed = open.pop().filter(|(end, _)| *end != mark);
-            }
-            Kind::End => unclosed = open.first().copied(),
+            Kind::Mark(mark @ (')' | ']' | '}')) => match open.pop() {
+                Some((wanted, begin)) if wanted != mark => unclosed = Some((
+                    UNCLOSED_BRACKET,
+                    begin,
+                )),
+                Some(_) => {}
+                None => unclosed = Some(("this bracket has no beginning", place)),
+            },
+            Kind::End => unclosed = open.first().map(|(_, begin)| (UNCLOSED_BRACKET, *begin)),
             _ => {}
         }
         end = written.chars().fold(place, Place::after);
-        let fault = Kind::Fault(UNCLOSED_BRACKET);
-        let (kind, place) = unclosed.map_or((kind, place), |(_, place)| (fault, place));
+        let at_fault = unclosed.map(|(text, place)| (Kind::Fault(text), place));
+        let (kind, place) = at_fault.unwrap_or((kind, place));
         tokens.push(Token {
             kind,
             space,
@@ -152,7 +159,25 @@ fn first_token(text: &str) -> (Kind, &str) {
     match first {
         '/' if rest.starts_with('/') => (comment_kind(text), rest.trim_start_matches(is_in_line)),
         '/' if rest.starts_with('*') => block_comment(text),
+        '*' if is_comment_end(rest) => (Kind::Fault("this comment has no beginning"), ""),
         '\r' => (Kind::Fault(LONE_RETURN), ""),
+        '\u{a0}' => (
+            Kind::Fault("this is U+00A0, a space without a break: write a plain space"),
+            "",
+        ),
+        '\u{200b}' => (
+            Kind::Fault("this is U+200B, a space without a width: remove it"),
+            "",
+        ),
+        '\u{2028}' | '\u{2029}' => (
+            Kind::Fault("this is U+2028 or U+2029: write a line feed"),
+            "",
+        ),
+        '\u{2018}' | '\u{2019}' | '\u{201c}' | '\u{201d}' => (Kind::Fault(CURLY_QUOTE), ""),
+        '\u{feff}' => (
+            Kind::Fault("this is U+FEFF, a byte order mark: remove it"),
+            "",
+        ),
         '"' => after_quote(rest),
         '\'' => after_tick(rest),
         ':' if rest.starts_with(':') => (Kind::Mark(':'), after(rest, 0)),
@@ -253,7 +278,30 @@ fn after(text: &str, at: usize) -> &str {
     text.get(at.saturating_add(1)..).unwrap_or("")
 }
 
-/// Whether a character may stand in a word: a letter, a digit, `_`, or a character past ASCII.
+/// Whether a character is a space: also a tab, the end of a line, or one of the old ends of a page.
+fn is_space(character: char) -> bool {
+    matches!(character, ' ' | '\t' | '\n' | '\u{b}' | '\u{c}')
+}
+
+/// Whether a `*` before this text and the `/` in it are the end of a comment, and no `*` before a comment.
+fn is_comment_end(rest: &str) -> bool {
+    let after = rest.strip_prefix('/');
+    after.is_some_and(|after| !after.starts_with(|next| matches!(next, '/' | '*')))
+}
+
+/// Whether a character may stand in a word: a letter, a digit, `_`, or a character past ASCII that has no name here.
 fn is_word(character: char) -> bool {
-    character == '_' || character.is_ascii_alphanumeric() || !character.is_ascii()
+    let is_named = matches!(
+        character,
+        '\u{a0}'
+            | '\u{200b}'
+            | '\u{2018}'
+            | '\u{2019}'
+            | '\u{201c}'
+            | '\u{201d}'
+            | '\u{2028}'
+            | '\u{2029}'
+            | '\u{feff}'
+    );
+    character == '_' || character.is_ascii_alphanumeric() || !(character.is_ascii() || is_named)
 }

@@ -14,4 +14,3 @@ pub mod permissions;
 pub mod states;
 pub mod tokens;
 pub mod verbs;
-pub mod wire;

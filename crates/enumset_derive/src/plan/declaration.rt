@@ -40,12 +40,12 @@ pub struct Variant<'a> {
 /// A discriminant that is given.
 #[derive(Clone, Copy)]
 pub struct Discriminant<'a> {
-    /// Where the literal, or the minus sign before it, is.
+    /// Where it begins.
     pub place: Place,
-    /// The minus sign, if there is one.
+    /// The minus sign before the literal, if there is one.
     pub sign: &'a str,
-    /// As it is written, as `0x1F`, without the type after it.
-    pub literal: &'a str,
+    /// The literal as it is written, as `0x1F`, without the type after it; nothing of an expression.
+    pub literal: Option<&'a str>,
     pub number: Number,
 }
 

@@ -1,15 +1,25 @@
 //! Enums that are to be element types.
 
+use super::values::NumberType;
 use super::*;
 
 const NO_VARIANTS: &str = "`rt ci` refuses what this enum without variants has: nobody can call it";
 
-const NOT_A_LITERAL: &str = "a discriminant must be a literal of an integer";
-
 const DROPPED: &str =
-    "left out: the discriminants of this enum, as this one is past -2^63 to 2^63 - 1";
+    "left out: the discriminants of this enum, as this one is past -2^63 to 2^63 - 1; \
+    `as` gives the places of the variants";
 
-const SERDE_ALONE: &str = "here nothing comes of the names: write `#[serde(..)]` alone";
+const OTHER_ORDER: &str =
+    "the derived order needs the variants in the order of their discriminants, of which \
+    one is past -2^63 to 2^63 - 1: move this variant, or write `PartialOrd` and `Ord` by hand";
+
+const SERDE_ALONE: &str = "`cfg_attr` is not read here: write `#[serde(..)]` itself";
+
+const DENY_ALONE: &str = "`serialize_deny_unknown` changes nothing without `serialize_repr`";
+
+const OTHER_CRATE: &str = "the enums of one source cite one crate: give each the same `crate_name`";
+
+const OTHER_ITEMS: &str = "struct union fn const static trait type mod impl use";
 
 /// The attribute of what is there for tests alone. In one piece it would have the toolchain look for tests here.
 const FOR_TESTS: &str = concat!("#", "[cfg(test)]\n");
@@ -28,7 +38,7 @@ impl<'a, 'b> Reader<'a, 'b> {
             options: Options::default(),
         };
         self.given.clear();
-        self.read_enum(&mut declaration, parts)?;
+        let name = self.read_enum(&mut declaration, parts)?;
         let plan = plan_enum(alloc, &declaration)?;
         // The first discriminant that no enum of Rattle has.
         let past = plan.variants.iter().find(|named| match named.number {
@@ -37,8 +47,13 @@ impl<'a, 'b> Reader<'a, 'b> {
             Number::PowerOfTwo(_) => true,
         });
         if let Some(named) = past {
-            let note = String::from_str(alloc, DROPPED)?;
-            self.source.notes.push((named.place, note))?;
+            test_order(&declaration, &plan)?;
+            self.note(named.place, DROPPED)?;
+        }
+        self.test_crate_name(&declaration.options, name)?;
+        let other_json = parts.iter().find_map(|part| part.other_json());
+        if let (Some(other), true) = (other_json, declaration.options.are_named()) {
+            return Err(other.fault(OWN_JSON));
         }
         let json_names = self.json_names(&declaration)?;
         for (part, _, is_kept) in mem::replace(&mut self.serde, Vec::new(alloc)) {
@@ -47,7 +62,6 @@ impl<'a, 'b> Reader<'a, 'b> {
             }
         }
         self.source.has_enums = true;
-        self.source.facade = declaration.options.crate_name.unwrap_or(self.source.facade);
         let is_test = parts.iter().any(|part| part.name.is("cfg"));
         let element = Element {
             has_discriminants: past.is_none(),
@@ -94,14 +108,21 @@ impl<'a, 'b> Reader<'a, 'b> {
     }
 
     /// Reads an enum, whose comments and attributes are these, from its visibility up to the `}` at its end.
-    fn read_enum(&mut self, of: &mut EnumDeclaration<'a>, parts: &[Part<'a, 'b>]) -> Outcome {
+    /// Gives its name.
+    fn read_enum(
+        &mut self,
+        of: &mut EnumDeclaration<'a>,
+        parts: &[Part<'a, 'b>],
+    ) -> Outcome<&'b Token<'a>> {
+        let own = parts.iter().find_map(|part| part.number_type());
+        self.discriminant_type = own.unwrap_or(NumberType::OF_ENUMS);
         let first = parts.iter().position(|part| part.name.is("derive"));
         let (before, after) = parts.split_at(first.unwrap_or(0));
         of.attributes = [self.take(of, before)?, self.take(of, after)?];
         of.visibility = self.cursor.read_visibility()?;
         let name = self.cursor.read_enum_name()?;
         of.name = name.text;
-        self.source.names.push(("", *name))?;
+        self.declare(name)?;
         for _ in self.cursor.rest {
             self.test_options(&of.options)?;
             let parts = self.cursor.read_parts(self.alloc)?;
@@ -116,18 +137,39 @@ impl<'a, 'b> Reader<'a, 'b> {
             of.variants.push(variant)?;
         }
         if of.variants.is_empty() {
-            let note = String::from_str(self.alloc, NO_VARIANTS)?;
-            self.source.notes.push((name.place, note))?;
+            self.note(name.place, NO_VARIANTS)?;
         }
+        Ok(name)
+    }
+
+    /// Says what an option means nothing without. It is a fault if the enum cites another crate than those before it.
+    fn test_crate_name(&mut self, options: &Options<'a>, name: &Token<'a>) -> Outcome {
+        let alone = options.denies_unknown && options.serialized.is_none();
+        let denied = self
+            .given
+            .iter()
+            .find(|given| given.is("serialize_deny_unknown"));
+        if let (Some(denied), true) = (denied, alone) {
+            self.note(denied.place, DENY_ALONE)?;
+        }
+        let cited = options.crate_name.unwrap_or("enumset");
+        let place = self.given.iter().find(|given| given.is("crate_name"));
+        let is_one = !self.source.has_enums || cited == self.source.facade;
+        place
+            .map_or(name, |given| *given)
+            .want(is_one, OTHER_CRATE)?;
+        self.source.facade = cited;
         Ok(())
     }
 
-    /// A fault if an option or an attribute of the enum means nothing without another.
+    /// Says something of a place on standard error.
+    fn note(&mut self, place: Place, text: &str) -> Outcome {
+        let note = String::from_str(self.alloc, text)?;
+        Ok(self.source.notes.push((place, note))?)
+    }
+
+    /// A fault if names in JSON stand under `cfg_attr`.
     fn test_options(&self, options: &Options) -> Outcome {
-        for given in &self.given {
-            let is_right = options.serialized.is_some() || !given.is("serialize_deny_unknown");
-            given.want(is_right, "`serialize_deny_unknown` needs `serialize_repr`")?;
-        }
         for (part, _, _) in &self.serde {
             let is_right = !options.are_named() || !part.name.is("cfg_attr");
             part.name.want(is_right, SERDE_ALONE)?;
@@ -140,11 +182,14 @@ impl<'a, 'b> Reader<'a, 'b> {
         let begin = self.cursor;
         let name = begin.token;
         name.want(name.is_name(), "wanted: a name of a variant, or `}`")?;
+        name.want(!is_among(KEYWORDS, name.text), KEYWORD)?;
         self.cursor.advance_to_word()?;
         Ok(Variant {
             place: name.place,
             name: name.text,
-            discriminant: self.cursor.read_discriminant()?,
+            discriminant: self
+                .cursor
+                .read_discriminant(self.alloc, self.discriminant_type)?,
             comments: self.cursor.end_variant(self.alloc, &begin)?,
             attributes: String::new(self.alloc),
         })
@@ -156,7 +201,11 @@ impl<'a, 'b> Cursor<'a, 'b> {
     fn read_enum_name(&mut self) -> Outcome<&'b Token<'a>> {
         let keyword = self.token;
         keyword.want(!matches!(keyword.kind, Kind::End), "wanted: an item")?;
-        keyword.want(keyword.is("enum"), "`EnumSetType` is for enums alone")?;
+        keyword.want(
+            !is_among(OTHER_ITEMS, keyword.text),
+            "`EnumSetType` is for enums alone",
+        )?;
+        keyword.want(keyword.is("enum"), "wanted: `enum`")?;
         self.advance_to_word()?;
         let name = self.token;
         name.want(name.is_name(), "wanted: a name of an enum")?;
@@ -167,29 +216,6 @@ impl<'a, 'b> Cursor<'a, 'b> {
         next.want(next.is_mark("{"), "wanted: `{`")?;
         self.advance()?;
         Ok(name)
-    }
-
-    /// Reads `=` and a discriminant, if they are there, up to the `,` or `}` after them.
-    fn read_discriminant(&mut self) -> Outcome<Option<Discriminant<'a>>> {
-        if !self.token.is_mark("=") {
-            return Ok(None);
-        }
-        self.advance_to_word()?;
-        let begin = self.token;
-        let sign = if begin.is_mark("-") { "-" } else { "" };
-        if begin.is_mark("-") {
-            self.advance_to_word()?;
-        }
-        let read = number_of(self.token.text, begin.is_mark("-"));
-        let (literal, number) = read.map_err(|text| begin.fault(text))?;
-        self.advance_to_word()?;
-        begin.want(self.token.is_mark(",}"), NOT_A_LITERAL)?;
-        Ok(Some(Discriminant {
-            place: begin.place,
-            sign,
-            literal,
-            number,
-        }))
     }
 
     /// Reads what ends a variant, and the comments on its line after a `,`. Gives the comments since it began.
@@ -215,44 +241,31 @@ impl<'a, 'b> Cursor<'a, 'b> {
     }
 }
 
+/// A fault if the order that an enum derives is not that of the places of its variants.
+fn test_order(of: &EnumDeclaration, plan: &Plan) -> Outcome {
+    let mut pairs = plan.variants.array_windows::<2>();
+    let down = pairs.find(|[one, next]| !is_below(one.number, next.number));
+    match down {
+        Some([_, next]) if derives(of, "PartialOrd") || derives(of, "Ord") => {
+            Err(Reason::Text(OTHER_ORDER).at(next.place).into())
+        }
+        _ => Ok(()),
+    }
+}
+
+/// Whether a number is below another.
+fn is_below(one: Number, other: Number) -> bool {
+    match (one, other) {
+        (Number::Negative(one), Number::Negative(other)) => other < one,
+        (Number::Small(one), Number::Small(other)) => one < other,
+        (Number::PowerOfTwo(one), Number::PowerOfTwo(other)) => one < other,
+        (Number::Negative(_), _) | (Number::Small(_), Number::PowerOfTwo(_)) => true,
+        (_, _) => false,
+    }
+}
+
 /// Whether an enum derives something of this name.
 fn derives(of: &EnumDeclaration, name: &str) -> bool {
     let mut derives = of.derives.iter();
     derives.any(|path| names_last(path.as_str(), name))
-}
-
-/// A literal without the type after it, and the number that it writes, or that a minus sign before it makes of it.
-/// Past 128 bits it is a power of two up to 2^(2^32 - 1): after leading zeros a digit with one bit, and then zeros.
-fn number_of(literal: &str, is_negative: bool) -> Result<(&str, Number), &'static str> {
-    let mut types = "u8 u16 u32 u64 u128 usize i8 i16 i32 i64 i128 isize".split(' ');
-    let untyped = types.find_map(|name| literal.strip_suffix(name));
-    let written = untyped.unwrap_or(literal).trim_end_matches('_');
-    let mut prefixes = [("0x", 16), ("0o", 8), ("0b", 2)].iter();
-    let digits_of = |(prefix, radix): &(&str, u32)| Some((*radix, written.strip_prefix(prefix)?));
-    let (radix, digits) = prefixes.find_map(digits_of).unwrap_or((10, written));
-    if digits.is_empty() || !written.starts_with(|first: char| first.is_ascii_digit()) {
-        return Err(NOT_A_LITERAL);
-    }
-    let step = radix.trailing_zeros();
-    let mut value = Some(0u128);
-    let mut exponent = None;
-    for character in digits.chars().filter(|character| *character != '_') {
-        let digit = character.to_digit(16).filter(|digit| *digit < radix);
-        let digit = digit.ok_or(NOT_A_LITERAL)?;
-        exponent = match (value, digit) {
-            (Some(0), 1 | 2 | 4 | 8) => Some(digit.trailing_zeros()),
-            (_, 0) if radix != 10 => exponent.and_then(|exponent: u32| exponent.checked_add(step)),
-            _ => None,
-        };
-        let shifted = value.and_then(|value| value.checked_mul(u128::from(radix)));
-        value = shifted.and_then(|shifted| shifted.checked_add(u128::from(digit)));
-    }
-    let number = match (value, exponent) {
-        (Some(0), _) => Number::Small(0),
-        (Some(number), _) if is_negative => Number::Negative(number),
-        (Some(number), _) => Number::Small(number),
-        (None, Some(exponent)) if !is_negative => Number::PowerOfTwo(exponent),
-        _ => return Err("a literal past 2^128 - 1 must be a power of two, and not decimal"),
-    };
-    Ok((written, number))
 }

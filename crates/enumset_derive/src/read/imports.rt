@@ -4,6 +4,9 @@ use super::*;
 
 const UNUSED: &str = "is of a crate that may not be there, and nothing here names it";
 
+const IMPORTS_ALL: &str =
+    "name what is imported here: this `*` is of a crate that may not be there";
+
 const EXPORTS_ALL: &str = "`pub use` takes no `*` here: name what is exported";
 
 impl<'a, 'b> Reader<'a, 'b> {
@@ -99,6 +102,10 @@ impl<'a, 'b> Reader<'a, 'b> {
                     self.source.notes.push((place, note))?;
                     continue;
                 }
+                let all = import.names.iter().find(|(_, name)| name.is_mark("*"));
+                if let (Some(_), Some((_, all))) = (import.unknown, all) {
+                    return Err(all.fault(IMPORTS_ALL));
+                }
                 for (root, name) in &import.names {
                     let place = import.unknown.unwrap_or(name.place);
                     self.source.names.push((*root, Token { place, ..*name }))?;
@@ -162,4 +169,19 @@ fn spelled(alloc: Global, tree: &[Token]) -> Result<String, AllocError> {
     let text = text.as_str();
     let text = text.strip_suffix(", ").unwrap_or(text);
     text.replace(alloc, ", }", "}")
+}
+
+/// The name `F` of `extern crate enumset as F` among these words, or an empty text.
+pub(super) fn renamed_crate<'a>(words: &[Token<'a>]) -> &'a str {
+    let mut words = words.array_windows::<4>();
+    let renamed = words.find(|[kind, name, by, _]| kind.is("crate")
+        && name.is("enumset")
+        && by.is("as"));
+    renamed.map_or("", |[_, _, _, new]| new.text)
+}
+
+/// Whether `extern crate alloc` is among these words.
+pub(super) fn has_alloc(words: &[Token]) -> bool {
+    let mut words = words.array_windows::<3>();
+    words.any(|[keyword, kind, name]| keyword.is("extern") && kind.is("crate") && name.is("alloc"))
 }

@@ -9,6 +9,8 @@ const WRONG_REPRESENTATION: &str =
 const WRONG_FORM: &str =
     "`serialize_repr` is \"u8\", \"u16\", \"u32\", \"u64\", \"u128\", \"array\", \"list\" or \"map\"";
 
+const WRONG_CRATE: &str = "`crate_name` is a name, as \"enumset\" or \"crate\"";
+
 const OLD_LIST: &str = "`serialize_as_list` is written `serialize_repr = \"list\"`";
 
 impl<'a, 'b> Reader<'a, 'b> {
@@ -63,7 +65,11 @@ fn read_option<'a>(options: &mut Options<'a>, name: &Token<'a>, rest: &[Token<'a
                 _ => bits.ok_or(value.fault(WRONG_FORM))?,
             });
         }
-        "crate_name" => options.crate_name = Some(value_of(name, rest)?.1),
+        "crate_name" => {
+            let (value, text) = value_of(name, rest)?;
+            value.want(is_crate_name(text), WRONG_CRATE)?;
+            options.crate_name = Some(text);
+        }
         "serialize_deny_unknown" => options.denies_unknown = boolean_of(rest)?,
         "no_ops" => options.leaves_out_operators = boolean_of(rest)?,
         "no_super_impls" => options.leaves_out_supertraits = boolean_of(rest)?,
@@ -72,6 +78,13 @@ fn read_option<'a>(options: &mut Options<'a>, name: &Token<'a>, rest: &[Token<'a
         _ => return Err(name.fault("there is no such option")),
     }
     Ok(())
+}
+
+/// Whether a text is a name, as that of a crate: letters, digits and `_`, and no digit first.
+fn is_crate_name(text: &str) -> bool {
+    let is_letter = |letter: char| letter.is_ascii_alphanumeric() || letter == '_';
+    let is_digit = |letter: char| letter.is_ascii_digit();
+    !text.is_empty() && text.chars().all(is_letter) && !text.starts_with(is_digit)
 }
 
 /// The value after `=` in what comes after a name, and the text in its quotes.

@@ -8,9 +8,9 @@ const CONFIGURATION: &str =
 const ON_VARIANT: &str =
     "a variant has no configuration here: remove the attribute, or the variant too";
 
-const DERIVE_ALONE: &str = "here nothing comes of `EnumSetType`: write `#[derive(..)]` alone";
+const DERIVE_ALONE: &str = "`cfg_attr` is not read here: write `#[derive(EnumSetType)]` itself";
 
-const OPTIONS_ALONE: &str = "here nothing comes of the options: write `#[enumset(..)]` alone";
+const OPTIONS_ALONE: &str = "`cfg_attr` is not read here: write `#[enumset(..)]` itself";
 
 /// The attributes with a meaning before an item that is no element type alone.
 const OF_ITEMS: &str = "inline cold test ignore should_panic macro_export macro_use macro_derive \
@@ -84,31 +84,63 @@ impl<'a, 'b> Part<'a, 'b> {
         pairs.any(|[word, next]| word.is(name) && next.is_mark("("))
     }
 
+    /// The type of integers that it is, as `#[repr(u8)]`.
+    pub fn number_type(&self) -> Option<NumberType> {
+        let mut words = self.words.iter().filter(|_| self.name.is("repr"));
+        words.find_map(|word| NumberType::named(word.text))
+    }
+
+    /// Whether it derives what writes or reads the enum in JSON in another way than `serde` does.
+    pub fn other_json(&self) -> Option<&'b Token<'a>> {
+        let mut words = self.words.iter().filter(|_| self.name.is("derive"));
+        words.find(|word| {
+            let begins = word.text.starts_with("Serialize") || word.text.starts_with("Deserialize");
+            begins && !word.is("Serialize") && !word.is("Deserialize")
+        })
+    }
+
     /// Its arguments, each with the mark at its end. The last is a fault if the attribute does not end after them.
     pub fn arguments(&self, alloc: Global) -> Outcome<Vec<Outcome<&'b [Token<'a>]>>> {
         let [bracket, _, open, rest @ ..] = self.words else {
             return Ok(Vec::new(alloc));
         };
-        open.want(open.is_mark("("), "wanted: `(`")?;
+        open.want(open.is_mark("([{"), "wanted: `(`")?;
         let depth = open.depth;
         let is_end = |word: &Token| {
-            (word.is_mark(",") && word.depth == depth) || (word.is_mark(")") && word.depth < depth)
+            (word.is_mark(",") && word.depth == depth)
+                || (word.is_mark(")]}") && word.depth < depth)
         };
         let arguments = rest.split_inclusive(is_end);
         let arguments = arguments.filter_map(|argument| match argument {
-            [end] if end.is_mark(")]") => None,
-            [.., end] if end.is_mark("]") => Some(Err(bracket.fault(UNCLOSED_BRACKET))),
+            [end] if end.is_mark(")]}") => None,
+            [.., end] if end.is_mark("]") && end.depth.saturating_add(1) < depth => {
+                Some(Err(bracket.fault(UNCLOSED_BRACKET)))
+            }
             argument => Some(Ok(argument)),
         });
         Ok(arguments.collect(alloc)?)
     }
 }
 
-/// The first `EnumSetType`, or its other name, that is derived among these words.
+/// The first `EnumSetType`, or its other name, that an attribute derives among these words.
 pub(super) fn derive_among<'b>(words: &'b [Token<'b>], renamed: &str) -> Option<&'b Token<'b>> {
+    let mut attributes = words.split(|word| word.is_mark("#"));
+    attributes.find_map(|attribute| derive_in(attribute, renamed))
+}
+
+/// The first that an attribute derives, which these words may begin with, from its `[` on.
+fn derive_in<'b>(attribute: &'b [Token<'b>], renamed: &str) -> Option<&'b Token<'b>> {
+    let [bracket, name, ..] = attribute else {
+        return None;
+    };
+    if !bracket.is_mark("[") || !is_among("derive cfg_attr", name.text) {
+        return None;
+    }
+    let end = attribute.iter().position(|word| word.depth < bracket.depth);
+    let words = attribute.get(..end.unwrap_or(attribute.len()))?;
     let mut derives = words.split(|word| word.is("derive")).skip(1);
     derives.find_map(|words| {
-        let (open, derived) = words.split_first().filter(|(open, _)| open.is_mark("("))?;
+        let (open, derived) = words.split_first().filter(|(open, _)| open.is_mark("([{"))?;
         let mut derived = derived.iter().take_while(|word| word.depth >= open.depth);
         derived.find(|word| word.is("EnumSetType") || word.is(renamed))
     })
@@ -121,16 +153,19 @@ pub(super) fn renamed_derive<'a>(words: &[Token<'a>]) -> &'a str {
     renamed.map_or("", |[_, _, new]| new.text)
 }
 
-/// The path that an argument of a derive is.
+/// The path that an argument of a derive is. Rust's `core` is `std` here.
 fn path_of(alloc: Global, argument: &[Token]) -> Outcome<String> {
     let mut path = String::new(alloc);
     for (index, word) in after_root(argument).iter().enumerate() {
         match index % 2 {
             0 => word.want(word.is_name(), "wanted: a path, or `)`")?,
-            _ if word.is_mark(",)") => break,
+            _ if word.is_mark(",)]}") => break,
             _ => word.want(word.is_mark(":"), "wanted: `,` or `)`")?,
         }
-        path.push_str(word.text)?;
+        path.push_str(match word.text {
+            "core" if index == 0 => "std",
+            text => text,
+        })?;
     }
     Ok(path)
 }
@@ -202,15 +237,46 @@ impl<'a, 'b> Reader<'a, 'b> {
         Ok((kept, is_whole))
     }
 
-    /// Keeps the path that an argument of a derive is, among these, or leaves it out. It says whether the path is known.
+    /// A fault if what an argument of a derive names is derived already.
+    fn test_derived(&mut self, argument: &[Token<'a>]) -> Outcome {
+        let Some(name) = argument.iter().rfind(|word| word.is_name()) else {
+            return Ok(());
+        };
+        if let Some(first) = self.derived.iter().find(|first| first.is(name.text)) {
+            return Err(
+                Reason::GivenTwice("derive", first.place)
+                    .at(name.place)
+                    .into(),
+            );
+        }
+        Ok(self.derived.push(*name)?)
+    }
+
+    /// Takes in the words that name something, each but the later ones of a path.
+    pub(super) fn use_words(&mut self, words: &[Token<'a>]) -> Outcome {
+        let mut is_in_path = false;
+        for word in words {
+            if word.is_name() && !is_in_path {
+                self.used.insert(word.text)?;
+            }
+            is_in_path = word.is_mark(":");
+        }
+        Ok(())
+    }
+
+    /// Keeps the path that an argument of a derive is, among these, or leaves it out. It says whether it stays as it is.
     fn keep(&mut self, kept: &mut Vec<String>, argument: &[Token<'a>]) -> Outcome<bool> {
         let path = path_of(self.alloc, argument)?;
         let is_known = is_known(path.as_str());
         let own = ["EnumSetType", self.derive];
         let is_own = own.iter().any(|own| names_last(path.as_str(), own));
+        if is_known || is_own {
+            self.test_derived(argument)?;
+        }
         if is_known && !is_own {
-            self.used.extend(argument.iter().map(|word| word.text))?;
+            self.use_words(argument)?;
             kept.push(path)?;
+            return Ok(!argument.first().is_some_and(|root| root.is("core")));
         } else if let (false, [begin, ..]) = (is_own, argument) {
             let text = format!(in self.alloc; "#[derive({path})]")?;
             self.leave_out(begin.place, text.as_str())?;

@@ -60,10 +60,22 @@ fn write_enum(out: &mut String, alloc: Global, element: &Element) -> Written {
 fn write_variant(out: &mut String, variant: &Variant, has_discriminant: bool) -> Written {
     write!(out, "{}    {}", variant.attributes, variant.name)?;
     let given = variant.discriminant.filter(|_| has_discriminant);
-    if let Some(Discriminant { sign, literal, .. }) = given {
-        write!(out, " = {sign}{literal}")?;
+    match given {
+        Some(given) => write_discriminant(out, &given)?,
+        None => {}
     }
     write!(out, ",{}\n", variant.comments)
+}
+
+/// Writes a discriminant: its literal, or the number that an expression is.
+fn write_discriminant(out: &mut String, given: &Discriminant) -> Written {
+    match (given.literal, given.number) {
+        (Some(literal), _) => write!(out, " = {}{literal}", given.sign),
+        (None, Number::Small(number)) => write!(out, " = {number}"),
+        (None, Number::Negative(number)) => write!(out, " = -{number}"),
+        // No expression is past 128 bits.
+        (None, Number::PowerOfTwo(_)) => Ok(()),
+    }
 }
 
 /// Writes the derives, on a line or on a line each: those that an element type needs, and those of the source.

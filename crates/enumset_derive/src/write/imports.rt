@@ -4,6 +4,8 @@ use super::*;
 
 const TAKEN: &str = "the module needs this name for what it imports of `enumset`: choose another";
 
+const RENAMED: &str = "import it from `enumset`, or name its crate by `crate_name`";
+
 /// What a module imports of `enumset`, each once. It is a fault if the source gives a needed name to something else.
 pub(super) fn imports_of(alloc: Global, source: &Source) -> Outcome<String> {
     let imported = source.imports.iter().map(|name| name.as_str());
@@ -47,6 +49,9 @@ fn is_free(source: &Source, path: &str) -> Outcome<bool> {
     match *root {
         "crate" | "self" | "super" => Ok(false),
         root if root == source.facade || root.starts_with("enumset") => Ok(false),
+        root if !root.is_empty() && root == source.renamed => {
+            Err(Reason::Text(RENAMED).at(other.place).into())
+        }
         _ => Err(Reason::Text(TAKEN).at(other.place).into()),
     }
 }

@@ -1,0 +1,4 @@
+#[derive(EnumSetType)]
+enum Byte {
+    First = 300 as u8 as isize,
+}

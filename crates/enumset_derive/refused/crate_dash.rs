@@ -1,0 +1,5 @@
+#[derive(EnumSetType)]
+#[enumset(crate_name = "my-enumset")]
+enum Color {
+    Red,
+}

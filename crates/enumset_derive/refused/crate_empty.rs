@@ -1,0 +1,5 @@
+#[derive(EnumSetType)]
+#[enumset(crate_name = "")]
+enum Color {
+    Red,
+}

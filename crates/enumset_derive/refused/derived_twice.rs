@@ -1,0 +1,5 @@
+#[derive(EnumSetType, Debug)]
+#[derive(Debug)]
+enum Color {
+    Red,
+}

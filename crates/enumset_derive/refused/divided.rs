@@ -1,0 +1,4 @@
+#[derive(EnumSetType)]
+enum Half {
+    First = 1 + 8 / 2,
+}

@@ -1,0 +1,6 @@
+pub struct Color(u8);
+
+#[derive(EnumSetType)]
+enum Color {
+    Red,
+}

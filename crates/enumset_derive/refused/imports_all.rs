@@ -1,0 +1,10 @@
+use bevy::prelude::*;
+
+#[derive(EnumSetType)]
+enum Color {
+    Red,
+}
+
+fn first() -> Color {
+    Color::Red
+}

@@ -1,0 +1,9 @@
+#[derive(EnumSetType)]
+enum System {
+    Windows,
+}
+
+mod here {
+    #![allow(dead_code)]
+    #![cfg(windows)]
+}

@@ -1,0 +1,5 @@
+#!/usr/bin/env run-cargo-script
+#[derive(EnumSetType)]
+enum Color {
+    Red,
+}

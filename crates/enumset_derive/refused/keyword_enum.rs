@@ -1,0 +1,4 @@
+#[derive(EnumSetType)]
+enum ghost {
+    First,
+}

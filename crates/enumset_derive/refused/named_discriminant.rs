@@ -1,0 +1,6 @@
+const BASE: isize = 4;
+
+#[derive(EnumSetType)]
+enum Channel {
+    First = BASE + 1,
+}

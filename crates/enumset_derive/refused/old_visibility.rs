@@ -1,0 +1,4 @@
+#[derive(EnumSetType)]
+crate enum Color {
+    Red,
+}

@@ -1,0 +1,7 @@
+#[cfg(test)]
+mod tests {
+    #[derive(EnumSetType)]
+    enum Color {
+        Red,
+    }
+}

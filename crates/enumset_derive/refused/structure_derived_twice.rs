@@ -1,0 +1,2 @@
+#[derive(Clone, Copy, core::clone::Clone)]
+struct Pair(u8, u8);

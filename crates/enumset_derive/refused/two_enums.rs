@@ -1,0 +1,9 @@
+#[derive(EnumSetType)]
+enum Color {
+    Red,
+}
+
+#[derive(EnumSetType)]
+enum Color {
+    Blue,
+}

@@ -1,0 +1,4 @@
+#[derive(EnumSetType)]
+pub enum Page {
+    First,
+}

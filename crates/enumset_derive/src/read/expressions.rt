@@ -1,0 +1,234 @@
+//! Discriminants that are written as expressions: exact whole numbers under Rust's operators, by Rust's precedence.
+
+use super::discriminants::NOT_A_NUMBER;
+use super::values::{Form, NumberType, Value};
+use super::*;
+
+const PAST_TYPE: &str = "past the type of this discriminant: write the number itself";
+
+/// An operator that waits for what comes after it.
+#[derive(Clone, Copy)]
+enum Operator {
+    /// The `(` of a group.
+    Open,
+    Or,
+    Xor,
+    And,
+    Left,
+    Right,
+    Plus,
+    Minus,
+    Times,
+    Negate,
+}
+
+/// How tightly `as` binds.
+const CAST_RANK: u32 = 7;
+
+impl Operator {
+    /// How tightly it binds.
+    fn rank(self) -> u32 {
+        match self {
+            Operator::Open => 0,
+            Operator::Or => 1,
+            Operator::Xor => 2,
+            Operator::And => 3,
+            Operator::Left | Operator::Right => 4,
+            Operator::Plus | Operator::Minus => 5,
+            Operator::Times => 6,
+            Operator::Negate => 8,
+        }
+    }
+
+    /// The operator of two operands that tokens begin with, and the tokens after it.
+    fn first_of<'a, 'b>(rest: &'b [Token<'a>]) -> Option<(Operator, &'b [Token<'a>])> {
+        match rest {
+            [one, two, rest @ ..] if one.is("<") && two.is("<") && two.space.is_empty() => {
+                Some((Operator::Left, rest))
+            }
+            [one, two, rest @ ..] if one.is(">") && two.is(">") && two.space.is_empty() => {
+                Some((Operator::Right, rest))
+            }
+            [one, rest @ ..] => {
+                let operator = match one.text {
+                    "|" => Operator::Or,
+                    "^" => Operator::Xor,
+                    "&" => Operator::And,
+                    "+" => Operator::Plus,
+                    "-" => Operator::Minus,
+                    "*" => Operator::Times,
+                    _ => return None,
+                };
+                Some((operator, rest))
+            }
+            [] => None,
+        }
+    }
+
+    /// What it makes of two numbers, if that is a number. Bits of negative numbers are not looked at.
+    fn apply(self, left: Value, right: Value) -> Option<Value> {
+        let is_shift = matches!(self, Operator::Left | Operator::Right);
+        let has_sign = left.is_negative || right.is_negative;
+        let (absolute, is_negative) = match self {
+            Operator::Plus => left.plus(right)?,
+            Operator::Minus => left.plus(right.negated())?,
+            Operator::Times => {
+                let product = left.absolute.checked_mul(right.absolute)?;
+                (
+                    product,
+                    product > 0 && left.is_negative != right.is_negative,
+                )
+            }
+            Operator::Left => left.shifted_up(right)?,
+            Operator::Right => left.shifted_down(right)?,
+            Operator::Or if !has_sign => (left.absolute | right.absolute, false),
+            Operator::Xor if !has_sign => (left.absolute ^ right.absolute, false),
+            Operator::And if !has_sign => (left.absolute & right.absolute, false),
+            _ => return None,
+        };
+        let form = match (left.form, right.form) {
+            (Form::Character, _) | (_, Form::Character) => return None,
+            (Form::Typed(known), _) => Form::Typed(known),
+            (_, Form::Typed(known)) if !is_shift => Form::Typed(known),
+            _ => Form::Computed,
+        };
+        let other = if is_shift { 0 } else { right.peak };
+        Some(Value {
+            absolute,
+            is_negative: is_negative && absolute > 0,
+            peak: absolute.max(left.peak).max(other),
+            form,
+        })
+    }
+}
+
+/// An expression, as far as it was read.
+#[derive(Drop)]
+struct Expression {
+    /// The numbers that no operator has taken.
+    values: Vec<Value>,
+    /// The operators and groups that wait for an operand, or for an operator that binds less tightly.
+    waiting: Vec<Operator>,
+    /// Whether an operand comes next.
+    wants_operand: bool,
+}
+
+impl Expression {
+    /// Takes in an operand, or what stands before one. Gives the tokens after it, or nothing if there is no operand.
+    fn take_operand<'a, 'b>(&mut self, rest: &'b [Token<'a>]) -> Outcome<Option<&'b [Token<'a>]>> {
+        let [first, rest @ ..] = rest else {
+            return Ok(None);
+        };
+        if first.is("(") || first.is("-") {
+            let is_group = first.is("(");
+            let waits = if is_group {
+                Operator::Open
+            } else {
+                Operator::Negate
+            };
+            self.waiting.push(waits)?;
+            return Ok(Some(rest));
+        }
+        let Some(value) = Value::written(first) else {
+            return Ok(None);
+        };
+        self.values.push(value)?;
+        self.wants_operand = false;
+        Ok(Some(rest))
+    }
+
+    /// Takes in what stands after an operand. Gives the tokens after it, or nothing if nothing right stands there.
+    fn take_operator<'a, 'b>(&mut self, rest: &'b [Token<'a>]) -> Outcome<Option<&'b [Token<'a>]>> {
+        Ok(match rest {
+            [end, rest @ ..] if end.is(")") => {
+                let is_right = self.settle(1)?
+                    && matches!(self.waiting.pop(), Some(Operator::Open));
+                is_right.then_some(rest)
+            }
+            [word, name, rest @ ..] if word.is("as") => {
+                let is_right = self.settle(CAST_RANK)? && self.cast(name.text)?;
+                is_right.then_some(rest)
+            }
+            rest => match Operator::first_of(rest) {
+                Some((operator, rest)) if self.settle(operator.rank())? => {
+                    self.waiting.push(operator)?;
+                    self.wants_operand = true;
+                    Some(rest)
+                }
+                _ => None,
+            },
+        })
+    }
+
+    /// Makes the last number one of the type of this name. It says whether that could be done.
+    fn cast(&mut self, name: &str) -> Outcome<bool> {
+        let Some(to) = NumberType::named(name) else {
+            return Ok(false);
+        };
+        let Some(value) = self.values.pop().and_then(|value| value.cast(to)) else {
+            return Ok(false);
+        };
+        self.values.push(value)?;
+        Ok(true)
+    }
+
+    /// Applies the last operators that bind at least as tightly as this. It says whether each made a number.
+    fn settle(&mut self, rank: u32) -> Outcome<bool> {
+        for _ in 0..self.waiting.len() {
+            let tight = self.waiting.last().filter(|last| last.rank() >= rank);
+            let Some(operator) = tight.copied() else {
+                break;
+            };
+            let _ = self.waiting.pop();
+            let right = self.values.pop();
+            let made = match operator {
+                Operator::Negate => right.map(|value| value.negated()),
+                _ => match (self.values.pop(), right) {
+                    (Some(left), Some(right)) => operator.apply(left, right),
+                    _ => None,
+                },
+            };
+            let Some(value) = made else {
+                return Ok(false);
+            };
+            self.values.push(value)?;
+        }
+        Ok(true)
+    }
+}
+
+/// The number that an expression is, which begins at a token. `own` is the type of the enum's discriminants.
+pub(super) fn evaluate(
+    alloc: Global,
+    begin: &Token,
+    words: &[Token],
+    own: NumberType,
+) -> Outcome<Number> {
+    let mut expression = Expression {
+        values: Vec::new(alloc),
+        waiting: Vec::new(alloc),
+        wants_operand: true,
+    };
+    let mut rest = words;
+    for _ in words {
+        let Some(here) = rest.first() else {
+            break;
+        };
+        let after = match expression.wants_operand {
+            true => expression.take_operand(rest)?,
+            false => expression.take_operator(rest)?,
+        };
+        rest = after.ok_or(here.fault(NOT_A_NUMBER))?;
+    }
+    let is_whole = !expression.wants_operand && expression.settle(1)?;
+    let [value] = expression.values.as_slice() else {
+        return Err(begin.fault(NOT_A_NUMBER));
+    };
+    let is_number = is_whole && !matches!(value.form, Form::Character);
+    begin.want(is_number, NOT_A_NUMBER)?;
+    begin.want(value.fits(own), PAST_TYPE)?;
+    Ok(match value.is_negative {
+        true => Number::Negative(value.absolute),
+        false => Number::Small(value.absolute),
+    })
+}
