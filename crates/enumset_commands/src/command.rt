@@ -139,7 +139,7 @@ fn assignment(name: &[u8], fields: &Tokens) -> Option<Command>
     command_of_name! { name, fields => Command:
         "new" one New { r };
         "all" one All { r };
-        "only" with_bit Only { r, bit };
+        "only" with_u32 Only { r, bit };
         "clear" one Clear { r };
         "union" three Union { to, a, b };
         "intersection" three Intersection { to, a, b };
@@ -158,7 +158,7 @@ fn query(name: &[u8], fields: &Tokens) -> Option<Command>
     ensures { result ≡ written queries name.now fields.now }
 {
     command_of_name! { name, fields => Command:
-        "contains" with_bit Contains { r, bit };
+        "contains" with_u32 Contains { r, bit };
         "len" one Len { r };
         "empty" one IsEmpty { r };
         "disjoint" two Disjoint { a, b };
@@ -166,8 +166,8 @@ fn query(name: &[u8], fields: &Tokens) -> Option<Command>
         "subset" two Subset { a, b };
         "equal" two Equal { a, b };
         "compare" two Compare { a, b };
-        "number" with_bit Number { r, width };
-        "number_cut" with_bit NumberCut { r, width };
+        "number" with_u32 Number { r, width };
+        "number_cut" with_u32 NumberCut { r, width };
         "words" two Words { r, count };
         "words_cut" two WordsCut { r, count };
         "left" one Left { i };
@@ -179,8 +179,8 @@ fn change(name: &[u8], fields: &Tokens) -> Option<Command>
     ensures { result ≡ written changes name.now fields.now }
 {
     command_of_name! { name, fields => Command:
-        "insert" with_bit Insert { r, bit };
-        "remove" with_bit Remove { r, bit };
+        "insert" with_u32 Insert { r, bit };
+        "remove" with_u32 Remove { r, bit };
         "from_number" with_value FromNumber { r, width, value };
         "next" one Next { i };
         "next_back" one NextBack { i };

@@ -57,9 +57,9 @@ fn own_command(name: &[u8], fields: &Tokens) -> Option<MixedCommand>
     ensures { result ≡ written own_verbs name.now fields.now }
 {
     command_of_name! { name, fields => MixedCommand:
-        "has_bit" with_bit HasBit { r, bit };
-        "insert_bit" with_bit InsertBit { r, bit };
-        "remove_bit" with_bit RemoveBit { r, bit };
+        "has_bit" with_u32 HasBit { r, bit };
+        "insert_bit" with_u32 InsertBit { r, bit };
+        "remove_bit" with_u32 RemoveBit { r, bit };
         "full_complement" two FullComplement { to, a };
         "valid_len" one ValidLen { r };
         "unknown" one Unknown { r };

@@ -19,18 +19,18 @@ impl<'a> Tokens<'a> {
         ensures { result ≡ one register self.now }
     {
         let mut fields = self.same();
-        let r = fields.next_register()?;
+        let r = fields.next_u8()?;
         fields.is_empty().then_some(r)
     }
 
-    /// Two registers; or a register and a count, which is a number of 8 bits too.
+    /// Two registers, or a register and a count, which are numbers of 8 bits.
     #[inline(always)]
     pub(crate) fn two(&self) -> Option<(u8, u8)>
         ensures { result ≡ two register register self.now }
     {
         let mut fields = self.same();
-        let a = fields.next_register()?;
-        let b = fields.next_register()?;
+        let a = fields.next_u8()?;
+        let b = fields.next_u8()?;
         fields.is_empty().then_some((a, b))
     }
 
@@ -40,21 +40,21 @@ impl<'a> Tokens<'a> {
         ensures { result ≡ three register register register self.now }
     {
         let mut fields = self.same();
-        let to = fields.next_register()?;
-        let a = fields.next_register()?;
-        let b = fields.next_register()?;
+        let to = fields.next_u8()?;
+        let a = fields.next_u8()?;
+        let b = fields.next_u8()?;
         fields.is_empty().then_some((to, a, b))
     }
 
-    /// A register and a bit; or a register and a width, which is a number of 32 bits too.
+    /// A register, and a bit or a width, which are numbers of 32 bits.
     #[inline(always)]
-    pub(crate) fn with_bit(&self) -> Option<(u8, u32)>
+    pub(crate) fn with_u32(&self) -> Option<(u8, u32)>
         ensures { result ≡ two register bit self.now }
     {
         let mut fields = self.same();
-        let r = fields.next_register()?;
-        let bit = fields.next_bit()?;
-        fields.is_empty().then_some((r, bit))
+        let r = fields.next_u8()?;
+        let number = fields.next_u32()?;
+        fields.is_empty().then_some((r, number))
     }
 
     /// A register, a width and a value.
@@ -63,9 +63,9 @@ impl<'a> Tokens<'a> {
         ensures { result ≡ three register width value self.now }
     {
         let mut fields = self.same();
-        let r = fields.next_register()?;
-        let width = fields.next_bit()?;
-        let value = fields.next_value()?;
+        let r = fields.next_u8()?;
+        let width = fields.next_u32()?;
+        let value = fields.next_u128()?;
         fields.is_empty().then_some((r, width, value))
     }
 }
@@ -78,7 +78,7 @@ pub(crate) fn with_words(
 ) -> Option<Result<(u8, WordList), AllocError>>
     ensures { IsReadAs (register_and_words fields.entry) result }
 {
-    let r = fields.next_register()?;
+    let r = fields.next_u8()?;
     match read_words(alloc, fields)? {
         Ok(words) => Some(Ok((r, words))),
         Err(error) => Some(Err(error)),

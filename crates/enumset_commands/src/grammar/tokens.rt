@@ -52,7 +52,7 @@ impl<'a> Tokens<'a> {
     /// Takes out the next token, and returns the number that it writes, if it is a `u64`, or returns `None` if there is
     /// no token or it writes none.
     #[inline(always)]
-    pub(super) fn next_word(&mut self) -> Option<u64>
+    pub(super) fn next_u64(&mut self) -> Option<u64>
         ensures { Takes word self.old result self.new }
     {
         self.rest = without_spaces(self.rest);
@@ -61,26 +61,26 @@ impl<'a> Tokens<'a> {
         Some(number)
     }
 
-    /// The same of a number that is a `u8`.
+    /// The same of a number that is a `u8`: a register or a count.
     #[inline(always)]
     #[tactic(auto, using(crate::proofs::Fields::narrow_fields))]
-    pub(super) fn next_register(&mut self) -> Option<u8>
+    pub(super) fn next_u8(&mut self) -> Option<u8>
         ensures { Takes register self.old result self.new }
     {
-        u8::try_from(self.next_word()?).ok()
+        u8::try_from(self.next_u64()?).ok()
     }
 
-    /// The same of a number that is a `u32`.
+    /// The same of a number that is a `u32`: a bit or a width.
     #[inline(always)]
     #[tactic(auto, using(crate::proofs::Fields::narrow_fields))]
-    pub(super) fn next_bit(&mut self) -> Option<u32>
+    pub(super) fn next_u32(&mut self) -> Option<u32>
         ensures { Takes bit self.old result self.new }
     {
-        u32::try_from(self.next_word()?).ok()
+        u32::try_from(self.next_u64()?).ok()
     }
 
-    /// The same of a number that is a `u128`, by arithmetic on 128 bits.
-    pub(super) fn next_value(&mut self) -> Option<u128>
+    /// The same of a number that is a `u128`: a value. It is read by arithmetic on 128 bits.
+    pub(super) fn next_u128(&mut self) -> Option<u128>
         ensures { Takes value self.old result self.new }
     {
         read_value(self.next()?)

@@ -16,7 +16,7 @@ pub(super) fn read_words(alloc: Global, mut tokens: Tokens) -> Option<Result<Wor
     let mut words = Vec::new(alloc);
     let mut has_room = true;
     while !tokens.is_empty() {
-        let word = tokens.next_word()?;
+        let word = tokens.next_u64()?;
         has_room = has_room && words.push(word).is_ok();
     }
     if has_room {
