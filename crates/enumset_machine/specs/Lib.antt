@@ -2,5 +2,4 @@ pub mod States
 pub mod Plans
 pub mod Runs
 pub mod Answers
-pub mod Alike
 pub mod Kinds

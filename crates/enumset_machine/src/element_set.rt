@@ -4,10 +4,11 @@ ghost use Rattle.std.specs.Prelude.{◌≡◌, true};
 ghost use Rattle.enumset_repr.specs.BitSet as set;
 ghost use Rattle.enumset_sets.specs.Elements.{valid_bits};
 
-use crate::run_set::{RunSet, combine, compare};
-use enumset_commands::{Command, Reply};
+use crate::run_set::RunSet;
+use enumset_commands::Reply;
 use enumset_repr::EnumSetTypeRepr;
 use enumset_sets::{EnumSet, EnumSetIter, EnumSetType};
+use std::cmp::Ordering;
 
 /// The element of a valid bit.
 pub(crate) fn element_of<T: EnumSetType>(bit: u32) -> T
@@ -40,12 +41,84 @@ impl<T: EnumSetType> RunSet for EnumSet<T> {
         EnumSet::new()
     }
 
-    fn combined(command: &Command, a: Self, b: Self) -> Self {
-        combine!(command, a, b)
+    fn all() -> Self {
+        EnumSet::all()
     }
 
-    fn compared(command: &Command, a: Self, b: Self) -> Reply {
-        compare!(command, a, b)
+    fn only(bit: u32) -> Self {
+        EnumSet::only(element_of(bit))
+    }
+
+    fn insert(&mut self, bit: u32) -> bool {
+        self.insert(element_of(bit))
+    }
+
+    fn remove(&mut self, bit: u32) -> bool {
+        self.remove(element_of(bit))
+    }
+
+    fn contains(&self, bit: u32) -> bool {
+        self.contains(element_of(bit))
+    }
+
+    fn clear(&mut self) {
+        self.clear();
+    }
+
+    fn len(&self) -> usize {
+        self.len()
+    }
+
+    fn is_empty(&self) -> bool {
+        self.is_empty()
+    }
+
+    fn union(&self, other: Self) -> Self {
+        self.union(other)
+    }
+
+    fn intersection(&self, other: Self) -> Self {
+        self.intersection(other)
+    }
+
+    fn difference(&self, other: Self) -> Self {
+        self.difference(other)
+    }
+
+    fn symmetric_difference(&self, other: Self) -> Self {
+        self.symmetric_difference(other)
+    }
+
+    fn complement(&self) -> Self {
+        self.complement()
+    }
+
+    fn insert_all(&mut self, other: Self) {
+        self.insert_all(other);
+    }
+
+    fn remove_all(&mut self, other: Self) {
+        self.remove_all(other);
+    }
+
+    fn is_disjoint(&self, other: Self) -> bool {
+        self.is_disjoint(other)
+    }
+
+    fn is_superset(&self, other: Self) -> bool {
+        self.is_superset(other)
+    }
+
+    fn is_subset(&self, other: Self) -> bool {
+        self.is_subset(other)
+    }
+
+    fn is_same(&self, other: Self) -> bool {
+        self == &other
+    }
+
+    fn compare(&self, other: Self) -> Ordering {
+        self.cmp(&other)
     }
 
     fn number(&self, width: u32) -> Option<u128> {

@@ -1,7 +1,7 @@
 //! Runs of commands over `EnumSet` and `MixedEnumSet`, for every element type, and over the worked types by their names.
 #![tactic(auto)]
 
-mod alike;
+mod commands;
 mod element_set;
 mod iterators;
 pub mod kinds;

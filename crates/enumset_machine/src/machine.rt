@@ -3,12 +3,10 @@
 ghost use Rattle.std.specs.Prelude.{◌≡◌, false, IfOk, IsOk, OnErr};
 ghost use Rattle.enumset_sets.specs.Elements.{valid_bits};
 
-use crate::alike::carry_out_alike;
-use crate::element_set::element_of;
-use crate::runner::{Runner, carry_out, change, refusal};
+use crate::commands::{carry_out, refusal};
+use crate::runner::Runner;
 use crate::steps::{Run, step};
-use enumset_commands::Command::{self, *};
-use enumset_commands::{Refusal, Reply};
+use enumset_commands::{Command, Refusal, Reply};
 use enumset_repr::EnumSetTypeRepr;
 use enumset_sets::{EnumSet, EnumSetType};
 use std::alloc::{AllocError, Global};
@@ -51,12 +49,11 @@ impl<T: EnumSetType> Run for EnumSet<T> {
         refusal::<EnumSet<T>>(command)
     }
 
-    #[tactic(auto, unfolding(crate::specs::Runs::plan))]
     fn carry_out(
         runner: &mut Runner<EnumSet<T>>,
         alloc: Global,
         command: &Command,
     ) -> Result<Reply, AllocError> {
-        Ok(carry_out!(runner, alloc, command, EnumSet<T>))
+        carry_out(runner, alloc, command)
     }
 }

@@ -1,19 +1,16 @@
 //! The commands of runs over mixed sets: those of every run, and those that mixed sets alone have.
 
-ghost use Rattle.std.specs.Prelude.{◌≡◌, true, false, if◌then◌else◌, IsOk, IfOk, OnOk, OnErr};
+ghost use Rattle.std.specs.Prelude.{◌≡◌, true, if◌then◌else◌};
 ghost use Rattle.enumset_repr.specs.BitSet.{contains, below, is_subset};
 ghost use Rattle.enumset_sets.specs.Elements.{valid_bits};
 ghost use Rattle.enumset_commands.specs.declared.reply.Reply.TheVariants.{Done, Absent};
 ghost use Rattle.enumset_machine.specs.States.{is_set_register, set_at, put_set};
-ghost use Rattle.enumset_machine.specs.Plans.{width_rules, takes_memory};
-ghost use Rattle.enumset_machine.specs.Runs.{plan, mixed_plan};
+ghost use Rattle.enumset_machine.specs.Runs.{mixed_plan};
 
-use crate::alike::carry_out_alike;
-use crate::element_set::element_of;
+use crate::commands::{carry_out, refusal, unless};
 use crate::registers::{are_set_registers, is_set_register};
-use crate::runner::{Runner, carry_out, change, refusal, unless};
+use crate::runner::Runner;
 use crate::steps::Run;
-use enumset_commands::Command::{self, *};
 use enumset_commands::MixedCommand::{self, *};
 use enumset_commands::Refusal::{self, NoRegister, NotABit};
 use enumset_commands::Reply;
@@ -50,10 +47,18 @@ impl<T: EnumSetTypeWithRepr> Run for MixedEnumSet<T> {
         command: &MixedCommand,
     ) -> Result<Reply, AllocError> {
         Ok(match *command {
-            Common(ref command) => carry_out_common(runner, alloc, command)?,
+            Common(ref command) => carry_out(runner, alloc, command)?,
             HasBit { r, bit } => Reply::Truth(runner.get(r).has_bit(bit)),
-            InsertBit { r, bit } => change!(runner, r, insert_bit, bit),
-            RemoveBit { r, bit } => change!(runner, r, remove_bit, bit),
+            InsertBit { r, bit } => {
+                let mut set = runner.get(r);
+                let was_absent = set.insert_bit(bit);
+                runner.replace(r, set, was_absent)
+            }
+            RemoveBit { r, bit } => {
+                let mut set = runner.get(r);
+                let was_member = set.remove_bit(bit);
+                runner.replace(r, set, was_member)
+            }
             FullComplement { to, a } => runner.put(to, runner.get(a).full_complement()),
             ValidLen { r } => Reply::Count(runner.get(r).valid_len() as u64),
             Unknown { r } => Reply::Truth(runner.get(r).has_unknown_bits()),
@@ -64,27 +69,6 @@ impl<T: EnumSetTypeWithRepr> Run for MixedEnumSet<T> {
             }
         })
     }
-}
-
-/// Carries out a command that every run has and that is not refused.
-#[tactic(auto, unfolding(crate::specs::Runs::plan))]
-fn carry_out_common<T: EnumSetTypeWithRepr>(
-    runner: &mut Runner<MixedEnumSet<T>>,
-    alloc: Global,
-    command: &Command,
-) -> Result<Reply, AllocError>
-    requires registers { (plan command.now).registers ≡ true }
-    requires widths { (plan command.now).widths ≡ true }
-    requires bits { (plan command.now).bits (width_rules (valid_bits T.elements) T.Repr.WIDTH) ≡ true }
-    ensures succeeds { takes_memory ((plan command.now).reply
-        (width_rules (valid_bits T.elements) T.Repr.WIDTH) runner.old) ≡ false → IsOk result }
-    ensures reply { IfOk result (λ reply. reply ≡ (plan command.now).reply
-        (width_rules (valid_bits T.elements) T.Repr.WIDTH) runner.old) }
-    ensures state { OnOk result (runner.new ≡ (plan command.now).after
-        (width_rules (valid_bits T.elements) T.Repr.WIDTH) runner.old) }
-    ensures err { OnErr result (runner.new ≡ runner.old) }
-{
-    Ok(carry_out!(runner, alloc, command, MixedEnumSet<T>))
 }
 
 /// Puts a set into a register, if each member is valid.

@@ -1,17 +1,19 @@
 //! The sets of a run.
 
-ghost use Rattle.std.specs.Prelude.{◌≡◌, ◌↔◌, ◌<◌, ◌*◌, ◌^◌, ℕ, List, length, true, IsTrue, IsSome, IfSome};
+ghost use Rattle.std.specs.Prelude.{◌≡◌, ◌↔◌, ◌<◌, ◌*◌, ◌^◌, ℕ, List, not, length, true, IsTrue, IsSome, IfSome};
 ghost use Rattle.enumset_repr.specs.BitSet as set;
 ghost use Rattle.enumset_repr.specs.BitSet.{BitSet};
 ghost use Rattle.enumset_repr.specs.Number.{number as number_of, bits};
 ghost use Rattle.enumset_repr.specs.Words.{words as words_of, bits_of};
 ghost use Rattle.enumset_repr.specs.Ends.{first, last, without_first, without_last};
-ghost use Rattle.enumset_machine.specs.Alike.{combination, comparison};
+ghost use Rattle.enumset_repr.specs.Order.{compare};
 ghost use Rattle.enumset_machine.specs.Plans.{Rules, is_width};
 
-use enumset_commands::{Command, Reply};
+use enumset_commands::Reply;
+use std::cmp::Ordering;
 
-/// A set of a run: its members, and the calls that registers, refusals and replies need.
+/// A set of a run, and the calls that its commands need. They have the names that they have in the set types, and take
+/// the bit of an element in place of the element, so a run knows no element type.
 pub trait RunSet: Copy {
     // The members' bits.
     ghost members: { Self → BitSet };
@@ -37,13 +39,91 @@ pub trait RunSet: Copy {
     fn new() -> Self
         ensures { members result ≡ set.empty };
 
-    /// Returns the set that a command makes of two sets. Any other command is taken as `Difference`.
-    fn combined(command: &Command, a: Self, b: Self) -> Self
-        ensures { members result ≡ combination command.now (members a) (members b) };
+    /// Returns the set of all valid bits.
+    fn all() -> Self
+        ensures { members result ≡ rules.valid };
 
-    /// Returns the reply to a command that compares two sets. Any other command is taken as `Compare`.
-    fn compared(command: &Command, a: Self, b: Self) -> Reply
-        ensures { result ≡ comparison command.now (members a) (members b) };
+    /// Returns the set of one valid bit.
+    fn only(bit: u32) -> Self
+        requires { set.contains rules.valid bit ≡ true }
+        ensures { members result ≡ set.only bit };
+
+    /// Makes a valid bit a member, and returns whether it was absent.
+    fn insert(&mut self, bit: u32) -> bool
+        requires { set.contains rules.valid bit ≡ true }
+        ensures inserted { members self.new ≡ set.insert (members self.old) bit }
+        ensures was_absent { result ≡ not (set.contains (members self.old) bit) };
+
+    /// Takes a valid bit out, and returns whether it was a member.
+    fn remove(&mut self, bit: u32) -> bool
+        requires { set.contains rules.valid bit ≡ true }
+        ensures removed { members self.new ≡ set.remove (members self.old) bit }
+        ensures was_present { result ≡ set.contains (members self.old) bit };
+
+    /// Returns whether a valid bit is a member.
+    fn contains(&self, bit: u32) -> bool
+        requires { set.contains rules.valid bit ≡ true }
+        ensures { result ≡ set.contains (members self.now) bit };
+
+    /// Takes all members out.
+    fn clear(&mut self)
+        ensures { members self.new ≡ set.empty };
+
+    /// Returns how many members there are.
+    fn len(&self) -> usize
+        ensures { result ≡ set.len (members self.now) };
+
+    /// Returns whether there is no member.
+    fn is_empty(&self) -> bool
+        ensures { result ≡ set.is_empty (members self.now) };
+
+    /// Returns the members of either.
+    fn union(&self, other: Self) -> Self
+        ensures { members result ≡ set.union (members self.now) (members other) };
+
+    /// Returns the members of both.
+    fn intersection(&self, other: Self) -> Self
+        ensures { members result ≡ set.intersection (members self.now) (members other) };
+
+    /// Returns the members that the other set does not have.
+    fn difference(&self, other: Self) -> Self
+        ensures { members result ≡ set.difference (members self.now) (members other) };
+
+    /// Returns the members of exactly one of the two.
+    fn symmetric_difference(&self, other: Self) -> Self
+        ensures { members result ≡ set.symmetric_difference (members self.now) (members other) };
+
+    /// Returns the valid bits that are not members.
+    fn complement(&self) -> Self
+        ensures { members result ≡ set.difference rules.valid (members self.now) };
+
+    /// Makes each member of the other set a member.
+    fn insert_all(&mut self, other: Self)
+        ensures { members self.new ≡ set.union (members self.old) (members other) };
+
+    /// Takes each member of the other set out.
+    fn remove_all(&mut self, other: Self)
+        ensures { members self.new ≡ set.difference (members self.old) (members other) };
+
+    /// Returns whether the two have no common member.
+    fn is_disjoint(&self, other: Self) -> bool
+        ensures { result ≡ set.is_disjoint (members self.now) (members other) };
+
+    /// Returns whether each member of the other set is a member.
+    fn is_superset(&self, other: Self) -> bool
+        ensures { result ≡ set.is_subset (members other) (members self.now) };
+
+    /// Returns whether each member is one of the other set.
+    fn is_subset(&self, other: Self) -> bool
+        ensures { result ≡ set.is_subset (members self.now) (members other) };
+
+    /// Returns whether the two have the same members.
+    fn is_same(&self, other: Self) -> bool
+        ensures { result ≡ set.is_same (members self.now) (members other) };
+
+    /// Returns how the set compares with the other: the greatest bit that exactly one of them has decides.
+    fn compare(&self, other: Self) -> Ordering
+        ensures { result ≡ compare (members self.now) (members other) };
 
     /// Returns the number of the set, if each member is below a width.
     fn number(&self, width: u32) -> Option<u128>
@@ -107,41 +187,3 @@ pub trait RunSet: Copy {
     fn items_left(items: &Self::Items) -> usize
         ensures { result ≡ length (rest items.now) };
 }
-
-/// The set that a command makes of two sets of a kind, by the call of that name. The last of the commands is `RemoveAll`.
-macro_rules! combine {
-    ($command:ident, $a:ident, $b:ident) => {
-        match *$command {
-            Command::Union { .. } => $a.union($b),
-            Command::Intersection { .. } => $a.intersection($b),
-            Command::Difference { .. } => $a.difference($b),
-            Command::SymmetricDifference { .. } => $a.symmetric_difference($b),
-            Command::InsertAll { .. } => {
-                let mut set = $a;
-                set.insert_all($b);
-                set
-            }
-            _ => {
-                let mut set = $a;
-                set.remove_all($b);
-                set
-            }
-        }
-    };
-}
-
-/// The reply to a command that compares two sets of a kind, by the call of that name. The last of the commands is `Compare`.
-macro_rules! compare {
-    ($command:ident, $a:ident, $b:ident) => {
-        match *$command {
-            Command::Disjoint { .. } => Reply::Truth($a.is_disjoint($b)),
-            Command::Superset { .. } => Reply::Truth($a.is_superset($b)),
-            Command::Subset { .. } => Reply::Truth($a.is_subset($b)),
-            Command::Equal { .. } => Reply::Truth($a == $b),
-            _ => Reply::Order($a.cmp(&$b)),
-        }
-    };
-}
-
-pub(crate) use combine;
-pub(crate) use compare;

@@ -3,8 +3,8 @@ use Rattle.enumset_repr.specs.Laws.Common.{nat_tests, contains, below, contains_
 use Rattle.enumset_machine.specs.Runs.{mixed_plan}
 use Rattle.enumset_machine.proofs.mixed_commands.MixedEnumSetRun.carry_out.Goals as goal
 
-pub insert_bit-truth-requires : goal.insert_bit-truth-requires
+pub insert_bit-was_absent-requires : goal.insert_bit-was_absent-requires
 unfolding mixed_plan
-insert_bit-truth-requires g c =
+insert_bit-was_absent-requires g c =
     let allowed : contains (below g.T.Repr.EnumSetTypeRepr.WIDTH) c.in-InsertBit.bit ≡ true = search rules in
     grind (arith, nat_tests, contains_below, allowed)

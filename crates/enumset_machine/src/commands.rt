@@ -1,0 +1,157 @@
+//! The commands of every run: why one is refused, and how it is carried out.
+
+ghost use Rattle.std.specs.Prelude.{◌≡◌, ◌^◌, ◌&&◌, nat_lt, Some, None, if◌then◌else◌, true, false, IsOk, IfOk, OnOk, OnErr};
+ghost use Rattle.enumset_machine.specs.Plans.{is_width, refusal, takes_memory};
+ghost use Rattle.enumset_machine.specs.Runs.{plan};
+
+use crate::iterators::is_iterator_register;
+use crate::numbers::{number_of, words_cut_of, words_of};
+use crate::registers::{are_set_registers, is_set_register};
+use crate::run_set::RunSet;
+use crate::runner::Runner;
+use enumset_commands::Command::{self, *};
+use enumset_commands::Refusal::{self, NoRegister, NotABit, NotAWidth};
+use enumset_commands::Reply;
+use std::alloc::{AllocError, Global};
+
+/// Why a command is refused, if it is.
+#[tactic(auto, unfolding(crate::specs::Runs::plan))]
+pub(crate) fn refusal<S: RunSet>(command: &Command) -> Option<Refusal>
+    ensures { result ≡ refusal S.rules (plan command.now) }
+{
+    match *command {
+        New { r }
+        | All { r }
+        | Clear { r }
+        | Len { r }
+        | IsEmpty { r }
+        | Words { r, .. }
+        | WordsCut { r, .. }
+        | FromWords { r, .. }
+        | FromWordsCut { r, .. } => unless(is_set_register(r), NoRegister),
+        Complement { to: a, a: b }
+        | InsertAll { r: a, a: b }
+        | RemoveAll { r: a, a: b }
+        | Disjoint { a, b }
+        | Superset { a, b }
+        | Subset { a, b }
+        | Equal { a, b }
+        | Compare { a, b } => unless(are_set_registers(a, b), NoRegister),
+        SymmetricDifference { to, a, b }
+        | Intersection { to, a, b }
+        | Difference { to, a, b }
+        | Union { to, a, b } => unless(is_set_register(to) && are_set_registers(a, b), NoRegister),
+        Only { r, bit } | Insert { r, bit } | Remove { r, bit } | Contains { r, bit } => {
+            unless(is_set_register(r), NoRegister).or(unless(S::is_bit_valid(bit), NotABit))
+        }
+        Number { r, width } | NumberCut { r, width } => {
+            unless(is_set_register(r), NoRegister).or(unless(is_width(width), NotAWidth))
+        }
+        FromNumber { r, width, value } | FromNumberCut { r, width, value } => {
+            unless(is_set_register(r), NoRegister).or(unless(fits(width, value), NotAWidth))
+        }
+        Iter { i, r } => unless(is_iterator_register(i) && is_set_register(r), NoRegister),
+        Next { i } | NextBack { i } | Left { i } => unless(is_iterator_register(i), NoRegister),
+    }
+}
+
+/// Carries out a command that is not refused, by the call of the set that has its name.
+#[tactic(auto, unfolding(crate::specs::Runs::plan))]
+pub(crate) fn carry_out<S: RunSet>(
+    runner: &mut Runner<S>,
+    alloc: Global,
+    command: &Command,
+) -> Result<Reply, AllocError>
+    requires registers { (plan command.now).registers ≡ true }
+    requires widths { (plan command.now).widths ≡ true }
+    requires bits { (plan command.now).bits S.rules ≡ true }
+    ensures succeeds { takes_memory ((plan command.now).reply S.rules runner.old) ≡ false → IsOk result }
+    ensures reply { IfOk result (λ reply. reply ≡ (plan command.now).reply S.rules runner.old) }
+    ensures state { OnOk result (runner.new ≡ (plan command.now).after S.rules runner.old) }
+    ensures err { OnErr result (runner.new ≡ runner.old) }
+{
+    Ok(match *command {
+        New { r } => runner.put(r, S::new()),
+        All { r } => runner.put(r, S::all()),
+        Only { r, bit } => runner.put(r, S::only(bit)),
+        Insert { r, bit } => {
+            let mut set = runner.get(r);
+            let was_absent = set.insert(bit);
+            runner.replace(r, set, was_absent)
+        }
+        Remove { r, bit } => {
+            let mut set = runner.get(r);
+            let was_member = set.remove(bit);
+            runner.replace(r, set, was_member)
+        }
+        Contains { r, bit } => Reply::Truth(runner.get(r).contains(bit)),
+        Clear { r } => {
+            let mut set = runner.get(r);
+            set.clear();
+            runner.put(r, set)
+        }
+        Len { r } => Reply::Count(runner.get(r).len() as u64),
+        IsEmpty { r } => Reply::Truth(runner.get(r).is_empty()),
+        Union { to, a, b } => runner.put(to, runner.get(a).union(runner.get(b))),
+        Intersection { to, a, b } => runner.put(to, runner.get(a).intersection(runner.get(b))),
+        Difference { to, a, b } => runner.put(to, runner.get(a).difference(runner.get(b))),
+        SymmetricDifference { to, a, b } => {
+            runner.put(to, runner.get(a).symmetric_difference(runner.get(b)))
+        }
+        Complement { to, a } => runner.put(to, runner.get(a).complement()),
+        InsertAll { r, a } => {
+            let mut set = runner.get(r);
+            set.insert_all(runner.get(a));
+            runner.put(r, set)
+        }
+        RemoveAll { r, a } => {
+            let mut set = runner.get(r);
+            set.remove_all(runner.get(a));
+            runner.put(r, set)
+        }
+        Disjoint { a, b } => Reply::Truth(runner.get(a).is_disjoint(runner.get(b))),
+        Superset { a, b } => Reply::Truth(runner.get(a).is_superset(runner.get(b))),
+        Subset { a, b } => Reply::Truth(runner.get(a).is_subset(runner.get(b))),
+        Equal { a, b } => Reply::Truth(runner.get(a).is_same(runner.get(b))),
+        Compare { a, b } => Reply::Order(runner.get(a).compare(runner.get(b))),
+        Number { r, width } => number_of(runner.get(r), width),
+        NumberCut { r, width } => Reply::Number(runner.get(r).number_cut(width)),
+        FromNumber { r, width, value } => runner.put_number(r, width, value),
+        FromNumberCut { r, width, value } => runner.put(r, S::from_number_cut(width, value)),
+        Words { r, count } => words_of(alloc, runner.get(r), count)?,
+        WordsCut { r, count } => words_cut_of(alloc, runner.get(r), count)?,
+        FromWords { r, ref words } => runner.put_words(r, words),
+        FromWordsCut { r, ref words } => runner.put(r, S::from_words_cut(words.as_slice())),
+        Iter { i, r } => runner.iterate(i, r),
+        Next { i } => runner.next(i),
+        NextBack { i } => runner.next_back(i),
+        Left { i } => runner.left(i),
+    })
+}
+
+/// This refusal, unless there is no reason for it.
+pub(crate) fn unless(holds: bool, refusal: Refusal) -> Option<Refusal>
+    ensures { result ≡ (if holds then None else Some refusal) }
+{
+    (!holds).then_some(refusal)
+}
+
+/// Whether a number is the width of one of the integers that sets go to and come from.
+fn is_width(width: u32) -> bool
+    ensures { result ≡ is_width width }
+{
+    matches!(width, 8 | 16 | 32 | 64 | 128)
+}
+
+/// Whether there is such a width, and a number is below 2 to the power of it.
+fn fits(width: u32, value: u128) -> bool
+    ensures { result ≡ (is_width width && nat_lt value (2 ^ width)) }
+{
+    match width {
+        8 => u8::try_from(value).is_ok(),
+        16 => u16::try_from(value).is_ok(),
+        32 => u32::try_from(value).is_ok(),
+        64 => u64::try_from(value).is_ok(),
+        _ => width == 128,
+    }
+}
