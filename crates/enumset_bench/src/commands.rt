@@ -2,7 +2,7 @@
 
 use crate::digest::Digest;
 use crate::random::Random;
-use enumset_machine::kinds::{serve_worked, worked};
+use enumset_machine::worked_types::{serve_worked, worked};
 use std::alloc::{AllocError, Global};
 
 /// How many bytes an input has at most, and how many lines its lines are taken from.
@@ -40,10 +40,10 @@ pub fn digest(alloc: Global, seed: u32, rounds: u32) -> Result<u64, AllocError> 
 
 /// Serves an input, and mixes in the replies or the fault.
 fn serve(alloc: Global, name: &str, input: &String, digest: &mut Digest) -> Result<(), AllocError> {
-    let Some(kind) = worked(name) else {
+    let Some(worked) = worked(name) else {
         return Ok(());
     };
-    match serve_worked(alloc, kind, input.as_bytes()) {
+    match serve_worked(alloc, worked, input.as_bytes()) {
         Ok(replies) => digest.add_bytes(&replies),
         Err(fault) => {
             let text = format!(in alloc; "{fault}")?;

@@ -2,4 +2,4 @@ pub mod States
 pub mod Plans
 pub mod Runs
 pub mod Answers
-pub mod Kinds
+pub mod WorkedTypes

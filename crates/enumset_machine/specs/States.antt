@@ -1,4 +1,4 @@
--- The registers of a run.
+-- The registers of a machine.
 --     State      four sets, and for each of two iterators the list of what is left
 --     coded_state      the code that lets a state be a model's value
 --     start      four empty sets and two empty lists

@@ -5,10 +5,10 @@ ghost use Rattle.enumset_machine.specs.Plans.{is_width, refusal, takes_memory};
 ghost use Rattle.enumset_machine.specs.Runs.{plan};
 
 use crate::iterators::is_iterator_register;
-use crate::numbers::{number_of, words_cut_of, words_of};
+use crate::machine_over::MachineOver;
+use crate::numbers::{number_reply, words_cut_reply, words_reply};
 use crate::registers::{are_set_registers, is_set_register};
 use crate::run_set::RunSet;
-use crate::runner::Runner;
 use enumset_commands::Command::{self, *};
 use enumset_commands::Refusal::{self, NoRegister, NotABit, NotAWidth};
 use enumset_commands::Reply;
@@ -58,74 +58,74 @@ pub(crate) fn refusal<S: RunSet>(command: &Command) -> Option<Refusal>
 /// Carries out a command that is not refused, by the call of the set that has its name.
 #[tactic(auto, unfolding(crate::specs::Runs::plan))]
 pub(crate) fn carry_out<S: RunSet>(
-    runner: &mut Runner<S>,
+    machine: &mut MachineOver<S>,
     alloc: Global,
     command: &Command,
 ) -> Result<Reply, AllocError>
     requires registers { (plan command.now).registers ≡ true }
     requires widths { (plan command.now).widths ≡ true }
     requires bits { (plan command.now).bits S.rules ≡ true }
-    ensures succeeds { takes_memory ((plan command.now).reply S.rules runner.old) ≡ false → IsOk result }
-    ensures reply { IfOk result (λ reply. reply ≡ (plan command.now).reply S.rules runner.old) }
-    ensures state { OnOk result (runner.new ≡ (plan command.now).after S.rules runner.old) }
-    ensures err { OnErr result (runner.new ≡ runner.old) }
+    ensures succeeds { takes_memory ((plan command.now).reply S.rules machine.old) ≡ false → IsOk result }
+    ensures reply { IfOk result (λ reply. reply ≡ (plan command.now).reply S.rules machine.old) }
+    ensures state { OnOk result (machine.new ≡ (plan command.now).after S.rules machine.old) }
+    ensures err { OnErr result (machine.new ≡ machine.old) }
 {
     Ok(match *command {
-        New { r } => runner.put(r, S::new()),
-        All { r } => runner.put(r, S::all()),
-        Only { r, bit } => runner.put(r, S::only(bit)),
+        New { r } => machine.put(r, S::new()),
+        All { r } => machine.put(r, S::all()),
+        Only { r, bit } => machine.put(r, S::only(bit)),
         Insert { r, bit } => {
-            let mut set = runner.get(r);
+            let mut set = machine.get(r);
             let was_absent = set.insert(bit);
-            runner.replace(r, set, was_absent)
+            machine.replace(r, set, was_absent)
         }
         Remove { r, bit } => {
-            let mut set = runner.get(r);
+            let mut set = machine.get(r);
             let was_member = set.remove(bit);
-            runner.replace(r, set, was_member)
+            machine.replace(r, set, was_member)
         }
-        Contains { r, bit } => Reply::Truth(runner.get(r).contains(bit)),
+        Contains { r, bit } => Reply::Truth(machine.get(r).contains(bit)),
         Clear { r } => {
-            let mut set = runner.get(r);
+            let mut set = machine.get(r);
             set.clear();
-            runner.put(r, set)
+            machine.put(r, set)
         }
-        Len { r } => Reply::Count(runner.get(r).len() as u64),
-        IsEmpty { r } => Reply::Truth(runner.get(r).is_empty()),
-        Union { to, a, b } => runner.put(to, runner.get(a).union(runner.get(b))),
-        Intersection { to, a, b } => runner.put(to, runner.get(a).intersection(runner.get(b))),
-        Difference { to, a, b } => runner.put(to, runner.get(a).difference(runner.get(b))),
+        Len { r } => Reply::Count(machine.get(r).len() as u64),
+        IsEmpty { r } => Reply::Truth(machine.get(r).is_empty()),
+        Union { to, a, b } => machine.put(to, machine.get(a).union(machine.get(b))),
+        Intersection { to, a, b } => machine.put(to, machine.get(a).intersection(machine.get(b))),
+        Difference { to, a, b } => machine.put(to, machine.get(a).difference(machine.get(b))),
         SymmetricDifference { to, a, b } => {
-            runner.put(to, runner.get(a).symmetric_difference(runner.get(b)))
+            machine.put(to, machine.get(a).symmetric_difference(machine.get(b)))
         }
-        Complement { to, a } => runner.put(to, runner.get(a).complement()),
+        Complement { to, a } => machine.put(to, machine.get(a).complement()),
         InsertAll { r, a } => {
-            let mut set = runner.get(r);
-            set.insert_all(runner.get(a));
-            runner.put(r, set)
+            let mut set = machine.get(r);
+            set.insert_all(machine.get(a));
+            machine.put(r, set)
         }
         RemoveAll { r, a } => {
-            let mut set = runner.get(r);
-            set.remove_all(runner.get(a));
-            runner.put(r, set)
+            let mut set = machine.get(r);
+            set.remove_all(machine.get(a));
+            machine.put(r, set)
         }
-        Disjoint { a, b } => Reply::Truth(runner.get(a).is_disjoint(runner.get(b))),
-        Superset { a, b } => Reply::Truth(runner.get(a).is_superset(runner.get(b))),
-        Subset { a, b } => Reply::Truth(runner.get(a).is_subset(runner.get(b))),
-        Equal { a, b } => Reply::Truth(runner.get(a).is_same(runner.get(b))),
-        Compare { a, b } => Reply::Order(runner.get(a).compare(runner.get(b))),
-        Number { r, width } => number_of(runner.get(r), width),
-        NumberCut { r, width } => Reply::Number(runner.get(r).number_cut(width)),
-        FromNumber { r, width, value } => runner.put_number(r, width, value),
-        FromNumberCut { r, width, value } => runner.put(r, S::from_number_cut(width, value)),
-        Words { r, count } => words_of(alloc, runner.get(r), count)?,
-        WordsCut { r, count } => words_cut_of(alloc, runner.get(r), count)?,
-        FromWords { r, ref words } => runner.put_words(r, words),
-        FromWordsCut { r, ref words } => runner.put(r, S::from_words_cut(words.as_slice())),
-        Iter { i, r } => runner.iterate(i, r),
-        Next { i } => runner.next(i),
-        NextBack { i } => runner.next_back(i),
-        Left { i } => runner.left(i),
+        Disjoint { a, b } => Reply::Truth(machine.get(a).is_disjoint(machine.get(b))),
+        Superset { a, b } => Reply::Truth(machine.get(a).is_superset(machine.get(b))),
+        Subset { a, b } => Reply::Truth(machine.get(a).is_subset(machine.get(b))),
+        Equal { a, b } => Reply::Truth(machine.get(a).is_same(machine.get(b))),
+        Compare { a, b } => Reply::Order(machine.get(a).compare(machine.get(b))),
+        Number { r, width } => number_reply(machine.get(r), width),
+        NumberCut { r, width } => Reply::Number(machine.get(r).number_cut(width)),
+        FromNumber { r, width, value } => machine.put_number(r, width, value),
+        FromNumberCut { r, width, value } => machine.put(r, S::from_number_cut(width, value)),
+        Words { r, count } => words_reply(alloc, machine.get(r), count)?,
+        WordsCut { r, count } => words_cut_reply(alloc, machine.get(r), count)?,
+        FromWords { r, ref words } => machine.put_words(r, words),
+        FromWordsCut { r, ref words } => machine.put(r, S::from_words_cut(words.as_slice())),
+        Iter { i, r } => machine.iterate(i, r),
+        Next { i } => machine.next(i),
+        NextBack { i } => machine.next_back(i),
+        Left { i } => machine.left(i),
     })
 }
 

@@ -1,4 +1,4 @@
-//! The iterator registers of a run.
+//! The iterator registers of a machine.
 
 ghost use Rattle.std.specs.Prelude.{◌≡◌, true, slice_set, slice_index_or, [], length};
 ghost use Rattle.enumset_repr.specs.Ends.{first, last, without_first, without_last};

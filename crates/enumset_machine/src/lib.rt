@@ -4,9 +4,9 @@
 mod commands;
 mod element_set;
 mod iterators;
-pub mod kinds;
 pub mod laws;
 pub mod machine;
+mod machine_over;
 mod mixed_commands;
 pub mod mixed_machine;
 mod mixed_set;
@@ -14,11 +14,11 @@ mod nothing;
 mod numbers;
 mod registers;
 mod run_set;
-mod runner;
 pub mod runs;
 pub mod serve;
 mod steps;
 pub mod worked;
+pub mod worked_types;
 
 pub use machine::Machine;
 pub use mixed_machine::MixedMachine;

@@ -4,7 +4,7 @@ ghost use Rattle.std.specs.Prelude.{◌≡◌, false, IfOk, IsOk, OnErr};
 ghost use Rattle.enumset_sets.specs.Elements.{valid_bits};
 
 use crate::commands::{carry_out, refusal};
-use crate::runner::Runner;
+use crate::machine_over::MachineOver;
 use crate::steps::{Run, step};
 use enumset_commands::{Command, Refusal, Reply};
 use enumset_repr::EnumSetTypeRepr;
@@ -14,9 +14,9 @@ use std::alloc::{AllocError, Global};
 /// Four set registers and two iterator registers.
 ///
 /// Contracts see the sets as sets of bit numbers, and the iterators as lists of what is left in them.
-pub type Machine<T> = Runner<EnumSet<T>>;
+pub type Machine<T> = MachineOver<EnumSet<T>>;
 
-impl<T: EnumSetType> Runner<EnumSet<T>> {
+impl<T: EnumSetType> MachineOver<EnumSet<T>> {
     ghost use Rattle.enumset_machine.specs.Plans.{takes_memory};
     ghost use Rattle.enumset_machine.specs.Runs.{outcome};
 
@@ -50,10 +50,10 @@ impl<T: EnumSetType> Run for EnumSet<T> {
     }
 
     fn carry_out(
-        runner: &mut Runner<EnumSet<T>>,
+        machine: &mut MachineOver<EnumSet<T>>,
         alloc: Global,
         command: &Command,
     ) -> Result<Reply, AllocError> {
-        carry_out(runner, alloc, command)
+        carry_out(machine, alloc, command)
     }
 }

@@ -8,8 +8,8 @@ ghost use Rattle.enumset_machine.specs.States.{is_set_register, set_at, put_set}
 ghost use Rattle.enumset_machine.specs.Runs.{mixed_plan};
 
 use crate::commands::{carry_out, refusal, unless};
+use crate::machine_over::MachineOver;
 use crate::registers::{are_set_registers, is_set_register};
-use crate::runner::Runner;
 use crate::steps::Run;
 use enumset_commands::MixedCommand::{self, *};
 use enumset_commands::Refusal::{self, NoRegister, NotABit};
@@ -42,47 +42,51 @@ impl<T: EnumSetTypeWithRepr> Run for MixedEnumSet<T> {
 
     #[tactic(auto, unfolding(crate::specs::Runs::mixed_plan))]
     fn carry_out(
-        runner: &mut Runner<MixedEnumSet<T>>,
+        machine: &mut MachineOver<MixedEnumSet<T>>,
         alloc: Global,
         command: &MixedCommand,
     ) -> Result<Reply, AllocError> {
         Ok(match *command {
-            Common(ref command) => carry_out(runner, alloc, command)?,
-            HasBit { r, bit } => Reply::Truth(runner.get(r).has_bit(bit)),
+            Common(ref command) => carry_out(machine, alloc, command)?,
+            HasBit { r, bit } => Reply::Truth(machine.get(r).has_bit(bit)),
             InsertBit { r, bit } => {
-                let mut set = runner.get(r);
+                let mut set = machine.get(r);
                 let was_absent = set.insert_bit(bit);
-                runner.replace(r, set, was_absent)
+                machine.replace(r, set, was_absent)
             }
             RemoveBit { r, bit } => {
-                let mut set = runner.get(r);
+                let mut set = machine.get(r);
                 let was_member = set.remove_bit(bit);
-                runner.replace(r, set, was_member)
+                machine.replace(r, set, was_member)
             }
-            FullComplement { to, a } => runner.put(to, runner.get(a).full_complement()),
-            ValidLen { r } => Reply::Count(runner.get(r).valid_len() as u64),
-            Unknown { r } => Reply::Truth(runner.get(r).has_unknown_bits()),
-            AsEnumset { to, a } => as_enumset(runner, to, a),
+            FullComplement { to, a } => machine.put(to, machine.get(a).full_complement()),
+            ValidLen { r } => Reply::Count(machine.get(r).valid_len() as u64),
+            Unknown { r } => Reply::Truth(machine.get(r).has_unknown_bits()),
+            AsEnumset { to, a } => as_enumset(machine, to, a),
             Truncate { to, a } => {
-                let elements = runner.get(a).as_enumset_truncate();
-                runner.put(to, convert_mixed(elements))
+                let elements = machine.get(a).as_enumset_truncate();
+                machine.put(to, convert_mixed(elements))
             }
         })
     }
 }
 
 /// Puts a set into a register, if each member is valid.
-fn as_enumset<T: EnumSetTypeWithRepr>(runner: &mut Runner<MixedEnumSet<T>>, to: u8, a: u8) -> Reply
+fn as_enumset<T: EnumSetTypeWithRepr>(
+    machine: &mut MachineOver<MixedEnumSet<T>>,
+    to: u8,
+    a: u8,
+) -> Reply
     requires to { is_set_register to ≡ true }
     requires a { is_set_register a ≡ true }
-    ensures reply { let s = set_at runner.old a in
+    ensures reply { let s = set_at machine.old a in
         result ≡ (if is_subset s (valid_bits T.elements) then Done else Absent) }
-    ensures state { let s = set_at runner.old a in
-        runner.new ≡ (if is_subset s (valid_bits T.elements)
-        then put_set runner.old to s else runner.old) }
+    ensures state { let s = set_at machine.old a in
+        machine.new ≡ (if is_subset s (valid_bits T.elements)
+        then put_set machine.old to s else machine.old) }
 {
-    match runner.get(a).try_as_enumset() {
-        Some(elements) => runner.put(to, convert_mixed(elements)),
+    match machine.get(a).try_as_enumset() {
+        Some(elements) => machine.put(to, convert_mixed(elements)),
         None => Reply::Absent,
     }
 }

@@ -3,7 +3,7 @@
 ghost use Rattle.std.specs.Prelude.{◌≡◌, false, IfOk, IsOk, OnErr};
 ghost use Rattle.enumset_sets.specs.Elements.{valid_bits};
 
-use crate::runner::Runner;
+use crate::machine_over::MachineOver;
 use crate::steps::step;
 use enumset_commands::{MixedCommand, Reply};
 use enumset_mixed::MixedEnumSet;
@@ -14,9 +14,9 @@ use std::alloc::{AllocError, Global};
 /// Four set registers and two iterator registers, of mixed sets.
 ///
 /// Contracts see the sets as sets of bit numbers, and the iterators as lists of what is left in them.
-pub type MixedMachine<T> = Runner<MixedEnumSet<T>>;
+pub type MixedMachine<T> = MachineOver<MixedEnumSet<T>>;
 
-impl<T: EnumSetTypeWithRepr> Runner<MixedEnumSet<T>> {
+impl<T: EnumSetTypeWithRepr> MachineOver<MixedEnumSet<T>> {
     ghost use Rattle.enumset_machine.specs.Plans.{takes_memory};
     ghost use Rattle.enumset_machine.specs.Runs.{mixed_outcome};
 

@@ -2,7 +2,7 @@
 
 ghost use Rattle.std.specs.Prelude.{◌≡◌, [], Some, None, IfOk, IfErr, Ok, if◌then◌else◌};
 ghost use Rattle.enumset_repr.specs.BitSet.{from_list};
-ghost use Rattle.enumset_machine.specs.Kinds.{answer_by_width};
+ghost use Rattle.enumset_machine.specs.WorkedTypes.{answer_by_width};
 ghost use Rattle.enumset_commands.specs.Texts.{IsFaultOf};
 
 use crate::{serve_mixed_text, serve_text};

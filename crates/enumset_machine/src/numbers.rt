@@ -9,8 +9,8 @@ ghost use Rattle.enumset_machine.specs.States.{is_set_register};
 ghost use Rattle.enumset_machine.specs.Plans.{is_width, takes_memory, reply_if_below};
 ghost use Rattle.enumset_machine.specs.Runs.{plan};
 
+use crate::machine_over::MachineOver;
 use crate::run_set::RunSet;
-use crate::runner::Runner;
 use enumset_commands::{Reply, WordList};
 use std::alloc::{AllocError, Global};
 
@@ -18,7 +18,7 @@ use std::alloc::{AllocError, Global};
 const MOST_WORDS: usize = u8::MAX as usize;
 
 #[tactic(auto, unfolding(crate::specs::Runs::plan))]
-impl<S: RunSet> Runner<S> {
+impl<S: RunSet> MachineOver<S> {
     /// Puts the bits of a number into a register, if a set may have each of them.
     pub(crate) fn put_number(&mut self, r: u8, width: u32, value: u128) -> Reply
         requires register { is_set_register r ≡ true }
@@ -46,8 +46,8 @@ impl<S: RunSet> Runner<S> {
     }
 }
 
-/// The number of a set, if each member is below a width.
-pub(crate) fn number_of<S: RunSet>(set: S, width: u32) -> Reply
+/// The reply of the number of a set, if each member is below a width.
+pub(crate) fn number_reply<S: RunSet>(set: S, width: u32) -> Reply
     requires { is_width width ≡ true }
     ensures { result ≡ reply_if_below (S.members set) width (Number (number (S.members set))) }
 {
@@ -57,8 +57,8 @@ pub(crate) fn number_of<S: RunSet>(set: S, width: u32) -> Reply
     }
 }
 
-/// The first `count` words of a set, if each member is in one of them. Only these take memory.
-pub(crate) fn words_of<S: RunSet>(alloc: Global, set: S, count: u8) -> Result<Reply, AllocError>
+/// The reply of the first `count` words of a set, if each member is in one of them. Only these take memory.
+pub(crate) fn words_reply<S: RunSet>(alloc: Global, set: S, count: u8) -> Result<Reply, AllocError>
     ensures succeeds { takes_memory (reply_if_below (S.members set) (64 * count)
         (Words (words (S.members set) count))) ≡ false → IsOk result }
     ensures reply { IfOk result (λ reply. reply ≡ reply_if_below (S.members set) (64 * count)
@@ -72,8 +72,12 @@ pub(crate) fn words_of<S: RunSet>(alloc: Global, set: S, count: u8) -> Result<Re
     Ok(Reply::Words(WordList::from(Vec::from_slice(alloc, words)?)))
 }
 
-/// The first `count` words of a set.
-pub(crate) fn words_cut_of<S: RunSet>(alloc: Global, set: S, count: u8) -> Result<Reply, AllocError>
+/// The reply of the first `count` words of a set.
+pub(crate) fn words_cut_reply<S: RunSet>(
+    alloc: Global,
+    set: S,
+    count: u8,
+) -> Result<Reply, AllocError>
     ensures { IfOk result (λ reply. reply ≡ Words (words (S.members set) count)) }
 {
     let mut words = vec![in alloc; 0u64; usize::from(count)]?;

@@ -1,4 +1,4 @@
-//! The set registers of a run.
+//! The set registers of a machine.
 
 ghost use Rattle.std.specs.Prelude.{◌≡◌, ◌∷◌, [], true, slice_set, slice_index_or};
 ghost use Rattle.std.specs.List.{list_all};

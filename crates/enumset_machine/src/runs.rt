@@ -6,7 +6,7 @@ ghost use Rattle.enumset_machine.specs.Plans.{outcome_by, replies_by};
 ghost use Rattle.enumset_machine.specs.Runs.{replies, mixed_replies};
 ghost use Rattle.enumset_sets.specs.Elements.{valid_bits};
 
-use crate::runner::Runner;
+use crate::machine_over::MachineOver;
 use crate::steps::{Run, step};
 use enumset_commands::{Command, MixedCommand, Reply};
 use enumset_mixed::MixedEnumSet;
@@ -41,10 +41,10 @@ fn run_over<S: Run>(alloc: Global, commands: &[S::Command]) -> Result<Vec<Reply>
     ensures { IfOk result (λ out. out.items
         ≡ replies_by (outcome_by S.rules S.plan) start commands.now) }
 {
-    let mut runner = Runner::<S>::new();
+    let mut machine = MachineOver::<S>::new();
     let mut replies = Vec::with_capacity(alloc, commands.len())?;
     for command in commands {
-        replies.push(step(&mut runner, alloc, command)?)?;
+        replies.push(step(&mut machine, alloc, command)?)?;
     }
     Ok(replies)
 }

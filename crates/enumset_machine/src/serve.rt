@@ -9,7 +9,7 @@ ghost use Rattle.enumset_commands.specs.Lines.{commands_of_text};
 ghost use Rattle.enumset_commands.specs.Texts.{IsFaultOf, text_of};
 ghost use Rattle.enumset_sets.specs.Elements.{valid_bits};
 
-use crate::runner::Runner;
+use crate::machine_over::MachineOver;
 use crate::steps::{Run, step};
 use enumset_commands::grammar::lines::Lines;
 use enumset_commands::grammar::tokens::Tokens;
@@ -84,7 +84,7 @@ where
     ensures fault { IfErr result (λ fault. IsFaultOf (answer_by (replies_by (outcome_by S.rules S.plan) start)
         (commands_of_text S.Command.command_of input.now)) fault) }
 {
-    let mut runner = Runner::<S>::new();
+    let mut machine = MachineOver::<S>::new();
     let mut text = String::new(alloc);
     let mut has_room = true;
     let mut number = 0u64;
@@ -95,7 +95,7 @@ where
             let command = S::Command::read(alloc, name, tokens).ok_or(TextFault::BadLine(number))?;
             has_room = match command {
                 Ok(command) => has_room
-                    && answer_command(alloc, &mut runner, command, &mut text).is_ok(),
+                    && answer_command(alloc, &mut machine, command, &mut text).is_ok(),
                 Err(_) => false,
             };
         }
@@ -110,17 +110,17 @@ where
 /// Carries out one command, and writes its reply in a line.
 fn answer_command<S: Run>(
     alloc: Global,
-    runner: &mut Runner<S>,
+    machine: &mut MachineOver<S>,
     command: S::Command,
     text: &mut String,
 ) -> Result<(), AllocError>
 where
     S::Command: LineCommand,
     ensures state { OnOk result
-        (runner.new ≡ (outcome_by S.rules S.plan runner.old command).state) }
+        (machine.new ≡ (outcome_by S.rules S.plan machine.old command).state) }
     ensures text { OnOk result (string_bytes text.new ≡ string_bytes text.old
-        ++ text_of (outcome_by S.rules S.plan runner.old command).reply ++ codes "\n") }
+        ++ text_of (outcome_by S.rules S.plan machine.old command).reply ++ codes "\n") }
 {
-    let reply = step(runner, alloc, &command)?;
+    let reply = step(machine, alloc, &command)?;
     write_reply(text, &reply)
 }

@@ -2,7 +2,7 @@
 use Rattle.std.proofs.Common.{◌≡◌, ℕ, ◌+◌, Bool, true, false, List, [], ◌++◌, length, take, nat_lt, Option, None, Some, IfSome, Result, Err, ap, ◌∙◌, subst, arith, if◌then◌else◌, refl, option_map, length-take, take_all}
 use Rattle.enumset_repr.specs.Laws.Common.{nat_tests, BitSet, from_list}
 use Rattle.enumset_machine.specs.Answers.{commands_of, answer_by}
-use Rattle.enumset_machine.specs.Kinds.{over, answer_by_width, answer_over}
+use Rattle.enumset_machine.specs.WorkedTypes.{over, answer_by_width, answer_over}
 use Rattle.enumset_commands.specs.Lines.{command_of, commands_of_text, mixed_command_of}
 use Rattle.enumset_machine.specs.declared.serve.TheConstants.{INPUT_LIMIT}
 use Rattle.enumset_commands.specs.declared.text_fault.TextFault.TheVariants.{TooLong}
@@ -38,7 +38,7 @@ answer_by_width-take None valid bytes = ap (answer_by (replies valid)) (commands
 answer_by_width-take (Some width) valid bytes = ap (answer_by (mixed_replies valid width)) (commands_of-take mixed_command_of bytes)
 
 -- what is true of the answer to what was read is true of the answer to the input
-pub of_input : (P : Result (List ℕ) TextFault → Type 0) (kind : Worked) (known : Option (List ℕ)) (input : List ℕ) → IfSome known (λ bytes. input ≡ take READ_LIMIT bytes) → P (answer_over kind input) → IfSome known (λ bytes. P (answer_over kind bytes))
-of_input P kind None input read holds = tt
-of_input P kind (Some bytes) input read holds =
-    subst P (ap (answer_over kind) read ∙ answer_by_width-take (over kind).1 (from_list (over kind).0) bytes) holds
+pub of_input : (P : Result (List ℕ) TextFault → Type 0) (worked : Worked) (known : Option (List ℕ)) (input : List ℕ) → IfSome known (λ bytes. input ≡ take READ_LIMIT bytes) → P (answer_over worked input) → IfSome known (λ bytes. P (answer_over worked bytes))
+of_input P worked None input read holds = tt
+of_input P worked (Some bytes) input read holds =
+    subst P (ap (answer_over worked) read ∙ answer_by_width-take (over worked).1 (from_list (over worked).0) bytes) holds

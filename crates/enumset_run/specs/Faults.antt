@@ -10,7 +10,7 @@ use Rattle.std.specs.declared.env.FillError.TheVariants.{NotPresent, TooLong}
 use Rattle.enumset_commands.specs.declared.text_fault.TextFault.{TextFault}
 use Rattle.enumset_commands.specs.declared.text_fault.TextFault.TheVariants.{OutOfMemory}
 use Rattle.enumset_machine.specs.declared.worked.Worked.{Worked}
-use Rattle.enumset_machine.specs.Kinds.{worked_of}
+use Rattle.enumset_machine.specs.WorkedTypes.{worked_of}
 use Rattle.enumset_run.specs.declared.fault.ProgramFault.{ProgramFault}
 use Rattle.enumset_run.specs.declared.fault.ProgramFault.TheVariants.{OneArgument, UnknownType, Text, Reading, Writing}
 use Rattle.enumset_commands.specs.Texts.{fault_text, IsFaultOf}

@@ -4,13 +4,13 @@ ghost use Rattle.std.specs.Prelude.{◌≡◌, ◌≢◌, ◌⊎◌, ◌+◌, �
 ghost use Rattle.std.specs.List.{list_all};
 ghost use Rattle.std.specs.Io.KnownBytes.{Appends};
 ghost use Rattle.enumset_run.specs.Faults.{type_of_arguments, IsFaultOver, AppendsFrontOf};
-ghost use Rattle.enumset_machine.specs.Kinds.{names, answer_over};
+ghost use Rattle.enumset_machine.specs.WorkedTypes.{names, answer_over};
 
 use crate::fault::ProgramFault;
 use enumset_commands::TextFault;
 use enumset_machine::INPUT_LIMIT;
-use enumset_machine::kinds::{serve_worked, worked_of_bytes};
 use enumset_machine::worked::Worked;
+use enumset_machine::worked_types::{serve_worked, worked_of_bytes};
 use std::alloc::Global;
 use std::env::{Env, FillError};
 use std::io::{self, ErrorKind, Input, Print, Read, Write};
@@ -28,9 +28,9 @@ pub(crate) const ROOM: usize = READ_LIMIT + 1;
 ///
 /// Room for the input is taken before it is read, so that running out of memory hides no fault of the input.
 pub fn answer<R: Env + Input + Print + AllocGlobal>(rt: &R) -> Result<(), ProgramFault> {
-    let kind = read_arguments(rt)?;
+    let worked = read_arguments(rt)?;
     let room = Vec::with_capacity(rt.alloc(), ROOM).map_err(TextFault::from)?;
-    answer_input(rt.alloc(), kind, room, rt.reader(), &mut io::writer(rt))
+    answer_input(rt.alloc(), worked, room, rt.reader(), &mut io::writer(rt))
 }
 
 /// The type that the one argument names. No clause can say what the arguments are.
@@ -73,7 +73,7 @@ fn type_of_arguments(
 /// Reads an input, and writes the answer to it over a worked type. `room` has room for the input.
 pub(crate) fn answer_input<R: Read + Drop, W: Write>(
     alloc: Global,
-    kind: Worked,
+    worked: Worked,
     room: Vec<u8>,
     reader: R,
     writer: &mut W,
@@ -83,19 +83,19 @@ pub(crate) fn answer_input<R: Read + Drop, W: Write>(
     // Where the bytes of the reader are known, the writer gets the answer to them, and a fault is one that
     // they may have.
     ensures answer { OnOk result (IfSome (R.remaining reader) (λ input.
-        IsOkAnd (answer_over kind input)
+        IsOkAnd (answer_over worked input)
         (Appends (W.contents writer.old) (W.contents writer.new)))) }
     ensures fault { IfErr result (λ fault. IfSome (R.remaining reader) (λ input.
-        IsFaultOver (answer_over kind input) fault)) }
+        IsFaultOver (answer_over worked input) fault)) }
     // If writing fails, a front part of the answer was written; with any other fault nothing was.
     ensures begun { result ≡ Err ProgramFault.Writing → IfSome (R.remaining reader) (λ input.
-        IsOkAnd (answer_over kind input)
+        IsOkAnd (answer_over worked input)
         (AppendsFrontOf (W.contents writer.old) (W.contents writer.new))) }
     ensures untouched { IfErr result (λ fault.
         fault ≢ ProgramFault.Writing → writer.new ≡ writer.old) }
 {
     let input = read_input(room, reader)?;
-    let output = serve_worked(alloc, kind, &input)?;
+    let output = serve_worked(alloc, worked, &input)?;
     write_output(writer, &output)?;
     Ok(())
 }

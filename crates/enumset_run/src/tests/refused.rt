@@ -5,8 +5,8 @@
 //! has to end.
 
 use enumset_commands::{Command, MixedCommand, Reply, TextFault};
-use enumset_machine::kinds::serve_worked;
 use enumset_machine::worked::Worked;
+use enumset_machine::worked_types::serve_worked;
 use enumset_machine::{Machine, MixedMachine, run, run_mixed};
 use enumset_worked::{Letters, Marks};
 use std::alloc::Global;

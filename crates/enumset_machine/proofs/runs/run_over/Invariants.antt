@@ -7,4 +7,4 @@ use Rattle.enumset_machine.proofs.runs.run_over.Given as goal
 abbrev pub invariant-loop-command : goal.invariant-loop-command
 invariant-loop-command g l =
     let outcome = outcome_by g.S.RunSet.rules g.S.Run.plan in
-    l.replies.items ++ replies_by outcome l.runner (drop l.command-index l.commands) ≡ replies_by outcome start l.commands
+    l.replies.items ++ replies_by outcome l.machine (drop l.command-index l.commands) ≡ replies_by outcome start l.commands

@@ -13,13 +13,13 @@ loop-line-preserved-then-has_room g c =
     let n = c.loop-line.number + 1 in
     let command = c.in-Ok.command in
     let rest = commands_from command_of (n + 1) c.next.new.self in
-    let s = c.loop-line.runner in
+    let s = c.loop-line.machine in
     let written = string_bytes c.loop-line.text in
     let own : command_of (c.in-Some-next.name.now ∷ c.next-in-loop-line.new.self) ≡ Some command = search rules in
     let line : commands_from command_of n c.loop-line.line-iterator ≡ before (Some command) n rest = search rules in
     record {
       commands = λ accepted.
-          let state : c.answer_command.new.runner ≡ (outcome s command).state = search rules in
+          let state : c.answer_command.new.machine ≡ (outcome s command).state = search rules in
           let text : string_bytes c.answer_command.new.text ≡ written ++ text_of (outcome s command).reply ++ codes "\n" = search rules in
           rw (state, text) (sym (answer_after-before outcome s written command n rest) ∙ ap (answer_after outcome s written) (sym line) ∙ c.loop-line.invariant.commands (search rules));
       fault = sym (result_err-before command n rest) ∙ ap result_err (sym line) ∙ c.loop-line.invariant.fault;

@@ -14,7 +14,7 @@ invariant-loop-line g l =
     let command_of = g.S.Command.LineCommand.command_of in
     let outcome = outcome_by g.S.RunSet.rules g.S.Run.plan in
     record {
-      commands : l.has_room ≡ true → answer_after outcome l.runner (string_bytes l.text) (commands_from command_of (l.number + 1) l.line-iterator) ≡ answer_by (replies_by outcome start) (commands_of_text command_of l.input);
+      commands : l.has_room ≡ true → answer_after outcome l.machine (string_bytes l.text) (commands_from command_of (l.number + 1) l.line-iterator) ≡ answer_by (replies_by outcome start) (commands_of_text command_of l.input);
       fault : result_err (commands_from command_of (l.number + 1) l.line-iterator) ≡ result_err (commands_of_text command_of l.input);
       counted : l.number + length l.line-iterator < 2 ^ 64;
     }

@@ -1,4 +1,4 @@
-//! The registers of a run over sets of any kind.
+//! A machine over sets of either kind: its registers, and what it does with them.
 
 ghost use Rattle.std.specs.Prelude.{◌≡◌, length, true};
 ghost use Rattle.enumset_commands.specs.declared.reply.Reply.TheVariants.{Done, Truth, Count};
@@ -13,14 +13,14 @@ use crate::run_set::RunSet;
 use enumset_commands::Reply;
 use std::marker::Model;
 
-/// Four set registers and two iterator registers.
+/// Four set registers and two iterator registers, over sets of one kind.
 #[derive(Drop)]
-pub struct Runner<S: RunSet> {
+pub struct MachineOver<S: RunSet> {
     sets: Registers<S>,
     iterators: IteratorRegisters<S>,
 }
 
-impl<S: RunSet> Model for Runner<S> {
+impl<S: RunSet> Model for MachineOver<S> {
     ghost use Rattle.enumset_machine.specs.States.{State, coded_state};
 
     ghost Value = { State };
@@ -30,12 +30,12 @@ impl<S: RunSet> Model for Runner<S> {
     ghost view = { λ m. record { sets = m.sets; lists = m.iterators } };
 }
 
-impl<S: RunSet> Runner<S> {
-    /// Returns a run whose registers are empty.
-    pub fn new() -> Runner<S>
+impl<S: RunSet> MachineOver<S> {
+    /// Returns a machine whose registers are empty.
+    pub fn new() -> MachineOver<S>
         ensures { result ≡ start }
     {
-        Runner {
+        MachineOver {
             sets: Registers::new(),
             iterators: IteratorRegisters::new(),
         }

@@ -70,4 +70,4 @@ answer_by_width None valid input = answer_to valid input
 answer_by_width (Some width) valid input = mixed_answer_to valid width input
 
 abbrev pub answer_over : Worked → List ℕ → Result (List ℕ) TextFault
-answer_over kind input = answer_by_width (over kind).1 (from_list (over kind).0) input
+answer_over worked input = answer_by_width (over worked).1 (from_list (over worked).0) input

@@ -1,7 +1,7 @@
 //! The worked types by their names, and the answer to an input over each.
 
 ghost use Rattle.std.specs.Prelude.{◌≡◌, IfOk, IfErr, Ok};
-ghost use Rattle.enumset_machine.specs.Kinds.{worked_of, answer_over};
+ghost use Rattle.enumset_machine.specs.WorkedTypes.{worked_of, answer_over};
 ghost use Rattle.enumset_commands.specs.Texts.{IsFaultOf};
 
 use crate::nothing::serve_nothing;
@@ -55,8 +55,8 @@ pub fn worked_of_bytes(name: &[u8]) -> Option<Worked>
 /// `wide` has no mixed sets, and `nothing` has a function of its own. A row names its type once, so none is taken for
 /// another whose sets give the same replies.
 macro_rules! over_worked_types {
-    ($kind:ident, $alloc:ident, $input:ident: $($of_sets:ident $of_mixed_sets:ident;)+) => {
-        match $kind {
+    ($worked:ident, $alloc:ident, $input:ident: $($of_sets:ident $of_mixed_sets:ident;)+) => {
+        match $worked {
             $(
                 Worked::$of_sets => serve_text::<$of_sets>($alloc, $input),
                 Worked::$of_mixed_sets => serve_mixed_text::<$of_sets>($alloc, $input),
@@ -71,11 +71,11 @@ macro_rules! over_worked_types {
 /// Returns the text of the replies to the commands of an input, over the sets of a worked type, or over its mixed sets.
 ///
 /// The errors are those of [`serve_text`].
-pub fn serve_worked(alloc: Global, kind: Worked, input: &[u8]) -> Result<Vec<u8>, TextFault>
-    ensures answer { IfOk result (λ out. answer_over kind input.now ≡ Ok out.items) }
-    ensures fault { IfErr result (λ fault. IsFaultOf (answer_over kind input.now) fault) }
+pub fn serve_worked(alloc: Global, worked: Worked, input: &[u8]) -> Result<Vec<u8>, TextFault>
+    ensures answer { IfOk result (λ out. answer_over worked input.now ≡ Ok out.items) }
+    ensures fault { IfErr result (λ fault. IsFaultOf (answer_over worked input.now) fault) }
 {
-    over_worked_types! { kind, alloc, input:
+    over_worked_types! { worked, alloc, input:
         Letters MixedLetters;
         Four MixedFour;
         Sparse MixedSparse;
