@@ -101,6 +101,20 @@ fn letters_in_place(rt: HostRuntime) {
     expect(&rt, "retain, by another set", set.as_u8(), 8);
 }
 
+// No clause says what a closure that changes a variable leaves in it. The digits are the bits of the calls, each plus one.
+#[test]
+fn retain_calls_once_for_each_letter(rt: HostRuntime) {
+    let (mut set, mut calls) = (some_letters(), 0u32);
+    set.retain(|letter| {
+        calls = calls
+            .wrapping_mul(10)
+            .wrapping_add(EnumSet::bit_index(letter))
+            .wrapping_add(1);
+        letter != Letters::C
+    });
+    expect(&rt, "retain", (calls, set.as_u8()), (136, 33));
+}
+
 #[test]
 fn letters_by_reference(rt: HostRuntime) {
     let (few, many) = (two_of(Letters::A, Letters::C), some_letters());
