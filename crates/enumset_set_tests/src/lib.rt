@@ -11,3 +11,5 @@ mod expect;
 mod repr;
 #[cfg(test)]
 mod sets;
+#[cfg(test)]
+mod worked_examples;

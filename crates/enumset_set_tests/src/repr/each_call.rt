@@ -1,4 +1,5 @@
-//! Each call of `EnumSetTypeRepr` through the trait, at each type that implements it, on sets of bits below 7.
+//! Each call of `EnumSetTypeRepr` through the trait, at each type that implements it, on sets of bits below 7. Over no
+//! word these sets are empty.
 
 use crate::expect::expect_at;
 use enumset_array::ArrayRepr;
@@ -7,6 +8,16 @@ use enumset_repr::{
     try_from_u64_array, try_to_u64_array,
 };
 use std::process::Abort;
+
+// The bits of a number that a representation has: over no word none.
+fn kept<R: EnumSetTypeRepr>(number: u8) -> u8 {
+    if R::WIDTH == 0 { 0 } else { number }
+}
+
+// The bit that a representation has, if it has one.
+fn kept_bit<R: EnumSetTypeRepr>(bit: u32) -> Option<u32> {
+    (R::WIDTH != 0).then_some(bit)
+}
 
 // The operators in place, on {0, 3, 6} and {3, 4}.
 fn operators_in_place<R: EnumSetTypeRepr>(rt: &impl Abort, repr: &str) {
@@ -17,28 +28,31 @@ fn operators_in_place<R: EnumSetTypeRepr>(rt: &impl Abort, repr: &str) {
     xor.xor_with(&b);
     and_not.and_not_with(&b);
     let changed = [or.to_u8(), and.to_u8(), xor.to_u8(), and_not.to_u8()];
-    expect_at(rt, repr, "or_with and its like", changed, [89, 8, 81, 65]);
+    let wanted = [89, 8, 81, 65].map(kept::<R>);
+    expect_at(rt, repr, "or_with and its like", changed, wanted);
 }
 
 // The other operators, on the same.
 fn operators<R: EnumSetTypeRepr>(rt: &impl Abort, repr: &str) {
     let (a, b, or) = (R::from_u8(73), R::from_u8(24), R::from_u8(89));
     let made = [(a | b).to_u8(), (a & b).to_u8(), (a ^ b).to_u8()];
-    expect_at(rt, repr, "|, & and ^", made, [89, 8, 81]);
+    expect_at(rt, repr, "|, & and ^", made, [89, 8, 81].map(kept::<R>));
     let made = [a.and_not(b).to_u8(), (!a & b).to_u8(), R::EMPTY.to_u8()];
-    expect_at(rt, repr, "and_not, ! and EMPTY", made, [65, 16, 0]);
+    let wanted = [65, 16, 0].map(kept::<R>);
+    expect_at(rt, repr, "and_not, ! and EMPTY", made, wanted);
+    let are_empty = R::WIDTH == 0;
     let answers = [a.is_empty(), a.is_subset_of(&or), a.is_disjoint_from(&b)];
-    let wanted = [false, true, false];
+    let wanted = [are_empty, true, are_empty];
     expect_at(rt, repr, "is_empty and its like", answers, wanted);
     let answers = [a == or, a < or];
-    expect_at(rt, repr, "== and <", answers, [false, true]);
+    expect_at(rt, repr, "== and <", answers, [are_empty, !are_empty]);
 }
 
 // What `or_changes` and its like do to {0, 3, 6} by {3, 4}, and what they say, once and again.
 fn changes<R: EnumSetTypeRepr>(rt: &impl Abort, repr: &str) {
     let (a, b) = (R::from_u8(73), R::from_u8(24));
     let (mut or, mut and, mut and_not) = (a, a, a);
-    for has_changed in [true, false] {
+    for has_changed in [R::WIDTH != 0, false] {
         let told = [
             or.or_changes(&b),
             and.and_changes(&b),
@@ -46,23 +60,26 @@ fn changes<R: EnumSetTypeRepr>(rt: &impl Abort, repr: &str) {
         ];
         expect_at(rt, repr, "or_changes and its like", told, [has_changed; 3]);
         let made = [or.to_u8(), and.to_u8(), and_not.to_u8()];
-        expect_at(rt, repr, "what they make", made, [89, 8, 65]);
+        let wanted = [89, 8, 65].map(kept::<R>);
+        expect_at(rt, repr, "what they make", made, wanted);
     }
 }
 
 // The ends of {0, 3, 6}, from some bit on, and of the empty set.
 fn ends<R: EnumSetTypeRepr>(rt: &impl Abort, repr: &str) {
     let set = R::from_u8(73);
+    let (third, last) = (kept_bit::<R>(3), kept_bit::<R>(6));
     let found = [least_bit(&set), greatest_bit(&set)];
-    expect_at(rt, repr, "least and greatest", found, [Some(0), Some(6)]);
+    let wanted = [kept_bit::<R>(0), last];
+    expect_at(rt, repr, "least and greatest", found, wanted);
     let found = [1, 3, 4, 7, 64, u32::MAX].map(|from| least_bit_from(&set, from));
-    let wanted = [Some(3), Some(3), Some(6), None, None, None];
+    let wanted = [third, third, last, None, None, None];
     expect_at(rt, repr, "least_bit_from", found, wanted);
     let none = [least_bit(&R::EMPTY), greatest_bit(&R::EMPTY)];
     expect_at(rt, repr, "of none", none, [None; 2]);
 }
 
-// The bits of {0, 3, 6}.
+// The bits of {0, 3, 6}. Over no word there is no bit, and no word, to call these for.
 fn bits<R: EnumSetTypeRepr>(rt: &impl Abort, repr: &str) {
     if R::WIDTH > 6 && R::PREFERRED_ARRAY_LEN > 0 {
         let mut set = R::from_u8(24);
@@ -84,14 +101,16 @@ fn items<R: EnumSetTypeRepr>(rt: &impl Abort, repr: &str) {
         set.count_ones() as usize,
         R::items_left(&R::same_iter(&iter)),
     ];
-    expect_at(rt, repr, "count_ones and items_left", left, [3, 3]);
+    let wanted = if R::WIDTH == 0 { [0, 0] } else { [3, 3] };
+    expect_at(rt, repr, "count_ones and items_left", left, wanted);
     let items = [iter.next(), iter.next_back(), iter.next(), iter.next()];
-    expect_at(rt, repr, "next", items, [Some(0), Some(6), Some(3), None]);
+    let [first, last, other] = [0, 6, 3].map(kept_bit::<R>);
+    expect_at(rt, repr, "next", items, [first, last, other, None]);
 }
 
 // The numbers of {0, 3, 6}.
 fn numbers<R: EnumSetTypeRepr>(rt: &impl Abort, repr: &str) {
-    let set = R::from_u128(73);
+    let (set, wanted) = (R::from_u128(73), kept::<R>(73));
     let numbers = [
         set.to_u8() as u128,
         set.to_u16() as u128,
@@ -100,33 +119,34 @@ fn numbers<R: EnumSetTypeRepr>(rt: &impl Abort, repr: &str) {
         set.to_usize() as u128,
         set.to_u128(),
     ];
-    expect_at(rt, repr, "to_u8 and its like", numbers, [73; 6]);
+    expect_at(rt, repr, "to_u8 and its like", numbers, [wanted as u128; 6]);
     let tried = [
-        set.try_to_u8() == Some(73),
-        set.try_to_u16() == Some(73),
-        set.try_to_u32() == Some(73),
-        set.try_to_u64() == Some(73),
-        set.try_to_usize() == Some(73),
-        set.try_to_u128() == Some(73),
+        set.try_to_u8() == Some(wanted),
+        set.try_to_u16() == Some(wanted as u16),
+        set.try_to_u32() == Some(wanted as u32),
+        set.try_to_u64() == Some(wanted as u64),
+        set.try_to_usize() == Some(wanted as usize),
+        set.try_to_u128() == Some(wanted as u128),
     ];
     expect_at(rt, repr, "try_to_u8 and its like", tried, [true; 6]);
 }
 
-// Sets from the number of {0, 3, 6}.
+// Sets from the number of {0, 3, 6}, which is no set's over no word.
 fn sets_of_numbers<R: EnumSetTypeRepr>(rt: &impl Abort, repr: &str) {
     let set = R::from_u8(73);
+    let tried = (R::WIDTH != 0).then_some(set);
     let made = [
         R::from_u16(73) == set,
         R::from_u32(73) == set,
         R::from_u64(73) == set,
         R::from_usize(73) == set,
         R::from_u128(73) == set,
-        R::try_from_u8(73) == Some(set),
-        R::try_from_u16(73) == Some(set),
-        R::try_from_u32(73) == Some(set),
-        R::try_from_u64(73) == Some(set),
-        R::try_from_usize(73) == Some(set),
-        R::try_from_u128(73) == Some(set),
+        R::try_from_u8(73) == tried,
+        R::try_from_u16(73) == tried,
+        R::try_from_u32(73) == tried,
+        R::try_from_u64(73) == tried,
+        R::try_from_usize(73) == tried,
+        R::try_from_u128(73) == tried,
     ];
     expect_at(rt, repr, "from_u8 and its like", made, [true; 11]);
 }
@@ -134,9 +154,13 @@ fn sets_of_numbers<R: EnumSetTypeRepr>(rt: &impl Abort, repr: &str) {
 // The words of {0, 3, 6}.
 fn words<R: EnumSetTypeRepr>(rt: &impl Abort, repr: &str) {
     let (set, words) = (R::from_u64_slice(&[73]), [73, 0]);
+    let wanted = [kept::<R>(73) as u64, 0];
     let mut out = [7; 2];
     set.to_u64_slice(&mut out);
-    expect_at(rt, repr, "to_u64_slice", out, words);
+    expect_at(rt, repr, "to_u64_slice", out, wanted);
+    let arrays = [Some(to_u64_array(&set)), try_to_u64_array(&set)];
+    expect_at(rt, repr, "to_u64_array", arrays, [Some(wanted); 2]);
+    let are_empty = R::WIDTH == 0;
     let tried = [
         set.try_to_u64_slice(&mut out).is_some(),
         set.try_to_u64_slice(&mut []).is_some(),
@@ -144,10 +168,8 @@ fn words<R: EnumSetTypeRepr>(rt: &impl Abort, repr: &str) {
         from_u64_array::<R, 2>(words) == set,
         try_from_u64_array::<R, 2>(words) == Some(set),
     ];
-    let wanted = [true, false, true, true, true];
+    let wanted = [true, are_empty, !are_empty, true, !are_empty];
     expect_at(rt, repr, "slices and arrays", tried, wanted);
-    let arrays = [Some(to_u64_array(&set)), try_to_u64_array(&set)];
-    expect_at(rt, repr, "to_u64_array", arrays, [Some(words); 2]);
 }
 
 fn each_call<R: EnumSetTypeRepr>(rt: &impl Abort, repr: &str) {
@@ -169,5 +191,7 @@ fn each_type_has_each_call(rt: HostRuntime) {
     each_call::<u32>(&rt, "u32");
     each_call::<u64>(&rt, "u64");
     each_call::<u128>(&rt, "u128");
+    each_call::<ArrayRepr<0>>(&rt, "no word");
+    each_call::<ArrayRepr<1>>(&rt, "1 word");
     each_call::<ArrayRepr<5>>(&rt, "5 words");
 }
