@@ -5,3 +5,4 @@ mod paced;
 mod program;
 mod refused;
 mod transcripts;
+mod worked_examples;
