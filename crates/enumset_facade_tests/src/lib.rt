@@ -41,3 +41,5 @@ mod sizes;
 mod steps;
 #[cfg(test)] // Scripts that use the types take this line out.
 pub mod types;
+#[cfg(test)]
+mod worked_examples;

@@ -9,8 +9,9 @@ use crate::types::{Letters, Priority, Wide};
 use enumset::EnumSet;
 use enumset::set::MixedEnumSet;
 use enumset::set_json::{
-    JsonFault, Unknown, mixed_from_number_text, mixed_from_words_text, mixed_to_number_text,
-    mixed_to_words_text, to_list_text, to_map_text,
+    JsonFault, JsonWidth, Unknown, from_map_text, mixed_from_number_text, mixed_from_words_text,
+    mixed_to_number, mixed_to_number_text, mixed_to_words_text, to_list_text, to_map_text,
+    to_number, to_words,
 };
 use enumset_array::{ArrayRepr, End, ShownRow, walk};
 use enumset_worked::{Marks, Sparse};
@@ -49,6 +50,68 @@ fn expect_text<F: Fn() -> Result<String, JsonFault>>(
 fn expect_read(rt: &impl Abort, alloc: Global, form: Form, text: &str) -> Result<(), Fail> {
     let (set, was_read) = returned(rt, || read::<Letters>(alloc, form, text));
     expect(rt, "read", set.as_u8_truncated(), 64);
+    Ok(was_read?)
+}
+
+// Tests the fault of a text, which is `wanted` once there is memory.
+fn expect_fault<F: Fn() -> Option<JsonFault>>(
+    rt: &impl Abort,
+    wanted: JsonFault,
+    call: F,
+) -> Result<(), Fail>
+    requires { F.IsAlwaysCallable call }
+{
+    match call() {
+        Some(JsonFault::OutOfMemory) => {
+            expect(rt, "read again", call(), Some(wanted));
+            Err(JsonFault::OutOfMemory)?
+        }
+        fault => expect(rt, "read", fault, Some(wanted)),
+    }
+    Ok(())
+}
+
+#[test]
+fn values_that_are_written(rt: HostRuntime) -> Result<(), Fail> {
+    let (alloc, set) = (rt.alloc(), EnumSet::from([Sparse::A, Sparse::D]));
+    let (words, ended) = returned(&rt, || to_words(alloc, &set));
+    let words = words.as_array().map(|words| words.len());
+    expect(&rt, "to_words", words, Some(2));
+    Ok(ended?)
+}
+
+// A number takes no memory, and a set that is too wide for one is no refusal.
+#[test]
+fn numbers_that_are_written(rt: HostRuntime) -> Result<(), Fail> {
+    let (alloc, set) = (rt.alloc(), EnumSet::from([Sparse::A, Sparse::D]));
+    let fault = to_number(alloc, &set, JsonWidth::U64).err();
+    expect(&rt, "{A, D}, to_number", fault, Some(JsonFault::TooWide));
+    let number = to_number(alloc, &EnumSet::only(Letters::G), JsonWidth::U8)?;
+    expect(&rt, "{G}, to_number", number.as_u64(), Some(64));
+    let number = mixed_to_number(alloc, &MixedEnumSet::<Marks>::from_repr(9))?;
+    expect(&rt, "9, mixed_to_number", number.as_u64(), Some(9));
+    Ok(())
+}
+
+// Each of these texts is read by way of a tree of values.
+#[test]
+fn trees_that_are_read(rt: HostRuntime) -> Result<(), Fail> {
+    let alloc = rt.alloc();
+    for (form, text, wanted) in [
+        (Form::Number, "\"9\"", JsonFault::NotANumber),
+        (Form::Words, "[1,\"x\"]", JsonFault::NotAWord(1)),
+        (Form::List, "[1]", JsonFault::NotAText(0)),
+        (Form::Map, "{\"G\":1}", JsonFault::NotABoolean(0)),
+    ] {
+        expect_fault(&rt, wanted, || read::<Letters>(alloc, form, text).err())?;
+    }
+    let number = || mixed_from_number_text::<Marks>(alloc, "\"9\"").err();
+    expect_fault(&rt, JsonFault::NotANumber, number)?;
+    let words = || mixed_from_words_text::<Marks>(alloc, "[1,\"x\"]", Unknown::Drop).err();
+    expect_fault(&rt, JsonFault::NotAWord(1), words)?;
+    let text = "{\"G\":true,\"H\":false}";
+    let (set, was_read) = returned(&rt, || from_map_text::<Letters>(alloc, text, Unknown::Drop));
+    expect(&rt, "an unknown name", set.as_u8_truncated(), 64);
     Ok(was_read?)
 }
 
