@@ -5,13 +5,13 @@
 --     Retains      the same, whatever the closure is in the end
 --     IsTest      each call, whatever the closure has captured, returns what a test says of the element's bit
 --     IsConstantTest      each call of this one closure returns that, and leaves what it captured
-use Rattle.std.specs.Prelude.{◌≡◌, ℕ, Bool, cond, List, map}
+use Rattle.std.specs.Prelude.{◌≡◌, ℕ, Bool, if◌then◌else◌, List, map}
 use Rattle.std.specs.Fn.{Mut, Called}
 use Rattle.std.specs.List.{FoldsTo}
 use Rattle.enumset_repr.specs.BitSet.{BitSet, ascending, remove}
 
 abbrev pub Keeps : {T F : Type 0} → (T → ℕ) → Mut F (T × Unit {0}) Bool → F × BitSet → T → F × BitSet → Type 0
-Keeps bit g p x q = (b : Bool) × Called g p.0 (x, tt) b q.0 × (q.1 ≡ cond b p.1 (remove p.1 (bit x)))
+Keeps bit g p x q = (b : Bool) × Called g p.0 (x, tt) b q.0 × (q.1 ≡ (if b then p.1 else remove p.1 (bit x)))
 
 abbrev pub RetainsTo : {T F : Type 0} → (T → ℕ) → Mut F (T × Unit {0}) Bool → F → F → BitSet → BitSet → Type 0
 RetainsTo {T} bit g f last s t = (xs : List T) × (map bit xs ≡ ascending s) × FoldsTo (Keeps bit g) (f, s) xs (last, t)

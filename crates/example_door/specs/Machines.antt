@@ -8,7 +8,7 @@
 --     first, second      the two flags of a rule
 --     keeps_from_least      whether a transition keeps a rule in the steps that are tried
 --     IsRefusal      what is missing, and what bars
-use Rattle.std.specs.Prelude.{◌≡◌, ℕ, Bool, true, not, cond, ◌&&◌, ◌||◌, List, [], ◌∷◌}
+use Rattle.std.specs.Prelude.{◌≡◌, ℕ, Bool, true, not, if◌then◌else◌, ◌&&◌, ◌||◌, List, [], ◌∷◌}
 use Rattle.enumset_repr.specs.BitSet.{BitSet, contains, only, union, intersection, difference, is_subset, is_disjoint}
 use Rattle.enumset_sets.specs.Elements.{in_place}
 use Rattle.example_door.specs.contracts.flag.Flag.{the_type}
@@ -28,7 +28,7 @@ abbrev pub allows : Transition → BitSet → Bool
 allows t s = is_subset t.required s && is_disjoint t.forbidden s
 
 abbrev pub after : Transition → BitSet → BitSet
-after t s = cond (allows t s) (union (difference s t.clears) t.sets) s
+after t s = if allows t s then union (difference s t.clears) t.sets else s
 
 abbrev pub after_all : List Transition → BitSet → BitSet
 after_all [] s = s

@@ -1,6 +1,6 @@
 //! What a reader does with bits and names that no variant has.
 
-ghost use Rattle.std.specs.Prelude.{◌≡◌, Some, None, cond, is_none, option_map};
+ghost use Rattle.std.specs.Prelude.{◌≡◌, Some, None, if◌then◌else◌, is_none, option_map};
 ghost use Rattle.std.specs.Option.{option_map_or, option_or};
 ghost use Rattle.enumset_repr.specs.BitSet.{insert};
 ghost use Rattle.enumset.specs.JsonNames.{decided};
@@ -42,9 +42,11 @@ pub(super) fn take_name<T: EnumSetNames>(
     is_member: bool,
     place: usize,
 )
-    ensures set { set.new ≡ cond is_member (option_map_or (insert set.old) (option_map T.elements.bit value) set.old) set.old }
+    ensures set { set.new ≡ (if is_member
+        then option_map_or (insert set.old) (option_map T.elements.bit value) set.old
+        else set.old) }
     ensures first { first_unknown.new ≡ option_or first_unknown.old
-        (cond (is_none (option_map T.elements.bit value)) (Some place) None) }
+        (if is_none (option_map T.elements.bit value) then Some place else None) }
 {
     match value {
         Some(value) if is_member => {
