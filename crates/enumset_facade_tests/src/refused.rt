@@ -93,25 +93,39 @@ fn numbers_that_are_written(rt: HostRuntime) -> Result<(), Fail> {
     Ok(())
 }
 
-// Each of these texts is read by way of a tree of values.
+// The texts of these four tests are read by way of a tree of values.
 #[test]
-fn trees_that_are_read(rt: HostRuntime) -> Result<(), Fail> {
-    let alloc = rt.alloc();
-    for (form, text, wanted) in [
-        (Form::Number, "\"9\"", JsonFault::NotANumber),
-        (Form::Words, "[1,\"x\"]", JsonFault::NotAWord(1)),
-        (Form::List, "[1]", JsonFault::NotAText(0)),
-        (Form::Map, "{\"G\":1}", JsonFault::NotABoolean(0)),
-    ] {
-        expect_fault(&rt, wanted, || read::<Letters>(alloc, form, text).err())?;
-    }
-    let number = || mixed_from_number_text::<Marks>(alloc, "\"9\"").err();
+fn trees_of_numbers(rt: HostRuntime) -> Result<(), Fail> {
+    let (alloc, text) = (rt.alloc(), "\"9\"");
+    let number = || read::<Letters>(alloc, Form::Number, text).err();
     expect_fault(&rt, JsonFault::NotANumber, number)?;
-    let words = || mixed_from_words_text::<Marks>(alloc, "[1,\"x\"]", Unknown::Drop).err();
+    let mixed = || mixed_from_number_text::<Marks>(alloc, text).err();
+    expect_fault(&rt, JsonFault::NotANumber, mixed)
+}
+
+#[test]
+fn trees_of_words(rt: HostRuntime) -> Result<(), Fail> {
+    let (alloc, text) = (rt.alloc(), "[1,\"x\"]");
+    let words = || read::<Letters>(alloc, Form::Words, text).err();
     expect_fault(&rt, JsonFault::NotAWord(1), words)?;
-    let text = "{\"G\":true,\"H\":false}";
+    let mixed = || mixed_from_words_text::<Marks>(alloc, text, Unknown::Drop).err();
+    expect_fault(&rt, JsonFault::NotAWord(1), mixed)
+}
+
+#[test]
+fn trees_of_names(rt: HostRuntime) -> Result<(), Fail> {
+    let alloc = rt.alloc();
+    let list = || read::<Letters>(alloc, Form::List, "[1]").err();
+    expect_fault(&rt, JsonFault::NotAText(0), list)?;
+    let map = || read::<Letters>(alloc, Form::Map, "{\"G\":1}").err();
+    expect_fault(&rt, JsonFault::NotABoolean(0), map)
+}
+
+#[test]
+fn trees_of_unknown_names(rt: HostRuntime) -> Result<(), Fail> {
+    let (alloc, text) = (rt.alloc(), "{\"G\":true,\"H\":false}");
     let (set, was_read) = returned(&rt, || from_map_text::<Letters>(alloc, text, Unknown::Drop));
-    expect(&rt, "an unknown name", set.as_u8_truncated(), 64);
+    expect(&rt, "read", set.as_u8_truncated(), 64);
     Ok(was_read?)
 }
 

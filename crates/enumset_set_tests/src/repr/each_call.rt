@@ -28,7 +28,7 @@ fn operators_in_place<R: EnumSetTypeRepr>(rt: &impl Abort, repr: &str) {
     xor.xor_with(&b);
     and_not.and_not_with(&b);
     let changed = [or.to_u8(), and.to_u8(), xor.to_u8(), and_not.to_u8()];
-    let wanted = [89, 8, 81, 65].map(kept::<R>);
+    let wanted = [89, 8, 81, 65].map(|number| kept::<R>(number));
     expect_at(rt, repr, "or_with and its like", changed, wanted);
 }
 
@@ -36,9 +36,10 @@ fn operators_in_place<R: EnumSetTypeRepr>(rt: &impl Abort, repr: &str) {
 fn operators<R: EnumSetTypeRepr>(rt: &impl Abort, repr: &str) {
     let (a, b, or) = (R::from_u8(73), R::from_u8(24), R::from_u8(89));
     let made = [(a | b).to_u8(), (a & b).to_u8(), (a ^ b).to_u8()];
-    expect_at(rt, repr, "|, & and ^", made, [89, 8, 81].map(kept::<R>));
+    let wanted = [89, 8, 81].map(|number| kept::<R>(number));
+    expect_at(rt, repr, "|, & and ^", made, wanted);
     let made = [a.and_not(b).to_u8(), (!a & b).to_u8(), R::EMPTY.to_u8()];
-    let wanted = [65, 16, 0].map(kept::<R>);
+    let wanted = [65, 16, 0].map(|number| kept::<R>(number));
     expect_at(rt, repr, "and_not, ! and EMPTY", made, wanted);
     let are_empty = R::WIDTH == 0;
     let answers = [a.is_empty(), a.is_subset_of(&or), a.is_disjoint_from(&b)];
@@ -60,7 +61,7 @@ fn changes<R: EnumSetTypeRepr>(rt: &impl Abort, repr: &str) {
         ];
         expect_at(rt, repr, "or_changes and its like", told, [has_changed; 3]);
         let made = [or.to_u8(), and.to_u8(), and_not.to_u8()];
-        let wanted = [89, 8, 65].map(kept::<R>);
+        let wanted = [89, 8, 65].map(|number| kept::<R>(number));
         expect_at(rt, repr, "what they make", made, wanted);
     }
 }
@@ -104,7 +105,7 @@ fn items<R: EnumSetTypeRepr>(rt: &impl Abort, repr: &str) {
     let wanted = if R::WIDTH == 0 { [0, 0] } else { [3, 3] };
     expect_at(rt, repr, "count_ones and items_left", left, wanted);
     let items = [iter.next(), iter.next_back(), iter.next(), iter.next()];
-    let [first, last, other] = [0, 6, 3].map(kept_bit::<R>);
+    let [first, last, other] = [0, 6, 3].map(|bit| kept_bit::<R>(bit));
     expect_at(rt, repr, "next", items, [first, last, other, None]);
 }
 
