@@ -143,7 +143,7 @@ impl<'a, 'b> Reader<'a, 'b> {
     }
 
     /// Says what an option means nothing without. It is a fault if the enum cites another crate than those before it.
-    fn test_crate_name(&mut self, options: &Options<'a>, name: &Token<'a>) -> Outcome {
+    fn test_crate_name(&mut self, options: &Options<'a>, name: &'b Token<'a>) -> Outcome {
         let alone = options.denies_unknown && options.serialized.is_none();
         let denied = self
             .given
@@ -153,11 +153,11 @@ impl<'a, 'b> Reader<'a, 'b> {
             self.note(denied.place, DENY_ALONE)?;
         }
         let cited = options.crate_name.unwrap_or("enumset");
-        let place = self.given.iter().find(|given| given.is("crate_name"));
-        let is_one = !self.source.has_enums || cited == self.source.facade;
-        place
-            .map_or(name, |given| *given)
-            .want(is_one, OTHER_CRATE)?;
+        let given = self.given.iter().find(|given| given.is("crate_name"));
+        let place = given.map_or(name.place, |given| given.place);
+        if self.source.has_enums && cited != self.source.facade {
+            return Err(Reason::Text(OTHER_CRATE).at(place).into());
+        }
         self.source.facade = cited;
         Ok(())
     }

@@ -40,29 +40,26 @@ impl Operator {
         }
     }
 
-    /// The operator of two operands that tokens begin with, and the tokens after it.
-    fn first_of<'a, 'b>(rest: &'b [Token<'a>]) -> Option<(Operator, &'b [Token<'a>])> {
-        match rest {
-            [one, two, rest @ ..] if one.is("<") && two.is("<") && two.space.is_empty() => {
-                Some((Operator::Left, rest))
-            }
-            [one, two, rest @ ..] if one.is(">") && two.is(">") && two.space.is_empty() => {
-                Some((Operator::Right, rest))
-            }
-            [one, rest @ ..] => {
-                let operator = match one.text {
-                    "|" => Operator::Or,
-                    "^" => Operator::Xor,
-                    "&" => Operator::And,
-                    "+" => Operator::Plus,
-                    "-" => Operator::Minus,
-                    "*" => Operator::Times,
-                    _ => return None,
-                };
-                Some((operator, rest))
-            }
-            [] => None,
-        }
+    /// The operator of two operands that tokens begin with, and how many tokens it is.
+    fn first_of(rest: &[Token]) -> Option<(Operator, usize)> {
+        let [one, rest @ ..] = rest else {
+            return None;
+        };
+        let is_double = rest
+            .first()
+            .is_some_and(|two| two.is(one.text) && two.space.is_empty());
+        let operator = match one.text {
+            "<" if is_double => return Some((Operator::Left, 2)),
+            ">" if is_double => return Some((Operator::Right, 2)),
+            "|" => Operator::Or,
+            "^" => Operator::Xor,
+            "&" => Operator::And,
+            "+" => Operator::Plus,
+            "-" => Operator::Minus,
+            "*" => Operator::Times,
+            _ => return None,
+        };
+        Some((operator, 1))
     }
 
     /// What it makes of two numbers, if that is a number. Bits of negative numbers are not looked at.
@@ -114,50 +111,52 @@ struct Expression {
 }
 
 impl Expression {
-    /// Takes in an operand, or what stands before one. Gives the tokens after it, or nothing if there is no operand.
-    fn take_operand<'a, 'b>(&mut self, rest: &'b [Token<'a>]) -> Outcome<Option<&'b [Token<'a>]>> {
-        let [first, rest @ ..] = rest else {
-            return Ok(None);
+    /// Takes in an operand, or what stands before one. Gives how many tokens that is, or nothing if no operand is there.
+    fn take_operand(&mut self, first: &Token) -> Outcome<Option<usize>> {
+        let waits = match first.text {
+            "(" => Some(Operator::Open),
+            "-" => Some(Operator::Negate),
+            _ => None,
         };
-        if first.is("(") || first.is("-") {
-            let is_group = first.is("(");
-            let waits = if is_group {
-                Operator::Open
-            } else {
-                Operator::Negate
-            };
-            self.waiting.push(waits)?;
-            return Ok(Some(rest));
+        if let Some(operator) = waits {
+            self.waiting.push(operator)?;
+            return Ok(Some(1));
         }
         let Some(value) = Value::written(first) else {
             return Ok(None);
         };
         self.values.push(value)?;
         self.wants_operand = false;
-        Ok(Some(rest))
+        Ok(Some(1))
     }
 
-    /// Takes in what stands after an operand. Gives the tokens after it, or nothing if nothing right stands there.
-    fn take_operator<'a, 'b>(&mut self, rest: &'b [Token<'a>]) -> Outcome<Option<&'b [Token<'a>]>> {
-        Ok(match rest {
-            [end, rest @ ..] if end.is(")") => {
+    /// Takes in what stands after an operand. Gives how many tokens that is, or nothing if nothing right stands there.
+    fn take_operator(&mut self, rest: &[Token]) -> Outcome<Option<usize>> {
+        match rest {
+            [end, ..] if end.is(")") => {
                 let is_right = self.settle(1)?
                     && matches!(self.waiting.pop(), Some(Operator::Open));
-                is_right.then_some(rest)
+                Ok(is_right.then_some(1))
             }
-            [word, name, rest @ ..] if word.is("as") => {
+            [word, name, ..] if word.is("as") => {
                 let is_right = self.settle(CAST_RANK)? && self.cast(name.text)?;
-                is_right.then_some(rest)
+                Ok(is_right.then_some(2))
             }
-            rest => match Operator::first_of(rest) {
-                Some((operator, rest)) if self.settle(operator.rank())? => {
-                    self.waiting.push(operator)?;
-                    self.wants_operand = true;
-                    Some(rest)
-                }
-                _ => None,
-            },
-        })
+            rest => self.take_sign(rest),
+        }
+    }
+
+    /// Takes in an operator of two operands. Gives how many tokens that is, or nothing if none is there.
+    fn take_sign(&mut self, rest: &[Token]) -> Outcome<Option<usize>> {
+        let Some((operator, length)) = Operator::first_of(rest) else {
+            return Ok(None);
+        };
+        if !self.settle(operator.rank())? {
+            return Ok(None);
+        }
+        self.waiting.push(operator)?;
+        self.wants_operand = true;
+        Ok(Some(length))
     }
 
     /// Makes the last number one of the type of this name. It says whether that could be done.
@@ -209,16 +208,17 @@ pub(super) fn evaluate(
         waiting: Vec::new(alloc),
         wants_operand: true,
     };
-    let mut rest = words;
+    let mut index = 0usize;
     for _ in words {
+        let rest = words.get(index..).unwrap_or(&[]);
         let Some(here) = rest.first() else {
             break;
         };
-        let after = match expression.wants_operand {
-            true => expression.take_operand(rest)?,
+        let taken = match expression.wants_operand {
+            true => expression.take_operand(here)?,
             false => expression.take_operator(rest)?,
         };
-        rest = after.ok_or(here.fault(NOT_A_NUMBER))?;
+        index = index.saturating_add(taken.ok_or(here.fault(NOT_A_NUMBER))?);
     }
     let is_whole = !expression.wants_operand && expression.settle(1)?;
     let [value] = expression.values.as_slice() else {

@@ -66,7 +66,8 @@ impl<'a, 'b> Reader<'a, 'b> {
         let words = self.cursor.words_since(&start);
         let is_test = parts.iter().any(|part| part.name.is("cfg"));
         self.test_item(keyword, words, is_test)?;
-        self.use_words(self.cursor.words_since(&item))?;
+        let named = self.cursor.words_since(&item);
+        self.use_words(named)?;
         self.used.extend(["*", "_"])?;
         self.write_item(&mut text, item)?;
         Ok(self.source.push(Form::Text(text))?)
@@ -284,7 +285,7 @@ fn derive_inside<'b>(words: &'b [Token<'b>], renamed: &str) -> Option<&'b Token<
 }
 
 /// The words after the brackets that `!` and they begin with, if they do.
-fn after_text<'a, 'b>(words: &'b [Token<'a>]) -> &'b [Token<'a>] {
+fn after_text<'b>(words: &'b [Token<'b>]) -> &'b [Token<'b>] {
     let [mark, open, rest @ ..] = words else {
         return words;
     };

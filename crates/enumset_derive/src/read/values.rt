@@ -157,26 +157,29 @@ impl Value {
 
     /// The number shifted to higher bits.
     pub fn shifted_up(self, by: Value) -> Option<(u128, bool)> {
-        Some((self.absolute.checked_mul(by.power()?)?, self.is_negative))
+        let power = 1u128.checked_shl(by.bits()?)?;
+        Some((self.absolute.checked_mul(power)?, self.is_negative))
     }
 
     /// The number shifted to lower bits: a quotient, which is rounded down.
     pub fn shifted_down(self, by: Value) -> Option<(u128, bool)> {
-        let power = by.power()?;
+        let bits = by.bits()?;
         let absolute = match self.is_negative {
-            true => (self.absolute.saturating_sub(1) / power).saturating_add(1),
-            false => self.absolute / power,
+            true => {
+                let below = self.absolute.saturating_sub(1).checked_shr(bits)?;
+                below.saturating_add(1)
+            }
+            false => self.absolute.checked_shr(bits)?,
         };
         Some((absolute, self.is_negative))
     }
 
-    /// Two to the power of this number, if it is from 0 to 127.
-    fn power(self) -> Option<u128>
-        ensures { IfSome result (λ power. 0 < power) }
-    {
-        let is_right = !self.is_negative && self.absolute < 128;
-        is_right.then_some(())?;
-        1u128.checked_shl(self.absolute as u32)
+    /// By how many bits the number shifts another, if that is below 128.
+    fn bits(self) -> Option<u32> {
+        match self.absolute {
+            bits if bits < 128 && !self.is_negative => Some(bits as u32),
+            _ => None,
+        }
     }
 }
 
