@@ -1,0 +1,1 @@
+#[derive(EnumSetType) x] enum A {}

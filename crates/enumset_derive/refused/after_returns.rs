@@ -1,0 +1,2 @@
+#[derive(EnumSetType)] enum E {
+	A, A }

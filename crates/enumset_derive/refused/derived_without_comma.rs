@@ -1,0 +1,1 @@
+#[derive(EnumSetType Copy)] enum A {}

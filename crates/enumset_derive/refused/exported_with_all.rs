@@ -1,0 +1,1 @@
+pub use enumset::{EnumSet, *};

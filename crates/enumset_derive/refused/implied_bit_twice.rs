@@ -1,0 +1,5 @@
+#[derive(EnumSetType)] enum E {
+    V2 = 1,
+    V3 = 0,
+    V4,
+}

@@ -1,0 +1,3 @@
+#[enumset(map = "mask")] #[derive(EnumSetType)] enum E {
+    V2,
+}

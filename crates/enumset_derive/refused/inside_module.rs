@@ -1,0 +1,1 @@
+mod m { struct S; #[derive(EnumSetType)] enum Q { A } }

@@ -1,0 +1,1 @@
+#[enumset(repr = "list")] #[derive(EnumSetType)] enum E {}

@@ -1,0 +1,1 @@
+#[enumset(repr = "map")] #[derive(EnumSetType)] enum E {}

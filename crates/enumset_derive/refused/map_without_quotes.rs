@@ -1,0 +1,1 @@
+#[enumset(map = lsb)] #[derive(EnumSetType)] enum E {}

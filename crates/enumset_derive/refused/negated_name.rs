@@ -1,0 +1,1 @@
+#[derive(EnumSetType)] enum A { B = - x }

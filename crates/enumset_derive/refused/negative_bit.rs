@@ -1,0 +1,3 @@
+#[derive(EnumSetType)] enum E {
+    V2 = -1,
+}

@@ -1,0 +1,1 @@
+#[enumset(map)] #[derive(EnumSetType)] enum A {}

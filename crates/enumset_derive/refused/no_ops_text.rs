@@ -1,0 +1,1 @@
+#[enumset(no_ops = "x")] #[derive(EnumSetType)] enum A {}

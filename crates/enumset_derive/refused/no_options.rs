@@ -1,0 +1,1 @@
+#[enumset] #[derive(EnumSetType)] enum A {}

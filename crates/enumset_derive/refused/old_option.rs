@@ -1,0 +1,2 @@
+#[enumset(serialize_as_list)]
+#[derive(EnumSetType)] enum E {}

@@ -1,0 +1,2 @@
+#[enumset(no_ops,
+no_ops)] #[derive(EnumSetType)] enum A {}

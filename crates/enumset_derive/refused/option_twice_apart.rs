@@ -1,0 +1,2 @@
+#[enumset(no_ops)]
+#[enumset(no_ops)] #[derive(EnumSetType)] enum A {}

@@ -1,0 +1,2 @@
+#[enumset(repr = "Low7")]
+#[derive(EnumSetType)] enum E {}

@@ -1,0 +1,3 @@
+#[derive(EnumSetType)] enum E {
+    V2 = 4294967232,
+}

@@ -1,0 +1,2 @@
+#[derive(+)]
+struct S;

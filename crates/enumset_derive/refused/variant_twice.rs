@@ -1,0 +1,5 @@
+#[derive(EnumSetType)] enum E {
+    V2,
+    V3,
+    V2,
+}

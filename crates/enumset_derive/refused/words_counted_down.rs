@@ -1,0 +1,1 @@
+#[enumset(map = "msb", repr = "array")] #[derive(EnumSetType)] enum E { A }

@@ -1,0 +1,1 @@
+#[enumset(map = "x")] #[derive(EnumSetType)] enum A {}

@@ -1,0 +1,1 @@
+#[enumset(serialize_repr = "u7")] #[derive(EnumSetType)] enum E {}
