@@ -10,8 +10,8 @@ const DROPPED: &str =
     `as` gives the places of the variants";
 
 const OTHER_ORDER: &str =
-    "the derived order needs the variants in the order of their discriminants, of which \
-    one is past -2^63 to 2^63 - 1: move this variant, or write `PartialOrd` and `Ord` by hand";
+    "the derived order is that of the places, as one discriminant is past -2^63 to 2^63 - 1: \
+    move this variant, or write `PartialOrd` and `Ord` by hand";
 
 const SERDE_ALONE: &str = "`cfg_attr` is not read here: write `#[serde(..)]` itself";
 
