@@ -3,8 +3,8 @@
 
 use crate::fault::ProgramFault;
 use enumset_commands::TextFault;
-use enumset_machine::kinds::{serve_worked, worked};
 use enumset_machine::worked::Worked;
+use enumset_machine::worked_types::{serve_worked, worked};
 use std::alloc::Global;
 use std::process::Abort;
 use std::str;
