@@ -7,7 +7,9 @@
 -- How a goal is proved. What asks for a number brings it into sight: `same_set`, `contains_is_subset` and
 -- `contains_is_disjoint`, which end in what is to be proved, any number; an `is_empty` or `is_same` that is false, the
 -- number that decides it. What is known to hold for all numbers, as that a set is a subset of another, is then taken at
--- each of them, and `grind` splits the cases.
+-- each of them, and `grind` splits the cases. That s is a subset of t, or apart from t, is taken only where `contains t q` is
+-- in sight, since it says nothing else: the value of each set brings the fact that it is a subset of the valid bits, and
+-- these cases would run out in a function of five sets.
 -- Dummy variables. `grind` takes a law at the first call in its conclusion that shows all its variables, wherever that call
 -- is in sight. A law that shows `contains (union s t) q` is taken only where just that call stands, so a union of the
 -- hypotheses is not read at the number of the goal. `union_once` has a variable more, `w`, so that no one call shows all: it
@@ -15,8 +17,8 @@
 -- number in sight. The first parts of such a law, as `union s t ≡ union s t`, only show the calls, and are always true.
 -- What must not be here:
 --     a law of a constant, as `len empty ≡ 0`, since the constant comes into sight of every goal
---     a law that makes a witness of `is_subset s t ≡ false`:  the value of each set brings a fact on `is_subset`, and the
---         cases run out;  `contains_is_subset` serves, and so does `contains_is_disjoint`
+--     a law that makes a witness of `is_subset s t ≡ false`, for the same reason:  `contains_is_subset` serves, and so does
+--         `contains_is_disjoint`
 --     a law that counts where `is_subset` or `is_disjoint` stands, since it makes terms at each of them:  see
 --         `counts_of_parts` of `DecidedCounts`
 -- `union_only` and `difference_only` are here since a goal like `result ≡ Some (insert s b)` is no equation between sets.
@@ -122,13 +124,10 @@ insert_in s b = (refl, grind (arith, members, nat_tests))
 
 -- ---- what a test says of a number in sight
 
-pub subset_each : (s t : BitSet) → (is_subset s t ≡ is_subset s t) × (is_subset s t ≡ true → (q : ℕ) → contains s q ≡ true → contains t q ≡ true)
-subset_each s t = (refl, λ sub q h. is_subset_contains s t sub q h)
+pub subset_each : (s t : BitSet) (q : ℕ) → (is_subset s t ≡ is_subset s t) × (contains t q ≡ contains t q) × (is_subset s t ≡ true → contains s q ≡ true → contains t q ≡ true)
+subset_each s t q = (refl, refl, λ sub h. is_subset_contains s t sub q h)
 
-pub disjoint_each : (s t : BitSet) → (is_disjoint s t ≡ is_disjoint s t) × (is_disjoint s t ≡ true → (q : ℕ) → contains s q ≡ true → contains t q ≡ false)
-disjoint_each s t = (refl, λ apart q h. is_disjoint_contains s t apart q h)
+pub disjoint_each : (s t : BitSet) (q : ℕ) → (is_disjoint s t ≡ is_disjoint s t) × (contains t q ≡ contains t q) × (is_disjoint s t ≡ true → contains s q ≡ true → contains t q ≡ false)
+disjoint_each s t q = (refl, refl, λ apart h. is_disjoint_contains s t apart q h)
 
-pub disjoint_back : (s t : BitSet) → (is_disjoint s t ≡ is_disjoint s t) × (is_disjoint s t ≡ true → (q : ℕ) → contains t q ≡ true → contains s q ≡ false)
-disjoint_back s t = (refl, λ apart q h. false_from_ne_true _ (λ one. true≢false (sym h ∙ is_disjoint_contains s t apart q one)))
-
-pub ruleset decided = (at_each, empty_once, union_once, intersection_once, difference_once, symmetric_difference_once, insert_once, remove_once, retain_once, below_once, low_once, contains_from_list, insert_in, union_only, difference_only, nat_tests, same_set, subset_each, disjoint_each, disjoint_back, contains_is_subset, contains_is_disjoint, empty_of, empty_not, same_not, same_each)
+pub ruleset decided = (at_each, empty_once, union_once, intersection_once, difference_once, symmetric_difference_once, insert_once, remove_once, retain_once, below_once, low_once, contains_from_list, insert_in, union_only, difference_only, nat_tests, same_set, subset_each, disjoint_each, contains_is_subset, contains_is_disjoint, empty_of, empty_not, same_not, same_each)
