@@ -142,24 +142,26 @@ impl<'a, 'b> Reader<'a, 'b> {
         Ok(name)
     }
 
-    /// Says what an option means nothing without. It is a fault if the enum cites another crate than those before it.
+    /// Says where an option changes nothing. It is a fault if the enum cites another crate than those before it.
     fn test_crate_name(&mut self, options: &Options<'a>, name: &'b Token<'a>) -> Outcome {
-        let alone = options.denies_unknown && options.serialized.is_none();
-        let denied = self
-            .given
-            .iter()
-            .find(|given| given.is("serialize_deny_unknown"));
-        if let (Some(denied), true) = (denied, alone) {
-            self.note(denied.place, DENY_ALONE)?;
+        let place = self.place_of("serialize_deny_unknown");
+        if options.denies_unknown && options.serialized.is_none() {
+            self.note(place.unwrap_or(name.place), DENY_ALONE)?;
         }
         let cited = options.crate_name.unwrap_or("enumset");
-        let given = self.given.iter().find(|given| given.is("crate_name"));
-        let place = given.map_or(name.place, |given| given.place);
+        let place = self.place_of("crate_name");
         if self.source.has_enums && cited != self.source.facade {
+            let place = place.unwrap_or(name.place);
             return Err(Reason::Text(OTHER_CRATE).at(place).into());
         }
         self.source.facade = cited;
         Ok(())
+    }
+
+    /// Where the enum is given this option, if it is.
+    fn place_of(&self, option: &str) -> Option<Place> {
+        let given = self.given.iter().find(|given| given.is(option))?;
+        Some(given.place)
     }
 
     /// Says something of a place on standard error.
