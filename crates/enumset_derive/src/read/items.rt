@@ -5,9 +5,12 @@ use super::*;
 const INSIDE: &str =
     "an enum in a module, a function or a macro has no element type: write it outside";
 
-const INSIDE_TESTS: &str =
-    "an enum in a module, a function or a macro has no element type: write it \
-    outside, or in a module of its own, under `#[cfg(test)]`";
+// In one piece the attribute would have the toolchain look for tests here.
+const INSIDE_TESTS: &str = concat!(
+    "an enum in a module, a function or a macro has no element type: write it outside, or in a \
+    module of its own, under `#",
+    "[cfg(test)]`"
+);
 
 const SET_CONSTANT: &str = "a constant cannot be a set here: write a function that returns it";
 
