@@ -7,16 +7,15 @@ use std::alloc::{AllocError, Global};
 use std::process::Abort;
 use std::test::Fail;
 
-// Takes a step from each of these ends, and tests the answers and the number of asks.
+// Takes a step from each of these ends of a new row, and tests the answers and the number of asks.
 fn expect_walk<const N: usize>(
     rt: &impl Abort,
     alloc: Global,
-    words: [u64; N],
+    mut row: ShownRow<N>,
     ends: &[End],
     answers: &[Option<u32>],
     asks: u64,
 ) -> Result<(), AllocError> {
-    let mut row = ShownRow::new(ArrayRepr(words));
     let given = walk(alloc, &mut row, ends)?;
     expect(rt, "walk", given.as_slice(), answers);
     expect(rt, "shown", row.shown(), asks);
@@ -29,9 +28,11 @@ fn three_words(rt: HostRuntime) -> Result<(), Fail> {
     // {3, 64, 130}
     let ends = [Front, Back, Front, Back, Front];
     let answers = [Some(3), Some(130), Some(64), None, None];
-    expect_walk(&rt, alloc, [8, 1, 4], &ends, &answers, 6)?;
+    let row = ShownRow::new(ArrayRepr([8, 1, 4]));
+    expect_walk(&rt, alloc, row, &ends, &answers, 6)?;
     // {3}
-    expect_walk(&rt, alloc, [8, 0, 0], &[], &[], 0)?;
+    let row = ShownRow::new(ArrayRepr([8, 0, 0]));
+    expect_walk(&rt, alloc, row, &[], &[], 0)?;
     Ok(())
 }
 
@@ -41,7 +42,9 @@ fn few_words(rt: HostRuntime) -> Result<(), Fail> {
     // {0, 63}
     let ends = [Back, Front, Back, Front];
     let answers = [Some(63), Some(0), None, None];
-    expect_walk(&rt, alloc, [9223372036854775809], &ends, &answers, 3)?;
-    expect_walk(&rt, alloc, [], &[Front, Back], &[None, None], 0)?;
+    let row = ShownRow::new(ArrayRepr([9223372036854775809]));
+    expect_walk(&rt, alloc, row, &ends, &answers, 3)?;
+    let row = ShownRow::new(ArrayRepr([]));
+    expect_walk(&rt, alloc, row, &[Front, Back], &[None, None], 0)?;
     Ok(())
 }
