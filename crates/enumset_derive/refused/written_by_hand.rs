@@ -5,7 +5,7 @@ enum Color {
 }
 
 impl serde::Serialize for Color {
-    fn serialize<S: serde::Serializer>(&self, serializer: S) -> Result<S::Ok, S::Error> {
-        serializer.serialize_u8(1)
+    fn serialize<Output: serde::Serializer>(&self, output: Output) -> Result<Output::Ok, Output::Error> {
+        output.serialize_u8(1)
     }
 }
