@@ -4,15 +4,13 @@
 --     Elements      the laws of an enum without fields, from one test of its bits and constants
 --     Folds      folds of a list with one item more at its end
 --     ManySets      unions and intersections of many sets, by which sets there are
---     SetFacts      the ruleset that decides facts of sets, for the head of a user's crate
---     SetLaws      the larger ruleset for the head of a user's crate
+--     SetLaws      the ruleset for the head of a user's crate
 --     Iterators      what iterators that bound their asks yield
 --     Texts      the text of a set as it is written
 pub mod Conversions
 pub mod Elements
 pub mod Folds
 pub mod ManySets
-pub mod SetFacts
 pub mod SetLaws
 pub mod Iterators
 pub mod Texts

@@ -1,14 +1,21 @@
 -- Folds of a list: only which items it has matters, neither their order nor repeats.
 --     contains_intersection_all, contains_union_all      which bits are in all the sets of a list;  in any of them
 --     contains_fold_intersection, contains_fold_union      the same where std's `fold` goes over the list
+--     .._once      the same, wherever the fold and the number are in sight:  `Decided` of `enumset_repr` says how
 --     intersection_all_more      one set more at the end of the list
 --     union_all_none, union_all_step      a set with all sets of a list, one after the other
 --     any_same      a test of the items
 --     from_list_same, union_all_same, intersection_all_same      lists with the same items make the same set
--- The ruleset `folds` has the first seven.
+--     .._is_subset, .._is_disjoint      a union of many is a part of a set, or apart from it, exactly if each is
+-- The ruleset `folds` has what `contains` returns, one set more, and one set after the other;  `folds_once` has what stands
+-- beside `decided`.
 use Rattle.std.proofs.Common.{◌≡◌, ℕ, Bool, true, not, ◌&&◌, ◌||◌, List, [], ◌∷◌, ◌++◌, map, fold, refl, sym, ap, ◌∙◌, arith, Contains, ◌↔◌, ◌==◌}
-use Rattle.enumset_repr.specs.Laws.Common.{list_all, list_any, Any-from_list_any, list_any_at, same_from_decides, BitSet, is_in, contains, union, intersection, from_list, members, same_set, contains_from_list, contains_empty, contains_union, union_empty, union_assoc}
+use Rattle.enumset_repr.specs.Laws.Common.{list_all, list_any, Any-from_list_any, list_any_at, same_from_decides, BitSet, is_in, contains, empty, union, intersection, is_subset, is_disjoint, from_list, members, same_set, contains_from_list, contains_empty, contains_union, union_empty, union_assoc}
+use Rattle.enumset_repr.specs.Laws.Members.{empty_is_subset}
+use Rattle.enumset_repr.specs.Laws.Algebra.{is_disjoint_comm, is_disjoint_empty}
+use Rattle.enumset_repr.specs.Laws.Decided.{at}
 use Rattle.enumset_repr.specs.Laws.Loops.{all_not_any}
+use Rattle.enumset_repr.specs.Laws.Sets.{is_disjoint_union, is_subset_union}
 use Rattle.enumset_sets.specs.Folds.{union_all, intersection_all}
 
 pub contains_intersection_all : (s : BitSet) (ts : List BitSet) (q : ℕ) → contains (intersection_all s ts) q ≡ (contains s q && list_all (λ t. contains t q) ts)
@@ -69,5 +76,41 @@ intersection_all_same s ts us same = same_set _ _ (λ q.
     contains_intersection_all s ts q
     ∙ ap (λ b. contains s q && b) (all_not_any (λ t. contains t q) ts ∙ ap not (any_same (λ t. not (contains t q)) ts us same) ∙ sym (all_not_any (λ t. contains t q) us))
     ∙ sym (contains_intersection_all s us q))
+
+-- ---- beside `decided`
+
+pub union_all_once : (ss : List BitSet) (q : ℕ) (w : Bool) → (union_all ss ≡ union_all ss) × (at q w ≡ at q w) × (contains (union_all ss) q ≡ list_any (λ s. contains s q) ss)
+union_all_once ss q w = (refl, refl, contains_union_all ss q)
+
+pub fold_union_once : (s : BitSet) (ts : List BitSet) (q : ℕ) (w : Bool) → (fold union s ts ≡ fold union s ts) × (at q w ≡ at q w) × (contains (fold union s ts) q ≡ (contains s q || list_any (λ t. contains t q) ts))
+fold_union_once s ts q w = (refl, refl, contains_fold_union s ts q)
+
+pub fold_intersection_once : (s : BitSet) (ts : List BitSet) (q : ℕ) (w : Bool) → (fold intersection s ts ≡ fold intersection s ts) × (at q w ≡ at q w) × (contains (fold intersection s ts) q ≡ (contains s q && list_all (λ t. contains t q) ts))
+fold_intersection_once s ts q w = (refl, refl, contains_fold_intersection s ts q)
+
+-- a union of many is a part of a set exactly if each is
+pub fold_is_subset : (s : BitSet) (ts : List BitSet) (u : BitSet) → is_subset (fold union s ts) u ≡ (is_subset s u && list_all (λ t. is_subset t u) ts)
+fold_is_subset s [] u = grind arith
+fold_is_subset s (t ∷ ts) u = fold_is_subset (union s t) ts u ∙ grind (arith, is_subset_union s t u)
+
+pub union_all_is_subset : (ss : List BitSet) (u : BitSet) → is_subset (union_all ss) u ≡ list_all (λ s. is_subset s u) ss
+unfolding union_all
+union_all_is_subset [] u = empty_is_subset u
+union_all_is_subset (s ∷ ss) u = is_subset_union s (union_all ss) u ∙ ap (λ b. is_subset s u && b) (union_all_is_subset ss u)
+
+disjoint_union : (s t u : BitSet) → is_disjoint (union s t) u ≡ (is_disjoint s u && is_disjoint t u)
+disjoint_union s t u = is_disjoint_comm (union s t) u ∙ is_disjoint_union u s t ∙ ap (λ b. b && is_disjoint u t) (is_disjoint_comm u s) ∙ ap (λ b. is_disjoint s u && b) (is_disjoint_comm u t)
+
+-- a union of many is apart from a set exactly if each is
+pub fold_is_disjoint : (s : BitSet) (ts : List BitSet) (u : BitSet) → is_disjoint (fold union s ts) u ≡ (is_disjoint s u && list_all (λ t. is_disjoint t u) ts)
+fold_is_disjoint s [] u = grind arith
+fold_is_disjoint s (t ∷ ts) u = fold_is_disjoint (union s t) ts u ∙ grind (arith, disjoint_union s t u)
+
+pub union_all_is_disjoint : (ss : List BitSet) (u : BitSet) → is_disjoint (union_all ss) u ≡ list_all (λ s. is_disjoint s u) ss
+unfolding union_all
+union_all_is_disjoint [] u = is_disjoint_comm empty u ∙ is_disjoint_empty u
+union_all_is_disjoint (s ∷ ss) u = disjoint_union s (union_all ss) u ∙ ap (λ b. is_disjoint s u && b) (union_all_is_disjoint ss u)
+
+pub ruleset folds_once = (union_all_once, fold_union_once, fold_intersection_once, fold_is_subset, union_all_is_subset, fold_is_disjoint, union_all_is_disjoint)
 
 pub ruleset folds = (contains_intersection_all, contains_union_all, contains_fold_intersection, contains_fold_union, intersection_all_more, union_all_none, union_all_step)
