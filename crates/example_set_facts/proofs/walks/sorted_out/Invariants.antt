@@ -1,0 +1,9 @@
+use Rattle.std.proofs.Common.{◌≡◌}
+use Rattle.enumset_repr.specs.BitSet.{from_list, union, intersection, difference}
+use Rattle.example_set_facts.proofs.walks.sorted_out.Given as goal
+
+-- each part so far, with what comes to it of those to come
+abbrev pub invariant-loop-element : goal.invariant-loop-element
+invariant-loop-element g l =
+    (union l.inside (intersection (from_list l.element-iterator.items) l.other) ≡ intersection l.whole l.other)
+    × (union l.outside (difference (from_list l.element-iterator.items) l.other) ≡ difference l.whole l.other)

@@ -1,0 +1,7 @@
+use Rattle.std.proofs.Common.{◌≡◌, drop, fold}
+use Rattle.enumset_repr.specs.BitSet.{empty, union}
+use Rattle.example_set_facts.proofs.walks.united.Given as goal
+
+-- the sets so far united, and then those to come
+abbrev pub invariant-loop-members : goal.invariant-loop-members
+invariant-loop-members g l = fold union l.all (drop l.members-index l.sets) ≡ fold union empty l.sets

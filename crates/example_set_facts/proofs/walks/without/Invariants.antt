@@ -1,0 +1,7 @@
+use Rattle.std.proofs.Common.{◌≡◌}
+use Rattle.enumset_repr.specs.BitSet.{from_list, union, difference}
+use Rattle.example_set_facts.proofs.walks.without.Given as goal
+
+-- what is left so far, with what will be left of those to come
+abbrev pub invariant-loop-element : goal.invariant-loop-element
+invariant-loop-element g l = union l.left (difference (from_list l.element-iterator.items) l.other) ≡ difference l.whole l.other

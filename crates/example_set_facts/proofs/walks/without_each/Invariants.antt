@@ -1,0 +1,7 @@
+use Rattle.std.proofs.Common.{◌≡◌}
+use Rattle.enumset_repr.specs.BitSet.{from_list, difference}
+use Rattle.example_set_facts.proofs.walks.without_each.Given as goal
+
+-- what is left so far, without those to come
+abbrev pub invariant-loop-element : goal.invariant-loop-element
+invariant-loop-element g l = difference l.left (from_list l.element-iterator.items) ≡ difference l.one l.other

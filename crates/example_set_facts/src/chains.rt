@@ -1,0 +1,71 @@
+//! Iterators and closures over sets.
+
+ghost use Rattle.std.specs.Prelude.{◌≡◌, ◌≤◌, ◌<◌, ℕ, not, true, IfSome, IfNone};
+ghost use Rattle.enumset_repr.specs.BitSet as set;
+
+use enumset_sets::{EnumSet, EnumSetType};
+
+/// How many elements two sets share.
+#[tactic(auto, using(enumset_repr::specs::Laws::Places::chains))]
+pub fn shared_count<T: EnumSetType>(one: &EnumSet<T>, other: &EnumSet<T>) -> usize
+    ensures { result ≡ set.len (set.intersection one.now other.now) }
+{
+    one.iter().filter(|t| other.contains(*t)).count()
+}
+
+/// Whether all elements of a set are in another one.
+#[tactic(auto, using(enumset_repr::specs::Laws::Places::chains))]
+pub fn are_all_in<T: EnumSetType>(one: &EnumSet<T>, other: &EnumSet<T>) -> bool
+    ensures { result ≡ set.is_subset one.now other.now }
+{
+    one.iter().all(|t| other.contains(t))
+}
+
+/// Whether some element of a set is in another one.
+#[tactic(auto, using(enumset_repr::specs::Laws::Places::chains))]
+pub fn is_some_in<T: EnumSetType>(one: &EnumSet<T>, other: &EnumSet<T>) -> bool
+    ensures { result ≡ not (set.is_disjoint one.now other.now) }
+{
+    one.iter().any(|t| other.contains(t))
+}
+
+/// Keeps the elements that another set lacks.
+#[tactic(auto, unfolding(enumset_repr::specs::BitSet::difference))]
+pub fn keep_absent<T: EnumSetType>(members: &mut EnumSet<T>, other: &EnumSet<T>)
+    ensures { members.new ≡ set.difference members.old other.now }
+{
+    members.retain(|t| !other.contains(t));
+}
+
+/// Keeps the elements that another set has.
+#[tactic(auto, unfolding(enumset_repr::specs::BitSet::intersection))]
+pub fn keep_present<T: EnumSetType>(members: &mut EnumSet<T>, other: &EnumSet<T>)
+    ensures { members.new ≡ set.intersection members.old other.now }
+{
+    members.retain(|t| other.contains(t));
+}
+
+/// The first element from a bit on.
+#[tactic(auto, using(enumset_repr::specs::Laws::Places::tests))]
+pub fn found_from<T: EnumSetType>(members: &EnumSet<T>, bit: u32) -> Option<T>
+    ensures member { IfSome result (λ t. set.contains members.now (T.elements.bit t) ≡ true) }
+    ensures later { IfSome result (λ t. bit ≤ T.elements.bit t) }
+    ensures least { IfSome result (λ t. (q : ℕ) → set.contains members.now q ≡ true
+        → bit ≤ q → T.elements.bit t ≤ q) }
+    ensures none { IfNone result ((q : ℕ) → set.contains members.now q ≡ true → q < bit) }
+{
+    members.iter().find(|t| EnumSet::bit_index(*t) >= bit)
+}
+
+/// The first element from a bit on, else the first element.
+pub fn found_round<T: EnumSetType>(members: &EnumSet<T>, bit: u32) -> Option<T>
+    ensures member { IfSome result (λ t. set.contains members.now (T.elements.bit t) ≡ true) }
+    ensures later { IfSome result (λ t. (q : ℕ) → set.contains members.now q ≡ true → bit ≤ q
+        → (bit ≤ T.elements.bit t) × (T.elements.bit t ≤ q)) }
+    ensures none { IfNone result (members.now ≡ set.empty) }
+{
+    match found_from(members, bit) {
+        Some(later) => Some(later),
+        None => members.first(),
+    }
+}

@@ -1,0 +1,112 @@
+//! How many members sets have.
+
+ghost use Rattle.std.specs.Prelude.{◌≡◌, ◌↔◌, ◌<◌, ◌≤◌, ◌+◌, ◌*◌, true, false};
+ghost use Rattle.enumset_repr.specs.BitSet as set;
+ghost use Rattle.enumset_sets.specs.Elements.{valid_bits};
+
+use enumset_sets::{EnumSet, EnumSetType};
+
+/// How many of the needed are missing.
+pub fn missing_count<T: EnumSetType>(have: &EnumSet<T>, need: &EnumSet<T>) -> usize
+    ensures { result + set.len (set.intersection need.now have.now) ≡ set.len need.now }
+{
+    need.difference(have.copied()).len()
+}
+
+/// How many members one of two sets has and the other has not.
+pub fn distance<T: EnumSetType>(one: &EnumSet<T>, other: &EnumSet<T>) -> usize
+    ensures distance { result + 2 * set.len (set.intersection one.now other.now)
+        ≡ set.len one.now + set.len other.now }
+    ensures same { result ≡ 0 ↔ (one.now ≡ other.now) }
+{
+    one.symmetric_difference(other.copied()).len()
+}
+
+/// How many members two sets have together, counted without their union.
+pub fn total<T: EnumSetType>(one: &EnumSet<T>, other: &EnumSet<T>) -> usize
+    ensures { result ≡ set.len (set.union one.now other.now) }
+{
+    one.len() + other.difference(one.copied()).len()
+}
+
+/// How many members two sets have in common, counted without their intersection.
+pub fn shared<T: EnumSetType>(one: &EnumSet<T>, other: &EnumSet<T>) -> usize
+    ensures { result ≡ set.len (set.intersection one.now other.now) }
+{
+    one.len() - one.difference(other.copied()).len()
+}
+
+/// Adds an element, and returns how many there are now.
+pub fn counted_insert<T: EnumSetType>(members: &mut EnumSet<T>, new: T) -> usize
+    ensures inserted { members.new ≡ set.insert members.old (T.elements.bit new) }
+    ensures count { result ≡ set.len members.new }
+{
+    let before = members.len();
+    if members.insert(new) {
+        before + 1
+    } else {
+        before
+    }
+}
+
+/// Adds an element if the quota allows it. The quota is met as before.
+pub fn insert_within<T: EnumSetType>(members: &mut EnumSet<T>, new: T, quota: usize) -> bool
+    requires { set.len members.old ≤ quota }
+    ensures within { set.len members.new ≤ quota }
+    ensures inserted { result ≡ true → members.new ≡ set.insert members.old (T.elements.bit new) }
+    ensures refused { result ≡ false → members.new ≡ members.old }
+{
+    let has_room = members.len() < quota;
+    if has_room {
+        members.insert(new);
+    }
+    has_room
+}
+
+/// How many members three sets have together.
+pub fn total_of_three<T: EnumSetType>(
+    one: &EnumSet<T>,
+    two: &EnumSet<T>,
+    three: &EnumSet<T>,
+) -> usize
+    ensures { result + set.len (set.intersection (set.union one.now two.now) three.now)
+        + set.len (set.intersection one.now two.now)
+        ≡ set.len one.now + set.len two.now + set.len three.now }
+{
+    one.union(two.copied()).union(three.copied()).len()
+}
+
+/// How many variants are absent.
+pub fn absent<T: EnumSetType>(members: &EnumSet<T>) -> usize
+    ensures { result + set.len members.now ≡ set.len (valid_bits T.elements) }
+{
+    members.complement().len()
+}
+
+/// How many members are left after one is taken out that was there.
+pub fn left_after<T: EnumSetType>(members: &mut EnumSet<T>, old: T) -> usize
+    requires { set.contains members.old (T.elements.bit old) ≡ true }
+    ensures count { result + 1 ≡ set.len members.old }
+    ensures fewer { set.len members.new < set.len members.old }
+{
+    members.remove(old);
+    members.len()
+}
+
+/// Whether a part has no more members than the whole: always.
+#[tactic(auto, using(enumset_repr::specs::Laws::Decided::decided, enumset_repr::specs::Laws::DecidedCounts::counts, enumset_repr::specs::Laws::DecidedCounts::counts_of_parts))]
+pub fn is_no_larger<T: EnumSetType>(part: &EnumSet<T>, whole: &EnumSet<T>) -> bool
+    requires { set.is_subset part.now whole.now ≡ true }
+    ensures { result ≡ true }
+{
+    part.len() <= whole.len()
+}
+
+/// Whether two sets share a member, since their union has fewer members than both have.
+#[tactic(auto, using(enumset_repr::specs::Laws::DecidedCounts::counts, enumset_repr::specs::Laws::DecidedCounts::counts_of_parts, enumset_repr::specs::Laws::Members::subsets))]
+pub fn must_overlap<T: EnumSetType>(one: &EnumSet<T>, other: &EnumSet<T>) -> bool
+    ensures { result ≡ true → set.is_disjoint one.now other.now ≡ false }
+{
+    let together = one.union(other.copied()).len();
+    one.len() + other.len() > together
+}

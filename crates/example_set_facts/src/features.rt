@@ -1,0 +1,198 @@
+use enumset_sets::{EnumSet, EnumSetType, EnumSetTypeWithRepr};
+
+/// A feature of a service, which may be enabled or not.
+#[derive(Clone, Copy, PartialEq, Eq, Debug)]
+pub enum Feature {
+    Accounts,
+    Payments,
+    Invoices,
+    Reports,
+    Exports,
+    Alerts,
+}
+
+impl EnumSetType for Feature {
+    ghost use Rattle.enumset_sets.specs.Laws.Elements.{in_place, lawful_in_integer, lawful_in_place};
+    ghost use Rattle.example_set_facts.specs.contracts.features.Feature.{the_type};
+
+    type Repr = u8;
+
+    ghost elements = { in_place the_type };
+
+    ghost ALL_BITS = { 63 };
+
+    const ALL_BITS: u8 = 63;
+
+    ghost BIT_WIDTH = { 6 };
+
+    const BIT_WIDTH: u32 = 6;
+
+    ghost VARIANT_COUNT = { 6 };
+
+    const VARIANT_COUNT: u32 = 6;
+
+    fn enum_into_u32(self) -> u32 {
+        self as u32
+    }
+
+    fn enum_from_u32(val: u32) -> Self {
+        match val {
+            0 => Self::Accounts,
+            1 => Self::Payments,
+            2 => Self::Invoices,
+            3 => Self::Reports,
+            4 => Self::Exports,
+            5 => Self::Alerts,
+            _ => unreachable!(),
+        }
+    }
+
+    ghost lawful = { lawful_in_place the_type (lawful_in_integer the_type _ tt) };
+}
+
+impl EnumSetTypeWithRepr for Feature {
+    ghost use Rattle.std.proofs.Common.{rules};
+
+    ghost narrow = { Prim.search rules };
+}
+
+/// The intersection of the set of the one and that of the other.
+impl std::ops::BitAnd for Feature {
+    ghost use Rattle.std.specs.Prelude.{◌≡◌};
+    ghost use Rattle.enumset_repr.specs.BitSet as set;
+
+    type Output = EnumSet<Feature>;
+
+    ghost bitand_gives = { λ a b r. r ≡ set.intersection
+        (set.only (⟦<Feature as EnumSetType>⟧.elements.bit a))
+        (set.only (⟦<Feature as EnumSetType>⟧.elements.bit b)) };
+
+    fn bitand(self, rhs: Self) -> EnumSet<Self> {
+        EnumSet::only(self) & EnumSet::only(rhs)
+    }
+}
+
+/// The intersection of the set of the one and the other.
+impl std::ops::BitAnd<EnumSet<Feature>> for Feature {
+    ghost use Rattle.std.specs.Prelude.{◌≡◌};
+    ghost use Rattle.enumset_repr.specs.BitSet as set;
+
+    type Output = EnumSet<Feature>;
+
+    ghost bitand_gives = { λ a b r. r ≡ set.intersection
+        (set.only (⟦<Feature as EnumSetType>⟧.elements.bit a)) b };
+
+    fn bitand(self, rhs: EnumSet<Self>) -> EnumSet<Self> {
+        EnumSet::only(self) & rhs
+    }
+}
+
+/// The union of the set of the one and that of the other.
+impl std::ops::BitOr for Feature {
+    ghost use Rattle.std.specs.Prelude.{◌≡◌};
+    ghost use Rattle.enumset_repr.specs.BitSet as set;
+
+    type Output = EnumSet<Feature>;
+
+    ghost bitor_gives = { λ a b r. r ≡ set.union
+        (set.only (⟦<Feature as EnumSetType>⟧.elements.bit a))
+        (set.only (⟦<Feature as EnumSetType>⟧.elements.bit b)) };
+
+    fn bitor(self, rhs: Self) -> EnumSet<Self> {
+        EnumSet::only(self) | EnumSet::only(rhs)
+    }
+}
+
+/// The union of the set of the one and the other.
+impl std::ops::BitOr<EnumSet<Feature>> for Feature {
+    ghost use Rattle.std.specs.Prelude.{◌≡◌};
+    ghost use Rattle.enumset_repr.specs.BitSet as set;
+
+    type Output = EnumSet<Feature>;
+
+    ghost bitor_gives = { λ a b r. r ≡ set.union
+        (set.only (⟦<Feature as EnumSetType>⟧.elements.bit a)) b };
+
+    fn bitor(self, rhs: EnumSet<Self>) -> EnumSet<Self> {
+        EnumSet::only(self) | rhs
+    }
+}
+
+/// The symmetric difference of the set of the one and that of the other.
+impl std::ops::BitXor for Feature {
+    ghost use Rattle.std.specs.Prelude.{◌≡◌};
+    ghost use Rattle.enumset_repr.specs.BitSet as set;
+
+    type Output = EnumSet<Feature>;
+
+    ghost bitxor_gives = { λ a b r. r ≡ set.symmetric_difference
+        (set.only (⟦<Feature as EnumSetType>⟧.elements.bit a))
+        (set.only (⟦<Feature as EnumSetType>⟧.elements.bit b)) };
+
+    fn bitxor(self, rhs: Self) -> EnumSet<Self> {
+        EnumSet::only(self) ^ EnumSet::only(rhs)
+    }
+}
+
+/// The symmetric difference of the set of the one and the other.
+impl std::ops::BitXor<EnumSet<Feature>> for Feature {
+    ghost use Rattle.std.specs.Prelude.{◌≡◌};
+    ghost use Rattle.enumset_repr.specs.BitSet as set;
+
+    type Output = EnumSet<Feature>;
+
+    ghost bitxor_gives = { λ a b r. r ≡ set.symmetric_difference
+        (set.only (⟦<Feature as EnumSetType>⟧.elements.bit a)) b };
+
+    fn bitxor(self, rhs: EnumSet<Self>) -> EnumSet<Self> {
+        EnumSet::only(self) ^ rhs
+    }
+}
+
+/// The difference of the set of the one and that of the other.
+impl std::ops::Sub for Feature {
+    ghost use Rattle.std.specs.Prelude.{◌≡◌};
+    ghost use Rattle.enumset_repr.specs.BitSet as set;
+
+    type Output = EnumSet<Feature>;
+
+    ghost sub_gives = { λ a b r. r ≡ set.difference
+        (set.only (⟦<Feature as EnumSetType>⟧.elements.bit a))
+        (set.only (⟦<Feature as EnumSetType>⟧.elements.bit b)) };
+
+    fn sub(self, rhs: Self) -> EnumSet<Self> {
+        EnumSet::only(self) - EnumSet::only(rhs)
+    }
+}
+
+/// The difference of the set of the one and the other.
+impl std::ops::Sub<EnumSet<Feature>> for Feature {
+    ghost use Rattle.std.specs.Prelude.{◌≡◌};
+    ghost use Rattle.enumset_repr.specs.BitSet as set;
+
+    type Output = EnumSet<Feature>;
+
+    ghost sub_gives = { λ a b r. r ≡ set.difference
+        (set.only (⟦<Feature as EnumSetType>⟧.elements.bit a)) b };
+
+    fn sub(self, rhs: EnumSet<Self>) -> EnumSet<Self> {
+        EnumSet::only(self) - rhs
+    }
+}
+
+/// The set of all the others.
+impl std::ops::Not for Feature {
+    ghost use Rattle.std.specs.Prelude.{◌≡◌};
+    ghost use Rattle.enumset_repr.specs.BitSet as set;
+    ghost use Rattle.enumset_sets.specs.Elements.{valid_bits};
+
+    type Output = EnumSet<Feature>;
+
+    ghost not_gives = { λ a r. r ≡ set.difference
+        (valid_bits ⟦<Feature as EnumSetType>⟧.elements)
+        (set.only (⟦<Feature as EnumSetType>⟧.elements.bit a)) };
+
+    fn not(self) -> EnumSet<Self> {
+        !EnumSet::only(self)
+    }
+}

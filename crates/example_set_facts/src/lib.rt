@@ -1,0 +1,20 @@
+//! Facts about sets that prove with the line below: what users state of permissions, schedules, parsers, features,
+//! messages, configurations, votes, partitions and counts. Loops have an invariant beside it, and eight functions name a
+//! ruleset, or a definition to unfold, of their own.
+#![tactic(auto, using(enumset_sets::specs::Laws::SetLaws::set_laws))]
+
+pub mod access;
+pub mod chains;
+pub mod changes;
+pub mod collections;
+pub mod counts;
+pub mod enabling;
+pub mod features;
+pub mod messages;
+pub mod parsing;
+pub mod partitions;
+pub mod permissions;
+pub mod schedules;
+pub mod votes;
+pub mod walks;
+pub mod weekdays;

@@ -1,0 +1,105 @@
+//! Sets that are split into parts, and put together again.
+
+ghost use Rattle.std.specs.Prelude.{◌≡◌, ◌↔◌, ◌≤◌, ◌+◌, ℕ, true, false, IfSome, IfNone};
+ghost use Rattle.enumset_repr.specs.BitSet as set;
+
+use enumset_sets::{EnumSet, EnumSetType};
+
+/// The part of a set inside another, and the part outside.
+pub fn split<T: EnumSetType>(whole: &EnumSet<T>, inside: &EnumSet<T>) -> (EnumSet<T>, EnumSet<T>)
+    ensures whole { set.union result.0 result.1 ≡ whole.now }
+    ensures apart { set.is_disjoint result.0 result.1 ≡ true }
+    ensures inside { result.0 ≡ set.intersection whole.now inside.now }
+    ensures count { set.len result.0 + set.len result.1 ≡ set.len whole.now }
+{
+    let part = whole.intersection(inside.copied());
+    let rest = whole.difference(part.copied());
+    (part, rest)
+}
+
+/// A set in three parts: what one has, what the other has beside, and the rest.
+pub fn in_three<T: EnumSetType>(
+    whole: &EnumSet<T>,
+    one: &EnumSet<T>,
+    other: &EnumSet<T>,
+) -> (EnumSet<T>, EnumSet<T>, EnumSet<T>)
+    ensures whole { set.union (set.union result.0 result.1) result.2 ≡ whole.now }
+    ensures first { set.is_disjoint result.0 (set.union result.1 result.2) ≡ true }
+    ensures last { set.is_disjoint result.1 result.2 ≡ true }
+    ensures rest { set.is_disjoint result.2 (set.union one.now other.now) ≡ true }
+{
+    let first = whole.intersection(one.copied());
+    let second = whole.intersection(other.difference(one.copied()));
+    let rest = whole.difference(one.union(other.copied()));
+    (first, second, rest)
+}
+
+/// Whether two sets are the parts of a whole.
+pub fn are_parts<T: EnumSetType>(whole: &EnumSet<T>, one: &EnumSet<T>, other: &EnumSet<T>) -> bool
+    ensures { result ≡ true ↔ (set.is_subset one.now whole.now ≡ true)
+        × (set.difference whole.now one.now ≡ other.now) }
+{
+    one.is_disjoint_from(other) && one.union(other.copied()) == whole.copied()
+}
+
+/// Moves an element from one part to the other. The whole stays, and so do the parts' being apart.
+pub fn move_over<T: EnumSetType>(from: &mut EnumSet<T>, to: &mut EnumSet<T>, moved: T)
+    requires is_in { set.contains from.old (T.elements.bit moved) ≡ true }
+    requires apart { set.is_disjoint from.old to.old ≡ true }
+    ensures whole { set.union from.new to.new ≡ set.union from.old to.old }
+    ensures apart { set.is_disjoint from.new to.new ≡ true }
+    ensures moved { to.new ≡ set.insert to.old (T.elements.bit moved) }
+{
+    from.remove(moved);
+    to.insert(moved);
+}
+
+/// Takes the first element out. What is left and the element make the set that was.
+pub fn take_first<T: EnumSetType>(pending: &mut EnumSet<T>) -> Option<T>
+    ensures taken { IfSome result (λ t. set.contains pending.old (T.elements.bit t) ≡ true) }
+    ensures gone { IfSome result (λ t. set.contains pending.new (T.elements.bit t) ≡ false) }
+    ensures whole { IfSome result (λ t. set.insert pending.new (T.elements.bit t) ≡ pending.old) }
+    ensures within { set.is_subset pending.new pending.old ≡ true }
+    ensures none { IfNone result (pending.new ≡ set.empty) }
+{
+    pending.pop_first()
+}
+
+/// Puts two parts together that are apart from a third.
+pub fn joined<T: EnumSetType>(
+    one: &EnumSet<T>,
+    other: &EnumSet<T>,
+    third: &EnumSet<T>,
+) -> EnumSet<T>
+    requires one { set.is_disjoint one.now third.now ≡ true }
+    requires other { set.is_disjoint third.now other.now ≡ true }
+    ensures apart { set.is_disjoint result third.now ≡ true }
+    ensures back { set.difference (set.union result third.now) third.now ≡ result }
+    ensures joined { result ≡ set.union other.now one.now }
+{
+    one.union(other.copied())
+}
+
+/// What is left of a part after a second split, put beside what the first left.
+pub fn regrouped<T: EnumSetType>(
+    whole: &EnumSet<T>,
+    one: &EnumSet<T>,
+    other: &EnumSet<T>,
+) -> EnumSet<T>
+    ensures { result ≡ set.difference whole.now (set.intersection one.now other.now) }
+{
+    let outside = whole.difference(one.copied());
+    let inside = whole.intersection(one.copied());
+    outside.union(inside.difference(other.copied()))
+}
+
+/// The first and the last element.
+pub fn ends_of<T: EnumSetType>(members: &EnumSet<T>) -> Option<(T, T)>
+    ensures first { IfSome result (λ ends. (q : ℕ) → set.contains members.now q ≡ true
+        → T.elements.bit ends.0 ≤ q) }
+    ensures last { IfSome result (λ ends. (q : ℕ) → set.contains members.now q ≡ true
+        → q ≤ T.elements.bit ends.1) }
+    ensures ordered { IfSome result (λ ends. T.elements.bit ends.0 ≤ T.elements.bit ends.1) }
+{
+    Some((members.first()?, members.last()?))
+}

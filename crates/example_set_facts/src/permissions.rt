@@ -1,0 +1,196 @@
+use enumset_sets::{EnumSet, EnumSetType, EnumSetTypeWithRepr};
+
+/// What a user may do with a document.
+#[derive(Clone, Copy, PartialEq, Eq, Debug)]
+pub enum Permission {
+    Read,
+    Comment,
+    Write,
+    Share,
+    Delete,
+}
+
+impl EnumSetType for Permission {
+    ghost use Rattle.enumset_sets.specs.Laws.Elements.{in_place, lawful_in_integer, lawful_in_place};
+    ghost use Rattle.example_set_facts.specs.contracts.permissions.Permission.{the_type};
+
+    type Repr = u8;
+
+    ghost elements = { in_place the_type };
+
+    ghost ALL_BITS = { 31 };
+
+    const ALL_BITS: u8 = 31;
+
+    ghost BIT_WIDTH = { 5 };
+
+    const BIT_WIDTH: u32 = 5;
+
+    ghost VARIANT_COUNT = { 5 };
+
+    const VARIANT_COUNT: u32 = 5;
+
+    fn enum_into_u32(self) -> u32 {
+        self as u32
+    }
+
+    fn enum_from_u32(val: u32) -> Self {
+        match val {
+            0 => Self::Read,
+            1 => Self::Comment,
+            2 => Self::Write,
+            3 => Self::Share,
+            4 => Self::Delete,
+            _ => unreachable!(),
+        }
+    }
+
+    ghost lawful = { lawful_in_place the_type (lawful_in_integer the_type _ tt) };
+}
+
+impl EnumSetTypeWithRepr for Permission {
+    ghost use Rattle.std.proofs.Common.{rules};
+
+    ghost narrow = { Prim.search rules };
+}
+
+/// The intersection of the set of the one and that of the other.
+impl std::ops::BitAnd for Permission {
+    ghost use Rattle.std.specs.Prelude.{◌≡◌};
+    ghost use Rattle.enumset_repr.specs.BitSet as set;
+
+    type Output = EnumSet<Permission>;
+
+    ghost bitand_gives = { λ a b r. r ≡ set.intersection
+        (set.only (⟦<Permission as EnumSetType>⟧.elements.bit a))
+        (set.only (⟦<Permission as EnumSetType>⟧.elements.bit b)) };
+
+    fn bitand(self, rhs: Self) -> EnumSet<Self> {
+        EnumSet::only(self) & EnumSet::only(rhs)
+    }
+}
+
+/// The intersection of the set of the one and the other.
+impl std::ops::BitAnd<EnumSet<Permission>> for Permission {
+    ghost use Rattle.std.specs.Prelude.{◌≡◌};
+    ghost use Rattle.enumset_repr.specs.BitSet as set;
+
+    type Output = EnumSet<Permission>;
+
+    ghost bitand_gives = { λ a b r. r ≡ set.intersection
+        (set.only (⟦<Permission as EnumSetType>⟧.elements.bit a)) b };
+
+    fn bitand(self, rhs: EnumSet<Self>) -> EnumSet<Self> {
+        EnumSet::only(self) & rhs
+    }
+}
+
+/// The union of the set of the one and that of the other.
+impl std::ops::BitOr for Permission {
+    ghost use Rattle.std.specs.Prelude.{◌≡◌};
+    ghost use Rattle.enumset_repr.specs.BitSet as set;
+
+    type Output = EnumSet<Permission>;
+
+    ghost bitor_gives = { λ a b r. r ≡ set.union
+        (set.only (⟦<Permission as EnumSetType>⟧.elements.bit a))
+        (set.only (⟦<Permission as EnumSetType>⟧.elements.bit b)) };
+
+    fn bitor(self, rhs: Self) -> EnumSet<Self> {
+        EnumSet::only(self) | EnumSet::only(rhs)
+    }
+}
+
+/// The union of the set of the one and the other.
+impl std::ops::BitOr<EnumSet<Permission>> for Permission {
+    ghost use Rattle.std.specs.Prelude.{◌≡◌};
+    ghost use Rattle.enumset_repr.specs.BitSet as set;
+
+    type Output = EnumSet<Permission>;
+
+    ghost bitor_gives = { λ a b r. r ≡ set.union
+        (set.only (⟦<Permission as EnumSetType>⟧.elements.bit a)) b };
+
+    fn bitor(self, rhs: EnumSet<Self>) -> EnumSet<Self> {
+        EnumSet::only(self) | rhs
+    }
+}
+
+/// The symmetric difference of the set of the one and that of the other.
+impl std::ops::BitXor for Permission {
+    ghost use Rattle.std.specs.Prelude.{◌≡◌};
+    ghost use Rattle.enumset_repr.specs.BitSet as set;
+
+    type Output = EnumSet<Permission>;
+
+    ghost bitxor_gives = { λ a b r. r ≡ set.symmetric_difference
+        (set.only (⟦<Permission as EnumSetType>⟧.elements.bit a))
+        (set.only (⟦<Permission as EnumSetType>⟧.elements.bit b)) };
+
+    fn bitxor(self, rhs: Self) -> EnumSet<Self> {
+        EnumSet::only(self) ^ EnumSet::only(rhs)
+    }
+}
+
+/// The symmetric difference of the set of the one and the other.
+impl std::ops::BitXor<EnumSet<Permission>> for Permission {
+    ghost use Rattle.std.specs.Prelude.{◌≡◌};
+    ghost use Rattle.enumset_repr.specs.BitSet as set;
+
+    type Output = EnumSet<Permission>;
+
+    ghost bitxor_gives = { λ a b r. r ≡ set.symmetric_difference
+        (set.only (⟦<Permission as EnumSetType>⟧.elements.bit a)) b };
+
+    fn bitxor(self, rhs: EnumSet<Self>) -> EnumSet<Self> {
+        EnumSet::only(self) ^ rhs
+    }
+}
+
+/// The difference of the set of the one and that of the other.
+impl std::ops::Sub for Permission {
+    ghost use Rattle.std.specs.Prelude.{◌≡◌};
+    ghost use Rattle.enumset_repr.specs.BitSet as set;
+
+    type Output = EnumSet<Permission>;
+
+    ghost sub_gives = { λ a b r. r ≡ set.difference
+        (set.only (⟦<Permission as EnumSetType>⟧.elements.bit a))
+        (set.only (⟦<Permission as EnumSetType>⟧.elements.bit b)) };
+
+    fn sub(self, rhs: Self) -> EnumSet<Self> {
+        EnumSet::only(self) - EnumSet::only(rhs)
+    }
+}
+
+/// The difference of the set of the one and the other.
+impl std::ops::Sub<EnumSet<Permission>> for Permission {
+    ghost use Rattle.std.specs.Prelude.{◌≡◌};
+    ghost use Rattle.enumset_repr.specs.BitSet as set;
+
+    type Output = EnumSet<Permission>;
+
+    ghost sub_gives = { λ a b r. r ≡ set.difference
+        (set.only (⟦<Permission as EnumSetType>⟧.elements.bit a)) b };
+
+    fn sub(self, rhs: EnumSet<Self>) -> EnumSet<Self> {
+        EnumSet::only(self) - rhs
+    }
+}
+
+/// The set of all the others.
+impl std::ops::Not for Permission {
+    ghost use Rattle.std.specs.Prelude.{◌≡◌};
+    ghost use Rattle.enumset_repr.specs.BitSet as set;
+    ghost use Rattle.enumset_sets.specs.Elements.{valid_bits};
+
+    type Output = EnumSet<Permission>;
+
+    ghost not_gives = { λ a r. r ≡ set.difference
+        (valid_bits ⟦<Permission as EnumSetType>⟧.elements)
+        (set.only (⟦<Permission as EnumSetType>⟧.elements.bit a)) };
+
+    fn not(self) -> EnumSet<Self> {
+        !EnumSet::only(self)
+    }
+}
