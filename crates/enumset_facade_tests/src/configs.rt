@@ -2,7 +2,7 @@
 
 use crate::config::with_flag_in_list;
 use crate::expect::expect;
-use crate::types::Letters;
+use enumset_test_types::NamedLetters;
 use std::alloc::{AllocError, Global};
 use std::process::Abort;
 use std::test::Fail;
@@ -14,7 +14,7 @@ fn expect_changed(
     config: &str,
     wanted: &str,
 ) -> Result<(), AllocError> {
-    let came = match with_flag_in_list(alloc, config, Letters::A) {
+    let came = match with_flag_in_list(alloc, config, NamedLetters::A) {
         Ok(changed) => changed,
         Err(fault) => format!(in alloc; "{fault}")?,
     };

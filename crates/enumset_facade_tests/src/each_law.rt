@@ -1,20 +1,20 @@
 //! Each law that no other program of this repository calls, at a concrete type.
 
-use crate::types::{Letters, Numbered};
 use enumset::set::MixedEnumSet;
 use enumset::set_json::{JsonWidth, Unknown};
 use enumset::{EnumSet, laws};
+use enumset_test_types::{NamedLetters, Numbered};
 use enumset_worked::Marks;
 
 #[test]
 fn of_sets_and_elements(_rt: HostRuntime) {
-    let letters = EnumSet::<Letters>::all();
+    let letters = EnumSet::<NamedLetters>::all();
     laws::complements();
     laws::both_ends();
     laws::order();
     laws::fold_of_sets();
-    laws::fold_of_elements::<Letters>();
-    laws::valid_bits_listed::<Letters>();
+    laws::fold_of_elements::<NamedLetters>();
+    laws::valid_bits_listed::<NamedLetters>();
     laws::valid_before_invalid::<Marks>();
     laws::cut_number_and_back(&letters, 2);
     laws::words_and_back(&letters, 1);
@@ -24,11 +24,18 @@ fn of_sets_and_elements(_rt: HostRuntime) {
 
 #[test]
 fn of_json(_rt: HostRuntime) {
-    let letters = EnumSet::<Letters>::all();
-    laws::name_and_back(Letters::A, "A");
+    let letters = EnumSet::<NamedLetters>::all();
+    laws::name_and_back(NamedLetters::A, "A");
     laws::json_map_and_back(&letters, Unknown::Refuse);
-    laws::json_mixed_words_and_back(&MixedEnumSet::<Letters>::from_repr(0x81), Unknown::Refuse);
-    laws::older_reader::<Numbered, Letters>(&letters, JsonWidth::U64, Unknown::Drop);
-    laws::carried_along::<Numbered, Letters>(&letters, Unknown::Drop, Unknown::Refuse);
-    laws::carried_along_in_number::<Numbered, Letters>(&letters, JsonWidth::U64, Unknown::Drop);
+    laws::json_mixed_words_and_back(
+        &MixedEnumSet::<NamedLetters>::from_repr(0x81),
+        Unknown::Refuse,
+    );
+    laws::older_reader::<Numbered, NamedLetters>(&letters, JsonWidth::U64, Unknown::Drop);
+    laws::carried_along::<Numbered, NamedLetters>(&letters, Unknown::Drop, Unknown::Refuse);
+    laws::carried_along_in_number::<Numbered, NamedLetters>(
+        &letters,
+        JsonWidth::U64,
+        Unknown::Drop,
+    );
 }

@@ -2,8 +2,8 @@
 
 use crate::expect::expect;
 use crate::form::{Form, read};
-use crate::types::Letters;
 use enumset::set_json::{JsonFault, Unknown, mixed_from_number_text, mixed_from_words_text};
+use enumset_test_types::NamedLetters;
 use std::test::Fail;
 
 #[test]
@@ -52,12 +52,12 @@ out of memory
 fn parse_errors_have_their_lines(rt: HostRuntime) {
     let (alloc, text, wanted) = (rt.alloc(), "[\n0,\n]", Some(JsonFault::NotJson(3)));
     for form in [Form::Number, Form::Words, Form::List, Form::Map] {
-        let fault = read::<Letters>(alloc, form, text).err();
+        let fault = read::<NamedLetters>(alloc, form, text).err();
         expect(&rt, "read", fault, wanted);
     }
     let mixed = [
-        mixed_from_number_text::<Letters>(alloc, text).err(),
-        mixed_from_words_text::<Letters>(alloc, text, Unknown::Drop).err(),
+        mixed_from_number_text::<NamedLetters>(alloc, text).err(),
+        mixed_from_words_text::<NamedLetters>(alloc, text, Unknown::Drop).err(),
     ];
     expect(&rt, "mixed", mixed, [wanted; 2]);
 }

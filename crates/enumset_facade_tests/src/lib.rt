@@ -1,6 +1,5 @@
-//! Tests of the crate `enumset`: macros, folds, steps and JSON, at the worked types and at those of `types`, which
-//! scripts use too; and of users' code over it, with its proofs. What strings of JSON are read and written as is in
-//! `scripts/random-json`.
+//! Tests of the crate `enumset`: macros, folds, steps and JSON, at the worked types and at those of `enumset_test_types`;
+//! and of users' code over it, with its proofs. What strings of JSON are read and written as is in `scripts/random-json`.
 //!
 //! They are in a crate of their own so that they are proved beside the tests of sets.
 #![tactic(auto)]
@@ -39,7 +38,5 @@ mod sent;
 mod sizes;
 #[cfg(test)]
 mod steps;
-#[cfg(test)] // Scripts that use the types take this line out.
-pub mod types;
 #[cfg(test)]
 mod worked_examples;

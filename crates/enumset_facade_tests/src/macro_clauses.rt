@@ -7,13 +7,13 @@ ghost use Rattle.std.specs.List.{range_with_len};
 ghost use Rattle.enumset_repr.specs.BitSet as set;
 ghost use Rattle.enumset_sets.specs.Elements.{valid_bits};
 
-use crate::types::{Of64, Of256};
 use enumset::set::MixedEnumSet;
 use enumset::{
     EnumSet, EnumSetType, EnumSetTypeWithRepr, enum_set, enum_set_complement, enum_set_difference,
     enum_set_intersection, enum_set_symmetric_difference, enum_set_union, mixed_enum_set,
     variant_of,
 };
+use enumset_test_types::{Of64, Of256};
 
 fn elements<T: EnumSetType>(a: T, b: T, c: T) -> (EnumSet<T>, EnumSet<T>, EnumSet<T>, EnumSet<T>)
     ensures none { result.0 ≡ set.empty }

@@ -1,8 +1,8 @@
 //! The sets of all 256 elements that an enum may have.
 
 use crate::expect::expect;
-use crate::types::Of256;
 use enumset::EnumSet;
+use enumset_test_types::Of256;
 use std::test::Fail;
 
 // V0 has bit 0, V1 bit 1 and so on.

@@ -5,7 +5,6 @@
 
 use crate::expect::expect;
 use crate::form::{Form, read, write};
-use crate::types::{Letters, Priority, Wide};
 use enumset::EnumSet;
 use enumset::set::MixedEnumSet;
 use enumset::set_json::{
@@ -14,6 +13,7 @@ use enumset::set_json::{
     to_number, to_words,
 };
 use enumset_array::{ArrayRepr, End, ShownRow, walk};
+use enumset_test_types::{NamedLetters, NamedWide, Priority};
 use enumset_worked::{Marks, Sparse};
 use std::alloc::Global;
 use std::fmt;
@@ -48,7 +48,7 @@ fn expect_text<F: Fn() -> Result<String, JsonFault>>(
 
 // Reads the set of one letter in a form.
 fn expect_read(rt: &impl Abort, alloc: Global, form: Form, text: &str) -> Result<(), Fail> {
-    let (set, was_read) = returned(rt, || read::<Letters>(alloc, form, text));
+    let (set, was_read) = returned(rt, || read::<NamedLetters>(alloc, form, text));
     expect(rt, "read", set.as_u8_truncated(), 64);
     Ok(was_read?)
 }
@@ -86,7 +86,7 @@ fn numbers_that_are_written(rt: HostRuntime) -> Result<(), Fail> {
     let (alloc, set) = (rt.alloc(), EnumSet::from([Sparse::A, Sparse::D]));
     let fault = to_number(alloc, &set, JsonWidth::U64).err();
     expect(&rt, "{A, D}, to_number", fault, Some(JsonFault::TooWide));
-    let number = to_number(alloc, &EnumSet::only(Letters::G), JsonWidth::U8)?;
+    let number = to_number(alloc, &EnumSet::only(NamedLetters::G), JsonWidth::U8)?;
     expect(&rt, "{G}, to_number", number.as_u64(), Some(64));
     let number = mixed_to_number(alloc, &MixedEnumSet::<Marks>::from_repr(9))?;
     expect(&rt, "9, mixed_to_number", number.as_u64(), Some(9));
@@ -97,7 +97,7 @@ fn numbers_that_are_written(rt: HostRuntime) -> Result<(), Fail> {
 #[test]
 fn trees_of_numbers(rt: HostRuntime) -> Result<(), Fail> {
     let (alloc, text) = (rt.alloc(), "\"9\"");
-    let number = || read::<Letters>(alloc, Form::Number, text).err();
+    let number = || read::<NamedLetters>(alloc, Form::Number, text).err();
     expect_fault(&rt, JsonFault::NotANumber, number)?;
     let mixed = || mixed_from_number_text::<Marks>(alloc, text).err();
     expect_fault(&rt, JsonFault::NotANumber, mixed)
@@ -106,7 +106,7 @@ fn trees_of_numbers(rt: HostRuntime) -> Result<(), Fail> {
 #[test]
 fn trees_of_words(rt: HostRuntime) -> Result<(), Fail> {
     let (alloc, text) = (rt.alloc(), "[1,\"x\"]");
-    let words = || read::<Letters>(alloc, Form::Words, text).err();
+    let words = || read::<NamedLetters>(alloc, Form::Words, text).err();
     expect_fault(&rt, JsonFault::NotAWord(1), words)?;
     let mixed = || mixed_from_words_text::<Marks>(alloc, text, Unknown::Drop).err();
     expect_fault(&rt, JsonFault::NotAWord(1), mixed)
@@ -115,23 +115,26 @@ fn trees_of_words(rt: HostRuntime) -> Result<(), Fail> {
 #[test]
 fn trees_of_names(rt: HostRuntime) -> Result<(), Fail> {
     let alloc = rt.alloc();
-    let list = || read::<Letters>(alloc, Form::List, "[1]").err();
+    let list = || read::<NamedLetters>(alloc, Form::List, "[1]").err();
     expect_fault(&rt, JsonFault::NotAText(0), list)?;
-    let map = || read::<Letters>(alloc, Form::Map, "{\"G\":1}").err();
+    let map = || read::<NamedLetters>(alloc, Form::Map, "{\"G\":1}").err();
     expect_fault(&rt, JsonFault::NotABoolean(0), map)
 }
 
 #[test]
 fn trees_of_unknown_names(rt: HostRuntime) -> Result<(), Fail> {
     let (alloc, text) = (rt.alloc(), "{\"G\":true,\"H\":false}");
-    let (set, was_read) = returned(&rt, || from_map_text::<Letters>(alloc, text, Unknown::Drop));
+    let (set, was_read) = returned(
+        &rt,
+        || from_map_text::<NamedLetters>(alloc, text, Unknown::Drop),
+    );
     expect(&rt, "read", set.as_u8_truncated(), 64);
     Ok(was_read?)
 }
 
 #[test]
 fn written_texts(rt: HostRuntime) -> Result<(), Fail> {
-    let (alloc, set) = (rt.alloc(), EnumSet::only(Letters::G));
+    let (alloc, set) = (rt.alloc(), EnumSet::only(NamedLetters::G));
     for (form, wanted) in [
         (Form::Number, "64"),
         (Form::Words, "[64]"),
@@ -185,7 +188,7 @@ fn maps_with_escapes_that_are_written(rt: HostRuntime) -> Result<(), Fail> {
 // A map has its names in the order of their bytes, which is not that of the bits.
 #[test]
 fn maps_whose_order_changes(rt: HostRuntime) -> Result<(), Fail> {
-    let (alloc, set) = (rt.alloc(), EnumSet::<Wide>::all());
+    let (alloc, set) = (rt.alloc(), EnumSet::<NamedWide>::all());
     let wanted = "{\"Re\":true,\"Read\":true,\"Reader\":true}";
     expect_text(&rt, wanted, || to_map_text(alloc, &set))
 }

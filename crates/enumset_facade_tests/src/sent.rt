@@ -3,15 +3,18 @@
 use crate::expect::expect;
 use crate::reading_newer::read_by_older;
 use crate::sending_json::{sent_as_list_text, sent_as_number, sent_as_words, sent_with_unknown};
-use crate::types::{LaterLetters, Letters};
 use enumset::EnumSet;
 use enumset::set::MixedEnumSet;
 use enumset::set_json::{JsonWidth, Unknown};
+use enumset_test_types::{LaterLetters, NamedLetters};
 use std::test::Fail;
 
 #[test]
 fn flags_are_sent(rt: HostRuntime) -> Result<(), Fail> {
-    let (alloc, flags) = (rt.alloc(), EnumSet::from([Letters::A, Letters::G]));
+    let (alloc, flags) = (
+        rt.alloc(),
+        EnumSet::from([NamedLetters::A, NamedLetters::G]),
+    );
     let read = [
         sent_as_number(alloc, &flags, JsonWidth::U8, Unknown::Refuse)?,
         sent_as_words(alloc, &flags, Unknown::Refuse)?,
@@ -20,10 +23,10 @@ fn flags_are_sent(rt: HostRuntime) -> Result<(), Fail> {
     for set in read {
         expect(&rt, "sent", set.as_u8_truncated(), 65);
     }
-    let mixed = MixedEnumSet::<Letters>::from_repr(129);
+    let mixed = MixedEnumSet::<NamedLetters>::from_repr(129);
     let read = sent_with_unknown(alloc, &mixed)?;
     expect(&rt, "mixed", read.as_repr(), 129);
-    let read: EnumSet<Letters> = read_by_older(alloc, &EnumSet::<LaterLetters>::all())?;
+    let read: EnumSet<NamedLetters> = read_by_older(alloc, &EnumSet::<LaterLetters>::all())?;
     expect(&rt, "older", read.as_u8_truncated(), 127);
     Ok(())
 }

@@ -5,7 +5,7 @@ use enumset::{EnumSet, EnumSetNames, EnumSetType, EnumSetTypeWithRepr, names_of,
 
 /// Seven variants, on bits 0 to 6, in an integer.
 #[derive(Clone, Copy, PartialEq, Eq, Debug)]
-pub enum Letters {
+pub enum NamedLetters {
     A,
     B,
     C,
@@ -15,9 +15,9 @@ pub enum Letters {
     G,
 }
 
-impl EnumSetType for Letters {
+impl EnumSetType for NamedLetters {
     ghost use Rattle.enumset_sets.specs.Laws.Elements.{in_place, lawful_in_integer, lawful_in_place};
-    ghost use Rattle.enumset_facade_tests.specs.contracts.types.named.Letters.{the_type};
+    ghost use Rattle.enumset_test_types.specs.contracts.named.NamedLetters.{the_type};
 
     type Repr = u8;
 
@@ -55,26 +55,26 @@ impl EnumSetType for Letters {
     ghost lawful = { lawful_in_place the_type (lawful_in_integer the_type _ tt) };
 }
 
-impl EnumSetTypeWithRepr for Letters {
+impl EnumSetTypeWithRepr for NamedLetters {
     ghost use Rattle.std.proofs.Common.{rules};
 
     ghost narrow = { Prim.search rules };
 }
 
-impl EnumSetNames for Letters {
+impl EnumSetNames for NamedLetters {
     ghost use Rattle.std.specs.Prelude.{codes, ◌∷◌, []};
 
     ghost names = { codes "A" ∷ codes "B" ∷ codes "C" ∷ codes "D" ∷ codes "E" ∷
         codes "F" ∷ codes "G" ∷ [] };
 
     fn names() -> &'static [(Self, &'static str)] {
-        names_of!(Letters: A B C D E F G)
+        names_of!(NamedLetters: A B C D E F G)
     }
 
     ghost named = { tt };
 }
 
-impl Letters {
+impl NamedLetters {
     ghost use Rattle.std.specs.Prelude.{◌≡◌, IfOk, IfErr};
     ghost use Rattle.serde_json.specs.View.{view};
     ghost use Rattle.enumset.specs.Names.{names_of};
@@ -89,7 +89,7 @@ impl Letters {
         set: &EnumSet<Self>,
     ) -> std::result::Result<serde_json::Value, set_json::JsonFault>
         ensures value { IfOk result (λ value. view value ≡ list_value
-            (names_of ⟦<Letters as EnumSetType>⟧.elements ⟦<Letters as EnumSetNames>⟧.names) set.now) }
+            (names_of ⟦<NamedLetters as EnumSetType>⟧.elements ⟦<NamedLetters as EnumSetNames>⟧.names) set.now) }
         ensures fault { IfErr result (λ fault. fault ≡ OutOfMemory) }
     {
         set_json::to_list(alloc, set)
@@ -102,7 +102,7 @@ impl Letters {
         value: &serde_json::Value,
     ) -> std::result::Result<EnumSet<Self>, set_json::JsonFault>
         ensures { result ≡ set_of_list
-            (names_of ⟦<Letters as EnumSetType>⟧.elements ⟦<Letters as EnumSetNames>⟧.names)
+            (names_of ⟦<NamedLetters as EnumSetType>⟧.elements ⟦<NamedLetters as EnumSetNames>⟧.names)
             unknown.Drop (view value.now) }
     {
         set_json::from_list(value, set_json::Unknown::Drop)
@@ -126,7 +126,7 @@ pub enum LaterLetters {
 impl EnumSetType for LaterLetters {
     ghost use Rattle.std.specs.Prelude.{◌∷◌, []};
     ghost use Rattle.enumset_sets.specs.Laws.Elements.{with_bits, lawful_in_words};
-    ghost use Rattle.enumset_facade_tests.specs.contracts.types.named.LaterLetters.{the_type};
+    ghost use Rattle.enumset_test_types.specs.contracts.named.LaterLetters.{the_type};
 
     type Repr = ArrayRepr<2>;
 
@@ -222,17 +222,17 @@ impl LaterLetters {
 
 /// Four variants, on bits 10, 20, 30 and 127 of an integer.
 #[derive(Clone, Copy, PartialEq, Eq, Debug)]
-pub enum Sparse {
+pub enum NamedSparse {
     A = 10,
     B = 20,
     C = 30,
     D = 127,
 }
 
-impl EnumSetType for Sparse {
+impl EnumSetType for NamedSparse {
     ghost use Rattle.std.specs.Prelude.{◌∷◌, []};
     ghost use Rattle.enumset_sets.specs.Laws.Elements.{with_bits, lawful_in_integer};
-    ghost use Rattle.enumset_facade_tests.specs.contracts.types.named.Sparse.{the_type};
+    ghost use Rattle.enumset_test_types.specs.contracts.named.NamedSparse.{the_type};
 
     type Repr = u128;
 
@@ -267,25 +267,25 @@ impl EnumSetType for Sparse {
     ghost lawful = { lawful_in_integer the_type _ tt };
 }
 
-impl EnumSetTypeWithRepr for Sparse {
+impl EnumSetTypeWithRepr for NamedSparse {
     ghost use Rattle.std.proofs.Common.{rules};
 
     ghost narrow = { Prim.search rules };
 }
 
-impl EnumSetNames for Sparse {
+impl EnumSetNames for NamedSparse {
     ghost use Rattle.std.specs.Prelude.{codes, ◌∷◌, []};
 
     ghost names = { codes "A" ∷ codes "B" ∷ codes "C" ∷ codes "D" ∷ [] };
 
     fn names() -> &'static [(Self, &'static str)] {
-        names_of!(Sparse: A B C D)
+        names_of!(NamedSparse: A B C D)
     }
 
     ghost named = { tt };
 }
 
-impl Sparse {
+impl NamedSparse {
     ghost use Rattle.std.specs.Prelude.{◌≡◌, IfOk, IfErr};
     ghost use Rattle.serde_json.specs.View.{view};
     ghost use Rattle.enumset.specs.Names.{names_of};
@@ -300,7 +300,7 @@ impl Sparse {
         set: &EnumSet<Self>,
     ) -> std::result::Result<serde_json::Value, set_json::JsonFault>
         ensures value { IfOk result (λ value. view value ≡ list_value
-            (names_of ⟦<Sparse as EnumSetType>⟧.elements ⟦<Sparse as EnumSetNames>⟧.names) set.now) }
+            (names_of ⟦<NamedSparse as EnumSetType>⟧.elements ⟦<NamedSparse as EnumSetNames>⟧.names) set.now) }
         ensures fault { IfErr result (λ fault. fault ≡ OutOfMemory) }
     {
         set_json::to_list(alloc, set)
@@ -313,7 +313,7 @@ impl Sparse {
         value: &serde_json::Value,
     ) -> std::result::Result<EnumSet<Self>, set_json::JsonFault>
         ensures { result ≡ set_of_list
-            (names_of ⟦<Sparse as EnumSetType>⟧.elements ⟦<Sparse as EnumSetNames>⟧.names)
+            (names_of ⟦<NamedSparse as EnumSetType>⟧.elements ⟦<NamedSparse as EnumSetNames>⟧.names)
             unknown.Drop (view value.now) }
     {
         set_json::from_list(value, set_json::Unknown::Drop)

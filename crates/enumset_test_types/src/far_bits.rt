@@ -13,7 +13,7 @@ pub enum In17Words {
 impl EnumSetType for In17Words {
     ghost use Rattle.std.specs.Prelude.{◌∷◌, []};
     ghost use Rattle.enumset_sets.specs.Laws.Elements.{with_bits, lawful_in_words};
-    ghost use Rattle.enumset_facade_tests.specs.contracts.types.far_bits.In17Words.{the_type};
+    ghost use Rattle.enumset_test_types.specs.contracts.far_bits.In17Words.{the_type};
 
     type Repr = ArrayRepr<17>;
 

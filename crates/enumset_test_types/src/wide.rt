@@ -5,16 +5,16 @@ use enumset::internal::ArrayRepr;
 
 /// Three variants, on bits 3, 64 and 130, each in a word of its own.
 #[derive(Clone, Copy, PartialEq, Eq, Debug)]
-pub enum Wide {
+pub enum NamedWide {
     P = 3,
     Q = 64,
     R = 130,
 }
 
-impl EnumSetType for Wide {
+impl EnumSetType for NamedWide {
     ghost use Rattle.std.specs.Prelude.{◌∷◌, []};
     ghost use Rattle.enumset_sets.specs.Laws.Elements.{with_bits, lawful_in_words};
-    ghost use Rattle.enumset_facade_tests.specs.contracts.types.wide.Wide.{the_type};
+    ghost use Rattle.enumset_test_types.specs.contracts.wide.NamedWide.{the_type};
 
     type Repr = ArrayRepr<3>;
 

@@ -5,7 +5,7 @@ use enumset::EnumSetType;
 /// Seven variants, on bits 0 to 6, in an integer.
 #[derive(EnumSetType, Debug)]
 #[enumset(no_ops, serialize_repr = "list")]
-pub enum Letters {
+pub enum NamedLetters {
     A,
     B,
     C,
@@ -33,7 +33,7 @@ pub enum LaterLetters {
 /// Four variants, on bits 10, 20, 30 and 127 of an integer.
 #[derive(EnumSetType, Debug)]
 #[enumset(no_ops, serialize_repr = "list")]
-pub enum Sparse {
+pub enum NamedSparse {
     A = 10,
     B = 20,
     C = 30,

@@ -1,6 +1,6 @@
 //! Names for the values of `Priority`: an empty one, and two that have escapes in JSON.
 
-use crate::types::priority::Priority;
+use crate::priority::Priority;
 use enumset::{EnumSetNames, names_of};
 
 impl EnumSetNames for Priority {

@@ -268,7 +268,7 @@ pub enum Of256 {
 impl EnumSetType for Of256 {
     ghost use Rattle.std.specs.Prelude.{◌∷◌, []};
     ghost use Rattle.enumset_sets.specs.Laws.Elements.{in_place, lawful_in_words, lawful_in_place};
-    ghost use Rattle.enumset_facade_tests.specs.contracts.types.of_256.Of256.{the_type};
+    ghost use Rattle.enumset_test_types.specs.contracts.of_256.Of256.{the_type};
 
     type Repr = ArrayRepr<4>;
 

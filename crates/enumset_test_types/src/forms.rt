@@ -13,7 +13,7 @@ pub enum Numbered {
 
 impl EnumSetType for Numbered {
     ghost use Rattle.enumset_sets.specs.Laws.Elements.{in_place, lawful_in_integer, lawful_in_place};
-    ghost use Rattle.enumset_facade_tests.specs.contracts.types.forms.Numbered.{the_type};
+    ghost use Rattle.enumset_test_types.specs.contracts.forms.Numbered.{the_type};
 
     type Repr = u8;
 
@@ -101,7 +101,7 @@ pub enum InWords {
 impl EnumSetType for InWords {
     ghost use Rattle.std.specs.Prelude.{◌∷◌, []};
     ghost use Rattle.enumset_sets.specs.Laws.Elements.{with_bits, lawful_in_words};
-    ghost use Rattle.enumset_facade_tests.specs.contracts.types.forms.InWords.{the_type};
+    ghost use Rattle.enumset_test_types.specs.contracts.forms.InWords.{the_type};
 
     type Repr = ArrayRepr<4>;
 
@@ -179,7 +179,7 @@ pub enum In32Bits {
 impl EnumSetType for In32Bits {
     ghost use Rattle.std.specs.Prelude.{◌∷◌, []};
     ghost use Rattle.enumset_sets.specs.Laws.Elements.{with_bits, lawful_in_integer};
-    ghost use Rattle.enumset_facade_tests.specs.contracts.types.forms.In32Bits.{the_type};
+    ghost use Rattle.enumset_test_types.specs.contracts.forms.In32Bits.{the_type};
 
     type Repr = u32;
 

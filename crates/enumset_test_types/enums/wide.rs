@@ -5,7 +5,7 @@ use enumset::EnumSetType;
 /// Three variants, on bits 3, 64 and 130, each in a word of its own.
 #[derive(EnumSetType, Debug)]
 #[enumset(no_ops)]
-pub enum Wide {
+pub enum NamedWide {
     P = 3,
     Q = 64,
     R = 130,

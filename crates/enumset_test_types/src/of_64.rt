@@ -73,7 +73,7 @@ pub enum Of64 {
 
 impl EnumSetType for Of64 {
     ghost use Rattle.enumset_sets.specs.Laws.Elements.{in_place, lawful_in_integer, lawful_in_place};
-    ghost use Rattle.enumset_facade_tests.specs.contracts.types.of_64.Of64.{the_type};
+    ghost use Rattle.enumset_test_types.specs.contracts.of_64.Of64.{the_type};
 
     type Repr = u64;
 

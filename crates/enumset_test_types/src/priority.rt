@@ -13,7 +13,7 @@ pub enum Priority {
 impl EnumSetType for Priority {
     ghost use Rattle.std.specs.Prelude.{◌∷◌, []};
     ghost use Rattle.enumset_sets.specs.Laws.Elements.{with_bits, lawful_in_integer};
-    ghost use Rattle.enumset_facade_tests.specs.contracts.types.priority.Priority.{the_type};
+    ghost use Rattle.enumset_test_types.specs.contracts.priority.Priority.{the_type};
 
     type Repr = u16;
 

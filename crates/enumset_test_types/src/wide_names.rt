@@ -1,0 +1,16 @@
+//! Names for the values of `NamedWide`, which are front parts of one another.
+
+use crate::wide::NamedWide;
+use enumset::{EnumSetNames, names_of};
+
+impl EnumSetNames for NamedWide {
+    ghost use Rattle.std.specs.Prelude.{codes, ◌∷◌, []};
+
+    ghost names = { codes "Read" ∷ codes "Reader" ∷ codes "Re" ∷ [] };
+
+    fn names() -> &'static [(NamedWide, &'static str)] {
+        names_of!(NamedWide: P "Read" Q "Reader" R "Re")
+    }
+
+    ghost named = { tt };
+}
