@@ -1,6 +1,6 @@
 -- What was written of a set is read as that set.
 use Rattle.std.proofs.Common.{◌≡◌, ℕ, ◌+◌, ◌*◌, ◌/◌, arith, true, None, Ok, Err, List, [], ◌∷◌, map, unwrap_or, position, refl, ap, ◌∙◌, map-id, lt-ltb}
-use Rattle.enumset.proofs.Common.{position_from, position_from-zero, map-map, cond-true, BitSet, is_subset, below, number, bits, words, bits_of, intersection_within, low_within, is_subset_wider, bits_number, number_within, Data, items_of, number_value, words_value, number_below, values_of, word_of, is_no_word, words_of, unless_fault, words_in, accepted, and_then, set_of_number, set_of_words, kept_below, mixed_set_of_number, mixed_set_of_words, Unknown, Drop, Refuse, NotAWord, OutOfRange, UnknownBits}
+use Rattle.enumset.proofs.Common.{position_from, position_from-zero, map-map, cond-true, BitSet, is_subset, below, number, bits, words, bits_of, intersection_within, low_within, is_subset_wider, bits_number, number_within, Data, items_of, number_value, words_value, number_below, values_of, held_word, is_no_word, held_words, unless_fault, words_in, accepted, and_then, set_of_number, set_of_words, kept_below, mixed_set_of_number, mixed_set_of_words, Unknown, Drop, Refuse, NotAWord, OutOfRange, UnknownBits}
 use Rattle.enumset_sets.specs.Laws.Conversions.{words_within}
 
 -- a set of valid bits is taken as it is, and so is one below the width
@@ -38,8 +38,8 @@ none_other (n ∷ ns) place = none_other ns (place + 1)
 pub words_back : (ns : List ℕ) → words_in (words_value ns) ≡ Ok ns
 words_back ns =
     let values = map number_value ns in
-    let back = map-map (λ value. unwrap_or (word_of value) 0) number_value ns ∙ map-id ns in
-    ap (λ ds. unless_fault NotAWord (position is_no_word ds) (Ok (words_of ds))) (values_back values)
+    let back = map-map (λ value. unwrap_or (held_word value) 0) number_value ns ∙ map-id ns in
+    ap (λ ds. unless_fault NotAWord (position is_no_word ds) (Ok (held_words ds))) (values_back values)
     ∙ (λ j. unless_fault NotAWord ((position_from-zero is_no_word values ∙ none_other ns 0) j) (Ok (back j)))
 
 -- words that lose nothing of a set are read as the words that they are

@@ -1,31 +1,31 @@
 -- The words of JSON arrays, read one by one into a set.
 use Rattle.std.proofs.Common.{◌≡◌, ◌<◌, ◌≤◌, ℕ, ◌+◌, ◌*◌, ◌/◌, ◌^◌, Bool, true, false, ◌&&◌, if◌then◌else◌, inl, inr, Option, Some, is_none, unwrap_or, Ok, List, map, position, drop, get_or, length, refl, sym, ap, subst, ◌∙◌, arith, slice_index, eqb-true, eq-eqb, ltb-false, Decides, ◌==◌, nat_lt}
-use Rattle.enumset.proofs.Common.{cases_lt, and_parts, and_from, nat_tests, same_from_decides, position_from-zero, get_or_past, get_or-map, length-map, map-map, position_from, BitSet, empty, contains, is_subset, below, low, word, with_word, bits_of, contains_low, same_number, low_within, low_narrow, is_subset_wider, contains_bits_word, word_bits_of, put_next, bits_of_within, none_put, all_kept, Data, as_array, view, items_view, Value, word_of, is_no_word, words_of, unless_fault, words_among, words_in, NotAWord}
+use Rattle.enumset.proofs.Common.{cases_lt, and_parts, and_from, nat_tests, same_from_decides, position_from-zero, get_or_past, get_or-map, length-map, map-map, position_from, BitSet, empty, contains, is_subset, below, low, word, with_word, bits_of, contains_low, same_number, low_within, low_narrow, is_subset_wider, contains_bits_word, word_bits_of, put_next, bits_of_within, none_put, all_kept, Data, as_array, view, items_view, Value, held_word, is_no_word, held_words, unless_fault, words_among, words_in, NotAWord}
 use Rattle.enumset.proofs.JsonLaws.{values_back}
 use Rattle.enumset.proofs.NameLists.{left_at}
 
-pub length-words_of : (vs : List Value) → length (words_of (map view vs)) ≡ length vs
-length-words_of vs = length-map (map view vs) (λ value. unwrap_or (word_of value) 0) ∙ length-map vs view
+pub length-held_words : (vs : List Value) → length (held_words (map view vs)) ≡ length vs
+length-held_words vs = length-map (map view vs) (λ value. unwrap_or (held_word value) 0) ∙ length-map vs view
 
 -- the first element from a place on that is no word
 abbrev pub other_from : List Value → ℕ → Option ℕ
 other_from vs place = position_from is_no_word place (map view (drop place vs))
 
-module _ (vs : List Value) (place : ℕ) (v : Value) (o : Option ℕ) (under : place < length vs) (is : v ≡ get_or vs place v) (seen : o ≡ word_of (view v)) where
+module _ (vs : List Value) (place : ℕ) (v : Value) (o : Option ℕ) (under : place < length vs) (is : v ≡ get_or vs place v) (seen : o ≡ held_word (view v)) where
   pub other_at : other_from vs place ≡ (if is_none o then Some place else other_from vs (place + 1))
   other_at =
       ap (λ us. position_from is_no_word place (map view us)) (left_at vs place v under is) ∙ ap (λ w. if is_none w then Some place else other_from vs (place + 1)) (sym seen)
 
-  pub word_here : (x : ℕ) → o ≡ Some x → x ≡ slice_index (words_of (map view vs)) place
+  pub word_here : (x : ℕ) → o ≡ Some x → x ≡ slice_index (held_words (map view vs)) place
   word_here x found =
-      ap (λ w. unwrap_or w 0) (sym found ∙ seen) ∙ ap (λ u. unwrap_or (word_of (view u)) 0) is
-      ∙ sym (ap (λ ws. slice_index ws place) (map-map (λ value. unwrap_or (word_of value) 0) view vs) ∙ get_or-map (λ u. unwrap_or (word_of (view u)) 0) vs place v 0 under)
+      ap (λ w. unwrap_or w 0) (sym found ∙ seen) ∙ ap (λ u. unwrap_or (held_word (view u)) 0) is
+      ∙ sym (ap (λ ws. slice_index ws place) (map-map (λ value. unwrap_or (held_word value) 0) view vs) ∙ get_or-map (λ u. unwrap_or (held_word (view u)) 0) vs place v 0 under)
 
 -- what an array is read as
-pub words_read : (d : Data) (vs : List Value) (found : Option ℕ) → as_array d ≡ Some (items_view vs) → other_from vs 0 ≡ found → words_in d ≡ unless_fault NotAWord found (Ok (words_of (map view vs)))
+pub words_read : (d : Data) (vs : List Value) (found : Option ℕ) → as_array d ≡ Some (items_view vs) → other_from vs 0 ≡ found → words_in d ≡ unless_fault NotAWord found (Ok (held_words (map view vs)))
 words_read d vs found is other =
-    ap words_among is ∙ ap (λ ds. unless_fault NotAWord (position is_no_word ds) (Ok (words_of ds))) (values_back (map view vs))
-    ∙ ap (λ o. unless_fault NotAWord o (Ok (words_of (map view vs)))) (position_from-zero is_no_word (map view vs) ∙ other)
+    ap words_among is ∙ ap (λ ds. unless_fault NotAWord (position is_no_word ds) (Ok (held_words ds))) (values_back (map view vs))
+    ∙ ap (λ o. unless_fault NotAWord o (Ok (held_words (map view vs)))) (position_from-zero is_no_word (map view vs) ∙ other)
 
 -- whether a set has the words of a list before a place
 abbrev pub Has : BitSet → List ℕ → ℕ → Type 0

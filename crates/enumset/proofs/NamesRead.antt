@@ -1,6 +1,6 @@
 -- Lists and maps of names that are read one by one, up to the first that is a fault, and what they are read as.
 use Rattle.std.proofs.Common.{◌≡◌, ◌+◌, Bool, true, false, cond, ℕ, Option, Some, None, Err, List, [], ◌∷◌, map, String, string_bytes, refl, sym, ap, ◌∙◌, arith, position, filter, filter_map, is_none, Result, Global}
-use Rattle.enumset.proofs.Common.{cons_option, position_from, option_or, position_from-zero, BitSet, empty, insert, union, from_list, empty_union, union_insert, insert_union, union_none, Data, view, items_view, members_view, Value, Names, bit_named, unless_fault, values_of, members_in, text_of, is_true, is_no_text, is_no_boolean, is_unknown, known_set, decided, set_of_values, set_of_members, Unknown, JsonFault, NotAText, NotABoolean}
+use Rattle.enumset.proofs.Common.{cons_option, position_from, option_or, position_from-zero, BitSet, empty, insert, union, from_list, empty_union, union_insert, insert_union, union_none, Data, view, items_view, members_view, Value, Names, bit_named, unless_fault, values_of, members_in, string_in, is_true, is_no_string, is_no_boolean, is_unknown, known_set, decided, set_of_values, set_of_members, Unknown, JsonFault, NotAText, NotABoolean}
 use Rattle.std.specs.Option.{option_map_or}
 use Rattle.enumset.proofs.JsonLaws.{values_back}
 
@@ -51,7 +51,7 @@ module _ {X : Type 0} (is_fault is_taken : X → Bool) (name : X → List ℕ) (
 -- ---- lists
 
 abbrev pub list_on : Names → Unknown → ℕ → BitSet → Option ℕ → List Data → Result BitSet JsonFault
-list_on = read_on is_no_text (λ value. true) text_of NotAText
+list_on = read_on is_no_string (λ value. true) string_in NotAText
 
 all_taken : (ds : List Data) → filter (λ value. true) ds ≡ ds
 all_taken [] = refl
@@ -59,8 +59,8 @@ all_taken (d ∷ ds) = ap (λ es. d ∷ es) (all_taken ds)
 
 pub list_read_all : (names : Names) (unknown : Unknown) (ds : List Data) → list_on names unknown 0 empty None ds ≡ set_of_values names unknown ds
 list_read_all names unknown ds =
-    read_all is_no_text (λ value. true) text_of NotAText names unknown ds
-    ∙ ap (λ es. unless_fault NotAText (position is_no_text ds) (decided unknown (position (is_unknown names) (map text_of ds)) (known_set names (map text_of es)))) (all_taken ds)
+    read_all is_no_string (λ value. true) string_in NotAText names unknown ds
+    ∙ ap (λ es. unless_fault NotAText (position is_no_string ds) (decided unknown (position (is_unknown names) (map string_in ds)) (known_set names (map string_in es)))) (all_taken ds)
 
 pub list_read : (names : Names) (unknown : Unknown) (vs : List Value) → list_on names unknown 0 empty None (map view vs) ≡ set_of_values names unknown (values_of (items_view vs))
 list_read names unknown vs = list_read_all names unknown (map view vs) ∙ ap (set_of_values names unknown) (sym (values_back (map view vs)))

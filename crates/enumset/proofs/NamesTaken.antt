@@ -1,6 +1,6 @@
 -- What a reader takes of the names that a writer wrote of a set, as a list and as a map.
 use Rattle.std.proofs.Common.{◌≡◌, ◌+◌, ℕ, Bool, true, cond, Ordering, Less, Equal, Greater, Option, Some, None, Result, Ok, List, [], ◌∷◌, map, refl, sym, ap, subst, ◌∙◌, arith, position, ◌||◌, not, nat_lt, zip, filter_map, is_none, length, nat_cmp, is_eq}
-use Rattle.enumset.proofs.Common.{AllByRecursion, list_all, prefix_len, position_or_len, cons_option, position_from, match_ordering, slice_cmp, and_parts, cond-true, nat_tests, same_from_decides, position_from-zero, length-map, map-map, bytes_eq-Decides, BitSet, is_in, contains, intersection, from_list, ascending, is_subset, same_set, contains_from_list, contains_ascending, contains_is_subset, is_subset_contains, list_all_any, list_all_each, from_list_ascending, insert_inside, empty_intersection, intersection_within, intersection_insert, AreBitsOf-ascending, Data, boolean, string, Members, no_members, member, put, Names, name_of, bit_named, names_agree, unless_fault, members_in, names_in, true_names, text_of, is_no_text, is_no_boolean, is_unknown, decided, named_set, set_of_values, set_of_list, set_of_map, list_value, with_bits_true, map_value, in_map, accepted_by_name, Unknown, Drop, Refuse, JsonFault, NotAText, NotABoolean}
+use Rattle.enumset.proofs.Common.{AllByRecursion, list_all, prefix_len, position_or_len, cons_option, position_from, match_ordering, slice_cmp, and_parts, cond-true, nat_tests, same_from_decides, position_from-zero, length-map, map-map, bytes_eq-Decides, BitSet, is_in, contains, intersection, from_list, ascending, is_subset, same_set, contains_from_list, contains_ascending, contains_is_subset, is_subset_contains, list_all_any, list_all_each, from_list_ascending, insert_inside, empty_intersection, intersection_within, intersection_insert, AreBitsOf-ascending, Data, boolean, string, Members, no_members, member, put, Names, name_of, bit_named, names_agree, unless_fault, members_in, names_in, true_names, string_in, is_no_string, is_no_boolean, is_unknown, decided, named_set, set_of_values, set_of_list, set_of_map, list_value, with_bits_true, map_value, in_map, accepted_by_name, Unknown, Drop, Refuse, JsonFault, NotAText, NotABoolean}
 use Rattle.std.proofs.lemmas.List.Recursion.{same_from_clauses}
 use Rattle.std.proofs.lemmas.Map.Text.{is_eq-slice_cmp}
 use Rattle.enumset.proofs.NameLaws.{AreNames, name_back, agree_at}
@@ -52,7 +52,7 @@ module _ (valid : BitSet) where
 
 -- ---- lists
 
-all_texts : (f : ℕ → List ℕ) (place : ℕ) (bs : List ℕ) → position_from is_no_text place (map (λ b. string (f b)) bs) ≡ None
+all_texts : (f : ℕ → List ℕ) (place : ℕ) (bs : List ℕ) → position_from is_no_string place (map (λ b. string (f b)) bs) ≡ None
 all_texts f place [] = refl
 all_texts f place (b ∷ bs) = all_texts f (place + 1) bs
 
@@ -120,9 +120,9 @@ module _ (readers writers : Names) (valid : BitSet) (bs : List ℕ) (back : (b :
   pub list_read : (s : BitSet) (unknown : Unknown) → is_subset s (from_list bs) ≡ true → set_of_list readers unknown (list_value writers s) ≡ accepted_by_name valid unknown s (ascending s)
   list_read s unknown within =
       let texts = map (λ b. string (name_of writers b)) (ascending s) in
-      let back = map-map text_of (λ b. string (name_of writers b)) (ascending s) in
+      let back = map-map string_in (λ b. string (name_of writers b)) (ascending s) in
       ap (set_of_values readers unknown) (values_back texts)
-      ∙ (λ j. unless_fault NotAText ((position_from-zero is_no_text texts ∙ all_texts (name_of writers) 0 (ascending s)) j) (named_set readers unknown (back j) (back j)))
+      ∙ (λ j. unless_fault NotAText ((position_from-zero is_no_string texts ∙ all_texts (name_of writers) 0 (ascending s)) j) (named_set readers unknown (back j) (back j)))
       ∙ by_bits readers unknown (map (name_of writers) (ascending s)) ∙ ap (taken unknown) (bits_known (ascending s) (AreBitsOf-ascending bs (from_list bs) s refl within))
       ∙ accepted valid unknown s (ascending s) (from_list_ascending s)
 

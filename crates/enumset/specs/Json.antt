@@ -5,7 +5,7 @@
 --     number_below      the number of a value, or the fault, also where it is not below 2 ^ width
 --     unless_fault      a result, or the fault of a place, if there is one
 --     values_of      the elements of an array
---     word_of, words_of      the word that an element holds, if it holds one;  those of all elements, 0 where one holds none
+--     held_word, held_words      the word that an element holds, if it holds one;  those of all elements, 0 where one holds none
 --     is_no_word      the test that finds a fault
 --     words_among, words_in      the words that the elements of an array hold, or the fault;  that a value holds
 --     accepted      the set of valid bits that is taken of a set, or the fault
@@ -52,14 +52,14 @@ abbrev pub number_below : ℕ → Data → Result ℕ JsonFault
 number_below width value = and_then (λ n. if nat_lt n (2 ^ width) then Ok n else Err OutOfRange) (whole_number value)
 
 -- what `as_u64` gives
-abbrev pub word_of : Data → Option ℕ
-word_of value = option_and_then as_u64 (as_number value)
+abbrev pub held_word : Data → Option ℕ
+held_word value = option_and_then as_u64 (as_number value)
 
 abbrev pub is_no_word : Data → Bool
-is_no_word value = is_none (word_of value)
+is_no_word value = is_none (held_word value)
 
-abbrev pub words_of : List Data → List ℕ
-words_of values = map (λ value. unwrap_or (word_of value) 0) values
+abbrev pub held_words : List Data → List ℕ
+held_words values = map (λ value. unwrap_or (held_word value) 0) values
 
 abbrev pub values_of : Items → List Data
 values_of no_items = []
@@ -72,7 +72,7 @@ unless_fault fault (Some place) result = Err (fault place)
 
 abbrev pub words_among : Option Items → Result (List ℕ) JsonFault
 words_among None = Err NotAnArray
-words_among (Some items) = unless_fault NotAWord (position is_no_word (values_of items)) (Ok (words_of (values_of items)))
+words_among (Some items) = unless_fault NotAWord (position is_no_word (values_of items)) (Ok (held_words (values_of items)))
 
 abbrev pub words_in : Data → Result (List ℕ) JsonFault
 words_in value = words_among (as_array value)

@@ -1,8 +1,8 @@
 -- JSON lists and maps of names as sets, and what is wrong with one that is none.
 --     members_in      the members of an object, each name with its value, in the order of their names
---     text_of, is_true      the text that a value is, if it is one;  whether it is `true`
---     is_no_text, is_no_boolean      the tests that find a fault
---     is_unknown      whether a text is the name of no variant
+--     string_in, is_true      the string that a value is, if it is one;  whether a member's value is `true`
+--     is_no_string, is_no_boolean      the tests that find a fault
+--     is_unknown      whether a string is the name of no variant
 --     known_set      the set of the names that are known
 --     decided      the set that was read, or the fault of the first unknown name
 --     named_set      the set of the names that are known, where unknown names are left out, or the first is the fault
@@ -33,11 +33,11 @@ abbrev pub members_in : Members → List (List ℕ × Data)
 members_in no_members = []
 members_in (member name value members) = (name, value) ∷ members_in members
 
-abbrev pub text_of : Data → List ℕ
-text_of value = unwrap_or (as_str value) []
+abbrev pub string_in : Data → List ℕ
+string_in value = unwrap_or (as_str value) []
 
-abbrev pub is_no_text : Data → Bool
-is_no_text value = is_none (as_str value)
+abbrev pub is_no_string : Data → Bool
+is_no_string value = is_none (as_str value)
 
 abbrev pub is_true : List ℕ × Data → Bool
 is_true m = unwrap_or (as_bool m.1) false
@@ -46,10 +46,10 @@ abbrev pub is_no_boolean : List ℕ × Data → Bool
 is_no_boolean m = is_none (as_bool m.1)
 
 abbrev pub is_unknown : Names → List ℕ → Bool
-is_unknown names text = is_none (bit_named names text)
+is_unknown names found = is_none (bit_named names found)
 
 abbrev pub known_set : Names → List (List ℕ) → BitSet
-known_set names texts = from_list (filter_map (bit_named names) texts)
+known_set names found = from_list (filter_map (bit_named names) found)
 
 -- the set that was read, or the fault of the first unknown name
 abbrev pub decided : Unknown → Option ℕ → BitSet → Result BitSet JsonFault
@@ -62,7 +62,7 @@ named_set names unknown all chosen = decided unknown (position (is_unknown names
 
 abbrev pub set_of_values : Names → Unknown → List Data → Result BitSet JsonFault
 set_of_values names unknown values =
-    unless_fault NotAText (position is_no_text values) (named_set names unknown (map text_of values) (map text_of values))
+    unless_fault NotAText (position is_no_string values) (named_set names unknown (map string_in values) (map string_in values))
 
 abbrev pub set_of_items : Names → Unknown → Option Items → Result BitSet JsonFault
 set_of_items names unknown None = Err NotAnArray

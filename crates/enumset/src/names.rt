@@ -52,33 +52,34 @@ pub trait EnumSetNames: EnumSetType + 'static {
 }
 
 /// The value that has this name, if there is one. The search begins at the place `next`, then goes from the front, since
-/// most texts have their names in the order of the list; `next` becomes the place after the name that was found.
+/// most lists and maps have their names in the order of the table; `next` becomes the place after the name that was
+/// found.
 #[inline(always)]
-pub(crate) fn find_value<T: EnumSetNames>(text: &[u8], next: &mut usize) -> Option<T>
+pub(crate) fn find_value<T: EnumSetNames>(wanted: &[u8], next: &mut usize) -> Option<T>
     ensures { option_map T.elements.bit result
-        ≡ bit_named (names_of T.elements T.names) text.now }
+        ≡ bit_named (names_of T.elements T.names) wanted.now }
 {
     let names = T::names();
     let start = (*next).min(names.len());
     let (before, after) = names.split_at(start);
-    if let Some((place, value)) = find_in(after, text) {
+    if let Some((place, value)) = find_in(after, wanted) {
         *next = start + place + 1;
         return Some(value);
     }
-    let (place, value) = find_in(before, text)?;
+    let (place, value) = find_in(before, wanted)?;
     *next = place + 1;
     Some(value)
 }
 
 /// The first value of a list that has this name, and its place.
 #[inline(always)]
-fn find_in<T: EnumSetType>(names: &[(T, &str)], text: &[u8]) -> Option<(usize, T)>
+fn find_in<T: EnumSetType>(names: &[(T, &str)], wanted: &[u8]) -> Option<(usize, T)>
     ensures within { IfSome result (λ found. found.0 < length names.now) }
     ensures named { option_map (λ found. T.elements.bit found.1) result
-        ≡ bit_named (map (λ n. (T.elements.bit n.0, n.1.now)) names.now) text.now }
+        ≡ bit_named (map (λ n. (T.elements.bit n.0, n.1.now)) names.now) wanted.now }
 {
     for (place, (value, name)) in names.iter().enumerate() {
-        if has_bytes(name, text) {
+        if has_bytes(name, wanted) {
             return Some((place, *value));
         }
     }
@@ -87,17 +88,17 @@ fn find_in<T: EnumSetType>(names: &[(T, &str)], text: &[u8]) -> Option<(usize, T
 
 /// Whether a name is these bytes. The last eight are compared first, since names that begin alike seldom end alike.
 #[inline(always)]
-fn has_bytes(name: &str, text: &[u8]) -> bool
-    ensures { result ≡ bytes_eq name.now text.now }
+fn has_bytes(name: &str, wanted: &[u8]) -> bool
+    ensures { result ≡ bytes_eq name.now wanted.now }
 {
     let name = name.as_bytes();
-    if name.len() != text.len() {
+    if name.len() != wanted.len() {
         return false;
     }
-    match (name.last_chunk(), text.last_chunk()) {
-        (Some(end), Some(text_end)) => {
-            u64::from_le_bytes(*end) == u64::from_le_bytes(*text_end) && name == text
+    match (name.last_chunk(), wanted.last_chunk()) {
+        (Some(end), Some(wanted_end)) => {
+            u64::from_le_bytes(*end) == u64::from_le_bytes(*wanted_end) && name == wanted
         }
-        _ => name == text,
+        _ => name == wanted,
     }
 }

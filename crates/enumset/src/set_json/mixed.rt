@@ -12,7 +12,7 @@ ghost use Rattle.enumset.specs.declared.set_json.fault.JsonFault.TheVariants.{Ou
 use super::fault::JsonFault;
 use super::unknown::Unknown;
 use super::width::{fits, whole_number};
-use super::words::{read_words, words_of};
+use super::words::{read_words, write_words};
 use enumset_mixed::MixedEnumSet;
 use enumset_repr::EnumSetTypeRepr;
 use enumset_sets::{EnumSetType, EnumSetTypeWithRepr};
@@ -81,7 +81,7 @@ pub fn mixed_to_words<T: EnumSetTypeWithRepr>(
         view value ≡ words_value (words set.now T.Repr.PREFERRED_ARRAY_LEN)) }
     ensures fault { IfErr result (λ fault. fault ≡ OutOfMemory) }
 {
-    words_of(alloc, &set.as_repr())
+    write_words(alloc, &set.as_repr())
 }
 
 /// Returns the set of all bits of an array of words of 64 bits, the lowest first. There may be any number of them. Bits

@@ -30,8 +30,8 @@ pub(super) fn read_plain_number(text: &str) -> Option<u64>
 /// The whole number below 2^64 whose digits stand first, and what follows them.
 #[inline(always)]
 pub(super) fn split_number(bytes: &[u8]) -> Option<(u64, &[u8])>
-    ensures { IfSome result (λ parts.
-        (parts.0 < 2 ^ 64) × (bytes.now ≡ decimal parts.0 ++ parts.1.now)) }
+    ensures below { IfSome result (λ parts. parts.0 < 2 ^ 64) }
+    ensures whole { IfSome result (λ parts. bytes.now ≡ decimal parts.0 ++ parts.1.now) }
 {
     let (first, rest) = bytes.split_first()?;
     let mut number = digit_of(*first)?;
@@ -61,7 +61,8 @@ pub(super) fn split_number(bytes: &[u8]) -> Option<(u64, &[u8])>
 /// The digit that a byte is.
 #[inline(always)]
 fn digit_of(byte: u8) -> Option<u64>
-    ensures { IfSome result (λ digit. (digit < 10) × (byte ≡ 48 + digit)) }
+    ensures below { IfSome result (λ digit. digit < 10) }
+    ensures byte { IfSome result (λ digit. byte ≡ 48 + digit) }
 {
     byte.is_ascii_digit()
         .then_some(byte.wrapping_sub(b'0') as u64)

@@ -14,11 +14,11 @@ fn is_plain_byte(byte: u8) -> bool
     byte != b'"' && byte != b'\\' && byte >= b' '
 }
 
-/// Whether a text stands for itself in a JSON string.
-pub(super) fn is_plain(text: &str) -> bool
-    ensures { IsTrue result → IsPlain text.now }
+/// Whether a name stands for itself in a JSON string.
+pub(super) fn is_plain(name: &str) -> bool
+    ensures { IsTrue result → IsPlain name.now }
 {
-    let bytes = text.as_bytes();
+    let bytes = name.as_bytes();
     match bytes.len() {
         4..8 => are_ends_plain::<4>(bytes),
         8..16 => are_ends_plain::<8>(bytes),
@@ -26,10 +26,12 @@ pub(super) fn is_plain(text: &str) -> bool
     }
 }
 
-/// Whether the first N bytes stand for themselves, and the last N: for short texts, faster than byte by byte.
+/// Whether the first N bytes stand for themselves, and the last N: for short names, faster than byte by byte.
 #[inline(always)]
 fn are_ends_plain<const N: usize>(bytes: &[u8]) -> bool
-    requires { (N ≤ length bytes.now) × (length bytes.now ≤ 2 * N) × (N ≤ 16) }
+    requires room { N ≤ length bytes.now }
+    requires short { length bytes.now ≤ 2 * N }
+    requires lanes { N ≤ 16 }
     ensures { IsTrue result → IsPlain bytes.now }
 {
     plain_before::<N>(bytes, 0) == N && plain_before::<N>(bytes, bytes.len() - N) == N
@@ -38,7 +40,8 @@ fn are_ends_plain<const N: usize>(bytes: &[u8]) -> bool
 /// How many bytes at the front stand for themselves.
 #[inline(always)]
 fn plain_len(bytes: &[u8]) -> usize
-    ensures { (result ≤ length bytes.now) × IsPlain (take result bytes.now) }
+    ensures within { result ≤ length bytes.now }
+    ensures plain { IsPlain (take result bytes.now) }
 {
     for k in 0..bytes.len() / 16 {
         let before = plain_before::<16>(bytes, 16 * k);
@@ -57,8 +60,10 @@ fn plain_len(bytes: &[u8]) -> usize
 /// How many of the N bytes from a place on come before one that does not stand for itself.
 #[inline(always)]
 fn plain_before<const N: usize>(bytes: &[u8], begin: usize) -> usize
-    requires { (begin + N ≤ length bytes.now) × (N ≤ 16) }
-    ensures { (result ≤ N) × IsPlain (take result (drop begin bytes.now)) }
+    requires room { begin + N ≤ length bytes.now }
+    requires lanes { N ≤ 16 }
+    ensures within { result ≤ N }
+    ensures plain { IsPlain (take result (drop begin bytes.now)) }
 {
     let lanes = Simd::<u8, N>::from_slice(&bytes[begin..]);
     let special = lanes.simd_eq(Simd::splat(b'"'))
@@ -103,8 +108,8 @@ pub(super) fn are_spaces(bytes: &[u8]) -> bool
 /// The bytes of a plain string after its opening quote, and what follows its closing one.
 #[inline(always)]
 pub(super) fn split_string(bytes: &[u8]) -> Option<(&[u8], &[u8])>
-    ensures { IfSome result (λ parts.
-        IsPlain parts.0.now × (bytes.now ≡ parts.0.now ++ 34 ∷ parts.1.now)) }
+    ensures plain { IfSome result (λ parts. IsPlain parts.0.now) }
+    ensures whole { IfSome result (λ parts. bytes.now ≡ parts.0.now ++ 34 ∷ parts.1.now) }
 {
     let (string, rest) = bytes.split_at(plain_len(bytes));
     let (quote, rest) = rest.split_first()?;

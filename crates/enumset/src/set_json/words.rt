@@ -26,11 +26,11 @@ pub fn to_words<T: EnumSetType>(alloc: Global, set: &EnumSet<T>) -> Result<Value
         view value ≡ words_value (words set.now T.Repr.PREFERRED_ARRAY_LEN)) }
     ensures fault { IfErr result (λ fault. fault ≡ OutOfMemory) }
 {
-    words_of(alloc, &raw::get(set.copied()))
+    write_words(alloc, &raw::get(set.copied()))
 }
 
-/// The words of a value that represents a set.
-pub(super) fn words_of<R: EnumSetTypeRepr>(alloc: Global, repr: &R) -> Result<Value, JsonFault>
+/// The array of the words of a value that represents a set.
+pub(super) fn write_words<R: EnumSetTypeRepr>(alloc: Global, repr: &R) -> Result<Value, JsonFault>
     ensures succeeds { R.PREFERRED_ARRAY_LEN ≡ 0 → IsOk result }
     ensures value { IfOk result (λ value.
         view value ≡ words_value (words (R.members repr.now) R.PREFERRED_ARRAY_LEN)) }

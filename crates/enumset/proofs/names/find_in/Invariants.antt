@@ -5,5 +5,5 @@ use Rattle.enumset.proofs.names.find_in.Given as goal
 -- the name stands among those that are left
 abbrev pub invariant-loop-place : goal.invariant-loop-place
 invariant-loop-place g l =
-    bit_named (map (λ n. (g.T.EnumSetType.elements.bit n.0, n.1.now)) (drop l.place l.names)) l.text
-    ≡ bit_named (map (λ n. (g.T.EnumSetType.elements.bit n.0, n.1.now)) l.names) l.text
+    bit_named (map (λ n. (g.T.EnumSetType.elements.bit n.0, n.1.now)) (drop l.place l.names)) l.wanted
+    ≡ bit_named (map (λ n. (g.T.EnumSetType.elements.bit n.0, n.1.now)) l.names) l.wanted

@@ -21,7 +21,7 @@ pub loop-place-preserved : goal.loop-place-preserved
 loop-place-preserved g c =
     goes_on (names_of g.T.EnumSetType.elements g.T.EnumSetNames.names) c.args.unknown c.args.text.now c.loop-place.left.now c.in_ok-name.name.now c.in_ok-name.rest.now c.loop-place.place
     c.loop-place.set c.take_name.new.set c.loop-place.first_unknown c.take_name.new.first_unknown (option_map g.T.EnumSetType.elements.bit c.find_value-value.result)
-    c.loop-place.invariant c.in_ok-name.ensures.0 c.in_ok-name.ensures.1 c.find_value-value.ensures c.take_name.ensures.set c.take_name.ensures.first
+    c.loop-place.invariant c.in_ok-name.ensures.plain c.in_ok-name.ensures.whole c.find_value-value.ensures c.take_name.ensures.set c.take_name.ensures.first
     c.in_ok-after_byte.field-0.now c.in_ok-left-2.left.now c.in_ok-after_byte.ensures c.in_ok-left-2.ensures
 
 pub returns-in-Some-after_byte : goal.returns-in-Some-after_byte
@@ -30,6 +30,6 @@ returns-in-Some-after_byte g c =
     kept_if _ c.then_some-in-Some-after_byte.result _ _ c.then_some-in-Some-after_byte.ensures (λ all. is_read (set_of_list names c.args.unknown) c.args.text.now (decided c.args.unknown c.take_name.new.first_unknown c.take_name.new.set) c.decided.result
     (ends names c.args.unknown c.args.text.now c.loop-place.left.now c.in_ok-name.name.now c.in_ok-name.rest.now c.loop-place.place
     c.loop-place.set c.take_name.new.set c.loop-place.first_unknown c.take_name.new.first_unknown (option_map g.T.EnumSetType.elements.bit c.find_value-value.result)
-    c.loop-place.invariant c.in_ok-name.ensures.0 c.in_ok-name.ensures.1 c.find_value-value.ensures c.take_name.ensures.set c.take_name.ensures.first
+    c.loop-place.invariant c.in_ok-name.ensures.plain c.in_ok-name.ensures.whole c.find_value-value.ensures c.take_name.ensures.set c.take_name.ensures.first
     c.in-Some-after_byte.end.now c.in-Some-after_byte.ensures (c.are_spaces-in-Some-after_byte.ensures all))
     c.decided.ensures)

@@ -6,5 +6,5 @@ use Rattle.enumset.proofs.set_json.plain_numbers.read_plain_number.Goals as goal
 
 pub returns : goal.returns
 returns c =
-    kept_if _ c.then_some.result _ _ c.then_some.ensures (λ all. ap read (sym c.as_bytes.ensures.value ∙ c.split_spaces.ensures.whole ∙ ap (λ l. c.split_spaces.result.0.now ++ l) c.in_ok-number.ensures.1)
-    ∙ number_alone c.in_ok-number.number c.split_spaces.result.0.now c.in_ok-number.end.now c.in_ok-number.ensures.0 c.split_spaces.ensures.spaces (c.are_spaces.ensures all))
+    kept_if _ c.then_some.result _ _ c.then_some.ensures (λ all. ap read (sym c.as_bytes.ensures.value ∙ c.split_spaces.ensures.whole ∙ ap (λ l. c.split_spaces.result.0.now ++ l) c.in_ok-number.ensures.whole)
+    ∙ number_alone c.in_ok-number.number c.split_spaces.result.0.now c.in_ok-number.end.now c.in_ok-number.ensures.below c.split_spaces.ensures.spaces (c.are_spaces.ensures all))

@@ -32,8 +32,10 @@ pub returns : goal.returns
 returns c =
     let number = c.loop-at.number in
     let digit = c.in-Some-digit_of.digit in
-    let sum : number * 10 + digit ≡ c.in_ok-checked_add.field-0 = omega (arith, c.in_ok-checked_mul.ensures.1, c.in_ok-checked_add.ensures.1) in (
-      omega (arith, sum, c.in_ok-checked_add.ensures.0),
-      c.loop-at.invariant.1.2 ∙ ap (λ l. decimal number ++ l) (sym c.split_at.ensures.back ∙ c.in-Some.ensures.cases.0 ∙ ap (λ x. x ∷ c.in-Some.end.now) c.in-Some-digit_of.ensures.1)
-          ∙ one_more_digit number digit c.in-Some.end.now c.loop-at.invariant.1.0 c.in-Some-digit_of.ensures.0 (omega (arith, sum, c.in_ok-checked_add.ensures.0, c.in_ok-checked_add.ensures.1)) ∙ ap (λ n. decimal n ++ c.in-Some.end.now) sum,
-    )
+    let sum : number * 10 + digit ≡ c.in_ok-checked_add.field-0 = omega (arith, c.in_ok-checked_mul.ensures.1, c.in_ok-checked_add.ensures.1) in
+    record {
+      below = omega (arith, sum, c.in_ok-checked_add.ensures.0);
+      whole =
+          c.loop-at.invariant.1.2 ∙ ap (λ l. decimal number ++ l) (sym c.split_at.ensures.back ∙ c.in-Some.ensures.cases.0 ∙ ap (λ x. x ∷ c.in-Some.end.now) c.in-Some-digit_of.ensures.byte)
+          ∙ one_more_digit number digit c.in-Some.end.now c.loop-at.invariant.1.0 c.in-Some-digit_of.ensures.below (omega (arith, sum, c.in_ok-checked_add.ensures.0, c.in_ok-checked_add.ensures.1)) ∙ ap (λ n. decimal n ++ c.in-Some.end.now) sum;
+    }

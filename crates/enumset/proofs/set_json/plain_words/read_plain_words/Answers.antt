@@ -19,11 +19,11 @@ pub loop-place-preserved : goal.loop-place-preserved
 loop-place-preserved g c =
     goes_on c.args.text.now g.R.EnumSetTypeRepr.WIDTH c.loop-place.left.now c.split_spaces.result.0.now c.split_spaces.result.1.now c.in_ok-word.rest.now c.loop-place.place g.R.EnumSetTypeRepr.PREFERRED_ARRAY_LEN c.in_ok-word.word
     _ _ c.loop-place.is_whole _ c.loop-place.invariant c.split_spaces.ensures.spaces c.split_spaces.ensures.whole
-    g.met.R.EnumSetTypeRepr.represents.word_count c.in_ok-word.ensures.0 c.in_ok-word.ensures.1 c.take_word-is_whole.ensures.put (ap (λ b. c.loop-place.is_whole && b) c.take_word-is_whole.ensures.whole) c.in_ok-left-2.left.now c.in_ok-left-2.ensures
+    g.met.R.EnumSetTypeRepr.represents.word_count c.in_ok-word.ensures.below c.in_ok-word.ensures.whole c.take_word-is_whole.ensures.put (ap (λ b. c.loop-place.is_whole && b) c.take_word-is_whole.ensures.whole) c.in_ok-left-2.left.now c.in_ok-left-2.ensures
 
 pub returns-in-Some-after_byte : goal.returns-in-Some-after_byte
 returns-in-Some-after_byte g c =
     kept_if _ c.then_some-in-Some-after_byte.result _ _ c.then_some-in-Some-after_byte.ensures (λ all. ends c.args.text.now g.R.EnumSetTypeRepr.WIDTH c.loop-place.left.now c.split_spaces.result.0.now c.split_spaces.result.1.now c.in_ok-word.rest.now c.loop-place.place g.R.EnumSetTypeRepr.PREFERRED_ARRAY_LEN c.in_ok-word.word
     _ _ c.loop-place.is_whole _ c.loop-place.invariant c.split_spaces.ensures.spaces c.split_spaces.ensures.whole
-    g.met.R.EnumSetTypeRepr.represents.word_count c.in_ok-word.ensures.0 c.in_ok-word.ensures.1 c.take_word-is_whole.ensures.put (ap (λ b. c.loop-place.is_whole && b) c.take_word-is_whole.ensures.whole)
+    g.met.R.EnumSetTypeRepr.represents.word_count c.in_ok-word.ensures.below c.in_ok-word.ensures.whole c.take_word-is_whole.ensures.put (ap (λ b. c.loop-place.is_whole && b) c.take_word-is_whole.ensures.whole)
     c.in-Some-after_byte.end.now c.in-Some-after_byte.ensures (c.are_spaces-in-Some-after_byte.ensures all))

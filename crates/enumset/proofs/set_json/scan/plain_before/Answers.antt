@@ -42,10 +42,10 @@ mask v n long few =
 before : (v : List ℕ) (n m r : ℕ) → length v ≡ n → n ≤ 64 → m ≡ mask_l (map is_special v) → r ≤ n → r ≤ count_trailing_zeros 64 m → r ≤ prefix_len (λ x. not (is_special x)) v
 before v n m r long few is all low = grind (arith, first_set_mask_l is_special v n long few, is, all, low)
 
-pub returns : goal.returns
-returns g c =
+pub returns-clause-plain : goal.returns-clause-plain
+returns-clause-plain g c =
     let n = g.row.N in
     let v = chunk c.args.begin n c.args.bytes.now in
-    let long = length-chunk c.args.begin n c.args.bytes.now c.requires.0 in
+    let long = length-chunk c.args.begin n c.args.bytes.now c.requires.room in
     let all : c.min.result ≤ n = omega arith in
-    (all, subst IsPlain (take-take c.min.result n (drop c.args.begin c.args.bytes.now) all) (plain_run v c.min.result (before v n _ c.min.result long (omega arith) (mask v n long (omega arith)) all (omega arith))))
+    subst IsPlain (take-take c.min.result n (drop c.args.begin c.args.bytes.now) all) (plain_run v c.min.result (before v n _ c.min.result long (omega arith) (mask v n long (omega arith)) all (omega arith)))

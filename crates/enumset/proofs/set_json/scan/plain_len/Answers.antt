@@ -3,15 +3,15 @@ use Rattle.enumset.specs.JsonPlain.{IsPlainByte}
 use Rattle.enumset.proofs.JsonScans.{one_more, run_on}
 use Rattle.enumset.proofs.set_json.scan.plain_len.Goals as goal
 
-pub returns-then-before-lt16 : goal.returns-then-before-lt16
-returns-then-before-lt16 c =
+pub returns-then-before-lt16-clause-plain : goal.returns-then-before-lt16-clause-plain
+returns-then-before-lt16-clause-plain c =
     let start = 16 * c.loop-k.k in
-    (omega arith, run_on IsPlainByte c.args.bytes.now start start _ (start + c.plain_before-before.result) (omega arith) refl c.loop-k.invariant c.plain_before-before.ensures.1)
+    run_on IsPlainByte c.args.bytes.now start start _ (start + c.plain_before-before.result) (omega arith) refl c.loop-k.invariant c.plain_before-before.ensures.plain
 
 pub loop-k-preserved : goal.loop-k-preserved
 loop-k-preserved c =
     let start = 16 * c.loop-k.k in
-    run_on IsPlainByte c.args.bytes.now start start c.plain_before-before.result (16 * (c.loop-k.k + 1)) (omega arith) (omega arith) c.loop-k.invariant c.plain_before-before.ensures.1
+    run_on IsPlainByte c.args.bytes.now start start c.plain_before-before.result (16 * (c.loop-k.k + 1)) (omega arith) (omega arith) c.loop-k.invariant c.plain_before-before.ensures.plain
 
 pub loop-i-preserved : goal.loop-i-preserved
 loop-i-preserved c = one_more IsPlainByte c.args.bytes.now c.loop-i.i c.loop-i-test.true c.loop-i.invariant (c.if-not-is_plain_byte.ensures refl).0

@@ -1,11 +1,11 @@
 use Rattle.std.proofs.Common.{◌≡◌, ◌+◌, ◌&&◌, None, Some, Err, true, option_map, map, refl, sym, ap, subst, ◌∙◌, arith, rules, is_none, if◌then◌else◌}
-use Rattle.enumset.proofs.Common.{position_from, drop_all, view, items_view, is_no_word, words_of, words_in, NotAWord}
-use Rattle.enumset.proofs.JsonWords.{AreRead, other_from, other_at, word_here, words_read, length-words_of, none_read, taken, all_read}
+use Rattle.enumset.proofs.Common.{position_from, drop_all, view, items_view, is_no_word, held_words, words_in, NotAWord}
+use Rattle.enumset.proofs.JsonWords.{AreRead, other_from, other_at, word_here, words_read, length-held_words, none_read, taken, all_read}
 use Rattle.enumset.proofs.set_json.words.read_words.Goals as goal
 
 pub loop-place-init : goal.loop-place-init
 loop-place-init g c =
-    (refl, subst (λ s. AreRead (words_of (map view c.deref-item-items.result.now)) 0 g.R.EnumSetTypeRepr.WIDTH s true) (sym (ap g.R.EnumSetTypeRepr.members c.EMPTY-repr.ensures ∙ g.met.R.EnumSetTypeRepr.represents.no_member)) (none_read _ _))
+    (refl, subst (λ s. AreRead (held_words (map view c.deref-item-items.result.now)) 0 g.R.EnumSetTypeRepr.WIDTH s true) (sym (ap g.R.EnumSetTypeRepr.members c.EMPTY-repr.ensures ∙ g.met.R.EnumSetTypeRepr.represents.no_member)) (none_read _ _))
 
 pub returns-in_err-word-clause-fault : goal.returns-in_err-word-clause-fault
 returns-in_err-word-clause-fault g c =
@@ -30,8 +30,8 @@ pub returns-clause-read : goal.returns-clause-read
 returns-clause-read g c =
     let vs = c.deref-item-items.result.now in
     let place = c.loop-place.place in
-    let all = all_read _ place _ _ _ c.loop-place.invariant.1 (omega (arith, length-words_of vs, c.loop-place-test.false)) in (
-      words_of (map view vs),
+    let all = all_read _ place _ _ _ c.loop-place.invariant.1 (omega (arith, length-held_words vs, c.loop-place-test.false)) in (
+      held_words (map view vs),
       words_read _ vs None (sym c.as_array.ensures ∙ ap (option_map (λ v. items_view v.now.items)) c.in_ok-items.ensures.ok_part ∙ ap (λ us. Some (items_view us)) (sym c.deref-item-items.ensures.value)) (sym c.loop-place.invariant.0 ∙ ap (λ us. position_from is_no_word place (map view us)) (drop_all place vs c.loop-place-test.false)),
       all.0,
       all.1,

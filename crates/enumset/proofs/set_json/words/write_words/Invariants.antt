@@ -1,6 +1,6 @@
 use Rattle.std.proofs.Common.{◌≡◌, map}
 use Rattle.enumset.proofs.Common.{words, view, number_value}
-use Rattle.enumset.proofs.set_json.words.words_of.Given as goal
+use Rattle.enumset.proofs.set_json.words.write_words.Given as goal
 
 -- the words before this one are written
 abbrev pub invariant-loop-i : goal.invariant-loop-i
