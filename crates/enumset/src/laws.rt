@@ -4,9 +4,8 @@
 //! Here stand the laws of round trips through JSON: the value that was written of a set is read as that set. The clause
 //! `reads` of each writer of texts says that its text is read as this value, so what the laws say of values holds of
 //! texts too. Those of numbers and words without JSON come from `enumset_sets`, that of the order from `enumset_repr`, and
-//! all others from the modules below: what a reader of another element type reads, elements, absorption, complements,
-//! mixed sets, folds, iterators from both ends, and asks. Most laws of sets alone are in rulesets. Rust's `enumset` has no
-//! laws.
+//! all others from the modules below: what a reader of another element type reads, elements, complements, mixed sets,
+//! folds, iterators from both ends, and asks. Most laws of sets alone are in rulesets. Rust's `enumset` has no laws.
 
 ghost use Rattle.std.specs.Prelude.{◌≡◌, Ok, Some, IsTrue};
 ghost use Rattle.enumset_repr.specs.BitSet.{below, is_subset};
@@ -25,7 +24,6 @@ mod elements;
 mod ends;
 mod folds;
 mod mixed_sets;
-mod operations;
 mod readers;
 
 use crate::names::EnumSetNames;
@@ -44,7 +42,6 @@ pub use enumset_sets::laws::{
 use enumset_sets::{EnumSet, EnumSetType, EnumSetTypeWithRepr};
 pub use folds::{fold_of_elements, fold_of_sets};
 pub use mixed_sets::{unknown_kept, valid_before_invalid};
-pub use operations::absorption;
 pub use readers::{carried_along, carried_along_in_number, older_reader, older_reader_of_names};
 
 /// The number that `to_number` writes of a set is read as that set by `from_number` at the same width, under `Drop` as

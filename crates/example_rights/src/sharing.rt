@@ -33,7 +33,6 @@ pub fn all_may<T: EnumSetType>(grants: &[EnumSet<T>], right: T) -> bool
 pub fn with_shared<T: EnumSetType>(one: &EnumSet<T>, other: &EnumSet<T>) -> EnumSet<T>
     ensures { result ≡ one.now }
 {
-    laws::absorption();
     one.union(one.intersection(other.copied()))
 }
 
