@@ -4,7 +4,7 @@
 use enumset::EnumSetType;
 use enumset::internal::ArrayRepr;
 
-// Words of one bit, whose numbers are long.
+/// Words of one bit, whose numbers are long.
 const BIT_57: u64 = 1 << 57;
 
 const BIT_63: u64 = 1 << 63;

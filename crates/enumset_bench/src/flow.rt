@@ -34,42 +34,80 @@ impl<T: EnumSetType> Drop for Node<T> {
     }
 }
 
-/// The digest of the facts of all graphs.
+/// The calls by which facts flow and are read.
+pub(crate) trait Flow {
+    /// Lets the facts flow until nothing changes.
+    fn settle<T: EnumSetType>(nodes: &mut Vec<Node<T>>, digest: &mut Digest);
+
+    /// Mixes in the members of a set: from both ends, or from the front.
+    fn add_members<T: EnumSetType>(set: &EnumSet<T>, is_from_both: bool, digest: &mut Digest);
+}
+
+/// The digest of the facts of all graphs, where new sets are made.
 pub fn digest(alloc: Global, seed: u32, rounds: u32) -> Result<u64, AllocError> {
+    digest_by::<NewSets>(alloc, seed, rounds)
+}
+
+/// The digest of the facts of all graphs, whichever calls make them.
+pub(crate) fn digest_by<F: Flow>(alloc: Global, seed: u32, rounds: u32) -> Result<u64, AllocError> {
     let mut random = Random::new(seed);
     let mut digest = Digest::new();
     let values: Vec<Far> = EnumSet::<Far>::all().iter().collect(alloc)?;
     for _ in 0..rounds {
         let mut nodes = random_nodes(alloc, &mut random)?;
-        settle(&mut nodes, &mut digest);
-        for (at, node) in nodes.iter().enumerate() {
-            add_members(&node.known, at % 2 == 0, &mut digest);
-        }
+        add_facts::<F, Symbol>(&mut nodes, &mut digest);
         let mut far = random_far_nodes(alloc, &mut random, &values)?;
-        settle(&mut far, &mut digest);
-        for (at, node) in far.iter().enumerate() {
-            add_members(&node.known, at % 2 == 0, &mut digest);
-        }
+        add_facts::<F, Far>(&mut far, &mut digest);
     }
     Ok(digest.value())
 }
 
-/// Lets the facts flow until nothing changes.
-fn settle<T: EnumSetType>(nodes: &mut Vec<Node<T>>, digest: &mut Digest) {
-    for _ in 0..PASSES {
-        let mut has_changed = false;
-        for at in 0..nodes.len() {
-            let known = facts_at(nodes, at);
-            if let Some(node) = nodes.get_mut(at) {
-                if node.known != known {
-                    has_changed = true;
-                    node.known = known;
+/// Lets the facts of a graph flow, and mixes in those of each node.
+fn add_facts<F: Flow, T: EnumSetType>(nodes: &mut Vec<Node<T>>, digest: &mut Digest) {
+    F::settle(nodes, digest);
+    for (at, node) in nodes.iter().enumerate() {
+        F::add_members(&node.known, at % 2 == 0, digest);
+    }
+}
+
+/// Calls that make new sets, and iterators over sets.
+struct NewSets;
+
+impl Flow for NewSets {
+    fn settle<T: EnumSetType>(nodes: &mut Vec<Node<T>>, digest: &mut Digest) {
+        for _ in 0..PASSES {
+            let mut has_changed = false;
+            for at in 0..nodes.len() {
+                let known = facts_at(nodes, at);
+                if let Some(node) = nodes.get_mut(at) {
+                    if node.known != known {
+                        has_changed = true;
+                        node.known = known;
+                    }
                 }
             }
+            digest.add(u64::from(has_changed));
+            if !has_changed {
+                return;
+            }
         }
-        digest.add(u64::from(has_changed));
-        if !has_changed {
+    }
+
+    fn add_members<T: EnumSetType>(set: &EnumSet<T>, is_from_both: bool, digest: &mut Digest) {
+        if !is_from_both {
+            for member in set.iter() {
+                digest.add(u64::from(member.enum_into_u32()));
+            }
             return;
+        }
+        let mut members = set.iter();
+        for _ in 0..set.len() {
+            if let Some(first) = members.next() {
+                digest.add(u64::from(first.enum_into_u32()));
+            }
+            if let Some(last) = members.next_back() {
+                digest.add(u64::from(last.enum_into_u32()));
+            }
         }
     }
 }
@@ -92,33 +130,8 @@ fn facts_at<T: EnumSetType>(nodes: &[Node<T>], at: usize) -> EnumSet<T> {
     facts
 }
 
-/// Mixes in the members of a set: from both ends, or from the front.
-pub(crate) fn add_members<T: EnumSetType>(
-    set: &EnumSet<T>,
-    is_from_both: bool,
-    digest: &mut Digest,
-) {
-    if !is_from_both {
-        for member in set.iter() {
-            digest.add(u64::from(member.enum_into_u32()));
-        }
-        return;
-    }
-    let mut members = set.iter();
-    for _ in 0..set.len() {
-        if let Some(first) = members.next() {
-            digest.add(u64::from(first.enum_into_u32()));
-        }
-        if let Some(last) = members.next_back() {
-            digest.add(u64::from(last.enum_into_u32()));
-        }
-    }
-}
-
-pub(crate) fn random_nodes(
-    alloc: Global,
-    random: &mut Random,
-) -> Result<Vec<Node<Symbol>>, AllocError> {
+/// The nodes of a graph whose facts are four words.
+fn random_nodes(alloc: Global, random: &mut Random) -> Result<Vec<Node<Symbol>>, AllocError> {
     let mut nodes = Vec::new(alloc);
     for at in 0..NODES {
         let words = [few(random), few(random), few(random), few(random)];
@@ -133,7 +146,8 @@ pub(crate) fn random_nodes(
     Ok(nodes)
 }
 
-pub(crate) fn random_far_nodes(
+/// The nodes of a graph whose facts are 1024 words.
+fn random_far_nodes(
     alloc: Global,
     random: &mut Random,
     values: &[Far],

@@ -2,52 +2,51 @@
 //! take members out.
 
 use crate::digest::Digest;
-use crate::far::Far;
-use crate::flow::{Node, PASSES, random_far_nodes, random_nodes};
-use crate::random::Random;
+use crate::flow::{Flow, Node, PASSES, digest_by};
 use enumset::{EnumSet, EnumSetType};
 use std::alloc::{AllocError, Global};
 
 /// The digest of the facts of all graphs, the same as that of `flow`.
 pub fn digest(alloc: Global, seed: u32, rounds: u32) -> Result<u64, AllocError> {
-    let mut random = Random::new(seed);
-    let mut digest = Digest::new();
-    let values: Vec<Far> = EnumSet::<Far>::all().iter().collect(alloc)?;
-    for _ in 0..rounds {
-        let mut nodes = random_nodes(alloc, &mut random)?;
-        settle(&mut nodes, &mut digest);
-        for (at, node) in nodes.iter().enumerate() {
-            add_members(&node.known, at % 2 == 0, &mut digest);
-        }
-        let mut far = random_far_nodes(alloc, &mut random, &values)?;
-        settle(&mut far, &mut digest);
-        for (at, node) in far.iter().enumerate() {
-            add_members(&node.known, at % 2 == 0, &mut digest);
-        }
-    }
-    Ok(digest.value())
+    digest_by::<InPlace>(alloc, seed, rounds)
 }
 
-/// Lets the facts flow until nothing changes.
-fn settle<T: EnumSetType>(nodes: &mut Vec<Node<T>>, digest: &mut Digest) {
-    let mut facts = EnumSet::new();
-    for _ in 0..PASSES {
-        let mut has_changed = false;
-        for at in 0..nodes.len() {
-            gather(nodes, at, &mut facts);
-            if let Some(node) = nodes.get_mut(at) {
-                facts.difference_with(&node.ended);
-                facts.union_with(&node.made);
-                // A set that gains nothing is only read.
-                if !facts.is_subset_of(&node.known) {
-                    node.known.union_with(&facts);
-                    has_changed = true;
+/// Calls that change a set in place, that take a reference and that take members out.
+struct InPlace;
+
+impl Flow for InPlace {
+    fn settle<T: EnumSetType>(nodes: &mut Vec<Node<T>>, digest: &mut Digest) {
+        let mut facts = EnumSet::new();
+        for _ in 0..PASSES {
+            let mut has_changed = false;
+            for at in 0..nodes.len() {
+                gather(nodes, at, &mut facts);
+                if let Some(node) = nodes.get_mut(at) {
+                    facts.difference_with(&node.ended);
+                    facts.union_with(&node.made);
+                    // A set that gains nothing is only read.
+                    if !facts.is_subset_of(&node.known) {
+                        node.known.union_with(&facts);
+                        has_changed = true;
+                    }
                 }
             }
+            digest.add(u64::from(has_changed));
+            if !has_changed {
+                return;
+            }
         }
-        digest.add(u64::from(has_changed));
-        if !has_changed {
-            return;
+    }
+
+    fn add_members<T: EnumSetType>(set: &EnumSet<T>, is_from_both: bool, digest: &mut Digest) {
+        let mut left = set.copied();
+        while let Some(first) = left.pop_first() {
+            digest.add(u64::from(first.enum_into_u32()));
+            if is_from_both {
+                if let Some(last) = left.pop_last() {
+                    digest.add(u64::from(last.enum_into_u32()));
+                }
+            }
         }
     }
 }
@@ -64,19 +63,6 @@ fn gather<T: EnumSetType>(nodes: &[Node<T>], at: usize, facts: &mut EnumSet<T>) 
     for other in [second, third] {
         if let Some(source) = nodes.get(other) {
             facts.union_with(&source.known);
-        }
-    }
-}
-
-/// Mixes in the members of a set, taken out from both ends or from the front.
-fn add_members<T: EnumSetType>(set: &EnumSet<T>, is_from_both: bool, digest: &mut Digest) {
-    let mut left = set.copied();
-    while let Some(first) = left.pop_first() {
-        digest.add(u64::from(first.enum_into_u32()));
-        if is_from_both {
-            if let Some(last) = left.pop_last() {
-                digest.add(u64::from(last.enum_into_u32()));
-            }
         }
     }
 }

@@ -35,7 +35,7 @@ fn digest_of(alloc: Global, job: &str, seed: u32, rounds: u32) -> Option<Result<
     })
 }
 
-// Runs the job that the arguments name, and prints its digest.
+/// Runs the job that the arguments name, and prints its digest.
 fn run<R: Env + Print + Eprint + AllocGlobal>(rt: &R) -> io::Result<ExitCode> {
     let words: Vec<String> = env::args(rt)?.skip(1).collect(rt.alloc())?;
     if let [job, seed, rounds] = words.as_slice() {
