@@ -1,7 +1,7 @@
 -- The fields of a command, which are tokens, and the operands that they write.
 --     value, field, register, count, bit, width, word      the number that a field writes, if it fits
 --     one, two, three      the numbers of exactly one field, two or three, if each of them is read so
---     words_of      the numbers of words that tokens write, if each of them is one
+--     written_words      the words that tokens write, if each of them is one
 --     register_and_words      the numbers of a register and of any number of words
 --     BeginsWithNone      there is no token, or the first one is not read as a number
 --     Takes      the number, if there is one, is what the first token is read as, and the others are left
@@ -48,13 +48,13 @@ three first second third (x ∷ y ∷ z ∷ []) =
     option_and_then (λ a. option_and_then (λ b. option_map (λ c. (a, b, c)) (third z)) (second y)) (first x)
 three first second third other = None
 
-abbrev pub words_of : List (List ℕ) → Option (List ℕ)
-words_of [] = Some []
-words_of (token ∷ tokens) = option_and_then (λ w. option_map (λ ws. w ∷ ws) (words_of tokens)) (word token)
+abbrev pub written_words : List (List ℕ) → Option (List ℕ)
+written_words [] = Some []
+written_words (token ∷ tokens) = option_and_then (λ w. option_map (λ ws. w ∷ ws) (written_words tokens)) (word token)
 
 abbrev pub register_and_words : List (List ℕ) → Option (ℕ × List ℕ)
 register_and_words [] = None
-register_and_words (x ∷ tokens) = option_and_then (λ r. option_map (λ ws. (r, ws)) (words_of tokens)) (register x)
+register_and_words (x ∷ tokens) = option_and_then (λ r. option_map (λ ws. (r, ws)) (written_words tokens)) (register x)
 
 abbrev pub BeginsWithNone : (List ℕ → Option ℕ) → List (List ℕ) → Type 0
 BeginsWithNone read [] = ⊤

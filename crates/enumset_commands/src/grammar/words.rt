@@ -1,5 +1,5 @@
 //! The words of a command.
-ghost use Rattle.enumset_commands.specs.Fields.{words_of};
+ghost use Rattle.enumset_commands.specs.Fields.{written_words};
 ghost use Rattle.enumset_commands.specs.Texts.{IsReadAs};
 
 use super::tokens::Tokens;
@@ -11,7 +11,7 @@ use std::alloc::{AllocError, Global};
 /// If memory runs out, the remaining tokens are still read.
 #[tactic(auto, using(crate::proofs::WordTokens::word_steps))]
 pub(super) fn read_words(alloc: Global, mut tokens: Tokens) -> Option<Result<WordList, AllocError>>
-    ensures { IsReadAs (words_of tokens.entry) result }
+    ensures { IsReadAs (written_words tokens.entry) result }
 {
     let mut words = Vec::new(alloc);
     let mut has_room = true;

@@ -1,5 +1,5 @@
 use Rattle.std.proofs.Common.{◌≡◌, true, length, is_some}
-use Rattle.enumset_commands.specs.Fields.{words_of}
+use Rattle.enumset_commands.specs.Fields.{written_words}
 use Rattle.enumset_commands.proofs.WordTokens.{after_words}
 use Rattle.enumset_commands.proofs.grammar.words.read_words.Given as goal
 
@@ -7,8 +7,8 @@ use Rattle.enumset_commands.proofs.grammar.words.read_words.Given as goal
 -- tokens are words is decided by what is left.
 abbrev pub invariant-loop-tokens : goal.invariant-loop-tokens
 invariant-loop-tokens l = record {
-  words : l.has_room ≡ true → after_words l.words.items (words_of l.tokens) ≡ words_of l.fn.tokens;
-  some : is_some (words_of l.tokens) ≡ is_some (words_of l.fn.tokens);
+  words : l.has_room ≡ true → after_words l.words.items (written_words l.tokens) ≡ written_words l.fn.tokens;
+  some : is_some (written_words l.tokens) ≡ is_some (written_words l.fn.tokens);
 }
 
 abbrev pub decreases-loop-tokens : goal.decreases-loop-tokens
