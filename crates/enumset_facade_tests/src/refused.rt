@@ -20,10 +20,10 @@ use std::fmt;
 use std::process::Abort;
 use std::test::Fail;
 
-// What a call returns once there is memory, and the fault that came before it.
-fn returned<V, E: fmt::Debug, F: Fn() -> Result<V, E>>(
+/// What a call returns once there is memory, and the fault that came before it.
+fn returned<V, E: fmt::Debug, F: FnMut() -> Result<V, E>>(
     rt: &impl Abort,
-    call: F,
+    mut call: F,
 ) -> (V, Result<(), E>)
     requires { F.IsAlwaysCallable call }
 {
@@ -33,8 +33,8 @@ fn returned<V, E: fmt::Debug, F: Fn() -> Result<V, E>>(
     }
 }
 
-// Writes a text by a call.
-fn expect_text<F: Fn() -> Result<String, JsonFault>>(
+/// Writes a text by a call.
+fn expect_text<F: FnMut() -> Result<String, JsonFault>>(
     rt: &impl Abort,
     wanted: &str,
     call: F,
@@ -46,14 +46,14 @@ fn expect_text<F: Fn() -> Result<String, JsonFault>>(
     Ok(written?)
 }
 
-// Reads the set of one letter in a form.
+/// Reads the set of one letter in a form.
 fn expect_read(rt: &impl Abort, alloc: Global, form: Form, text: &str) -> Result<(), Fail> {
     let (set, was_read) = returned(rt, || read::<NamedLetters>(alloc, form, text));
     expect(rt, "read", set.as_u8_truncated(), 64);
     Ok(was_read?)
 }
 
-// Tests the fault of a text, which is `wanted` once there is memory.
+/// Tests the fault of a text, which is `wanted` once there is memory.
 fn expect_fault<F: Fn() -> Option<JsonFault>>(
     rt: &impl Abort,
     wanted: JsonFault,
@@ -216,18 +216,12 @@ fn vectors_of_words(rt: HostRuntime) -> Result<(), Fail> {
     Ok(ended?)
 }
 
+// A row counts how often it was shown, so a refused walk showed none.
 #[test]
 fn a_walk_leaves_its_row(rt: HostRuntime) -> Result<(), Fail> {
     let mut row = ShownRow::new(ArrayRepr([8, 1, 4]));
     let ends = [End::Front, End::Back, End::Front];
-    let (answers, ended) = match walk(rt.alloc(), &mut row, &ends) {
-        Ok(answers) => (answers, Ok(())),
-        Err(refused) => {
-            expect(&rt, "shown", row.shown(), 0);
-            let again = walk(rt.alloc(), &mut row, &ends).expect(&rt, "refused once more");
-            (again, Err(refused))
-        }
-    };
+    let (answers, ended) = returned(&rt, || walk(rt.alloc(), &mut row, &ends));
     let wanted = [Some(3), Some(130), Some(64)];
     expect(&rt, "walk", answers.as_slice(), &wanted);
     expect(&rt, "shown", row.shown(), 4);

@@ -10,10 +10,11 @@ use enumset_machine::worked_types::serve_worked;
 use enumset_machine::{Machine, MixedMachine, run, run_mixed};
 use enumset_worked::{Letters, Marks};
 use std::alloc::Global;
+use std::fmt::Debug;
 use std::process::Abort;
 use std::test::Fail;
 
-// Whether the last of these replies is these words.
+/// Whether the last of these replies is these words.
 fn ends_in_words(replies: &[Reply], wanted: &[u64]) -> bool {
     match replies.last() {
         Some(Reply::Words(words)) => words.as_slice() == wanted,
@@ -21,17 +22,17 @@ fn ends_in_words(replies: &[Reply], wanted: &[u64]) -> bool {
     }
 }
 
-// What a call gives, made again if it is refused, and how it ended.
-macro_rules! made_again {
-    ($rt:expr, $call:expr) => {
-        match $call {
-            Ok(given) => (given, Ok(())),
-            Err(refused) => {
-                let again = $call;
-                (again.expect($rt, "refused once more"), Err(refused))
-            }
-        }
-    };
+/// What a call returns once there is memory, and the fault that came before it.
+fn returned<V, E: Debug, F: FnMut() -> Result<V, E>>(
+    rt: &impl Abort,
+    mut call: F,
+) -> (V, Result<(), E>)
+    requires { F.IsAlwaysCallable call }
+{
+    match call() {
+        Ok(value) => (value, Ok(())),
+        Err(refused) => (call().expect(rt, "refused once more"), Err(refused)),
+    }
 }
 
 #[test]
@@ -39,13 +40,13 @@ fn a_step_leaves_its_machine(rt: HostRuntime) -> Result<(), Fail> {
     let mut machine = Machine::<Letters>::new();
     machine.step(rt.alloc(), &Command::Insert { r: 0, bit: 2 })?;
     let words = Command::Words { r: 0, count: 2 };
-    let (reply, ended) = made_again!(&rt, machine.step(rt.alloc(), &words));
+    let (reply, ended) = returned(&rt, || machine.step(rt.alloc(), &words));
     assert!(rt; ends_in_words(&[reply], &[4, 0]));
     ended?;
     let mut machine = MixedMachine::<Marks>::new();
     machine.step(rt.alloc(), &MixedCommand::InsertBit { r: 0, bit: 7 })?;
     let words = MixedCommand::Common(words);
-    let (reply, ended) = made_again!(&rt, machine.step(rt.alloc(), &words));
+    let (reply, ended) = returned(&rt, || machine.step(rt.alloc(), &words));
     assert!(rt; ends_in_words(&[reply], &[128, 0]));
     Ok(ended?)
 }
@@ -54,22 +55,22 @@ fn a_step_leaves_its_machine(rt: HostRuntime) -> Result<(), Fail> {
 fn runs(rt: HostRuntime) -> Result<(), Fail> {
     let words = || Command::WordsCut { r: 0, count: 1 };
     let commands = [Command::Insert { r: 0, bit: 2 }, words()];
-    let (replies, ended) = made_again!(&rt, run::<Letters>(rt.alloc(), &commands));
+    let (replies, ended) = returned(&rt, || run::<Letters>(rt.alloc(), &commands));
     assert!(rt; replies.len() == 2 && ends_in_words(&replies, &[4]));
     ended?;
     let commands = [
         MixedCommand::InsertBit { r: 0, bit: 7 },
         MixedCommand::Common(words()),
     ];
-    let (replies, ended) = made_again!(&rt, run_mixed::<Marks>(rt.alloc(), &commands));
+    let (replies, ended) = returned(&rt, || run_mixed::<Marks>(rt.alloc(), &commands));
     assert!(rt; replies.len() == 2 && ends_in_words(&replies, &[128]));
     Ok(ended?)
 }
 
-// Serves two lines over a type.
+/// Serves two lines over a type.
 fn expect_replies(rt: &impl Abort, alloc: Global, kind: Worked) -> Result<(), Fail> {
     let input = b"from_words 0 5\nwords 0 2\n".as_slice();
-    let (text, ended) = made_again!(rt, serve_worked(alloc, kind, input));
+    let (text, ended) = returned(rt, || serve_worked(alloc, kind, input));
     assert!(rt; text.as_slice() == b"ok\nwords 5 0\n".as_slice());
     Ok(ended?)
 }
