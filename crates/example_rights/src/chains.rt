@@ -36,8 +36,8 @@ pub fn are_requested<T: EnumSetType>(granted: &EnumSet<T>, requested: &EnumSet<T
 }
 
 /// Whether one of the granted rights is requested.
-#[tactic(auto, using(enumset_repr::specs::Laws::Places::some_shared))]
-pub fn is_one_requested(granted: &EnumSet<Right>, requested: &EnumSet<Right>) -> bool
+#[tactic(auto, using(enumset_repr::specs::Laws::Places::chains))]
+pub fn is_one_requested<T: EnumSetType>(granted: &EnumSet<T>, requested: &EnumSet<T>) -> bool
     ensures { result ≡ not (set.is_disjoint granted.now requested.now) }
 {
     granted.iter().any(|right| requested.contains(right))

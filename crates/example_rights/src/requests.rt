@@ -1,6 +1,6 @@
 //! Requests for rights.
 
-ghost use Rattle.std.specs.Prelude.{◌≡◌, ◌<◌, ◌≤◌, ℕ, true, not, nat_le, IfSome, IfNone};
+ghost use Rattle.std.specs.Prelude.{◌≡◌, ◌<◌, ◌≤◌, ℕ, true, nat_le, IfSome, IfNone};
 ghost use Rattle.std.specs.List.{list_all};
 ghost use Rattle.enumset_repr.specs.BitSet as set;
 
@@ -14,12 +14,12 @@ pub fn may(granted: EnumSet<Right>, requested: EnumSet<Right>) -> bool
     granted.is_superset(requested)
 }
 
-/// Whether one of the granted rights is requested.
-#[tactic(auto, using(enumset_repr::specs::Laws::Places::chains))]
-pub fn is_wanted<T: EnumSetType>(granted: &EnumSet<T>, requested: &EnumSet<T>) -> bool
-    ensures { result ≡ not (set.is_disjoint granted.now requested.now) }
+/// Whether none of the granted rights is requested.
+#[tactic(auto, using(enumset_repr::specs::Laws::Places::some_shared))]
+pub fn is_none_requested(granted: &EnumSet<Right>, requested: &EnumSet<Right>) -> bool
+    ensures { result ≡ set.is_disjoint granted.now requested.now }
 {
-    granted.iter().any(|right| requested.contains(right))
+    !granted.iter().any(|right| requested.contains(right))
 }
 
 /// How many of the granted rights are requested and licensed.
