@@ -67,7 +67,7 @@ pub fn with_flag_in_list<T: EnumSetNames>(
     Ok(config.to_string_pretty(alloc)?)
 }
 
-// Inserts a flag into the list of a config.
+/// Inserts a flag into the list of a config.
 fn insert_flag<T: EnumSetNames>(
     alloc: Global,
     config: &mut Value,

@@ -7,7 +7,7 @@ use std::alloc::{AllocError, Global};
 use std::process::Abort;
 use std::test::Fail;
 
-// Tests the changed text, or that of the fault.
+/// Tests the changed text, or that of the fault.
 fn expect_changed(
     rt: &impl Abort,
     alloc: Global,

@@ -9,7 +9,7 @@ use std::fmt;
 use std::process::Abort;
 use std::test::Fail;
 
-// What calls return that a type without variants could get wrong.
+/// What calls return that a type without variants could get wrong.
 fn expect_nothing<T: EnumSetNames + fmt::Debug>(
     rt: &impl Abort,
     alloc: Global,

@@ -70,7 +70,7 @@ fn sets_of_letters(rt: HostRuntime) {
     expect(&rt, "bit_index and its like", numbers, [2, 7, 7]);
 }
 
-// {A, C, F}.
+/// {A, C, F}.
 fn some_letters() -> EnumSet<Letters> {
     two_of(Letters::A, Letters::C).union(EnumSet::only(Letters::F))
 }

@@ -95,9 +95,10 @@ impl Transition {
         }
     }
 
-    // Whether the rule, of these two flags, is kept in the steps from what is required and any of the two.
+    /// Whether the rule, of these two flags, is kept in the steps from what is required and any of the two.
     fn keeps_from_least(&self, rule: Rule, one: Flag, other: Flag) -> bool
-        requires { (first rule ≡ one) × (second rule ≡ other) }
+        requires first { first rule ≡ one }
+        requires second { second rule ≡ other }
         ensures { result ≡ keeps_from_least rule self.now }
     {
         let least = self.required;
@@ -107,7 +108,7 @@ impl Transition {
             && self.keeps_from(rule, least | one | other)
     }
 
-    // Whether the rule is kept in a step from one state.
+    /// Whether the rule is kept in a step from one state.
     fn keeps_from(&self, rule: Rule, state: EnumSet<Flag>) -> bool
         ensures { result ≡ keeps_from rule self.now state }
     {

@@ -17,7 +17,7 @@ use machine::Refusal;
 use std::process::ExitCode;
 use std::{fmt, io};
 
-// Lets the events happen in turn, up to the first line that is none.
+/// Lets the events happen in turn, up to the first line that is none.
 fn take_all<R: Input + Print + Eprint + AllocGlobal>(rt: &R) -> io::Result<ExitCode> {
     let mut door = Door::new();
     let mut status = ExitCode::SUCCESS;
@@ -36,7 +36,7 @@ fn take_all<R: Input + Print + Eprint + AllocGlobal>(rt: &R) -> io::Result<ExitC
     Ok(status)
 }
 
-// Prints the flags after an event, or why it was refused.
+/// Prints the flags after an event, or why it was refused.
 fn show<R: Print>(
     rt: &R,
     word: &str,
@@ -49,7 +49,7 @@ fn show<R: Print>(
     }
 }
 
-// Says why the program stops.
+/// Says why the program stops.
 fn stop(rt: &impl Eprint, why: impl fmt::Display + Drop) -> io::Result<ExitCode> {
     eprintln!(rt; "example_door: {why}")?;
     Ok(ExitCode::from(2))

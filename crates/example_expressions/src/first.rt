@@ -35,7 +35,7 @@ pub fn first_kinds(whole: Part) -> EnumSet<Kind>
     kinds
 }
 
-// The kinds of tokens with which a rule of a part begins.
+/// The kinds of tokens with which a rule of a part begins.
 #[tactic(auto, using(enumset_repr::specs::Laws::Firsts::written_out))]
 fn leading_kinds(part: Part) -> EnumSet<Kind>
     ensures { result ≡ set.from_list (map bit (kinds_at part)) }
@@ -46,7 +46,7 @@ fn leading_kinds(part: Part) -> EnumSet<Kind>
     }
 }
 
-// The parts with which a rule of a part begins.
+/// The parts with which a rule of a part begins.
 #[tactic(auto, using(enumset_repr::specs::Laws::Firsts::written_out))]
 fn leading_parts(part: Part) -> EnumSet<Part>
     ensures { result ≡ set.from_list (map part_bit (parts_at part)) }

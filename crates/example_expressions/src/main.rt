@@ -18,7 +18,7 @@ use std::alloc::Global;
 use std::io;
 use std::process::ExitCode;
 
-// The value of an expression.
+/// The value of an expression.
 fn answer(alloc: Global, line: &str) -> Result<i64, Fault> {
     let tokens = token::tokens(alloc, line)?;
     if let Err(unexpected) = parser::check(&tokens) {
@@ -30,7 +30,7 @@ fn answer(alloc: Global, line: &str) -> Result<i64, Fault> {
     value::evaluate(alloc, &tokens)
 }
 
-// Answers each line, and returns whether each has a value.
+/// Answers each line, and returns whether each has a value.
 fn answer_all<R: Input + Print + AllocGlobal>(rt: &R) -> io::Result<bool> {
     let mut all_have_values = true;
     for line in rt.lines(rt.alloc()) {

@@ -37,7 +37,7 @@ pub fn check(tokens: &[Token]) -> Result<(), Unexpected>
     reader.read(Kind::End)
 }
 
-// How many tokens have been read, the last of them, and how many parentheses are open.
+/// How many tokens have been read, the last of them, and how many parentheses are open.
 #[derive(Clone, Copy)]
 struct Reader {
     place: usize,
@@ -46,7 +46,7 @@ struct Reader {
 }
 
 impl Reader {
-    // Reads a token, if it may come.
+    /// Reads a token, if it may come.
     #[tactic(auto, using(crate::proofs::Reading::closes_open))]
     fn read(&mut self, kind: Kind) -> Result<(), Unexpected>
         requires place { self.old.place < 2 ^ 63 }
@@ -73,7 +73,7 @@ impl Reader {
         Ok(())
     }
 
-    // The kinds of tokens that may come.
+    /// The kinds of tokens that may come.
     #[tactic(auto, using(enumset_repr::specs::Laws::Firsts::written_out))]
     fn expected(&self) -> EnumSet<Kind>
         ensures { result ≡ next_kinds self.now }

@@ -44,7 +44,7 @@ pub fn tokens(alloc: Global, line: &str) -> Result<Vec<Token>, Fault> {
     Ok(tokens)
 }
 
-// The kind of the token that a character begins.
+/// The kind of the token that a character begins.
 fn kind_of(character: char) -> Option<Kind> {
     match character {
         '0'..='9' => Some(Kind::Number),

@@ -5,7 +5,7 @@ use crate::kind::Kind;
 use crate::token::Token;
 use std::alloc::Global;
 
-// What was read between two parentheses: a sum, and a term that the next operand multiplies or divides.
+/// What was read between two parentheses: a sum, and a term that the next operand multiplies or divides.
 #[derive(Clone, Copy)]
 struct Level {
     sum: i64,
@@ -15,7 +15,7 @@ struct Level {
 }
 
 impl Level {
-    // Before a term with a sign, 1 or -1.
+    /// Before a term with a sign, 1 or -1.
     fn before_term(sum: i64, sign: i64) -> Level {
         Level {
             sum,
@@ -46,7 +46,7 @@ impl Level {
     }
 }
 
-// The value of an expression up to a column, which is that of the token that is read.
+/// The value of an expression up to a column, which is that of the token that is read.
 fn value_up_to(column: &mut usize, alloc: Global, tokens: &[Token]) -> Result<i64, Reason> {
     let mut outer: Vec<Level> = Vec::new(alloc);
     let mut level = Level::before_term(0, 1);

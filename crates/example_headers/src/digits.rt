@@ -19,7 +19,7 @@ pub fn decode(alloc: Global, text: &str) -> Result<Option<Vec<u8>>, AllocError> 
     Ok(Some(bytes))
 }
 
-// The value of a digit.
+/// The value of a digit.
 fn digit(letter: u8) -> Option<u8>
     ensures { IfSome result (λ value. value < 16) }
 {

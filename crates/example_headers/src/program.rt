@@ -25,7 +25,7 @@ pub fn relay<R: Input + Print + Eprint + AllocGlobal>(rt: &R) -> io::Result<Exit
     Ok(ExitCode::SUCCESS)
 }
 
-// Says what was understood of a frame, and relays it.
+/// Says what was understood of a frame, and relays it.
 fn relay_frame<R: Print + Eprint + AllocGlobal>(
     rt: &R,
     number: u64,
@@ -40,7 +40,7 @@ fn relay_frame<R: Print + Eprint + AllocGlobal>(
     println!(rt)
 }
 
-// Says at which line the program stops, and why.
+/// Says at which line the program stops, and why.
 fn stop(rt: &impl Eprint, number: u64, why: impl fmt::Display + Drop) -> io::Result<ExitCode> {
     eprintln!(rt; "example_headers: line {number}: {why}")?;
     Ok(ExitCode::from(2))

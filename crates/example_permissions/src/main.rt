@@ -18,7 +18,7 @@ use std::process::ExitCode;
 use std::rt::{Env, Files};
 use std::{env, fmt, fs, io};
 
-// Reads the policy, and answers the requests.
+/// Reads the policy, and answers the requests.
 fn answer_all<R>(rt: &R) -> io::Result<ExitCode>
 where
     R: Env + Files + Input + Print + Eprint + AllocGlobal,
@@ -33,7 +33,7 @@ where
     }
 }
 
-// Answers each request in turn, up to the first line that is none.
+/// Answers each request in turn, up to the first line that is none.
 fn answer_requests<R>(rt: &R, policy: &Policy) -> io::Result<ExitCode>
 where
     R: Input + Print + Eprint + AllocGlobal,
@@ -58,7 +58,7 @@ fn read_policy<R: Files + AllocGlobal>(rt: &R, path: &str) -> Result<Policy, Fau
     Policy::from_json(rt.alloc(), text.as_str())
 }
 
-// Says why the program stops.
+/// Says why the program stops.
 fn stop(rt: &impl Eprint, why: impl fmt::Display + Drop) -> io::Result<ExitCode> {
     eprintln!(rt; "example_permissions: {why}")?;
     Ok(ExitCode::from(2))

@@ -47,13 +47,13 @@ impl Policy {
     }
 }
 
-// The object of a name.
+/// The object of a name.
 fn object_in<'a>(value: &'a Value, name: &'static str) -> Result<&'a Map<String, Value>, Fault> {
     let object = value.get(name).and_then(|member| member.as_object());
     object.ok_or(Fault::NoObject(name))
 }
 
-// What each role is granted.
+/// What each role is granted.
 fn read_grants(alloc: Global, roles: &Map<String, Value>) -> Result<Vec<Grant>, Fault> {
     let mut grants = Vec::new(alloc);
     for (name, rights) in roles.iter() {
@@ -66,7 +66,7 @@ fn read_grants(alloc: Global, roles: &Map<String, Value>) -> Result<Vec<Grant>, 
     Ok(grants)
 }
 
-// The users by name.
+/// The users by name.
 fn read_users(
     alloc: Global,
     members: &Map<String, Value>,
@@ -82,7 +82,7 @@ fn read_users(
     Ok(users)
 }
 
-// The set of a list of names, empty where there is no list.
+/// The set of a list of names, empty where there is no list.
 fn read_list<T: EnumSetNames>(
     list: &'static str,
     name: &String,

@@ -17,7 +17,7 @@ use std::rt::{Env, Files};
 use std::{env, fmt, fs, io};
 use weekday::Weekday;
 
-// Prints the next day on which everybody is free.
+/// Prints the next day on which everybody is free.
 fn print_day<R: Env + Files + Print + Eprint + AllocGlobal>(rt: &R) -> io::Result<ExitCode> {
     let words: Vec<String> = env::args(rt)?.skip(1).collect(rt.alloc())?;
     let (path, name) = match words.as_slice() {
@@ -43,7 +43,7 @@ fn print_day<R: Env + Files + Print + Eprint + AllocGlobal>(rt: &R) -> io::Resul
     Ok(ExitCode::SUCCESS)
 }
 
-// Says why the program stops.
+/// Says why the program stops.
 fn stop(rt: &impl Eprint, why: impl fmt::Display + Drop) -> io::Result<ExitCode> {
     eprintln!(rt; "example_weekdays: {why}")?;
     Ok(ExitCode::from(2))

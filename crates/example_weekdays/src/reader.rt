@@ -16,7 +16,7 @@ pub fn read_schedules(alloc: Global, text: &str) -> Result<Vec<EnumSet<Weekday>>
     Ok(schedules)
 }
 
-// The days after the name.
+/// The days after the name.
 fn read_days(line: &str, number: u64) -> Result<EnumSet<Weekday>, Fault<'_>> {
     let Some((_name, words)) = line.split_once(':') else {
         return Err(Fault::NoName(number));

@@ -17,7 +17,7 @@ use std::alloc::Global;
 use std::process::Abort;
 use std::test::Fail;
 
-// The number of the letters that a number in JSON is read as.
+/// The number of the letters that a number in JSON is read as.
 fn letters_of_number(
     alloc: Global,
     json: &str,
@@ -29,20 +29,20 @@ fn letters_of_number(
     Ok(set.as_u8_truncated())
 }
 
-// The number of the letters that words in JSON are read as.
+/// The number of the letters that words in JSON are read as.
 fn letters_of_words(alloc: Global, json: &str, unknown: Unknown) -> Result<u8, JsonFault> {
     let value = Value::from_str(alloc, json)?;
     let set: EnumSet<Letters> = from_words(&value, unknown)?;
     Ok(set.as_u8_truncated())
 }
 
-// The number of the mixed set of marks that a number in JSON is read as.
+/// The number of the mixed set of marks that a number in JSON is read as.
 fn marks_of_number(alloc: Global, json: &str) -> Result<u8, JsonFault> {
     let set: MixedEnumSet<Marks> = mixed_from_number(&Value::from_str(alloc, json)?)?;
     Ok(set.as_repr())
 }
 
-// Tests what a call makes of a text of JSON.
+/// Tests what a call makes of a text of JSON.
 fn expect_read(
     rt: &impl Abort,
     json: &str,

@@ -10,7 +10,7 @@ use std::test::Fail;
 
 const INPUT: &[u8] = b"all 0\nlen 0";
 
-// What is written of the answer to the input at this pace, and how it ends.
+/// What is written of the answer to the input at this pace, and how it ends.
 fn answered(
     alloc: Global,
     pace: Pace,

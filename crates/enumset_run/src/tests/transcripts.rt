@@ -13,7 +13,7 @@ use enumset_sets::{EnumSetType, EnumSetTypeWithRepr};
 use enumset_worked::{PairNumber, PairWords};
 use std::alloc::{AllocError, Global};
 
-// The replies over mixed sets of two types with the same valid bits. They do not depend on the representations.
+/// The replies over mixed sets of two types with the same valid bits. They do not depend on the representations.
 fn replies_over_both<T: EnumSetTypeWithRepr, U: EnumSetTypeWithRepr>(
     alloc: Global,
     commands: &[MixedCommand],
@@ -28,7 +28,7 @@ fn replies_over_both<T: EnumSetTypeWithRepr, U: EnumSetTypeWithRepr>(
     Ok((one, other))
 }
 
-// The same at two types with the same valid bits, kept in two words and in an integer, both of 128 bits.
+/// The same at two types with the same valid bits, kept in two words and in an integer, both of 128 bits.
 fn replies_over_pairs(
     alloc: Global,
     commands: &[MixedCommand],

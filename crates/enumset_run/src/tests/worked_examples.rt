@@ -10,7 +10,7 @@ use std::process::Abort;
 use std::str;
 use std::test::Fail;
 
-// Runs commands over a type, and tests the reply to each.
+/// Runs commands over a type, and tests the reply to each.
 fn expect_replies(
     rt: &impl Abort,
     alloc: Global,
@@ -25,7 +25,7 @@ fn expect_replies(
     expect_output(rt, alloc, kind, input.as_bytes(), wanted.as_str())
 }
 
-// Serves an input over a type, and tests the output.
+/// Serves an input over a type, and tests the output.
 fn expect_output(
     rt: &impl Abort,
     alloc: Global,
@@ -38,7 +38,7 @@ fn expect_output(
     Ok(())
 }
 
-// Tests the fault of an input over letters.
+/// Tests the fault of an input over letters.
 fn expect_fault(rt: &impl Abort, alloc: Global, input: &[u8], wanted: TextFault) {
     let fault = serve_worked(alloc, Worked::Letters, input).err();
     assert!(rt; fault == Some(wanted), "{fault:?}, not {wanted:?}");

@@ -9,17 +9,17 @@ use enumset_repr::{
 };
 use std::process::Abort;
 
-// The bits of a number that a representation has: over no word none.
+/// The bits of a number that a representation has: over no word none.
 fn kept<R: EnumSetTypeRepr>(number: u8) -> u8 {
     if R::WIDTH == 0 { 0 } else { number }
 }
 
-// The bit that a representation has, if it has one.
+/// The bit that a representation has, if it has one.
 fn kept_bit<R: EnumSetTypeRepr>(bit: u32) -> Option<u32> {
     (R::WIDTH != 0).then_some(bit)
 }
 
-// The operators in place, on {0, 3, 6} and {3, 4}.
+/// The operators in place, on {0, 3, 6} and {3, 4}.
 fn operators_in_place<R: EnumSetTypeRepr>(rt: &impl Abort, repr: &str) {
     let (a, b) = (R::from_u8(73), R::from_u8(24));
     let (mut or, mut and, mut xor, mut and_not) = (a, a, a, a);
@@ -32,7 +32,7 @@ fn operators_in_place<R: EnumSetTypeRepr>(rt: &impl Abort, repr: &str) {
     expect_at(rt, repr, "or_with and its like", changed, wanted);
 }
 
-// The other operators, on the same.
+/// The other operators, on the same.
 fn operators<R: EnumSetTypeRepr>(rt: &impl Abort, repr: &str) {
     let (a, b, or) = (R::from_u8(73), R::from_u8(24), R::from_u8(89));
     let made = [(a | b).to_u8(), (a & b).to_u8(), (a ^ b).to_u8()];
@@ -49,7 +49,7 @@ fn operators<R: EnumSetTypeRepr>(rt: &impl Abort, repr: &str) {
     expect_at(rt, repr, "== and <", answers, [are_empty, !are_empty]);
 }
 
-// What `or_changes` and its like do to {0, 3, 6} by {3, 4}, and what they say, once and again.
+/// What `or_changes` and its like do to {0, 3, 6} by {3, 4}, and what they say, once and again.
 fn changes<R: EnumSetTypeRepr>(rt: &impl Abort, repr: &str) {
     let (a, b) = (R::from_u8(73), R::from_u8(24));
     let (mut or, mut and, mut and_not) = (a, a, a);
@@ -66,7 +66,7 @@ fn changes<R: EnumSetTypeRepr>(rt: &impl Abort, repr: &str) {
     }
 }
 
-// The ends of {0, 3, 6}, from some bit on, and of the empty set.
+/// The ends of {0, 3, 6}, from some bit on, and of the empty set.
 fn ends<R: EnumSetTypeRepr>(rt: &impl Abort, repr: &str) {
     let set = R::from_u8(73);
     let (third, last) = (kept_bit::<R>(3), kept_bit::<R>(6));
@@ -80,7 +80,7 @@ fn ends<R: EnumSetTypeRepr>(rt: &impl Abort, repr: &str) {
     expect_at(rt, repr, "of none", none, [None; 2]);
 }
 
-// The bits of {0, 3, 6}. Over no word there is no bit, and no word, to call these for.
+/// The bits of {0, 3, 6}. Over no word there is no bit, and no word, to call these for.
 fn bits<R: EnumSetTypeRepr>(rt: &impl Abort, repr: &str) {
     if R::WIDTH > 6 && R::PREFERRED_ARRAY_LEN > 0 {
         let mut set = R::from_u8(24);
@@ -94,7 +94,7 @@ fn bits<R: EnumSetTypeRepr>(rt: &impl Abort, repr: &str) {
     }
 }
 
-// The items of {0, 3, 6}.
+/// The items of {0, 3, 6}.
 fn items<R: EnumSetTypeRepr>(rt: &impl Abort, repr: &str) {
     let set = R::from_u8(73);
     let mut iter = set.iter();
@@ -109,7 +109,7 @@ fn items<R: EnumSetTypeRepr>(rt: &impl Abort, repr: &str) {
     expect_at(rt, repr, "next", items, [first, last, other, None]);
 }
 
-// The numbers of {0, 3, 6}.
+/// The numbers of {0, 3, 6}.
 fn numbers<R: EnumSetTypeRepr>(rt: &impl Abort, repr: &str) {
     let (set, wanted) = (R::from_u128(73), kept::<R>(73));
     let numbers = [
@@ -132,7 +132,7 @@ fn numbers<R: EnumSetTypeRepr>(rt: &impl Abort, repr: &str) {
     expect_at(rt, repr, "try_to_u8 and its like", tried, [true; 6]);
 }
 
-// Sets from the number of {0, 3, 6}, which is no set's over no word.
+/// Sets from the number of {0, 3, 6}, which is no set's over no word.
 fn sets_of_numbers<R: EnumSetTypeRepr>(rt: &impl Abort, repr: &str) {
     let set = R::from_u8(73);
     let tried = (R::WIDTH != 0).then_some(set);
@@ -152,7 +152,7 @@ fn sets_of_numbers<R: EnumSetTypeRepr>(rt: &impl Abort, repr: &str) {
     expect_at(rt, repr, "from_u8 and its like", made, [true; 11]);
 }
 
-// The words of {0, 3, 6}.
+/// The words of {0, 3, 6}.
 fn words<R: EnumSetTypeRepr>(rt: &impl Abort, repr: &str) {
     let (set, words) = (R::from_u64_slice(&[73]), [73, 0]);
     let wanted = [kept::<R>(73) as u64, 0];

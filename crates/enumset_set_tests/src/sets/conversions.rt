@@ -28,7 +28,7 @@ fn numbers_of_letters(rt: HostRuntime) {
     expect_made(&rt, 65, &set);
 }
 
-// Makes a set of its number, by each call with a requirement.
+/// Makes a set of its number, by each call with a requirement.
 fn expect_made<T: EnumSetType>(rt: &impl Abort, number: u8, set: &EnumSet<T>) {
     assert!(rt; EnumSet::<T>::try_from_u8(number).is_some());
     let same = [
@@ -60,7 +60,7 @@ fn words_of_sparse(rt: HostRuntime) {
     expect(&rt, "copy_into_slice", copied, words);
 }
 
-// Makes the set of all of its words, by each call of arrays, and by those of slices that have a requirement.
+/// Makes the set of all of its words, by each call of arrays, and by those of slices that have a requirement.
 fn expect_made_of_words<T: EnumSetType>(rt: &impl Abort, words: [u64; 4]) {
     let all = EnumSet::<T>::all();
     assert!(rt; EnumSet::<T>::try_from_array(words).is_some());

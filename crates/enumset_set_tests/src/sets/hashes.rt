@@ -12,7 +12,7 @@ fn hash_of<V: Hash>(value: &V) -> u64 {
     hasher.finish()
 }
 
-// The hash of a set of one element, and of the value that represents it.
+/// The hash of a set of one element, and of the value that represents it.
 fn hashes<T: EnumSetType>(element: T) -> [u64; 2] {
     let set = EnumSet::only(element);
     [hash_of(&set), hash_of(&raw::get(set))]

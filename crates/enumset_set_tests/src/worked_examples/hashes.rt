@@ -34,13 +34,13 @@ fn sum_of<V: Hash>(value: &V) -> u64 {
     sum.finish()
 }
 
-// The sum of a set of one element, and that of its representation.
+/// The sum of a set of one element, and that of its representation.
 fn sums<T: EnumSetType>(element: T) -> [u64; 2] {
     let set = EnumSet::only(element);
     [sum_of(&set), sum_of(&raw::get(set))]
 }
 
-// The same of the mixed set of a number.
+/// The same of the mixed set of a number.
 fn mixed_sums(number: u8) -> [u64; 2] {
     let set = MixedEnumSet::<Marks>::from_repr(number);
     [sum_of(&set), sum_of(&set.as_repr())]

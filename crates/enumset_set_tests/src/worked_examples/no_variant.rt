@@ -5,7 +5,7 @@ use crate::expect::expect;
 use enumset_sets::{EnumSet, EnumSetType, variant_of};
 use std::process::Abort;
 
-// Nothing can call a function that takes a value of such an enum, so only a function over any enum names its sets.
+/// Nothing can call a function that takes a value of such an enum, so only a function over any enum names its sets.
 fn expect_nothing<T: EnumSetType>(rt: &impl Abort) {
     let (all, none) = (EnumSet::<T>::all(), EnumSet::<T>::empty());
     expect(rt, "all().is_empty()", all.is_empty(), true);

@@ -7,7 +7,7 @@ use std::alloc::{AllocError, Global};
 use std::process::Abort;
 use std::test::Fail;
 
-// Takes a step from each of these ends of a new row, and tests the answers and the number of asks.
+/// Takes a step from each of these ends of a new row, and tests the answers and the number of asks.
 fn expect_walk<const N: usize>(
     rt: &impl Abort,
     alloc: Global,
