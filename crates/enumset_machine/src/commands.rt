@@ -1,4 +1,4 @@
-//! The commands of every run: why one is refused, and how it is carried out.
+//! The commands of every run: why one is refused, and how it is carried out. Runs over sets have no others.
 
 ghost use Rattle.std.specs.Prelude.{◌≡◌, ◌^◌, ◌&&◌, nat_lt, Some, None, if◌then◌else◌, true, false, IsOk, IfOk, OnOk, OnErr};
 ghost use Rattle.enumset_machine.specs.Plans.{is_width, refusal, takes_memory};
@@ -9,10 +9,30 @@ use crate::machine_over::MachineOver;
 use crate::numbers::{number_reply, words_cut_reply, words_reply};
 use crate::registers::{are_set_registers, is_set_register};
 use crate::run_set::RunSet;
+use crate::steps::Run;
 use enumset_commands::Command::{self, *};
 use enumset_commands::Refusal::{self, NoRegister, NotABit, NotAWidth};
 use enumset_commands::Reply;
+use enumset_sets::{EnumSet, EnumSetType};
 use std::alloc::{AllocError, Global};
+
+impl<T: EnumSetType> Run for EnumSet<T> {
+    type Command = Command;
+
+    ghost plan = { plan };
+
+    fn refusal(command: &Command) -> Option<Refusal> {
+        refusal::<EnumSet<T>>(command)
+    }
+
+    fn carry_out(
+        machine: &mut MachineOver<EnumSet<T>>,
+        alloc: Global,
+        command: &Command,
+    ) -> Result<Reply, AllocError> {
+        carry_out(machine, alloc, command)
+    }
+}
 
 /// Why a command is refused, if it is.
 #[tactic(auto, unfolding(crate::specs::Runs::plan))]

@@ -3,10 +3,9 @@
 ghost use Rattle.std.specs.Prelude.{◌≡◌, false, IfOk, IsOk, OnErr};
 ghost use Rattle.enumset_sets.specs.Elements.{valid_bits};
 
-use crate::commands::{carry_out, refusal};
 use crate::machine_over::MachineOver;
-use crate::steps::{Run, step};
-use enumset_commands::{Command, Refusal, Reply};
+use crate::steps::step;
+use enumset_commands::{Command, Reply};
 use enumset_repr::EnumSetTypeRepr;
 use enumset_sets::{EnumSet, EnumSetType};
 use std::alloc::{AllocError, Global};
@@ -35,25 +34,5 @@ impl<T: EnumSetType> MachineOver<EnumSet<T>> {
         ensures err { OnErr result (self.new ≡ self.old) }
     {
         step(self, alloc, command)
-    }
-}
-
-impl<T: EnumSetType> Run for EnumSet<T> {
-    ghost use Rattle.enumset_machine.specs.Runs.{plan};
-
-    type Command = Command;
-
-    ghost plan = { plan };
-
-    fn refusal(command: &Command) -> Option<Refusal> {
-        refusal::<EnumSet<T>>(command)
-    }
-
-    fn carry_out(
-        machine: &mut MachineOver<EnumSet<T>>,
-        alloc: Global,
-        command: &Command,
-    ) -> Result<Reply, AllocError> {
-        carry_out(machine, alloc, command)
     }
 }

@@ -1,4 +1,4 @@
-//! A machine over sets of either kind: its registers, and what it does with them.
+//! A machine over sets, or over mixed sets: its registers, and what it does with them.
 
 ghost use Rattle.std.specs.Prelude.{◌≡◌, length, true};
 ghost use Rattle.enumset_commands.specs.declared.reply.Reply.TheVariants.{Done, Truth, Count};
@@ -13,7 +13,7 @@ use crate::run_set::RunSet;
 use enumset_commands::Reply;
 use std::marker::Model;
 
-/// Four set registers and two iterator registers, over sets of one kind.
+/// Four set registers and two iterator registers, over sets of one type.
 #[derive(Drop)]
 pub struct MachineOver<S: RunSet> {
     sets: Registers<S>,

@@ -57,7 +57,7 @@ pub fn serve_mixed_text<T: EnumSetTypeWithRepr>(
     serve_over::<MixedEnumSet<T>>(alloc, input)
 }
 
-/// The text of the replies to the commands of an input over sets of one kind, from empty registers. The errors are those
+/// The text of the replies to the commands of an input over sets of one type, from empty registers. The errors are those
 /// of [`serve_text`].
 fn serve_over<S: Run>(alloc: Global, input: &[u8]) -> Result<Vec<u8>, TextFault>
 where

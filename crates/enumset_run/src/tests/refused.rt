@@ -68,9 +68,9 @@ fn runs(rt: HostRuntime) -> Result<(), Fail> {
 }
 
 /// Serves two lines over a type.
-fn expect_replies(rt: &impl Abort, alloc: Global, kind: Worked) -> Result<(), Fail> {
+fn expect_replies(rt: &impl Abort, alloc: Global, worked: Worked) -> Result<(), Fail> {
     let input = b"from_words 0 5\nwords 0 2\n".as_slice();
-    let (text, ended) = returned(rt, || serve_worked(alloc, kind, input));
+    let (text, ended) = returned(rt, || serve_worked(alloc, worked, input));
     assert!(rt; text.as_slice() == b"ok\nwords 5 0\n".as_slice());
     Ok(ended?)
 }
@@ -90,12 +90,12 @@ fn mixed_texts(rt: HostRuntime) -> Result<(), Fail> {
 fn faults_of_the_input(rt: HostRuntime) -> Result<(), Fail> {
     let too_long = vec![in rt.alloc(); b'\n'; 1_048_577]?;
     let lines = b"from_words 0 5\nwords 0 2\nlen\n".as_slice();
-    for kind in [Worked::Letters, Worked::MixedMarks] {
+    for worked in [Worked::Letters, Worked::MixedMarks] {
         for (input, wanted) in [
             (lines, TextFault::BadLine(3)),
             (too_long.as_slice(), TextFault::TooLong),
         ] {
-            assert!(rt; serve_worked(rt.alloc(), kind, input).err() == Some(wanted));
+            assert!(rt; serve_worked(rt.alloc(), worked, input).err() == Some(wanted));
         }
     }
     Ok(())

@@ -14,7 +14,7 @@ use std::test::Fail;
 fn expect_replies(
     rt: &impl Abort,
     alloc: Global,
-    kind: Worked,
+    worked: Worked,
     lines: &[(&str, &str)],
 ) -> Result<(), Fail> {
     let (mut input, mut wanted) = (String::new(alloc), String::new(alloc));
@@ -22,19 +22,19 @@ fn expect_replies(
         writeln!(input, "{command}")?;
         writeln!(wanted, "{reply}")?;
     }
-    expect_output(rt, alloc, kind, input.as_bytes(), wanted.as_str())
+    expect_output(rt, alloc, worked, input.as_bytes(), wanted.as_str())
 }
 
 /// Serves an input over a type, and tests the output.
 fn expect_output(
     rt: &impl Abort,
     alloc: Global,
-    kind: Worked,
+    worked: Worked,
     input: &[u8],
     wanted: &str,
 ) -> Result<(), Fail> {
-    let output = serve_worked(alloc, kind, input)?;
-    assert!(rt; str::from_utf8(&output) == Ok(wanted), "over {kind:?}");
+    let output = serve_worked(alloc, worked, input)?;
+    assert!(rt; str::from_utf8(&output) == Ok(wanted), "over {worked:?}");
     Ok(())
 }
 
@@ -226,10 +226,10 @@ fn of_pairs(rt: HostRuntime) -> Result<(), Fail> {
     let alloc = rt.alloc();
     let mut both = Vec::from_slice(alloc, &STEPS_OF_A_PAIR)?;
     both.extend_from_slice(&ORDER_OF_A_PAIR)?;
-    for kind in [Worked::PairWords, Worked::PairNumber] {
-        expect_replies(&rt, alloc, kind, &STEPS_OF_A_PAIR)?;
-        expect_replies(&rt, alloc, kind, &ORDER_OF_A_PAIR)?;
-        expect_replies(&rt, alloc, kind, &both)?;
+    for worked in [Worked::PairWords, Worked::PairNumber] {
+        expect_replies(&rt, alloc, worked, &STEPS_OF_A_PAIR)?;
+        expect_replies(&rt, alloc, worked, &ORDER_OF_A_PAIR)?;
+        expect_replies(&rt, alloc, worked, &both)?;
     }
     Ok(())
 }
@@ -245,8 +245,8 @@ fn of_mixed_pairs(rt: HostRuntime) -> Result<(), Fail> {
         ("full_complement 2 0", "ok"),
         ("len 2", "127"),
     ];
-    for kind in [Worked::MixedPairWords, Worked::MixedPairNumber] {
-        expect_replies(&rt, rt.alloc(), kind, &lines)?;
+    for worked in [Worked::MixedPairWords, Worked::MixedPairNumber] {
+        expect_replies(&rt, rt.alloc(), worked, &lines)?;
     }
     Ok(())
 }
