@@ -115,7 +115,7 @@ impl<T: EnumSetTypeWithRepr + fmt::Debug> fmt::Debug for MixedEnumSet<T> {
 }
 
 impl<T: EnumSetTypeWithRepr> MixedEnumSet<T> {
-    // The set that a value represents.
+    /// The set that a value represents.
     pub(crate) fn of_repr(repr: T::Repr) -> MixedEnumSet<T>
         ensures { result ≡ T.Repr.members repr }
     {

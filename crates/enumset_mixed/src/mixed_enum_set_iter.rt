@@ -40,7 +40,7 @@ impl<T: EnumSetType> Drop for MixedEnumSetIter<T> {
 }
 
 impl<T: EnumSetType> MixedEnumSetIter<T> {
-    // The iterator over the members of a value.
+    /// The iterator over the members of a value.
     pub(crate) fn over(repr: T::Repr) -> MixedEnumSetIter<T>
         ensures { IsFresh (set.ascending (T.Repr.members repr)) T.Repr.PREFERRED_ARRAY_LEN result }
     {

@@ -31,7 +31,7 @@ impl<T: EnumSetType + fmt::Debug> fmt::Debug for MixedValue<T> {
     }
 }
 
-// The member with a bit: `Valid` of its element if the bit is valid, else `Invalid` of its number.
+/// The member with a bit: `Valid` of its element if the bit is valid, else `Invalid` of its number.
 pub(crate) fn value_of<T: EnumSetType>(bit: u32) -> MixedValue<T>
     ensures { bit_with_validity T.elements.bit result
         ≡ (bit, contains (valid_bits T.elements) bit) }

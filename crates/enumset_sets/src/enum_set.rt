@@ -151,7 +151,7 @@ impl<T: EnumSetType + fmt::Debug> fmt::Debug for EnumSet<T> {
 
 #[tactic(auto, using(enumset_repr::specs::Laws::Members::subsets))]
 impl<T: EnumSetType> EnumSet<T> {
-    // The set that a value represents.
+    /// The set that a value represents.
     pub(crate) fn of_repr(repr: T::Repr) -> EnumSet<T>
         requires { IsTrue (set.is_subset (T.Repr.members repr) (valid_bits T.elements)) }
         ensures { result ≡ T.Repr.members repr }

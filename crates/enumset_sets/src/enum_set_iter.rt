@@ -40,7 +40,7 @@ impl<T: EnumSetType> Drop for EnumSetIter<T> {
 }
 
 impl<T: EnumSetType> EnumSetIter<T> {
-    // The iterator over the members of a value, which must be valid bits.
+    /// The iterator over the members of a value, which must be valid bits.
     pub(crate) fn over(repr: T::Repr) -> EnumSetIter<T>
         requires { IsTrue (set.is_subset (T.Repr.members repr) (valid_bits T.elements)) }
         ensures { IsFresh (set.ascending (T.Repr.members repr)) T.Repr.PREFERRED_ARRAY_LEN result }

@@ -104,7 +104,7 @@ impl<T: EnumSetType, const N: usize> From<[T; N]> for EnumSet<T> {
     }
 }
 
-// The set of the elements of a slice.
+/// The set of the elements of a slice.
 fn of_slice<T: EnumSetType>(values: &[T]) -> EnumSet<T>
     ensures { result ≡ set.from_list (map T.elements.bit values.now) }
 {

@@ -15,7 +15,7 @@ use crate::enum_set::EnumSet;
 use crate::representation::valid_repr;
 use enumset_repr::EnumSetTypeRepr;
 
-// A cut at a width leaves a set as it is, if the width holds the representation or every member is below it.
+/// A cut at a width leaves a set as it is, if the width holds the representation or every member is below it.
 #[tactic(auto, using(crate::specs::Laws::Conversions::conversions))]
 fn learn_fits<T: EnumSetType>(set: &EnumSet<T>, width: u32)
     requires { width < T.Repr.WIDTH → IsTrue (is_subset set.now (below width)) }

@@ -10,7 +10,7 @@ use crate::enum_set::EnumSet;
 use crate::representation::valid_repr;
 use enumset_repr::EnumSetTypeRepr;
 
-// The set that a value represents. Its members must be valid. The valid bits are below the width.
+/// The set that a value represents. Its members must be valid. The valid bits are below the width.
 pub(crate) fn exact<T: EnumSetType>(repr: T::Repr) -> EnumSet<T>
     requires { IsTrue (set.is_subset (T.Repr.members repr) (valid_bits T.elements)) }
     ensures members { result ≡ T.Repr.members repr }
@@ -21,7 +21,7 @@ pub(crate) fn exact<T: EnumSetType>(repr: T::Repr) -> EnumSet<T>
     EnumSet::of_repr(repr)
 }
 
-// The valid members of a value. The valid bits are below the width.
+/// The valid members of a value. The valid bits are below the width.
 pub(crate) fn truncated<T: EnumSetType>(repr: T::Repr) -> EnumSet<T>
     ensures members { result ≡ set.intersection (T.Repr.members repr) (valid_bits T.elements) }
     ensures within { IsTrue (set.is_subset (valid_bits T.elements) (set.below T.Repr.WIDTH)) }
@@ -29,7 +29,7 @@ pub(crate) fn truncated<T: EnumSetType>(repr: T::Repr) -> EnumSet<T>
     EnumSet::of_repr(repr & valid_repr::<T>())
 }
 
-// The set that a value represents, if all its members are valid, else `None`.
+/// The set that a value represents, if all its members are valid, else `None`.
 pub(crate) fn validated<T: EnumSetType>(repr: T::Repr) -> Option<EnumSet<T>>
     ensures valid { IsSome result
         ↔ IsTrue (set.is_subset (T.Repr.members repr) (valid_bits T.elements)) }
@@ -42,8 +42,8 @@ pub(crate) fn validated<T: EnumSetType>(repr: T::Repr) -> Option<EnumSet<T>>
     }
 }
 
-// The set that a value represents, if there is a value and all its members are valid, else `None`. The valid bits are
-// below the width.
+/// The set that a value represents, if there is a value and all its members are valid, else `None`. The valid bits are
+/// below the width.
 pub(crate) fn validated_low<T: EnumSetType>(taken: Option<T::Repr>) -> Option<EnumSet<T>>
     ensures valid { MatchOption taken (result ≡ None) (λ repr.
         (IsSome result ↔ IsTrue (set.is_subset (T.Repr.members repr) (valid_bits T.elements)))
