@@ -10,7 +10,7 @@ use enumset_test_types::{In32Bits, Of64, Priority};
 use enumset_worked::{Letters, PairWords, Sparse, Wide};
 use std::mem::size_of;
 
-// Of a set, of an optional set and of an iterator.
+/// Of a set, of an optional set and of an iterator.
 macro_rules! sizes {
     ($set:ident, $iter:ident, $type:ty) => {
         [

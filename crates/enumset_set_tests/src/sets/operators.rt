@@ -3,8 +3,8 @@
 use crate::sets::{expect_letters, expect_marks, marks, two_of};
 use enumset_worked::{Letters, Marks};
 
-// The results of `&`, `|`, `^`, `-` and `!`, and the first operand after `&=`, `|=`, `^=` and `-=`. The first operand is
-// a set, the second a set or an element.
+/// The results of `&`, `|`, `^`, `-` and `!`, and the first operand after `&=`, `|=`, `^=` and `-=`. The first operand is
+/// a set, the second a set or an element.
 macro_rules! results {
     ($a:expr, $b:expr) => {{
         let (mut and, mut or, mut xor, mut sub) = ($a, $a, $a, $a);
@@ -16,7 +16,7 @@ macro_rules! results {
     }};
 }
 
-// The sets that the operators on elements make.
+/// The sets that the operators on elements make.
 macro_rules! sets_of_elements {
     ($a:expr, $b:expr) => {{
         let both = $a | $b;
