@@ -3,7 +3,7 @@
 ghost use Rattle.std.specs.Prelude.{◌≡◌, IsTrue};
 ghost use Rattle.enumset_repr.specs.BitSet.{BitSet, intersection, difference, is_subset};
 
-/// The complement of the complement of any set, as of a mixed set with unknown members, has the members in v. The
+/// The complement of the complement of any set, as of a mixed set with unknown members, has exactly its members in v. The
 /// complement within v has those members of the complement within a greater set that are in v.
 ///
 /// What holds of a subset of v is in the ruleset `algebra`: the complement of its complement is that subset, and with
