@@ -6,12 +6,14 @@ use std::alloc::{AllocError, Global};
 use std::{error, fmt};
 
 /// Why the flags of a config text were not changed.
-#[derive(Clone, Copy, Debug)]
+#[derive(Debug, Drop)]
 pub enum ConfigFault {
     /// The text is not JSON. The error was found at this line.
     NotJson(usize),
     /// The text is not an object with a member `flags`.
     NoFlags,
+    /// No flag has this name, which the list has.
+    UnknownName(String),
     /// The member `flags` has no set, or the new set has no such JSON value.
     Flags(JsonFault),
     /// Out of memory.
@@ -23,6 +25,7 @@ impl fmt::Display for ConfigFault {
         match self {
             ConfigFault::NotJson(line) => write!(f, "line {line}: not JSON"),
             ConfigFault::NoFlags => f.write_str("no flags"),
+            ConfigFault::UnknownName(name) => write!(f, "flags: no flag is called {name}"),
             ConfigFault::Flags(fault) => write!(f, "flags: {fault}"),
             ConfigFault::OutOfMemory => f.write_str("out of memory"),
         }
@@ -75,8 +78,19 @@ fn insert_flag<T: EnumSetNames>(
 ) -> Result<(), ConfigFault> {
     let members = config.as_object_mut().ok_or(ConfigFault::NoFlags)?;
     let list = members.get("flags").ok_or(ConfigFault::NoFlags)?;
-    let mut flags: EnumSet<T> = from_list(list, Unknown::Refuse)?;
+    let mut flags: EnumSet<T> = read_flags(alloc, list)?;
     flags.insert(flag);
     let list = to_list(alloc, &flags)?;
     Ok(put(members, alloc, "flags", list)?)
+}
+
+// Reads a list of flags. Its fault for a name that no flag has says the name.
+fn read_flags<T: EnumSetNames>(alloc: Global, list: &Value) -> Result<EnumSet<T>, ConfigFault> {
+    let read = from_list(list, Unknown::Refuse);
+    if let Err(JsonFault::UnknownName(place)) = read {
+        if let Some(name) = list.get(place).and_then(|item| item.as_str()) {
+            return Err(ConfigFault::UnknownName(String::from_str(alloc, name)?));
+        }
+    }
+    Ok(read?)
 }

@@ -33,7 +33,7 @@ fn flags_in_lists(rt: HostRuntime) -> Result<(), Fail> {
         ("{\"flag\": [\"C\"]}", "no flags"),
         ("{\"flags\": \"C\"}", "flags: not an array"),
         ("{\"flags\": [\"C\", 1]}", "flags: element 1: not a text"),
-        ("{\"flags\": [\"C\", \"Cc\"]}", "flags: name 1: unknown"),
+        ("{\"flags\": [\"C\", \"Cc\"]}", "flags: no flag is called Cc"),
     ] {
         expect_changed(&rt, rt.alloc(), config, wanted)?;
     }
