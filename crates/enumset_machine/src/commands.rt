@@ -75,7 +75,7 @@ pub(crate) fn refusal<S: RunSet>(command: &Command) -> Option<Refusal>
     }
 }
 
-/// Carries out a command that is not refused, by the call of the set that has its name.
+/// Carries out a command that is not refused, by the call of the set that stands for it.
 #[tactic(auto, unfolding(crate::specs::Runs::plan))]
 pub(crate) fn carry_out<S: RunSet>(
     machine: &mut MachineOver<S>,
@@ -149,7 +149,7 @@ pub(crate) fn carry_out<S: RunSet>(
     })
 }
 
-/// This refusal, unless there is no reason for it.
+/// The refusal, if the condition does not hold.
 pub(crate) fn unless(holds: bool, refusal: Refusal) -> Option<Refusal>
     ensures { result ≡ (if holds then None else Some refusal) }
 {

@@ -12,8 +12,8 @@ ghost use Rattle.enumset_machine.specs.Plans.{Rules, is_width};
 use enumset_commands::Reply;
 use std::cmp::Ordering;
 
-/// A set of a run, and the calls that its commands need. They have the names that they have in the set types, and take
-/// the bit of an element in place of the element, so a run knows no element type.
+/// A set of a run, and the calls that its commands need, each named as the command or as the set's own call. They take the
+/// bit of an element in place of the element, so a run knows no element type.
 pub trait RunSet: Copy {
     // The members' bits.
     ghost members: { Self → BitSet };

@@ -1,8 +1,8 @@
 //! Tests of the program and of its parts together.
 
 mod long_lists;
+mod mixed_law;
 mod paced;
 mod program;
 mod refused;
-mod transcripts;
 mod worked_examples;
