@@ -1,8 +1,9 @@
-use Rattle.enumset.proofs.Common.{complement_of_complement, complement_within}
+use Rattle.enumset.proofs.Common.{complement_twice, complement_of_complement, complement_within}
 use Rattle.enumset.proofs.laws.complementary.complements.Goals as goal
 
 pub returns : goal.returns
 returns c = record {
+  twice = complement_twice;
   twice_of_any = complement_of_complement;
   of_greater = complement_within;
 }
