@@ -181,6 +181,7 @@ impl<'de, const N: usize> Visitor<'de> for WordsVisitor<N> {
     }
 }
 
+/// Reads each string into the set at its place.
 #[inline(never)]
 fn read_all<S: DeserializeOwned>(texts: &[&str], sets: &mut [S]) -> serde_json::Result<()> {
     for (set, text) in sets.iter_mut().zip(texts) {
@@ -189,6 +190,7 @@ fn read_all<S: DeserializeOwned>(texts: &[&str], sets: &mut [S]) -> serde_json::
     Ok(())
 }
 
+/// Writes each set into the string at its place.
 #[inline(never)]
 fn write_all<S: Serialize>(sets: &[S], texts: &mut [String]) -> serde_json::Result<()> {
     for (text, set) in texts.iter_mut().zip(sets) {
