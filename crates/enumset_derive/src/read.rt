@@ -15,7 +15,7 @@ use crate::plan::*;
 use crate::source::{Element, Form, Gap, Import, Name, Source};
 use crate::tokens::{Kind, Token, UNCLOSED_BRACKET, is_among, names_last};
 use imports::{after_root, has_alloc, renamed_crate};
-use parts::{Bearer, Part, derive_among, renamed_derive};
+use parts::{Bearer, Part, derive_among, renamed_derive, write_comments};
 use std::alloc::{AllocError, Global};
 use std::collections::BTreeSet;
 use std::mem;
@@ -79,6 +79,7 @@ fn read_words<'a, 'b>(
         serializers: Vec::new(alloc),
         derived: Vec::new(alloc),
         has_alloc: has_alloc(words),
+        is_without_item: false,
     };
     for _ in tokens {
         reader.read_token()?;
@@ -116,6 +117,8 @@ struct Reader<'a, 'b> {
     derived: Vec<Token<'a>>,
     /// Whether the source names Rust's crate `alloc`.
     has_alloc: bool,
+    /// Whether what was read last is left out, or part of an earlier import.
+    is_without_item: bool,
 }
 
 impl<'a, 'b> Reader<'a, 'b> {
@@ -123,10 +126,16 @@ impl<'a, 'b> Reader<'a, 'b> {
     fn read_token(&mut self) -> Outcome {
         self.cursor.advance()?;
         let begin = self.cursor.token;
+        let is_without_item = mem::take(&mut self.is_without_item);
         self.source.add_space(begin.space);
         match begin.kind {
             Kind::End => return Ok(()),
-            Kind::Comment | Kind::InnerDoc => {}
+            Kind::Comment if is_without_item && !begin.begins_line() => {
+                self.is_without_item = true;
+                return self.leave_out_comment(begin.place, begin.text);
+            }
+            Kind::Comment => return Ok(self.source.push_comment(self.alloc, begin)?),
+            Kind::InnerDoc => {}
             _ if begin.is_mark("#") && self.cursor.is_before("!") => {
                 self.cursor.advance()?;
                 let is_script = begin.begin == 0 && !self.cursor.is_before("[");
@@ -141,11 +150,12 @@ impl<'a, 'b> Reader<'a, 'b> {
         let text = self.cursor.text_since(begin.begin);
         if is_kept {
             let text = String::from_str(self.alloc, text)?;
-            self.source.push(Form::Text(text))?;
+            self.source.push(self.alloc, Form::Text(text))?;
         } else {
+            self.is_without_item = true;
             self.leave_out(begin.place, text)?;
         }
-        if self.is_in_head && !matches!(begin.kind, Kind::Comment) {
+        if self.is_in_head {
             self.source.head = self.source.items.len();
         }
         Ok(())
@@ -156,6 +166,30 @@ impl<'a, 'b> Reader<'a, 'b> {
         self.source.gap.is_after_left_out = true;
         let note = format!(in self.alloc; "left out: {text} has no meaning here")?;
         Ok(self.source.notes.push((place, note))?)
+    }
+
+    /// Leaves out a comment at a place, whose item is left out or written anew.
+    fn leave_out_comment(&mut self, place: Place, text: &str) -> Outcome {
+        self.source.gap.is_after_left_out = true;
+        let note = format!(in self.alloc; "left out: the comment {text}")?;
+        Ok(self.source.notes.push((place, note))?)
+    }
+
+    /// Leaves out the comments on the lines right above what is left out, before which this space is.
+    fn leave_out_above(&mut self, space: &'static str) -> Outcome {
+        let mut space = space;
+        for _ in 0..self.source.items.len() {
+            let Some(item) = self.source.pop_comment(space) else {
+                break;
+            };
+            space = item.gap;
+            if let Form::Comment(place, text) = &item.form {
+                let text = format!(in self.alloc; "{text}{}", item.comments)?;
+                self.leave_out_comment(*place, text.as_str())?;
+                self.source.add_space(space);
+            }
+        }
+        Ok(())
     }
 }
 
@@ -232,6 +266,12 @@ impl<'a, 'b> Cursor<'a, 'b> {
     pub fn text_since(&self, begin: usize) -> &'a str {
         let end = self.token.begin.saturating_add(self.token.text.len());
         self.text.get(begin..end).unwrap_or("")
+    }
+
+    /// The tokens after an earlier place and before this one.
+    pub fn tokens_since(&self, earlier: &Cursor<'a, 'b>) -> &'b [Token<'a>] {
+        let passed = earlier.rest.len().saturating_sub(self.rest.len());
+        earlier.rest.get(..passed.saturating_sub(1)).unwrap_or(&[])
     }
 
     /// The words after an earlier place, up to this one and with it.

@@ -34,6 +34,8 @@ pub struct Item<'a> {
     /// The space before it.
     pub gap: &'static str,
     pub form: Form<'a>,
+    /// The comments after it on its line, each after a space.
+    pub comments: String,
 }
 
 /// What an item is.
@@ -41,6 +43,8 @@ pub struct Item<'a> {
 pub enum Form<'a> {
     /// A text as it is written.
     Text(String),
+    /// A comment, and where it is.
+    Comment(Place, String),
     /// The first line `use enumset::..;`.
     Imports,
     /// An import of anything else.
@@ -86,8 +90,23 @@ pub struct Gap {
     pub is_after_left_out: bool,
 }
 
-/// By what `rt fmt` orders imports: those of the crate itself come first.
+impl Gap {
+    /// The text that stands for it, with so many ends of lines at least.
+    pub fn text(&self, least: usize) -> &'static str {
+        match self.lines.max(least) {
+            0 if self.has_space => " ",
+            0 => "",
+            1 => "\n",
+            _ => "\n\n",
+        }
+    }
+}
+
+/// By what `rt fmt` orders imports: those of the crate itself come first. One with a comment after it stays in its place.
 fn order<'a>(item: &'a Item, facade: &'a str) -> Option<(usize, &'a str, &'a str)> {
+    if !item.comments.is_empty() {
+        return None;
+    }
     let (root, path) = match &item.form {
         Form::Imports => (facade, "{"),
         Form::Import(import) => {
@@ -104,7 +123,7 @@ fn order<'a>(item: &'a Item, facade: &'a str) -> Option<(usize, &'a str, &'a str
 
 impl<'a> Source<'a> {
     /// Adds an item, after the space since the last: an element type on a new line, or two after the imports or another.
-    pub fn push(&mut self, form: Form<'a>) -> Result<(), AllocError> {
+    pub fn push(&mut self, alloc: Global, form: Form<'a>) -> Result<(), AllocError> {
         let gap = mem::take(&mut self.gap);
         let least = match (&form, self.items.last().map(|last| &last.form)) {
             _ if self.items.len() == self.head => 0,
@@ -112,13 +131,35 @@ impl<'a> Source<'a> {
             (Form::Element(_), _) => 1,
             _ => 0,
         };
-        let gap = match gap.lines.max(least) {
-            0 if gap.has_space => " ",
-            0 => "",
-            1 => "\n",
-            _ => "\n\n",
-        };
-        Ok(self.items.push(Item { gap, form })?)
+        let gap = gap.text(least);
+        let comments = String::new(alloc);
+        Ok(
+            self.items.push(Item {
+                gap,
+                form,
+                comments,
+            })?,
+        )
+    }
+
+    /// Adds a comment: after the last item if it stands on the line of that, else as an item.
+    pub fn push_comment(&mut self, alloc: Global, comment: &Token) -> Result<(), AllocError> {
+        if let (Some(item), false) = (self.items.last_mut(), comment.begins_line()) {
+            self.gap = Gap::default();
+            return write!(item.comments, " {}", comment.text);
+        }
+        let text = String::from_str(alloc, comment.text)?;
+        self.push(alloc, Form::Comment(comment.place, text))
+    }
+
+    /// Takes off the last item, if it is a comment on the line right above what has this space before it.
+    pub fn pop_comment(&mut self, space: &str) -> Option<Item<'a>> {
+        let last = self.items.last()?;
+        let is_above = matches!(last.form, Form::Comment(_, _)) && space == "\n";
+        match is_above && self.items.len() > self.head {
+            true => self.items.pop(),
+            false => None,
+        }
     }
 
     /// Puts imports on lines of their own into the order that `rt fmt` gives them.

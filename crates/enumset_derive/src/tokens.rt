@@ -49,6 +49,11 @@ impl<'a> Token<'a> {
         matches!(self.kind, Kind::Comment | Kind::OuterDoc | Kind::InnerDoc)
     }
 
+    /// Whether the token is the first on its line, but for the first of a text.
+    pub fn begins_line(&self) -> bool {
+        self.space.contains('\n')
+    }
+
     /// The fault that is here.
     pub fn fault(&self, text: &'static str) -> DeriveError {
         DeriveError::Fault(Reason::Text(text).at(self.place))

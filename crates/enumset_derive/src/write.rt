@@ -31,6 +31,8 @@ struct Subject<'a, 'b> {
     facade: &'a str,
     name: &'a str,
     element: &'a Element<'a>,
+    /// The comments after the enum on its line, each after a space.
+    comments: &'a str,
 }
 
 /// The text of the module that a source stands for, or the fault of a name that the module needs itself.
@@ -47,7 +49,7 @@ pub fn module_text(alloc: Global, request: &Request, source: &Source) -> Outcome
             write!(text, "{imports}\n\n")?;
         }
         match &item.form {
-            Form::Text(other) => text.push_str(other.as_str())?,
+            Form::Text(other) | Form::Comment(_, other) => text.push_str(other.as_str())?,
             Form::Import(import) => text.push_str(import.text.as_str())?,
             Form::Imports => text.push_str(imports.as_str())?,
             Form::Element(element) => {
@@ -57,10 +59,13 @@ pub fn module_text(alloc: Global, request: &Request, source: &Source) -> Outcome
                     facade: source.facade,
                     name: element.declaration.name,
                     element,
+                    comments: item.comments.as_str(),
                 };
                 element_type::write_element_type(&mut text, &subject)?;
+                continue;
             }
         }
+        text.push_str(item.comments.as_str())?;
     }
     if !text.is_empty() {
         text.push('\n')?;

@@ -70,7 +70,7 @@ impl<'a, 'b> Reader<'a, 'b> {
             json_names,
             guard: if is_test { FOR_TESTS } else { "" },
         };
-        Ok(self.source.push(Form::Element(element))?)
+        Ok(self.source.push(alloc, Form::Element(element))?)
     }
 
     /// Takes comments and attributes of the enum, or of a variant if its name is known. Gives those kept, a line each.
@@ -81,13 +81,18 @@ impl<'a, 'b> Reader<'a, 'b> {
             _ => (Some(of.variants.len()), "    ", Bearer::Variant),
         };
         for part in parts {
+            if variant.is_some_and(|before| before > 0 || !kept.is_empty()) {
+                write_empty_line(&mut kept, part.begin)?;
+            }
             let is_kept = match part.name.text {
                 "derive" if variant.is_none() => {
                     of.derives.extend(self.kept_of(part)?.0)?;
+                    write_comments(&mut kept, part.inner)?;
                     continue;
                 }
                 "enumset" if variant.is_none() => {
                     self.read_options(&mut of.options, part)?;
+                    write_comments(&mut kept, part.inner)?;
                     continue;
                 }
                 "serde" => derives(of, "Serialize") || derives(of, "Deserialize"),
@@ -119,18 +124,23 @@ impl<'a, 'b> Reader<'a, 'b> {
         let first = parts.iter().position(|part| part.name.is("derive"));
         let (before, after) = parts.split_at(first.unwrap_or(0));
         of.attributes = [self.take(of, before)?, self.take(of, after)?];
+        let begin = self.cursor;
         of.visibility = self.cursor.read_visibility()?;
         let name = self.cursor.read_enum_name()?;
+        write_comments(&mut of.attributes[1], self.cursor.tokens_since(&begin))?;
         of.name = name.text;
         self.declare(name)?;
         for _ in self.cursor.rest {
             self.test_options(&of.options)?;
             let parts = self.cursor.read_parts(self.alloc)?;
-            let kept = self.take(of, parts.as_slice())?;
+            let mut kept = self.take(of, parts.as_slice())?;
             let has_attribute = parts.iter().any(|part| !part.begin.is_comment());
             if self.cursor.token.is_mark("}") && !has_attribute {
                 of.last_comments = kept;
                 break;
+            }
+            if !of.variants.is_empty() || !kept.is_empty() {
+                write_empty_line(&mut kept, self.cursor.token)?;
             }
             let mut variant = self.read_variant()?;
             variant.attributes = kept;
@@ -230,17 +240,25 @@ impl<'a, 'b> Cursor<'a, 'b> {
         }
         for _ in self.rest {
             let is_comment = matches!(self.token.kind, Kind::Comment);
-            if !is_comment || self.token.space.contains('\n') {
+            if !is_comment || self.token.begins_line() {
                 break;
             }
             self.advance()?;
         }
-        let end = self.token.begin;
-        let passed = begin.rest.iter().take_while(|token| token.begin < end);
+        let passed = self.tokens_since(begin).iter();
         let comments = passed.filter(|token| token.is_comment());
         let comments = comments.map(|comment| format!(in alloc; " {}", comment.text));
         Ok(comments.try_collect(alloc)?)
     }
+}
+
+/// Writes an empty line if the source has one before a token, unless one was written last.
+fn write_empty_line(out: &mut String, token: &Token) -> Result<(), AllocError> {
+    let is_there = out.as_str() == "\n" || out.as_str().ends_with("\n\n");
+    if token.space.matches('\n').count() > 1 && !is_there {
+        out.push('\n')?;
+    }
+    Ok(())
 }
 
 /// A fault if the order that an enum derives is not that of the places of its variants.

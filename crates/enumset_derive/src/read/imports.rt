@@ -14,17 +14,26 @@ impl<'a, 'b> Reader<'a, 'b> {
     pub(super) fn read_use(&mut self, place: Place, before: &str, item: Cursor<'a, 'b>) -> Outcome {
         let visibility = item.text.get(item.token.begin..self.cursor.token.begin);
         let visibility = visibility.unwrap_or("").trim_end();
+        let keyword = self.cursor;
         let path = self.cursor.read_path()?;
         let may_stay = |root: &Token| root.is_name() && !is_among("core alloc", root.text);
         let is_path = path.first().is_some_and(may_stay);
         let written = is_path.then_some(self.cursor.text_since(item.token.begin));
         let written = written.unwrap_or("");
+        if written.is_empty() || (visibility.is_empty() && is_of_enumset(path)) {
+            let tokens = self.cursor.tokens_since(&keyword).iter();
+            for comment in tokens.filter(|token| token.is_comment()) {
+                self.leave_out_comment(comment.place, comment.text)?;
+            }
+        }
+        let before_it = self.source.items.len();
         for (index, tree) in trees_of(self.alloc, path)?.iter().enumerate() {
             if index > 0 {
                 self.source.add_space("\n");
             }
             self.read_tree(place, [before, visibility, written], tree)?;
         }
+        self.is_without_item = self.source.items.len() == before_it;
         Ok(())
     }
 
@@ -36,7 +45,7 @@ impl<'a, 'b> Reader<'a, 'b> {
             return Ok(());
         };
         let mut names = names_in(alloc, tree, is_own)?;
-        if is_own && root.is("enumset") && rest.iter().any(|word| word.is_mark(":")) {
+        if is_own && is_of_enumset(tree) {
             self.source.names.append(&mut names)?;
             return self.read_names(place, before, rest);
         }
@@ -53,7 +62,7 @@ impl<'a, 'b> Reader<'a, 'b> {
             names,
             unknown: (is_own && !is_ours && !is_there).then_some(place),
         };
-        Ok(self.source.push(Form::Import(import))?)
+        Ok(self.source.push(alloc, Form::Import(import))?)
     }
 
     /// Takes in what a line imports of the crate `enumset`: a path after its name, or some in brackets.
@@ -62,7 +71,7 @@ impl<'a, 'b> Reader<'a, 'b> {
             self.leave_out(place, attributes.trim_end())?;
         }
         if !mem::replace(&mut self.source.has_imports, true) {
-            self.source.push(Form::Imports)?;
+            self.source.push(self.alloc, Form::Imports)?;
         }
         for tree in trees_of(self.alloc, path)? {
             self.read_name(tree)?;
@@ -79,12 +88,13 @@ impl<'a, 'b> Reader<'a, 'b> {
             [own, name @ ..] if own.is("self") => {
                 let path = format!(in alloc; "enumset{}", spelled(alloc, name)?)?;
                 self.source.add_space("\n");
-                self.source.push(Form::Import(Import {
+                let import = Import {
                     text: format!(in alloc; "use {path};")?,
                     path,
                     names: Vec::new(alloc),
                     unknown: None,
-                }))?;
+                };
+                self.source.push(alloc, Form::Import(import))?;
             }
             tree => self.source.imports.push(spelled(alloc, tree)?)?,
         }
@@ -98,8 +108,12 @@ impl<'a, 'b> Reader<'a, 'b> {
                 let mut names = import.names.iter();
                 let is_used = names.any(|(_, name)| self.used.contains(name.text));
                 if let (Some(place), false) = (import.unknown, is_used) {
+                    self.leave_out_above(item.gap)?;
                     let note = format!(in self.alloc; "left out: {} {UNUSED}", import.text)?;
                     self.source.notes.push((place, note))?;
+                    if !item.comments.is_empty() {
+                        self.leave_out_comment(place, item.comments.as_str().trim_start())?;
+                    }
                     continue;
                 }
                 let all = import.names.iter().find(|(_, name)| name.is_mark("*"));
@@ -115,6 +129,11 @@ impl<'a, 'b> Reader<'a, 'b> {
         }
         Ok(self.source.sort_imports(self.alloc)?)
     }
+}
+
+/// Whether a path goes on after the name of the crate `enumset`.
+fn is_of_enumset(path: &[Token]) -> bool {
+    matches!(path, [root, next, ..] if root.is("enumset") && next.is_mark(":"))
 }
 
 /// The paths in the brackets that a path begins with, or the path alone, each without `::` at its beginning.

@@ -55,6 +55,8 @@ impl<'a, 'b> Reader<'a, 'b> {
         if keyword.is("extern") && next.is("crate") {
             self.cursor.skip_to(";", 0)?;
             let text = self.cursor.text_since(begin.token.begin);
+            self.is_without_item = true;
+            self.leave_out_above(self.source.gap.text(0))?;
             return self.leave_out(begin.token.place, text);
         }
         let mut text = String::new(self.alloc);
@@ -73,7 +75,7 @@ impl<'a, 'b> Reader<'a, 'b> {
         self.use_words(named)?;
         self.used.extend(["*", "_"])?;
         self.write_item(&mut text, item)?;
-        Ok(self.source.push(Form::Text(text))?)
+        Ok(self.source.push(self.alloc, Form::Text(text))?)
     }
 
     /// Takes in the name of an item that begins at a keyword, if it has one.
@@ -166,9 +168,12 @@ impl<'a, 'b> Reader<'a, 'b> {
             };
         }
         let (kept, is_whole) = self.kept_of(part)?;
+        if is_whole {
+            return Ok(write!(out, "{}\n", part.text)?);
+        }
+        write_comments(out, part.inner)?;
         let kept = kept.join(self.alloc, ", ")?;
         Ok(match kept.as_str() {
-            _ if is_whole => write!(out, "{}\n", part.text)?,
             "" => {}
             kept => write!(out, "#[derive({kept})]\n")?,
         })

@@ -45,6 +45,8 @@ pub(super) struct Part<'a, 'b> {
     pub name: &'b Token<'a>,
     /// The `[`, the name, and what comes after it, up to the `]` at the end; nothing of a comment.
     words: &'b [Token<'a>],
+    /// The tokens before the `]`, with the comments; nothing of a comment.
+    pub inner: &'b [Token<'a>],
 }
 
 impl<'a, 'b> Part<'a, 'b> {
@@ -120,6 +122,14 @@ impl<'a, 'b> Part<'a, 'b> {
         });
         Ok(arguments.collect(alloc)?)
     }
+}
+
+/// Writes the comments among tokens, each on a line of its own.
+pub(super) fn write_comments(out: &mut String, tokens: &[Token]) -> Result<(), AllocError> {
+    for comment in tokens.iter().filter(|token| token.is_comment()) {
+        write!(out, "{}\n", comment.text)?;
+    }
+    Ok(())
 }
 
 /// The first `EnumSetType`, or its other name, that an attribute derives among these words.
@@ -207,6 +217,7 @@ impl<'a, 'b> Cursor<'a, 'b> {
             text: self.text_since(begin.token.begin),
             name: words.get(1).unwrap_or(begin.token),
             words,
+            inner: self.tokens_since(&begin),
         })
     }
 

@@ -13,6 +13,7 @@ const SUPERTRAITS: &str = "Clone,\nCopy,\nPartialEq,\nEq,\n";
 pub(super) fn write_element_type(out: &mut String, of: &Subject) -> Written {
     let options = &of.element.declaration.options;
     write_enum(out, of.alloc, of.element)?;
+    out.push_str(of.comments)?;
     write_impl(out, of)?;
     if is_narrow(&of.element.plan) {
         write_head(out, of, "", "EnumSetTypeWithRepr")?;
