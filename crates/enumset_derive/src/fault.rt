@@ -151,8 +151,8 @@ impl Reason {
 /// A character is a Unicode scalar value, so a tab is one.
 #[derive(Clone, Copy, Debug)]
 pub struct Place {
-    pub line: u64,
-    pub column: u64,
+    pub line: u32,
+    pub column: u32,
 }
 
 impl fmt::Display for Place {

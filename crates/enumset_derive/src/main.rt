@@ -9,6 +9,7 @@ mod fault;
 mod plan;
 mod read;
 mod source;
+mod space;
 mod tokens;
 mod write;
 
@@ -102,7 +103,8 @@ fn derive<R: Input + Eprint + AllocGlobal>(rt: &R, request: &Request) -> Outcome
     let read = rt.reader().read_to_end(&mut input);
     read.map_err(|error| fault_of(error, DeriveError::Stream("reading failed")))?;
     let text = text_of(&input)?.replace(alloc, "\r\n", "\n")?;
-    let source = read_source(alloc, text.as_str(), &tokens_of(alloc, text.as_str())?)?;
+    let tokens = tokens_of(alloc, text.as_str())?;
+    let source = read_source(alloc, text.as_str(), &tokens)?;
     let module = module_text(alloc, request, &source)?;
     for (place, note) in &source.notes {
         let _ = eprintln!(rt; "{place}: {note}");

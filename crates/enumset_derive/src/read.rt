@@ -10,18 +10,19 @@ mod options;
 mod parts;
 mod values;
 
-use crate::fault::{Outcome, Place, Reason};
+use crate::fault::{Fault, Outcome, Place, Reason};
 use crate::plan::*;
 use crate::source::{Element, Form, Gap, Import, Name, Source};
-use crate::tokens::{Kind, Token, UNCLOSED_BRACKET, is_among, names_last};
+use crate::space::Space;
+use crate::tokens::{Kind, Token, Tokens, UNCLOSED_BRACKET, is_among, names_last};
 use imports::{after_root, has_alloc, renamed_crate};
 use parts::{Bearer, Part, derive_among, renamed_derive, write_comments};
 use std::alloc::{AllocError, Global};
-use std::collections::BTreeSet;
+use std::collections::{BTreeMap, BTreeSet};
 use std::mem;
 use values::NumberType;
 
-/// The words that are keywords in Rattle and names in Rust.
+/// The tokens that are keywords in Rattle and names in Rust.
 const KEYWORDS: &str = "ghost requires ensures";
 
 const OWN_JSON: &str =
@@ -31,19 +32,8 @@ const OWN_JSON: &str =
 const KEYWORD: &str = "this is a keyword here: choose another name";
 
 /// What a source text has of which these are the tokens, or the first fault, of reading or of planning.
-pub fn read_source<'a>(alloc: Global, text: &'a str, tokens: &[Token<'a>]) -> Outcome<Source<'a>> {
-    let words = tokens.iter().copied().filter(|token| !token.is_comment());
-    let words: Vec<Token<'a>> = words.collect(alloc)?;
-    read_words(alloc, text, tokens, &words)
-}
-
-/// The same, of which the tokens that are no comments are these words.
-fn read_words<'a, 'b>(
-    alloc: Global,
-    text: &'a str,
-    tokens: &'b [Token<'a>],
-    words: &'b [Token<'a>],
-) -> Outcome<Source<'a>> {
+pub fn read_source<'a>(alloc: Global, text: &'a str, found: &Tokens<'a>) -> Outcome<Source<'a>> {
+    let tokens = found.tokens.as_slice();
     let source = Source {
         items: Vec::new(alloc),
         head: 0,
@@ -51,37 +41,39 @@ fn read_words<'a, 'b>(
         has_imports: false,
         names: Vec::new(alloc),
         facade: "enumset",
-        renamed: renamed_crate(words),
+        renamed: renamed_crate(tokens),
         has_enums: false,
         notes: Vec::new(alloc),
-        gap: Gap::default(),
+        gap: Gap::EMPTY,
     };
-    let [token, ..] = tokens else {
+    let Some(token) = tokens.first() else {
         return Ok(source);
+    };
+    // It begins before the first token.
+    let cursor = Cursor {
+        text,
+        token,
+        tokens,
+        comments: found.comments.as_slice(),
+        fault: found.fault,
     };
     let mut reader = Reader {
         alloc,
-        // It begins before the first token.
-        cursor: Cursor {
-            text,
-            token,
-            rest: tokens,
-            words,
-        },
+        cursor,
         source,
-        derive: renamed_derive(words),
+        derive: renamed_derive(tokens),
         is_in_head: true,
         used: BTreeSet::new(alloc),
         given: Vec::new(alloc),
         serde: Vec::new(alloc),
         discriminant_type: NumberType::OF_ENUMS,
-        declared: Vec::new(alloc),
+        declared: BTreeMap::new(alloc),
         serializers: Vec::new(alloc),
         derived: Vec::new(alloc),
-        has_alloc: has_alloc(words),
+        has_alloc: has_alloc(tokens),
         is_without_item: false,
     };
-    for _ in tokens {
+    for _ in 0..cursor.left() {
         reader.read_token()?;
     }
     reader.test_serializers()?;
@@ -101,7 +93,7 @@ struct Reader<'a, 'b> {
     derive: &'a str,
     /// Whether no item was read.
     is_in_head: bool,
-    /// The words of the kept derives and of items but imports and element types, and with such an item `*` and `_`.
+    /// The tokens of the kept derives and of items but imports and element types, and with such an item `*` and `_`.
     used: BTreeSet<&'a str>,
     /// The names of the options that the enum is given, in their order.
     given: Vec<&'b Token<'a>>,
@@ -109,8 +101,8 @@ struct Reader<'a, 'b> {
     serde: Vec<(Part<'a, 'b>, Option<usize>, bool)>,
     /// The type of its discriminants.
     discriminant_type: NumberType,
-    /// The names of the functions, types, traits and modules so far.
-    declared: Vec<&'b Token<'a>>,
+    /// The functions, types, traits and modules so far, by their names in small letters.
+    declared: BTreeMap<String, &'b Token<'a>>,
     /// Where `Serialize` and `Deserialize` are implemented by hand, and for which type.
     serializers: Vec<(&'b Token<'a>, &'a str)>,
     /// What the attributes of an item derive so far, by its last name.
@@ -138,7 +130,7 @@ impl<'a, 'b> Reader<'a, 'b> {
             Kind::InnerDoc => {}
             _ if begin.is_mark("#") && self.cursor.is_before("!") => {
                 self.cursor.advance()?;
-                let is_script = begin.begin == 0 && !self.cursor.is_before("[");
+                let is_script = begin.begin() == 0 && !self.cursor.is_before("[");
                 begin.want(!is_script, "remove the first line: a module has no `#!`")?;
             }
             _ => {
@@ -147,7 +139,7 @@ impl<'a, 'b> Reader<'a, 'b> {
             }
         }
         let is_kept = self.cursor.read_part()?.has_meaning(Bearer::Text)?;
-        let text = self.cursor.text_since(begin.begin);
+        let text = self.cursor.text_since(begin.begin());
         if is_kept {
             let text = String::from_str(self.alloc, text)?;
             self.source.push(self.alloc, Form::Text(text))?;
@@ -175,55 +167,69 @@ impl<'a, 'b> Reader<'a, 'b> {
         Ok(self.source.notes.push((place, note))?)
     }
 
-    /// Leaves out the comments on the lines right above what is left out, before which this space is.
-    fn leave_out_above(&mut self, space: &'static str) -> Outcome {
-        let mut space = space;
-        for _ in 0..self.source.items.len() {
-            let Some(item) = self.source.pop_comment(space) else {
-                break;
-            };
-            space = item.gap;
-            if let Form::Comment(place, text) = &item.form {
-                let text = format!(in self.alloc; "{text}{}", item.comments)?;
-                self.leave_out_comment(*place, text.as_str())?;
-                self.source.add_space(space);
-            }
+    /// Leaves out the comments right above what is left out, before which this space is. Gives the space before both.
+    fn leave_out_above(&mut self, space: Space) -> Outcome<Space> {
+        let Some(item) = self.source.pop_comment(space) else {
+            return Ok(space);
+        };
+        if let Form::Comment(place, text) = &item.form {
+            let text = format!(in self.alloc; "{text}{}", item.comments)?;
+            self.leave_out_comment(*place, text.as_str())?;
         }
-        Ok(())
+        Ok(space.max(item.gap))
     }
 }
 
-/// A place among the tokens of a source text. Each turn of its loops over those that are left goes on by one at least.
+/// A place among the tokens and comments of a source text. Each turn of its loops over those that are left goes on by one
+/// at least.
 #[derive(Clone, Copy)]
 struct Cursor<'a, 'b> {
     /// The whole text.
     pub text: &'a str,
+    /// The token or the comment that is there.
     pub token: &'b Token<'a>,
     /// The tokens after that one.
-    pub rest: &'b [Token<'a>],
-    /// The words among them, which are no comments.
-    pub words: &'b [Token<'a>],
+    pub tokens: &'b [Token<'a>],
+    /// The comments after that one.
+    pub comments: &'b [Token<'a>],
+    /// The fault at the last token.
+    pub fault: Option<Fault>,
 }
 
 impl<'a, 'b> Cursor<'a, 'b> {
-    /// Goes on to the next token, if there is one. It fails at one from which on nothing can be read.
-    pub fn advance(&mut self) -> Outcome {
-        if let [next, rest @ ..] = self.rest {
-            self.token = next;
-            self.rest = rest;
-            if let Kind::Fault(reason) = next.kind {
-                return Err(next.fault(reason));
-            }
-            if !next.is_comment() {
-                self.words = self.words.get(1..).unwrap_or(&[]);
-            }
-        }
-        Ok(())
+    /// How many tokens and comments are left.
+    pub fn left(&self) -> usize {
+        self.tokens.len().saturating_add(self.comments.len())
     }
 
-    /// Goes on to the next word.
-    pub fn advance_to_word(&mut self) -> Outcome {
-        for _ in self.rest {
+    /// The next token or comment, if there is one.
+    pub fn next(&self) -> Option<&'b Token<'a>> {
+        match (self.tokens, self.comments) {
+            ([token, ..], [comment, ..]) if comment.begin() < token.begin() => Some(comment),
+            ([token, ..], _) => Some(token),
+            (_, comments) => comments.first(),
+        }
+    }
+
+    /// Goes on to the next token or comment, if there is one. It fails where nothing can be read.
+    pub fn advance(&mut self) -> Outcome {
+        let Some(next) = self.next() else {
+            return Ok(());
+        };
+        self.token = next;
+        match next.is_comment() {
+            true => self.comments = self.comments.get(1..).unwrap_or(&[]),
+            false => self.tokens = self.tokens.get(1..).unwrap_or(&[]),
+        }
+        match (next.kind, self.fault) {
+            (Kind::End, Some(fault)) => Err(fault.into()),
+            _ => Ok(()),
+        }
+    }
+
+    /// Goes on to the next token that is no comment.
+    pub fn advance_to_token(&mut self) -> Outcome {
+        for _ in 0..self.left() {
             self.advance()?;
             if !self.token.is_comment() {
                 break;
@@ -233,8 +239,8 @@ impl<'a, 'b> Cursor<'a, 'b> {
     }
 
     /// Goes on to the first of these marks in so many brackets, unless the cursor is at one, or to the last token.
-    pub fn skip_to(&mut self, marks: &str, depth: usize) -> Outcome {
-        for _ in self.rest {
+    pub fn skip_to(&mut self, marks: &str, depth: u32) -> Outcome {
+        for _ in 0..self.left() {
             if self.token.is_mark(marks) && self.token.depth == depth {
                 break;
             }
@@ -247,7 +253,7 @@ impl<'a, 'b> Cursor<'a, 'b> {
     pub fn read_path(&mut self) -> Outcome<&'b [Token<'a>]> {
         let keyword = *self;
         self.skip_to(";", 0)?;
-        let [path @ .., _] = self.words_since(&keyword) else {
+        let [path @ .., _] = self.tokens_since(&keyword) else {
             return Ok(&[]);
         };
         for word in path {
@@ -257,26 +263,26 @@ impl<'a, 'b> Cursor<'a, 'b> {
         Ok(path)
     }
 
-    /// Whether a mark comes next after the token.
+    /// Whether a mark is the next token.
     pub fn is_before(&self, mark: &str) -> bool {
-        matches!(self.rest, [next, ..] if next.is_mark(mark))
+        self.tokens.first().is_some_and(|next| next.is_mark(mark))
     }
 
     /// What stands in the text from a byte on, up to the token and with it.
     pub fn text_since(&self, begin: usize) -> &'a str {
-        let end = self.token.begin.saturating_add(self.token.text.len());
-        self.text.get(begin..end).unwrap_or("")
+        self.text.get(begin..self.token.end()).unwrap_or("")
     }
 
-    /// The tokens after an earlier place and before this one.
+    /// The comments after an earlier place and before this one.
+    pub fn comments_since(&self, earlier: &Cursor<'a, 'b>) -> &'b [Token<'a>] {
+        let passed = earlier.comments.len().saturating_sub(self.comments.len());
+        let passed = passed.saturating_sub(usize::from(self.token.is_comment()));
+        earlier.comments.get(..passed).unwrap_or(&[])
+    }
+
+    /// The tokens after an earlier place, up to this one and with it.
     pub fn tokens_since(&self, earlier: &Cursor<'a, 'b>) -> &'b [Token<'a>] {
-        let passed = earlier.rest.len().saturating_sub(self.rest.len());
-        earlier.rest.get(..passed.saturating_sub(1)).unwrap_or(&[])
-    }
-
-    /// The words after an earlier place, up to this one and with it.
-    pub fn words_since(&self, earlier: &Cursor<'a, 'b>) -> &'b [Token<'a>] {
-        let passed = earlier.words.len().saturating_sub(self.words.len());
-        earlier.words.get(..passed).unwrap_or(&[])
+        let passed = earlier.tokens.len().saturating_sub(self.tokens.len());
+        earlier.tokens.get(..passed).unwrap_or(&[])
     }
 }

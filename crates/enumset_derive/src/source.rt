@@ -2,6 +2,7 @@
 
 use crate::fault::Place;
 use crate::plan::{EnumDeclaration, Plan};
+use crate::space::Space;
 use crate::tokens::Token;
 use std::alloc::{AllocError, Global};
 use std::mem;
@@ -32,7 +33,7 @@ pub struct Source<'a> {
 #[derive(Drop)]
 pub struct Item<'a> {
     /// The space before it.
-    pub gap: &'static str,
+    pub gap: Space,
     pub form: Form<'a>,
     /// The comments after it on its line, each after a space.
     pub comments: String,
@@ -43,14 +44,14 @@ pub struct Item<'a> {
 pub enum Form<'a> {
     /// A text as it is written.
     Text(String),
-    /// A comment, and where it is.
+    /// Comments on lines right below each other, and where the first is.
     Comment(Place, String),
     /// The first line `use enumset::..;`.
     Imports,
     /// An import of anything else.
     Import(Import<'a>),
     /// An enum that is to be an element type.
-    Element(Element<'a>),
+    Element(Box<Element<'a>>),
 }
 
 /// An import.
@@ -82,24 +83,18 @@ pub struct Element<'a> {
 pub type Name<'a> = (&'a str, Token<'a>);
 
 /// The space since the last item.
-#[derive(Clone, Copy, Default)]
+#[derive(Clone, Copy)]
 pub struct Gap {
-    lines: usize,
-    has_space: bool,
+    pub space: Space,
     /// Whether something was left out after it.
     pub is_after_left_out: bool,
 }
 
 impl Gap {
-    /// The text that stands for it, with so many ends of lines at least.
-    pub fn text(&self, least: usize) -> &'static str {
-        match self.lines.max(least) {
-            0 if self.has_space => " ",
-            0 => "",
-            1 => "\n",
-            _ => "\n\n",
-        }
-    }
+    pub const EMPTY: Gap = Gap {
+        space: Space::Empty,
+        is_after_left_out: false,
+    };
 }
 
 /// By what `rt fmt` orders imports: those of the crate itself come first. One with a comment after it stays in its place.
@@ -124,14 +119,14 @@ fn order<'a>(item: &'a Item, facade: &'a str) -> Option<(usize, &'a str, &'a str
 impl<'a> Source<'a> {
     /// Adds an item, after the space since the last: an element type on a new line, or two after the imports or another.
     pub fn push(&mut self, alloc: Global, form: Form<'a>) -> Result<(), AllocError> {
-        let gap = mem::take(&mut self.gap);
+        let space = mem::replace(&mut self.gap, Gap::EMPTY).space;
         let least = match (&form, self.items.last().map(|last| &last.form)) {
-            _ if self.items.len() == self.head => 0,
-            (Form::Element(_), Some(Form::Imports | Form::Element(_))) => 2,
-            (Form::Element(_), _) => 1,
-            _ => 0,
+            _ if self.items.len() == self.head => Space::Empty,
+            (Form::Element(_), Some(Form::Imports | Form::Element(_))) => Space::EmptyLine,
+            (Form::Element(_), _) => Space::Line,
+            _ => Space::Empty,
         };
-        let gap = gap.text(least);
+        let gap = space.max(least);
         let comments = String::new(alloc);
         Ok(
             self.items.push(Item {
@@ -142,20 +137,36 @@ impl<'a> Source<'a> {
         )
     }
 
-    /// Adds a comment: after the last item if it stands on the line of that, else as an item.
+    /// Adds a comment: to the last item if it stands on the line of that, or right below comments, else as an item.
     pub fn push_comment(&mut self, alloc: Global, comment: &Token) -> Result<(), AllocError> {
-        if let (Some(item), false) = (self.items.last_mut(), comment.begins_line()) {
-            self.gap = Gap::default();
-            return write!(item.comments, " {}", comment.text);
+        let is_below = self.gap.space == Space::Line && self.items.len() > self.head;
+        match self.items.last_mut() {
+            Some(item) if !comment.begins_line() => {
+                self.gap = Gap::EMPTY;
+                write!(item.comments, " {}", comment.text)
+            }
+            Some(
+                Item {
+                    form: Form::Comment(_, text),
+                    comments,
+                    ..
+                },
+            ) if is_below => {
+                self.gap = Gap::EMPTY;
+                let comments = mem::replace(comments, String::new(alloc));
+                write!(text, "{comments}\n{}", comment.text)
+            }
+            _ => {
+                let text = String::from_str(alloc, comment.text)?;
+                self.push(alloc, Form::Comment(comment.place, text))
+            }
         }
-        let text = String::from_str(alloc, comment.text)?;
-        self.push(alloc, Form::Comment(comment.place, text))
     }
 
-    /// Takes off the last item, if it is a comment on the line right above what has this space before it.
-    pub fn pop_comment(&mut self, space: &str) -> Option<Item<'a>> {
+    /// Takes off the last item, if it is comments on the lines right above what has this space before it.
+    pub fn pop_comment(&mut self, space: Space) -> Option<Item<'a>> {
         let last = self.items.last()?;
-        let is_above = matches!(last.form, Form::Comment(_, _)) && space == "\n";
+        let is_above = matches!(last.form, Form::Comment(_, _)) && space == Space::Line;
         match is_above && self.items.len() > self.head {
             true => self.items.pop(),
             false => None,
@@ -166,11 +177,11 @@ impl<'a> Source<'a> {
     pub fn sort_imports(&mut self, alloc: Global) -> Result<(), AllocError> {
         let facade = self.facade;
         let is_run = |one: &Item, next: &Item| {
-            next.gap == "\n" && order(one, facade).is_some() && order(next, facade).is_some()
+            next.gap == Space::Line && order(one, facade).is_some() && order(next, facade).is_some()
         };
         let order = |one: &Item, other: &Item| order(one, facade).cmp(&order(other, facade));
         for run in self.items.chunk_by_mut(is_run) {
-            let gap = mem::replace(&mut run[0].gap, "\n");
+            let gap = mem::replace(&mut run[0].gap, Space::Line);
             run.sort_by(alloc, order)?;
             run[0].gap = gap;
         }
@@ -178,12 +189,10 @@ impl<'a> Source<'a> {
     }
 
     /// Adds space. Where something was left out in it, it is not more than before or after that.
-    pub fn add_space(&mut self, space: &str) {
-        let lines = space.matches('\n').count();
-        self.gap.lines = match mem::take(&mut self.gap.is_after_left_out) {
-            true => self.gap.lines.max(lines),
-            false => self.gap.lines.saturating_add(lines),
+    pub fn add_space(&mut self, space: Space) {
+        self.gap.space = match mem::take(&mut self.gap.is_after_left_out) {
+            true => self.gap.space.max(space),
+            false => self.gap.space.and(space),
         };
-        self.gap.has_space |= !space.is_empty();
     }
 }

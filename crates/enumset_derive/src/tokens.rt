@@ -1,6 +1,7 @@
-//! The tokens of a source text, with the brackets that each is in.
+//! The tokens of a source text, with the brackets that each is in, and its comments.
 
-use crate::fault::{DeriveError, Outcome, Place, Reason};
+use crate::fault::{DeriveError, Fault, Outcome, Place, Reason};
+use crate::space::Space;
 use std::alloc::Global;
 
 /// What a token is.
@@ -16,32 +17,40 @@ pub enum Kind {
     Letters,
     /// A text or a character in quotes.
     Quoted,
-    /// This character, or `::` for `:`.
-    Mark(char),
+    /// A character of no other kind, or `::`.
+    Mark,
     /// A lifetime, a single `:`, or `r#` and such where no raw text follows.
     Other,
-    /// The end of the text.
+    /// The end of the text, or of what can be read of it.
     End,
-    /// Nothing can be read from here on: what begins at the place has no end, or no place in Rattle, as this says.
-    Fault(&'static str),
 }
 
 /// What is wrong where a bracket has no end, or another end.
 pub const UNCLOSED_BRACKET: &str = "this bracket has no end";
 
-/// A token of a source text.
+/// A token of a source text, or a comment. It takes 40 bytes, of which a text of marks alone has one for each character.
 #[derive(Clone, Copy)]
 pub struct Token<'a> {
     pub kind: Kind,
-    /// The spaces, tabs and ends of lines before it.
-    pub space: &'a str,
+    /// The space before it.
+    pub space: Space,
     /// As it is written.
     pub text: &'a str,
     /// Where it begins, in bytes.
-    pub begin: usize,
+    pub offset: u32,
     pub place: Place,
     /// In how many brackets it is, itself among them if it begins one.
-    pub depth: usize,
+    pub depth: u32,
+}
+
+/// What a source text has.
+#[derive(Drop)]
+pub struct Tokens<'a> {
+    /// Those that are no comments.
+    pub tokens: Vec<Token<'a>>,
+    pub comments: Vec<Token<'a>>,
+    /// The fault at the last token, if what begins there has no end, or no place in Rattle.
+    pub fault: Option<Fault>,
 }
 
 impl<'a> Token<'a> {
@@ -49,9 +58,19 @@ impl<'a> Token<'a> {
         matches!(self.kind, Kind::Comment | Kind::OuterDoc | Kind::InnerDoc)
     }
 
+    /// Where it begins in the text.
+    pub fn begin(&self) -> usize {
+        self.offset as usize
+    }
+
+    /// Where it ends in the text.
+    pub fn end(&self) -> usize {
+        self.begin().saturating_add(self.text.len())
+    }
+
     /// Whether the token is the first on its line, but for the first of a text.
     pub fn begins_line(&self) -> bool {
-        self.space.contains('\n')
+        self.space >= Space::Line
     }
 
     /// The fault that is here.
@@ -78,7 +97,7 @@ impl<'a> Token<'a> {
 
     /// Whether the token is one of these marks.
     pub fn is_mark(&self, marks: &str) -> bool {
-        matches!(self.kind, Kind::Mark(mark) if marks.contains(mark))
+        matches!(self.kind, Kind::Mark) && self.text.starts_with(|mark| marks.contains(mark))
     }
 
     /// Whether the token is a name or a keyword: letters without a digit first.
@@ -97,8 +116,12 @@ pub fn names_last(path: &str, name: &str) -> bool {
     path.rsplit("::").next().is_some_and(|last| last == name)
 }
 
-/// What a text or a character in quotes is that has no end.
-const UNCLOSED: (Kind, &str) = (Kind::Fault("this quote has no end"), "");
+/// What a token is, and the text after it, or what is wrong with what begins there.
+type Read<'a> = Result<(Kind, &'a str), &'static str>;
+
+const UNCLOSED: &str = "this quote has no end";
+
+const TOO_LONG: &str = "a source has at most 4294967295 bytes";
 
 const RAW_NAME: &str = "no raw names here: choose one that is no keyword";
 
@@ -107,89 +130,96 @@ const CURLY_QUOTE: &str = "this is a quote of a text for readers: write `\"` or 
 const LONE_RETURN: &str = "a carriage return stands only before a line feed";
 
 /// The tokens of a text, and its end. It is a fault if a token ends the text or another bracket in a bracket.
-pub fn tokens_of(alloc: Global, text: &str) -> Outcome<Vec<Token<'_>>> {
-    let mut tokens = Vec::new(alloc);
-    // Of the brackets that have begun, the character that is to end each, and where it is.
+pub fn tokens_of(alloc: Global, text: &str) -> Outcome<Tokens<'_>> {
+    if u32::try_from(text.len()).is_err() {
+        return Err(Reason::Text(TOO_LONG).at(Place::BEGIN).into());
+    }
+    let mut found = Tokens {
+        tokens: Vec::new(alloc),
+        comments: Vec::new(alloc),
+        fault: None,
+    };
     let mut open = Vec::new(alloc);
     let mut end = Place::BEGIN;
     let mut rest = text;
     for _ in 0..=text.len() {
         let onward = rest.trim_start_matches(is_space);
-        let (kind, after) = first_token(onward);
-        let (space, written) = (before(rest, onward), before(onward, after));
+        let space = before(rest, onward);
         let place = space.chars().fold(end, Place::after);
-        let mut unclosed = None;
-        match kind {
-            Kind::Mark('(') => open.push((')', place))?,
-            Kind::Mark('[') => open.push((']', place))?,
-            Kind::Mark('{') => open.push(('}', place))?,
-            Kind::Mark(mark @ (')' | ']' | '}')) => match open.pop() {
-                Some((wanted, begin)) if wanted != mark => unclosed = Some((
-                    UNCLOSED_BRACKET,
-                    begin,
-                )),
-                Some(_) => {}
-                None => unclosed = Some(("this bracket has no beginning", place)),
-            },
-            Kind::End => unclosed = open.first().map(|(_, begin)| (UNCLOSED_BRACKET, *begin)),
-            _ => {}
-        }
-        end = written.chars().fold(place, Place::after);
-        let at_fault = unclosed.map(|(text, place)| (Kind::Fault(text), place));
-        let (kind, place) = at_fault.unwrap_or((kind, place));
-        tokens.push(Token {
+        let read = first_token(onward);
+        let (kind, after) = read.unwrap_or((Kind::End, onward));
+        let mut token = Token {
             kind,
-            space,
-            text: written,
-            begin: before(text, onward).len(),
+            space: Space::of(space),
+            text: before(onward, after),
+            offset: u32::try_from(before(text, onward).len()).unwrap_or(u32::MAX),
             place,
-            depth: open.len(),
-        })?;
-        if onward.is_empty() {
+            depth: 0,
+        };
+        let unread = read.err().map(|text| Reason::Text(text).at(place));
+        found.fault = unread.or(take_bracket(&mut open, &token)?);
+        if found.fault.is_some() {
+            token.kind = Kind::End;
+        }
+        token.depth = u32::try_from(open.len()).unwrap_or(u32::MAX);
+        match token.is_comment() {
+            true => found.comments.push(token)?,
+            false => found.tokens.push(token)?,
+        }
+        if matches!(token.kind, Kind::End) {
             break;
         }
+        end = token.text.chars().fold(place, Place::after);
         rest = after;
     }
-    Ok(tokens)
+    Ok(found)
 }
 
-/// What the first token of a text is, and the text after it.
-fn first_token(text: &str) -> (Kind, &str) {
+/// Takes in a bracket, if a token is one. Of those that have begun it knows the character that is to end each, and where
+/// it is. Gives the fault if the token ends another one or none, or the text in a bracket.
+fn take_bracket(open: &mut Vec<(char, Place)>, token: &Token) -> Outcome<Option<Fault>> {
+    let unclosed = |begin: Place| Some(Reason::Text(UNCLOSED_BRACKET).at(begin));
+    let place = token.place;
+    match (token.kind, token.text) {
+        (Kind::Mark, "(") => open.push((')', place))?,
+        (Kind::Mark, "[") => open.push((']', place))?,
+        (Kind::Mark, "{") => open.push(('}', place))?,
+        (Kind::Mark, ")" | "]" | "}") => match open.pop() {
+            Some((wanted, begin)) if !token.text.starts_with(wanted) => return Ok(unclosed(begin)),
+            Some(_) => {}
+            None => return Ok(Some(Reason::Text("this bracket has no beginning").at(place))),
+        },
+        (Kind::End, _) => return Ok(open.first().and_then(|(_, begin)| unclosed(*begin))),
+        _ => {}
+    }
+    Ok(None)
+}
+
+/// What the first token of a text is.
+fn first_token(text: &str) -> Read<'_> {
     let mut characters = text.chars();
     let Some(first) = characters.next() else {
-        return (Kind::End, "");
+        return Ok((Kind::End, ""));
     };
     let rest = characters.as_str();
     let is_in_line = |character| character != '\n';
-    match first {
+    Ok(match first {
         '/' if rest.starts_with('/') => (comment_kind(text), rest.trim_start_matches(is_in_line)),
-        '/' if rest.starts_with('*') => block_comment(text),
-        '*' if is_comment_end(rest) => (Kind::Fault("this comment has no beginning"), ""),
-        '\r' => (Kind::Fault(LONE_RETURN), ""),
-        '\u{a0}' => (
-            Kind::Fault("this is U+00A0, a space without a break: write a plain space"),
-            "",
-        ),
-        '\u{200b}' => (
-            Kind::Fault("this is U+200B, a space without a width: remove it"),
-            "",
-        ),
-        '\u{2028}' | '\u{2029}' => (
-            Kind::Fault("this is U+2028 or U+2029: write a line feed"),
-            "",
-        ),
-        '\u{2018}' | '\u{2019}' | '\u{201c}' | '\u{201d}' => (Kind::Fault(CURLY_QUOTE), ""),
-        '\u{feff}' => (
-            Kind::Fault("this is U+FEFF, a byte order mark: remove it"),
-            "",
-        ),
-        '"' => after_quote(rest),
-        '\'' => after_tick(rest),
-        ':' if rest.starts_with(':') => (Kind::Mark(':'), after(rest, 0)),
+        '/' if rest.starts_with('*') => return block_comment(text),
+        '*' if is_comment_end(rest) => return Err("this comment has no beginning"),
+        '\r' => return Err(LONE_RETURN),
+        '\u{a0}' => return Err("this is U+00A0, a space without a break: write a plain space"),
+        '\u{200b}' => return Err("this is U+200B, a space without a width: remove it"),
+        '\u{2028}' | '\u{2029}' => return Err("this is U+2028 or U+2029: write a line feed"),
+        '\u{2018}' | '\u{2019}' | '\u{201c}' | '\u{201d}' => return Err(CURLY_QUOTE),
+        '\u{feff}' => return Err("this is U+FEFF, a byte order mark: remove it"),
+        '"' => return after_quote(rest),
+        '\'' => return after_tick(rest),
+        ':' if rest.starts_with(':') => (Kind::Mark, after(rest, 0)),
         ':' => (Kind::Other, rest),
-        _ if is_word(first) => word(text),
-        _ => (Kind::Mark(first), rest),
-    }
+        _ if is_word(first) => return word(text),
+        _ => (Kind::Mark, rest),
+    })
 }
 
 /// What the comment is that a text begins with.
@@ -202,8 +232,8 @@ fn comment_kind(text: &str) -> Kind {
     }
 }
 
-/// What the block comment is that a text begins with, and the text after it. Block comments may stand in it.
-fn block_comment(text: &str) -> (Kind, &str) {
+/// What the block comment is that a text begins with. Block comments may stand in it.
+fn block_comment(text: &str) -> Read<'_> {
     let mut depth = 0usize;
     let mut last = ' ';
     for (at, character) in text.char_indices() {
@@ -213,62 +243,63 @@ fn block_comment(text: &str) -> (Kind, &str) {
             _ => (depth, character),
         };
         if depth == 0 && last == ' ' {
-            return (comment_kind(text), after(text, at));
+            return Ok((comment_kind(text), after(text, at)));
         }
     }
-    (Kind::Fault("this comment has no end"), "")
+    Err("this comment has no end")
 }
 
-/// What a token is that begins as a word, and the text after it: a word, or a text in quotes.
-fn word(text: &str) -> (Kind, &str) {
+/// What a token is that begins as a word: a word, or a text in quotes.
+fn word(text: &str) -> Read<'_> {
     let rest = text.trim_start_matches(is_word);
     match (before(text, rest), rest.chars().next()) {
         ("r" | "br" | "cr", Some('#' | '"')) => after_raw_prefix(rest),
         ("b" | "c", Some('"')) => after_quote(after(rest, 0)),
         ("b" | "c", Some('\'')) => after_tick(after(rest, 0)),
-        (word, _) if !word.is_ascii() => (Kind::Fault("names are ASCII here"), rest),
-        _ => (Kind::Letters, rest),
+        (word, _) if !word.is_ascii() => Err("names are ASCII here"),
+        _ => Ok((Kind::Letters, rest)),
     }
 }
 
-/// What a token is that begins with `"`, and the text after it.
-fn after_quote(text: &str) -> (Kind, &str) {
+/// What a token is of which this comes after a `"`.
+fn after_quote(text: &str) -> Read<'_> {
     let mut is_escaped = false;
     for (at, character) in text.char_indices() {
         if character == '"' && !is_escaped {
-            return (Kind::Quoted, after(text, at));
+            return Ok((Kind::Quoted, after(text, at)));
         }
         is_escaped = character == '\\' && !is_escaped;
     }
-    UNCLOSED
+    Err(UNCLOSED)
 }
 
-/// What a token is that begins with `'`, and the text after it: a character or a lifetime.
-fn after_tick(text: &str) -> (Kind, &str) {
+/// What a token is of which this comes after a `'`: a character or a lifetime.
+fn after_tick(text: &str) -> Read<'_> {
     let mut characters = text.chars();
     let first = characters.next().unwrap_or(' ');
     if is_word(first) && !characters.as_str().starts_with('\'') {
-        return (Kind::Other, text.trim_start_matches(is_word));
+        return Ok((Kind::Other, text.trim_start_matches(is_word)));
     }
     if first == '\\' {
         let _ = characters.next();
     }
     let end = characters.as_str().split_once('\'');
-    end.map_or(UNCLOSED, |(_, rest)| (Kind::Quoted, rest))
+    let (_, rest) = end.ok_or(UNCLOSED)?;
+    Ok((Kind::Quoted, rest))
 }
 
-/// What a raw text is, or a raw name, of which `r`, `br` or `cr` stands before this text, and the text after it.
-fn after_raw_prefix(text: &str) -> (Kind, &str) {
+/// What a raw text is of which this comes after `r`, `br` or `cr`.
+fn after_raw_prefix(text: &str) -> Read<'_> {
     let rest = text.trim_start_matches('#');
     let hashes = before(text, rest);
     if let Some(quoted) = rest.strip_prefix('"') {
         let mut ends = quoted.match_indices('"');
         let rest = ends.find_map(|(at, _)| after(quoted, at).strip_prefix(hashes));
-        return rest.map_or(UNCLOSED, |rest| (Kind::Quoted, rest));
+        return Ok((Kind::Quoted, rest.ok_or(UNCLOSED)?));
     }
     match rest.starts_with(is_word) {
-        true => (Kind::Fault(RAW_NAME), ""),
-        false => (Kind::Other, rest),
+        true => Err(RAW_NAME),
+        false => Ok((Kind::Other, rest)),
     }
 }
 

@@ -43,7 +43,7 @@ pub fn module_text(alloc: Global, request: &Request, source: &Source) -> Outcome
     for (index, item) in source.items.iter().enumerate() {
         let lines = text.len().saturating_sub(text.trim_end_matches('\n').len());
         let written = if text.is_empty() { 2 } else { lines };
-        text.push_str(item.gap.get(written..).unwrap_or(""))?;
+        text.push_str(item.gap.text().get(written..).unwrap_or(""))?;
         let has_place = source.has_imports || imports.is_empty();
         if index == source.head && !has_place {
             write!(text, "{imports}\n\n")?;

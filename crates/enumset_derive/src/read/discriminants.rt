@@ -19,18 +19,18 @@ impl<'a, 'b> Cursor<'a, 'b> {
             return Ok(None);
         }
         let equal = *self;
-        self.advance_to_word()?;
+        self.advance_to_token()?;
         let begin = self.token;
-        for _ in self.rest {
+        for _ in 0..self.left() {
             if self.token.is_mark(",}") && self.token.depth <= 1 {
                 break;
             }
-            self.advance_to_word()?;
+            self.advance_to_token()?;
         }
-        let [words @ .., _] = self.words_since(&equal) else {
+        let [tokens @ .., _] = self.tokens_since(&equal) else {
             return Err(begin.fault(NOT_A_NUMBER));
         };
-        let (sign, literal, number) = match words {
+        let (sign, literal, number) = match tokens {
             [minus, literal] if minus.is("-") && is_literal(literal) => {
                 let (literal, number) = read_literal(begin, literal, true)?;
                 ("-", Some(literal), number)
@@ -39,7 +39,7 @@ impl<'a, 'b> Cursor<'a, 'b> {
                 let (literal, number) = read_literal(begin, literal, false)?;
                 ("", Some(literal), number)
             }
-            words => ("", None, evaluate(alloc, begin, words, own)?),
+            tokens => ("", None, evaluate(alloc, begin, tokens, own)?),
         };
         Ok(Some(Discriminant {
             place: begin.place,

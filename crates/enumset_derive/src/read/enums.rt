@@ -70,7 +70,10 @@ impl<'a, 'b> Reader<'a, 'b> {
             json_names,
             guard: if is_test { FOR_TESTS } else { "" },
         };
-        Ok(self.source.push(alloc, Form::Element(element))?)
+        Ok(
+            self.source
+                .push(alloc, Form::Element(Box::new(alloc, element)?))?,
+        )
     }
 
     /// Takes comments and attributes of the enum, or of a variant if its name is known. Gives those kept, a line each.
@@ -87,12 +90,12 @@ impl<'a, 'b> Reader<'a, 'b> {
             let is_kept = match part.name.text {
                 "derive" if variant.is_none() => {
                     of.derives.extend(self.kept_of(part)?.0)?;
-                    write_comments(&mut kept, part.inner)?;
+                    write_comments(&mut kept, part.comments)?;
                     continue;
                 }
                 "enumset" if variant.is_none() => {
                     self.read_options(&mut of.options, part)?;
-                    write_comments(&mut kept, part.inner)?;
+                    write_comments(&mut kept, part.comments)?;
                     continue;
                 }
                 "serde" => derives(of, "Serialize") || derives(of, "Deserialize"),
@@ -127,10 +130,10 @@ impl<'a, 'b> Reader<'a, 'b> {
         let begin = self.cursor;
         of.visibility = self.cursor.read_visibility()?;
         let name = self.cursor.read_enum_name()?;
-        write_comments(&mut of.attributes[1], self.cursor.tokens_since(&begin))?;
+        write_comments(&mut of.attributes[1], self.cursor.comments_since(&begin))?;
         of.name = name.text;
         self.declare(name)?;
-        for _ in self.cursor.rest {
+        for _ in 0..self.cursor.left() {
             self.test_options(&of.options)?;
             let parts = self.cursor.read_parts(self.alloc)?;
             let mut kept = self.take(of, parts.as_slice())?;
@@ -195,7 +198,7 @@ impl<'a, 'b> Reader<'a, 'b> {
         let name = begin.token;
         name.want(name.is_name(), "wanted: a name of a variant, or `}`")?;
         name.want(!is_among(KEYWORDS, name.text), KEYWORD)?;
-        self.cursor.advance_to_word()?;
+        self.cursor.advance_to_token()?;
         Ok(Variant {
             place: name.place,
             name: name.text,
@@ -218,10 +221,10 @@ impl<'a, 'b> Cursor<'a, 'b> {
             "`EnumSetType` is for enums alone",
         )?;
         keyword.want(keyword.is("enum"), "wanted: `enum`")?;
-        self.advance_to_word()?;
+        self.advance_to_token()?;
         let name = self.token;
         name.want(name.is_name(), "wanted: a name of an enum")?;
-        self.advance_to_word()?;
+        self.advance_to_token()?;
         let next = self.token;
         let has_parameters = next.is_mark("<") || next.is("where");
         next.want(!has_parameters, "the enum must have no parameters")?;
@@ -238,15 +241,14 @@ impl<'a, 'b> Cursor<'a, 'b> {
         if end.is_mark(",") {
             self.advance()?;
         }
-        for _ in self.rest {
+        for _ in 0..self.left() {
             let is_comment = matches!(self.token.kind, Kind::Comment);
             if !is_comment || self.token.begins_line() {
                 break;
             }
             self.advance()?;
         }
-        let passed = self.tokens_since(begin).iter();
-        let comments = passed.filter(|token| token.is_comment());
+        let comments = self.comments_since(begin).iter();
         let comments = comments.map(|comment| format!(in alloc; " {}", comment.text));
         Ok(comments.try_collect(alloc)?)
     }
@@ -255,7 +257,7 @@ impl<'a, 'b> Cursor<'a, 'b> {
 /// Writes an empty line if the source has one before a token, unless one was written last.
 fn write_empty_line(out: &mut String, token: &Token) -> Result<(), AllocError> {
     let is_there = out.as_str() == "\n" || out.as_str().ends_with("\n\n");
-    if token.space.matches('\n').count() > 1 && !is_there {
+    if token.space == Space::EmptyLine && !is_there {
         out.push('\n')?;
     }
     Ok(())

@@ -47,7 +47,7 @@ impl Operator {
         };
         let is_double = rest
             .first()
-            .is_some_and(|two| two.is(one.text) && two.space.is_empty());
+            .is_some_and(|two| two.is(one.text) && two.space == Space::Empty);
         let operator = match one.text {
             "<" if is_double => return Some((Operator::Left, 2)),
             ">" if is_double => return Some((Operator::Right, 2)),
@@ -200,7 +200,7 @@ impl Expression {
 pub(super) fn evaluate(
     alloc: Global,
     begin: &Token,
-    words: &[Token],
+    tokens: &[Token],
     own: NumberType,
 ) -> Outcome<Number> {
     let mut expression = Expression {
@@ -209,8 +209,8 @@ pub(super) fn evaluate(
         wants_operand: true,
     };
     let mut index = 0usize;
-    for _ in words {
-        let rest = words.get(index..).unwrap_or(&[]);
+    for _ in tokens {
+        let rest = tokens.get(index..).unwrap_or(&[]);
         let Some(here) = rest.first() else {
             break;
         };

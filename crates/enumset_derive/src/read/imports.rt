@@ -12,24 +12,23 @@ const EXPORTS_ALL: &str = "`pub use` takes no `*` here: name what is exported";
 impl<'a, 'b> Reader<'a, 'b> {
     /// Reads an import from its keyword on. Its attributes are given, a line each; its visibility begins at `item`.
     pub(super) fn read_use(&mut self, place: Place, before: &str, item: Cursor<'a, 'b>) -> Outcome {
-        let visibility = item.text.get(item.token.begin..self.cursor.token.begin);
+        let visibility = item.text.get(item.token.begin()..self.cursor.token.begin());
         let visibility = visibility.unwrap_or("").trim_end();
         let keyword = self.cursor;
         let path = self.cursor.read_path()?;
         let may_stay = |root: &Token| root.is_name() && !is_among("core alloc", root.text);
         let is_path = path.first().is_some_and(may_stay);
-        let written = is_path.then_some(self.cursor.text_since(item.token.begin));
+        let written = is_path.then_some(self.cursor.text_since(item.token.begin()));
         let written = written.unwrap_or("");
         if written.is_empty() || (visibility.is_empty() && is_of_enumset(path)) {
-            let tokens = self.cursor.tokens_since(&keyword).iter();
-            for comment in tokens.filter(|token| token.is_comment()) {
+            for comment in self.cursor.comments_since(&keyword) {
                 self.leave_out_comment(comment.place, comment.text)?;
             }
         }
         let before_it = self.source.items.len();
         for (index, tree) in trees_of(self.alloc, path)?.iter().enumerate() {
             if index > 0 {
-                self.source.add_space("\n");
+                self.source.add_space(Space::Line);
             }
             self.read_tree(place, [before, visibility, written], tree)?;
         }
@@ -87,7 +86,7 @@ impl<'a, 'b> Reader<'a, 'b> {
             [own] if own.is("self") => {}
             [own, name @ ..] if own.is("self") => {
                 let path = format!(in alloc; "enumset{}", spelled(alloc, name)?)?;
-                self.source.add_space("\n");
+                self.source.add_space(Space::Line);
                 let import = Import {
                     text: format!(in alloc; "use {path};")?,
                     path,
@@ -103,12 +102,14 @@ impl<'a, 'b> Reader<'a, 'b> {
 
     /// Leaves out each import of a crate that may not be there, of which nothing is used and nothing may be by others.
     pub(super) fn settle_imports(&mut self) -> Outcome {
-        for item in mem::replace(&mut self.source.items, Vec::new(self.alloc)) {
+        let mut gap = Space::Empty;
+        for mut item in mem::replace(&mut self.source.items, Vec::new(self.alloc)) {
+            item.gap = item.gap.max(mem::replace(&mut gap, Space::Empty));
             if let Form::Import(import) = &item.form {
                 let mut names = import.names.iter();
                 let is_used = names.any(|(_, name)| self.used.contains(name.text));
                 if let (Some(place), false) = (import.unknown, is_used) {
-                    self.leave_out_above(item.gap)?;
+                    gap = self.leave_out_above(item.gap)?;
                     let note = format!(in self.alloc; "left out: {} {UNUSED}", import.text)?;
                     self.source.notes.push((place, note))?;
                     if !item.comments.is_empty() {
@@ -190,17 +191,17 @@ fn spelled(alloc: Global, tree: &[Token]) -> Result<String, AllocError> {
     text.replace(alloc, ", }", "}")
 }
 
-/// The name `F` of `extern crate enumset as F` among these words, or an empty text.
-pub(super) fn renamed_crate<'a>(words: &[Token<'a>]) -> &'a str {
-    let mut words = words.array_windows::<4>();
-    let renamed = words.find(|[kind, name, by, _]| kind.is("crate")
+/// The name `F` of `extern crate enumset as F` among these tokens, or an empty text.
+pub(super) fn renamed_crate<'a>(tokens: &[Token<'a>]) -> &'a str {
+    let mut tokens = tokens.array_windows::<4>();
+    let renamed = tokens.find(|[kind, name, by, _]| kind.is("crate")
         && name.is("enumset")
         && by.is("as"));
     renamed.map_or("", |[_, _, _, new]| new.text)
 }
 
-/// Whether `extern crate alloc` is among these words.
-pub(super) fn has_alloc(words: &[Token]) -> bool {
-    let mut words = words.array_windows::<3>();
-    words.any(|[keyword, kind, name]| keyword.is("extern") && kind.is("crate") && name.is("alloc"))
+/// Whether `extern crate alloc` is among these tokens.
+pub(super) fn has_alloc(tokens: &[Token]) -> bool {
+    let mut tokens = tokens.array_windows::<3>();
+    tokens.any(|[keyword, kind, name]| keyword.is("extern") && kind.is("crate") && name.is("alloc"))
 }

@@ -43,7 +43,7 @@ impl<'a, 'b> Reader<'a, 'b> {
         let begin = self.cursor;
         self.derived.clear();
         let parts = self.cursor.read_parts(self.alloc)?;
-        if derive_among(self.cursor.words_since(&begin), self.derive).is_some() {
+        if derive_among(self.cursor.tokens_since(&begin), self.derive).is_some() {
             return self.read_element(parts.as_slice());
         }
         let item = self.cursor;
@@ -51,12 +51,12 @@ impl<'a, 'b> Reader<'a, 'b> {
         let start = self.cursor;
         let keyword = start.token;
         keyword.want(keyword.is_name() || keyword.is_mark(":"), "wanted: an item")?;
-        let next = start.words.first().unwrap_or(keyword);
+        let next = start.tokens.first().unwrap_or(keyword);
         if keyword.is("extern") && next.is("crate") {
             self.cursor.skip_to(";", 0)?;
-            let text = self.cursor.text_since(begin.token.begin);
+            let text = self.cursor.text_since(begin.token.begin());
             self.is_without_item = true;
-            self.leave_out_above(self.source.gap.text(0))?;
+            self.source.gap.space = self.leave_out_above(self.source.gap.space)?;
             return self.leave_out(begin.token.place, text);
         }
         let mut text = String::new(self.alloc);
@@ -68,11 +68,11 @@ impl<'a, 'b> Reader<'a, 'b> {
         }
         self.name_item(&start)?;
         self.cursor.skip_to(";}", 0)?;
-        let words = self.cursor.words_since(&start);
+        let tokens = self.cursor.tokens_since(&start);
         let is_test = parts.iter().any(|part| part.name.is("cfg"));
-        self.test_item(keyword, words, is_test)?;
-        let named = self.cursor.words_since(&item);
-        self.use_words(named)?;
+        self.test_item(keyword, tokens, is_test)?;
+        let named = self.cursor.tokens_since(&item);
+        self.use_names(named)?;
         self.used.extend(["*", "_"])?;
         self.write_item(&mut text, item)?;
         Ok(self.source.push(self.alloc, Form::Text(text))?)
@@ -80,18 +80,18 @@ impl<'a, 'b> Reader<'a, 'b> {
 
     /// Takes in the name of an item that begins at a keyword, if it has one.
     fn name_item(&mut self, start: &Cursor<'a, 'b>) -> Outcome {
-        let (mut keyword, mut words) = (start.token, start.words);
+        let (mut keyword, mut tokens) = (start.token, start.tokens);
         for _ in 0..4 {
             let is_before = is_among(QUALIFIERS, keyword.text)
                 || matches!(keyword.kind, Kind::Quoted);
-            match words {
+            match tokens {
                 [next, rest @ ..] if is_before && is_qualified(next) => {
-                    (keyword, words) = (next, rest);
+                    (keyword, tokens) = (next, rest);
                 }
                 _ => break,
             }
         }
-        let Some(name) = words.first().filter(|name| name.is_name()) else {
+        let Some(name) = tokens.first().filter(|name| name.is_name()) else {
             return Ok(());
         };
         if is_among(DECLARED, keyword.text) {
@@ -106,15 +106,15 @@ impl<'a, 'b> Reader<'a, 'b> {
     /// Takes in the name of a function, a type, a trait or a module. It is a fault if another has it, but for case.
     pub(super) fn declare(&mut self, name: &'b Token<'a>) -> Outcome {
         name.want(!is_among(KEYWORDS, name.text), KEYWORD)?;
-        let is_same = |other: &&&Token| other.text.eq_ignore_ascii_case(name.text);
-        if let Some(other) = self.declared.iter().find(is_same) {
+        let key = name.text.to_ascii_lowercase(self.alloc)?;
+        if let Some(other) = self.declared.get(key.as_str()) {
             let reason = match other.is(name.text) {
                 true => Reason::NameTwice(other.place),
                 false => Reason::OtherCase(other.place),
             };
             return Err(reason.at(name.place).into());
         }
-        self.declared.push(name)?;
+        self.declared.insert(key, name)?;
         Ok(self.source.names.push(("", *name))?)
     }
 
@@ -122,17 +122,17 @@ impl<'a, 'b> Reader<'a, 'b> {
     fn test_item(
         &mut self,
         keyword: &'b Token<'a>,
-        words: &'b [Token<'a>],
+        tokens: &'b [Token<'a>],
         is_test: bool,
     ) -> Outcome {
-        if let Some(derive) = derive_inside(words, self.derive) {
+        if let Some(derive) = derive_inside(tokens, self.derive) {
             return Err(derive.fault(if is_test { INSIDE_TESTS } else { INSIDE }));
         }
-        let is_set = is_set_constant(keyword, words);
+        let is_set = is_set_constant(keyword, tokens);
         keyword.want(!is_set, SET_CONSTANT)?;
-        for (index, pair) in words.array_windows::<2>().enumerate() {
+        for (index, pair) in tokens.array_windows::<2>().enumerate() {
             let [before, word] = pair;
-            let rest = words.get(index.saturating_add(2)..).unwrap_or(&[]);
+            let rest = tokens.get(index.saturating_add(2)..).unwrap_or(&[]);
             let is_set = !before.is_mark("<,*") && is_set_constant(word, rest);
             word.want(!is_set, SET_CONSTANT)?;
             if is_among("Serialize Deserialize", word.text) {
@@ -171,7 +171,7 @@ impl<'a, 'b> Reader<'a, 'b> {
         if is_whole {
             return Ok(write!(out, "{}\n", part.text)?);
         }
-        write_comments(out, part.inner)?;
+        write_comments(out, part.comments)?;
         let kept = kept.join(self.alloc, ", ")?;
         Ok(match kept.as_str() {
             "" => {}
@@ -182,14 +182,14 @@ impl<'a, 'b> Reader<'a, 'b> {
     /// Writes an item up to the cursor, without the attributes in it that have no meaning. Attributes in a macro are as
     /// they are. Rust's `core` and `alloc` are `std` here.
     fn write_item(&mut self, out: &mut String, item: Cursor<'a, 'b>) -> Outcome {
-        let from = item.token.begin;
+        let from = item.token.begin();
         let mut rewriting = Rewriting {
             at: item,
             from,
             macro_end: 0,
         };
-        for _ in item.rest {
-            if rewriting.at.token.begin >= self.cursor.token.begin {
+        for _ in 0..item.left() {
+            if rewriting.at.token.begin() >= self.cursor.token.begin() {
                 break;
             }
             self.rewrite_token(out, &mut rewriting)?;
@@ -200,11 +200,11 @@ impl<'a, 'b> Reader<'a, 'b> {
     /// Goes on by a token or an attribute, and writes what comes before it if it does not stay as it is.
     fn rewrite_token(&mut self, out: &mut String, of: &mut Rewriting<'a, 'b>) -> Outcome {
         let begin = of.at.token;
-        let is_in_macro = begin.begin < of.macro_end;
+        let is_in_macro = begin.begin() < of.macro_end;
         if self.is_root(&of.at) {
             out.push_str(of.text_before(begin))?;
             out.push_str("std")?;
-            of.from = begin.begin.saturating_add(begin.text.len());
+            of.from = begin.end();
         } else if !is_in_macro && begin.is_mark("#") {
             self.rewrite_attribute(out, of)?;
         } else if !is_in_macro && of.at.is_macro() {
@@ -216,7 +216,7 @@ impl<'a, 'b> Reader<'a, 'b> {
     /// Reads an attribute in an item, if one begins there, and writes the text before it if it is left out.
     fn rewrite_attribute(&mut self, out: &mut String, of: &mut Rewriting<'a, 'b>) -> Outcome {
         let begin = of.at.token;
-        let bearer = match of.at.rest {
+        let bearer = match of.at.tokens {
             [next, ..] if next.is_mark("[") => Bearer::Item,
             [next, open, ..] if next.is_mark("!") && open.is_mark("[") => Bearer::Text,
             _ => return Ok(()),
@@ -229,8 +229,8 @@ impl<'a, 'b> Reader<'a, 'b> {
             return Ok(());
         }
         out.push_str(of.text_before(begin))?;
-        of.from = of.at.rest.first().map_or(of.from, |next| next.begin);
-        let text = of.at.text_since(begin.begin);
+        of.from = of.at.next().map_or(of.from, |next| next.begin());
+        let text = of.at.text_since(begin.begin());
         self.leave_out(begin.place, text)
     }
 
@@ -238,7 +238,7 @@ impl<'a, 'b> Reader<'a, 'b> {
     fn is_root(&self, at: &Cursor) -> bool {
         let begin = at.token;
         let is_crate = begin.is("core") || (begin.is("alloc") && self.has_alloc);
-        let before = at.text.get(..begin.begin).unwrap_or("");
+        let before = at.text.get(..begin.begin()).unwrap_or("");
         is_crate && at.is_before(":") && !before.trim_end().ends_with("::")
     }
 }
@@ -246,7 +246,7 @@ impl<'a, 'b> Reader<'a, 'b> {
 impl<'a, 'b> Rewriting<'a, 'b> {
     /// The text before a token that is not yet written.
     fn text_before(&self, token: &Token) -> &'a str {
-        self.at.text.get(self.from..token.begin).unwrap_or("")
+        self.at.text.get(self.from..token.begin()).unwrap_or("")
     }
 }
 
@@ -254,7 +254,7 @@ impl<'a, 'b> Cursor<'a, 'b> {
     /// Whether a call or a definition of a macro begins here.
     fn is_macro(&self) -> bool {
         let is_name = self.token.is_name() && !is_among(BEFORE_NOT, self.token.text);
-        let [mark, next, ..] = self.rest else {
+        let [mark, next, ..] = self.tokens else {
             return false;
         };
         is_name && mark.is_mark("!") && (next.is_mark("([{") || next.is_name())
@@ -266,12 +266,12 @@ impl<'a, 'b> Cursor<'a, 'b> {
         end.skip_to_open()?;
         let depth = end.token.depth.saturating_sub(1);
         end.skip_to(")]}", depth)?;
-        Ok(end.token.begin)
+        Ok(end.token.begin())
     }
 
     /// Goes on to the next bracket that begins.
     fn skip_to_open(&mut self) -> Outcome {
-        for _ in self.rest {
+        for _ in 0..self.left() {
             if self.token.is_mark("([{") {
                 break;
             }
@@ -286,28 +286,31 @@ fn is_qualified(next: &Token) -> bool {
     is_among("fn trait unsafe async extern", next.text) || matches!(next.kind, Kind::Quoted)
 }
 
-/// The first `EnumSetType` that an attribute derives among the words of an item. What `stringify!` is given is a text.
-fn derive_inside<'b>(words: &'b [Token<'b>], renamed: &str) -> Option<&'b Token<'b>> {
-    let mut chunks = words.split(|word| word.is("stringify"));
-    chunks.find_map(|words| derive_among(after_text(words), renamed))
+/// The first `EnumSetType` that an attribute derives among the tokens of an item. What `stringify!` is given is a text.
+fn derive_inside<'b>(tokens: &'b [Token<'b>], renamed: &str) -> Option<&'b Token<'b>> {
+    let mut chunks = tokens.split(|word| word.is("stringify"));
+    chunks.find_map(|tokens| derive_among(after_text(tokens), renamed))
 }
 
-/// The words after the brackets that `!` and they begin with, if they do.
-fn after_text<'b>(words: &'b [Token<'b>]) -> &'b [Token<'b>] {
-    let [mark, open, rest @ ..] = words else {
-        return words;
+/// The tokens after the brackets that `!` and they begin with, if they do.
+fn after_text<'b>(tokens: &'b [Token<'b>]) -> &'b [Token<'b>] {
+    let [mark, open, rest @ ..] = tokens else {
+        return tokens;
     };
     if !mark.is_mark("!") || !open.is_mark("([{") {
-        return words;
+        return tokens;
     }
     let end = rest.iter().position(|word| word.depth < open.depth);
     rest.get(end.unwrap_or(rest.len())..).unwrap_or(&[])
 }
 
-/// Whether a keyword and the words after it are a constant whose value makes a set.
+/// Whether a keyword and the tokens after it are a constant whose value makes a set.
 fn is_set_constant(keyword: &Token, rest: &[Token]) -> bool {
-    let is_function = rest.first().is_none_or(is_qualified);
-    if !is_among("const static", keyword.text) || is_function {
+    let is_declared = match rest {
+        [name, colon, ..] => colon.is(":") || is_among("mut ref", name.text),
+        _ => false,
+    };
+    if !is_among("const static", keyword.text) || !is_declared {
         return false;
     }
     let is_end = |word: &Token| word.is(";") && word.depth <= keyword.depth;
@@ -323,10 +326,10 @@ fn is_set_constant(keyword: &Token, rest: &[Token]) -> bool {
     value.iter().any(|word| word.is("enum_set")) || (has_set && is_made)
 }
 
-/// The name of the type in `for TYPE`, or `<'de> for TYPE`, with which these words begin.
-fn implemented_for<'a>(words: &[Token<'a>]) -> Option<&'a str> {
-    let at = words.iter().take(4).position(|word| word.is("for"))?;
-    let path = words.get(at.saturating_add(1)..)?;
+/// The name of the type in `for TYPE`, or `<'de> for TYPE`, with which these tokens begin.
+fn implemented_for<'a>(tokens: &[Token<'a>]) -> Option<&'a str> {
+    let at = tokens.iter().take(4).position(|word| word.is("for"))?;
+    let path = tokens.get(at.saturating_add(1)..)?;
     let path = path
         .iter()
         .take_while(|word| word.is_name() || word.is_mark(":"));

@@ -15,7 +15,7 @@ const NOT_PLAIN: &str = "a name in JSON is of printable ASCII here, without `\"`
 const STYLES: &str = "lowercase UPPERCASE PascalCase camelCase snake_case SCREAMING_SNAKE_CASE \
     kebab-case SCREAMING-KEBAB-CASE";
 
-/// The name of a variant, which is words that each begin with a capital, in a style of `serde`.
+/// The name of a variant, which is tokens that each begin with a capital, in a style of `serde`.
 fn styled(alloc: Global, style: &str, name: &str) -> Result<String, AllocError> {
     let mut separators = style.matches(|letter| matches!(letter, '_' | '-'));
     let separator = separators.next().unwrap_or("");

@@ -44,19 +44,19 @@ pub(super) struct Part<'a, 'b> {
     /// The name of the attribute, or the comment.
     pub name: &'b Token<'a>,
     /// The `[`, the name, and what comes after it, up to the `]` at the end; nothing of a comment.
-    words: &'b [Token<'a>],
-    /// The tokens before the `]`, with the comments; nothing of a comment.
-    pub inner: &'b [Token<'a>],
+    tokens: &'b [Token<'a>],
+    /// The comments in it.
+    pub comments: &'b [Token<'a>],
 }
 
 impl<'a, 'b> Part<'a, 'b> {
     /// Whether it is kept. It is a fault if nothing right would come of keeping it or of leaving it out.
     pub fn has_meaning(&self, bearer: Bearer) -> Outcome<bool> {
-        let (name, words) = (self.name, self.words);
+        let (name, tokens) = (self.name, self.tokens);
         let is_item = matches!(bearer, Bearer::Item);
         let is_type = is_item || matches!(bearer, Bearer::Enum);
         Ok(match name.text {
-            "doc" => match words {
+            "doc" => match tokens {
                 [_, _, equal, text, _] if equal.is_mark("=") => matches!(text.kind, Kind::Quoted),
                 _ => self.is_written("( hidden ) ]"),
             },
@@ -65,7 +65,9 @@ impl<'a, 'b> Part<'a, 'b> {
                 && (self.is_written("( C ) ]") || self.is_written("( transparent ) ]")),
             "cfg" if matches!(bearer, Bearer::Variant) => return Err(name.fault(ON_VARIANT)),
             "cfg" if !self.is_written("( test ) ]") => return Err(name.fault(CONFIGURATION)),
-            "cfg_attr" if derive_among(words, "").is_some() => return Err(name.fault(DERIVE_ALONE)),
+            "cfg_attr" if derive_among(tokens, "").is_some() => return Err(name.fault(
+                DERIVE_ALONE,
+            )),
             "cfg_attr" if self.calls("enumset") => return Err(name.fault(OPTIONS_ALONE)),
             "cfg" | "allow" | "warn" | "deny" | "forbid" | "expect" | "clippy" | "tactic" => true,
             "must_use" | "rattlefmt" | "cycle" | "derive_where" => is_type,
@@ -74,28 +76,28 @@ impl<'a, 'b> Part<'a, 'b> {
         })
     }
 
-    /// Whether these words come after its name, and no others.
-    fn is_written(&self, words: &str) -> bool {
-        let own = self.words.iter().skip(2).map(|word| word.text);
-        own.eq(words.split(' '))
+    /// Whether these tokens come after its name, and no others.
+    fn is_written(&self, tokens: &str) -> bool {
+        let own = self.tokens.iter().skip(2).map(|word| word.text);
+        own.eq(tokens.split(' '))
     }
 
     /// Whether this name stands in it before a bracket.
     pub fn calls(&self, name: &str) -> bool {
-        let mut pairs = self.words.array_windows::<2>();
+        let mut pairs = self.tokens.array_windows::<2>();
         pairs.any(|[word, next]| word.is(name) && next.is_mark("("))
     }
 
     /// The type of integers that it is, as `#[repr(u8)]`.
     pub fn number_type(&self) -> Option<NumberType> {
-        let mut words = self.words.iter().filter(|_| self.name.is("repr"));
-        words.find_map(|word| NumberType::named(word.text))
+        let mut tokens = self.tokens.iter().filter(|_| self.name.is("repr"));
+        tokens.find_map(|word| NumberType::named(word.text))
     }
 
     /// Whether it derives what writes or reads the enum in JSON in another way than `serde` does.
     pub fn other_json(&self) -> Option<&'b Token<'a>> {
-        let mut words = self.words.iter().filter(|_| self.name.is("derive"));
-        words.find(|word| {
+        let mut tokens = self.tokens.iter().filter(|_| self.name.is("derive"));
+        tokens.find(|word| {
             let begins = word.text.starts_with("Serialize") || word.text.starts_with("Deserialize");
             begins && !word.is("Serialize") && !word.is("Deserialize")
         })
@@ -103,7 +105,7 @@ impl<'a, 'b> Part<'a, 'b> {
 
     /// Its arguments, each with the mark at its end. The last is a fault if the attribute does not end after them.
     pub fn arguments(&self, alloc: Global) -> Outcome<Vec<Outcome<&'b [Token<'a>]>>> {
-        let [bracket, _, open, rest @ ..] = self.words else {
+        let [bracket, _, open, rest @ ..] = self.tokens else {
             return Ok(Vec::new(alloc));
         };
         open.want(open.is_mark("([{"), "wanted: `(`")?;
@@ -124,21 +126,21 @@ impl<'a, 'b> Part<'a, 'b> {
     }
 }
 
-/// Writes the comments among tokens, each on a line of its own.
-pub(super) fn write_comments(out: &mut String, tokens: &[Token]) -> Result<(), AllocError> {
-    for comment in tokens.iter().filter(|token| token.is_comment()) {
+/// Writes comments, each on a line of its own.
+pub(super) fn write_comments(out: &mut String, comments: &[Token]) -> Result<(), AllocError> {
+    for comment in comments {
         write!(out, "{}\n", comment.text)?;
     }
     Ok(())
 }
 
-/// The first `EnumSetType`, or its other name, that an attribute derives among these words.
-pub(super) fn derive_among<'b>(words: &'b [Token<'b>], renamed: &str) -> Option<&'b Token<'b>> {
-    let mut attributes = words.split(|word| word.is_mark("#"));
+/// The first `EnumSetType`, or its other name, that an attribute derives among these tokens.
+pub(super) fn derive_among<'b>(tokens: &'b [Token<'b>], renamed: &str) -> Option<&'b Token<'b>> {
+    let mut attributes = tokens.split(|word| word.is_mark("#"));
     attributes.find_map(|attribute| derive_in(attribute, renamed))
 }
 
-/// The first that an attribute derives, which these words may begin with, from its `[` on.
+/// The first that an attribute derives, which these tokens may begin with, from its `[` on.
 fn derive_in<'b>(attribute: &'b [Token<'b>], renamed: &str) -> Option<&'b Token<'b>> {
     let [bracket, name, ..] = attribute else {
         return None;
@@ -147,19 +149,21 @@ fn derive_in<'b>(attribute: &'b [Token<'b>], renamed: &str) -> Option<&'b Token<
         return None;
     }
     let end = attribute.iter().position(|word| word.depth < bracket.depth);
-    let words = attribute.get(..end.unwrap_or(attribute.len()))?;
-    let mut derives = words.split(|word| word.is("derive")).skip(1);
-    derives.find_map(|words| {
-        let (open, derived) = words.split_first().filter(|(open, _)| open.is_mark("([{"))?;
+    let tokens = attribute.get(..end.unwrap_or(attribute.len()))?;
+    let mut derives = tokens.split(|word| word.is("derive")).skip(1);
+    derives.find_map(|tokens| {
+        let (open, derived) = tokens
+            .split_first()
+            .filter(|(open, _)| open.is_mark("([{"))?;
         let mut derived = derived.iter().take_while(|word| word.depth >= open.depth);
         derived.find(|word| word.is("EnumSetType") || word.is(renamed))
     })
 }
 
-/// The name `F` of `EnumSetType as F` among these words, or an empty text.
-pub(super) fn renamed_derive<'a>(words: &[Token<'a>]) -> &'a str {
-    let mut words = words.array_windows::<3>();
-    let renamed = words.find(|[name, by, _]| name.is("EnumSetType") && by.is("as"));
+/// The name `F` of `EnumSetType as F` among these tokens, or an empty text.
+pub(super) fn renamed_derive<'a>(tokens: &[Token<'a>]) -> &'a str {
+    let mut tokens = tokens.array_windows::<3>();
+    let renamed = tokens.find(|[name, by, _]| name.is("EnumSetType") && by.is("as"));
     renamed.map_or("", |[_, _, new]| new.text)
 }
 
@@ -193,7 +197,7 @@ impl<'a, 'b> Cursor<'a, 'b> {
     /// Reads the comments and attributes that come next, up to what stands after them.
     pub fn read_parts(&mut self, alloc: Global) -> Outcome<Vec<Part<'a, 'b>>> {
         let mut parts = Vec::new(alloc);
-        for _ in self.rest {
+        for _ in 0..self.left() {
             if !self.token.is_mark("#") && !self.token.is_comment() {
                 break;
             }
@@ -207,17 +211,17 @@ impl<'a, 'b> Cursor<'a, 'b> {
     pub fn read_part(&mut self) -> Outcome<Part<'a, 'b>> {
         let begin = *self;
         if !begin.token.is_comment() {
-            self.advance_to_word()?;
+            self.advance_to_token()?;
             self.token.want(self.token.is_mark("["), "wanted: `[`")?;
             self.skip_to("]", begin.token.depth)?;
         }
-        let words = self.words_since(&begin);
+        let tokens = self.tokens_since(&begin);
         Ok(Part {
             begin: begin.token,
-            text: self.text_since(begin.token.begin),
-            name: words.get(1).unwrap_or(begin.token),
-            words,
-            inner: self.tokens_since(&begin),
+            text: self.text_since(begin.token.begin()),
+            name: tokens.get(1).unwrap_or(begin.token),
+            tokens,
+            comments: self.comments_since(&begin),
         })
     }
 
@@ -226,14 +230,14 @@ impl<'a, 'b> Cursor<'a, 'b> {
         if !self.token.is("pub") {
             return Ok(("", ""));
         }
-        self.advance_to_word()?;
-        let begin = self.token.begin;
+        self.advance_to_token()?;
+        let begin = self.token.begin();
         if !self.token.is_mark("(") {
             return Ok(("pub", ""));
         }
         self.skip_to(")", 0)?;
         let restriction = self.text_since(begin);
-        self.advance_to_word()?;
+        self.advance_to_token()?;
         Ok(("pub", restriction))
     }
 }
@@ -263,10 +267,10 @@ impl<'a, 'b> Reader<'a, 'b> {
         Ok(self.derived.push(*name)?)
     }
 
-    /// Takes in the words that name something, each but the later ones of a path.
-    pub(super) fn use_words(&mut self, words: &[Token<'a>]) -> Outcome {
+    /// Takes in the tokens that name something, each but the later ones of a path.
+    pub(super) fn use_names(&mut self, tokens: &[Token<'a>]) -> Outcome {
         let mut is_in_path = false;
-        for word in words {
+        for word in tokens {
             if word.is_name() && !is_in_path {
                 self.used.insert(word.text)?;
             }
@@ -285,7 +289,7 @@ impl<'a, 'b> Reader<'a, 'b> {
             self.test_derived(argument)?;
         }
         if is_known && !is_own {
-            self.use_words(argument)?;
+            self.use_names(argument)?;
             kept.push(path)?;
             return Ok(!argument.first().is_some_and(|root| root.is("core")));
         } else if let (false, [begin, ..]) = (is_own, argument) {
