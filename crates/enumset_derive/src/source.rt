@@ -58,8 +58,6 @@ pub enum Form<'a> {
 #[derive(Drop)]
 pub struct Import<'a> {
     pub text: String,
-    /// What stands after `use`.
-    pub path: String,
     /// The names that it brings, or `*` or `_`.
     pub names: Vec<Name<'a>>,
     /// Where it is, if it is of a crate that may not be there. Such an import is written if something uses it.
@@ -95,25 +93,6 @@ impl Gap {
         space: Space::Empty,
         is_after_left_out: false,
     };
-}
-
-/// By what `rt fmt` orders imports: those of the crate itself come first. One with a comment after it stays in its place.
-fn order<'a>(item: &'a Item, facade: &'a str) -> Option<(usize, &'a str, &'a str)> {
-    if !item.comments.is_empty() {
-        return None;
-    }
-    let (root, path) = match &item.form {
-        Form::Imports => (facade, "{"),
-        Form::Import(import) => {
-            let path = import.path.as_str();
-            let root = path.split(' ').next().unwrap_or(path);
-            path.split_once("::").unwrap_or((root, ""))
-        }
-        _ => return None,
-    };
-    let mut own = ["self", "super", "crate"].iter();
-    let rank = own.position(|own| *own == root).unwrap_or(3);
-    Some((rank, root, path))
 }
 
 impl<'a> Source<'a> {
@@ -171,21 +150,6 @@ impl<'a> Source<'a> {
             true => self.items.pop(),
             false => None,
         }
-    }
-
-    /// Puts imports on lines of their own into the order that `rt fmt` gives them.
-    pub fn sort_imports(&mut self, alloc: Global) -> Result<(), AllocError> {
-        let facade = self.facade;
-        let is_run = |one: &Item, next: &Item| {
-            next.gap == Space::Line && order(one, facade).is_some() && order(next, facade).is_some()
-        };
-        let order = |one: &Item, other: &Item| order(one, facade).cmp(&order(other, facade));
-        for run in self.items.chunk_by_mut(is_run) {
-            let gap = mem::replace(&mut run[0].gap, Space::Line);
-            run.sort_by(alloc, order)?;
-            run[0].gap = gap;
-        }
-        Ok(())
     }
 
     /// Adds space. Where something was left out in it, it is not more than before or after that.

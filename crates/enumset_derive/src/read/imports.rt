@@ -7,11 +7,30 @@ const UNUSED: &str = "is of a crate that may not be there, and nothing here name
 const IMPORTS_ALL: &str =
     "name what is imported here: this `*` is of a crate that may not be there";
 
+const IMPORTS_UNNAMED: &str =
+    "name what is imported here: this `_` is of a crate that may not be there";
+
 const EXPORTS_ALL: &str = "`pub use` takes no `*` here: name what is exported";
+
+/// A line `use ..;`.
+#[derive(Clone, Copy)]
+struct Line<'c> {
+    place: Place,
+    /// The attributes before it, a line each.
+    attributes: &'c str,
+    visibility: &'c str,
+    /// As it is written, with its visibility, unless it may not stay so.
+    written: &'c str,
+}
 
 impl<'a, 'b> Reader<'a, 'b> {
     /// Reads an import from its keyword on. Its attributes are given, a line each; its visibility begins at `item`.
-    pub(super) fn read_use(&mut self, place: Place, before: &str, item: Cursor<'a, 'b>) -> Outcome {
+    pub(super) fn read_use(
+        &mut self,
+        place: Place,
+        attributes: &str,
+        item: Cursor<'a, 'b>,
+    ) -> Outcome {
         let visibility = item.text.get(item.token.begin()..self.cursor.token.begin());
         let visibility = visibility.unwrap_or("").trim_end();
         let keyword = self.cursor;
@@ -25,49 +44,52 @@ impl<'a, 'b> Reader<'a, 'b> {
                 self.leave_out_comment(comment.place, comment.text)?;
             }
         }
-        let before_it = self.source.items.len();
+        let line = Line {
+            place,
+            attributes,
+            visibility,
+            written,
+        };
+        let items_before = self.source.items.len();
         for (index, tree) in trees_of(self.alloc, path)?.iter().enumerate() {
             if index > 0 {
                 self.source.add_space(Space::Line);
             }
-            self.read_tree(place, [before, visibility, written], tree)?;
+            self.read_tree(&line, tree)?;
         }
-        self.is_without_item = self.source.items.len() == before_it;
+        self.is_without_item = self.source.items.len() == items_before;
         Ok(())
     }
 
-    /// Reads one of its paths. The line is given as it is written, unless it may not stay so.
-    fn read_tree(&mut self, place: Place, by: [&str; 3], tree: &[Token<'a>]) -> Outcome {
-        let [before, visibility, written] = by;
-        let (alloc, is_own) = (self.alloc, visibility.is_empty());
+    /// Reads one of the paths of a line.
+    fn read_tree(&mut self, line: &Line, tree: &[Token<'a>]) -> Outcome {
+        let (alloc, is_own) = (self.alloc, line.visibility.is_empty());
         let [root, rest @ ..] = tree else {
             return Ok(());
         };
         let mut names = names_in(alloc, tree, is_own)?;
         if is_own && is_of_enumset(tree) {
             self.source.names.append(&mut names)?;
-            return self.read_names(place, before, rest);
+            return self.read_names(line, rest);
         }
-        let path = spelled(alloc, tree)?;
-        let line = match written {
-            "" => format!(in alloc; "{visibility} use {path};")?,
-            _ => String::from_str(alloc, written)?,
+        let written = match line.written {
+            "" => format!(in alloc; "{} use {};", line.visibility, spelled(alloc, tree)?)?,
+            written => String::from_str(alloc, written)?,
         };
         let is_ours = root.text.starts_with("enumset");
         let is_there = is_among("std core alloc crate self super", root.text);
         let import = Import {
-            text: format!(in alloc; "{before}{}", line.as_str().trim_start())?,
-            path,
+            text: format!(in alloc; "{}{}", line.attributes, written.as_str().trim_start())?,
             names,
-            unknown: (is_own && !is_ours && !is_there).then_some(place),
+            unknown: (is_own && !is_ours && !is_there).then_some(line.place),
         };
         Ok(self.source.push(alloc, Form::Import(import))?)
     }
 
     /// Takes in what a line imports of the crate `enumset`: a path after its name, or some in brackets.
-    fn read_names(&mut self, place: Place, attributes: &str, path: &[Token<'a>]) -> Outcome {
-        if !attributes.is_empty() {
-            self.leave_out(place, attributes.trim_end())?;
+    fn read_names(&mut self, line: &Line, path: &[Token<'a>]) -> Outcome {
+        if !line.attributes.is_empty() {
+            self.leave_out(line.place, line.attributes.trim_end())?;
         }
         if !mem::replace(&mut self.source.has_imports, true) {
             self.source.push(self.alloc, Form::Imports)?;
@@ -85,11 +107,9 @@ impl<'a, 'b> Reader<'a, 'b> {
             [] => {}
             [own] if own.is("self") => {}
             [own, name @ ..] if own.is("self") => {
-                let path = format!(in alloc; "enumset{}", spelled(alloc, name)?)?;
                 self.source.add_space(Space::Line);
                 let import = Import {
-                    text: format!(in alloc; "use {path};")?,
-                    path,
+                    text: format!(in alloc; "use enumset{};", spelled(alloc, name)?)?,
                     names: Vec::new(alloc),
                     unknown: None,
                 };
@@ -117,9 +137,9 @@ impl<'a, 'b> Reader<'a, 'b> {
                     }
                     continue;
                 }
-                let all = import.names.iter().find(|(_, name)| name.is_mark("*"));
-                if let (Some(_), Some((_, all))) = (import.unknown, all) {
-                    return Err(all.fault(IMPORTS_ALL));
+                for (_, name) in import.names.iter().filter(|_| import.unknown.is_some()) {
+                    name.want(!name.is_mark("*"), IMPORTS_ALL)?;
+                    name.want(!name.is("_"), IMPORTS_UNNAMED)?;
                 }
                 for (root, name) in &import.names {
                     let place = import.unknown.unwrap_or(name.place);
@@ -128,7 +148,7 @@ impl<'a, 'b> Reader<'a, 'b> {
             }
             self.source.items.push(item)?;
         }
-        Ok(self.source.sort_imports(self.alloc)?)
+        Ok(())
     }
 }
 

@@ -6,31 +6,41 @@ use super::*;
 const DROPPED: &str =
     "// Its discriminants are left out: one of them is past those that Rattle takes, -2^63 to 2^63 - 1.\n";
 
-/// What an element type needs, a line each.
-const SUPERTRAITS: &str = "Clone,\nCopy,\nPartialEq,\nEq,\n";
+/// What an element type needs.
+const SUPERTRAITS: [&str; 4] = ["Clone", "Copy", "PartialEq", "Eq"];
+
+/// What keeps a set, as a module writes it.
+#[derive(Drop)]
+struct StoreText {
+    type_name: String,
+    /// The set of all bits in a clause.
+    model: String,
+    /// The set of all bits in code.
+    value: String,
+}
 
 /// Writes the enum, and what makes it an element type.
-pub(super) fn write_element_type(out: &mut String, of: &Subject) -> Written {
-    let options = &of.element.declaration.options;
-    write_enum(out, of.alloc, of.element)?;
-    out.push_str(of.comments)?;
-    write_impl(out, of)?;
-    if is_narrow(&of.element.plan) {
-        write_head(out, of, "", "EnumSetTypeWithRepr")?;
+pub(super) fn write_element_type(out: &mut String, subject: &Subject) -> Written {
+    let options = &subject.element.declaration.options;
+    write_enum(out, subject.alloc, subject.element)?;
+    out.push_str(subject.comments)?;
+    write_impl(out, subject)?;
+    if is_narrow(&subject.element.plan) {
+        write_head(out, subject, "", "EnumSetTypeWithRepr")?;
         out.push_str("    ghost use Rattle.std.proofs.Common.{rules};\n\n")?;
         out.push_str("    ghost narrow = { Prim.search rules };\n}")?;
     }
     if options.are_named() {
-        names::write_names(out, of)?;
+        names::write_names(out, subject)?;
     }
     if options.has_display {
-        names::write_display(out, of)?;
+        names::write_display(out, subject)?;
     }
     if !options.leaves_out_operators {
-        operators::write_operators(out, of)?;
+        operators::write_operators(out, subject)?;
     }
     match options.serialized {
-        Some(serialized) => json::write_json(out, of, serialized),
+        Some(serialized) => json::write_json(out, subject, serialized),
         None => Ok(()),
     }
 }
@@ -79,22 +89,23 @@ fn write_discriminant(out: &mut String, given: &Discriminant) -> Written {
     }
 }
 
-/// Writes the derives, on a line or on a line each: those that an element type needs, and those of the source.
+/// Writes the derives: those that an element type needs, and those of the source.
 fn write_derives(out: &mut String, alloc: Global, declaration: &EnumDeclaration) -> Written {
-    let is_full = !declaration.options.leaves_out_supertraits;
-    let needed = if is_full { SUPERTRAITS } else { "" };
-    let mut words = String::from_str(alloc, needed)?;
+    let needed: &[&str] = match declaration.options.leaves_out_supertraits {
+        true => &[],
+        false => &SUPERTRAITS,
+    };
+    let mut derives: Vec<&str> = needed.iter().copied().collect(alloc)?;
     for path in &declaration.derives {
-        let mut names = needed.lines().map(|line| line.trim_end_matches(','));
-        if !names.any(|name| names_last(path.as_str(), name)) {
-            write!(words, "{path},\n")?;
+        let path = path.as_str();
+        if !needed.iter().any(|name| names_last(path, name)) {
+            derives.push(path)?;
         }
     }
-    if words.is_empty() {
-        return Ok(());
+    match derives.is_empty() {
+        true => Ok(()),
+        false => write!(out, "#[derive({})]\n", derives.join(alloc, ", ")?),
     }
-    let derives = in_brackets(alloc, "\n    ", [89, 0], words.as_str())?;
-    write!(out, "#[derive({derives})]\n")
 }
 
 /// Whether what keeps a set has at most 128 bits.
@@ -123,18 +134,22 @@ fn are_cast(element: &Element) -> bool {
 }
 
 /// Writes the implementation of an element type.
-fn write_impl(out: &mut String, of: &Subject) -> Written {
-    let (name, crate_name, module) = (of.name, of.request.crate_name, &of.request.module);
-    let is_wide = matches!(of.element.plan.store, Store::Words(_));
+fn write_impl(out: &mut String, subject: &Subject) -> Written {
+    let (name, crate_name, module) = (
+        subject.name,
+        subject.request.crate_name,
+        &subject.request.module,
+    );
+    let is_wide = matches!(subject.element.plan.store, Store::Words(_));
     let law = if is_wide { "words" } else { "integer" };
-    let in_place = are_cast(of.element) && are_places(&of.element.plan);
+    let in_place = are_cast(subject.element) && are_places(&subject.element.plan);
     let made = if in_place { "in_place" } else { "with_bits" };
     let (more, before, after) = match in_place {
         true => (", lawful_in_place", "lawful_in_place the_type (", ")"),
         false => ("", "", ""),
     };
-    let has_values = of.element.declaration.options.has_display;
-    write_head(out, of, "", "EnumSetType")?;
+    let has_values = subject.element.declaration.options.has_display;
+    write_head(out, subject, "", "EnumSetType")?;
     if !in_place || has_values || is_wide {
         out.push_str("    ghost use Rattle.std.specs.Prelude.{◌∷◌, []};\n")?;
     }
@@ -144,13 +159,13 @@ fn write_impl(out: &mut String, of: &Subject) -> Written {
     ghost use Rattle.{crate_name}.specs.contracts.{module}.{name}.{{the_type}};\n"
     )?;
     if has_values {
-        let path = format!(in of.alloc; "Rattle.{crate_name}.specs.declared.{module}.{name}")?;
+        let path = format!(in subject.alloc; "Rattle.{crate_name}.specs.declared.{module}.{name}")?;
         write!(out, "    ghost use {path}.TheVariants as variant;\n")?;
     }
-    write_constants(out, of, in_place)?;
-    write_into_u32(out, of)?;
+    write_constants(out, subject, in_place)?;
+    write_into_u32(out, subject)?;
     out.push_str("    }\n\n    fn enum_from_u32(val: u32) -> Self {\n")?;
-    write_from_u32(out, of)?;
+    write_from_u32(out, subject)?;
     write!(
         out,
         "    }}\n\n    ghost lawful = {{ {before}lawful_in_{law} the_type _ tt{after} }};\n}}"
@@ -158,15 +173,25 @@ fn write_impl(out: &mut String, of: &Subject) -> Written {
 }
 
 /// Writes what keeps a set, the model of the elements, and the constants.
-fn write_constants(out: &mut String, of: &Subject, in_place: bool) -> Written {
-    let (width, count) = (of.element.plan.bit_width, of.element.plan.variants.len());
-    let [repr, model, all_bits] = store_text(of)?;
-    write!(out, "\n    type Repr = {repr};\n\n    ghost elements = {{ ")?;
-    write_elements(out, of, in_place)?;
+fn write_constants(out: &mut String, subject: &Subject, in_place: bool) -> Written {
+    let (width, count) = (
+        subject.element.plan.bit_width,
+        subject.element.plan.variants.len(),
+    );
+    let StoreText {
+        type_name,
+        model,
+        value,
+    } = store_text(subject)?;
+    write!(
+        out,
+        "\n    type Repr = {type_name};\n\n    ghost elements = {{ "
+    )?;
+    write_elements(out, subject, in_place)?;
     write!(
         out,
         "    ghost ALL_BITS = {{ {model} }};\n
-    const ALL_BITS: {repr} = {all_bits};\n
+    const ALL_BITS: {type_name} = {value};\n
     ghost BIT_WIDTH = {{ {width} }};\n
     const BIT_WIDTH: u32 = {width};\n
     ghost VARIANT_COUNT = {{ {count} }};\n
@@ -176,92 +201,96 @@ fn write_constants(out: &mut String, of: &Subject, in_place: bool) -> Written {
 }
 
 /// Writes how the elements are modelled, after the `{`, and the model of the variants by which `Display` is given.
-fn write_elements(out: &mut String, of: &Subject, in_place: bool) -> Written {
+fn write_elements(out: &mut String, subject: &Subject, in_place: bool) -> Written {
     if in_place {
         out.push_str("in_place the_type };\n\n")?;
     } else {
-        let bits = of.element.plan.variants.iter().map(|named| named.bit);
-        let bits: Vec<u32> = bits.collect(of.alloc)?;
-        let bits = list_of(of, 59, &bits, ["", ""])?;
+        let bits = subject.element.plan.variants.iter().map(|named| named.bit);
+        let bits: Vec<u32> = bits.collect(subject.alloc)?;
+        let bits = list_of(subject.alloc, 59, &bits, "", "")?;
         write!(out, "with_bits the_type ({bits}) }};\n\n")?;
     }
-    if of.element.declaration.options.has_display {
-        let names = list_of_names(of, 79, ["variant.", ""])?;
+    if subject.element.declaration.options.has_display {
+        let names = list_of_names(subject, 79, "variant.", "")?;
         write!(out, "    ghost values = {{ {names} }};\n\n")?;
     }
     Ok(())
 }
 
 /// Writes the body that converts a variant to its bit.
-fn write_into_u32(out: &mut String, of: &Subject) -> Written {
-    let variants = &of.element.declaration.variants;
+fn write_into_u32(out: &mut String, subject: &Subject) -> Written {
+    let variants = &subject.element.declaration.variants;
     if variants.is_empty() {
         return out.push_str("        match self {}\n");
     }
-    if are_cast(of.element) {
+    if are_cast(subject.element) {
         return out.push_str("        self as u32\n");
     }
     out.push_str("        match self {\n")?;
-    for (variant, named) in variants.iter().zip(of.element.plan.variants.iter()) {
-        let arm = format!(in of.alloc; "Self::{} => {}", variant.name, named.bit)?;
-        write_arm(out, arm.as_str())?;
+    for (variant, named) in variants.iter().zip(subject.element.plan.variants.iter()) {
+        write!(
+            out,
+            "            Self::{} => {},\n",
+            variant.name, named.bit
+        )?;
     }
     out.push_str("        }\n")
 }
 
 /// Writes the body that converts a bit to its variant: a match over the bits, or the call of the macro that makes a table.
-fn write_from_u32(out: &mut String, of: &Subject) -> Written {
-    let (alloc, facade, name) = (of.alloc, of.facade, of.name);
-    let (variants, plan) = (&of.element.declaration.variants, &of.element.plan);
+fn write_from_u32(out: &mut String, subject: &Subject) -> Written {
+    let (alloc, facade, name) = (subject.alloc, subject.facade, subject.name);
+    let (variants, plan) = (&subject.element.declaration.variants, &subject.element.plan);
     let count = variants.len();
     let variants = variants.iter().zip(plan.variants.iter());
     if is_in_table(plan) {
-        let mut words = format!(in alloc; "val, {name}:\n")?;
+        let mut items = vec![in alloc; format!(in alloc; "val, {name}:")?]?;
         for (variant, named) in variants {
-            write!(words, "{} {}\n", named.bit, variant.name)?;
+            items.push(format!(in alloc; "{} {}", named.bit, variant.name)?)?;
         }
-        return write_call(out, alloc, "variant_of!", words.as_str());
+        return write_call(out, alloc, "variant_of!", &items);
     }
     out.push_str("        match val {\n")?;
     for (variant, named) in variants {
-        let arm = format!(in alloc; "{} => Self::{}", named.bit, variant.name)?;
-        write_arm(out, arm.as_str())?;
+        write!(
+            out,
+            "            {} => Self::{},\n",
+            named.bit, variant.name
+        )?;
     }
     if count <= 32 {
         return out.push_str("            _ => unreachable!(),\n        }\n");
     }
-    let rooms = [61usize.saturating_sub(facade.len()), 78];
-    let words = format!(in alloc; "val,\n{count},\n")?;
-    let words = in_brackets(alloc, "\n                    ", rooms, words.as_str())?;
     // A proof takes in no more bits by itself.
     write!(
         out,
         "            _ => {{
-                {facade}::variants::is_below({words});
+                {facade}::variants::is_below(val, {count});
                 unreachable!()
             }}
         }}\n"
     )
 }
 
-/// What keeps a set, as a module writes it: the type, and the set of all bits in a clause and in code.
-/// Words are on one line if they fit, on filled lines, or on a line each if one has over ten digits.
-fn store_text(of: &Subject) -> Written<[String; 3]> {
-    let alloc = of.alloc;
-    let all = match &of.element.plan.store {
+/// What keeps a set, as a module writes it.
+fn store_text(subject: &Subject) -> Written<StoreText> {
+    let alloc = subject.alloc;
+    let all = match &subject.element.plan.store {
         Store::Words(words) => words,
         Store::Integer(integer, number) => {
-            let repr = format!(in alloc; "u{}", integer.width())?;
-            return Ok([repr, number.to_string(alloc)?, number.to_string(alloc)?]);
+            return Ok(StoreText {
+                type_name: format!(in alloc; "u{}", integer.width())?,
+                model: number.to_string(alloc)?,
+                value: number.to_string(alloc)?,
+            });
         }
     };
-    let repr = format!(in alloc; "ArrayRepr<{}>", all.len())?;
-    let words = all.iter().map(|word| format!(in alloc; "{word},\n"));
+    let words = all.iter().map(|word| format!(in alloc; "{word}, "));
     let words: String = words.try_collect(alloc)?;
-    let is_wide = all.iter().any(|word| *word >= 10_000_000_000);
-    let room = if is_wide { 0 } else { 92 };
-    let rooms = [63usize.saturating_sub(repr.len()), room];
-    let words = in_brackets(alloc, "\n        ", rooms, words.as_str())?;
-    let all_bits = format!(in alloc; "ArrayRepr([{words}])")?;
-    Ok([repr, list_of(of, 77, all, ["", ""])?, all_bits])
+    let words = words.as_str().trim_end_matches(", ");
+    Ok(StoreText {
+        type_name: format!(in alloc; "ArrayRepr<{}>", all.len())?,
+        model: list_of(alloc, 77, all, "", "")?,
+        value: format!(in alloc; "ArrayRepr([{words}])")?,
+    })
 }

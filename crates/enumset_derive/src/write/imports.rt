@@ -56,32 +56,23 @@ fn is_free(source: &Source, path: &str) -> Outcome<bool> {
     }
 }
 
-/// The lines that import these. `rt fmt` breaks a line of several names past 98 columns. A line of names alone has four
-/// columns before it, and at most 99 with them, or 100 if it has them all.
+/// The lines that import these.
 fn lines_of(alloc: Global, facade: &str, imports: &BTreeSet<&str>) -> Text {
-    let is_ours = facade == "enumset_sets";
-    let (mut words, mut paths) = (String::new(alloc), String::new(alloc));
+    let mut lines = String::new(alloc);
+    let mut names = Vec::new(alloc);
     let has_all = imports.contains("*");
     for name in imports {
         match *name {
-            "internal::ArrayRepr" if is_ours => paths.push_str("use enumset_array::ArrayRepr;\n")?,
-            path if path.contains(':') => write!(paths, "use {facade}::{path};\n")?,
-            name if !has_all || name.contains(' ') => write!(words, "{name},\n")?,
-            _ => {}
+            "internal::ArrayRepr" if facade == "enumset_sets" => {
+                lines.push_str("use enumset_array::ArrayRepr;\n")?;
+            }
+            // The `*` stands for a plain name.
+            name if has_all && name != "*" && !name.contains(':') && !name.contains(' ') => {}
+            name => names.push(name)?,
         }
     }
-    if has_all {
-        words.push_str("*,\n")?;
+    if names.is_empty() {
+        return String::from_str(alloc, lines.trim_end());
     }
-    let room = if words.len() <= 97 { 96 } else { 95 };
-    let rooms = [89usize.saturating_sub(facade.len()), room];
-    let names = in_brackets(alloc, "\n    ", rooms, words.as_str())?;
-    let name = words.strip_suffix(",\n").unwrap_or("");
-    let lines = match words.lines().count() {
-        0 => paths,
-        1 if is_ours => format!(in alloc; "{paths}use {facade}::{name};")?,
-        1 => format!(in alloc; "use {facade}::{name};\n{paths}")?,
-        _ => format!(in alloc; "{paths}use {facade}::{{{names}}};")?,
-    };
-    String::from_str(alloc, lines.trim_end())
+    format!(in alloc; "{lines}use {facade}::{{{}}};", names.join(alloc, ", ")?)
 }

@@ -39,10 +39,98 @@ fn width_of(serialized: Serialized, plan: &Plan) -> Option<u32> {
     }
 }
 
-/// In the model, what the value has of a set, and the arguments by which `from_json` reads it.
-fn model_of(of: &Subject, name: &str, width: Option<u32>) -> Written<[String; 2]> {
-    let (alloc, own) = (of.alloc, of.name);
-    let count = match &of.element.plan.store {
+/// What a module says of the JSON of its sets.
+#[derive(Clone, Copy)]
+struct JsonForm {
+    /// By which the calls and definitions are named.
+    name: &'static str,
+    /// The lines of what the clauses cite.
+    cited: &'static str,
+    /// After `Rattle.enumset.specs.`, the path of the definitions.
+    definitions: &'static str,
+    /// What a set is, in the comment.
+    doc: &'static str,
+    fault: &'static str,
+}
+
+impl JsonForm {
+    fn of(serialized: Serialized, width: Option<u32>) -> JsonForm {
+        match (serialized, width) {
+            (_, Some(_)) => JsonForm {
+                name: "number",
+                cited: OF_NUMBERS,
+                definitions: "Json",
+                doc: "set's number",
+                fault: "TooWide",
+            },
+            (Serialized::Bits(_), None) => JsonForm {
+                name: "words",
+                cited: OF_WORDS,
+                definitions: "Json",
+                doc: WORDS,
+                fault: "OutOfMemory",
+            },
+            (Serialized::List, None) => JsonForm {
+                name: "list",
+                cited: OF_NAMES,
+                definitions: NAMES,
+                doc: LIST,
+                fault: "OutOfMemory",
+            },
+            (Serialized::Map, None) => JsonForm {
+                name: "map",
+                cited: OF_NAMES,
+                definitions: NAMES,
+                doc: MAP,
+                fault: "OutOfMemory",
+            },
+        }
+    }
+}
+
+/// What is done with members that no variant has.
+#[derive(Clone, Copy)]
+struct UnknownForm {
+    variant: &'static str,
+    doc: &'static str,
+}
+
+impl UnknownForm {
+    fn of(options: &Options) -> UnknownForm {
+        match (options.denies_unknown, options.are_named()) {
+            (true, true) => UnknownForm {
+                variant: "Refuse",
+                doc: "A name that no variant has is a fault.",
+            },
+            (true, false) => UnknownForm {
+                variant: "Refuse",
+                doc: "A bit that no variant has is a fault.",
+            },
+            (false, true) => UnknownForm {
+                variant: "Drop",
+                doc: "Names that no variant has are left out.",
+            },
+            (false, false) => UnknownForm {
+                variant: "Drop",
+                doc: "Bits that no variant has are left out.",
+            },
+        }
+    }
+}
+
+/// What the clauses say of the value.
+#[derive(Drop)]
+struct JsonModel {
+    /// What the value has of a set, after a space.
+    value: String,
+    /// The arguments by which `from_json` reads it.
+    read_by: String,
+}
+
+/// What the clauses say of a value in a form of this name.
+fn model_of(subject: &Subject, name: &str, width: Option<u32>) -> Written<JsonModel> {
+    let (alloc, own) = (subject.alloc, subject.name);
+    let count = match &subject.element.plan.store {
         Store::Integer(integer, _) => integer.width().div_ceil(64) as usize,
         Store::Words(words) => words.len(),
     };
@@ -57,32 +145,28 @@ fn model_of(of: &Subject, name: &str, width: Option<u32>) -> Written<[String; 2]
         "words" => format!(in alloc; " (words set.now {count})")?,
         _ => format!(in alloc; "\n            {read_by} set.now")?,
     };
-    Ok([value, read_by])
+    Ok(JsonModel { value, read_by })
 }
 
 /// Writes the calls. They name `Result` by its path, since the module may have another.
-pub(super) fn write_json(out: &mut String, of: &Subject, serialized: Serialized) -> Written {
-    let (own, guard) = (of.name, of.element.guard);
-    let options = &of.element.declaration.options;
-    let width = width_of(serialized, &of.element.plan);
-    let [name, cited, module, doc, fault] = match (serialized, width) {
-        (_, Some(_)) => ["number", OF_NUMBERS, "Json", "set's number", "TooWide"],
-        (Serialized::Bits(_), None) => ["words", OF_WORDS, "Json", WORDS, "OutOfMemory"],
-        (Serialized::List, None) => ["list", OF_NAMES, NAMES, LIST, "OutOfMemory"],
-        (Serialized::Map, None) => ["map", OF_NAMES, NAMES, MAP, "OutOfMemory"],
-    };
-    let (unknown, unknown_doc) = match (options.denies_unknown, options.are_named()) {
-        (true, true) => ("Refuse", "A name that no variant has is a fault."),
-        (true, false) => ("Refuse", "A bit that no variant has is a fault."),
-        (false, true) => ("Drop", "Names that no variant has are left out."),
-        (false, false) => ("Drop", "Bits that no variant has are left out."),
-    };
+pub(super) fn write_json(out: &mut String, subject: &Subject, serialized: Serialized) -> Written {
+    let (own, guard) = (subject.name, subject.element.guard);
+    let width = width_of(serialized, &subject.element.plan);
+    let JsonForm {
+        name,
+        cited,
+        definitions,
+        doc,
+        fault,
+    } = JsonForm::of(serialized, width);
+    let unknown = UnknownForm::of(&subject.element.declaration.options);
+    let (unknown_doc, unknown) = (unknown.doc, unknown.variant);
     write!(
         out,
         "\n\n{guard}impl {own} {{
 {cited}
     ghost use Rattle.serde_json.specs.View.{{view}};
-    ghost use Rattle.enumset.specs.{module}.{{{name}_value, set_of_{name}}};
+    ghost use Rattle.enumset.specs.{definitions}.{{{name}_value, set_of_{name}}};
     ghost use Rattle.enumset.specs.declared.set_json.fault.JsonFault.TheVariants.{{{fault}}};
     ghost use Rattle.enumset.specs.declared.set_json.unknown.Unknown.TheVariants as unknown;\n
     /// The {doc}"
@@ -97,10 +181,10 @@ pub(super) fn write_json(out: &mut String, of: &Subject, serialized: Serialized)
         )?,
         None => write!(out, "{NO_MEMORY}{TO_JSON}")?,
     }
-    let [value, read_by] = model_of(of, name, width)?;
+    let JsonModel { value, read_by } = model_of(subject, name, width)?;
     let argument = match width {
-        Some(width) => format!(in of.alloc; ", set_json::JsonWidth::U{width}")?,
-        None => String::new(of.alloc),
+        Some(width) => format!(in subject.alloc; ", set_json::JsonWidth::U{width}")?,
+        None => String::new(subject.alloc),
     };
     write!(
         out,

@@ -1,79 +1,61 @@
-//! The layout of words in lines of at most 100 columns.
+//! The layout of what `rt fmt` leaves as it is: lists in clauses, and what a macro is given. The rest is written plainly.
 
 use super::*;
 
-/// The lines of a text as words with spaces between them. Where the next word would pass the last column, a new line
-/// begins, by the text `start`. `rooms` is how many columns are left on the first line, and on the others after `start`.
-fn wrapped(alloc: Global, start: &str, rooms: [usize; 2], words: &str) -> Text {
-    let [mut room, room_of_line] = rooms;
+/// Items with spaces between them, in lines. So many bytes are left on the first line, and on each other after this text.
+fn filled(alloc: Global, items: &[String], first: usize, start: &str, other: usize) -> Text {
     let mut out = String::new(alloc);
-    for word in words.lines() {
-        if !out.is_empty() && word.len() < room {
+    let mut left = first;
+    for item in items {
+        let item = item.as_str();
+        if !out.is_empty() && item.len() < left {
             out.push(' ')?;
-            room -= 1;
+            left -= 1;
         } else if !out.is_empty() {
             out.push_str(start)?;
-            room = room_of_line;
+            left = other;
         }
-        room = room.saturating_sub(word.len());
-        out.push_str(word)?;
+        left = left.saturating_sub(item.len());
+        out.push_str(item)?;
     }
     Ok(out)
 }
 
-/// What stands in brackets: the words on one line, without a comma at its end, if the line has room for it, else on lines
-/// that begin by `start`. `rooms` is how many columns are left on the line, and on the others after `start`.
-pub(super) fn in_brackets(alloc: Global, start: &str, rooms: [usize; 2], words: &str) -> Text {
-    let line = words.trim_end_matches(|end| matches!(end, ',' | '\n'));
-    if line.len() <= rooms[0] {
-        return line.replace(alloc, "\n", " ");
-    }
-    let lines = wrapped(alloc, start, [rooms[1], rooms[1]], words)?;
-    let end = start.strip_suffix("    ").unwrap_or("");
-    format!(in alloc; "{start}{lines}{end}")
-}
-
-/// A list in a clause, of items each with these texts before and after it. Its first line has this room.
-pub(super) fn list_of(of: &Subject, room: usize, items: &[impl Display], ends: [&str; 2]) -> Text {
-    let [before, after] = ends;
-    let mut words = String::new(of.alloc);
+/// A list in a clause, of items each with these texts before and after it. So many bytes are left on its first line.
+pub(super) fn list_of(
+    alloc: Global,
+    first: usize,
+    items: &[impl Display],
+    before: &str,
+    after: &str,
+) -> Text {
+    let mut parts = Vec::new(alloc);
     for item in items {
-        write!(words, "{before}{item}{after} ∷\n")?;
+        parts.push(format!(in alloc; "{before}{item}{after} ∷")?)?;
     }
-    words.push_str("[]")?;
-    wrapped(of.alloc, "\n        ", [room, 92], words.as_str())
+    parts.push(String::from_str(alloc, "[]")?)?;
+    filled(alloc, &parts, first, "\n        ", 92)
 }
 
 /// A list in a clause, of the names of the variants.
-pub(super) fn list_of_names(of: &Subject, room: usize, ends: [&str; 2]) -> Text {
-    let variants = of.element.declaration.variants.iter();
-    let names: Vec<&str> = variants.map(|variant| variant.name).collect(of.alloc)?;
-    list_of(of, room, &names, ends)
+pub(super) fn list_of_names(subject: &Subject, first: usize, before: &str, after: &str) -> Text {
+    let variants = subject.element.declaration.variants.iter();
+    let names: Vec<&str> = variants.map(|variant| variant.name).collect(subject.alloc)?;
+    list_of(subject.alloc, first, &names, before, after)
 }
 
-/// Writes the body of a function that calls a macro with words, on one line if it fits.
-pub(super) fn write_call(out: &mut String, alloc: Global, name: &str, words: &str) -> Written {
-    let rooms = [90usize.saturating_sub(name.len()), 88];
-    let words = in_brackets(alloc, "\n            ", rooms, words)?;
-    write!(out, "        {name}({words})\n")
-}
-
-/// Writes an arm of a match, of which the value has a line of its own where that line would be too long.
-pub(super) fn write_arm(out: &mut String, arm: &str) -> Written {
-    match arm.split_once(" => ") {
-        Some((pattern, value)) if arm.len() > 87 => {
-            write!(out, "            {pattern} =>\n                {value},\n")
-        }
-        _ => write!(out, "            {arm},\n"),
+/// Writes the body of a function that calls a macro with these items, on one line if it fits.
+pub(super) fn write_call(out: &mut String, alloc: Global, name: &str, items: &[String]) -> Written {
+    let line = items.join(alloc, " ")?;
+    if line.len() <= 90usize.saturating_sub(name.len()) {
+        return write!(out, "        {name}({line})\n");
     }
+    let lines = filled(alloc, items, 88, "\n            ", 88)?;
+    write!(out, "        {name}(\n            {lines}\n        )\n")
 }
 
 /// Writes the head of an implementation of a trait, after an empty line and the comment of its own.
-pub(super) fn write_head(out: &mut String, of: &Subject, doc: &str, form: &str) -> Written {
-    let (name, guard) = (of.name, of.element.guard);
-    let last = form.rsplit('\n').next().unwrap_or(form);
-    let room = if last.len() == form.len() { 88 } else { 93 };
-    let is_short = last.len().saturating_add(name.len()) <= room;
-    let gap = if is_short { " " } else { "\n    " };
-    write!(out, "\n\n{doc}{guard}impl {form}{gap}for {name} {{\n")
+pub(super) fn write_head(out: &mut String, subject: &Subject, doc: &str, form: &str) -> Written {
+    let (name, guard) = (subject.name, subject.element.guard);
+    write!(out, "\n\n{doc}{guard}impl {form} for {name} {{\n")
 }

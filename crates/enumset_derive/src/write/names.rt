@@ -3,38 +3,42 @@
 use super::*;
 
 /// Writes the names of the variants in JSON.
-pub(super) fn write_names(out: &mut String, of: &Subject) -> Written {
-    let (alloc, name, element) = (of.alloc, of.name, of.element);
-    let mut words = format!(in alloc; "{name}:\n")?;
+pub(super) fn write_names(out: &mut String, subject: &Subject) -> Written {
+    let (alloc, name, element) = (subject.alloc, subject.name, subject.element);
+    let mut items = vec![in alloc; format!(in alloc; "{name}:")?]?;
     let mut names = Vec::new(alloc);
     for (index, variant) in element.declaration.variants.iter().enumerate() {
         let own = variant.name;
         let given = element.json_names.get(index);
         names.push(given.map_or(own, |(_, json)| json.as_str()))?;
-        match given {
-            Some((_, json)) => write!(words, "{own} \"{json}\"\n")?,
-            None => write!(words, "{own}\n")?,
-        }
+        items.push(match given {
+            Some((_, json)) => format!(in alloc; "{own} \"{json}\"")?,
+            None => String::from_str(alloc, own)?,
+        })?;
     }
-    let names = list_of(of, 80, &names, ["codes \"", "\""])?;
-    write_head(out, of, "", "EnumSetNames")?;
+    let names = list_of(alloc, 80, &names, "codes \"", "\"")?;
+    write_head(out, subject, "", "EnumSetNames")?;
     write!(
         out,
         "    ghost use Rattle.std.specs.Prelude.{{codes, ◌∷◌, []}};\n
     ghost names = {{ {names} }};\n
     fn names() -> &'static [(Self, &'static str)] {{\n"
     )?;
-    write_call(out, alloc, "names_of!", words.as_str())?;
+    write_call(out, alloc, "names_of!", &items)?;
     out.push_str("    }\n\n    ghost named = { tt };\n}")
 }
 
 /// Writes the `Display` by the names of the variants.
-pub(super) fn write_display(out: &mut String, of: &Subject) -> Written {
-    let (name, crate_name, module) = (of.name, of.request.crate_name, &of.request.module);
-    let variants = &of.element.declaration.variants;
-    let list = list_of_names(of, 90, ["codes \"", "\""])?;
+pub(super) fn write_display(out: &mut String, subject: &Subject) -> Written {
+    let (name, crate_name, module) = (
+        subject.name,
+        subject.request.crate_name,
+        &subject.request.module,
+    );
+    let variants = &subject.element.declaration.variants;
+    let list = list_of_names(subject, 90, "codes \"", "\"")?;
     let doc = "/// The name of the variant.\n";
-    write_head(out, of, doc, "std::fmt::Display")?;
+    write_head(out, subject, doc, "std::fmt::Display")?;
     write!(
         out,
         "    ghost use Rattle.std.specs.Prelude.{{Some, ◌∷◌, [], codes}};
@@ -52,13 +56,10 @@ pub(super) fn write_display(out: &mut String, of: &Subject) -> Written {
     out.push_str("        match self {\n")?;
     for variant in variants {
         let name = variant.name;
-        let (to, start, room) = match name.len() {
-            ..=66 => ("=> ", "\n                ", 33),
-            _ => ("=>\n                ", "\n                    ", 70),
-        };
-        let text = format!(in of.alloc; "\"{name}\",\n")?;
-        let text = in_brackets(of.alloc, start, [room, 0], text.as_str())?;
-        write!(out, "            Self::{name} {to}f.write_str({text}),\n")?;
+        write!(
+            out,
+            "            Self::{name} => f.write_str(\"{name}\"),\n"
+        )?;
     }
     out.push_str("        }\n    }\n}")
 }

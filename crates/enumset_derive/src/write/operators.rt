@@ -2,68 +2,137 @@
 
 use super::*;
 
-/// Of each operator with two operands the trait, the function, the sign, and the operation in the model.
-const OPERATORS: [[&str; 4]; 4] = [
-    ["BitAnd", "bitand", "&", "intersection"],
-    ["BitOr", "bitor", "|", "union"],
-    ["BitXor", "bitxor", "^", "symmetric_difference"],
-    ["Sub", "sub", "-", "difference"],
-];
-
-/// Writes the five operators. Those with two operands take an element or a set after the element.
-pub(super) fn write_operators(out: &mut String, of: &Subject) -> Written {
-    let (alloc, name) = (of.alloc, of.name);
-    let words = format!(in alloc; "{name},\n")?;
-    let output = in_brackets(alloc, "\n        ", [72, 0], words.as_str())?;
-    let inner = in_brackets(alloc, "\n    ", [86, 0], words.as_str())?;
-    let set = format!(in alloc; "EnumSet<{inner}>,\n")?;
-    let one = format!(in alloc; "\n        (set.only (⟦<{name} as EnumSetType>⟧.elements.bit b))")?;
-    let (output, set, one) = (output.as_str(), set.as_str(), one.as_str());
-    let element = ["that of the other", "", "Self", "EnumSet::only(rhs)", one];
-    let set = ["the other", set, "EnumSet<Self>", "rhs", " b"];
-    for [form, function, sign, operation] in OPERATORS {
-        let operator = [form, function, sign, operation, output];
-        write_operator(out, of, operator, element)?;
-        write_operator(out, of, operator, set)?;
-    }
-    write_not(out, of, output)
+/// An operator with two operands.
+#[derive(Clone, Copy)]
+struct Operator {
+    trait_name: &'static str,
+    function: &'static str,
+    sign: &'static str,
+    /// Its name in the model.
+    operation: &'static str,
 }
 
-/// Writes an operator. Of its second operand `with` has what the comment, trait, type, code and model name it.
-fn write_operator(out: &mut String, of: &Subject, by: [&str; 5], with: [&str; 5]) -> Written {
-    let [form, function, sign, operation, output] = by;
-    let [other, parameter, operand, value, model] = with;
-    let (alloc, name) = (of.alloc, of.name);
-    let words = operation.replace(alloc, "_", " ")?;
-    let doc = format!(in alloc; "/// The {words} of the set of the one and {other}.\n")?;
-    let rooms = [83usize.saturating_sub(form.len()), 0];
-    let parameter = in_brackets(alloc, "\n    ", rooms, parameter)?;
-    let form = format!(in alloc; "std::ops::{form}<{parameter}>")?;
-    write_head(out, of, doc.as_str(), form.as_str().trim_end_matches("<>"))?;
+const OPERATORS: [Operator; 4] = [
+    Operator {
+        trait_name: "BitAnd",
+        function: "bitand",
+        sign: "&",
+        operation: "intersection",
+    },
+    Operator {
+        trait_name: "BitOr",
+        function: "bitor",
+        sign: "|",
+        operation: "union",
+    },
+    Operator {
+        trait_name: "BitXor",
+        function: "bitxor",
+        sign: "^",
+        operation: "symmetric_difference",
+    },
+    Operator {
+        trait_name: "Sub",
+        function: "sub",
+        sign: "-",
+        operation: "difference",
+    },
+];
+
+/// What stands for the second operand of an operator.
+#[derive(Clone, Copy)]
+struct Operand<'a> {
+    /// In the comment.
+    name: &'static str,
+    /// In the head of the implementation, in brackets after the trait.
+    parameter: &'a str,
+    /// As the type of the parameter.
+    type_name: &'static str,
+    /// In the code.
+    value: &'static str,
+    /// In the model.
+    model: &'a str,
+}
+
+/// Writes the five operators. Those with two operands take an element or a set after the element.
+pub(super) fn write_operators(out: &mut String, subject: &Subject) -> Written {
+    let (alloc, name) = (subject.alloc, subject.name);
+    let set = format!(in alloc; "<EnumSet<{name}>>")?;
+    let only = format!(in alloc;
+        "\n        (set.only (⟦<{name} as EnumSetType>⟧.elements.bit b))"
+    )?;
+    let element = Operand {
+        name: "that of the other",
+        parameter: "",
+        type_name: "Self",
+        value: "EnumSet::only(rhs)",
+        model: only.as_str(),
+    };
+    let set = Operand {
+        name: "the other",
+        parameter: set.as_str(),
+        type_name: "EnumSet<Self>",
+        value: "rhs",
+        model: " b",
+    };
+    for operator in OPERATORS {
+        write_operator(out, subject, operator, element)?;
+        write_operator(out, subject, operator, set)?;
+    }
+    write_not(out, subject)
+}
+
+/// Writes an operator with two operands.
+fn write_operator(
+    out: &mut String,
+    subject: &Subject,
+    operator: Operator,
+    operand: Operand,
+) -> Written {
+    let (alloc, name) = (subject.alloc, subject.name);
+    let operation = operator.operation;
+    let doc = operation.replace(alloc, "_", " ")?;
+    let doc = format!(in alloc;
+        "/// The {doc} of the set of the one and {}.\n",
+        operand.name
+    )?;
+    let form = format!(in alloc; "std::ops::{}{}", operator.trait_name, operand.parameter)?;
+    write_head(out, subject, doc.as_str(), form.as_str())?;
     write!(
         out,
         "    ghost use Rattle.std.specs.Prelude.{{◌≡◌}};
     ghost use Rattle.enumset_repr.specs.BitSet as set;\n
-    type Output = EnumSet<{output}>;\n
-    ghost {function}_gives = {{ λ a b r. r ≡ set.{operation}
-        (set.only (⟦<{name} as EnumSetType>⟧.elements.bit a)){model} }};\n
-    fn {function}(self, rhs: {operand}) -> EnumSet<Self> {{
-        EnumSet::only(self) {sign} {value}
+    type Output = EnumSet<{name}>;\n
+    ghost {}_gives = {{ λ a b r. r ≡ set.{operation}
+        (set.only (⟦<{name} as EnumSetType>⟧.elements.bit a)){} }};\n",
+        operator.function, operand.model
+    )?;
+    write!(
+        out,
+        "
+    fn {}(self, rhs: {}) -> EnumSet<Self> {{
+        EnumSet::only(self) {} {}
     }}
-}}"
+}}",
+        operator.function, operand.type_name, operator.sign, operand.value
     )
 }
 
-/// Writes `!`, of which the result has this between the brackets of its type.
-fn write_not(out: &mut String, of: &Subject, output: &str) -> Written {
-    let name = of.name;
-    write_head(out, of, "/// The set of all the others.\n", "std::ops::Not")?;
+/// Writes `!`.
+fn write_not(out: &mut String, subject: &Subject) -> Written {
+    let name = subject.name;
+    write_head(
+        out,
+        subject,
+        "/// The set of all the others.\n",
+        "std::ops::Not",
+    )?;
     write!(
         out,
         "    ghost use Rattle.std.specs.Prelude.{{◌≡◌}};
     ghost use Rattle.enumset_repr.specs.BitSet as set;
     ghost use Rattle.enumset_sets.specs.Elements.{{valid_bits}};\n
-    type Output = EnumSet<{output}>;\n
+    type Output = EnumSet<{name}>;\n
     ghost not_gives = {{ λ a r. r ≡ set.difference
         (valid_bits ⟦<{name} as EnumSetType>⟧.elements)
         (set.only (⟦<{name} as EnumSetType>⟧.elements.bit a)) }};\n

@@ -1,0 +1,135 @@
+//! How items are written that are no element types: without the attributes in them that have no meaning.
+
+use super::*;
+
+/// `derive`, and the attributes that a derive reads before a field or a variant.
+const HELPERS: &str = "derive default serde error from source";
+
+/// The keywords before a `!` that calls no macro.
+const BEFORE_NOT: &str = "if while match return in break impl";
+
+/// A text that is written anew: from where on it is not yet written, and up to where a macro is as it is.
+#[derive(Drop)]
+struct Rewriting<'a, 'b> {
+    at: Cursor<'a, 'b>,
+    from: usize,
+    macro_end: usize,
+}
+
+impl<'a, 'b> Reader<'a, 'b> {
+    /// Writes an item up to the cursor, without the attributes in it that have no meaning. Attributes in a macro are as
+    /// they are. Rust's `core` and `alloc` are `std` here.
+    pub(super) fn write_item(&mut self, out: &mut String, item: Cursor<'a, 'b>) -> Outcome {
+        let from = item.token.begin();
+        let mut rewriting = Rewriting {
+            at: item,
+            from,
+            macro_end: 0,
+        };
+        for _ in 0..item.left() {
+            if rewriting.at.token.begin() >= self.cursor.token.begin() {
+                break;
+            }
+            self.rewrite_token(out, &mut rewriting)?;
+        }
+        Ok(out.push_str(self.cursor.text_since(rewriting.from))?)
+    }
+
+    /// Goes on by a token or an attribute, and writes what comes before it if it does not stay as it is.
+    fn rewrite_token(&mut self, out: &mut String, rewriting: &mut Rewriting<'a, 'b>) -> Outcome {
+        let begin = rewriting.at.token;
+        let is_in_macro = begin.begin() < rewriting.macro_end;
+        if self.is_root(&rewriting.at) {
+            out.push_str(rewriting.text_before(begin))?;
+            out.push_str("std")?;
+            rewriting.from = begin.end();
+        } else if !is_in_macro && begin.is_mark("#") {
+            self.rewrite_attribute(out, rewriting)?;
+        } else if !is_in_macro && rewriting.at.is_macro() {
+            rewriting.macro_end = rewriting.at.macro_end()?;
+        }
+        rewriting.at.advance()
+    }
+
+    /// Reads an attribute in an item, if one begins there. If it does not stay as it is, writes the text before it, and what
+    /// stands for it.
+    fn rewrite_attribute(
+        &mut self,
+        out: &mut String,
+        rewriting: &mut Rewriting<'a, 'b>,
+    ) -> Outcome {
+        let begin = rewriting.at.token;
+        let bearer = match rewriting.at.tokens {
+            [next, ..] if next.is_mark("[") => Bearer::Item,
+            [next, open, ..] if next.is_mark("!") && open.is_mark("[") => Bearer::Text,
+            _ => return Ok(()),
+        };
+        if matches!(bearer, Bearer::Text) {
+            rewriting.at.advance()?;
+        }
+        let part = rewriting.at.read_part()?;
+        let mut derived = None;
+        if part.name.is("derive") {
+            self.derived.clear();
+            derived = self.derive_text(&part)?;
+        }
+        if derived.is_none() && (is_among(HELPERS, part.name.text) || part.has_meaning(bearer)?) {
+            return Ok(());
+        }
+        out.push_str(rewriting.text_before(begin))?;
+        rewriting.from = rewriting
+            .at
+            .next()
+            .map_or(rewriting.from, |next| next.begin());
+        match derived {
+            Some(text) => Ok(out.push_str(text.as_str())?),
+            None => self.leave_out(begin.place, rewriting.at.text_since(begin.begin())),
+        }
+    }
+
+    /// Whether a path begins at the cursor that is of Rust's `core`, or of `alloc` where the source names that crate.
+    fn is_root(&self, at: &Cursor) -> bool {
+        let begin = at.token;
+        let is_crate = begin.is("core") || (begin.is("alloc") && self.has_alloc);
+        let before = at.text.get(..begin.begin()).unwrap_or("");
+        is_crate && at.is_before(":") && !before.trim_end().ends_with("::")
+    }
+}
+
+impl<'a, 'b> Rewriting<'a, 'b> {
+    /// The text before a token that is not yet written.
+    fn text_before(&self, token: &Token) -> &'a str {
+        self.at.text.get(self.from..token.begin()).unwrap_or("")
+    }
+}
+
+impl<'a, 'b> Cursor<'a, 'b> {
+    /// Whether a call or a definition of a macro begins here.
+    fn is_macro(&self) -> bool {
+        let is_name = self.token.is_name() && !is_among(BEFORE_NOT, self.token.text);
+        let [mark, next, ..] = self.tokens else {
+            return false;
+        };
+        is_name && mark.is_mark("!") && (next.is_mark("([{") || next.is_name())
+    }
+
+    /// Where the last bracket of a macro begins that begins here.
+    fn macro_end(&self) -> Outcome<usize> {
+        let mut end = *self;
+        end.skip_to_open()?;
+        let depth = end.token.depth.saturating_sub(1);
+        end.skip_to(")]}", depth)?;
+        Ok(end.token.begin())
+    }
+
+    /// Goes on to the next bracket that begins.
+    fn skip_to_open(&mut self) -> Outcome {
+        for _ in 0..self.left() {
+            if self.token.is_mark("([{") {
+                break;
+            }
+            self.advance()?;
+        }
+        Ok(())
+    }
+}
