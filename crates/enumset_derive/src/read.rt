@@ -16,7 +16,7 @@ use crate::fault::{Fault, Outcome, Place, Reason};
 use crate::plan::*;
 use crate::source::{Element, Form, Gap, Import, Name, Source};
 use crate::space::Space;
-use crate::tokens::{Kind, Token, Tokens, UNCLOSED_BRACKET, is_among, names_last};
+use crate::tokens::{Kind, Token, Tokens, UNCLOSED_BRACKET, names_last};
 use imports::{after_root, has_alloc, renamed_crate};
 use items::is_qualified;
 use parts::{Bearer, Part, derive_among, renamed_derive, write_comments};
@@ -26,7 +26,7 @@ use std::mem;
 use values::NumberType;
 
 /// The tokens that are keywords in Rattle and names in Rust.
-const KEYWORDS: &str = "ghost requires ensures";
+const KEYWORDS: [&str; 3] = ["ghost", "requires", "ensures"];
 
 const OWN_JSON: &str =
     "a set in JSON is of the variants' names here: remove this, and give other names by \

@@ -106,11 +106,6 @@ impl<'a> Token<'a> {
     }
 }
 
-/// Whether a word is among words with spaces between them.
-pub fn is_among(words: &str, word: &str) -> bool {
-    words.split(' ').any(|known| known == word)
-}
-
 /// Whether this name is the last in a path.
 pub fn names_last(path: &str, name: &str) -> bool {
     path.rsplit("::").next().is_some_and(|last| last == name)

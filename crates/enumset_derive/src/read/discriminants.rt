@@ -6,7 +6,9 @@ use super::*;
 
 pub(super) const NOT_A_NUMBER: &str = "write the number itself";
 
-const TYPES: &str = "u8 u16 u32 u64 u128 usize i8 i16 i32 i64 i128 isize";
+const TYPES: [&str; 12] = [
+    "u8", "u16", "u32", "u64", "u128", "usize", "i8", "i16", "i32", "i64", "i128", "isize",
+];
 
 impl<'a, 'b> Cursor<'a, 'b> {
     /// Reads `=` and a discriminant of this type, if they are there, up to the `,` or `}` after them.
@@ -68,13 +70,14 @@ fn read_literal<'a>(
 
 /// A literal without the type after it, and the name of that type, or an empty text.
 pub(super) fn without_type(literal: &str) -> (&str, &str) {
-    let mut types = TYPES.split(' ');
-    let typed = types.find_map(|name| Some((literal.strip_suffix(name)?, name)));
+    let mut types = TYPES.iter();
+    let typed = types.find_map(|name| Some((literal.strip_suffix(*name)?, *name)));
     let (written, type_name) = typed.unwrap_or((literal, ""));
     (written.trim_end_matches('_'), type_name)
 }
 
-/// The number that a literal without a type is, or that a minus sign before it makes of it. Past 128 bits it is a power of two up to 2^(2^32 - 1): after leading zeros a digit with one bit, and then zeros.
+/// The number that a literal without a type is, or that a minus sign before it makes of it. Past 128 bits it is a power of
+/// two up to 2^(2^32 - 1): after leading zeros a digit with one bit, and then zeros.
 pub(super) fn number_of(written: &str, is_negative: bool) -> Result<Number, &'static str> {
     let mut prefixes = [("0x", 16), ("0o", 8), ("0b", 2)].iter();
     let digits_of = |(prefix, radix): &(&str, u32)| Some((*radix, written.strip_prefix(prefix)?));

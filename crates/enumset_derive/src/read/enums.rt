@@ -19,7 +19,9 @@ const DENY_ALONE: &str = "`serialize_deny_unknown` changes nothing without `seri
 
 const OTHER_CRATE: &str = "the enums of one source cite one crate: give each the same `crate_name`";
 
-const OTHER_ITEMS: &str = "struct union fn const static trait type mod impl use";
+const OTHER_ITEMS: [&str; 10] = [
+    "struct", "union", "fn", "const", "static", "trait", "type", "mod", "impl", "use",
+];
 
 /// The attribute of what is there for tests alone. In one piece it would have the toolchain look for tests here.
 const FOR_TESTS: &str = concat!("#", "[cfg(test)]\n");
@@ -197,7 +199,7 @@ impl<'a, 'b> Reader<'a, 'b> {
         let begin = self.cursor;
         let name = begin.token;
         name.want(name.is_name(), "wanted: a name of a variant, or `}`")?;
-        name.want(!is_among(KEYWORDS, name.text), KEYWORD)?;
+        name.want(!KEYWORDS.contains(&name.text), KEYWORD)?;
         self.cursor.advance_to_token()?;
         Ok(Variant {
             place: name.place,
@@ -217,7 +219,7 @@ impl<'a, 'b> Cursor<'a, 'b> {
         let keyword = self.token;
         keyword.want(!matches!(keyword.kind, Kind::End), "wanted: an item")?;
         keyword.want(
-            !is_among(OTHER_ITEMS, keyword.text),
+            !OTHER_ITEMS.contains(&keyword.text),
             "`EnumSetType` is for enums alone",
         )?;
         keyword.want(keyword.is("enum"), "wanted: `enum`")?;

@@ -35,7 +35,7 @@ impl<'a, 'b> Reader<'a, 'b> {
         let visibility = visibility.unwrap_or("").trim_end();
         let keyword = self.cursor;
         let path = self.cursor.read_path()?;
-        let may_stay = |root: &Token| root.is_name() && !is_among("core alloc", root.text);
+        let may_stay = |root: &Token| root.is_name() && !matches!(root.text, "core" | "alloc");
         let is_path = path.first().is_some_and(may_stay);
         let written = is_path.then_some(self.cursor.text_since(item.token.begin()));
         let written = written.unwrap_or("");
@@ -77,7 +77,10 @@ impl<'a, 'b> Reader<'a, 'b> {
             written => String::from_str(alloc, written)?,
         };
         let is_ours = root.text.starts_with("enumset");
-        let is_there = is_among("std core alloc crate self super", root.text);
+        let is_there = matches!(
+            root.text,
+            "std" | "core" | "alloc" | "crate" | "self" | "super"
+        );
         let import = Import {
             text: format!(in alloc; "{}{}", line.attributes, written.as_str().trim_start())?,
             names,

@@ -32,7 +32,7 @@ impl<'a, 'b> Reader<'a, 'b> {
             let rest = tokens.get(index.saturating_add(2)..).unwrap_or(&[]);
             let is_set = !before.is_mark("<,*") && is_set_constant(word, rest);
             word.want(!is_set, SET_CONSTANT)?;
-            if is_among("Serialize Deserialize", word.text) {
+            if matches!(word.text, "Serialize" | "Deserialize") {
                 let implemented = implemented_for(rest);
                 self.serializers
                     .extend(implemented.map(|name| (word, name)))?;
@@ -78,10 +78,10 @@ fn after_text<'b>(tokens: &'b [Token<'b>]) -> &'b [Token<'b>] {
 /// Whether a keyword and the tokens after it are a constant whose value makes a set.
 fn is_set_constant(keyword: &Token, rest: &[Token]) -> bool {
     let is_declared = match rest {
-        [name, colon, ..] => colon.is(":") || is_among("mut ref", name.text),
+        [name, colon, ..] => colon.is(":") || matches!(name.text, "mut" | "ref"),
         _ => false,
     };
-    if !is_among("const static", keyword.text) || !is_declared {
+    if !matches!(keyword.text, "const" | "static") || !is_declared {
         return false;
     }
     let is_end = |word: &Token| word.is(";") && word.depth <= keyword.depth;

@@ -3,13 +3,15 @@
 use super::*;
 
 /// What has a name in the module.
-const NAMED: &str = "struct enum union trait type mod fn const static";
+const NAMED: [&str; 9] = [
+    "struct", "enum", "union", "trait", "type", "mod", "fn", "const", "static",
+];
 
 /// Of these, what has a module of its own there, so that no two of their names may differ only in case.
-const DECLARED: &str = "struct enum union trait mod fn";
+const DECLARED: [&str; 6] = ["struct", "enum", "union", "trait", "mod", "fn"];
 
 /// What stands before `fn` or `trait`.
-const QUALIFIERS: &str = "const unsafe async extern";
+const QUALIFIERS: [&str; 4] = ["const", "unsafe", "async", "extern"];
 
 impl<'a, 'b> Reader<'a, 'b> {
     /// Reads an item with the comments and attributes before it, up to its last token.
@@ -56,7 +58,7 @@ impl<'a, 'b> Reader<'a, 'b> {
     fn name_item(&mut self, start: &Cursor<'a, 'b>) -> Outcome {
         let (mut keyword, mut tokens) = (start.token, start.tokens);
         for _ in 0..4 {
-            let is_before = is_among(QUALIFIERS, keyword.text)
+            let is_before = QUALIFIERS.contains(&keyword.text)
                 || matches!(keyword.kind, Kind::Quoted);
             match tokens {
                 [next, rest @ ..] if is_before && is_qualified(next) => {
@@ -68,10 +70,10 @@ impl<'a, 'b> Reader<'a, 'b> {
         let Some(name) = tokens.first().filter(|name| name.is_name()) else {
             return Ok(());
         };
-        if is_among(DECLARED, keyword.text) {
+        if DECLARED.contains(&keyword.text) {
             return self.declare(name);
         }
-        if is_among(NAMED, keyword.text) {
+        if NAMED.contains(&keyword.text) {
             self.source.names.push(("", *name))?;
         }
         Ok(())
@@ -79,7 +81,7 @@ impl<'a, 'b> Reader<'a, 'b> {
 
     /// Takes in the name of a function, a type, a trait or a module. It is a fault if another has it, but for case.
     pub(super) fn declare(&mut self, name: &'b Token<'a>) -> Outcome {
-        name.want(!is_among(KEYWORDS, name.text), KEYWORD)?;
+        name.want(!KEYWORDS.contains(&name.text), KEYWORD)?;
         let key = name.text.to_ascii_lowercase(self.alloc)?;
         if let Some(other) = self.declared.get(key.as_str()) {
             let reason = match other.is(name.text) {
@@ -123,5 +125,6 @@ impl<'a, 'b> Reader<'a, 'b> {
 
 /// Whether a word may come after one that stands before `fn` or `trait`.
 pub(super) fn is_qualified(next: &Token) -> bool {
-    is_among("fn trait unsafe async extern", next.text) || matches!(next.kind, Kind::Quoted)
+    matches!(next.text, "fn" | "trait" | "unsafe" | "async" | "extern")
+        || matches!(next.kind, Kind::Quoted)
 }

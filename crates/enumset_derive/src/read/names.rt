@@ -12,8 +12,16 @@ const WRONG_STYLE: &str =
 
 const NOT_PLAIN: &str = "a name in JSON is of printable ASCII here, without `\"` and `\\`";
 
-const STYLES: &str = "lowercase UPPERCASE PascalCase camelCase snake_case SCREAMING_SNAKE_CASE \
-    kebab-case SCREAMING-KEBAB-CASE";
+const STYLES: [&str; 8] = [
+    "lowercase",
+    "UPPERCASE",
+    "PascalCase",
+    "camelCase",
+    "snake_case",
+    "SCREAMING_SNAKE_CASE",
+    "kebab-case",
+    "SCREAMING-KEBAB-CASE",
+];
 
 /// The name of a variant, which is tokens that each begin with a capital, in a style of `serde`.
 fn styled(alloc: Global, style: &str, name: &str) -> Result<String, AllocError> {
@@ -84,7 +92,7 @@ fn given_name<'a>(argument: &[Token<'a>], is_variant: bool) -> Outcome<Option<(P
         ("rename_all", false) | ("rename", true) => {
             name.want(rest.first().is_some_and(|next| next.is_mark("=")), OTHER)?;
             let (value, text) = value_of(name, rest)?;
-            value.want(is_variant || is_among(STYLES, text), WRONG_STYLE)?;
+            value.want(is_variant || STYLES.contains(&text), WRONG_STYLE)?;
             let is_plain = |letter| matches!(letter, ' '..='!' | '#'..='[' | ']'..='~');
             value.want(text.chars().all(is_plain), NOT_PLAIN)?;
             Ok(Some((value.place, text)))

@@ -13,15 +13,50 @@ const DERIVE_ALONE: &str = "`cfg_attr` is not read here: write `#[derive(EnumSet
 const OPTIONS_ALONE: &str = "`cfg_attr` is not read here: write `#[enumset(..)]` itself";
 
 /// The attributes with a meaning before an item that is no element type alone.
-const OF_ITEMS: &str = "inline cold test ignore should_panic macro_export macro_use macro_derive \
-    unsafe error serde";
+const OF_ITEMS: [&str; 11] = [
+    "inline",
+    "cold",
+    "test",
+    "ignore",
+    "should_panic",
+    "macro_export",
+    "macro_use",
+    "macro_derive",
+    "unsafe",
+    "error",
+    "serde",
+];
 
 /// What std, `serde` and `thiserror` derive.
-const KNOWN: &str = "Clone Copy PartialEq Eq PartialOrd Ord Default Hash Debug Drop \
-    Serialize Deserialize Error";
+const KNOWN: [&str; 13] = [
+    "Clone",
+    "Copy",
+    "PartialEq",
+    "Eq",
+    "PartialOrd",
+    "Ord",
+    "Default",
+    "Hash",
+    "Debug",
+    "Drop",
+    "Serialize",
+    "Deserialize",
+    "Error",
+];
 
 /// The first names of paths to these derives.
-const ROOTS: &str = "std core fmt cmp hash clone marker default serde thiserror";
+const ROOTS: [&str; 10] = [
+    "std",
+    "core",
+    "fmt",
+    "cmp",
+    "hash",
+    "clone",
+    "marker",
+    "default",
+    "serde",
+    "thiserror",
+];
 
 /// What an attribute stands before or in.
 #[derive(Clone, Copy)]
@@ -58,28 +93,31 @@ impl<'a, 'b> Part<'a, 'b> {
         Ok(match name.text {
             "doc" => match tokens {
                 [_, _, equal, text, _] if equal.is_mark("=") => matches!(text.kind, Kind::Quoted),
-                _ => self.is_written("( hidden ) ]"),
+                _ => self.is_written(&["(", "hidden", ")", "]"]),
             },
             "deprecated" | "non_exhaustive" => !matches!(bearer, Bearer::Text),
             "repr" => is_item
-                && (self.is_written("( C ) ]") || self.is_written("( transparent ) ]")),
+                && (self.is_written(&["(", "C", ")", "]"])
+                    || self.is_written(&["(", "transparent", ")", "]"])),
             "cfg" if matches!(bearer, Bearer::Variant) => return Err(name.fault(ON_VARIANT)),
-            "cfg" if !self.is_written("( test ) ]") => return Err(name.fault(CONFIGURATION)),
+            "cfg" if !self.is_written(&["(", "test", ")", "]"]) => return Err(name.fault(
+                CONFIGURATION,
+            )),
             "cfg_attr" if derive_among(tokens, "").is_some() => return Err(name.fault(
                 DERIVE_ALONE,
             )),
             "cfg_attr" if self.calls("enumset") => return Err(name.fault(OPTIONS_ALONE)),
             "cfg" | "allow" | "warn" | "deny" | "forbid" | "expect" | "clippy" | "tactic" => true,
             "must_use" | "rattlefmt" | "cycle" | "derive_where" => is_type,
-            word if is_among(OF_ITEMS, word) => is_item,
+            word if OF_ITEMS.contains(&word) => is_item,
             _ => name.is_comment(),
         })
     }
 
     /// Whether these tokens come after its name, and no others.
-    fn is_written(&self, tokens: &str) -> bool {
+    fn is_written(&self, tokens: &[&str]) -> bool {
         let own = self.tokens.iter().skip(2).map(|word| word.text);
-        own.eq(tokens.split(' '))
+        own.eq(tokens.iter().copied())
     }
 
     /// Whether this name stands in it before a bracket.
@@ -145,7 +183,7 @@ fn derive_in<'b>(attribute: &'b [Token<'b>], renamed: &str) -> Option<&'b Token<
     let [bracket, name, ..] = attribute else {
         return None;
     };
-    if !bracket.is_mark("[") || !is_among("derive cfg_attr", name.text) {
+    if !bracket.is_mark("[") || !matches!(name.text, "derive" | "cfg_attr") {
         return None;
     }
     let end = attribute.iter().position(|word| word.depth < bracket.depth);
@@ -188,8 +226,8 @@ fn path_of(alloc: Global, argument: &[Token]) -> Outcome<String> {
 fn is_known(path: &str) -> bool {
     match path.split_once("::") {
         Some(("crate" | "self" | "super", _)) => true,
-        Some((root, _)) if !is_among(ROOTS, root) => false,
-        _ => KNOWN.split(' ').any(|name| names_last(path, name)),
+        Some((root, _)) if !ROOTS.contains(&root) => false,
+        _ => KNOWN.iter().any(|name| names_last(path, name)),
     }
 }
 

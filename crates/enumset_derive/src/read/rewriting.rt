@@ -3,10 +3,10 @@
 use super::*;
 
 /// `derive`, and the attributes that a derive reads before a field or a variant.
-const HELPERS: &str = "derive default serde error from source";
+const HELPERS: [&str; 6] = ["derive", "default", "serde", "error", "from", "source"];
 
 /// The keywords before a `!` that calls no macro.
-const BEFORE_NOT: &str = "if while match return in break impl";
+const BEFORE_NOT: [&str; 7] = ["if", "while", "match", "return", "in", "break", "impl"];
 
 /// A text that is written anew: from where on it is not yet written, and up to where a macro is as it is.
 #[derive(Drop)]
@@ -73,7 +73,7 @@ impl<'a, 'b> Reader<'a, 'b> {
             self.derived.clear();
             derived = self.derive_text(&part)?;
         }
-        if derived.is_none() && (is_among(HELPERS, part.name.text) || part.has_meaning(bearer)?) {
+        if derived.is_none() && (HELPERS.contains(&part.name.text) || part.has_meaning(bearer)?) {
             return Ok(());
         }
         out.push_str(rewriting.text_before(begin))?;
@@ -106,7 +106,7 @@ impl<'a, 'b> Rewriting<'a, 'b> {
 impl<'a, 'b> Cursor<'a, 'b> {
     /// Whether a call or a definition of a macro begins here.
     fn is_macro(&self) -> bool {
-        let is_name = self.token.is_name() && !is_among(BEFORE_NOT, self.token.text);
+        let is_name = self.token.is_name() && !BEFORE_NOT.contains(&self.token.text);
         let [mark, next, ..] = self.tokens else {
             return false;
         };
