@@ -175,9 +175,8 @@ impl<'a, 'b> Reader<'a, 'b> {
         let Some(item) = self.source.pop_comment(space) else {
             return Ok(space);
         };
-        if let Form::Comment(place, text) = &item.form {
-            let text = format!(in self.alloc; "{text}{}", item.comments)?;
-            self.leave_out_comment(*place, text.as_str())?;
+        if let Form::Comment(place) = &item.form {
+            self.leave_out_comment(*place, item.comments.as_str())?;
         }
         Ok(space.max(item.gap))
     }
@@ -216,15 +215,16 @@ impl<'a, 'b> Cursor<'a, 'b> {
 
     /// Goes on to the next token or comment, if there is one. It fails where nothing can be read.
     pub fn advance(&mut self) -> Outcome {
-        let Some(next) = self.next() else {
-            return Ok(());
-        };
-        self.token = next;
-        match next.is_comment() {
-            true => self.comments = self.comments.get(1..).unwrap_or(&[]),
-            false => self.tokens = self.tokens.get(1..).unwrap_or(&[]),
+        if self.next().is_some_and(|next| next.is_comment()) {
+            if let [comment, rest @ ..] = self.comments {
+                self.token = comment;
+                self.comments = rest;
+            }
+        } else if let [token, rest @ ..] = self.tokens {
+            self.token = token;
+            self.tokens = rest;
         }
-        match (next.kind, self.fault) {
+        match (self.token.kind, self.fault) {
             (Kind::End, Some(fault)) => Err(fault.into()),
             _ => Ok(()),
         }

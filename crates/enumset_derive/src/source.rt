@@ -35,7 +35,7 @@ pub struct Item<'a> {
     /// The space before it.
     pub gap: Space,
     pub form: Form<'a>,
-    /// The comments after it on its line, each after a space.
+    /// The comments after it on its line, each after a space, or the comments that it is.
     pub comments: String,
 }
 
@@ -44,8 +44,8 @@ pub struct Item<'a> {
 pub enum Form<'a> {
     /// A text as it is written.
     Text(String),
-    /// Comments on lines right below each other, and where the first is.
-    Comment(Place, String),
+    /// Comments on lines right below each other, which begin there.
+    Comment(Place),
     /// The first line `use enumset::..;`.
     Imports,
     /// An import of anything else.
@@ -118,35 +118,32 @@ impl<'a> Source<'a> {
 
     /// Adds a comment: to the last item if it stands on the line of that, or right below comments, else as an item.
     pub fn push_comment(&mut self, alloc: Global, comment: &Token) -> Result<(), AllocError> {
-        let is_below = self.gap.space == Space::Line && self.items.len() > self.head;
-        match self.items.last_mut() {
-            Some(item) if !comment.begins_line() => {
-                self.gap = Gap::EMPTY;
-                write!(item.comments, " {}", comment.text)
-            }
-            Some(
-                Item {
-                    form: Form::Comment(_, text),
-                    comments,
-                    ..
-                },
-            ) if is_below => {
-                self.gap = Gap::EMPTY;
-                let comments = mem::replace(comments, String::new(alloc));
-                write!(text, "{comments}\n{}", comment.text)
-            }
+        let is_on_line = !comment.begins_line() && !self.items.is_empty();
+        let is_below = self.gap.space == Space::Line && self.ends_with_comment();
+        let separator = match (is_on_line, is_below) {
+            (true, _) => " ",
+            (_, true) => "\n",
             _ => {
-                let text = String::from_str(alloc, comment.text)?;
-                self.push(alloc, Form::Comment(comment.place, text))
+                self.push(alloc, Form::Comment(comment.place))?;
+                ""
             }
+        };
+        self.gap = Gap::EMPTY;
+        match self.items.last_mut() {
+            Some(item) => write!(item.comments, "{separator}{}", comment.text),
+            None => Ok(()),
         }
+    }
+
+    /// Whether the last item after the head is comments.
+    fn ends_with_comment(&self) -> bool {
+        let last = self.items.last().filter(|_| self.items.len() > self.head);
+        last.is_some_and(|last| matches!(last.form, Form::Comment(_)))
     }
 
     /// Takes off the last item, if it is comments on the lines right above what has this space before it.
     pub fn pop_comment(&mut self, space: Space) -> Option<Item<'a>> {
-        let last = self.items.last()?;
-        let is_above = matches!(last.form, Form::Comment(_, _)) && space == Space::Line;
-        match is_above && self.items.len() > self.head {
+        match space == Space::Line && self.ends_with_comment() {
             true => self.items.pop(),
             false => None,
         }

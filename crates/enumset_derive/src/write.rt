@@ -49,7 +49,8 @@ pub fn module_text(alloc: Global, request: &Request, source: &Source) -> Outcome
             write!(text, "{imports}\n\n")?;
         }
         match &item.form {
-            Form::Text(other) | Form::Comment(_, other) => text.push_str(other.as_str())?,
+            Form::Text(other) => text.push_str(other.as_str())?,
+            Form::Comment(_) => {}
             Form::Import(import) => text.push_str(import.text.as_str())?,
             Form::Imports => text.push_str(imports.as_str())?,
             Form::Element(element) => {

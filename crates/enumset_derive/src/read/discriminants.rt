@@ -70,10 +70,12 @@ fn read_literal<'a>(
 
 /// A literal without the type after it, and the name of that type, or an empty text.
 pub(super) fn without_type(literal: &str) -> (&str, &str) {
-    let mut types = TYPES.iter();
-    let typed = types.find_map(|name| Some((literal.strip_suffix(*name)?, *name)));
-    let (written, type_name) = typed.unwrap_or((literal, ""));
-    (written.trim_end_matches('_'), type_name)
+    for name in TYPES {
+        if let Some(written) = literal.strip_suffix(name) {
+            return (written.trim_end_matches('_'), name);
+        }
+    }
+    (literal.trim_end_matches('_'), "")
 }
 
 /// The number that a literal without a type is, or that a minus sign before it makes of it. Past 128 bits it is a power of

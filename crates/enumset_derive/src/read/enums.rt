@@ -128,11 +128,13 @@ impl<'a, 'b> Reader<'a, 'b> {
         self.discriminant_type = own.unwrap_or(NumberType::OF_ENUMS);
         let first = parts.iter().position(|part| part.name.is("derive"));
         let (before, after) = parts.split_at(first.unwrap_or(0));
-        of.attributes = [self.take(of, before)?, self.take(of, after)?];
+        let attributes = self.take(of, before)?;
+        let mut later_attributes = self.take(of, after)?;
         let begin = self.cursor;
         of.visibility = self.cursor.read_visibility()?;
         let name = self.cursor.read_enum_name()?;
-        write_comments(&mut of.attributes[1], self.cursor.comments_since(&begin))?;
+        write_comments(&mut later_attributes, self.cursor.comments_since(&begin))?;
+        of.attributes = [attributes, later_attributes];
         of.name = name.text;
         self.declare(name)?;
         for _ in 0..self.cursor.left() {

@@ -91,20 +91,23 @@ fn write_discriminant(out: &mut String, given: &Discriminant) -> Written {
 
 /// Writes the derives: those that an element type needs, and those of the source.
 fn write_derives(out: &mut String, alloc: Global, declaration: &EnumDeclaration) -> Written {
-    let needed: &[&str] = match declaration.options.leaves_out_supertraits {
-        true => &[],
-        false => &SUPERTRAITS,
-    };
-    let mut derives: Vec<&str> = needed.iter().copied().collect(alloc)?;
-    for path in &declaration.derives {
-        let path = path.as_str();
-        if !needed.iter().any(|name| names_last(path, name)) {
-            derives.push(path)?;
+    let is_full = !declaration.options.leaves_out_supertraits;
+    let mut derives = String::new(alloc);
+    for name in SUPERTRAITS {
+        if is_full {
+            write!(derives, "{name}, ")?;
         }
     }
-    match derives.is_empty() {
-        true => Ok(()),
-        false => write!(out, "#[derive({})]\n", derives.join(alloc, ", ")?),
+    for path in &declaration.derives {
+        let path = path.as_str();
+        let is_needed = SUPERTRAITS.iter().any(|name| names_last(path, name));
+        if !(is_full && is_needed) {
+            write!(derives, "{path}, ")?;
+        }
+    }
+    match derives.as_str().trim_end_matches(", ") {
+        "" => Ok(()),
+        derives => write!(out, "#[derive({derives})]\n"),
     }
 }
 
