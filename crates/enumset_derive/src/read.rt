@@ -25,7 +25,7 @@ use std::collections::{BTreeMap, BTreeSet};
 use std::mem;
 use values::NumberType;
 
-/// The tokens that are keywords in Rattle and names in Rust.
+/// The words that are keywords in Rattle and names in Rust.
 const KEYWORDS: [&str; 3] = ["ghost", "requires", "ensures"];
 
 const OWN_JSON: &str =
@@ -96,7 +96,7 @@ struct Reader<'a, 'b> {
     derive: &'a str,
     /// Whether no item was read.
     is_in_head: bool,
-    /// The tokens of the kept derives and of items but imports and element types, and with such an item `*` and `_`.
+    /// The names in the kept derives and in items but imports and element types, and with such an item `*` and `_`.
     used: BTreeSet<&'a str>,
     /// The names of the options that the enum is given, in their order.
     given: Vec<&'b Token<'a>>,

@@ -23,7 +23,7 @@ const STYLES: [&str; 8] = [
     "SCREAMING-KEBAB-CASE",
 ];
 
-/// The name of a variant, which is tokens that each begin with a capital, in a style of `serde`.
+/// The name of a variant, which is words that each begin with a capital, in a style of `serde`.
 fn styled(alloc: Global, style: &str, name: &str) -> Result<String, AllocError> {
     let mut separators = style.matches(|letter| matches!(letter, '_' | '-'));
     let separator = separators.next().unwrap_or("");
