@@ -21,4 +21,12 @@ enum Line /* in */ { Low, /* 0 volts */ High, // 5 volts
     Open /* no
     volts */,
 } /* of one pin */ #[derive(EnumSetType)] #[enumset(no_ops)] enum Edge { Up, Down } // of a line
+#[derive(EnumSetType)]
+#[enumset(no_ops, serialize_repr = "list")]
+#[serde(rename_all = "lowercase" /* as ever */)]
+enum Side {
+    #[serde(/* with a bar */ rename = "up-side")]
+    Up,
+    Down,
+}
 // The end.

@@ -61,6 +61,10 @@ impl<'a, 'b> Reader<'a, 'b> {
         for (part, _, is_kept) in mem::replace(&mut self.serde, Vec::new(alloc)) {
             if !is_kept && !declaration.options.are_named() {
                 self.leave_out(part.begin.place, part.text)?;
+            } else if !is_kept {
+                for comment in part.comments {
+                    self.leave_out_comment(comment.place, comment.text)?;
+                }
             }
         }
         self.source.has_enums = true;
