@@ -1,0 +1,10 @@
+#[derive(EnumSetType)]
+enum System {
+    Windows,
+}
+
+fn stop() -> ! {
+    #[cfg(windows)]
+    close();
+    loop {}
+}

@@ -1,0 +1,2 @@
+struct ArrayRepr;
+#[derive(EnumSetType)] enum E { A = 200 }

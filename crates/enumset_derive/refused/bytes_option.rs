@@ -1,0 +1,1 @@
+#[enumset(repr = b"u8")] #[derive(EnumSetType)] enum E { A }

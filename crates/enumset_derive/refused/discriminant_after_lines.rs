@@ -1,0 +1,4 @@
+#[derive(EnumSetType)]
+#[enumset(map = "compact")] enum E { A = 1,
+
+    B = 1 }

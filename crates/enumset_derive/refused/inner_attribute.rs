@@ -1,0 +1,5 @@
+#[derive(EnumSetType)]
+enum Color {
+    #![allow(dead_code)]
+    Red,
+}

@@ -1,0 +1,8 @@
+#[derive(EnumSetType)]
+enum Color {
+    Red,
+}
+
+fn ghost() -> Color {
+    Color::Red
+}

@@ -1,0 +1,5 @@
+#[derive(EnumSetType)]
+enum Clause {
+    Given,
+    ensures,
+}

@@ -1,0 +1,4 @@
+#[derive(EnumSetType)]
+enum E { A,
+
+    A }

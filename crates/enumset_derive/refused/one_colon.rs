@@ -1,0 +1,3 @@
+use log as _;
+use enumset::{self, EnumSet};
+use std:fmt;

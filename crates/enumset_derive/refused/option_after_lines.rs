@@ -1,0 +1,4 @@
+#[derive(EnumSetType)]
+#[enumset(no_ops,
+
+    no_ops)] enum E { A }

@@ -1,0 +1,4 @@
+#[cfg_attr(feature = "sets", derive(Debug, ::enumset::EnumSetType))]
+pub enum Color {
+    Red,
+}

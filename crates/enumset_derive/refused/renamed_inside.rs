@@ -1,0 +1,8 @@
+use enumset::EnumSetType as Element;
+
+mod colors {
+    #[derive(super::Element)]
+    pub enum Color {
+        Red,
+    }
+}

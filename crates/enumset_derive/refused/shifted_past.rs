@@ -1,0 +1,4 @@
+#[derive(EnumSetType)]
+enum Flag {
+    Last = 1 << 63,
+}

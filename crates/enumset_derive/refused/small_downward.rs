@@ -1,0 +1,3 @@
+#[enumset(map = "msb", repr = "u32")]
+#[derive(EnumSetType)]
+enum E { A = 40 }

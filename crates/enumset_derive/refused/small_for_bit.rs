@@ -1,0 +1,3 @@
+#[enumset(repr = "u8")]
+#[derive(EnumSetType)]
+enum E { A = 9 }

@@ -1,0 +1,2 @@
+const EnumSet {}
+#[derive(EnumSetType)] enum E { A }

@@ -1,0 +1,2 @@
+enum EnumSet {}
+#[derive(EnumSetType)] enum E { A }

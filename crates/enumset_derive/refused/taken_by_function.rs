@@ -1,0 +1,2 @@
+fn EnumSet {}
+#[derive(EnumSetType)] enum E { A }

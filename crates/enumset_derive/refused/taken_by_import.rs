@@ -1,0 +1,2 @@
+use std::EnumSet;
+#[derive(EnumSetType)] enum E { A }

@@ -1,0 +1,2 @@
+mod EnumSet {}
+#[derive(EnumSetType)] enum E { A }

@@ -1,0 +1,2 @@
+static EnumSet {}
+#[derive(EnumSetType)] enum E { A }

@@ -1,0 +1,2 @@
+struct EnumSet {}
+#[derive(EnumSetType)] enum E { A }

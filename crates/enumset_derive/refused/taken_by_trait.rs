@@ -1,0 +1,2 @@
+trait EnumSet {}
+#[derive(EnumSetType)] enum E { A }

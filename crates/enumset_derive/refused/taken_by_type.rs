@@ -1,0 +1,2 @@
+type EnumSet {}
+#[derive(EnumSetType)] enum E { A }

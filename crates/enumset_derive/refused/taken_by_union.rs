@@ -1,0 +1,2 @@
+union EnumSet {}
+#[derive(EnumSetType)] enum E { A }

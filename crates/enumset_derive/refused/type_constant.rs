@@ -1,0 +1,4 @@
+#[derive(EnumSetType)]
+enum Channel {
+    Last = u8::MAX as isize,
+}

@@ -1,0 +1,1 @@
+#[derive(EnumSetType)] enum E { A = _1 }

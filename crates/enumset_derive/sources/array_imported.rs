@@ -1,0 +1,7 @@
+use enumset::internal::ArrayRepr;
+
+#[derive(EnumSetType)]
+#[enumset(no_ops)]
+enum E {
+    A = 200,
+}

@@ -1,0 +1,6 @@
+#[derive(EnumSetType)]
+#[enumset(no_ops)]
+pub	enum E {
+	A,
+	B	= 3,
+}

@@ -1,0 +1,55 @@
+//! Lists of names that fill lines of 100 columns, and are one column too long.
+
+#[derive(EnumSetType)]
+#[enumset(serialize_repr = "list", no_ops)]
+enum E {
+    A,
+    XXXXXXXXXXXXXXXXXXXXXXXXXXXXXXXXXXXXXXXXXXXXXXXXXXXXXXXXXXXXXXXXXXXXXXXX,
+    YYY,
+}
+
+#[derive(EnumSetType)]
+#[enumset(serialize_repr = "list", no_ops)]
+enum F {
+    A,
+    XXXXXXXXXXXXXXXXXXXXXXXXXXXXXXXXXXXXXXXXXXXXXXXXXXXXXXXXXXXXXXXXXXXXXXXX,
+    YYYY,
+}
+
+#[derive(EnumSetType)]
+#[enumset(serialize_repr = "list", no_ops)]
+enum G {
+    A,
+    XXXXXXXXXXXXXXXXXXXXXXXXXXXXXXXXXXXXXXXXXXXXXXXXXXXXXXXXXXXXXXXXXXXXXX,
+    YYYYYYYYYY,
+    Z,
+}
+
+#[derive(EnumSetType)]
+#[enumset(serialize_repr = "list", no_ops)]
+enum H {
+    A,
+    XXXXXXXXXXXXXXXXXXXXXXXXXXXXXXXXXXXXXXXXXXXXXXXXXXXXXXXXXXXXXXXXXXXXXX,
+    YYYYYYYYYYY,
+    Z,
+}
+
+#[derive(EnumSetType)]
+#[enumset(serialize_repr = "list", no_ops)]
+enum I {
+    A,
+    WWWWWWWWWWWWWWWWWWWWWWWWWWWWWWWWWWWWWWWWWWWWWWWWWWWWWWWWWWWWWWWWWWWWWW,
+    XXXXXXXXXXXX,
+    YYYYYYYYYYYYYYYYYYYYYYYYYYYYYYYYYYYYYYYYYYY,
+    ZZZZZZZZZZZZZZZZZZZZZZZZZZZZZZZZZZZZZZZZZZZZ,
+}
+
+#[derive(EnumSetType)]
+#[enumset(serialize_repr = "list", no_ops)]
+enum J {
+    A,
+    WWWWWWWWWWWWWWWWWWWWWWWWWWWWWWWWWWWWWWWWWWWWWWWWWWWWWWWWWWWWWWWWWWWWWW,
+    XXXXXXXXXXXX,
+    YYYYYYYYYYYYYYYYYYYYYYYYYYYYYYYYYYYYYYYYYYY,
+    ZZZZZZZZZZZZZZZZZZZZZZZZZZZZZZZZZZZZZZZZZZZZZ,
+}

@@ -1,0 +1,5 @@
+#[derive(EnumSetType)]
+#[enumset(no_ops)]
+enum E {
+    A = 65535,
+}

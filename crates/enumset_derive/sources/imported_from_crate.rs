@@ -1,0 +1,6 @@
+use crate::{EnumSet, EnumSetType, EnumSetTypeWithRepr};
+
+#[derive(EnumSetType)]
+enum E {
+    A,
+}

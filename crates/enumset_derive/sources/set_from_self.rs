@@ -1,0 +1,10 @@
+use enumset::EnumSetType;
+use self::EnumSet;
+
+fn f(set: EnumSet<E>) {}
+
+#[derive(EnumSetType)]
+#[enumset(crate_name = "sets")]
+enum E {
+    A,
+}

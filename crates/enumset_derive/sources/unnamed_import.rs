@@ -1,0 +1,2 @@
+use log as _;
+use enumset::{self, EnumSet};
