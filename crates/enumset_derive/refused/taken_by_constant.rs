@@ -1,2 +1,2 @@
-const EnumSet {}
+const EnumSet: u8 = 1;
 #[derive(EnumSetType)] enum E { A }

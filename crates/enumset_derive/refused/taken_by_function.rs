@@ -1,2 +1,2 @@
-fn EnumSet {}
+fn EnumSet() {}
 #[derive(EnumSetType)] enum E { A }

@@ -1,2 +1,2 @@
-static EnumSet {}
+static EnumSet: u8 = 1;
 #[derive(EnumSetType)] enum E { A }

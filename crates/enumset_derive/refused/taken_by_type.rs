@@ -1,2 +1,2 @@
-type EnumSet {}
+type EnumSet = u8;
 #[derive(EnumSetType)] enum E { A }

@@ -1,2 +1,2 @@
-union EnumSet {}
+union EnumSet { byte: u8 }
 #[derive(EnumSetType)] enum E { A }
