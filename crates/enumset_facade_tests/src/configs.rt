@@ -33,7 +33,10 @@ fn flags_in_lists(rt: HostRuntime) -> Result<(), Fail> {
         ("{\"flag\": [\"C\"]}", "no flags"),
         ("{\"flags\": \"C\"}", "flags: not an array"),
         ("{\"flags\": [\"C\", 1]}", "flags: element 1: not a text"),
-        ("{\"flags\": [\"C\", \"Cc\"]}", "flags: no flag is called Cc"),
+        (
+            "{\"flags\": [\"C\", \"Cc\"]}",
+            "flags: no flag is called Cc",
+        ),
     ] {
         expect_changed(&rt, rt.alloc(), config, wanted)?;
     }

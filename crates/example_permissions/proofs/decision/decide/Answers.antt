@@ -9,8 +9,8 @@ returns-else-is_empty-clause-allowed c = (
   λ same. absurd (cc),
   λ allowed.
       let none : c.sub-missing.result ≡ empty = same_set _ _ (λ q.
-          let granted = c.granted.ensures q in
-          let all = allowed q in
-          grind (arith, members)) in
+      let granted = c.granted.ensures q in
+      let all = allowed q in
+      grind (arith, members)) in
       absurd (grind (arith, is_empty_iff)),
 )
