@@ -141,7 +141,10 @@ impl<'a, 'b> Reader<'a, 'b> {
                 return self.read_item();
             }
         }
-        let is_kept = self.cursor.read_part()?.has_meaning(Bearer::Text)?;
+        let is_kept = self
+            .cursor
+            .read_part()?
+            .has_meaning(Bearer::Text, self.derive)?;
         let text = self.cursor.text_since(begin.begin());
         if is_kept {
             let text = String::from_str(self.alloc, text)?;

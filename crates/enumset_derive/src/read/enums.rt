@@ -107,7 +107,7 @@ impl<'a, 'b> Reader<'a, 'b> {
                 "serde" => derives(of, "Serialize") || derives(of, "Deserialize"),
                 "default" if variant.is_some() => derives(of, "Default"),
                 "error" => derives(of, "Error"),
-                _ => part.has_meaning(bearer)?,
+                _ => part.has_meaning(bearer, self.derive)?,
             };
             if is_kept {
                 write!(kept, "{start}{}\n", part.text)?;

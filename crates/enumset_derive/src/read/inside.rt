@@ -101,9 +101,8 @@ fn is_set_constant(keyword: &Token, rest: &[Token]) -> bool {
 fn implemented_for<'a>(tokens: &[Token<'a>]) -> Option<&'a str> {
     let at = tokens.iter().take(4).position(|word| word.is("for"))?;
     let path = tokens.get(at.saturating_add(1)..)?;
-    let path = path
-        .iter()
-        .take_while(|word| word.is_name() || word.is_mark(":"));
+    let path = path.iter().take_while(|word| (word.is_name() && !word.is("where"))
+        || word.is_mark(":"));
     let name = path.filter(|word| word.is_name()).last()?;
     Some(name.text)
 }

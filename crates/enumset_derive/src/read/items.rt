@@ -43,7 +43,7 @@ impl<'a, 'b> Reader<'a, 'b> {
             return self.read_use(begin.token.place, text.as_str(), item);
         }
         self.name_item(&start)?;
-        self.cursor.skip_to(";}", 0)?;
+        self.cursor.skip_to(end_of(&start), 0)?;
         let tokens = self.cursor.tokens_since(&start);
         let is_test = parts.iter().any(|part| part.name.is("cfg"));
         self.test_item(keyword, tokens, is_test)?;
@@ -97,7 +97,7 @@ impl<'a, 'b> Reader<'a, 'b> {
     /// Writes what is kept of a comment or an attribute of an item that is no element type, on a line of its own.
     fn write_part(&mut self, out: &mut String, part: &Part<'a, 'b>) -> Outcome {
         if !part.name.is("derive") {
-            return match part.has_meaning(Bearer::Item)? {
+            return match part.has_meaning(Bearer::Item, self.derive)? {
                 true => Ok(write!(out, "{}\n", part.text)?),
                 false => self.leave_out(part.begin.place, part.text),
             };
@@ -120,6 +120,16 @@ impl<'a, 'b> Reader<'a, 'b> {
             write!(text, "#[derive({})]\n", kept.join(self.alloc, ", ")?)?;
         }
         Ok(Some(text))
+    }
+}
+
+/// The marks of which one ends an item that begins at a keyword. A value or a type may have a `}` before its `;`.
+fn end_of(start: &Cursor) -> &'static str {
+    let is_qualifier = start.tokens.first().is_some_and(is_qualified);
+    match start.token.text {
+        "static" | "type" => ";",
+        "const" if !is_qualifier => ";",
+        _ => ";}",
     }
 }
 

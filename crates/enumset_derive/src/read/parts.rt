@@ -85,8 +85,9 @@ pub(super) struct Part<'a, 'b> {
 }
 
 impl<'a, 'b> Part<'a, 'b> {
-    /// Whether it is kept. It is a fault if nothing right would come of keeping it or of leaving it out.
-    pub fn has_meaning(&self, bearer: Bearer) -> Outcome<bool> {
+    /// Whether it is kept. `EnumSetType` may have another name, `renamed`. It is a fault if nothing right would come of
+    /// keeping it or of leaving it out.
+    pub fn has_meaning(&self, bearer: Bearer, renamed: &str) -> Outcome<bool> {
         let (name, tokens) = (self.name, self.tokens);
         let is_item = matches!(bearer, Bearer::Item);
         let is_type = is_item || matches!(bearer, Bearer::Enum);
@@ -103,7 +104,7 @@ impl<'a, 'b> Part<'a, 'b> {
             "cfg" if !self.is_written(&["(", "test", ")", "]"]) => return Err(name.fault(
                 CONFIGURATION,
             )),
-            "cfg_attr" if derive_among(tokens, "").is_some() => return Err(name.fault(
+            "cfg_attr" if derive_among(tokens, renamed).is_some() => return Err(name.fault(
                 DERIVE_ALONE,
             )),
             "cfg_attr" if self.calls("enumset") => return Err(name.fault(OPTIONS_ALONE)),
@@ -123,7 +124,7 @@ impl<'a, 'b> Part<'a, 'b> {
     /// Whether this name stands in it before a bracket.
     pub fn calls(&self, name: &str) -> bool {
         let mut pairs = self.tokens.array_windows::<2>();
-        pairs.any(|[word, next]| word.is(name) && next.is_mark("("))
+        pairs.any(|[word, next]| word.is(name) && next.is_mark("([{"))
     }
 
     /// The type of integers that it is, as `#[repr(u8)]`.

@@ -73,7 +73,9 @@ impl<'a, 'b> Reader<'a, 'b> {
             self.derived.clear();
             derived = self.derive_text(&part)?;
         }
-        if derived.is_none() && (HELPERS.contains(&part.name.text) || part.has_meaning(bearer)?) {
+        if derived.is_none()
+            && (HELPERS.contains(&part.name.text) || part.has_meaning(bearer, self.derive)?)
+        {
             return Ok(());
         }
         out.push_str(rewriting.text_before(begin))?;

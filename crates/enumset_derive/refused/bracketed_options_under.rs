@@ -1,0 +1,5 @@
+#[derive(EnumSetType)]
+#[cfg_attr(feature = "small", enumset[repr = "u8"])]
+enum Color {
+    Red,
+}
