@@ -172,7 +172,7 @@ impl<T: EnumSetTypeWithRepr> MixedEnumSet<T> {
     }
 
     /// Returns whether a bit is valid: whether a variant has it. No bit at or past the width of the representation is
-    /// valid. In Rust such a bit is another bit, an overflow or a panic.
+    /// valid. In Rust's `enumset` the call then concerns another bit, overflows or panics.
     pub fn is_bit_valid(bit: u32) -> bool
         ensures valid { result ≡ set.contains (valid_bits T.elements) bit }
         ensures of_a_variant { result ≡ set.is_in bit T.elements.bit_list }
@@ -234,7 +234,7 @@ impl<T: EnumSetTypeWithRepr> MixedEnumSet<T> {
     }
 
     /// Returns whether a bit is a member, valid or unknown. No bit at or past the width of the representation is a
-    /// member. In Rust such a bit is another bit, an overflow or a panic.
+    /// member. In Rust's `enumset` the call then concerns another bit, overflows or panics.
     pub fn has_bit(&self, value: u32) -> bool
         ensures has { result ≡ set.contains self.now value }
         ensures past { T.Repr.WIDTH ≤ value → result ≡ false }
@@ -251,7 +251,8 @@ impl<T: EnumSetTypeWithRepr> MixedEnumSet<T> {
     }
 
     /// Adds a bit, valid or not, and returns whether it was absent. The bit must be below the width of the
-    /// representation, `T::Repr::WIDTH`. In Rust any other bit is another bit, an overflow or a panic.
+    /// representation, `T::Repr::WIDTH`. In Rust's `enumset` the call for any other bit concerns another bit, overflows or
+    /// panics.
     pub fn insert_bit(&mut self, value: u32) -> bool
         requires { value < T.Repr.WIDTH }
         ensures inserted { self.new ≡ set.insert self.old value }
@@ -274,8 +275,8 @@ impl<T: EnumSetTypeWithRepr> MixedEnumSet<T> {
     }
 
     /// Removes a bit, valid or not, and returns whether it was present. A bit at or past the width of the
-    /// representation is never present, so the call returns false and the set stays as it was. In Rust such a bit is
-    /// another bit, an overflow or a panic.
+    /// representation is never present, so the call returns false and the set stays as it was. In Rust's `enumset` the call
+    /// then concerns another bit, overflows or panics.
     #[tactic(auto, using(enumset_repr::specs::Laws::Algebra::remove_absent))]
     pub fn remove_bit(&mut self, value: u32) -> bool
         ensures removed { self.new ≡ set.remove self.old value }

@@ -20,7 +20,7 @@ impl<T: EnumSetTypeWithRepr> PartialOrd for MixedEnumSet<T> {
 }
 
 /// Of two sets that differ, the greater is the one that has the greatest bit that is in exactly one of them. So it has
-/// the greater number, and a proper subset is less. So compare Rust's mixed sets too, which are over integers alone.
+/// the greater number, and a proper subset is less. Rust's mixed sets, which are over integers alone, compare so too.
 impl<T: EnumSetTypeWithRepr> Ord for MixedEnumSet<T> {
     ghost cmp = { compare };
 

@@ -220,7 +220,7 @@ impl<T: EnumSetType> EnumSet<T> {
     }
 
     /// Returns whether a bit is valid: whether a variant has it. No bit at or past the width of the representation is
-    /// valid. In Rust such a bit is another bit, an overflow or a panic.
+    /// valid. In Rust's `enumset` the call then concerns another bit, overflows or panics.
     pub fn is_bit_valid(bit: u32) -> bool
         ensures valid { result ≡ set.contains (valid_bits T.elements) bit }
         ensures of_a_variant { result ≡ set.is_in bit T.elements.bit_list }
@@ -539,8 +539,9 @@ impl<T: EnumSetType> EnumSet<T> {
         Some(T::enum_from_u32(bit))
     }
 
-    /// Removes each element for which `keep` returns false. It is called once for each, ascending by bit. If it tests the
-    /// bit, the elements that pass stay; the test may read what `keep` captured, if no call changes it.
+    /// Removes each element for which `keep` returns false. It is called once for each, ascending by bit. If `keep` tests
+    /// only the bit, exactly the elements whose bits pass stay. The test may also read what `keep` captured, if no call
+    /// changes it.
     ///
     /// No clause says what the calls leave in a variable that `keep` borrows and changes, like a count of its calls: the
     /// variable has some value then. To count the removed elements, compare `len` before and after.

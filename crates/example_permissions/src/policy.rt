@@ -25,7 +25,7 @@ pub struct User {
     pub denied: EnumSet<Right>,
 }
 
-/// Grants rights to a role. No user may do less afterwards. If memory is refused, nothing changes.
+/// Grants rights to a role. All that was allowed still is. If memory is refused, nothing changes.
 pub fn add_grant(grants: &mut Vec<Grant>, grant: Grant) -> Result<(), AllocError>
     ensures granted { OnOk result (grants.new.items ≡ grants.old.items ++ (grant ∷ [])) }
     ensures unchanged { OnErr result (grants.new.items ≡ grants.old.items) }
@@ -37,7 +37,7 @@ pub fn add_grant(grants: &mut Vec<Grant>, grant: Grant) -> Result<(), AllocError
 }
 
 impl User {
-    /// Gives the user a role. The user may not do less afterwards.
+    /// Gives the user a role. All that the user might do is still allowed.
     #[tactic(auto, using(crate::proofs::Allowed::on_roles))]
     pub fn assign(&mut self, role: Role)
         ensures roles { self.new

@@ -24,8 +24,8 @@ pub fn members_are_valid<T: EnumSetType>(set: &EnumSet<T>)
     let _members = set.iter();
 }
 
-/// The valid bits are those in the list of the element type, which has each once, and so those of `ALL_BITS`. They are
-/// below the width of the representation.
+/// The valid bits are those in the list of the element type, which has each bit once. They are also the bits of
+/// `ALL_BITS`. They are below the width of the representation.
 pub fn valid_bits_listed<T: EnumSetType>()
     ensures listed { (bit : ℕ)
         → contains (valid_bits T.elements) bit ≡ is_in bit T.elements.bit_list }

@@ -13,7 +13,7 @@ pub fn fold_of_elements<T: EnumSetType>()
         → from_list (map T.elements.bit items) ≡ from_list (map T.elements.bit others) }
 {}
 
-/// Lists with the same sets have the same union, and a set has the same in common with all of them.
+/// Lists with the same sets have the same union. A set has the same intersection with all sets of either list.
 pub fn fold_of_sets()
     ensures union { (items others : List BitSet)
         → ((item : BitSet) → Contains items item ↔ Contains others item)

@@ -11,8 +11,8 @@ use crate::laws::elements::bit_and_back;
 use enumset_mixed::MixedValue;
 use enumset_sets::EnumSetType;
 
-/// All unknown members stay unknown where elements are inserted or removed, one or a set of them; the complement has
-/// none.
+/// Unknown members stay, if one element or a set of elements is inserted or removed. The complement has no unknown
+/// member.
 pub fn unknown_kept<T: EnumSetType>()
     ensures inserted { (s : BitSet) (element : T)
         → unknown_members (valid_bits T.elements) (insert s (T.elements.bit element))

@@ -57,8 +57,8 @@ pub fn older_reader_of_names<Old: EnumSetNames, New: EnumSetNames>(
     number_and_back(set);
 }
 
-/// A mixed set of one element type carries what a writer of another wrote, where its representation has room for it,
-/// and what it writes again the other reads as it was: as words, whatever the two representations.
+/// A mixed set of one element type keeps all bits that a writer of another wrote as words, if they are below its width.
+/// What it writes again, the other type reads as the set that was first written.
 pub fn carried_along<Old: EnumSetTypeWithRepr, New: EnumSetType>(
     set: &EnumSet<New>,
     past: Unknown,

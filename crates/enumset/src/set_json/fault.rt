@@ -28,8 +28,8 @@ pub enum JsonFault {
     NotABoolean(usize),
     /// A bit is not valid, and such bits are refused.
     UnknownBits,
-    /// The name at this place, counted from 0, in an object in the order of the names' bytes, is the first of no
-    /// variant, and such names are refused.
+    /// The name at this place is the first that no variant has, and such names are refused. Places count from 0, in an
+    /// object in the order of the names' bytes.
     UnknownName(usize),
     /// The string is not JSON. The parser found the error at this line, counted from 1.
     NotJson(usize),
