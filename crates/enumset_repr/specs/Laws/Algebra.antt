@@ -7,280 +7,233 @@
 --     from_list_.., insert_each_..      a set built from a list of its members
 -- The ruleset `algebra` has those that a tactic can apply by itself. A crate above cites it by
 -- `#[tactic(auto, using(enumset_repr::specs::Laws::Algebra::algebra))]`.
-use Rattle.std.proofs.Common.{◌≡◌, ℕ, true, false, cond, List, [], ◌∷◌, refl, sym, ◌∙◌, arith, ◌↔◌}
-use Rattle.enumset_repr.specs.Laws.Base.{nat_tests, same_from_decides, BitSet, contains, ascending, empty, insert, only, remove, from_list, insert_each, union, intersection, difference, symmetric_difference, is_subset, is_disjoint}
-use Rattle.enumset_repr.specs.Laws.Members.{members, subsets, same_set, contains_ascending, contains_from_list, contains_insert_each, contains_is_subset, is_subset_contains, contains_is_disjoint, is_disjoint_contains, is_subset_iff, is_disjoint_iff}
+use Rattle.std.proofs.Common.{◌≡◌, ℕ, true, false, cond, List, [], ◌∷◌, refl, sym, ◌∙◌, arith}
+use Rattle.enumset_repr.specs.Laws.Base.{BitSet, contains, ascending, empty, insert, only, remove, from_list, insert_each, union, intersection, difference, symmetric_difference, is_subset, is_disjoint}
+use Rattle.enumset_repr.specs.Laws.Members.{members, subsets, same_set, contains_ascending, contains_from_list, contains_insert_each, is_disjoint_iff}
+use Rattle.enumset_repr.specs.Laws.Decided.{decided, union_only, difference_only}
 
 -- ---- union
 
 pub union_comm : (s t : BitSet) → union s t ≡ union t s
-union_comm s t = same_set _ _ (λ q. grind (arith, members))
+union_comm s t = grind (arith, decided)
 
 pub union_assoc : (s t u : BitSet) → union (union s t) u ≡ union s (union t u)
-union_assoc s t u = same_set _ _ (λ q. grind (arith, members))
+union_assoc s t u = grind (arith, decided)
 
 pub union_self : (s : BitSet) → union s s ≡ s
-union_self s = same_set _ _ (λ q. grind (arith, members))
+union_self s = grind (arith, decided)
 
 pub union_empty : (s : BitSet) → union s empty ≡ s
-union_empty s = same_set _ _ (λ q. grind (arith, members))
+union_empty s = grind (arith, decided)
 
 pub empty_union : (s : BitSet) → union empty s ≡ s
-empty_union s = same_set _ _ (λ q. grind (arith, members))
+empty_union s = grind (arith, decided)
 
 pub union_intersection : (s t : BitSet) → union s (intersection s t) ≡ s
-union_intersection s t = same_set _ _ (λ q. grind (arith, members))
-
--- what is inside a set of a union is what is inside it of the two
-pub union_inside : (s t u : BitSet) → intersection (union s t) u ≡ union (intersection s u) (intersection t u)
-union_inside s t u = same_set _ _ (λ q. grind (arith, members))
-
-pub union_over_intersection : (s t u : BitSet) → union s (intersection t u) ≡ intersection (union s t) (union s u)
-union_over_intersection s t u = same_set _ _ (λ q. grind (arith, members))
+union_intersection s t = grind (arith, decided)
 
 pub ruleset on_unions = (union_comm, union_self, union_empty, empty_union, union_intersection)
 
 -- ---- intersection
 
 pub intersection_comm : (s t : BitSet) → intersection s t ≡ intersection t s
-intersection_comm s t = same_set _ _ (λ q. grind (arith, members))
+intersection_comm s t = grind (arith, decided)
 
 pub intersection_assoc : (s t u : BitSet) → intersection (intersection s t) u ≡ intersection s (intersection t u)
-intersection_assoc s t u = same_set _ _ (λ q. grind (arith, members))
+intersection_assoc s t u = grind (arith, decided)
 
 pub intersection_self : (s : BitSet) → intersection s s ≡ s
-intersection_self s = same_set _ _ (λ q. grind (arith, members))
+intersection_self s = grind (arith, decided)
 
 pub intersection_empty : (s : BitSet) → intersection s empty ≡ empty
-intersection_empty s = same_set _ _ (λ q. grind (arith, members))
+intersection_empty s = grind (arith, decided)
 
 pub empty_intersection : (s : BitSet) → intersection empty s ≡ empty
-empty_intersection s = same_set _ _ (λ q. grind (arith, members))
+empty_intersection s = grind (arith, decided)
 
 pub intersection_union : (s t : BitSet) → intersection s (union s t) ≡ s
-intersection_union s t = same_set _ _ (λ q. grind (arith, members))
+intersection_union s t = grind (arith, decided)
 
 pub intersection_over_union : (s t u : BitSet) → intersection s (union t u) ≡ union (intersection s t) (intersection s u)
-intersection_over_union s t u = same_set _ _ (λ q. grind (arith, members))
+intersection_over_union s t u = grind (arith, decided)
 
 pub ruleset on_intersections = (intersection_comm, intersection_self, intersection_empty, empty_intersection, intersection_union)
 
 -- ---- difference
 
 pub difference_self : (s : BitSet) → difference s s ≡ empty
-difference_self s = same_set _ _ (λ q. grind (arith, members))
+difference_self s = grind (arith, decided)
 
 pub difference_empty : (s : BitSet) → difference s empty ≡ s
-difference_empty s = same_set _ _ (λ q. grind (arith, members))
+difference_empty s = grind (arith, decided)
 
 pub empty_difference : (s : BitSet) → difference empty s ≡ empty
-empty_difference s = same_set _ _ (λ q. grind (arith, members))
+empty_difference s = grind (arith, decided)
 
 -- De Morgan: what is outside a union is outside both parts, and what is outside an intersection is outside one of them
 pub difference_union : (v s t : BitSet) → difference v (union s t) ≡ intersection (difference v s) (difference v t)
-difference_union v s t = same_set _ _ (λ q. grind (arith, members))
+difference_union v s t = grind (arith, decided)
 
 pub difference_intersection : (v s t : BitSet) → difference v (intersection s t) ≡ union (difference v s) (difference v t)
-difference_intersection v s t = same_set _ _ (λ q. grind (arith, members))
+difference_intersection v s t = grind (arith, decided)
 
 -- adding the members of t and removing them again leaves what was not in t before
 pub union_difference : (s t : BitSet) → difference (union s t) t ≡ difference s t
-union_difference s t = same_set _ _ (λ q. grind (arith, members))
+union_difference s t = grind (arith, decided)
 
 pub difference_then_union : (s t : BitSet) → union (difference s t) t ≡ union s t
-difference_then_union s t = same_set _ _ (λ q. grind (arith, members))
-
-pub difference_apart_from : (s t : BitSet) → intersection (difference s t) t ≡ empty
-difference_apart_from s t = same_set _ _ (λ q. grind (arith, members))
+difference_then_union s t = grind (arith, decided)
 
 pub difference_twice : (s t : BitSet) → difference (difference s t) t ≡ difference s t
-difference_twice s t = same_set _ _ (λ q. grind (arith, members))
+difference_twice s t = grind (arith, decided)
 
 pub ruleset on_differences = (difference_self, difference_empty, empty_difference, difference_union, difference_intersection, union_difference, difference_then_union, difference_twice)
 
 -- ---- symmetric difference
 
 pub symmetric_difference_comm : (s t : BitSet) → symmetric_difference s t ≡ symmetric_difference t s
-symmetric_difference_comm s t = same_set _ _ (λ q. grind (arith, members))
-
-pub symmetric_difference_assoc : (s t u : BitSet) → symmetric_difference (symmetric_difference s t) u ≡ symmetric_difference s (symmetric_difference t u)
-symmetric_difference_assoc s t u = same_set _ _ (λ q. grind (arith, members))
+symmetric_difference_comm s t = grind (arith, decided)
 
 pub symmetric_difference_self : (s : BitSet) → symmetric_difference s s ≡ empty
-symmetric_difference_self s = same_set _ _ (λ q. grind (arith, members))
+symmetric_difference_self s = grind (arith, decided)
 
 pub symmetric_difference_empty : (s : BitSet) → symmetric_difference s empty ≡ s
-symmetric_difference_empty s = same_set _ _ (λ q. grind (arith, members))
+symmetric_difference_empty s = grind (arith, decided)
 
 pub symmetric_difference_twice : (s t : BitSet) → symmetric_difference (symmetric_difference s t) t ≡ s
-symmetric_difference_twice s t = same_set _ _ (λ q. grind (arith, members))
+symmetric_difference_twice s t = grind (arith, decided)
 
 pub ruleset on_symmetric_differences = (symmetric_difference_comm, symmetric_difference_self, symmetric_difference_empty, symmetric_difference_twice)
 
 -- ---- one number
 
 pub insert_twice : (s : BitSet) (b : ℕ) → insert (insert s b) b ≡ insert s b
-insert_twice s b = same_set _ _ (λ q. grind (arith, members))
+insert_twice s b = grind (arith, decided)
 
 pub insert_comm : (s : BitSet) (b c : ℕ) → insert (insert s b) c ≡ insert (insert s c) b
-insert_comm s b c = same_set _ _ (λ q. grind (arith, members))
+insert_comm s b c = grind (arith, decided)
 
 pub insert_present : (s : BitSet) (b : ℕ) → contains s b ≡ true → insert s b ≡ s
-insert_present s b one = same_set _ _ (λ q. grind (arith, members, nat_tests))
+insert_present s b one = grind (arith, decided)
 
 pub remove_twice : (s : BitSet) (b : ℕ) → remove (remove s b) b ≡ remove s b
-remove_twice s b = same_set _ _ (λ q. grind (arith, members))
-
-pub remove_comm : (s : BitSet) (b c : ℕ) → remove (remove s b) c ≡ remove (remove s c) b
-remove_comm s b c = same_set _ _ (λ q. grind (arith, members))
+remove_twice s b = grind (arith, decided)
 
 pub remove_absent : (s : BitSet) (b : ℕ) → contains s b ≡ false → remove s b ≡ s
-remove_absent s b none = same_set _ _ (λ q. grind (arith, members, nat_tests))
+remove_absent s b none = grind (arith, decided)
 
 -- inserting an absent number and removing it again changes nothing
 pub remove_insert : (s : BitSet) (b : ℕ) → contains s b ≡ false → remove (insert s b) b ≡ s
-remove_insert s b none = same_set _ _ (λ q. grind (arith, members, nat_tests))
+remove_insert s b none = grind (arith, decided)
 
 -- removing a member and inserting it again changes nothing
 pub insert_remove : (s : BitSet) (b : ℕ) → contains s b ≡ true → insert (remove s b) b ≡ s
-insert_remove s b one = same_set _ _ (λ q. grind (arith, members, nat_tests))
+insert_remove s b one = grind (arith, decided)
 
 pub contains_inserted : (s : BitSet) (b : ℕ) → contains (insert s b) b ≡ true
-contains_inserted s b = grind (arith, members, nat_tests)
+contains_inserted s b = grind (arith, decided)
 
 pub contains_removed : (s : BitSet) (b : ℕ) → contains (remove s b) b ≡ false
-contains_removed s b = grind (arith, members, nat_tests)
-
-pub union_only : (s : BitSet) (b : ℕ) → union s (only b) ≡ insert s b
-union_only s b = same_set _ _ (λ q. grind (arith, members))
-
-pub difference_only : (s : BitSet) (b : ℕ) → difference s (only b) ≡ remove s b
-difference_only s b = same_set _ _ (λ q. grind (arith, members))
+contains_removed s b = grind (arith, decided)
 
 pub insert_union : (s t : BitSet) (b : ℕ) → union (insert s b) t ≡ insert (union s t) b
-insert_union s t b = same_set _ _ (λ q. grind (arith, members))
+insert_union s t b = grind (arith, decided)
 
 pub union_insert : (s t : BitSet) (b : ℕ) → union s (insert t b) ≡ insert (union s t) b
-union_insert s t b = same_set _ _ (λ q. grind (arith, members))
-
--- inserting and removing, whether the number was there or not
-pub remove_inserted : (s : BitSet) (b : ℕ) → remove (insert s b) b ≡ remove s b
-remove_inserted s b = same_set _ _ (λ q. grind (arith, members, nat_tests))
-
-pub insert_removed : (s : BitSet) (b : ℕ) → insert (remove s b) b ≡ insert s b
-insert_removed s b = same_set _ _ (λ q. grind (arith, members, nat_tests))
-
--- moving a member from one set to another keeps their union
-pub union_moved : (s t : BitSet) (b : ℕ) → contains s b ≡ true → union (remove s b) (insert t b) ≡ union s t
-union_moved s t b one = same_set _ _ (λ q. grind (arith, members, nat_tests))
-
-pub union_moved_back : (s t : BitSet) (b : ℕ) → contains t b ≡ true → union (insert s b) (remove t b) ≡ union s t
-union_moved_back s t b one = same_set _ _ (λ q. grind (arith, members, nat_tests))
+union_insert s t b = grind (arith, decided)
 
 -- the number is a member afterwards exactly if it was none before
 pub toggled : (s : BitSet) (b : ℕ) → symmetric_difference s (only b) ≡ cond (contains s b) (remove s b) (insert s b)
-toggled s b = same_set _ _ (λ q. grind (arith, members, nat_tests))
+toggled s b = grind (arith, decided)
 
 pub difference_inserted : (s t : BitSet) (b : ℕ) → contains t b ≡ false → difference (insert s b) t ≡ insert (difference s t) b
-difference_inserted s t b none = same_set _ _ (λ q. grind (arith, members, nat_tests))
+difference_inserted s t b none = grind (arith, decided)
 
 pub insert_inside : (s t : BitSet) (b : ℕ) → contains t b ≡ true → intersection (insert s b) t ≡ insert (intersection s t) b
-insert_inside s t b one = same_set _ _ (λ q. grind (arith, members, nat_tests))
+insert_inside s t b one = grind (arith, decided)
 
 pub ruleset on_one_number = (contains_inserted, contains_removed, insert_twice, insert_present, remove_twice, remove_absent, remove_insert, insert_remove, union_only, difference_only)
 
 -- ---- the complement of a set within a set v
 
 pub complement_twice : (v s : BitSet) → is_subset s v ≡ true → difference v (difference v s) ≡ s
-complement_twice v s within = same_set _ _ (λ q. let each = is_subset_contains s v within q in grind (arith, members))
+complement_twice v s within = grind (arith, decided)
 
 pub complement_union : (v s : BitSet) → is_subset s v ≡ true → union s (difference v s) ≡ v
-complement_union v s within = same_set _ _ (λ q. let each = is_subset_contains s v within q in grind (arith, members))
+complement_union v s within = grind (arith, decided)
 
 pub complement_intersection : (v s : BitSet) → intersection s (difference v s) ≡ empty
-complement_intersection v s = same_set _ _ (λ q. grind (arith, members))
+complement_intersection v s = grind (arith, decided)
 
 pub complement_apart : (v s : BitSet) → is_disjoint s (difference v s) ≡ true
-complement_apart v s = contains_is_disjoint _ _ (λ q one. grind (arith, members))
+complement_apart v s = grind (arith, decided)
 
 pub ruleset on_complements = (complement_twice, complement_union, complement_intersection, complement_apart)
 
 -- ---- sets with no common member
 
-apart_back : (s t : BitSet) → is_disjoint s t ≡ true → is_disjoint t s ≡ true
-apart_back s t apart = contains_is_disjoint t s (λ q one. let none = is_disjoint_contains s t apart q in grind arith)
-
 pub is_disjoint_comm : (s t : BitSet) → is_disjoint s t ≡ is_disjoint t s
-is_disjoint_comm s t = same_from_decides _ _ (apart_back s t, apart_back t s) (λ h. h, λ h. h)
+is_disjoint_comm s t = grind (arith, decided)
 
 pub is_disjoint_empty : (s : BitSet) → is_disjoint s empty ≡ true
-is_disjoint_empty s = contains_is_disjoint _ _ (λ q one. grind (arith, members))
+is_disjoint_empty s = grind (arith, decided)
 
 pub is_disjoint_difference : (s t : BitSet) → is_disjoint (difference s t) t ≡ true
-is_disjoint_difference s t = contains_is_disjoint _ _ (λ q one. grind (arith, members))
+is_disjoint_difference s t = grind (arith, decided)
 
 -- ---- subsets
 
 pub is_subset_trans : (s t u : BitSet) → is_subset s t ≡ true → is_subset t u ≡ true → is_subset s u ≡ true
-is_subset_trans s t u first second = contains_is_subset s u (λ q one. is_subset_contains t u second q (is_subset_contains s t first q one))
-
-pub is_subset_antisymm : (s t : BitSet) → is_subset s t ≡ true → is_subset t s ≡ true → s ≡ t
-is_subset_antisymm s t first second = same_set s t (λ q. let there = is_subset_contains s t first q in let back = is_subset_contains t s second q in grind arith)
+is_subset_trans s t u first second = grind (arith, decided)
 
 pub union_left : (s t : BitSet) → is_subset s (union s t) ≡ true
-union_left s t = contains_is_subset _ _ (λ q one. grind (arith, members))
+union_left s t = grind (arith, decided)
 
 pub union_right : (s t : BitSet) → is_subset t (union s t) ≡ true
-union_right s t = contains_is_subset _ _ (λ q one. grind (arith, members))
+union_right s t = grind (arith, decided)
 
 pub intersection_left : (s t : BitSet) → is_subset (intersection s t) s ≡ true
-intersection_left s t = contains_is_subset _ _ (λ q one. grind (arith, members))
+intersection_left s t = grind (arith, decided)
 
 pub intersection_right : (s t : BitSet) → is_subset (intersection s t) t ≡ true
-intersection_right s t = contains_is_subset _ _ (λ q one. grind (arith, members))
+intersection_right s t = grind (arith, decided)
 
 pub difference_left : (s t : BitSet) → is_subset (difference s t) s ≡ true
-difference_left s t = contains_is_subset _ _ (λ q one. grind (arith, members))
+difference_left s t = grind (arith, decided)
 
 pub insert_grows : (s : BitSet) (b : ℕ) → is_subset s (insert s b) ≡ true
-insert_grows s b = contains_is_subset _ _ (λ q one. grind (arith, members))
+insert_grows s b = grind (arith, decided)
 
 pub remove_shrinks : (s : BitSet) (b : ℕ) → is_subset (remove s b) s ≡ true
-remove_shrinks s b = contains_is_subset _ _ (λ q one. grind (arith, members))
+remove_shrinks s b = grind (arith, decided)
 
 pub union_within : (s t : BitSet) → is_subset s t ≡ true → union s t ≡ t
-union_within s t within = same_set _ _ (λ q. let each = is_subset_contains s t within q in grind (arith, members))
+union_within s t within = grind (arith, decided)
 
 pub intersection_within : (s t : BitSet) → is_subset s t ≡ true → intersection s t ≡ s
-intersection_within s t within = same_set _ _ (λ q. let each = is_subset_contains s t within q in grind (arith, members))
+intersection_within s t within = grind (arith, decided)
 
 pub difference_within : (s t : BitSet) → is_subset s t ≡ true → difference s t ≡ empty
-difference_within s t within = same_set _ _ (λ q. let each = is_subset_contains s t within q in grind (arith, members))
+difference_within s t within = grind (arith, decided)
 
 pub intersection_difference : (s t v : BitSet) → is_subset s v ≡ true → intersection s (difference v t) ≡ difference s t
-intersection_difference s t v within = same_set _ _ (λ q. let each = is_subset_contains s v within q in grind (arith, members))
+intersection_difference s t v within = grind (arith, decided)
 
 pub symmetric_difference_within : (s t : BitSet) → is_subset s t ≡ true → symmetric_difference s t ≡ difference t s
-symmetric_difference_within s t within = same_set _ _ (λ q. let each = is_subset_contains s t within q in grind (arith, members))
+symmetric_difference_within s t within = grind (arith, decided)
 
 pub difference_none : (s t : BitSet) → difference s t ≡ empty → is_subset s t ≡ true
-difference_none s t none = (is_subset_iff s t).1 none
+difference_none s t none = grind (arith, decided)
 
 pub intersection_apart : (s t : BitSet) → is_disjoint s t ≡ true → intersection s t ≡ empty
-intersection_apart s t apart = same_set _ _ (λ q. let each = is_disjoint_contains s t apart q in grind (arith, members))
+intersection_apart s t apart = grind (arith, decided)
 
 pub difference_apart : (s t : BitSet) → is_disjoint s t ≡ true → difference s t ≡ s
-difference_apart s t apart = same_set _ _ (λ q. let each = is_disjoint_contains s t apart q in grind (arith, members))
+difference_apart s t apart = grind (arith, decided)
 
 pub ruleset on_subsets = (is_disjoint_empty, is_disjoint_difference, union_left, union_right, intersection_left, intersection_right, difference_left, insert_grows, remove_shrinks, union_within, intersection_within, difference_within, intersection_apart, difference_apart)
 
--- ---- subsets and disjoint sets by members, and where a search meets a difference or an intersection
-
-pub is_subset_each : (s t : BitSet) → (is_subset s t ≡ true) ↔ ((q : ℕ) → contains s q ≡ true → contains t q ≡ true)
-is_subset_each s t = (is_subset_contains s t, contains_is_subset s t)
-
-pub is_disjoint_each : (s t : BitSet) → (is_disjoint s t ≡ true) ↔ ((q : ℕ) → contains s q ≡ true → contains t q ≡ false)
-is_disjoint_each s t = (is_disjoint_contains s t, contains_is_disjoint s t)
+-- ---- where a search meets a difference or an intersection
 
 -- the first part is always true: it shows the search where to take the law
 pub difference_tells : (s t : BitSet) → (difference s t ≡ difference s t) × (difference s t ≡ empty → is_subset s t ≡ true)
@@ -316,6 +269,3 @@ pub ruleset on_lists = (from_list_ascending, insert_each_ascending, insert_each_
 -- What a proof about code over sets needs: the laws of `contains`, of subsets, and those of this file that do more than
 -- reorder or regroup.
 pub ruleset algebra = (members, subsets, on_unions, on_intersections, on_differences, on_symmetric_differences, on_one_number, on_complements, on_subsets, on_lists)
-
--- What `set_laws` of `enumset` has of this file beside `algebra`.
-pub ruleset beside_algebra = (union_inside, insert_inside, difference_apart_from, difference_tells, intersection_tells, is_subset_each, is_disjoint_each, toggled, remove_inserted, insert_removed, union_moved, union_moved_back)

@@ -15,11 +15,12 @@
 --     len_kept_both, len_kept_either, len_kept_but, len_left_both      the same by two other sets
 --     length_ascending      the list of the members is as long as the set
 -- The ruleset `counting` has those that a tactic can apply by itself.
-use Rattle.std.proofs.Common.{◌≡◌, ◌≤◌, ◌<◌, ◌+◌, ◌-◌, ℕ, suc, zero, Bool, true, false, cond, not, ◌&&◌, ◌||◌, List, [], ◌∷◌, length, filter, count_by, refl, sym, ap, subst, ◌∙◌, arith, true≢false, ◌↔◌, ◌==◌}
-use Rattle.enumset_repr.specs.Laws.Base.{false_from_ne_true, nat_tests, same_from_decides, length-filter, BitSet, is_in, contains, ascending, len, is_empty, empty, insert, remove, union, intersection, difference, is_subset, is_disjoint, is_same}
+use Rattle.std.proofs.Common.{◌≡◌, ◌≤◌, ◌<◌, ◌+◌, ◌-◌, ℕ, suc, zero, Bool, true, false, cond, not, ◌&&◌, ◌||◌, List, [], ◌∷◌, length, filter, count_by, refl, sym, ap, subst, ◌∙◌, arith, ◌↔◌, ◌==◌}
+use Rattle.enumset_repr.specs.Laws.Base.{nat_tests, same_from_decides, length-filter, BitSet, is_in, contains, ascending, len, is_empty, empty, insert, remove, union, intersection, difference, is_subset, is_disjoint, is_same}
 use Rattle.std.proofs.lemmas.List.Filters.{length-filter_both}
-use Rattle.enumset_repr.specs.Laws.Members.{members, same_set, contains_empty, contains_union, contains_ascending, contains_intersection, contains_difference, is_subset_iff, is_disjoint_iff, is_disjoint_contains, is_same_iff}
-use Rattle.enumset_repr.specs.Laws.Algebra.{intersection_comm, intersection_assoc, intersection_union, intersection_within, intersection_over_union, is_subset_antisymm, union_comm, union_difference, union_within}
+use Rattle.enumset_repr.specs.Laws.Members.{contains_empty, contains_union, contains_ascending, contains_intersection, contains_difference, is_subset_iff, is_disjoint_iff}
+use Rattle.enumset_repr.specs.Laws.Algebra.{intersection_comm, intersection_assoc, intersection_within, intersection_over_union, union_difference, union_within}
+use Rattle.enumset_repr.specs.Laws.Decided.{decided}
 use Rattle.enumset_repr.specs.Laws.Ascending.{AscendsFrom, ascends_lower, ascending_ascends, ascending_is, len_ascending, len_below, len_empty, len_insert, len_remove, empty_of_len, is_empty_iff}
 
 module _ (p : ℕ → Bool) where
@@ -70,8 +71,8 @@ pub len_union : (s t : BitSet) → len (union s t) + len (intersection s t) ≡ 
 len_union s t =
     let parts = len_parts (union s t) t in
     let outside = ap len (union_difference s t) in
-    let inside = ap len (intersection_comm (union s t) t ∙ ap (intersection t) (union_comm s t) ∙ intersection_union t s) in
-    omega (arith, parts, outside, inside, len_parts s t)
+    let inside : intersection (union s t) t ≡ t = grind (arith, decided) in
+    omega (arith, parts, outside, ap len inside, len_parts s t)
 
 pub len_union_more : (s t : BitSet) → len (union s t) ≡ len s + len (difference t s)
 len_union_more s t =
@@ -90,12 +91,12 @@ len_subset s t within = omega (arith, ap len (intersection_within s t within), l
 pub len_proper : (s t : BitSet) → is_subset s t ≡ true → is_same s t ≡ false → len s < len t
 len_proper s t within other =
     let whole : (len t == len s) ≡ is_subset t s = subst (λ u. (len u == len s) ≡ is_subset t s) (union_within s t within) (len_union_same s t) in
-    let back : is_subset t s ≡ false = false_from_ne_true _ (λ yes. true≢false (sym ((is_same_iff s t).1 (is_subset_antisymm s t within yes)) ∙ other)) in
+    let back : is_subset t s ≡ false = grind (arith, decided) in
     let most = len_subset s t within in grind (arith, nat_tests)
 
 pub len_apart : (s t u : BitSet) → is_disjoint t u ≡ true → len (intersection s (union t u)) ≡ len (intersection s t) + len (intersection s u)
 len_apart s t u apart =
-    let none : intersection (intersection s t) (intersection s u) ≡ empty = same_set _ _ (λ q. let each = is_disjoint_contains t u apart q in grind (arith, members)) in
+    let none : intersection (intersection s t) (intersection s u) ≡ empty = grind (arith, decided) in
     omega (arith, ap len (intersection_over_union s t u), len_union (intersection s t) (intersection s u), ap len none, len_empty)
 
 pub len_zero_iff : (s : BitSet) → (len s ≡ 0) ↔ (s ≡ empty)
@@ -133,7 +134,7 @@ pub len_kept_either : (s t u : BitSet) → len (intersection s (union t u)) ≡ 
 len_kept_either s t u = len_kept s (union t u) ∙ ap (λ (p : ℕ → Bool). count_by p (ascending s)) (λ i b. contains_union t u b i)
 
 pub len_kept_but : (s t u : BitSet) → len (difference (intersection s t) u) ≡ count_by (λ b. contains t b && not (contains u b)) (ascending s)
-len_kept_but s t u = ap len (same_set _ _ (λ q. grind (arith, members))) ∙ len_kept s (difference t u) ∙ ap (λ (p : ℕ → Bool). count_by p (ascending s)) (λ i b. contains_difference t u b i)
+len_kept_but s t u = ap len (grind (arith, decided)) ∙ len_kept s (difference t u) ∙ ap (λ (p : ℕ → Bool). count_by p (ascending s)) (λ i b. contains_difference t u b i)
 
 pub len_left_both : (s t u : BitSet) → len (difference s (union t u)) ≡ count_by (λ b. not (contains t b) && not (contains u b)) (ascending s)
 len_left_both s t u = len_left s (union t u) ∙ ap (λ (p : ℕ → Bool). count_by p (ascending s)) (λ i b. outside b i) where

@@ -22,31 +22,29 @@
 --     a law that counts where `is_subset` or `is_disjoint` stands, since it makes terms at each of them:  see
 --         `counts_of_parts` of `DecidedCounts`
 -- `union_only` and `difference_only` are here since a goal like `result ≡ Some (insert s b)` is no equation between sets.
-use Rattle.std.proofs.Common.{◌≡◌, ◌↔◌, ℕ, Bool, true, false, arith, Option, Some, None, refl, sym, ap, subst, ◌∙◌, not, ◌&&◌, ◌||◌, true≢false, ◌==◌, nat_lt}
-use Rattle.enumset_repr.specs.Laws.Common.{BitSet, contains, empty, union, intersection, difference, symmetric_difference, is_subset, is_disjoint, is_same, is_empty, insert, remove, below, low, retain, least, least_facts, empty_of_ascending, ascending_no_least, is_empty_iff, same_from_decides, false_from_ne_true, contains_from_list, members, same_set, is_subset_contains, contains_is_subset, is_same_iff, contains_empty, contains_difference, contains_intersection, contains_symmetric_difference, contains_union, contains_insert, contains_remove, contains_retain, contains_below, contains_low, nat_tests, union_only, difference_only}
-use Rattle.enumset_repr.specs.Laws.Members.{is_disjoint_contains, contains_is_disjoint}
+use Rattle.std.proofs.Common.{◌≡◌, ◌↔◌, ℕ, Bool, true, false, arith, List, [], ◌∷◌, get_or, refl, sym, ap, ◌∙◌, not, ◌&&◌, ◌||◌, true≢false, ◌==◌, nat_lt}
+use Rattle.enumset_repr.specs.Laws.Base.{false_from_ne_true, nat_tests, same_from_decides, BitSet, is_in, contains, ascending, is_empty, empty, insert, remove, retain, only, union, intersection, difference, symmetric_difference, is_subset, is_disjoint, is_same, below, low}
+use Rattle.enumset_repr.specs.Laws.Members.{members, same_set, contains_empty, contains_insert, contains_remove, contains_retain, contains_ascending, contains_from_list, contains_union, contains_intersection, contains_difference, contains_symmetric_difference, contains_below, contains_low, is_subset_contains, contains_is_subset, is_disjoint_contains, contains_is_disjoint, is_same_iff}
+use Rattle.enumset_repr.specs.Laws.Ascending.{empty_of_ascending, is_empty_iff}
 
 -- ---- a number that decides a test
 
-one_of : Option ℕ → ℕ
-one_of None = 0
-one_of (Some m) = m
-
 -- the least member, or 0 if there is none
 pub some_member : BitSet → ℕ
-some_member s = one_of (least s)
+some_member s = get_or (ascending s) 0 0
 
 pub empty_at : (s : BitSet) → is_empty s ≡ not (contains s (some_member s))
-unfolding some_member one_of
-empty_at s = by (least s) refl where
-  by : (o : Option ℕ) → least s ≡ o → is_empty s ≡ not (contains s (one_of (least s)))
-  by None none =
-      let e = empty_of_ascending s (ascending_no_least s none) in
-      (is_empty_iff s).1 e ∙ sym (ap (λ u. not (contains u (one_of (least s)))) e ∙ ap not (contains_empty (one_of (least s))))
-  by (Some m) is =
-      let one : contains s (one_of (least s)) ≡ true = subst (λ o. contains s (one_of o) ≡ true) (sym is) (least_facts s m is).0 in
-      let no : is_empty s ≡ false = false_from_ne_true _ (λ e. true≢false (sym one ∙ ap (λ u. contains u (one_of (least s))) ((is_empty_iff s).0 e) ∙ contains_empty _)) in
-      no ∙ sym (ap not one)
+unfolding some_member
+empty_at s = by (ascending s) refl where
+  by : (bs : List ℕ) → ascending s ≡ bs → is_empty s ≡ not (contains s (get_or (ascending s) 0 0))
+  by [] none =
+      let e = empty_of_ascending s none in
+      (is_empty_iff s).1 e ∙ sym (ap (λ u. not (contains u (get_or (ascending s) 0 0))) e ∙ ap not (contains_empty _))
+  by (b ∷ bs) is =
+      let here : is_in b (b ∷ bs) ≡ true = grind (arith, nat_tests) in
+      let one : contains s b ≡ true = contains_ascending s b ∙ ap (is_in b) is ∙ here in
+      let no : is_empty s ≡ false = false_from_ne_true _ (λ e. true≢false (sym one ∙ ap (λ u. contains u b) ((is_empty_iff s).0 e) ∙ contains_empty b)) in
+      no ∙ sym (ap not (ap (λ cs. contains s (get_or cs 0 0)) is ∙ one))
 
 pub empty_each : (s : BitSet) → (is_empty s ≡ is_empty s) × (is_empty s ≡ true → (q : ℕ) → contains s q ≡ false)
 empty_each s = (refl, λ e q. ap (λ u. contains u q) ((is_empty_iff s).0 e) ∙ contains_empty q)
@@ -121,6 +119,12 @@ low_once s n q w = (refl, refl, contains_low s n q)
 
 pub insert_in : (s : BitSet) (b : ℕ) → (insert s b ≡ insert s b) × (contains (insert s b) b ≡ true)
 insert_in s b = (refl, grind (arith, members, nat_tests))
+
+pub union_only : (s : BitSet) (b : ℕ) → union s (only b) ≡ insert s b
+union_only s b = same_set _ _ (λ q. grind (arith, members))
+
+pub difference_only : (s : BitSet) (b : ℕ) → difference s (only b) ≡ remove s b
+difference_only s b = same_set _ _ (λ q. grind (arith, members))
 
 -- ---- what a test says of a number in sight
 

@@ -3,7 +3,7 @@
 --     counts_of_parts      what a subset and disjoint sets say of numbers of members:  with the above, on one function that
 --         counts;  at the root it makes terms at each `is_subset` in sight, and that is one for each set
 use Rattle.std.proofs.Common.{◌≡◌, ◌↔◌, ◌≤◌, ◌+◌, ◌*◌, ℕ, Bool, true, arith, refl, ap, ◌∙◌, ◌==◌}
-use Rattle.enumset_repr.specs.Laws.Common.{BitSet, below, empty, union, intersection, difference, symmetric_difference, is_subset, is_disjoint, is_empty, len, len_empty, len_insert, len_below, len_union_same, is_empty_iff, nat_tests}
+use Rattle.enumset_repr.specs.Laws.Common.{BitSet, below, empty, union, intersection, difference, symmetric_difference, is_subset, is_disjoint, is_empty, len, len_empty, len_insert, len_below, len_union_same, nat_tests}
 use Rattle.enumset_repr.specs.Laws.Algebra.{intersection_comm}
 use Rattle.enumset_repr.specs.Laws.Ascending.{len_remove}
 use Rattle.enumset_repr.specs.Laws.Counting.{len_union, len_parts, len_zero_iff}

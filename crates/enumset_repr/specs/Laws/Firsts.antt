@@ -10,7 +10,7 @@
 use Rattle.std.proofs.Common.{◌≡◌, ◌≤◌, ℕ, suc, Bool, true, false, cond, ◌||◌, List, [], ◌∷◌, ◌++◌, Some, refl, sym, ap, subst, ◌∙◌, arith, ◌↔◌, ◌==◌, nat_lt}
 use Rattle.enumset_repr.specs.Laws.Base.{nat_tests, BitSet, is_in, contains, ascending, empty, insert, remove, from_list, first, last, without_first, without_last, least, greatest}
 use Rattle.enumset_repr.specs.Laws.Members.{contains_ascending, contains_insert}
-use Rattle.enumset_repr.specs.Laws.Algebra.{union_only}
+use Rattle.enumset_repr.specs.Laws.Decided.{union_only}
 use Rattle.enumset_repr.specs.Laws.Ascending.{AscendsFrom, ascending_ascends, ascending_is, ascending_empty, empty_of_ascending, is_in_from}
 use Rattle.enumset_repr.specs.Laws.Ends.{ascending_least, ascending_greatest, least_facts, greatest_facts}
 use Rattle.enumset_repr.specs.Laws.Steps.{last_push, without_last_push}

@@ -3,7 +3,7 @@
 use Rattle.std.proofs.Common.{◌≡◌, ℕ, ◌+◌, ◌-◌, ◌*◌, ◌^◌, true, false, true≢false, ◌&&◌, ◌||◌, List, [], ◌∷◌, sym, ap, ◌∙◌, arith, sum_by, zero-mul, nat_le, bit_and, bit_or, eqb-true}
 use Rattle.enumset_repr.specs.Laws.Base.{bit_at, or_add_and, and_parts, not-true, sum_by-cons, nat_tests, and_pow, bit_at-lt, is_in, BitSet, contains, insert, from_list, union, number, bits, is_distinct, lists_bits, upward_shift, bits_of, in_first_word, in_later_words, lists_words}
 use Rattle.enumset_repr.specs.Laws.Members.{same_set, contains_empty, contains_from_list, contains_union}
-use Rattle.enumset_repr.specs.Laws.Algebra.{union_only}
+use Rattle.enumset_repr.specs.Laws.Decided.{union_only}
 use Rattle.enumset_repr.specs.Laws.Ascending.{ascending_empty}
 use Rattle.enumset_repr.specs.Laws.Numbers.{contains_bits, bits_number, number_bits, bits_or, bits_pow}
 use Rattle.enumset_repr.specs.Laws.Words.{contains_upward_shift}

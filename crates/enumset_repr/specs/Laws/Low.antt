@@ -15,7 +15,7 @@
 -- from integers need.
 use Rattle.std.proofs.Common.{◌≡◌, ◌<◌, ◌≤◌, ℕ, suc, ◌-◌, ◌%◌, ◌^◌, true, sym, ap, subst, ◌∙◌, arith, lt-ltb, ltb-true, nat_lt, bit_and}
 use Rattle.enumset_repr.specs.Laws.Base.{nat_tests, same_from_decides, low_zeros, and_mask, BitSet, empty, intersection, is_subset, below, low, number}
-use Rattle.enumset_repr.specs.Laws.Members.{members, same_set, is_subset_contains, contains_is_subset}
+use Rattle.enumset_repr.specs.Laws.Decided.{decided}
 use Rattle.enumset_repr.specs.Laws.Algebra.{is_subset_trans, intersection_right, difference_within, difference_none}
 use Rattle.enumset_repr.specs.Laws.Counting.{is_empty_difference, is_empty_intersection}
 use Rattle.enumset_repr.specs.Laws.Numbers.{bits_low, bits_number, number_bits, bits_within, number_within}
@@ -23,13 +23,13 @@ use Rattle.enumset_repr.specs.Laws.Numbers.{bits_low, bits_number, number_bits, 
 -- ---- the cut set
 
 pub low_is_subset : (s : BitSet) (n : ℕ) → is_subset (low s n) (below n) ≡ true
-low_is_subset s n = contains_is_subset _ _ (λ q one. grind (arith, members))
+low_is_subset s n = grind (arith, decided)
 
 pub low_part : (s : BitSet) (n : ℕ) → is_subset (low s n) s ≡ true
-low_part s n = contains_is_subset _ _ (λ q one. grind (arith, members))
+low_part s n = grind (arith, decided)
 
 pub low_within : (s : BitSet) (n : ℕ) → is_subset s (below n) ≡ true → low s n ≡ s
-low_within s n within = same_set _ _ (λ q. let each = is_subset_contains s (below n) within q in grind (arith, members))
+low_within s n within = grind (arith, decided)
 
 pub low_inside : (s v : BitSet) (n : ℕ) → is_subset s v ≡ true → is_subset v (below n) ≡ true → low s n ≡ s
 low_inside s v n part within = low_within s n (is_subset_trans s v (below n) part within)
@@ -38,16 +38,16 @@ pub within_from_low : (s : BitSet) (n : ℕ) → low s n ≡ s → is_subset s (
 within_from_low s n same = subst (λ t. is_subset t (below n) ≡ true) same (low_is_subset s n)
 
 pub low_narrow : (s : BitSet) (m n : ℕ) → n ≤ m → low (low s m) n ≡ low s n
-low_narrow s m n less = same_set _ _ (λ q. grind (arith, members, nat_tests, less))
+low_narrow s m n less = grind (arith, decided)
 
 pub low_intersection : (s v : BitSet) (n : ℕ) → is_subset v (below n) ≡ true → intersection (low s n) v ≡ intersection s v
-low_intersection s v n within = same_set _ _ (λ q. let each = is_subset_contains v (below n) within q in grind (arith, members))
+low_intersection s v n within = grind (arith, decided)
 
 pub low_empty : (n : ℕ) → low empty n ≡ empty
-low_empty n = same_set _ _ (λ q. grind (arith, members))
+low_empty n = grind (arith, decided)
 
 pub is_subset_wider : (s : BitSet) (m n : ℕ) → m ≤ n → is_subset s (below m) ≡ true → is_subset s (below n) ≡ true
-is_subset_wider s m n less within = contains_is_subset s (below n) (λ q one. let each = is_subset_contains s (below m) within q one in grind (arith, members, nat_tests, less, each))
+is_subset_wider s m n less within = grind (arith, decided)
 
 -- ---- its number
 

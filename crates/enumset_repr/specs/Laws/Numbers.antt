@@ -10,7 +10,8 @@ use Rattle.enumset_repr.specs.Laws.Base.{dvd-add, dvd-mul_left, div-mul_cancel, 
 use Rattle.std.specs.Int.{◌∣◌}
 use Rattle.std.specs.Int.Count.{ones_cat}
 use Rattle.enumset_repr.specs.Laws.Members.{same_set, contains_empty, contains_ascending, contains_retain, contains_remove, contains_insert, contains_union, contains_intersection, contains_difference, contains_symmetric_difference, contains_below, contains_low, is_subset_contains, contains_is_subset}
-use Rattle.enumset_repr.specs.Laws.Algebra.{intersection_difference, union_only, difference_only}
+use Rattle.enumset_repr.specs.Laws.Decided.{union_only, difference_only}
+use Rattle.enumset_repr.specs.Laws.Algebra.{intersection_difference}
 use Rattle.enumset_repr.specs.Laws.Ascending.{AscendsFrom, ascending_ascends, ascending_empty, is_in_below, len_ascending, is_empty_iff}
 
 -- ---- the members of a number's set
