@@ -1,5 +1,5 @@
 -- The words of a row after one of them was replaced, and the bits of words counted word by word.
-use Rattle.std.proofs.Common.{◌≡◌, ◌<◌, ℕ, ◌+◌, ◌^◌, List, [], ◌∷◌, ◌++◌, length, take, set, sym, ap, subst, ◌∙◌, arith, add-one, zero-add, slice_index, sum_by, Option, Some, None, MatchOption, length-take, get_or-set_same}
+use Rattle.std.proofs.Common.{◌≡◌, ◌<◌, ℕ, ◌+◌, ◌^◌, List, [], ◌∷◌, ◌++◌, length, take, set, refl, sym, ap, subst, ◌∙◌, arith, add-one, zero-add, slice_index, sum_by, Option, Some, None, MatchOption, length-take, get_or-set_same}
 use Rattle.enumset_repr.specs.Laws.Common.{count_ones, take-add, take-set-lt, take-suc, chunk, sum_by-append, len, ascending, bits, len_bits}
 use Rattle.enumset_array.specs.ArrayWords.{in_use, words_in_use, IsArrayRepr}
 use Rattle.enumset_array.proofs.ReplacedWord.{set_repr}
@@ -22,15 +22,15 @@ module _ (n : ℕ) (ws us : List ℕ) (i x : ℕ) (same : words_in_use n ws ≡ 
 -- ---- a word after a step took out a bit, which `joined` puts back at its end
 
 abbrev pub Gives : (ℕ → List ℕ → List ℕ) → ℕ → Option ℕ → ℕ → Type 0
-Gives joined x r y = MatchOption r ((x ≡ 0) × (y ≡ x)) (λ b. ascending (bits x) ≡ joined b (ascending (bits y)))
+Gives joined x r y = MatchOption r (x ≡ 0) (λ b. ascending (bits x) ≡ joined b (ascending (bits y)))
 
-pub front_fits : (x y : ℕ) (r : Option ℕ) → x < 2 ^ 64 → Gives (λ b bs. b ∷ bs) x r y → y < 2 ^ 64
-front_fits x y None fits left = subst (λ m. m < 2 ^ 64) (sym left.1) fits
-front_fits x y (Some b) fits first = small x y 64 b fits (by_first _ _ b first)
+pub front_fits : (x y : ℕ) (r : Option ℕ) → x < 2 ^ 64 → Gives (λ b bs. b ∷ bs) x r y → (r ≡ None → y ≡ x) → y < 2 ^ 64
+front_fits x y None fits _ same = subst (λ m. m < 2 ^ 64) (sym (same refl)) fits
+front_fits x y (Some b) fits first _ = small x y 64 b fits (by_first _ _ b first)
 
-pub back_fits : (x y : ℕ) (r : Option ℕ) → x < 2 ^ 64 → Gives (λ b bs. bs ++ b ∷ []) x r y → y < 2 ^ 64
-back_fits x y None fits left = subst (λ m. m < 2 ^ 64) (sym left.1) fits
-back_fits x y (Some b) fits last = small x y 64 b fits (by_last _ _ b last)
+pub back_fits : (x y : ℕ) (r : Option ℕ) → x < 2 ^ 64 → Gives (λ b bs. bs ++ b ∷ []) x r y → (r ≡ None → y ≡ x) → y < 2 ^ 64
+back_fits x y None fits _ same = subst (λ m. m < 2 ^ 64) (sym (same refl)) fits
+back_fits x y (Some b) fits last _ = small x y 64 b fits (by_last _ _ b last)
 
 -- ---- the bits counted word by word
 

@@ -1,6 +1,6 @@
 //! The words that an `ArrayIter` takes its bits from.
 
-ghost use Rattle.std.specs.Prelude.{◌≡◌, ◌∷◌, [], ◌++◌, length, MatchOption};
+ghost use Rattle.std.specs.Prelude.{◌≡◌, ◌∷◌, [], ◌++◌, length, None, MatchOption};
 ghost use Rattle.enumset_repr.specs.BitSet.{ascending};
 ghost use Rattle.enumset_repr.specs.Number.{bits};
 ghost use Rattle.enumset_array.specs.ArrayWords.{words_in_use};
@@ -99,8 +99,8 @@ impl<const N: usize> Debug for Words<N> {
 
 /// Takes out the least bit of a word and returns it, or returns `None` if the word is 0.
 fn take_least(word: &mut u64) -> Option<u32>
-    ensures { MatchOption result ((word.old ≡ 0) × (word.new ≡ word.old))
-        (λ b. ascending (bits word.old) ≡ b ∷ ascending (bits word.new)) }
+    ensures bit { MatchOption result (word.old ≡ 0) (λ b. ascending (bits word.old) ≡ b ∷ ascending (bits word.new)) }
+    ensures unchanged { result ≡ None → word.new ≡ word.old }
 {
     let bits = *word;
     if bits == 0 {
@@ -112,8 +112,9 @@ fn take_least(word: &mut u64) -> Option<u32>
 
 /// Takes out the greatest bit of a word and returns it, or returns `None` if the word is 0.
 fn take_greatest(word: &mut u64) -> Option<u32>
-    ensures { MatchOption result ((word.old ≡ 0) × (word.new ≡ word.old))
+    ensures bit { MatchOption result (word.old ≡ 0)
         (λ b. ascending (bits word.old) ≡ ascending (bits word.new) ++ b ∷ []) }
+    ensures unchanged { result ≡ None → word.new ≡ word.old }
 {
     let bits = *word;
     if bits == 0 {

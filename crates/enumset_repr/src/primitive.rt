@@ -29,7 +29,8 @@ pub trait Primitive: Copy + Debug {
 
     /// Returns the least bit that is set, or [`BITS`](Primitive::BITS) if none is set.
     fn trailing_zeros(&self) -> u32
-        ensures { MatchOption (least (set_of self.now)) (result ≡ BITS) (λ m. (result ≡ m) × (m < BITS)) };
+        ensures least { MatchOption (least (set_of self.now)) (result ≡ BITS) (λ m. result ≡ m) }
+        ensures below { IfSome (least (set_of self.now)) (λ m. m < BITS) };
 
     /// Returns the number of bits that are set.
     fn ones(&self) -> u32

@@ -5,7 +5,7 @@ pub use Rattle.enumset_repr.specs.Laws.Algebra.{algebra, complement_twice, conta
 pub use Rattle.enumset_repr.specs.Laws.Ascending.{AscendsFrom, ascending_ascends, ascending_empty, ascending_first, ascending_last, before_last, empty_of_ascending, is_empty_iff, is_in_from, is_in_push, len_ascending, len_below, len_empty, len_insert}
 pub use Rattle.enumset_repr.specs.Laws.Counting.{counting, is_empty_difference, is_empty_intersection, len_kept, len_kept_both, len_kept_but, len_kept_either, len_left, len_left_both, len_union_more, len_union_same, length_ascending}
 pub use Rattle.enumset_repr.specs.Laws.Decided.{difference_only, union_only}
-pub use Rattle.enumset_repr.specs.Laws.Ends.{ascending_greatest, ascending_least, ascending_no_greatest, ascending_no_least, clear_least, fewer_greatest, greatest_empty, greatest_facts, greatest_is, leading_greatest, least_below, least_empty, least_facts, least_is, least_positive, trailing_least}
+pub use Rattle.enumset_repr.specs.Laws.Ends.{ascending_greatest, ascending_least, ascending_no_greatest, ascending_no_least, clear_least, fewer_greatest, greatest_empty, greatest_facts, greatest_is, leading_greatest, least_below, least_empty, least_facts, least_fits, least_is, least_positive, trailing_least}
 pub use Rattle.enumset_repr.specs.Laws.Filled.{all_kept, all_put, none_put, word_past_repr}
 pub use Rattle.enumset_repr.specs.Laws.Firsts.{first_least, first_member, first_rest, firsts, from_list_empty, from_list_next, last_greatest, last_member, last_rest}
 pub use Rattle.enumset_repr.specs.Laws.Listed.{bits_listed, words_listed}

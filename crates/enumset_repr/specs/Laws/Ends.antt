@@ -5,6 +5,7 @@
 --     least_below, greatest_below      both are below a bound of all members
 --     ascending_least, ascending_greatest      the least comes first in the list, and the greatest last
 --     trailing_least, leading_greatest      what `trailing_zeros` and `leading_zeros` count, at each number of bits
+--     least_fits      the least member of a number is below the width that it fits
 --     clear_least, least_positive      `n & (n - 1)`;  a number with a least member is not 0
 --     at_the_ends      the ends of a set, for a tactic's `using`
 use Rattle.std.proofs.Common.{◌≡◌, ◌<◌, ◌≤◌, ℕ, suc, zero, ◌+◌, ◌-◌, ◌^◌, true, false, List, [], ◌∷◌, ◌++◌, Some, None, refl, sym, ap, subst, ◌∙◌, arith, true≢false, length, length-append, inl, inr, ◌==◌, MatchOption, IfSome, IsSome, is_some, bit_and, slice_get, eq-eqb}
@@ -103,11 +104,17 @@ ascending_no_greatest s none = none_last (ascending s) none
 -- ---- the ends of a number's set
 
 -- `n.trailing_zeros()` is the least member, or the width if there is none
-pub trailing_least : (w n : ℕ) → n < 2 ^ w → MatchOption (least (bits n)) (count_trailing_zeros w n ≡ w) (λ m. (count_trailing_zeros w n ≡ m) × (m < w))
+pub trailing_least : (w n : ℕ) → n < 2 ^ w → MatchOption (least (bits n)) (count_trailing_zeros w n ≡ w) (λ m. count_trailing_zeros w n ≡ m)
 trailing_least w zero fits = rw (bits_zero, least_empty) (trailing_of_zero w)
 trailing_least w (suc n) fits =
     let facts = least_bits w (suc n) (omega arith) fits in
-    rw (least_is _ _ facts.0 facts.1) (refl, member_below (bits (suc n)) w _ (bits_within (suc n) w fits) facts.0)
+    rw (least_is _ _ facts.0 facts.1) refl
+
+pub least_fits : (w n : ℕ) → n < 2 ^ w → IfSome (least (bits n)) (λ m. m < w)
+least_fits w zero fits = rw (bits_zero, least_empty) tt
+least_fits w (suc n) fits =
+    let facts = least_bits w (suc n) (omega arith) fits in
+    rw (least_is _ _ facts.0 facts.1) (member_below (bits (suc n)) w _ (bits_within (suc n) w fits) facts.0)
 
 -- `n.leading_zeros()` counts the bits above the greatest member, and is the width if there is none
 pub leading_greatest : (w n : ℕ) → n < 2 ^ w → MatchOption (greatest (bits n)) (count_leading_zeros w n ≡ w) (λ m. count_leading_zeros w n + m + 1 ≡ w)

@@ -6,7 +6,7 @@
 --         tactic's `using`
 -- In premises, `m ≡ 2 ^ low_zeros 128 m` says that m is a power of two. It computes at a written-out number.
 use Rattle.std.proofs.Common.{◌≡◌, ◌<◌, ◌≤◌, ℕ, suc, ◌+◌, ◌*◌, ◌/◌, ◌%◌, ◌^◌, ◌-◌, sym, ap, ◌∙◌, arith, true, not, refl, ◌==◌, IsTrue, nat_cmp, bit_and, bit_or, bit_xor, eqb-true, eq-eqb}
-use Rattle.enumset_repr.specs.Laws.Common.{bit_not, Width, w128, nat_tests, low_zeros, and_mask, and_le_l, contains, only, difference, is_subset, below, IsRepresentation, AreSetOperators, number, bits, word, with_word, union_only, difference_only, intersection_right, symmetric_difference_within, subsets, contains_below, number_bits, number_within, bits_full, bits_within, bits_and, bits_or, bits_xor, bits_not, bits_and_not, bits_one_shifted, bits_test, bits_zero, on_numbers, trailing_least, leading_greatest, clear_least, least_positive, word_bits, bits_put_low, bits_put_word}
+use Rattle.enumset_repr.specs.Laws.Common.{bit_not, Width, w128, nat_tests, low_zeros, and_mask, and_le_l, contains, only, difference, is_subset, below, IsRepresentation, AreSetOperators, number, bits, word, with_word, union_only, difference_only, intersection_right, symmetric_difference_within, subsets, contains_below, number_bits, number_within, bits_full, bits_within, bits_and, bits_or, bits_xor, bits_not, bits_and_not, bits_one_shifted, bits_test, bits_zero, on_numbers, trailing_least, least_fits, leading_greatest, clear_least, least_positive, word_bits, bits_put_low, bits_put_word}
 use mir.Val.{bits as width_bits}
 use Rattle.enumset_repr.specs.Laws.Order.{compare_bits}
 
@@ -97,4 +97,4 @@ and_below a b m fits = omega (arith, fits, and_le_l a b)
 pub bits_ones : (m : ℕ) → suc m ≡ 2 ^ low_zeros 128 (suc m) → bits m ≡ below (low_zeros 128 (suc m))
 bits_ones m e = let ones : m ≡ 2 ^ low_zeros 128 (suc m) - 1 = omega (arith, e) in ap bits ones ∙ bits_full (low_zeros 128 (suc m))
 
-pub ruleset on_integers = (on_numbers, subsets, contains_below, nat_tests, union_only, difference_only, intersection_right, symmetric_difference_within, bits_within, bits_one, bits_ones, tests_bit, and_not, and_below, least_positive, clear_least, trailing_least, leading_greatest, words_narrow, words_wide)
+pub ruleset on_integers = (on_numbers, subsets, contains_below, nat_tests, union_only, difference_only, intersection_right, symmetric_difference_within, bits_within, bits_one, bits_ones, tests_bit, and_not, and_below, least_positive, clear_least, trailing_least, least_fits, leading_greatest, words_narrow, words_wide)

@@ -2,8 +2,8 @@ use Rattle.std.proofs.Common.{rules, ◌∷◌, ◌<◌, ◌^◌, sym, ap, ◌�
 use Rattle.enumset_repr.specs.Laws.Common.{trailing_zeros, ascending, least_bits, bits_clear_least, ascending_first}
 use Rattle.enumset_array.proofs.words.take_least.Goals as goal
 
-pub returns : goal.returns
-returns c =
+pub returns-clause-bit : goal.returns-clause-bit
+returns-clause-bit c =
     let fits : c.args.word.now < 2 ^ 64 = search rules in
     let some : 0 < c.args.word.now = search rules in
     let found = least_bits 64 c.args.word.now some fits in

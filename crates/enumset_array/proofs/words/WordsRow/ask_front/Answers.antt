@@ -10,7 +10,7 @@ same_words g c = (λ j. words_in_use g.row.N (c.self-inside.view_is j).repr) ∙
 pub invariant_of-self : goal.invariant_of-self
 invariant_of-self g c =
     let is_repr : IsArrayRepr g.row.N c.self-inside.inside.0.0.0 = rw (← c.self-inside.view_is) at c.self.invariant in
-    row_repr _ _ _ _ _ (same_words g c) c.requires is_repr (front_fits _ _ c.take_least.result (is_repr.fit c.args.i) c.take_least.ensures)
+    row_repr _ _ _ _ _ (same_words g c) c.requires is_repr (front_fits _ _ c.take_least.result (is_repr.fit c.args.i) c.take_least.ensures.bit c.take_least.ensures.unchanged)
 
 pub returns-clause-others : goal.returns-clause-others
 returns-clause-others g c = row_others _ _ _ _ c.take_least.new.word (same_words g c) c.requires
