@@ -3,7 +3,7 @@
 ghost use Rattle.std.specs.Prelude.{◌≡◌, ◌<◌, ◌≤◌, ◌*◌, replicate};
 ghost use Rattle.enumset_repr.specs.BitSet.{ascending};
 ghost use Rattle.enumset_array.specs.ArrayWords.{in_use, set_of, IsArrayRepr};
-ghost use Rattle.enumset_repr.specs.Words.{words as words_of_set};
+ghost use Rattle.enumset_repr.specs.Words.{words};
 ghost use Rattle.enumset_repr.specs.Laws.Representations.{by_sets};
 ghost use Rattle.enumset_array.specs.Laws.Asks.{counted, listed};
 ghost use Rattle.enumset_array.specs.Laws.Order.{compare_is};
@@ -81,7 +81,7 @@ impl<const N: usize> ArrayRepr<N> {
 impl<const N: usize> EnumSetTypeRepr for ArrayRepr<N> {
     ghost members = { set_of N };
 
-    ghost of_members = { λ s. words_of_set s N };
+    ghost of_members = { λ s. words s N };
 
     ghost is_value = { IsArrayRepr N };
 

@@ -6,7 +6,7 @@ ghost use Rattle.enumset_repr.specs.BitSet as set;
 ghost use Rattle.enumset_repr.specs.BitSet.{BitSet};
 ghost use Rattle.enumset_repr.specs.Number.{bits, number};
 ghost use Rattle.enumset_repr.specs.Representations.{IsRepresentation, AreSetOperators, IsListed};
-ghost use Rattle.enumset_repr.specs.Words.{word as word_of, with_word, words as words_of, bits_of};
+ghost use Rattle.enumset_repr.specs.Words.{word as word_of, with_word, words, bits_of};
 
 use crate::halves::{halves_of, join_halves};
 use std::fmt::Debug;
@@ -248,7 +248,7 @@ pub trait EnumSetTypeRepr: Copy
     /// Writes the words of the set to a slice, the lowest first, and 0 past the last word of the representation.
     /// Members at or past 64 times the length of the slice are left out.
     final fn to_u64_slice(&self, out: &mut [u64])
-        ensures { out.new ≡ words_of (members self.now) (length out.old) }
+        ensures { out.new ≡ words (members self.now) (length out.old) }
     {
         // That no member is past the last word is a law of values.
         self.learn_is_value();
@@ -266,7 +266,7 @@ pub trait EnumSetTypeRepr: Copy
     final fn try_to_u64_slice(&self, out: &mut [u64]) -> Option<()>
         ensures fits { IsSome result
             ↔ IsTrue (set.is_subset (members self.now) (set.below (64 * length out.old))) }
-        ensures words { IsSome result → out.new ≡ words_of (members self.now) (length out.old) }
+        ensures words { IsSome result → out.new ≡ words (members self.now) (length out.old) }
         ensures unchanged { result ≡ None → out.new ≡ out.old }
     {
         if !has_no_word_from(self, out.len()) {
