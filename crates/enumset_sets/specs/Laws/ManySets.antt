@@ -10,12 +10,11 @@
 -- The ruleset `folds` has what `contains` returns, one set more, and one set after the other;  `folds_once` has what stands
 -- beside `decided`.
 use Rattle.std.proofs.Common.{◌≡◌, ℕ, Bool, true, not, ◌&&◌, ◌||◌, List, [], ◌∷◌, ◌++◌, map, fold, refl, sym, ap, ◌∙◌, arith, Contains, ◌↔◌, ◌==◌}
-use Rattle.enumset_repr.specs.Laws.Common.{list_all, list_any, Any-from_list_any, list_any_at, same_from_decides, BitSet, is_in, contains, empty, union, intersection, is_subset, is_disjoint, from_list, members, same_set, contains_from_list, contains_empty, contains_union, union_empty, union_assoc}
+use Rattle.enumset_repr.specs.Laws.Common.{list_all, list_any, Any-from_list_any, list_any_at, same_from_decides, BitSet, is_in, contains, union, intersection, is_subset, is_disjoint, from_list, members, same_set, contains_from_list, contains_empty, contains_union, union_empty, union_assoc}
 use Rattle.enumset_repr.specs.Laws.Members.{empty_is_subset}
-use Rattle.enumset_repr.specs.Laws.Algebra.{is_disjoint_comm, is_disjoint_empty}
-use Rattle.enumset_repr.specs.Laws.Decided.{at}
+use Rattle.enumset_repr.specs.Laws.Decided.{at, decided}
 use Rattle.enumset_repr.specs.Laws.Loops.{all_not_any}
-use Rattle.enumset_repr.specs.Laws.Sets.{is_disjoint_union, is_subset_union}
+use Rattle.enumset_repr.specs.Laws.Sets.{is_subset_union}
 use Rattle.enumset_sets.specs.Folds.{union_all, intersection_all}
 
 pub contains_intersection_all : (s : BitSet) (ts : List BitSet) (q : ℕ) → contains (intersection_all s ts) q ≡ (contains s q && list_all (λ t. contains t q) ts)
@@ -99,7 +98,7 @@ union_all_is_subset [] u = empty_is_subset u
 union_all_is_subset (s ∷ ss) u = is_subset_union s (union_all ss) u ∙ ap (λ b. is_subset s u && b) (union_all_is_subset ss u)
 
 disjoint_union : (s t u : BitSet) → is_disjoint (union s t) u ≡ (is_disjoint s u && is_disjoint t u)
-disjoint_union s t u = is_disjoint_comm (union s t) u ∙ is_disjoint_union u s t ∙ ap (λ b. b && is_disjoint u t) (is_disjoint_comm u s) ∙ ap (λ b. is_disjoint s u && b) (is_disjoint_comm u t)
+disjoint_union s t u = grind (arith, decided)
 
 -- a union of many is apart from a set exactly if each is
 pub fold_is_disjoint : (s : BitSet) (ts : List BitSet) (u : BitSet) → is_disjoint (fold union s ts) u ≡ (is_disjoint s u && list_all (λ t. is_disjoint t u) ts)
@@ -108,7 +107,7 @@ fold_is_disjoint s (t ∷ ts) u = fold_is_disjoint (union s t) ts u ∙ grind (a
 
 pub union_all_is_disjoint : (ss : List BitSet) (u : BitSet) → is_disjoint (union_all ss) u ≡ list_all (λ s. is_disjoint s u) ss
 unfolding union_all
-union_all_is_disjoint [] u = is_disjoint_comm empty u ∙ is_disjoint_empty u
+union_all_is_disjoint [] u = grind (arith, decided)
 union_all_is_disjoint (s ∷ ss) u = disjoint_union s (union_all ss) u ∙ ap (λ b. is_disjoint s u && b) (union_all_is_disjoint ss u)
 
 pub ruleset folds_once = (union_all_once, fold_union_once, fold_intersection_once, fold_is_subset, union_all_is_subset, fold_is_disjoint, union_all_is_disjoint)
