@@ -172,9 +172,6 @@ pub ruleset on_complements = (complement_twice, complement_union, complement_int
 
 -- ---- sets with no common member
 
-pub is_disjoint_comm : (s t : BitSet) → is_disjoint s t ≡ is_disjoint t s
-is_disjoint_comm s t = grind (arith, decided)
-
 pub is_disjoint_empty : (s : BitSet) → is_disjoint s empty ≡ true
 is_disjoint_empty s = grind (arith, decided)
 

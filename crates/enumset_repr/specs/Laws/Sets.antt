@@ -5,13 +5,12 @@
 --     difference_parts, symmetric_parts      the parts of s outside t and inside t;  a symmetric difference
 --     difference_shared      s without what it shares with t
 --     difference_over_..      one operation over another
---     is_disjoint_union      a set is apart from a union exactly if it is apart from both
 --     is_subset_union      a union is a part exactly if both are
 --     len_symmetric_difference      how many members are in exactly one of two sets
 --     len_regrouped      how many members are in all of three sets, grouped the other way
 --     complement_..      the difference of a set v and a set with members outside v
 use Rattle.std.proofs.Common.{◌≡◌, ◌+◌, ◌*◌, ℕ, true, false, ◌&&◌, ap, arith}
-use Rattle.enumset_repr.specs.Laws.Base.{BitSet, contains, len, empty, insert, remove, union, intersection, difference, symmetric_difference, is_subset, is_disjoint}
+use Rattle.enumset_repr.specs.Laws.Base.{BitSet, contains, len, empty, insert, remove, union, intersection, difference, symmetric_difference, is_subset}
 use Rattle.enumset_repr.specs.Laws.Decided.{decided}
 use Rattle.enumset_repr.specs.Laws.Algebra.{intersection_assoc}
 use Rattle.enumset_repr.specs.Laws.Counting.{len_parts, len_union}
@@ -58,9 +57,6 @@ pub len_regrouped : (s t u : BitSet) → len (intersection (intersection s t) u)
 len_regrouped s t u = ap len (intersection_assoc s t u)
 
 -- ---- subsets and disjoint sets
-
-pub is_disjoint_union : (s t u : BitSet) → is_disjoint s (union t u) ≡ (is_disjoint s t && is_disjoint s u)
-is_disjoint_union s t u = grind (arith, decided)
 
 pub is_subset_union : (s t u : BitSet) → is_subset (union s t) u ≡ (is_subset s u && is_subset t u)
 is_subset_union s t u = grind (arith, decided)
