@@ -1,14 +1,16 @@
 -- How many members sets have, beside `decided` of `Decided`, which says why a law has a dummy variable.
 --     counts      how many members a union, an intersection, a difference and the like have
---     counts_of_parts      what a subset and disjoint sets say of numbers of members:  with the above, on one function that
---         counts;  at the root it makes terms at each `is_subset` in sight, and that is one for each set
-use Rattle.std.proofs.Common.{◌≡◌, ◌↔◌, ◌≤◌, ◌+◌, ◌*◌, ℕ, Bool, true, arith, refl, ap, ◌∙◌, ◌==◌}
-use Rattle.enumset_repr.specs.Laws.Common.{BitSet, below, empty, union, intersection, difference, symmetric_difference, is_subset, is_disjoint, is_empty, len, len_empty, len_insert, len_below, len_union_same, nat_tests}
+--     counts_of_parts      what a subset and disjoint sets say of numbers of members;  that a part with as many members is
+--         the whole, and the first member of a set of one the only one:  with the above, on one function that counts;  at
+--         the root it makes terms at each `is_subset` in sight, and that is one for each set
+use Rattle.std.proofs.Common.{◌≡◌, ◌↔◌, ◌≤◌, ◌+◌, ◌*◌, ℕ, Bool, true, arith, refl, sym, ap, ◌∙◌, ◌==◌, Option, Some, None, MatchOption}
+use Rattle.enumset_repr.specs.Laws.Common.{BitSet, contains, below, empty, only, least, contains_empty, union, intersection, difference, symmetric_difference, is_subset, is_disjoint, is_empty, len, len_empty, len_insert, len_below, len_union_same, nat_tests}
 use Rattle.enumset_repr.specs.Laws.Algebra.{intersection_comm}
 use Rattle.enumset_repr.specs.Laws.Ascending.{len_remove}
-use Rattle.enumset_repr.specs.Laws.Counting.{len_union, len_parts, len_zero_iff}
+use Rattle.enumset_repr.specs.Laws.Counting.{len_inserted, len_union, len_parts, len_zero_iff}
 use Rattle.enumset_repr.specs.Laws.Sets.{len_symmetric_difference}
 use Rattle.enumset_repr.specs.Laws.Decided.{decided}
+use Rattle.enumset_repr.specs.Laws.DecidedEnds.{least_in}
 
 pub is_empty_len : (s : BitSet) → is_empty s ≡ (len s == 0)
 unfolding is_empty
@@ -59,4 +61,26 @@ len_of_disjoint s t u w = (refl, refl, disjoint_len s t)
 pub len_of_below : (s : BitSet) (n : ℕ) (u : BitSet) (w : Bool) → (is_subset s (below n) ≡ is_subset s (below n)) × (counted u w ≡ counted u w) × (is_subset s (below n) ≡ true → len s ≤ n)
 len_of_below s n u w = (refl, refl, len_below s n)
 
-pub ruleset counts_of_parts = (counted_at, len_of_subset, len_of_disjoint, len_of_below)
+subset_whole : (s t : BitSet) → is_subset s t ≡ true → len s ≡ len t → s ≡ t
+subset_whole s t within same =
+    let part : intersection t s ≡ s = grind (arith, decided) in
+    let none = (len_zero_iff (difference t s)).0 (omega (arith, len_parts t s, ap len part, same)) in
+    grind (arith, decided)
+
+-- a part with as many members is the whole
+pub len_of_whole : (s t : BitSet) (v w : Bool) → (is_subset s t ≡ is_subset s t) × (counted s v ≡ counted s v) × (counted t w ≡ counted t w) × (is_subset s t ≡ true → len s ≡ len t → s ≡ t)
+len_of_whole s t v w = (refl, refl, refl, subset_whole s t)
+
+only_member : (s : BitSet) (b : ℕ) → contains s b ≡ true → len s ≡ 1 → s ≡ only b
+only_member s b one single =
+    let within : is_subset (only b) s ≡ true = grind (arith, decided) in
+    sym (subset_whole (only b) s within (omega (arith, len_inserted empty b (contains_empty b), len_empty, single)))
+
+-- the first member of a set of one is the only one
+pub len_of_only : (s : BitSet) (w : Bool) → (least s ≡ least s) × (counted s w ≡ counted s w) × MatchOption (least s) (s ≡ empty) (λ m. len s ≡ 1 → s ≡ only m)
+len_of_only s w = (refl, refl, by (least s) (least_in s).1) where
+  by : (o : Option ℕ) → MatchOption o (s ≡ empty) (λ m. contains s m ≡ true) → MatchOption o (s ≡ empty) (λ m. len s ≡ 1 → s ≡ only m)
+  by None none = none
+  by (Some m) one = only_member s m one
+
+pub ruleset counts_of_parts = (counted_at, len_of_subset, len_of_disjoint, len_of_below, len_of_whole, len_of_only)
