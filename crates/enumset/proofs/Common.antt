@@ -7,7 +7,7 @@ pub use Rattle.enumset.specs.JsonPlain.{AreMembers, AreRising, AreSpaces, Starts
 pub use Rattle.enumset.specs.JsonReads.{IsReadOf, IsResult, value_read}
 pub use Rattle.enumset.specs.Names.{IsNaming, NameCountShouldBe, Names, NamesAValueTwice, are_distinct, bit_named, name_of, names_agree, names_of}
 pub use Rattle.enumset.specs.declared.set_json.fault.JsonFault.{JsonFault}
-pub use Rattle.enumset.specs.declared.set_json.fault.JsonFault.TheVariants.{NotABoolean, NotAText, NotAWord, OutOfRange, UnknownBits, UnknownName}
+pub use Rattle.enumset.specs.declared.set_json.fault.JsonFault.TheVariants.{NotABoolean, NotAText, NotAnArray, NotAWord, OutOfRange, UnknownBits, UnknownName}
 pub use Rattle.enumset.specs.declared.set_json.unknown.Unknown.{Unknown}
 pub use Rattle.enumset.specs.declared.set_json.unknown.Unknown.TheVariants.{Drop, Refuse}
 pub use Rattle.enumset_array.specs.Walks.{answer, without_answer}

@@ -19,10 +19,10 @@ number_read s k fits = cond-true _ (Ok (number s)) (Err OutOfRange) (lt-ltb _ _ 
 
 pub number_accepted : (s valid : BitSet) (k : ℕ) (unknown : Unknown) → is_subset s (below k) ≡ true → set_of_number valid k unknown (number_value (number s)) ≡ accepted valid unknown s
 number_accepted s valid k unknown fits =
-    ap (and_then (λ n. accepted valid unknown (bits n))) (number_read s k fits) ∙ ap (accepted valid unknown) (bits_number s)
+    ap (λ r. and_then r (λ n. accepted valid unknown (bits n))) (number_read s k fits) ∙ ap (accepted valid unknown) (bits_number s)
 
 pub mixed_number_and_back : (s : BitSet) (k : ℕ) → is_subset s (below k) ≡ true → mixed_set_of_number k (number_value (number s)) ≡ Ok s
-mixed_number_and_back s k fits = ap (and_then (λ n. Ok (bits n))) (number_read s k fits) ∙ ap Ok (bits_number s)
+mixed_number_and_back s k fits = ap (λ r. and_then r (λ n. Ok (bits n))) (number_read s k fits) ∙ ap Ok (bits_number s)
 
 -- ---- words
 
@@ -45,11 +45,11 @@ words_back ns =
 -- words that lose nothing of a set are read as the words that they are
 pub words_accepted : (s valid : BitSet) (n : ℕ) (unknown : Unknown) → bits_of (words s n) ≡ s → set_of_words valid unknown (words_value (words s n)) ≡ accepted valid unknown s
 words_accepted s valid n unknown back =
-    ap (and_then (λ ns. accepted valid unknown (bits_of ns))) (words_back (words s n)) ∙ ap (accepted valid unknown) back
+    ap (λ r. and_then r (λ ns. accepted valid unknown (bits_of ns))) (words_back (words s n)) ∙ ap (accepted valid unknown) back
 
 pub words_kept : (s : BitSet) (width n : ℕ) (past : Unknown) → is_subset s (below width) ≡ true → bits_of (words s n) ≡ s → mixed_set_of_words width past (words_value (words s n)) ≡ Ok s
 words_kept s width n past within back =
-    ap (and_then (λ ns. kept_below width past (bits_of ns))) (words_back (words s n)) ∙ ap (kept_below width past) back ∙ kept_within s width past within
+    ap (λ r. and_then r (λ ns. kept_below width past (bits_of ns))) (words_back (words s n)) ∙ ap (kept_below width past) back ∙ kept_within s width past within
 
 -- as many words as a representation of a width has lose nothing of a set below the width
 pub all_in_words : (s : BitSet) (n width : ℕ) → n ≡ (width + 63) / 64 → is_subset s (below width) ≡ true → bits_of (words s n) ≡ s

@@ -1,6 +1,6 @@
 -- The words of JSON arrays, read one by one into a set.
-use Rattle.std.proofs.Common.{◌≡◌, ◌<◌, ◌≤◌, ℕ, ◌+◌, ◌*◌, ◌/◌, ◌^◌, Bool, true, false, ◌&&◌, if◌then◌else◌, inl, inr, Option, Some, is_none, unwrap_or, Ok, List, map, position, drop, get_or, length, refl, sym, ap, subst, ◌∙◌, arith, slice_index, eqb-true, eq-eqb, ltb-false, Decides, ◌==◌, nat_lt}
-use Rattle.enumset.proofs.Common.{cases_lt, and_parts, and_from, nat_tests, same_from_decides, position_from-zero, get_or_past, get_or-map, length-map, map-map, position_from, BitSet, empty, contains, is_subset, below, low, word, with_word, bits_of, contains_low, same_number, low_within, low_narrow, is_subset_wider, contains_bits_word, word_bits_of, put_next, bits_of_within, none_put, all_kept, Data, as_array, view, items_view, Value, held_word, is_no_word, held_words, unless_fault, words_among, words_in, NotAWord}
+use Rattle.std.proofs.Common.{◌≡◌, ◌<◌, ◌≤◌, ℕ, ◌+◌, ◌*◌, ◌/◌, ◌^◌, Bool, true, false, ◌&&◌, if◌then◌else◌, inl, inr, Option, Some, is_none, unwrap_or, ok_or, Ok, List, map, drop, get_or, length, refl, sym, ap, subst, ◌∙◌, arith, slice_index, eqb-true, eq-eqb, ltb-false, Decides, ◌==◌, nat_lt}
+use Rattle.enumset.proofs.Common.{cases_lt, and_parts, and_from, nat_tests, same_from_decides, position_from-zero, get_or_past, get_or-map, length-map, map-map, position_from, BitSet, empty, contains, is_subset, below, low, word, with_word, bits_of, contains_low, same_number, low_within, low_narrow, is_subset_wider, contains_bits_word, word_bits_of, put_next, bits_of_within, none_put, all_kept, Data, as_array, view, items_view, Value, held_word, is_no_word, held_words, and_then, unless_fault, values_of, words_among, words_in, NotAnArray, NotAWord}
 use Rattle.enumset.proofs.JsonLaws.{values_back}
 use Rattle.enumset.proofs.NameLists.{left_at}
 
@@ -24,7 +24,7 @@ module _ (vs : List Value) (place : ℕ) (v : Value) (o : Option ℕ) (under : p
 -- what an array is read as
 pub words_read : (d : Data) (vs : List Value) (found : Option ℕ) → as_array d ≡ Some (items_view vs) → other_from vs 0 ≡ found → words_in d ≡ unless_fault NotAWord found (Ok (held_words (map view vs)))
 words_read d vs found is other =
-    ap words_among is ∙ ap (λ ds. unless_fault NotAWord (position is_no_word ds) (Ok (held_words ds))) (values_back (map view vs))
+    ap (λ o. and_then (ok_or o NotAnArray) (λ items. words_among (values_of items))) is ∙ ap words_among (values_back (map view vs))
     ∙ ap (λ o. unless_fault NotAWord o (Ok (held_words (map view vs)))) (position_from-zero is_no_word (map view vs) ∙ other)
 
 -- whether a set has the words of a list before a place

@@ -7,12 +7,12 @@
 --     values_of      the elements of an array
 --     held_word, held_words      the word that an element holds, if it holds one;  those of all elements, 0 where one holds none
 --     is_no_word      the test that finds a fault
---     words_among, words_in      the words that the elements of an array hold, or the fault;  that a value holds
+--     words_among, words_in      the words that values in a list hold, or the fault;  that the elements of an array hold
 --     accepted      the set of valid bits that is taken of a set, or the fault
 --     kept_below      the set of bits below a width that is taken of a set, or the fault
 --     set_of_number, mixed_set_of_number, set_of_words, mixed_set_of_words      the set that a value is read as, or the fault
 --     number_value, words_value      the values that a number and words are written as
-use Rattle.std.specs.Prelude.{ℕ, Bool, ◌^◌, List, [], ◌∷◌, map, nat_lt, position, Option, Some, None, is_none, unwrap_or, option_and_then, Result, Ok, Err, if◌then◌else◌}
+use Rattle.std.specs.Prelude.{ℕ, Bool, ◌^◌, List, [], ◌∷◌, map, nat_lt, position, Option, Some, None, is_none, unwrap_or, ok_or, option_and_then, Result, Ok, Err, if◌then◌else◌}
 use Rattle.enumset_repr.specs.BitSet.{BitSet, intersection, is_subset, below, low}
 use Rattle.enumset_repr.specs.Number.{bits}
 use Rattle.enumset_repr.specs.Words.{bits_of}
@@ -34,9 +34,9 @@ width_of U64 = 64
 
 -- ---- what is read
 
-abbrev pub and_then : {A B : Type 0} → (A → Result B JsonFault) → Result A JsonFault → Result B JsonFault
-and_then next (Ok read) = next read
-and_then next (Err fault) = Err fault
+abbrev pub and_then : {A B : Type 0} → Result A JsonFault → (A → Result B JsonFault) → Result B JsonFault
+and_then (Ok read) next = next read
+and_then (Err fault) next = Err fault
 
 abbrev pub whole_number : Data → Result ℕ JsonFault
 whole_number (number (unsigned n)) = Ok n
@@ -49,7 +49,7 @@ whole_number (array items) = Err NotANumber
 whole_number (object ms) = Err NotANumber
 
 abbrev pub number_below : ℕ → Data → Result ℕ JsonFault
-number_below width value = and_then (λ n. if nat_lt n (2 ^ width) then Ok n else Err OutOfRange) (whole_number value)
+number_below width value = and_then (whole_number value) (λ n. if nat_lt n (2 ^ width) then Ok n else Err OutOfRange)
 
 -- what `as_u64` gives
 abbrev pub held_word : Data → Option ℕ
@@ -70,12 +70,11 @@ abbrev pub unless_fault : {A : Type 0} → (ℕ → JsonFault) → Option ℕ �
 unless_fault fault None result = result
 unless_fault fault (Some place) result = Err (fault place)
 
-abbrev pub words_among : Option Items → Result (List ℕ) JsonFault
-words_among None = Err NotAnArray
-words_among (Some items) = unless_fault NotAWord (position is_no_word (values_of items)) (Ok (held_words (values_of items)))
+abbrev pub words_among : List Data → Result (List ℕ) JsonFault
+words_among values = unless_fault NotAWord (position is_no_word values) (Ok (held_words values))
 
 abbrev pub words_in : Data → Result (List ℕ) JsonFault
-words_in value = words_among (as_array value)
+words_in value = and_then (ok_or (as_array value) NotAnArray) (λ items. words_among (values_of items))
 
 -- bits that are not valid are left out, or refused
 abbrev pub accepted : BitSet → Unknown → BitSet → Result BitSet JsonFault
@@ -83,13 +82,13 @@ accepted valid Drop s = Ok (intersection s valid)
 accepted valid Refuse s = if is_subset s valid then Ok s else Err UnknownBits
 
 abbrev pub set_of_number : BitSet → ℕ → Unknown → Data → Result BitSet JsonFault
-set_of_number valid width unknown value = and_then (λ n. accepted valid unknown (bits n)) (number_below width value)
+set_of_number valid width unknown value = and_then (number_below width value) (λ n. accepted valid unknown (bits n))
 
 abbrev pub set_of_words : BitSet → Unknown → Data → Result BitSet JsonFault
-set_of_words valid unknown value = and_then (λ ns. accepted valid unknown (bits_of ns)) (words_in value)
+set_of_words valid unknown value = and_then (words_in value) (λ ns. accepted valid unknown (bits_of ns))
 
 abbrev pub mixed_set_of_number : ℕ → Data → Result BitSet JsonFault
-mixed_set_of_number width value = and_then (λ n. Ok (bits n)) (number_below width value)
+mixed_set_of_number width value = and_then (number_below width value) (λ n. Ok (bits n))
 
 -- bits at and past the width are left out, or refused
 abbrev pub kept_below : ℕ → Unknown → BitSet → Result BitSet JsonFault
@@ -97,7 +96,7 @@ kept_below width Drop s = Ok (low s width)
 kept_below width Refuse s = if is_subset s (below width) then Ok s else Err OutOfRange
 
 abbrev pub mixed_set_of_words : ℕ → Unknown → Data → Result BitSet JsonFault
-mixed_set_of_words width past value = and_then (λ ns. kept_below width past (bits_of ns)) (words_in value)
+mixed_set_of_words width past value = and_then (words_in value) (λ ns. kept_below width past (bits_of ns))
 
 -- ---- what is written
 

@@ -7,20 +7,19 @@
 --     decided      the set that was read, or the fault of the first unknown name
 --     named_set      the set of the names that are known, where unknown names are left out, or the first is the fault
 --     names_in, true_names      the names of members;  of those whose value is `true`
---     set_of_values, set_of_items      the set that values in a list are read as, or the fault;  that the items of an array are
---     set_of_members, set_of_object      the set that members in a list are read as, or the fault;  that those of an object are
---     set_of_list, set_of_map      the set that a value is read as, or the fault
+--     set_of_values, set_of_list      the set that values in a list are read as, or the fault;  that the elements of an array are
+--     set_of_members, set_of_map      the set that members in a list are read as, or the fault;  that those of an object are
 --     list_value, map_value      the values that a set is written as
 --     with_bits_true      members, with `true` at the names of further bits
 --     in_map      the members of a set in the order in which a map has their names
 --     accepted_by_name      the set of valid bits that is taken of a set whose members' names come in an order, or the fault
-use Rattle.std.specs.Prelude.{ℕ, Bool, true, false, if◌then◌else◌, is_none, List, [], ◌∷◌, map, filter, filter_map, position, Option, Some, None, unwrap_or, Result, Ok, Err}
+use Rattle.std.specs.Prelude.{ℕ, Bool, true, false, if◌then◌else◌, is_none, List, [], ◌∷◌, map, filter, filter_map, position, Option, unwrap_or, ok_or, Result, Ok, Err}
 use Rattle.std.specs.List.{prefix_len}
 use Rattle.enumset_repr.specs.BitSet.{BitSet, from_list, ascending, contains, intersection, is_subset}
-use Rattle.serde_json.specs.Data.{Data, boolean, string, array, object, Items, Members, no_members, member, put}
+use Rattle.serde_json.specs.Data.{Data, boolean, string, array, object, Members, no_members, member, put}
 use Rattle.serde_json.specs.Find.{as_str, as_bool, as_array, as_object}
 use Rattle.serde_json.specs.View.{items_of}
-use Rattle.enumset.specs.Json.{unless_fault, values_of}
+use Rattle.enumset.specs.Json.{and_then, unless_fault, values_of}
 use Rattle.enumset.specs.Names.{Names, name_of, bit_named}
 use Rattle.enumset.specs.declared.set_json.unknown.Unknown.{Unknown}
 use Rattle.enumset.specs.declared.set_json.unknown.Unknown.TheVariants.{Drop, Refuse}
@@ -64,12 +63,8 @@ abbrev pub set_of_values : Names → Unknown → List Data → Result BitSet Jso
 set_of_values names unknown values =
     unless_fault NotAText (position is_no_string values) (named_set names unknown (map string_in values) (map string_in values))
 
-abbrev pub set_of_items : Names → Unknown → Option Items → Result BitSet JsonFault
-set_of_items names unknown None = Err NotAnArray
-set_of_items names unknown (Some items) = set_of_values names unknown (values_of items)
-
 abbrev pub set_of_list : Names → Unknown → Data → Result BitSet JsonFault
-set_of_list names unknown value = set_of_items names unknown (as_array value)
+set_of_list names unknown value = and_then (ok_or (as_array value) NotAnArray) (λ items. set_of_values names unknown (values_of items))
 
 abbrev pub names_in : List (List ℕ × Data) → List (List ℕ)
 names_in ms = map (λ m. m.0) ms
@@ -81,12 +76,8 @@ abbrev pub set_of_members : Names → Unknown → List (List ℕ × Data) → Re
 set_of_members names unknown ms =
     unless_fault NotABoolean (position is_no_boolean ms) (named_set names unknown (names_in ms) (true_names ms))
 
-abbrev pub set_of_object : Names → Unknown → Option Members → Result BitSet JsonFault
-set_of_object names unknown None = Err NotAnObject
-set_of_object names unknown (Some ms) = set_of_members names unknown (members_in ms)
-
 abbrev pub set_of_map : Names → Unknown → Data → Result BitSet JsonFault
-set_of_map names unknown value = set_of_object names unknown (as_object value)
+set_of_map names unknown value = and_then (ok_or (as_object value) NotAnObject) (λ ms. set_of_members names unknown (members_in ms))
 
 -- ---- what is written
 

@@ -9,4 +9,4 @@ returns-in-Some g c =
     let reader = mixed_set_of_words g.T.Repr.EnumSetTypeRepr.WIDTH c.args.past in
     let (ws, is, cut, whole) = c.in-Some.ensures in
     is_read reader c.args.text.now (reader (words_value ws)) c.kept_below.result (ap (option_map reader) is)
-    (c.kept_below.ensures (bits_of ws) cut whole ∙ ap (and_then (λ ns. kept_below g.T.Repr.EnumSetTypeRepr.WIDTH c.args.past (bits_of ns))) (sym (words_back ws)))
+    (c.kept_below.ensures (bits_of ws) cut whole ∙ ap (λ r. and_then r (λ ns. kept_below g.T.Repr.EnumSetTypeRepr.WIDTH c.args.past (bits_of ns))) (sym (words_back ws)))

@@ -10,4 +10,4 @@ returns-in-Some g c =
     let reader = set_of_words valid c.args.unknown in
     let (ws, is, cut, whole) = c.in-Some.ensures in
     is_read reader c.args.text.now (reader (words_value ws)) c.accepted.result (ap (option_map reader) is)
-    (c.accepted.ensures (bits_of ws) cut whole ∙ ap (and_then (λ ns. accepted valid c.args.unknown (bits_of ns))) (sym (words_back ws)))
+    (c.accepted.ensures (bits_of ws) cut whole ∙ ap (λ r. and_then r (λ ns. accepted valid c.args.unknown (bits_of ns))) (sym (words_back ws)))
