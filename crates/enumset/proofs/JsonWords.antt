@@ -37,12 +37,15 @@ pub record AreRead (ws : List ℕ) (place width : ℕ) (s : BitSet) (is_whole : 
   pub put : (t : BitSet) → Has t ws place → s ≡ low (low t (64 * place)) width
   pub whole : (t : BitSet) → Has t ws place → Decides is_whole (Has (low t width) ws place)
 
-pub none_read : (ws : List ℕ) (width : ℕ) → AreRead ws 0 width empty true
+none_read : (ws : List ℕ) (width : ℕ) → AreRead ws 0 width empty true
 none_read ws width = record {
   small = λ w under. absurd (omega (arith, under));
   put = λ t has. sym (none_put t width);
   whole = λ t has. (λ _ w under. absurd (omega (arith, under)), λ _. refl);
 }
+
+pub begun : (ws : List ℕ) (width : ℕ) (s : BitSet) (is_whole : Bool) → s ≡ empty → is_whole ≡ true → AreRead ws 0 width s is_whole
+begun ws width s is_whole none whole = subst (λ s. AreRead ws 0 width s is_whole) (sym none) (subst (AreRead ws 0 width empty) (sym whole) (none_read ws width))
 
 one_more : (P : ℕ → Type 0) (place : ℕ) → ((w : ℕ) → w < place → P w) → P place → (w : ℕ) → w < place + 1 → P w
 one_more P place before here w under = elim (cases_lt w place) [

@@ -1,6 +1,6 @@
 -- What the loop of the reader of plain lists keeps.
-use Rattle.std.proofs.Common.{◌≡◌, ◌+◌, ℕ, cond, List, [], ◌∷◌, ◌++◌, Option, Some, None, Ok, refl, sym, ap, ◌∙◌, inr, subst, is_none, option_map, Result, true}
-use Rattle.enumset.proofs.Common.{option_or, BitSet, empty, insert, Data, array, string, item, no_items, Items, read, values_of, set_of_list, decided, IsPlain, AreSpaces, Passed, value_read, IsResult, IsReadOf, Names, bit_named, JsonFault, Unknown, Drop, Refuse}
+use Rattle.std.proofs.Common.{◌≡◌, ◌+◌, ℕ, cond, List, [], ◌∷◌, ◌++◌, Option, Some, None, Ok, refl, sym, ap, ◌∙◌, inr, subst, option_map, Result, true}
+use Rattle.enumset.proofs.Common.{option_or, BitSet, empty, insert, Data, array, string, item, no_items, Items, read, values_of, set_of_list, decided, IsPlain, AreSpaces, Passed, value_read, IsResult, IsReadOf, Names, bit_named, is_unknown, JsonFault, Unknown, Drop, Refuse}
 use Rattle.std.specs.Option.{option_map_or}
 use Rattle.enumset.proofs.JsonItems.{passed}
 use Rattle.enumset.proofs.JsonLists.{opened, no_items_read, next_string, last_string}
@@ -31,11 +31,11 @@ module _ (names : Names) (unknown : Unknown) (text : List ℕ) where
   pub goes_on_from : (bytes rest left : List ℕ) → bytes ≡ text → Passed bytes 91 rest → Passed rest 34 left → GoesOn left 0 empty None
   goes_on_from bytes rest left same found quote ds e = read_as ds (ap read (sym same) ∙ opened bytes rest (34 ∷ left) found (passed rest 34 left quote) ∙ e)
 
-  module _ (left name rest : List ℕ) (place : ℕ) (s next : BitSet) (first later : Option ℕ) (bit : Option ℕ) (so_far : GoesOn left place s first) (plain : IsPlain name) (split : left ≡ name ++ 34 ∷ rest)
-      (named : bit ≡ bit_named names name) (added : next ≡ option_map_or (insert s) bit s) (seen : later ≡ option_or first (cond (is_none bit) (Some place) None)) where
+  module _ (left name rest : List ℕ) (place : ℕ) (s next : BitSet) (first later : Option ℕ) (so_far : GoesOn left place s first) (plain : IsPlain name) (split : left ≡ name ++ 34 ∷ rest)
+      (added : next ≡ option_map_or (insert s) (bit_named names name) s) (seen : later ≡ option_or first (cond (is_unknown names name) (Some place) None)) where
     one_read : (ds : Items) → list_on names unknown place s first (string name ∷ values_of ds) ≡ list_on names unknown (place + 1) next later (values_of ds)
     one_read ds =
-        read_next _ _ _ _ names unknown place s first _ (values_of ds) (string name) refl bit true refl refl (sym named)
+        read_next _ _ _ _ names unknown place s first _ (values_of ds) (string name) refl (bit_named names name) true refl refl refl
         ∙ (λ j. list_on names unknown (place + 1) (sym added j) (sym seen j) (values_of ds))
 
     pub goes_on : (after following : List ℕ) → Passed rest 44 after → Passed after 34 following → GoesOn following (place + 1) next later

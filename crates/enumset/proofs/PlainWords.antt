@@ -5,7 +5,7 @@ use Rattle.enumset.proofs.JsonTokens.{tokens}
 use Rattle.enumset.proofs.JsonLists.{opened, no_items_read}
 use Rattle.enumset.proofs.JsonItems.{spaces, comma_stops, closes, passed_stops}
 use Rattle.enumset.proofs.JsonNumbers.{IsNumberFirst, next_number, last_number}
-use Rattle.enumset.proofs.JsonWords.{AreRead, none_read, taken, same_before, all_read}
+use Rattle.enumset.proofs.JsonWords.{AreRead, begun, taken, same_before, all_read}
 
 -- what a value that is kept under a condition has
 pub kept_if : {A : Type 0} (P : A → Type 0) (o : Option A) (b : Bool) (v : A) → o ≡ then_some b v → (b ≡ true → P v) → IfSome o P
@@ -24,16 +24,16 @@ module _ (text : List ℕ) (width : ℕ) where
   IsRead s is_whole =
       (ws : List ℕ) × (read text ≡ Some (words_value ws)) × (s ≡ low (bits_of ws) width) × (is_whole ≡ is_subset (bits_of ws) (below width))
 
-  pub no_words : (rest end : List ℕ) (s : BitSet) → Passed text 91 rest → Passed rest 93 end → AreSpaces end → s ≡ empty → IsRead s true
-  no_words rest end s found close spaced none =
-      let all = all_read [] 0 width s true (subst (λ s. AreRead [] 0 width s true) (sym none) (none_read [] width)) (omega arith) in
+  pub no_words : (rest end : List ℕ) (s : BitSet) (is_whole : Bool) → Passed text 91 rest → Passed rest 93 end → AreSpaces end → s ≡ empty → is_whole ≡ true → IsRead s is_whole
+  no_words rest end s is_whole found close spaced none whole =
+      let all = all_read [] 0 width s is_whole (begun [] width s is_whole none whole) (omega arith) in
       ([], no_items_read text rest end found close spaced, all.0, all.1)
 
-  pub goes_on_from : (rest : List ℕ) (s : BitSet) → Passed text 91 rest → s ≡ empty → GoesOn rest 0 s true
-  goes_on_from rest s found none = (
+  pub goes_on_from : (rest : List ℕ) (s : BitSet) (is_whole : Bool) → Passed text 91 rest → s ≡ empty → is_whole ≡ true → GoesOn rest 0 s is_whole
+  goes_on_from rest s is_whole found none whole = (
     [],
     refl,
-    subst (λ s. AreRead [] 0 width s true) (sym none) (none_read [] width),
+    begun [] width s is_whole none whole,
     λ g digits more gs here first e. opened text rest digits found (ap tokens here ∙ (spaces g digits gs).0) ∙ e,
   )
 

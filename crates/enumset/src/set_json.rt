@@ -9,6 +9,7 @@ mod lists;
 mod maps;
 mod mixed;
 mod mixed_texts;
+mod names_read;
 mod numbers;
 mod plain_lists;
 mod plain_maps;
@@ -19,6 +20,7 @@ mod texts;
 mod unknown;
 mod width;
 mod words;
+mod words_read;
 
 pub use fault::JsonFault;
 pub use lists::{from_list, to_list};

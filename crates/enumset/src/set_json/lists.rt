@@ -7,8 +7,9 @@ ghost use Rattle.enumset.specs.JsonNames.{set_of_list, list_value};
 ghost use Rattle.enumset.specs.declared.set_json.fault.JsonFault.TheVariants.{OutOfMemory};
 
 use super::fault::JsonFault;
-use super::unknown::{Unknown, decided, take_name};
-use crate::names::{EnumSetNames, find_value};
+use super::names_read::NamesRead;
+use super::unknown::Unknown;
+use crate::names::EnumSetNames;
 use enumset_sets::EnumSet;
 use serde_json::Value;
 use std::alloc::Global;
@@ -36,13 +37,10 @@ pub fn from_list<T: EnumSetNames>(value: &Value, unknown: Unknown) -> Result<Enu
     ensures { result ≡ set_of_list (names_of T.elements T.names) unknown (view value.now) }
 {
     let items = value.as_array().ok_or(JsonFault::NotAnArray)?;
-    let mut set = EnumSet::new();
-    let mut first_unknown = None;
-    let mut next = 0;
+    let mut names = NamesRead::new();
     for (place, item) in items.iter().enumerate() {
-        let text = item.as_str().ok_or(JsonFault::NotAText(place))?;
-        let value = find_value(text.as_bytes(), &mut next);
-        take_name(&mut set, &mut first_unknown, value, true, place);
+        let name = item.as_str().ok_or(JsonFault::NotAText(place))?;
+        names.take(name.as_bytes(), true, place);
     }
-    decided(set, first_unknown, unknown)
+    names.decided(unknown)
 }

@@ -7,8 +7,9 @@ ghost use Rattle.enumset.specs.JsonNames.{set_of_map, map_value};
 ghost use Rattle.enumset.specs.declared.set_json.fault.JsonFault.TheVariants.{OutOfMemory};
 
 use super::fault::JsonFault;
-use super::unknown::{Unknown, decided, take_name};
-use crate::names::{EnumSetNames, find_value};
+use super::names_read::NamesRead;
+use super::unknown::Unknown;
+use crate::names::EnumSetNames;
 use enumset_sets::EnumSet;
 use serde_json::{Map, Value, put};
 use std::alloc::Global;
@@ -37,13 +38,10 @@ pub fn from_map<T: EnumSetNames>(value: &Value, unknown: Unknown) -> Result<Enum
     ensures { result ≡ set_of_map (names_of T.elements T.names) unknown (view value.now) }
 {
     let members = value.as_object().ok_or(JsonFault::NotAnObject)?;
-    let mut set = EnumSet::new();
-    let mut first_unknown = None;
-    let mut next = 0;
+    let mut names = NamesRead::new();
     for (place, (name, value)) in members.iter().enumerate() {
         let is_member = value.as_bool().ok_or(JsonFault::NotABoolean(place))?;
-        let element = find_value(name.as_bytes(), &mut next);
-        take_name(&mut set, &mut first_unknown, element, is_member, place);
+        names.take(name.as_bytes(), is_member, place);
     }
-    decided(set, first_unknown, unknown)
+    names.decided(unknown)
 }

@@ -13,6 +13,7 @@ use super::fault::JsonFault;
 use super::unknown::Unknown;
 use super::width::{fits, whole_number};
 use super::words::{read_words, write_words};
+use super::words_read::WordsRead;
 use enumset_mixed::MixedEnumSet;
 use enumset_repr::EnumSetTypeRepr;
 use enumset_sets::{EnumSetType, EnumSetTypeWithRepr};
@@ -96,20 +97,19 @@ pub fn mixed_from_words<T: EnumSetTypeWithRepr>(
 ) -> Result<MixedEnumSet<T>, JsonFault>
     ensures { result ≡ mixed_set_of_words T.Repr.WIDTH past (view value.now) }
 {
-    let (repr, is_whole) = read_words(value)?;
-    kept_below(repr, is_whole, past)
+    kept_below(read_words(value)?, past)
 }
 
 /// The set of the bits below the representation's width, unless there are others and such bits are refused.
 pub(super) fn kept_below<T: EnumSetTypeWithRepr>(
-    repr: T::Repr,
-    is_whole: bool,
+    words: WordsRead<T::Repr>,
     past: Unknown,
 ) -> Result<MixedEnumSet<T>, JsonFault>
-    ensures { (bits : BitSet) → (T.Repr.members repr ≡ low bits T.Repr.WIDTH)
-        → (is_whole ≡ is_subset bits (below T.Repr.WIDTH))
+    ensures { (bits : BitSet) → (T.Repr.members words.repr ≡ low bits T.Repr.WIDTH)
+        → (words.is_whole ≡ is_subset bits (below T.Repr.WIDTH))
         → result ≡ kept_below T.Repr.WIDTH past bits }
 {
+    let WordsRead { repr, is_whole } = words;
     match past {
         Unknown::Refuse if !is_whole => Err(JsonFault::OutOfRange),
         _ => Ok(MixedEnumSet::from_repr(repr)),

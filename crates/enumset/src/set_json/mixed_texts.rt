@@ -82,7 +82,7 @@ pub fn mixed_from_words_text<T: EnumSetTypeWithRepr>(
     ensures { IsReadOf (mixed_set_of_words T.Repr.WIDTH past) text.now result }
 {
     match read_plain_words(text) {
-        Some((repr, is_whole)) => kept_below(repr, is_whole, past),
+        Some(words) => kept_below(words, past),
         None => mixed_from_words(&Value::from_str(alloc, text)?, past),
     }
 }

@@ -7,9 +7,10 @@ ghost use Rattle.enumset.specs.JsonReads.{IsReadOf};
 ghost use Rattle.enumset.specs.Names.{names_of};
 
 use super::fault::JsonFault;
+use super::names_read::NamesRead;
 use super::scan::{after_byte, are_spaces, is_plain, split_string};
-use super::unknown::{Unknown, decided, take_name};
-use crate::names::{EnumSetNames, find_value};
+use super::unknown::Unknown;
+use crate::names::EnumSetNames;
 use enumset_sets::EnumSet;
 use std::alloc::{AllocError, Global};
 
@@ -60,15 +61,12 @@ pub(super) fn read_plain_list<T: EnumSetNames>(
         return are_spaces(end).then_some(Ok(EnumSet::new()));
     }
     let mut left = after_byte(rest, b'"')?;
-    let mut set = EnumSet::new();
-    let mut first_unknown = None;
-    let mut next = 0;
+    let mut names = NamesRead::new();
     for place in 0..text.len() {
         let (name, rest) = split_string(left)?;
-        let value = find_value(name, &mut next);
-        take_name(&mut set, &mut first_unknown, value, true, place);
+        names.take(name, true, place);
         if let Some(end) = after_byte(rest, b']') {
-            return are_spaces(end).then_some(decided(set, first_unknown, unknown));
+            return are_spaces(end).then_some(names.decided(unknown));
         }
         left = after_byte(after_byte(rest, b',')?, b'"')?;
     }

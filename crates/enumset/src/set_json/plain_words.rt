@@ -10,7 +10,7 @@ ghost use Rattle.enumset.specs.Json.{words_value};
 use super::digits::{ascii_text, push_digits};
 use super::plain_numbers::split_number;
 use super::scan::{after_byte, are_spaces, split_spaces};
-use super::words::take_word;
+use super::words_read::WordsRead;
 use enumset_repr::EnumSetTypeRepr;
 use std::alloc::{AllocError, Global};
 
@@ -38,26 +38,25 @@ pub(super) fn write_plain_words<R: EnumSetTypeRepr>(
     Ok(ascii_text(bytes))
 }
 
-/// The set of the bits of an array's words below the representation's width, and whether these are all their bits. The
-/// array has whole numbers below 2^64 alone, with spaces anywhere between its tokens. No other text is read.
-pub(super) fn read_plain_words<R: EnumSetTypeRepr>(text: &str) -> Option<(R, bool)>
+/// The bits of an array's words below the representation's width, and whether these are all their bits. The array has
+/// whole numbers below 2^64 alone, with spaces anywhere between its tokens. No other text is read.
+pub(super) fn read_plain_words<R: EnumSetTypeRepr>(text: &str) -> Option<WordsRead<R>>
     ensures { IfSome result (λ found. (ws : List ℕ)
         × (read text.now ≡ Some (words_value ws))
-        × (R.members found.0 ≡ low (bits_of ws) R.WIDTH)
-        × (found.1 ≡ is_subset (bits_of ws) (below R.WIDTH))) }
+        × (R.members found.repr ≡ low (bits_of ws) R.WIDTH)
+        × (found.is_whole ≡ is_subset (bits_of ws) (below R.WIDTH))) }
 {
     let mut left = after_byte(text.as_bytes(), b'[')?;
-    let mut repr = R::EMPTY;
-    let mut is_whole = true;
+    let mut words = WordsRead::new();
     if let Some(end) = after_byte(left, b']') {
-        return are_spaces(end).then_some((repr, is_whole));
+        return are_spaces(end).then_some(words);
     }
     for place in 0..text.len() {
         let (_, digits) = split_spaces(left);
         let (word, rest) = split_number(digits)?;
-        is_whole &= take_word(&mut repr, place, word);
+        words.take(place, word);
         if let Some(end) = after_byte(rest, b']') {
-            return are_spaces(end).then_some((repr, is_whole));
+            return are_spaces(end).then_some(words);
         }
         left = after_byte(rest, b',')?;
     }

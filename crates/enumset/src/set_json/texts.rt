@@ -121,7 +121,7 @@ pub fn from_words_text<T: EnumSetType>(
     ensures { IsReadOf (set_of_words (valid_bits T.elements) unknown) text.now result }
 {
     match read_plain_words(text) {
-        Some((repr, is_whole)) => accepted(repr, is_whole, unknown),
+        Some(words) => accepted(words, unknown),
         None => from_words(&Value::from_str(alloc, text)?, unknown),
     }
 }

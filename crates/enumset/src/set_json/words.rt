@@ -1,9 +1,8 @@
 //! Sets as JSON arrays of words.
 
-ghost use Rattle.std.specs.Prelude.{◌≡◌, ℕ, List, Ok, Err, IfOk, IfErr, IsOk, if◌then◌else◌};
-ghost use Rattle.std.specs.Prelude.{nat_lt, ◌==◌};
+ghost use Rattle.std.specs.Prelude.{◌≡◌, ℕ, List, Ok, Err, IfOk, IfErr, IsOk};
 ghost use Rattle.enumset_repr.specs.BitSet.{BitSet, low, is_subset, below};
-ghost use Rattle.enumset_repr.specs.Words.{word as word_of, words, with_word, bits_of};
+ghost use Rattle.enumset_repr.specs.Words.{words, bits_of};
 ghost use Rattle.serde_json.specs.View.{view};
 ghost use Rattle.enumset.specs.Json.{words_value, words_in, accepted, set_of_words};
 ghost use Rattle.enumset.specs.declared.set_json.fault.JsonFault.TheVariants.{OutOfMemory};
@@ -11,8 +10,8 @@ ghost use Rattle.enumset_sets.specs.Elements.{valid_bits};
 
 use super::fault::JsonFault;
 use super::unknown::Unknown;
+use super::words_read::WordsRead;
 use enumset_repr::EnumSetTypeRepr;
-use enumset_repr::repr::word_or_zero;
 use enumset_sets::{EnumSet, EnumSetType, raw, representation};
 use serde_json::Value;
 use std::alloc::Global;
@@ -52,20 +51,19 @@ pub(super) fn write_words<R: EnumSetTypeRepr>(alloc: Global, repr: &R) -> Result
 pub fn from_words<T: EnumSetType>(value: &Value, unknown: Unknown) -> Result<EnumSet<T>, JsonFault>
     ensures { result ≡ set_of_words (valid_bits T.elements) unknown (view value.now) }
 {
-    let (repr, is_whole) = read_words(value)?;
-    accepted(repr, is_whole, unknown)
+    accepted(read_words(value)?, unknown)
 }
 
 /// The set of the valid bits that words have below the width, unless the words have other bits and these are refused.
 pub(super) fn accepted<T: EnumSetType>(
-    repr: T::Repr,
-    is_whole: bool,
+    words: WordsRead<T::Repr>,
     unknown: Unknown,
 ) -> Result<EnumSet<T>, JsonFault>
-    ensures { (bits : BitSet) → (T.Repr.members repr ≡ low bits T.Repr.WIDTH)
-        → (is_whole ≡ is_subset bits (below T.Repr.WIDTH))
+    ensures { (bits : BitSet) → (T.Repr.members words.repr ≡ low bits T.Repr.WIDTH)
+        → (words.is_whole ≡ is_subset bits (below T.Repr.WIDTH))
         → result ≡ accepted (valid_bits T.elements) unknown bits }
 {
+    let WordsRead { repr, is_whole } = words;
     let all = representation::valid_repr::<T>();
     match unknown {
         Unknown::Drop => Ok(raw::new(repr & all)),
@@ -74,33 +72,19 @@ pub(super) fn accepted<T: EnumSetType>(
     }
 }
 
-/// The set of the bits of an array's words below the representation's width, and whether these are all their bits.
-pub(super) fn read_words<R: EnumSetTypeRepr>(value: &Value) -> Result<(R, bool), JsonFault>
+/// The bits of an array's words below the representation's width, and whether these are all their bits.
+pub(super) fn read_words<R: EnumSetTypeRepr>(value: &Value) -> Result<WordsRead<R>, JsonFault>
     ensures read { IfOk result (λ read. (ws : List ℕ)
         × (words_in (view value.now) ≡ Ok ws)
-        × (R.members read.0 ≡ low (bits_of ws) R.WIDTH)
-        × (read.1 ≡ is_subset (bits_of ws) (below R.WIDTH))) }
+        × (R.members read.repr ≡ low (bits_of ws) R.WIDTH)
+        × (read.is_whole ≡ is_subset (bits_of ws) (below R.WIDTH))) }
     ensures fault { IfErr result (λ fault. words_in (view value.now) ≡ Err fault) }
 {
     let items = value.as_array().ok_or(JsonFault::NotAnArray)?;
-    let mut repr = R::EMPTY;
-    let mut is_whole = true;
+    let mut words = WordsRead::new();
     for (place, item) in items.iter().enumerate() {
         let word = item.as_u64().ok_or(JsonFault::NotAWord(place))?;
-        is_whole &= take_word(&mut repr, place, word);
+        words.take(place, word);
     }
-    Ok((repr, is_whole))
-}
-
-/// Writes a word of an array to its place, and returns whether no bit of it is at or past the width.
-#[inline(always)]
-pub(super) fn take_word<R: EnumSetTypeRepr>(repr: &mut R, place: usize, word: u64) -> bool
-    ensures put { R.members repr.new ≡ (if nat_lt place R.PREFERRED_ARRAY_LEN
-        then with_word (R.members repr.old) R.WIDTH place word else R.members repr.old) }
-    ensures whole { result ≡ (word_of (R.members repr.new) place == word) }
-{
-    if place < R::PREFERRED_ARRAY_LEN {
-        repr.put_word(place, word);
-    }
-    word_or_zero(repr, place) == word
+    Ok(words)
 }

@@ -6,5 +6,5 @@ use Rattle.enumset.proofs.set_json.lists.from_list.Given as goal
 -- what is left is read as it is after what was read
 abbrev pub invariant-loop-place : goal.invariant-loop-place
 invariant-loop-place g l =
-    list_on (names_of g.T.EnumSetType.elements g.T.EnumSetNames.names) l.unknown l.place l.set l.first_unknown (map view (drop l.place l.item-items))
+    list_on (names_of g.T.EnumSetType.elements g.T.EnumSetNames.names) l.unknown l.place l.names.set l.names.first_unknown (map view (drop l.place l.item-items))
     ≡ list_on (names_of g.T.EnumSetType.elements g.T.EnumSetNames.names) l.unknown 0 empty None (map view l.item-items)

@@ -1,10 +1,10 @@
-use Rattle.std.proofs.Common.{◌≡◌, ◌+◌, false, None, Some, Err, is_none, option_map, unwrap_or, string_bytes, length, map, sym, ap, ◌∙◌, arith, rules}
+use Rattle.std.proofs.Common.{◌≡◌, ◌+◌, false, None, Some, Err, is_none, unwrap_or, string_bytes, length, map, sym, ap, ◌∙◌, arith, rules}
 use Rattle.enumset.proofs.Common.{common_steps, empty, view, members_view, as_bool, names_of, bit_named, members_in, set_of_members, NotABoolean}
 use Rattle.enumset.proofs.NamesRead.{seen, map_on, map_read, read_fault, read_next, read_end}
 use Rattle.enumset.proofs.set_json.maps.from_map.Goals as goal
 
 pub loop-place-init : goal.loop-place-init
-loop-place-init g c = (omega (arith, c.iter-name-items.ensures.fits, ap length c.iter-name-items.ensures.rest), ap (λ s. map_on (names_of g.T.EnumSetType.elements g.T.EnumSetNames.names) c.args.unknown 0 s None (map seen c.iter-name-items.result)) c.new-set.ensures)
+loop-place-init g c = (omega (arith, c.iter-name-items.ensures.fits, ap length c.iter-name-items.ensures.rest), λ j. map_on (names_of g.T.EnumSetType.elements g.T.EnumSetNames.names) c.args.unknown 0 (c.new-names.ensures.set j) (c.new-names.ensures.first j) (map seen c.iter-name-items.result))
 
 pub returns-in_err-is_member : goal.returns-in_err-is_member
 returns-in_err-is_member g c =
@@ -14,7 +14,7 @@ returns-in_err-is_member g c =
     sym (map_read names c.args.unknown c.in_ok-members.members.now.entries)
     ∙ ap (λ ms. map_on names c.args.unknown 0 empty None (map seen ms)) (sym c.iter-name-items.ensures.rest)
     ∙ sym c.loop-place.invariant.1
-    ∙ read_fault _ _ _ _ _ _ c.loop-place.place c.loop-place.set c.loop-place.first_unknown _ _ _ (ap (map seen) c.in-Some.ensures.steps) (ap is_none no_boolean) in
+    ∙ read_fault _ _ _ _ _ _ c.loop-place.place c.loop-place.names.set c.loop-place.names.first_unknown _ _ _ (ap (map seen) c.in-Some.ensures.steps) (ap is_none no_boolean) in
     search rules
 
 pub loop-place-preserved : goal.loop-place-preserved
@@ -22,11 +22,11 @@ loop-place-preserved g c =
     let names = names_of g.T.EnumSetType.elements g.T.EnumSetNames.names in
     let rest = map seen c.next.new.self in
     let is : as_bool (view c.in-Some.value.now) ≡ Some c.in_ok-is_member.is_member = sym c.as_bool.ensures ∙ c.in_ok-is_member.ensures.ok_part in
-    let bit = option_map g.T.EnumSetType.elements.bit c.find_value-element.result in
-    let named : bit ≡ bit_named names (string_bytes c.in-Some.name.now) = c.find_value-element.ensures ∙ ap (bit_named names) c.as_bytes.ensures.value in (
+    let bit = bit_named names c.as_bytes.result.now in
+    let named : bit ≡ bit_named names (string_bytes c.in-Some.name.now) = ap (bit_named names) c.as_bytes.ensures.value in (
       omega (arith, c.loop-place.invariant.0, ap length c.in-Some.ensures.steps),
-      (λ j. map_on names c.args.unknown (c.loop-place.place + 1) (c.take_name.ensures.set j) (c.take_name.ensures.first j) rest)
-          ∙ sym (read_next _ _ _ _ _ _ c.loop-place.place c.loop-place.set c.loop-place.first_unknown _ rest _ (ap (map seen) c.in-Some.ensures.steps) bit c.in_ok-is_member.is_member (ap is_none is) (ap (λ o. unwrap_or o false) is) (sym named)) ∙ c.loop-place.invariant.1,
+      (λ j. map_on names c.args.unknown (c.loop-place.place + 1) (c.take.ensures.set j) (c.take.ensures.first j) rest)
+          ∙ sym (read_next _ _ _ _ _ _ c.loop-place.place c.loop-place.names.set c.loop-place.names.first_unknown _ rest _ (ap (map seen) c.in-Some.ensures.steps) bit c.in_ok-is_member.is_member (ap is_none is) (ap (λ o. unwrap_or o false) is) (sym named)) ∙ c.loop-place.invariant.1,
     )
 
 pub returns : goal.returns
@@ -34,7 +34,7 @@ returns g c =
     let names = names_of g.T.EnumSetType.elements g.T.EnumSetNames.names in
     let whole : c.decided.result ≡ set_of_members names c.args.unknown (members_in (members_view c.in_ok-members.members.now.entries)) =
     c.decided.ensures
-    ∙ sym (read_end _ _ _ _ names c.args.unknown c.loop-place.place c.loop-place.set c.loop-place.first_unknown _ (ap (map seen) c.in-None.ensures.steps.0))
+    ∙ sym (read_end _ _ _ _ names c.args.unknown c.loop-place.place c.loop-place.names.set c.loop-place.names.first_unknown _ (ap (map seen) c.in-None.ensures.steps.0))
     ∙ c.loop-place.invariant.1
     ∙ ap (λ ms. map_on names c.args.unknown 0 empty None (map seen ms)) c.iter-name-items.ensures.rest
     ∙ map_read names c.args.unknown c.in_ok-members.members.now.entries in

@@ -4,5 +4,5 @@ use Rattle.enumset.proofs.set_json.mixed.mixed_from_words.Goals as goal
 
 pub returns : goal.returns
 returns g c =
-    let (ws, is, cut, whole) = c.in_ok-repr.ensures.read in
+    let (ws, is, cut, whole) = c.in_ok-read_words.ensures.read in
     c.kept_below.ensures (bits_of ws) cut whole ∙ ap (λ r. and_then r (λ ns. kept_below g.T.Repr.EnumSetTypeRepr.WIDTH c.args.past (bits_of ns))) (sym is)

@@ -1,4 +1,4 @@
-use Rattle.std.proofs.Common.{Ok, None, option_map, sym, subst}
+use Rattle.std.proofs.Common.{Ok, None, sym, subst}
 use Rattle.enumset.proofs.Common.{empty, set_of_list, decided, names_of}
 use Rattle.enumset.proofs.PlainWords.{kept_if}
 use Rattle.enumset.proofs.PlainLists.{GoesOn, is_read, none_named, goes_on_from, goes_on, ends, no_unknown}
@@ -14,22 +14,25 @@ returns-in-Some g c =
 pub loop-place-init : goal.loop-place-init
 loop-place-init g c =
     let names = names_of g.T.EnumSetType.elements g.T.EnumSetNames.names in
-    subst (λ s. GoesOn names c.args.unknown c.args.text.now c.in_ok-left.left.now 0 s None) (sym c.new-set.ensures)
-    (goes_on_from names c.args.unknown c.args.text.now _ c.in_ok-rest.rest.now c.in_ok-left.left.now c.as_bytes.ensures.value c.in_ok-rest.ensures c.in_ok-left.ensures)
+    subst (λ s. GoesOn names c.args.unknown c.args.text.now c.in_ok-left.left.now 0 s c.new-names.result.first_unknown) (sym c.new-names.ensures.set)
+    (subst (GoesOn names c.args.unknown c.args.text.now c.in_ok-left.left.now 0 empty) (sym c.new-names.ensures.first)
+    (goes_on_from names c.args.unknown c.args.text.now _ c.in_ok-rest.rest.now c.in_ok-left.left.now c.as_bytes.ensures.value c.in_ok-rest.ensures c.in_ok-left.ensures))
 
 pub loop-place-preserved : goal.loop-place-preserved
 loop-place-preserved g c =
+    let old = c.loop-place.names in
+    let new = c.take.new.self in
     goes_on (names_of g.T.EnumSetType.elements g.T.EnumSetNames.names) c.args.unknown c.args.text.now c.loop-place.left.now c.in_ok-name.name.now c.in_ok-name.rest.now c.loop-place.place
-    c.loop-place.set c.take_name.new.set c.loop-place.first_unknown c.take_name.new.first_unknown (option_map g.T.EnumSetType.elements.bit c.find_value-value.result)
-    c.loop-place.invariant c.in_ok-name.ensures.plain c.in_ok-name.ensures.whole c.find_value-value.ensures c.take_name.ensures.set c.take_name.ensures.first
+    old.set new.set old.first_unknown new.first_unknown c.loop-place.invariant c.in_ok-name.ensures.plain c.in_ok-name.ensures.whole c.take.ensures.set c.take.ensures.first
     c.in_ok-after_byte.field-0.now c.in_ok-left-2.left.now c.in_ok-after_byte.ensures c.in_ok-left-2.ensures
 
 pub returns-in-Some-after_byte : goal.returns-in-Some-after_byte
 returns-in-Some-after_byte g c =
     let names = names_of g.T.EnumSetType.elements g.T.EnumSetNames.names in
-    kept_if _ c.then_some-in-Some-after_byte.result _ _ c.then_some-in-Some-after_byte.ensures (λ all. is_read (set_of_list names c.args.unknown) c.args.text.now (decided c.args.unknown c.take_name.new.first_unknown c.take_name.new.set) c.decided.result
+    let old = c.loop-place.names in
+    let new = c.take.new.self in
+    kept_if _ c.then_some-in-Some-after_byte.result _ _ c.then_some-in-Some-after_byte.ensures (λ all. is_read (set_of_list names c.args.unknown) c.args.text.now (decided c.args.unknown new.first_unknown new.set) c.decided.result
     (ends names c.args.unknown c.args.text.now c.loop-place.left.now c.in_ok-name.name.now c.in_ok-name.rest.now c.loop-place.place
-    c.loop-place.set c.take_name.new.set c.loop-place.first_unknown c.take_name.new.first_unknown (option_map g.T.EnumSetType.elements.bit c.find_value-value.result)
-    c.loop-place.invariant c.in_ok-name.ensures.plain c.in_ok-name.ensures.whole c.find_value-value.ensures c.take_name.ensures.set c.take_name.ensures.first
+    old.set new.set old.first_unknown new.first_unknown c.loop-place.invariant c.in_ok-name.ensures.plain c.in_ok-name.ensures.whole c.take.ensures.set c.take.ensures.first
     c.in-Some-after_byte.end.now c.in-Some-after_byte.ensures (c.are_spaces-in-Some-after_byte.ensures all))
     c.decided.ensures)

@@ -4,4 +4,4 @@ use Rattle.enumset.proofs.set_json.plain_lists.read_plain_list.Given as goal
 
 -- what is left goes on the list
 abbrev pub invariant-loop-place : goal.invariant-loop-place
-invariant-loop-place g l = GoesOn (names_of g.T.EnumSetType.elements g.T.EnumSetNames.names) l.unknown l.text l.left l.place l.set l.first_unknown
+invariant-loop-place g l = GoesOn (names_of g.T.EnumSetType.elements g.T.EnumSetNames.names) l.unknown l.text l.left l.place l.names.set l.names.first_unknown

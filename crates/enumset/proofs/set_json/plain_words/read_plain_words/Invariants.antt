@@ -3,4 +3,4 @@ use Rattle.enumset.proofs.set_json.plain_words.read_plain_words.Given as goal
 
 -- what is left goes on the array
 abbrev pub invariant-loop-place : goal.invariant-loop-place
-invariant-loop-place g l = GoesOn l.text g.R.EnumSetTypeRepr.WIDTH l.left l.place (g.R.EnumSetTypeRepr.members l.repr) l.is_whole
+invariant-loop-place g l = GoesOn l.text g.R.EnumSetTypeRepr.WIDTH l.left l.place (g.R.EnumSetTypeRepr.members l.words.repr) l.words.is_whole

@@ -6,7 +6,7 @@ use Rattle.enumset.proofs.set_json.words.accepted.Goals as goal
 
 pub new-requires : goal.new-requires
 new-requires g c = record {
-  valid = ap (λ s. is_subset s (valid_bits g.T.EnumSetType.elements)) ((g.met.T.Repr.EnumSetTypeRepr.operators.bitand _ _ _ c.bitand.ensures) ∙ (λ i. intersection (g.T.Repr.EnumSetTypeRepr.members c.args.repr) (c.valid_repr-all.ensures.members i)))
+  valid = ap (λ s. is_subset s (valid_bits g.T.EnumSetType.elements)) ((g.met.T.Repr.EnumSetTypeRepr.operators.bitand _ _ _ c.bitand.ensures) ∙ (λ i. intersection (g.T.Repr.EnumSetTypeRepr.members c.args.words.repr) (c.valid_repr-all.ensures.members i)))
       ∙ intersection_right _ _;
 }
 

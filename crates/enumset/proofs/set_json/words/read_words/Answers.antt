@@ -1,11 +1,14 @@
-use Rattle.std.proofs.Common.{◌≡◌, ◌+◌, ◌&&◌, None, Some, Err, true, option_map, map, refl, sym, ap, subst, ◌∙◌, arith, rules, is_none, if◌then◌else◌}
+use Rattle.std.proofs.Common.{◌≡◌, ◌+◌, None, Some, Err, option_map, map, refl, sym, ap, ◌∙◌, arith, rules, is_none, if◌then◌else◌}
 use Rattle.enumset.proofs.Common.{position_from, drop_all, view, items_view, is_no_word, held_words, words_in, NotAWord}
-use Rattle.enumset.proofs.JsonWords.{AreRead, other_from, other_at, word_here, words_read, length-held_words, none_read, taken, all_read}
+use Rattle.enumset.proofs.JsonWords.{other_from, other_at, word_here, words_read, length-held_words, begun, taken, all_read}
 use Rattle.enumset.proofs.set_json.words.read_words.Goals as goal
 
 pub loop-place-init : goal.loop-place-init
 loop-place-init g c =
-    (refl, subst (λ s. AreRead (held_words (map view c.deref-item-items.result.now)) 0 g.R.EnumSetTypeRepr.WIDTH s true) (sym (ap g.R.EnumSetTypeRepr.members c.EMPTY-repr.ensures ∙ g.met.R.EnumSetTypeRepr.represents.no_member)) (none_read _ _))
+    let held = held_words (map view c.deref-item-items.result.now) in (
+      refl,
+      begun held g.R.EnumSetTypeRepr.WIDTH (g.R.EnumSetTypeRepr.members c.new-words.result.repr) c.new-words.result.is_whole c.new-words.ensures.none c.new-words.ensures.whole,
+    )
 
 pub returns-in_err-word-clause-fault : goal.returns-in_err-word-clause-fault
 returns-in_err-word-clause-fault g c =
@@ -23,7 +26,7 @@ loop-place-preserved g c =
     let here = other_at vs place c.item-item.result c.as_u64.result c.loop-place-test.true c.item-item.is c.as_u64.ensures in
     let is = word_here vs place c.item-item.result c.as_u64.result c.loop-place-test.true c.item-item.is c.as_u64.ensures c.in_ok-word.word c.in_ok-word.ensures.ok_part in (
       sym (here ∙ ap (λ o. if is_none o then Some place else other_from vs (place + 1)) c.in_ok-word.ensures.ok_part) ∙ c.loop-place.invariant.0,
-      taken _ place _ _ _ c.loop-place.invariant.1 g.R.EnumSetTypeRepr.PREFERRED_ARRAY_LEN c.in_ok-word.word _ _ g.met.R.EnumSetTypeRepr.represents.word_count is (omega arith) c.take_word-is_whole.ensures.put (ap (λ b. c.loop-place.is_whole && b) c.take_word-is_whole.ensures.whole),
+      taken _ place _ _ _ c.loop-place.invariant.1 g.R.EnumSetTypeRepr.PREFERRED_ARRAY_LEN c.in_ok-word.word _ _ g.met.R.EnumSetTypeRepr.represents.word_count is (omega arith) c.take.ensures.put c.take.ensures.whole,
     )
 
 pub returns-clause-read : goal.returns-clause-read

@@ -7,4 +7,4 @@ use Rattle.enumset.proofs.set_json.words.read_words.Given as goal
 abbrev pub invariant-loop-place : goal.invariant-loop-place
 invariant-loop-place g l =
     (other_from l.item-items l.place ≡ other_from l.item-items 0)
-    × AreRead (held_words (map view l.item-items)) l.place g.R.EnumSetTypeRepr.WIDTH (g.R.EnumSetTypeRepr.members l.repr) l.is_whole
+    × AreRead (held_words (map view l.item-items)) l.place g.R.EnumSetTypeRepr.WIDTH (g.R.EnumSetTypeRepr.members l.words.repr) l.words.is_whole

@@ -1,0 +1,67 @@
+//! The names of a list or of a map, read one by one.
+
+ghost use Rattle.std.specs.Prelude.{◌≡◌, Some, None, if◌then◌else◌};
+ghost use Rattle.std.specs.Option.{option_map_or, option_or};
+ghost use Rattle.enumset_repr.specs.BitSet.{empty, insert};
+ghost use Rattle.enumset.specs.JsonNames.{decided, is_unknown};
+ghost use Rattle.enumset.specs.Names.{names_of, bit_named};
+
+use super::fault::JsonFault;
+use super::unknown::Unknown;
+use crate::names::{EnumSetNames, find_value};
+use enumset_sets::EnumSet;
+
+/// What the names are that were read so far.
+#[derive(Drop)]
+pub(super) struct NamesRead<T: EnumSetNames> {
+    /// The values that they name and that are members.
+    set: EnumSet<T>,
+    /// The place of the first name that no value has.
+    first_unknown: Option<usize>,
+    /// Where the search for the next name begins in the list of all names.
+    next: usize,
+}
+
+impl<T: EnumSetNames> NamesRead<T> {
+    /// No name was read.
+    #[inline(always)]
+    pub(super) fn new() -> Self
+        ensures set { result.set ≡ empty }
+        ensures first { result.first_unknown ≡ None }
+    {
+        NamesRead {
+            set: EnumSet::new(),
+            first_unknown: None,
+            next: 0,
+        }
+    }
+
+    /// Reads one more name: puts in its value where it is a member, or keeps the place of the first unknown name.
+    #[inline(always)]
+    pub(super) fn take(&mut self, name: &[u8], is_member: bool, place: usize)
+        ensures set { self.new.set ≡ (if is_member
+            then option_map_or (insert self.old.set) (bit_named (names_of T.elements T.names) name.now) self.old.set
+            else self.old.set) }
+        ensures first { self.new.first_unknown ≡ option_or self.old.first_unknown
+            (if is_unknown (names_of T.elements T.names) name.now then Some place else None) }
+    {
+        match find_value(name, &mut self.next) {
+            Some(value) if is_member => {
+                self.set.insert(value);
+            }
+            Some(_) => {}
+            None => self.first_unknown = self.first_unknown.or(Some(place)),
+        }
+    }
+
+    /// The set of the names, unless one is unknown and such names are refused.
+    #[inline(always)]
+    pub(super) fn decided(self, unknown: Unknown) -> Result<EnumSet<T>, JsonFault>
+        ensures { result ≡ decided unknown self.first_unknown self.set }
+    {
+        match (unknown, self.first_unknown) {
+            (Unknown::Refuse, Some(place)) => Err(JsonFault::UnknownName(place)),
+            _ => Ok(self.set),
+        }
+    }
+}
