@@ -5,6 +5,7 @@ mod NamePlaces
 mod NameLaws
 mod NamesTaken
 mod NamesRead
+mod NamesSorted
 mod NamesFound
 pub mod JsonWords
 pub mod JsonLaws

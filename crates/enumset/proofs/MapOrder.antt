@@ -1,5 +1,5 @@
 -- Names of members that rise, as many as there are members, are the names of all members in the order of a map.
-use Rattle.std.proofs.Common.{◌≡◌, ◌⊎◌, inl, inr, ℕ, List, [], ◌∷◌, Bor, refl, sym, ap, ◌∙◌, subst, nat_cmp, Ordering, Less, Equal, Greater, ◌≤◌, ◌+◌, length, suc, arith, is_eq, true≢false, is_lt, true}
+use Rattle.std.proofs.Common.{◌≡◌, ◌⊎◌, inl, inr, ℕ, List, [], ◌∷◌, Bor, refl, sym, ap, ◌∙◌, subst, nat_cmp, Ordering, Less, Equal, Greater, ◌≤◌, ◌+◌, length, suc, arith, is_eq, true≢false, true}
 use Rattle.enumset.proofs.Common.{⊤, Data, nat_list_cmp_total, recursion_from_All, IsTotalOrder, slice_cmp, AllByRecursion, IsStrictlySortedBy, ordering_reverse, match_ordering, BitSet, ascending, len_ascending, boolean, Members, member, members_in, no_members, put, AreRising, IsName, AreMembers, with_bits_true, Names, name_of}
 use Rattle.std.proofs.lemmas.Cmp.{on_total, tied_itself}
 use Rattle.std.proofs.lemmas.List.Elements.{All-weaker}
@@ -100,17 +100,3 @@ pub all_sorted : (names : Names) (s : BitSet) (ns : Texts) → AreMembers names 
 all_sorted names s ns (rising, named, many) =
     let (rises, _, holds, few) = has_all names (ascending s) no_members tt in
     (within ns _ rising rises (recursion_from_All _ ns (All-weaker _ _ (λ n. holds n.now) ns named))).1 (omega (arith, few, many, len_ascending s))
-
--- the name of the first of some bits, and those of the bits after it
-pub first_named : (names : Names) (bits rest all : List ℕ) (b : ℕ) → bits ≡ b ∷ rest → ((t : List ℕ) → IsName names bits t → IsName names all t)
-    → IsName names all (name_of names b) × ((t : List ℕ) → IsName names rest t → IsName names all t)
-first_named names bits rest all b first named =
-    let left = subst (λ bs. (t : List ℕ) → IsName names bs t → IsName names all t) first named in
-    (left _ (inl refl), λ t later. left t (inr later))
-
--- ---- tests of neighbours
-
-pub less : (o : Ordering) → is_lt o ≡ true → o ≡ Less
-less Less is = refl
-less Equal is = absurd (cc)
-less Greater is = absurd (cc)

@@ -14,7 +14,7 @@ use crate::names::EnumSetNames;
 use enumset_sets::EnumSet;
 use std::alloc::{AllocError, Global};
 
-/// A text of names that stand for themselves. There is none where one needs an escape or, of a map, two are the same.
+/// A text of names that stand for themselves. There is none where one needs an escape.
 pub(super) type TextIfPlain = Result<Option<String>, AllocError>;
 
 /// The list of the members' names, unless one of them needs an escape.

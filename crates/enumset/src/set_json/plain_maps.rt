@@ -14,7 +14,7 @@ use crate::names::{EnumSetNames, find_value};
 use enumset_sets::EnumSet;
 use std::alloc::Global;
 
-/// The map of the members' names, unless one of them needs an escape, or two are the same.
+/// The map of the members' names, unless one of them needs an escape.
 pub(super) fn write_plain_map<T: EnumSetNames>(alloc: Global, set: &EnumSet<T>) -> TextIfPlain
     ensures { IsTextIfPlain (map_value (names_of T.elements T.names) set.now) result }
 {
@@ -23,11 +23,7 @@ pub(super) fn write_plain_map<T: EnumSetNames>(alloc: Global, set: &EnumSet<T>) 
         names.push(element.name())?;
     }
     names.sort_unstable();
-    if names.is_sorted_by(|one, other| one < other) {
-        text_of_names(alloc, &names)
-    } else {
-        Ok(None)
-    }
+    text_of_names(alloc, &names)
 }
 
 /// The map of the members' names, unless one of them needs an escape.
