@@ -2,7 +2,7 @@
 
 ghost use Rattle.std.specs.Prelude.{◌≡◌, ◌≤◌, ◌<◌, ◌^◌, OnOk, IfErr};
 ghost use Rattle.enumset_repr.specs.BitSet as set;
-ghost use Rattle.example_expressions.specs.Grammar.{bit, kinds_of, IsExpression, IsFault};
+ghost use Rattle.example_expressions.specs.Grammar.{kinds_of, IsExpression, IsFault};
 ghost use Rattle.example_expressions.specs.States.{next_kinds, Reads, Refuses};
 
 use crate::first::operand_kinds;

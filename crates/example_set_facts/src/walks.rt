@@ -1,6 +1,6 @@
 //! Loops over sets. Each has an invariant in `proofs/walks`: what is there so far and what is still to come make the whole.
 
-ghost use Rattle.std.specs.Prelude.{◌≡◌, ◌+◌, fold, true};
+ghost use Rattle.std.specs.Prelude.{◌≡◌, fold};
 ghost use Rattle.enumset_repr.specs.BitSet as set;
 
 use enumset_sets::{EnumSet, EnumSetType};
