@@ -2,7 +2,6 @@ use enumset::EnumSetType;
 
 /// A day of the week.
 #[derive(EnumSetType, Debug)]
-#[enumset(crate_name = "enumset_sets")]
 pub enum Weekday {
     Monday,
     Tuesday,

@@ -6,7 +6,7 @@ ghost use Rattle.enumset_sets.specs.Elements.{valid_bits};
 ghost use Rattle.example_set_facts.specs.Bits.{permission};
 
 use crate::permissions::Permission;
-use enumset_sets::{EnumSet, EnumSetType, enum_set};
+use enumset::{EnumSet, EnumSetType, enum_set};
 
 /// What a user may do: what the role grants or the user was given, unless it is denied.
 pub fn effective<T: EnumSetType>(

@@ -3,7 +3,7 @@
 ghost use Rattle.std.specs.Prelude.{◌≡◌, ◌≤◌, ◌<◌, ℕ, not, true, IfSome, IfNone};
 ghost use Rattle.enumset_repr.specs.BitSet as set;
 
-use enumset_sets::{EnumSet, EnumSetType};
+use enumset::{EnumSet, EnumSetType};
 
 /// How many elements two sets share.
 #[tactic(auto, using(enumset_repr::specs::Laws::Places::chains))]

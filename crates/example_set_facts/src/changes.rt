@@ -6,7 +6,7 @@ ghost use Rattle.enumset_repr.specs.BitSet.{BitSet};
 ghost use Rattle.example_set_facts.specs.Bits.{feature};
 
 use crate::features::Feature;
-use enumset_sets::{EnumSet, EnumSetType};
+use enumset::{EnumSet, EnumSetType};
 
 /// What a version adds to the one before, and what it removes.
 #[derive(Clone, Copy, Debug)]

@@ -4,7 +4,7 @@ ghost use Rattle.std.specs.Prelude.{◌≡◌, ◌++◌, ◌∷◌, [], true, fo
 ghost use Rattle.std.specs.List.{list_all, list_any};
 ghost use Rattle.enumset_repr.specs.BitSet as set;
 
-use enumset_sets::{EnumSet, EnumSetType};
+use enumset::{EnumSet, EnumSetType};
 use std::alloc::AllocError;
 
 /// What some set of many has.

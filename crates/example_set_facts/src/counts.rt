@@ -4,7 +4,7 @@ ghost use Rattle.std.specs.Prelude.{◌≡◌, ◌↔◌, ◌<◌, ◌≤◌, �
 ghost use Rattle.enumset_repr.specs.BitSet as set;
 ghost use Rattle.enumset_sets.specs.Elements.{valid_bits};
 
-use enumset_sets::{EnumSet, EnumSetType};
+use enumset::{EnumSet, EnumSetType};
 
 /// How many of the needed are missing.
 pub fn missing_count<T: EnumSetType>(have: &EnumSet<T>, need: &EnumSet<T>) -> usize

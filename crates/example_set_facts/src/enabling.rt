@@ -5,7 +5,7 @@ ghost use Rattle.enumset_repr.specs.BitSet as set;
 ghost use Rattle.example_set_facts.specs.Bits.{feature};
 
 use crate::features::Feature;
-use enumset_sets::{EnumSet, EnumSetType};
+use enumset::{EnumSet, EnumSetType};
 
 /// Enables a feature if all that it needs is enabled, and returns whether it did.
 pub fn enable(enabled: &mut EnumSet<Feature>, new: Feature, needs: EnumSet<Feature>) -> bool

@@ -1,4 +1,4 @@
-use enumset_sets::{EnumSet, EnumSetType, EnumSetTypeWithRepr};
+use enumset::{EnumSet, EnumSetType, EnumSetTypeWithRepr};
 
 /// A feature of a service, which may be enabled or not.
 #[derive(Clone, Copy, PartialEq, Eq, Debug)]

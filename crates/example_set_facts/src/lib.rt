@@ -1,12 +1,14 @@
 //! Facts about sets that prove with the line below: what users state of permissions, schedules, parsers, features,
-//! messages, configurations, votes, partitions and counts. Loops have an invariant beside it, and eight functions name a
-//! ruleset, or a definition to unfold, of their own.
-#![tactic(auto, using(enumset_sets::specs::Laws::SetLaws::set_laws))]
+//! messages, configurations, texts in JSON, alarms, votes, partitions and counts. Loops have an invariant beside it, and
+//! eight functions name a ruleset, or a definition to unfold, of their own.
+#![tactic(auto, using(enumset::specs::Laws::SetLaws::set_laws))]
 
 pub mod access;
+pub mod alarms;
 pub mod chains;
 pub mod changes;
 pub mod collections;
+pub mod configs;
 pub mod counts;
 pub mod enabling;
 pub mod features;

@@ -7,7 +7,7 @@ ghost use Rattle.enumset_sets.specs.Elements.{valid_bits};
 ghost use Rattle.example_set_facts.specs.Bits.{feature};
 
 use crate::features::Feature;
-use enumset_sets::{EnumSet, EnumSetType, laws};
+use enumset::{EnumSet, EnumSetType, laws};
 
 /// The known features of a byte. Reserved bits are ignored.
 pub fn known(byte: u8) -> EnumSet<Feature>

@@ -4,7 +4,7 @@ ghost use Rattle.std.specs.Prelude.{◌≡◌, ◌↔◌, ◌&&◌, ◌||◌, �
 ghost use Rattle.enumset_repr.specs.BitSet as set;
 ghost use Rattle.enumset_sets.specs.Elements.{valid_bits};
 
-use enumset_sets::{EnumSet, EnumSetType};
+use enumset::{EnumSet, EnumSetType};
 
 /// The first tokens of two phrases in a row. Those of the second count if the first may be empty.
 pub fn first_of_both<T: EnumSetType>(

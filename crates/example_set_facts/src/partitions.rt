@@ -3,7 +3,7 @@
 ghost use Rattle.std.specs.Prelude.{◌≡◌, ◌↔◌, ◌≤◌, ◌+◌, ℕ, true, false, IfSome, IfNone};
 ghost use Rattle.enumset_repr.specs.BitSet as set;
 
-use enumset_sets::{EnumSet, EnumSetType};
+use enumset::{EnumSet, EnumSetType};
 
 /// The part of a set inside another, and the part outside.
 pub fn split<T: EnumSetType>(whole: &EnumSet<T>, inside: &EnumSet<T>) -> (EnumSet<T>, EnumSet<T>)

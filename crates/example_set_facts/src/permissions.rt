@@ -1,4 +1,4 @@
-use enumset_sets::{EnumSet, EnumSetType, EnumSetTypeWithRepr};
+use enumset::{EnumSet, EnumSetType, EnumSetTypeWithRepr};
 
 /// What a user may do with a document.
 #[derive(Clone, Copy, PartialEq, Eq, Debug)]

@@ -6,7 +6,7 @@ ghost use Rattle.enumset_sets.specs.Elements.{valid_bits};
 ghost use Rattle.example_set_facts.specs.Bits.{day};
 
 use crate::weekdays::Weekday;
-use enumset_sets::{EnumSet, EnumSetType};
+use enumset::{EnumSet, EnumSetType};
 
 /// The next free day of this week, from a day on.
 pub fn next_this_week(free: EnumSet<Weekday>, from: Weekday) -> Option<Weekday>

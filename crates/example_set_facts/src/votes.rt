@@ -3,7 +3,7 @@
 ghost use Rattle.std.specs.Prelude.{◌≡◌, ◌&&◌, ◌||◌, ℕ, true};
 ghost use Rattle.enumset_repr.specs.BitSet as set;
 
-use enumset_sets::{EnumSet, EnumSetType};
+use enumset::{EnumSet, EnumSetType};
 
 /// What at least two of three sets have.
 pub fn majority<T: EnumSetType>(

@@ -3,7 +3,7 @@
 ghost use Rattle.std.specs.Prelude.{◌≡◌, fold};
 ghost use Rattle.enumset_repr.specs.BitSet as set;
 
-use enumset_sets::{EnumSet, EnumSetType};
+use enumset::{EnumSet, EnumSetType};
 
 /// The elements of a set that another one lacks, collected one by one.
 pub fn without<T: EnumSetType>(whole: &EnumSet<T>, other: &EnumSet<T>) -> EnumSet<T>

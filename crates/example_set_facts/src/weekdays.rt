@@ -1,4 +1,4 @@
-use enumset_sets::{EnumSet, EnumSetType, EnumSetTypeWithRepr};
+use enumset::{EnumSet, EnumSetType, EnumSetTypeWithRepr};
 
 /// A day of the week.
 #[derive(Clone, Copy, PartialEq, Eq, Debug)]

@@ -1,0 +1,81 @@
+//! Alarms that are raised, acknowledged and cleared.
+
+ghost use Rattle.std.specs.Prelude.{◌≡◌, ◌↔◌, ◌≤◌, ◌&&◌, ◌||◌, ℕ, not, true, false, IfSome, IfNone};
+ghost use Rattle.enumset_repr.specs.BitSet as set;
+
+use enumset::{EnumSet, EnumSetType};
+
+/// The alarms that are new since the last report.
+pub fn raised_since<T: EnumSetType>(before: &EnumSet<T>, now: &EnumSet<T>) -> EnumSet<T>
+    ensures new { result ≡ set.difference now.now before.now }
+    ensures rest { set.union result (set.intersection before.now now.now) ≡ now.now }
+    ensures none { result ≡ set.empty → set.is_subset now.now before.now ≡ true }
+{
+    now.difference(before.copied())
+}
+
+/// Clears alarms and raises others, and returns whether that changed anything.
+pub fn update<T: EnumSetType>(
+    active: &mut EnumSet<T>,
+    cleared: &EnumSet<T>,
+    raised: &EnumSet<T>,
+) -> bool
+    ensures active { active.new ≡ set.union (set.difference active.old cleared.now) raised.now }
+    ensures changed { result ≡ false ↔ (active.new ≡ active.old) }
+{
+    let before = active.copied();
+    active.remove_all(cleared.copied());
+    active.insert_all(raised.copied());
+    active.copied() != before
+}
+
+/// Alarms stay active until they are both cleared and acknowledged.
+pub fn latched<T: EnumSetType>(
+    active: &EnumSet<T>,
+    cleared: &EnumSet<T>,
+    acknowledged: &EnumSet<T>,
+) -> EnumSet<T>
+    ensures each { (q : ℕ) → set.contains result q ≡ (set.contains active.now q
+        && (not (set.contains cleared.now q) || not (set.contains acknowledged.now q))) }
+    ensures parts { result ≡ set.union (set.difference active.now cleared.now)
+        (set.difference active.now acknowledged.now) }
+{
+    active.difference(cleared.intersection(acknowledged.copied()))
+}
+
+/// Acknowledges an alarm: it moves from the open ones to the known ones, if it is open.
+pub fn acknowledge<T: EnumSetType>(open: &mut EnumSet<T>, known: &mut EnumSet<T>, alarm: T) -> bool
+    requires { set.is_disjoint open.old known.old ≡ true }
+    ensures was_open { result ≡ set.contains open.old (T.elements.bit alarm) }
+    ensures whole { set.union open.new known.new ≡ set.union open.old known.old }
+    ensures apart { set.is_disjoint open.new known.new ≡ true }
+    ensures closed { set.contains open.new (T.elements.bit alarm) ≡ false }
+{
+    let was_open = open.remove(alarm);
+    if was_open {
+        known.insert(alarm);
+    }
+    was_open
+}
+
+/// The greatest active alarm that is not muted.
+pub fn most_urgent<T: EnumSetType>(active: &EnumSet<T>, muted: &EnumSet<T>) -> Option<T>
+    ensures active { IfSome result (λ t. set.contains active.now (T.elements.bit t) ≡ true) }
+    ensures heard { IfSome result (λ t. set.contains muted.now (T.elements.bit t) ≡ false) }
+    ensures greatest { IfSome result (λ t. (q : ℕ) → set.contains active.now q ≡ true
+        → set.contains muted.now q ≡ false → q ≤ T.elements.bit t) }
+    ensures none { IfNone result (set.is_subset active.now muted.now ≡ true) }
+{
+    active.difference(muted.copied()).last()
+}
+
+/// Takes the two least alarms out, if there are two.
+pub fn take_two<T: EnumSetType>(active: &mut EnumSet<T>) -> Option<(T, T)>
+    ensures both { IfSome result (λ two. set.insert (set.insert active.new (T.elements.bit two.0))
+        (T.elements.bit two.1) ≡ active.old) }
+    ensures gone { IfSome result (λ two. set.contains active.new (T.elements.bit two.0) ≡ false) }
+{
+    let first = active.pop_first()?;
+    let second = active.pop_first()?;
+    Some((first, second))
+}

@@ -1,0 +1,190 @@
+//! Features that a text in JSON lists or has as a number, and what is checked of them.
+
+ghost use Rattle.std.specs.Prelude.{◌≡◌, true, Some, Ok, Err, IfOk, IfErr, IfSome, string_bytes};
+ghost use Rattle.std.specs.Prelude.{decimal};
+ghost use Rattle.enumset_repr.specs.BitSet as set;
+ghost use Rattle.enumset_repr.specs.BitSet.{BitSet};
+ghost use Rattle.enumset_repr.specs.Number.{number};
+ghost use Rattle.enumset_sets.specs.Elements.{valid_bits};
+ghost use Rattle.enumset.specs.Json.{set_of_number};
+ghost use Rattle.enumset.specs.JsonNames.{set_of_list};
+ghost use Rattle.enumset.specs.JsonReads.{IsReadOf, value_read};
+ghost use Rattle.enumset.specs.Names.{names_of};
+ghost use Rattle.enumset.specs.declared.set_json.fault.JsonFault.TheVariants as fault;
+ghost use Rattle.enumset.specs.declared.set_json.unknown.Unknown.TheVariants as unknown;
+
+use enumset::set_json::{
+    JsonFault, JsonWidth, Unknown, from_list_text, from_number_text, to_list_text, to_number_text,
+};
+use enumset::{EnumSet, EnumSetNames, EnumSetType, laws};
+use std::alloc::Global;
+
+/// Why the features of a text are refused.
+#[derive(Drop)]
+pub enum Refusal<T: EnumSetType> {
+    /// The text lists no set.
+    Unread(JsonFault),
+    /// These are required, and the text does not list them.
+    Missing(EnumSet<T>),
+    /// The text lists these, and they are forbidden.
+    Forbidden(EnumSet<T>),
+}
+
+impl<T: EnumSetType> From<JsonFault> for Refusal<T> {
+    fn from(fault: JsonFault) -> Refusal<T> {
+        Refusal::Unread(fault)
+    }
+}
+
+/// The features that a text lists. A name of none is a fault.
+pub fn listed<T: EnumSetNames>(alloc: Global, text: &str) -> Result<EnumSet<T>, JsonFault>
+    ensures { IsReadOf (set_of_list (names_of T.elements T.names) unknown.Refuse) text.now result }
+{
+    from_list_text(alloc, text, Unknown::Refuse)
+}
+
+/// The features that a text lists, and the defaults.
+pub fn with_defaults<T: EnumSetNames>(
+    alloc: Global,
+    text: &str,
+    defaults: &EnumSet<T>,
+) -> Result<EnumSet<T>, JsonFault>
+    ensures defaults { IfOk result (λ s. set.is_subset defaults.now s ≡ true) }
+    ensures listed { (s : BitSet)
+        → value_read (set_of_list (names_of T.elements T.names) unknown.Refuse) text.now ≡ Some (Ok s)
+        → IfOk result (λ all. all ≡ set.union s defaults.now) }
+{
+    let listed = listed::<T>(alloc, text)?;
+    Ok(listed.union(defaults.copied()))
+}
+
+/// Features if all that is required is among them.
+pub fn required<T: EnumSetType>(
+    features: &EnumSet<T>,
+    required: &EnumSet<T>,
+) -> Result<EnumSet<T>, Refusal<T>>
+    ensures same { IfOk result (λ s. s ≡ features.now) }
+    ensures has { IfOk result (λ s. set.is_subset required.now s ≡ true) }
+{
+    let missing = required.difference(features.copied());
+    if missing.is_empty() {
+        Ok(features.copied())
+    } else {
+        Err(Refusal::Missing(missing))
+    }
+}
+
+/// Features if none of them is forbidden.
+pub fn permitted<T: EnumSetType>(
+    features: &EnumSet<T>,
+    forbidden: &EnumSet<T>,
+) -> Result<EnumSet<T>, Refusal<T>>
+    ensures same { IfOk result (λ s. s ≡ features.now) }
+    ensures apart { IfOk result (λ s. set.is_disjoint s forbidden.now ≡ true) }
+{
+    let refused = features.intersection(forbidden.copied());
+    if refused.is_empty() {
+        Ok(features.copied())
+    } else {
+        Err(Refusal::Forbidden(refused))
+    }
+}
+
+/// The features that a text lists, if all that is required is among them, and nothing that is forbidden.
+pub fn checked<T: EnumSetNames>(
+    alloc: Global,
+    text: &str,
+    wanted: &EnumSet<T>,
+    forbidden: &EnumSet<T>,
+) -> Result<EnumSet<T>, Refusal<T>>
+    ensures has { IfOk result (λ s. set.is_subset wanted.now s ≡ true) }
+    ensures apart { IfOk result (λ s. set.is_disjoint s forbidden.now ≡ true) }
+    ensures listed { IfOk result (λ s.
+        value_read (set_of_list (names_of T.elements T.names) unknown.Refuse) text.now ≡ Some (Ok s)) }
+{
+    let features = listed(alloc, text)?;
+    let features = required(&features, wanted)?;
+    permitted(&features, forbidden)
+}
+
+/// The place of the first name in a text that is of no feature.
+pub fn unknown_name<T: EnumSetNames>(alloc: Global, text: &str) -> Option<usize>
+    ensures { IfSome result (λ place.
+        value_read (set_of_list (names_of T.elements T.names) unknown.Refuse) text.now
+        ≡ Some (Err (fault.UnknownName place))) }
+{
+    match from_list_text::<T>(alloc, text, Unknown::Refuse) {
+        Err(JsonFault::UnknownName(place)) => Some(place),
+        _ => None,
+    }
+}
+
+/// The text that lists features. It is read as these.
+pub fn written<T: EnumSetNames>(alloc: Global, features: &EnumSet<T>) -> Result<String, JsonFault>
+    ensures reads { IfOk result (λ text. value_read (set_of_list (names_of T.elements T.names) unknown.Refuse)
+        (string_bytes text) ≡ Some (Ok features.now)) }
+    ensures fault { IfErr result (λ f. f ≡ fault.OutOfMemory) }
+{
+    laws::json_list_and_back(features, Unknown::Refuse);
+    to_list_text(alloc, features)
+}
+
+/// Features, written into a text and read again: the same.
+pub fn written_and_read<T: EnumSetNames>(
+    alloc: Global,
+    features: &EnumSet<T>,
+) -> Result<EnumSet<T>, JsonFault>
+    ensures same { IfOk result (λ s. s ≡ features.now) }
+    ensures fault { IfErr result (λ f. f ≡ fault.OutOfMemory) }
+{
+    laws::json_list_and_back(features, Unknown::Refuse);
+    let text = to_list_text(alloc, features)?;
+    from_list_text(alloc, text.as_str(), Unknown::Refuse)
+}
+
+/// The text with one feature more.
+pub fn with_feature<T: EnumSetNames>(alloc: Global, text: &str, new: T) -> Result<String, JsonFault>
+    ensures { (s : BitSet)
+        → value_read (set_of_list (names_of T.elements T.names) unknown.Refuse) text.now ≡ Some (Ok s)
+        → IfOk result (λ text. value_read (set_of_list (names_of T.elements T.names) unknown.Refuse)
+        (string_bytes text) ≡ Some (Ok (set.insert s (T.elements.bit new)))) }
+{
+    let mut features = listed::<T>(alloc, text)?;
+    features.insert(new);
+    written(alloc, &features)
+}
+
+/// The features of a number in a text, if no reserved bit is set.
+pub fn numbered<T: EnumSetType>(alloc: Global, text: &str) -> Result<EnumSet<T>, JsonFault>
+    ensures read { IsReadOf (set_of_number (valid_bits T.elements) 8 unknown.Refuse) text.now result }
+    ensures known { IfOk result (λ s. set.is_subset s (valid_bits T.elements) ≡ true) }
+{
+    from_number_text(alloc, text, JsonWidth::U8, Unknown::Refuse)
+}
+
+/// Whether the number in a text has a reserved bit.
+pub fn has_reserved<T: EnumSetType>(alloc: Global, text: &str) -> bool
+    ensures { result ≡ true
+        → value_read (set_of_number (valid_bits T.elements) 8 unknown.Refuse) text.now
+        ≡ Some (Err fault.UnknownBits) }
+{
+    matches!(
+        from_number_text::<T>(alloc, text, JsonWidth::U8, Unknown::Refuse),
+        Err(JsonFault::UnknownBits)
+    )
+}
+
+/// The number of the features that two texts list.
+pub fn number_of_both<T: EnumSetNames>(
+    alloc: Global,
+    one: &str,
+    other: &str,
+) -> Result<String, JsonFault>
+    ensures { (s t : BitSet)
+        → value_read (set_of_list (names_of T.elements T.names) unknown.Refuse) one.now ≡ Some (Ok s)
+        → value_read (set_of_list (names_of T.elements T.names) unknown.Refuse) other.now ≡ Some (Ok t)
+        → IfOk result (λ text. string_bytes text ≡ decimal (number (set.intersection s t))) }
+{
+    let both = listed::<T>(alloc, one)?.intersection(listed(alloc, other)?);
+    to_number_text(alloc, &both, JsonWidth::U8)
+}
