@@ -1,12 +1,13 @@
 //! Facts about sets that prove with the line below: what users state of permissions, schedules, parsers, features,
 //! messages, configurations, texts in JSON, alarms, votes, partitions and counts. Loops have an invariant beside it, and
-//! eight functions name a ruleset, or a definition to unfold, of their own.
+//! nine functions name a ruleset, or a definition to unfold, of their own.
 #![tactic(auto, using(enumset::specs::Laws::SetLaws::set_laws))]
 
 pub mod access;
 pub mod alarms;
 pub mod chains;
 pub mod changes;
+pub mod choices;
 pub mod collections;
 pub mod configs;
 pub mod counts;
@@ -17,6 +18,8 @@ pub mod parsing;
 pub mod partitions;
 pub mod permissions;
 pub mod schedules;
+pub mod sorted;
+pub mod versions;
 pub mod votes;
 pub mod walks;
 pub mod weekdays;

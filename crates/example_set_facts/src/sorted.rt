@@ -1,0 +1,54 @@
+//! Vectors of sets in their order.
+
+ghost use Rattle.std.specs.Prelude.{◌≡◌, ◌≤◌, ◌++◌, IfOk};
+ghost use Rattle.std.specs.List.{slice_index_or};
+ghost use Rattle.std.specs.List.Sorted.{IsPermutation, IsSorted};
+ghost use Rattle.enumset_repr.specs.BitSet as set;
+ghost use Rattle.enumset_repr.specs.Number.{number};
+ghost use Rattle.enumset_repr.specs.Order.{compare};
+
+use enumset::{EnumSet, EnumSetType, laws};
+use std::alloc::AllocError;
+
+/// Sorts sets.
+pub fn sort<T: EnumSetType>(sets: &mut Vec<EnumSet<T>>)
+    ensures same { IsPermutation sets.old.items sets.new.items }
+    ensures sorted { IsSorted compare sets.new.items }
+{
+    sets.sort_unstable();
+}
+
+/// The sets of two vectors in one, sorted.
+pub fn merged<T: EnumSetType>(
+    one: Vec<EnumSet<T>>,
+    other: &[EnumSet<T>],
+) -> Result<Vec<EnumSet<T>>, AllocError>
+    ensures same { IfOk result (λ all. IsPermutation (one.items ++ other.now) all.items) }
+    ensures sorted { IfOk result (λ all. IsSorted compare all.items) }
+{
+    let mut all = one;
+    all.extend_from_slice(other)?;
+    all.sort_unstable();
+    Ok(all)
+}
+
+/// A place at which sorted sets have a set, or else the place where it belongs.
+pub fn place_of<T: EnumSetType>(sets: &[EnumSet<T>], wanted: &EnumSet<T>) -> Result<usize, usize>
+    ensures { IfOk result (λ k. slice_index_or sets.now k set.empty ≡ wanted.now) }
+{
+    sets.binary_search(wanted)
+}
+
+/// Two sets, the lesser first.
+#[tactic(auto, using(enumset_repr::specs::Laws::Decided::decided))]
+pub fn in_order<T: EnumSetType>(one: EnumSet<T>, other: EnumSet<T>) -> (EnumSet<T>, EnumSet<T>)
+    ensures ordered { number result.0 ≤ number result.1 }
+    ensures same { set.union result.0 result.1 ≡ set.union one other }
+{
+    laws::order();
+    if one <= other {
+        (one, other)
+    } else {
+        (other, one)
+    }
+}
