@@ -1,6 +1,6 @@
 //! How many members sets have.
 
-ghost use Rattle.std.specs.Prelude.{◌≡◌, ◌↔◌, ◌<◌, ◌≤◌, ◌+◌, ◌*◌, true, false};
+ghost use Rattle.std.specs.Prelude.{◌≡◌, ◌↔◌, ◌<◌, ◌≤◌, ◌+◌, ◌*◌, true, false, IfSome};
 ghost use Rattle.enumset_repr.specs.BitSet as set;
 ghost use Rattle.enumset_sets.specs.Elements.{valid_bits};
 
@@ -100,6 +100,27 @@ pub fn is_no_larger<T: EnumSetType>(part: &EnumSet<T>, whole: &EnumSet<T>) -> bo
     ensures { result ≡ true }
 {
     part.len() <= whole.len()
+}
+
+/// Whether a part is the whole, told by counts.
+#[tactic(auto, using(enumset_repr::specs::Laws::Decided::decided, enumset_repr::specs::Laws::DecidedCounts::counts, enumset_repr::specs::Laws::DecidedCounts::counts_of_parts))]
+pub fn is_whole<T: EnumSetType>(part: &EnumSet<T>, whole: &EnumSet<T>) -> bool
+    requires { set.is_subset part.now whole.now ≡ true }
+    ensures { result ≡ true ↔ (part.now ≡ whole.now) }
+{
+    part.len() == whole.len()
+}
+
+/// The only member, if there is one alone.
+#[tactic(auto, using(enumset_repr::specs::Laws::Decided::decided, enumset_repr::specs::Laws::DecidedEnds::ends, enumset_repr::specs::Laws::DecidedCounts::counts, enumset_repr::specs::Laws::DecidedCounts::counts_of_parts))]
+pub fn sole<T: EnumSetType>(members: &EnumSet<T>) -> Option<T>
+    ensures { IfSome result (λ t. members.now ≡ set.only (T.elements.bit t)) }
+{
+    if members.len() == 1 {
+        members.first()
+    } else {
+        None
+    }
 }
 
 /// Whether two sets share a member, since their union has fewer members than both have.

@@ -32,7 +32,7 @@ pub fn merged<T: EnumSetType>(
     Ok(all)
 }
 
-/// A place at which sorted sets have a set, or else the place where it belongs.
+/// A place at which a list of sets has the wanted one, if a binary search finds it.
 pub fn place_of<T: EnumSetType>(sets: &[EnumSet<T>], wanted: &EnumSet<T>) -> Result<usize, usize>
     ensures { IfOk result (λ k. slice_index_or sets.now k set.empty ≡ wanted.now) }
 {
