@@ -1,6 +1,6 @@
 //! Facts about sets that prove with the line below: what users state of permissions, schedules, parsers, features,
 //! messages, configurations, texts in JSON, alarms, votes, partitions and counts. Loops have an invariant beside it, and
-//! nine functions name a ruleset, or a definition to unfold, of their own.
+//! a few functions name a ruleset, or a definition to unfold, of their own.
 #![tactic(auto, using(enumset::specs::Laws::SetLaws::set_laws))]
 
 pub mod access;
