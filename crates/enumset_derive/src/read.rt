@@ -1,5 +1,6 @@
 //! Reads what a source text has, by a function for each thing of its grammar.
 
+mod aliases;
 mod discriminants;
 mod enums;
 mod expressions;
@@ -17,9 +18,10 @@ use crate::plan::*;
 use crate::source::{Element, Form, Gap, Import, Name, Source};
 use crate::space::Space;
 use crate::tokens::{Kind, Token, Tokens, UNCLOSED_BRACKET, names_last};
+use aliases::{Aliases, name_of_type};
 use imports::{after_root, has_alloc, renamed_crate};
-use items::is_qualified;
-use parts::{Bearer, Part, derive_among, renamed_derive, write_comments};
+use items::{NAMED, is_qualified};
+use parts::{Bearer, Part, derive_among, write_comments};
 use std::alloc::{AllocError, Global};
 use std::collections::{BTreeMap, BTreeSet};
 use std::mem;
@@ -64,14 +66,14 @@ pub fn read_source<'a>(alloc: Global, text: &'a str, found: &Tokens<'a>) -> Outc
         alloc,
         cursor,
         source,
-        derive: renamed_derive(tokens),
+        aliases: Aliases::among(alloc, tokens)?,
         is_in_head: true,
         used: BTreeSet::new(alloc),
         given: Vec::new(alloc),
         serde: Vec::new(alloc),
         discriminant_type: NumberType::OF_ENUMS,
         declared: BTreeMap::new(alloc),
-        serializers: Vec::new(alloc),
+        serializers: BTreeMap::new(alloc),
         derived: Vec::new(alloc),
         has_alloc: has_alloc(tokens),
         is_without_item: false,
@@ -92,8 +94,8 @@ struct Reader<'a, 'b> {
     alloc: Global,
     cursor: Cursor<'a, 'b>,
     source: Source<'a>,
-    /// The other name under which it imports `EnumSetType`, if there is one.
-    derive: &'a str,
+    /// The other names that it gives.
+    aliases: Aliases<'a>,
     /// Whether no item was read.
     is_in_head: bool,
     /// The names in the kept derives and in items but imports and element types, and with such an item `*` and `_`.
@@ -106,8 +108,8 @@ struct Reader<'a, 'b> {
     discriminant_type: NumberType,
     /// The functions, types, traits and modules so far, by their names in small letters.
     declared: BTreeMap<String, &'b Token<'a>>,
-    /// Where `Serialize` and `Deserialize` are implemented by hand, and for which type.
-    serializers: Vec<(&'b Token<'a>, &'a str)>,
+    /// The types for which `Serialize` or `Deserialize` is implemented by hand, and where that is first.
+    serializers: BTreeMap<&'a str, &'b Token<'a>>,
     /// What the attributes of an item derive so far, by its last name.
     derived: Vec<Token<'a>>,
     /// Whether the source names Rust's crate `alloc`.
@@ -144,7 +146,7 @@ impl<'a, 'b> Reader<'a, 'b> {
         let is_kept = self
             .cursor
             .read_part()?
-            .has_meaning(Bearer::Text, self.derive)?;
+            .has_meaning(Bearer::Text, &self.aliases)?;
         let text = self.cursor.text_since(begin.begin());
         if is_kept {
             let text = String::from_str(self.alloc, text)?;
@@ -265,6 +267,7 @@ impl<'a, 'b> Cursor<'a, 'b> {
         for word in path {
             let is_part = word.is_name() || word.is_mark(":{},*");
             word.want(is_part, "wanted: a path, or `;`")?;
+            word.want(!KEYWORDS.contains(&word.text), KEYWORD)?;
         }
         Ok(path)
     }

@@ -53,7 +53,10 @@ impl<'a, 'b> Reader<'a, 'b> {
             self.note(named.place, DROPPED)?;
         }
         self.test_crate_name(&declaration.options, name)?;
-        let other_json = parts.iter().find_map(|part| part.other_json());
+        let mut others = parts
+            .iter()
+            .filter_map(|part| part.other_json(&self.aliases));
+        let other_json = others.next();
         if let (Some(other), true) = (other_json, declaration.options.are_named()) {
             return Err(other.fault(OWN_JSON));
         }
@@ -107,7 +110,7 @@ impl<'a, 'b> Reader<'a, 'b> {
                 "serde" => derives(of, "Serialize") || derives(of, "Deserialize"),
                 "default" if variant.is_some() => derives(of, "Default"),
                 "error" => derives(of, "Error"),
-                _ => part.has_meaning(bearer, self.derive)?,
+                _ => part.has_meaning(bearer, &self.aliases)?,
             };
             if is_kept {
                 write!(kept, "{start}{}\n", part.text)?;

@@ -14,6 +14,9 @@ const INSIDE_TESTS: &str = concat!(
 
 const SET_CONSTANT: &str = "a constant cannot be a set here: write a function that returns it";
 
+const CALLS_SETS: &str =
+    "a constant calls no function of sets here: write a function that returns it";
+
 impl<'a, 'b> Reader<'a, 'b> {
     /// A fault if an item has an element type or a set in a constant. Takes in what it implements of `serde` by hand.
     pub(super) fn test_item(
@@ -22,21 +25,41 @@ impl<'a, 'b> Reader<'a, 'b> {
         tokens: &'b [Token<'a>],
         is_test: bool,
     ) -> Outcome {
-        if let Some(derive) = derive_inside(tokens, self.derive) {
+        if let Some(derive) = derive_inside(tokens, &self.aliases) {
             return Err(derive.fault(if is_test { INSIDE_TESTS } else { INSIDE }));
         }
-        let is_set = is_set_constant(keyword, tokens);
-        keyword.want(!is_set, SET_CONSTANT)?;
-        for (index, pair) in tokens.array_windows::<2>().enumerate() {
-            let [before, word] = pair;
-            let rest = tokens.get(index.saturating_add(2)..).unwrap_or(&[]);
-            let is_set = !before.is_mark("<,*") && is_set_constant(word, rest);
-            word.want(!is_set, SET_CONSTANT)?;
-            if matches!(word.text, "Serialize" | "Deserialize") {
-                let implemented = implemented_for(rest);
-                self.serializers
-                    .extend(implemented.map(|name| (word, name)))?;
+        let mut constants = Constants {
+            open: Vec::new(self.alloc),
+        };
+        let mut before = keyword;
+        constants.begin(keyword, tokens)?;
+        for (index, word) in tokens.iter().enumerate() {
+            let rest = tokens.get(index.saturating_add(1)..).unwrap_or(&[]);
+            constants.end(word);
+            constants.take(word, rest, &self.aliases)?;
+            if !before.is_mark("<,*") {
+                constants.begin(word, rest)?;
             }
+            self.take_serializer(word, rest)?;
+            before = word;
+        }
+        Ok(())
+    }
+
+    /// Takes in what the tokens after the name of a trait implement by hand, if the trait is one of `serde`.
+    fn take_serializer(&mut self, name: &'b Token<'a>, rest: &'b [Token<'a>]) -> Outcome {
+        if !matches!(
+            self.aliases.original(name.text),
+            "Serialize" | "Deserialize"
+        ) {
+            return Ok(());
+        }
+        let Some(bearer) = implemented_for(rest) else {
+            return Ok(());
+        };
+        let bearer = self.aliases.original(bearer.text);
+        if !self.serializers.contains_key(bearer) {
+            self.serializers.insert(bearer, name)?;
         }
         Ok(())
     }
@@ -46,9 +69,8 @@ impl<'a, 'b> Reader<'a, 'b> {
         for item in &self.source.items {
             if let Form::Element(element) = &item.form {
                 let declaration = &element.declaration;
-                let is_of = |(_, name): &&(&Token, &str)| *name == declaration.name;
-                let by_hand = self.serializers.iter().find(is_of);
-                if let (Some((token, _)), true) = (by_hand, declaration.options.are_named()) {
+                let by_hand = self.serializers.get(declaration.name);
+                if let (Some(token), true) = (by_hand, declaration.options.are_named()) {
                     return Err(token.fault(OWN_JSON));
                 }
             }
@@ -58,9 +80,9 @@ impl<'a, 'b> Reader<'a, 'b> {
 }
 
 /// The first `EnumSetType` that an attribute derives among the tokens of an item. What `stringify!` is given is a text.
-fn derive_inside<'b>(tokens: &'b [Token<'b>], renamed: &str) -> Option<&'b Token<'b>> {
+fn derive_inside<'b>(tokens: &'b [Token<'b>], aliases: &Aliases) -> Option<&'b Token<'b>> {
     let mut chunks = tokens.split(|word| word.is("stringify"));
-    chunks.find_map(|tokens| derive_among(after_text(tokens), renamed))
+    chunks.find_map(|tokens| derive_among(after_text(tokens), aliases))
 }
 
 /// The tokens after the brackets that `!` and they begin with, if they do.
@@ -75,34 +97,90 @@ fn after_text<'b>(tokens: &'b [Token<'b>]) -> &'b [Token<'b>] {
     rest.get(end.unwrap_or(rest.len())..).unwrap_or(&[])
 }
 
-/// Whether a keyword and the tokens after it are a constant whose value makes a set.
-fn is_set_constant(keyword: &Token, rest: &[Token]) -> bool {
-    let is_declared = match rest {
-        [name, colon, ..] => colon.is(":") || matches!(name.text, "mut" | "ref"),
-        _ => false,
-    };
-    if !matches!(keyword.text, "const" | "static") || !is_declared {
-        return false;
+/// A constant or a static of which the `;` at its end was not read.
+#[derive(Clone, Copy)]
+struct Constant<'a, 'b> {
+    keyword: &'b Token<'a>,
+    /// Whether the `=` before its value was read.
+    has_value: bool,
+    /// Whether its type has a set in it.
+    has_set: bool,
+    /// Whether its value names a function of sets.
+    names_function: bool,
+    /// Whether its value calls something or joins elements.
+    is_made: bool,
+}
+
+/// The constants at a place, the innermost last. Each is in more brackets than that before it.
+#[derive(Drop)]
+struct Constants<'a, 'b> {
+    open: Vec<Constant<'a, 'b>>,
+}
+
+impl<'a, 'b> Constants<'a, 'b> {
+    /// Goes into a constant, if a word with these tokens after it begins one.
+    fn begin(&mut self, keyword: &'b Token<'a>, rest: &[Token<'a>]) -> Outcome {
+        let is_declared = match rest {
+            [name, colon, ..] => colon.is(":") || matches!(name.text, "mut" | "ref"),
+            _ => false,
+        };
+        if !matches!(keyword.text, "const" | "static") || !is_declared {
+            return Ok(());
+        }
+        self.leave(keyword.depth);
+        Ok(
+            self.open.push(Constant {
+                keyword,
+                has_value: false,
+                has_set: false,
+                names_function: false,
+                is_made: false,
+            })?,
+        )
     }
-    let is_end = |word: &Token| word.is(";") && word.depth <= keyword.depth;
-    let end = rest.iter().position(is_end).unwrap_or(rest.len());
-    let declared = rest.get(..end).unwrap_or(&[]);
-    let is_equal = |word: &Token| word.is("=") && word.depth == keyword.depth;
-    let Some(equal) = declared.iter().position(is_equal) else {
-        return false;
-    };
-    let (form, value) = declared.split_at(equal);
-    let has_set = form.iter().any(|word| word.is("EnumSet"));
-    let is_made = value.iter().any(|word| word.is_mark("!|("));
-    value.iter().any(|word| word.is("enum_set")) || (has_set && is_made)
+
+    /// Goes out of the constants that a word ends: a `;`, or the end of the brackets that they are in.
+    fn end(&mut self, word: &Token) {
+        self.leave(match word.text {
+            ";" => word.depth,
+            _ => word.depth.saturating_add(1),
+        });
+    }
+
+    /// Goes out of the constants in at least so many brackets.
+    fn leave(&mut self, depth: u32) {
+        for _ in 0..self.open.len() {
+            match self.open.last() {
+                Some(last) if last.keyword.depth >= depth => {}
+                _ => break,
+            }
+            let _ = self.open.pop();
+        }
+    }
+
+    /// Takes in a word of the innermost constant. It is a fault if its value makes a set or calls a function of sets.
+    fn take(&mut self, word: &Token, rest: &[Token], aliases: &Aliases) -> Outcome {
+        let Some(constant) = self.open.last_mut() else {
+            return Ok(());
+        };
+        if !constant.has_value {
+            constant.has_value = word.is("=") && word.depth == constant.keyword.depth;
+            constant.has_set |= aliases.names_set(word);
+            return Ok(());
+        }
+        let is_path = rest.first().is_some_and(|next| next.is_mark(":"));
+        constant.names_function |= is_path && aliases.names_set(word);
+        constant.is_made |= word.is_mark("!|(");
+        let is_macro = aliases.is_for(word.text, "enum_set");
+        let is_set = is_macro || (constant.has_set && constant.is_made);
+        constant.keyword.want(!is_set, SET_CONSTANT)?;
+        let is_call = constant.names_function && word.is_mark("(");
+        constant.keyword.want(!is_call, CALLS_SETS)
+    }
 }
 
 /// The name of the type in `for TYPE`, or `<'de> for TYPE`, with which these tokens begin.
-fn implemented_for<'a>(tokens: &[Token<'a>]) -> Option<&'a str> {
+fn implemented_for<'a, 'b>(tokens: &'b [Token<'a>]) -> Option<&'b Token<'a>> {
     let at = tokens.iter().take(4).position(|word| word.is("for"))?;
-    let path = tokens.get(at.saturating_add(1)..)?;
-    let path = path.iter().take_while(|word| (word.is_name() && !word.is("where"))
-        || word.is_mark(":"));
-    let name = path.filter(|word| word.is_name()).last()?;
-    Some(name.text)
+    name_of_type(tokens.get(at.saturating_add(1)..)?)
 }

@@ -3,7 +3,7 @@
 use super::*;
 
 /// What has a name in the module.
-const NAMED: [&str; 9] = [
+pub(super) const NAMED: [&str; 9] = [
     "struct", "enum", "union", "trait", "type", "mod", "fn", "const", "static",
 ];
 
@@ -19,7 +19,7 @@ impl<'a, 'b> Reader<'a, 'b> {
         let begin = self.cursor;
         self.derived.clear();
         let parts = self.cursor.read_parts(self.alloc)?;
-        if derive_among(self.cursor.tokens_since(&begin), self.derive).is_some() {
+        if derive_among(self.cursor.tokens_since(&begin), &self.aliases).is_some() {
             return self.read_element(parts.as_slice());
         }
         let item = self.cursor;
@@ -97,7 +97,7 @@ impl<'a, 'b> Reader<'a, 'b> {
     /// Writes what is kept of a comment or an attribute of an item that is no element type, on a line of its own.
     fn write_part(&mut self, out: &mut String, part: &Part<'a, 'b>) -> Outcome {
         if !part.name.is("derive") {
-            return match part.has_meaning(Bearer::Item, self.derive)? {
+            return match part.has_meaning(Bearer::Item, &self.aliases)? {
                 true => Ok(write!(out, "{}\n", part.text)?),
                 false => self.leave_out(part.begin.place, part.text),
             };

@@ -85,9 +85,8 @@ pub(super) struct Part<'a, 'b> {
 }
 
 impl<'a, 'b> Part<'a, 'b> {
-    /// Whether it is kept. `EnumSetType` may have another name, `renamed`. It is a fault if nothing right would come of
-    /// keeping it or of leaving it out.
-    pub fn has_meaning(&self, bearer: Bearer, renamed: &str) -> Outcome<bool> {
+    /// Whether it is kept. It is a fault if nothing right would come of keeping it or of leaving it out.
+    pub fn has_meaning(&self, bearer: Bearer, aliases: &Aliases) -> Outcome<bool> {
         let (name, tokens) = (self.name, self.tokens);
         let is_item = matches!(bearer, Bearer::Item);
         let is_type = is_item || matches!(bearer, Bearer::Enum);
@@ -104,7 +103,7 @@ impl<'a, 'b> Part<'a, 'b> {
             "cfg" if !self.is_written(&["(", "test", ")", "]"]) => return Err(name.fault(
                 CONFIGURATION,
             )),
-            "cfg_attr" if derive_among(tokens, renamed).is_some() => return Err(name.fault(
+            "cfg_attr" if derive_among(tokens, aliases).is_some() => return Err(name.fault(
                 DERIVE_ALONE,
             )),
             "cfg_attr" if self.calls("enumset") => return Err(name.fault(OPTIONS_ALONE)),
@@ -134,12 +133,14 @@ impl<'a, 'b> Part<'a, 'b> {
     }
 
     /// Whether it derives what writes or reads the enum in JSON in another way than `serde` does.
-    pub fn other_json(&self) -> Option<&'b Token<'a>> {
-        let mut tokens = self.tokens.iter().filter(|_| self.name.is("derive"));
-        tokens.find(|word| {
-            let begins = word.text.starts_with("Serialize") || word.text.starts_with("Deserialize");
-            begins && !word.is("Serialize") && !word.is("Deserialize")
-        })
+    pub fn other_json(&self, aliases: &Aliases<'a>) -> Option<&'b Token<'a>> {
+        let is_read = matches!(self.name.text, "derive" | "cfg_attr");
+        let mut derives = self.tokens.split(|word| word.is("derive")).skip(1);
+        derives.filter(|_| is_read).find_map(|derived| derived.iter().find(|word| {
+            let name = aliases.original(word.text);
+            let begins = name.starts_with("Serialize") || name.starts_with("Deserialize");
+            begins && !matches!(name, "Serialize" | "Deserialize")
+        }))
     }
 
     /// Its arguments, each with the mark at its end. The last is a fault if the attribute does not end after them.
@@ -173,14 +174,17 @@ pub(super) fn write_comments(out: &mut String, comments: &[Token]) -> Result<(),
     Ok(())
 }
 
-/// The first `EnumSetType`, or its other name, that an attribute derives among these tokens.
-pub(super) fn derive_among<'b>(tokens: &'b [Token<'b>], renamed: &str) -> Option<&'b Token<'b>> {
+/// The first `EnumSetType`, or other name for it, that an attribute derives among these tokens.
+pub(super) fn derive_among<'b>(
+    tokens: &'b [Token<'b>],
+    aliases: &Aliases,
+) -> Option<&'b Token<'b>> {
     let mut attributes = tokens.split(|word| word.is_mark("#"));
-    attributes.find_map(|attribute| derive_in(attribute, renamed))
+    attributes.find_map(|attribute| derive_in(attribute, aliases))
 }
 
 /// The first that an attribute derives, which these tokens may begin with, from its `[` on.
-fn derive_in<'b>(attribute: &'b [Token<'b>], renamed: &str) -> Option<&'b Token<'b>> {
+fn derive_in<'b>(attribute: &'b [Token<'b>], aliases: &Aliases) -> Option<&'b Token<'b>> {
     let [bracket, name, ..] = attribute else {
         return None;
     };
@@ -195,15 +199,8 @@ fn derive_in<'b>(attribute: &'b [Token<'b>], renamed: &str) -> Option<&'b Token<
             .split_first()
             .filter(|(open, _)| open.is_mark("([{"))?;
         let mut derived = derived.iter().take_while(|word| word.depth >= open.depth);
-        derived.find(|word| word.is("EnumSetType") || word.is(renamed))
+        derived.find(|word| aliases.is_for(word.text, "EnumSetType"))
     })
-}
-
-/// The name `F` of `EnumSetType as F` among these tokens, or an empty text.
-pub(super) fn renamed_derive<'a>(tokens: &[Token<'a>]) -> &'a str {
-    let mut tokens = tokens.array_windows::<3>();
-    let renamed = tokens.find(|[name, by, _]| name.is("EnumSetType") && by.is("as"));
-    renamed.map_or("", |[_, _, new]| new.text)
 }
 
 /// The path that an argument of a derive is. Rust's `core` is `std` here.
@@ -322,8 +319,8 @@ impl<'a, 'b> Reader<'a, 'b> {
     fn keep(&mut self, kept: &mut Vec<String>, argument: &[Token<'a>]) -> Outcome<bool> {
         let path = path_of(self.alloc, argument)?;
         let is_known = is_known(path.as_str());
-        let own = ["EnumSetType", self.derive];
-        let is_own = own.iter().any(|own| names_last(path.as_str(), own));
+        let last = path.as_str().rsplit("::").next().unwrap_or("");
+        let is_own = self.aliases.is_for(last, "EnumSetType");
         if is_known || is_own {
             self.test_derived(argument)?;
         }

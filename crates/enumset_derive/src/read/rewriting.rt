@@ -39,6 +39,9 @@ impl<'a, 'b> Reader<'a, 'b> {
     fn rewrite_token(&mut self, out: &mut String, rewriting: &mut Rewriting<'a, 'b>) -> Outcome {
         let begin = rewriting.at.token;
         let is_in_macro = begin.begin() < rewriting.macro_end;
+        if !is_in_macro {
+            rewriting.at.test_keyword()?;
+        }
         if self.is_root(&rewriting.at) {
             out.push_str(rewriting.text_before(begin))?;
             out.push_str("std")?;
@@ -74,7 +77,7 @@ impl<'a, 'b> Reader<'a, 'b> {
             derived = self.derive_text(&part)?;
         }
         if derived.is_none()
-            && (HELPERS.contains(&part.name.text) || part.has_meaning(bearer, self.derive)?)
+            && (HELPERS.contains(&part.name.text) || part.has_meaning(bearer, &self.aliases)?)
         {
             return Ok(());
         }
@@ -106,6 +109,16 @@ impl<'a, 'b> Rewriting<'a, 'b> {
 }
 
 impl<'a, 'b> Cursor<'a, 'b> {
+    /// A fault if a name here is a keyword in Rattle. After a keyword a clause has a name, `{` or `*`.
+    fn test_keyword(&self) -> Outcome {
+        let next = self.tokens.first().unwrap_or(self.token);
+        let is_named = NAMED.contains(&self.token.text) || self.token.is("for");
+        next.want(!(is_named && KEYWORDS.contains(&next.text)), KEYWORD)?;
+        let is_clause = next.is_name() || next.is_mark("{*");
+        let is_name = KEYWORDS.contains(&self.token.text) && !is_clause;
+        self.token.want(!is_name, KEYWORD)
+    }
+
     /// Whether a call or a definition of a macro begins here.
     fn is_macro(&self) -> bool {
         let is_name = self.token.is_name() && !BEFORE_NOT.contains(&self.token.text);

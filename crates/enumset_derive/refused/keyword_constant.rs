@@ -1,0 +1,6 @@
+#[derive(EnumSetType)]
+enum Color {
+    Red,
+}
+
+pub const requires: u8 = 1;

@@ -1,0 +1,4 @@
+struct Spirit {
+    name: u8,
+    pub ghost: bool,
+}

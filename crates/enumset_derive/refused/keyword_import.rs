@@ -1,0 +1,1 @@
+use crate::{orders::requires as needs, rights};

@@ -1,0 +1,5 @@
+mod orders {
+    pub struct ensures {
+        pub length: usize,
+    }
+}

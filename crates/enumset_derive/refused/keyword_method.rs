@@ -1,0 +1,9 @@
+struct Order {
+    length: usize,
+}
+
+impl Order {
+    fn requires(&self) -> usize {
+        self.length
+    }
+}

@@ -1,0 +1,3 @@
+fn twice(ghost: u8) -> u8 {
+    ghost * 2
+}

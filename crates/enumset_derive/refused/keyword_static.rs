@@ -1,0 +1,1 @@
+static ghost: u8 = 1;

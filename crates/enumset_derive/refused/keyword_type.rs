@@ -1,0 +1,1 @@
+pub type ensures = u8;
