@@ -11,6 +11,15 @@ const WRONG_FORM: &str =
 
 const WRONG_CRATE: &str = "`crate_name` is a name, as \"enumset\" or \"crate\"";
 
+/// The words with which no path begins.
+const NO_ROOTS: [&str; 53] = [
+    "_", "Self", "abstract", "as", "async", "await", "become", "box", "break", "const", "continue",
+    "do", "dyn", "else", "ensures", "enum", "extern", "false", "final", "fn", "for", "ghost",
+    "gen", "if", "impl", "in", "let", "loop", "macro", "match", "mod", "move", "mut", "override",
+    "priv", "pub", "ref", "requires", "return", "static", "struct", "trait", "true", "try", "type",
+    "typeof", "unsafe", "unsized", "use", "virtual", "where", "while", "yield",
+];
+
 const OLD_LIST: &str = "`serialize_as_list` is written `serialize_repr = \"list\"`";
 
 impl<'a, 'b> Reader<'a, 'b> {
@@ -80,11 +89,13 @@ fn read_option<'a>(options: &mut Options<'a>, name: &Token<'a>, rest: &[Token<'a
     Ok(())
 }
 
-/// Whether a text is a name, as that of a crate: letters, digits and `_`, and no digit first.
+/// Whether a text is a name, as that of a crate: letters, digits and `_`, no digit first, and no keyword but `crate` and
+/// such.
 fn is_crate_name(text: &str) -> bool {
     let is_letter = |letter: char| letter.is_ascii_alphanumeric() || letter == '_';
     let is_digit = |letter: char| letter.is_ascii_digit();
-    !text.is_empty() && text.chars().all(is_letter) && !text.starts_with(is_digit)
+    let is_plain = text.chars().all(is_letter) && !text.starts_with(is_digit);
+    !text.is_empty() && is_plain && !NO_ROOTS.contains(&text)
 }
 
 /// The value after `=` in what comes after a name, and the text in its quotes.

@@ -1,0 +1,5 @@
+#[derive(EnumSetType)]
+#[enumset(crate_name = "ensures")]
+enum Color {
+    Red,
+}

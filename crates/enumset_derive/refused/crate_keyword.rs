@@ -1,0 +1,5 @@
+#[derive(EnumSetType)]
+#[enumset(crate_name = "fn")]
+enum Color {
+    Red,
+}

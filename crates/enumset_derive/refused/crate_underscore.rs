@@ -1,0 +1,5 @@
+#[derive(EnumSetType)]
+#[enumset(no_ops, crate_name = "_")]
+enum Color {
+    Red,
+}
