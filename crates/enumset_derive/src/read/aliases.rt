@@ -17,15 +17,23 @@ impl<'a> Aliases<'a> {
             originals: BTreeMap::new(alloc),
             with_sets: BTreeSet::new(alloc),
         };
+        // A type of its own hides an associated type of the same name.
+        let mut declared: BTreeSet<&str> = BTreeSet::new(alloc);
+        for [keyword, name] in tokens.array_windows::<2>() {
+            if matches!(keyword.text, "struct" | "enum" | "union") {
+                declared.insert(name.text)?;
+            }
+        }
+        let is_free = |name: &Token| !declared.contains(name.text);
         for item in tokens.split(|token| token.is(";")) {
             aliases.take_import(item)?;
-            if let Some((name, value)) = type_alias(item) {
+            if let Some((name, value)) = type_alias(item).filter(|(name, _)| is_free(name)) {
                 aliases.insert(name, name_of_type(value))?;
             }
         }
         aliases.follow(alloc)?;
         for item in tokens.split(|token| token.is(";")) {
-            if let Some((name, value)) = type_alias(item) {
+            if let Some((name, value)) = type_alias(item).filter(|(name, _)| is_free(name)) {
                 if value.iter().any(|word| aliases.names_set(word)) {
                     aliases.with_sets.insert(name.text)?;
                 }
