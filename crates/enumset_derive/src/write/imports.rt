@@ -10,10 +10,11 @@ const RENAMED: &str = "import it from `enumset`, or name its crate by `crate_nam
 pub(super) fn imports_of(alloc: Global, source: &Source) -> Outcome<String> {
     let imported = source.imports.iter().map(|name| name.as_str());
     let mut imports: BTreeSet<&str> = imported.collect(alloc)?;
+    let mut needed: BTreeSet<&str> = BTreeSet::new(alloc);
     for item in &source.items {
         if let Form::Element(element) = &item.form {
             for (is_needed, name) in needed_by(element) {
-                if is_needed && is_free(source, name)? {
+                if is_needed && needed.insert(name)? && is_free(source, name)? {
                     imports.insert(name)?;
                 }
             }
