@@ -126,8 +126,8 @@ fn text_of(input: &[u8]) -> Outcome<&str> {
 }
 
 /// Writes a text to a file, or to standard output.
-fn write_module<R: Files + Print + AllocGlobal>(rt: &R, to: &Request, text: &str) -> Outcome {
-    let Some(file) = to.file else {
+fn write_module<R: Files + Print + AllocGlobal>(rt: &R, request: &Request, text: &str) -> Outcome {
+    let Some(file) = request.file else {
         let written = io::writer(rt).write_all(text.as_bytes());
         return written.map_err(|_| DeriveError::Stream("writing failed"));
     };

@@ -25,7 +25,6 @@ use parts::{Bearer, Part, derive_among, write_comments};
 use std::alloc::{AllocError, Global};
 use std::collections::{BTreeMap, BTreeSet};
 use std::mem;
-use values::NumberType;
 
 /// The words that are keywords in Rattle and names in Rust.
 const KEYWORDS: [&str; 3] = ["ghost", "requires", "ensures"];
@@ -69,9 +68,6 @@ pub fn read_source<'a>(alloc: Global, text: &'a str, found: &Tokens<'a>) -> Outc
         aliases: Aliases::among(alloc, tokens)?,
         is_in_head: true,
         used: BTreeSet::new(alloc),
-        given: Vec::new(alloc),
-        serde: Vec::new(alloc),
-        discriminant_type: NumberType::OF_ENUMS,
         declared: BTreeMap::new(alloc),
         serializers: BTreeMap::new(alloc),
         derived: Vec::new(alloc),
@@ -100,12 +96,6 @@ struct Reader<'a, 'b> {
     is_in_head: bool,
     /// The names in the kept derives and in items but imports and element types, and with such an item `*` and `_`.
     used: BTreeSet<&'a str>,
-    /// The names of the options that the enum is given, in their order.
-    given: Vec<&'b Token<'a>>,
-    /// Its attributes that `serde` is in: of each how many variants come before it, if it is a variant's; if it stays.
-    serde: Vec<(Part<'a, 'b>, Option<usize>, bool)>,
-    /// The type of its discriminants.
-    discriminant_type: NumberType,
     /// The functions, types, traits and modules so far, by their names in small letters.
     declared: BTreeMap<String, &'b Token<'a>>,
     /// The types for which `Serialize` or `Deserialize` is implemented by hand, and where that is first.

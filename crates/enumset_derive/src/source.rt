@@ -21,8 +21,8 @@ pub struct Source<'a> {
     pub names: Vec<Name<'a>>,
     /// The name by which the module cites the crate `enumset`.
     pub facade: &'a str,
-    /// The other name that `extern crate` gives to `enumset`, or an empty text.
-    pub renamed: &'a str,
+    /// The other name that `extern crate` gives to `enumset`, if it does.
+    pub renamed: Option<&'a str>,
     pub has_enums: bool,
     /// What is said of it on standard error, and of which place.
     pub notes: Vec<(Place, String)>,

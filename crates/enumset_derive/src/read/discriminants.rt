@@ -11,11 +11,11 @@ const TYPES: [&str; 12] = [
 ];
 
 impl<'a, 'b> Cursor<'a, 'b> {
-    /// Reads `=` and a discriminant of this type, if they are there, up to the `,` or `}` after them.
+    /// Reads `=` and a discriminant, of this type by default, if they are there, up to the `,` or `}` after them.
     pub fn read_discriminant(
         &mut self,
         alloc: Global,
-        own: NumberType,
+        default: NumberType,
     ) -> Outcome<Option<Discriminant<'a>>> {
         if !self.token.is_mark("=") {
             return Ok(None);
@@ -41,7 +41,7 @@ impl<'a, 'b> Cursor<'a, 'b> {
                 let (literal, number) = read_literal(begin, literal, false)?;
                 ("", Some(literal), number)
             }
-            tokens => ("", None, evaluate(alloc, begin, tokens, own)?),
+            tokens => ("", None, evaluate(alloc, begin, tokens, default)?),
         };
         Ok(Some(Discriminant {
             place: begin.place,
@@ -68,14 +68,14 @@ fn read_literal<'a>(
     Ok((written, number))
 }
 
-/// A literal without the type after it, and the name of that type, or an empty text.
-pub(super) fn without_type(literal: &str) -> (&str, &str) {
+/// A literal without the type after it, and the name of that type, if it has one.
+pub(super) fn without_type(literal: &str) -> (&str, Option<&str>) {
     for name in TYPES {
         if let Some(written) = literal.strip_suffix(name) {
-            return (written.trim_end_matches('_'), name);
+            return (written.trim_end_matches('_'), Some(name));
         }
     }
-    (literal.trim_end_matches('_'), "")
+    (literal.trim_end_matches('_'), None)
 }
 
 /// The number that a literal without a type is, or that a minus sign before it makes of it. Past 128 bits it is a power of

@@ -26,22 +26,49 @@ const OTHER_ITEMS: [&str; 10] = [
 /// The attribute of what is there for tests alone. In one piece it would have the toolchain look for tests here.
 const FOR_TESTS: &str = concat!("#", "[cfg(test)]\n");
 
+/// An enum, and what is known of it while it is read.
+#[derive(Drop)]
+pub(super) struct EnumState<'a, 'b> {
+    pub declaration: EnumDeclaration<'a>,
+    /// The names of its options, in their order.
+    pub given: Vec<&'b Token<'a>>,
+    /// Its attributes that `serde` is in.
+    pub serde: Vec<SerdePart<'a, 'b>>,
+    /// The type of its discriminants.
+    discriminant_type: NumberType,
+}
+
+/// An attribute that `serde` is in.
+#[derive(Clone, Copy)]
+pub(super) struct SerdePart<'a, 'b> {
+    pub part: Part<'a, 'b>,
+    /// The place of the variant that it stands before, counted from 0, unless it is the enum's.
+    pub variant: Option<usize>,
+    is_kept: bool,
+}
+
 impl<'a, 'b> Reader<'a, 'b> {
     /// Reads an enum, whose comments and attributes are these, and plans it.
     pub(super) fn read_element(&mut self, parts: &[Part<'a, 'b>]) -> Outcome {
         let alloc = self.alloc;
-        let mut declaration = EnumDeclaration {
-            attributes: [String::new(alloc), String::new(alloc)],
-            derives: Vec::new(alloc),
-            visibility: ("", ""),
-            name: "",
-            variants: Vec::new(alloc),
-            last_comments: String::new(alloc),
-            options: Options::default(),
+        let own_type = parts.iter().find_map(|part| part.number_type());
+        let mut state = EnumState {
+            declaration: EnumDeclaration {
+                attributes: [String::new(alloc), String::new(alloc)],
+                derives: Vec::new(alloc),
+                visibility: ("", ""),
+                name: "",
+                variants: Vec::new(alloc),
+                last_comments: String::new(alloc),
+                options: Options::default(),
+            },
+            given: Vec::new(alloc),
+            serde: Vec::new(alloc),
+            discriminant_type: own_type.unwrap_or(NumberType::OF_ENUMS),
         };
-        self.given.clear();
-        let name = self.read_enum(&mut declaration, parts)?;
-        let plan = plan_enum(alloc, &declaration)?;
+        let name = self.read_enum(&mut state, parts)?;
+        let declaration = &state.declaration;
+        let plan = plan_enum(alloc, declaration)?;
         // The first discriminant that no enum of Rattle has.
         let past = plan.variants.iter().find(|named| match named.number {
             Number::Small(number) => number >= 1 << 63,
@@ -49,19 +76,16 @@ impl<'a, 'b> Reader<'a, 'b> {
             Number::PowerOfTwo(_) => true,
         });
         if let Some(named) = past {
-            test_order(&declaration, &plan)?;
+            test_order(declaration, &plan)?;
             self.note(named.place, DROPPED)?;
         }
-        self.test_crate_name(&declaration.options, name)?;
-        let mut others = parts
-            .iter()
-            .filter_map(|part| part.other_json(&self.aliases));
-        let other_json = others.next();
+        self.test_crate_name(&state, name)?;
+        let other_json = parts.iter().find_map(|part| part.other_json(&self.aliases));
         if let (Some(other), true) = (other_json, declaration.options.are_named()) {
             return Err(other.fault(OWN_JSON));
         }
-        let json_names = self.json_names(&declaration)?;
-        for (part, _, is_kept) in mem::replace(&mut self.serde, Vec::new(alloc)) {
+        let json_names = state.json_names(alloc)?;
+        for SerdePart { part, is_kept, .. } in &state.serde {
             if !is_kept && !declaration.options.are_named() {
                 self.leave_out(part.begin.place, part.text)?;
             } else if !is_kept {
@@ -74,7 +98,7 @@ impl<'a, 'b> Reader<'a, 'b> {
         let is_test = parts.iter().any(|part| part.name.is("cfg"));
         let element = Element {
             has_discriminants: past.is_none(),
-            declaration,
+            declaration: state.declaration,
             plan,
             json_names,
             guard: if is_test { FOR_TESTS } else { "" },
@@ -85,12 +109,17 @@ impl<'a, 'b> Reader<'a, 'b> {
         )
     }
 
-    /// Takes comments and attributes of the enum, or of a variant if its name is known. Gives those kept, a line each.
-    fn take(&mut self, of: &mut EnumDeclaration<'a>, parts: &[Part<'a, 'b>]) -> Outcome<String> {
+    /// Takes comments and attributes of the enum, or of the variant at a place from 0. Gives those kept, a line each.
+    fn take(
+        &mut self,
+        state: &mut EnumState<'a, 'b>,
+        variant: Option<usize>,
+        parts: &[Part<'a, 'b>],
+    ) -> Outcome<String> {
         let mut kept = String::new(self.alloc);
-        let (variant, start, bearer) = match of.name {
-            "" => (None, "", Bearer::Enum),
-            _ => (Some(of.variants.len()), "    ", Bearer::Variant),
+        let (start, bearer) = match variant {
+            None => ("", Bearer::Enum),
+            Some(_) => ("    ", Bearer::Variant),
         };
         for part in parts {
             if variant.is_some_and(|before| before > 0 || !kept.is_empty()) {
@@ -98,25 +127,30 @@ impl<'a, 'b> Reader<'a, 'b> {
             }
             let is_kept = match part.name.text {
                 "derive" if variant.is_none() => {
-                    of.derives.extend(self.kept_of(part)?.0)?;
+                    state.declaration.derives.extend(self.kept_of(part)?.0)?;
                     write_comments(&mut kept, part.comments)?;
                     continue;
                 }
                 "enumset" if variant.is_none() => {
-                    self.read_options(&mut of.options, part)?;
+                    state.read_options(self.alloc, part)?;
                     write_comments(&mut kept, part.comments)?;
                     continue;
                 }
-                "serde" => derives(of, "Serialize") || derives(of, "Deserialize"),
-                "default" if variant.is_some() => derives(of, "Default"),
-                "error" => derives(of, "Error"),
+                "serde" => derives(&state.declaration, "Serialize")
+                    || derives(&state.declaration, "Deserialize"),
+                "default" if variant.is_some() => derives(&state.declaration, "Default"),
+                "error" => derives(&state.declaration, "Error"),
                 _ => part.has_meaning(bearer, &self.aliases)?,
             };
             if is_kept {
                 write!(kept, "{start}{}\n", part.text)?;
             }
             if part.name.is("serde") || (part.name.is("cfg_attr") && part.calls("serde")) {
-                self.serde.push((*part, variant, is_kept))?;
+                state.serde.push(SerdePart {
+                    part: *part,
+                    variant,
+                    is_kept,
+                })?;
             } else if !is_kept {
                 self.leave_out(part.begin.place, part.text)?;
             }
@@ -128,52 +162,52 @@ impl<'a, 'b> Reader<'a, 'b> {
     /// Gives its name.
     fn read_enum(
         &mut self,
-        of: &mut EnumDeclaration<'a>,
+        state: &mut EnumState<'a, 'b>,
         parts: &[Part<'a, 'b>],
     ) -> Outcome<&'b Token<'a>> {
-        let own = parts.iter().find_map(|part| part.number_type());
-        self.discriminant_type = own.unwrap_or(NumberType::OF_ENUMS);
         let first = parts.iter().position(|part| part.name.is("derive"));
         let (before, after) = parts.split_at(first.unwrap_or(0));
-        let attributes = self.take(of, before)?;
-        let mut later_attributes = self.take(of, after)?;
+        let attributes = self.take(state, None, before)?;
+        let mut later_attributes = self.take(state, None, after)?;
         let begin = self.cursor;
-        of.visibility = self.cursor.read_visibility()?;
+        state.declaration.visibility = self.cursor.read_visibility()?;
         let name = self.cursor.read_enum_name()?;
         write_comments(&mut later_attributes, self.cursor.comments_since(&begin))?;
-        of.attributes = [attributes, later_attributes];
-        of.name = name.text;
+        state.declaration.attributes = [attributes, later_attributes];
+        state.declaration.name = name.text;
         self.declare(name)?;
         for _ in 0..self.cursor.left() {
-            self.test_options(&of.options)?;
+            state.test_serde()?;
             let parts = self.cursor.read_parts(self.alloc)?;
-            let mut kept = self.take(of, parts.as_slice())?;
+            let variant = Some(state.declaration.variants.len());
+            let mut kept = self.take(state, variant, parts.as_slice())?;
             let has_attribute = parts.iter().any(|part| !part.begin.is_comment());
             if self.cursor.token.is_mark("}") && !has_attribute {
-                of.last_comments = kept;
+                state.declaration.last_comments = kept;
                 break;
             }
-            if !of.variants.is_empty() || !kept.is_empty() {
+            if !state.declaration.variants.is_empty() || !kept.is_empty() {
                 write_empty_line(&mut kept, self.cursor.token)?;
             }
-            let mut variant = self.read_variant()?;
+            let mut variant = self.read_variant(state.discriminant_type)?;
             variant.attributes = kept;
-            of.variants.push(variant)?;
+            state.declaration.variants.push(variant)?;
         }
-        if of.variants.is_empty() {
+        if state.declaration.variants.is_empty() {
             self.note(name.place, NO_VARIANTS)?;
         }
         Ok(name)
     }
 
     /// Says where an option changes nothing. It is a fault if the enum cites another crate than those before it.
-    fn test_crate_name(&mut self, options: &Options<'a>, name: &'b Token<'a>) -> Outcome {
-        let place = self.place_of("serialize_deny_unknown");
+    fn test_crate_name(&mut self, state: &EnumState<'a, 'b>, name: &'b Token<'a>) -> Outcome {
+        let options = &state.declaration.options;
+        let place = state.place_of("serialize_deny_unknown");
         if options.denies_unknown && options.serialized.is_none() {
             self.note(place.unwrap_or(name.place), DENY_ALONE)?;
         }
         let cited = options.crate_name.unwrap_or("enumset");
-        let place = self.place_of("crate_name");
+        let place = state.place_of("crate_name");
         if self.source.has_enums && cited != self.source.facade {
             let place = place.unwrap_or(name.place);
             return Err(Reason::Text(OTHER_CRATE).at(place).into());
@@ -182,29 +216,14 @@ impl<'a, 'b> Reader<'a, 'b> {
         Ok(())
     }
 
-    /// Where the enum is given this option, if it is.
-    fn place_of(&self, option: &str) -> Option<Place> {
-        let given = self.given.iter().find(|given| given.is(option))?;
-        Some(given.place)
-    }
-
     /// Says something of a place on standard error.
     fn note(&mut self, place: Place, text: &str) -> Outcome {
         let note = String::from_str(self.alloc, text)?;
         Ok(self.source.notes.push((place, note))?)
     }
 
-    /// A fault if names in JSON stand under `cfg_attr`.
-    fn test_options(&self, options: &Options) -> Outcome {
-        for (part, _, _) in &self.serde {
-            let is_right = !options.are_named() || !part.name.is("cfg_attr");
-            part.name.want(is_right, SERDE_ALONE)?;
-        }
-        Ok(())
-    }
-
     /// Reads a variant without its attributes, up to what stands after the `,` and the comments on its line.
-    fn read_variant(&mut self) -> Outcome<Variant<'a>> {
+    fn read_variant(&mut self, discriminant_type: NumberType) -> Outcome<Variant<'a>> {
         let begin = self.cursor;
         let name = begin.token;
         name.want(name.is_name(), "wanted: a name of a variant, or `}`")?;
@@ -215,10 +234,28 @@ impl<'a, 'b> Reader<'a, 'b> {
             name: name.text,
             discriminant: self
                 .cursor
-                .read_discriminant(self.alloc, self.discriminant_type)?,
+                .read_discriminant(self.alloc, discriminant_type)?,
             comments: self.cursor.end_variant(self.alloc, &begin)?,
             attributes: String::new(self.alloc),
         })
+    }
+}
+
+impl<'a, 'b> EnumState<'a, 'b> {
+    /// Where the enum is given this option, if it is.
+    fn place_of(&self, option: &str) -> Option<Place> {
+        let given = self.given.iter().find(|given| given.is(option))?;
+        Some(given.place)
+    }
+
+    /// A fault if names in JSON stand under `cfg_attr`.
+    fn test_serde(&self) -> Outcome {
+        for SerdePart { part, .. } in &self.serde {
+            let is_named = self.declaration.options.are_named();
+            part.name
+                .want(!is_named || !part.name.is("cfg_attr"), SERDE_ALONE)?;
+        }
+        Ok(())
     }
 }
 
@@ -275,11 +312,11 @@ fn write_empty_line(out: &mut String, token: &Token) -> Result<(), AllocError> {
 }
 
 /// A fault if the order that an enum derives is not that of the places of its variants.
-fn test_order(of: &EnumDeclaration, plan: &Plan) -> Outcome {
+fn test_order(declaration: &EnumDeclaration, plan: &Plan) -> Outcome {
     let mut pairs = plan.variants.array_windows::<2>();
     let down = pairs.find(|[one, next]| !is_below(one.number, next.number));
     match down {
-        Some([_, next]) if derives(of, "PartialOrd") || derives(of, "Ord") => {
+        Some([_, next]) if derives(declaration, "PartialOrd") || derives(declaration, "Ord") => {
             Err(Reason::Text(OTHER_ORDER).at(next.place).into())
         }
         _ => Ok(()),
@@ -298,7 +335,7 @@ fn is_below(one: Number, other: Number) -> bool {
 }
 
 /// Whether an enum derives something of this name.
-fn derives(of: &EnumDeclaration, name: &str) -> bool {
-    let mut derives = of.derives.iter();
+fn derives(declaration: &EnumDeclaration, name: &str) -> bool {
+    let mut derives = declaration.derives.iter();
     derives.any(|path| names_last(path.as_str(), name))
 }

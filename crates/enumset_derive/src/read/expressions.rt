@@ -1,7 +1,7 @@
 //! Discriminants that are written as expressions: exact whole numbers under Rust's operators, by Rust's precedence.
 
 use super::discriminants::NOT_A_NUMBER;
-use super::values::{Form, NumberType, Value};
+use super::values::{NumberForm, NumberType, Value};
 use super::*;
 
 const PAST_TYPE: &str = "past the type of this discriminant: write the number itself";
@@ -84,10 +84,10 @@ impl Operator {
             _ => return None,
         };
         let form = match (left.form, right.form) {
-            (Form::Character, _) | (_, Form::Character) => return None,
-            (Form::Typed(known), _) => Form::Typed(known),
-            (_, Form::Typed(known)) if !is_shift => Form::Typed(known),
-            _ => Form::Computed,
+            (NumberForm::Character, _) | (_, NumberForm::Character) => return None,
+            (NumberForm::Typed(known), _) => NumberForm::Typed(known),
+            (_, NumberForm::Typed(known)) if !is_shift => NumberForm::Typed(known),
+            _ => NumberForm::Computed,
         };
         let other = if is_shift { 0 } else { right.peak };
         Some(Value {
@@ -161,10 +161,10 @@ impl Expression {
 
     /// Makes the last number one of the type of this name. It says whether that could be done.
     fn cast(&mut self, name: &str) -> Outcome<bool> {
-        let Some(to) = NumberType::named(name) else {
+        let Some(target) = NumberType::named(name) else {
             return Ok(false);
         };
-        let Some(value) = self.values.pop().and_then(|value| value.cast(to)) else {
+        let Some(value) = self.values.pop().and_then(|value| value.cast(target)) else {
             return Ok(false);
         };
         self.values.push(value)?;
@@ -196,12 +196,12 @@ impl Expression {
     }
 }
 
-/// The number that an expression is, which begins at a token. `own` is the type of the enum's discriminants.
+/// The number that an expression is, which begins at a token and whose type is this one if nothing else says it.
 pub(super) fn evaluate(
     alloc: Global,
     begin: &Token,
     tokens: &[Token],
-    own: NumberType,
+    default: NumberType,
 ) -> Outcome<Number> {
     let mut expression = Expression {
         values: Vec::new(alloc),
@@ -224,9 +224,9 @@ pub(super) fn evaluate(
     let [value] = expression.values.as_slice() else {
         return Err(begin.fault(NOT_A_NUMBER));
     };
-    let is_number = is_whole && !matches!(value.form, Form::Character);
+    let is_number = is_whole && !matches!(value.form, NumberForm::Character);
     begin.want(is_number, NOT_A_NUMBER)?;
-    begin.want(value.fits(own), PAST_TYPE)?;
+    begin.want(value.fits(default), PAST_TYPE)?;
     Ok(match value.is_negative {
         true => Number::Negative(value.absolute),
         false => Number::Small(value.absolute),

@@ -19,8 +19,8 @@ struct Line<'c> {
     /// The attributes before it, a line each.
     attributes: &'c str,
     visibility: &'c str,
-    /// As it is written, with its visibility, unless it may not stay so.
-    written: &'c str,
+    /// As it is written, with its visibility, if it may stay so.
+    written: Option<&'c str>,
 }
 
 impl<'a, 'b> Reader<'a, 'b> {
@@ -38,8 +38,7 @@ impl<'a, 'b> Reader<'a, 'b> {
         let may_stay = |root: &Token| root.is_name() && !matches!(root.text, "core" | "alloc");
         let is_path = path.first().is_some_and(may_stay);
         let written = is_path.then_some(self.cursor.text_since(item.token.begin()));
-        let written = written.unwrap_or("");
-        if written.is_empty() || (visibility.is_empty() && is_of_enumset(path)) {
+        if written.is_none() || (visibility.is_empty() && is_of_enumset(path)) {
             for comment in self.cursor.comments_since(&keyword) {
                 self.leave_out_comment(comment.place, comment.text)?;
             }
@@ -73,8 +72,8 @@ impl<'a, 'b> Reader<'a, 'b> {
             return self.read_names(line, rest);
         }
         let written = match line.written {
-            "" => format!(in alloc; "{} use {};", line.visibility, spelled(alloc, tree)?)?,
-            written => String::from_str(alloc, written)?,
+            None => format!(in alloc; "{} use {};", line.visibility, spelled(alloc, tree)?)?,
+            Some(written) => String::from_str(alloc, written)?,
         };
         let is_ours = root.text.starts_with("enumset");
         let is_there = matches!(
@@ -214,13 +213,13 @@ fn spelled(alloc: Global, tree: &[Token]) -> Result<String, AllocError> {
     text.replace(alloc, ", }", "}")
 }
 
-/// The name `F` of `extern crate enumset as F` among these tokens, or an empty text.
-pub(super) fn renamed_crate<'a>(tokens: &[Token<'a>]) -> &'a str {
+/// The name `F` of `extern crate enumset as F` among these tokens, if that is there.
+pub(super) fn renamed_crate<'a>(tokens: &[Token<'a>]) -> Option<&'a str> {
     let mut tokens = tokens.array_windows::<4>();
     let renamed = tokens.find(|[kind, name, by, _]| kind.is("crate")
         && name.is("enumset")
         && by.is("as"));
-    renamed.map_or("", |[_, _, _, new]| new.text)
+    renamed.map(|[_, _, _, name]| name.text)
 }
 
 /// Whether `extern crate alloc` is among these tokens.

@@ -1,5 +1,6 @@
 //! The names of variants in JSON, as attributes of `serde` give them.
 
+use super::enums::{EnumState, SerdePart};
 use super::options::value_of;
 use super::*;
 
@@ -46,19 +47,18 @@ fn styled(alloc: Global, style: &str, name: &str) -> Result<String, AllocError> 
     Ok(text)
 }
 
-impl<'a, 'b> Reader<'a, 'b> {
+impl<'a, 'b> EnumState<'a, 'b> {
     /// The names of the variants in JSON, and where each is given, if one may not be the variant's own.
-    pub(super) fn json_names(&self, of: &EnumDeclaration) -> Outcome<Vec<(Place, String)>> {
-        let alloc = self.alloc;
+    pub(super) fn json_names(&self, alloc: Global) -> Outcome<Vec<(Place, String)>> {
         let mut names: Vec<(Place, String)> = Vec::new(alloc);
-        if !of.options.are_named() || self.serde.is_empty() {
+        if !self.declaration.options.are_named() || self.serde.is_empty() {
             return Ok(names);
         }
-        let given = self.given_names()?;
-        let style = given.iter().rfind(|(of, _, _)| of.is_none());
+        let given = self.given_names(alloc)?;
+        let style = given.iter().rfind(|(bearer, _, _)| bearer.is_none());
         let style = style.map_or("PascalCase", |(_, _, style)| *style);
-        for (index, variant) in of.variants.iter().enumerate() {
-            let (place, name) = match given.iter().find(|(of, _, _)| *of == Some(index)) {
+        for (index, variant) in self.declaration.variants.iter().enumerate() {
+            let (place, name) = match given.iter().find(|(bearer, _, _)| *bearer == Some(index)) {
                 Some((_, place, given)) => (*place, String::from_str(alloc, given)?),
                 None => (variant.place, styled(alloc, style, variant.name)?),
             };
@@ -71,10 +71,10 @@ impl<'a, 'b> Reader<'a, 'b> {
     }
 
     /// What the attributes of `serde` give: of each the variant that it stands before, the place and the text.
-    fn given_names(&self) -> Outcome<Vec<(Option<usize>, Place, &'a str)>> {
-        let mut given = Vec::new(self.alloc);
-        for (part, variant, _) in &self.serde {
-            for argument in part.arguments(self.alloc)? {
+    fn given_names(&self, alloc: Global) -> Outcome<Vec<(Option<usize>, Place, &'a str)>> {
+        let mut given = Vec::new(alloc);
+        for SerdePart { part, variant, .. } in &self.serde {
+            for argument in part.arguments(alloc)? {
                 let name = argument.and_then(|argument| given_name(argument, variant.is_some()))?;
                 given.extend(name.map(|(place, text)| (*variant, place, text)))?;
             }

@@ -1,5 +1,6 @@
 //! What stands in `#[enumset(..)]`.
 
+use super::enums::EnumState;
 use super::*;
 
 const WRONG_REPRESENTATION: &str =
@@ -22,10 +23,10 @@ const NO_ROOTS: [&str; 53] = [
 
 const OLD_LIST: &str = "`serialize_as_list` is written `serialize_repr = \"list\"`";
 
-impl<'a, 'b> Reader<'a, 'b> {
+impl<'a, 'b> EnumState<'a, 'b> {
     /// Reads the options in an attribute.
-    pub(super) fn read_options(&mut self, to: &mut Options<'a>, part: &Part<'a, 'b>) -> Outcome {
-        for argument in part.arguments(self.alloc)? {
+    pub(super) fn read_options(&mut self, alloc: Global, part: &Part<'a, 'b>) -> Outcome {
+        for argument in part.arguments(alloc)? {
             let [name, rest @ ..] = argument? else {
                 continue;
             };
@@ -36,7 +37,7 @@ impl<'a, 'b> Reader<'a, 'b> {
                 return Err(twice.at(name.place).into());
             }
             self.given.push(name)?;
-            read_option(to, name, rest)?;
+            read_option(&mut self.declaration.options, name, rest)?;
             let has_value = matches!(rest, [equal, ..] if equal.is_mark("="));
             if let Some([more, _, ..]) = rest.get(if has_value { 2 } else { 0 }..) {
                 return Err(more.fault("wanted: `,` or `)`"));

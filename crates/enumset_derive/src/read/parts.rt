@@ -1,5 +1,6 @@
 //! Comments, attributes and derives, and which have a meaning in Rattle.
 
+use super::values::NumberType;
 use super::*;
 
 const CONFIGURATION: &str =

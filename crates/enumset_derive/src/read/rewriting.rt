@@ -8,11 +8,13 @@ const HELPERS: [&str; 6] = ["derive", "default", "serde", "error", "from", "sour
 /// The keywords before a `!` that calls no macro.
 const BEFORE_NOT: [&str; 7] = ["if", "while", "match", "return", "in", "break", "impl"];
 
-/// A text that is written anew: from where on it is not yet written, and up to where a macro is as it is.
+/// A text that is written anew.
 #[derive(Drop)]
 struct Rewriting<'a, 'b> {
-    at: Cursor<'a, 'b>,
-    from: usize,
+    cursor: Cursor<'a, 'b>,
+    /// Where what is written of the text ends.
+    written_end: usize,
+    /// Where the last macro ends, in which all stays as it is.
     macro_end: usize,
 }
 
@@ -20,38 +22,37 @@ impl<'a, 'b> Reader<'a, 'b> {
     /// Writes an item up to the cursor, without the attributes in it that have no meaning. Attributes in a macro are as
     /// they are. Rust's `core` and `alloc` are `std` here.
     pub(super) fn write_item(&mut self, out: &mut String, item: Cursor<'a, 'b>) -> Outcome {
-        let from = item.token.begin();
         let mut rewriting = Rewriting {
-            at: item,
-            from,
+            cursor: item,
+            written_end: item.token.begin(),
             macro_end: 0,
         };
         for _ in 0..item.left() {
-            if rewriting.at.token.begin() >= self.cursor.token.begin() {
+            if rewriting.cursor.token.begin() >= self.cursor.token.begin() {
                 break;
             }
             self.rewrite_token(out, &mut rewriting)?;
         }
-        Ok(out.push_str(self.cursor.text_since(rewriting.from))?)
+        Ok(out.push_str(self.cursor.text_since(rewriting.written_end))?)
     }
 
     /// Goes on by a token or an attribute, and writes what comes before it if it does not stay as it is.
     fn rewrite_token(&mut self, out: &mut String, rewriting: &mut Rewriting<'a, 'b>) -> Outcome {
-        let begin = rewriting.at.token;
+        let begin = rewriting.cursor.token;
         let is_in_macro = begin.begin() < rewriting.macro_end;
         if !is_in_macro {
-            rewriting.at.test_keyword()?;
+            rewriting.cursor.test_keyword()?;
         }
-        if self.is_root(&rewriting.at) {
+        if self.is_root(&rewriting.cursor) {
             out.push_str(rewriting.text_before(begin))?;
             out.push_str("std")?;
-            rewriting.from = begin.end();
+            rewriting.written_end = begin.end();
         } else if !is_in_macro && begin.is_mark("#") {
             self.rewrite_attribute(out, rewriting)?;
-        } else if !is_in_macro && rewriting.at.is_macro() {
-            rewriting.macro_end = rewriting.at.macro_end()?;
+        } else if !is_in_macro && rewriting.cursor.is_macro() {
+            rewriting.macro_end = rewriting.cursor.macro_end()?;
         }
-        rewriting.at.advance()
+        rewriting.cursor.advance()
     }
 
     /// Reads an attribute in an item, if one begins there. If it does not stay as it is, writes the text before it, and what
@@ -61,16 +62,16 @@ impl<'a, 'b> Reader<'a, 'b> {
         out: &mut String,
         rewriting: &mut Rewriting<'a, 'b>,
     ) -> Outcome {
-        let begin = rewriting.at.token;
-        let bearer = match rewriting.at.tokens {
+        let begin = rewriting.cursor.token;
+        let bearer = match rewriting.cursor.tokens {
             [next, ..] if next.is_mark("[") => Bearer::Item,
             [next, open, ..] if next.is_mark("!") && open.is_mark("[") => Bearer::Text,
             _ => return Ok(()),
         };
         if matches!(bearer, Bearer::Text) {
-            rewriting.at.advance()?;
+            rewriting.cursor.advance()?;
         }
-        let part = rewriting.at.read_part()?;
+        let part = rewriting.cursor.read_part()?;
         let mut derived = None;
         if part.name.is("derive") {
             self.derived.clear();
@@ -82,29 +83,32 @@ impl<'a, 'b> Reader<'a, 'b> {
             return Ok(());
         }
         out.push_str(rewriting.text_before(begin))?;
-        rewriting.from = rewriting
-            .at
+        rewriting.written_end = rewriting
+            .cursor
             .next()
-            .map_or(rewriting.from, |next| next.begin());
+            .map_or(rewriting.written_end, |next| next.begin());
         match derived {
             Some(text) => Ok(out.push_str(text.as_str())?),
-            None => self.leave_out(begin.place, rewriting.at.text_since(begin.begin())),
+            None => self.leave_out(begin.place, rewriting.cursor.text_since(begin.begin())),
         }
     }
 
     /// Whether a path begins at the cursor that is of Rust's `core`, or of `alloc` where the source names that crate.
-    fn is_root(&self, at: &Cursor) -> bool {
-        let begin = at.token;
+    fn is_root(&self, cursor: &Cursor) -> bool {
+        let begin = cursor.token;
         let is_crate = begin.is("core") || (begin.is("alloc") && self.has_alloc);
-        let before = at.text.get(..begin.begin()).unwrap_or("");
-        is_crate && at.is_before(":") && !before.trim_end().ends_with("::")
+        let before = cursor.text.get(..begin.begin()).unwrap_or("");
+        is_crate && cursor.is_before(":") && !before.trim_end().ends_with("::")
     }
 }
 
 impl<'a, 'b> Rewriting<'a, 'b> {
     /// The text before a token that is not yet written.
     fn text_before(&self, token: &Token) -> &'a str {
-        self.at.text.get(self.from..token.begin()).unwrap_or("")
+        self.cursor
+            .text
+            .get(self.written_end..token.begin())
+            .unwrap_or("")
     }
 }
 

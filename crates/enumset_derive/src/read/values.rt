@@ -64,7 +64,7 @@ impl NumberType {
 
 /// What is known of the type of a number.
 #[derive(Clone, Copy)]
-pub(super) enum Form {
+pub(super) enum NumberForm {
     /// A literal that names no type.
     Literal,
     /// A character, which is a number only after `as`.
@@ -82,12 +82,12 @@ pub(super) struct Value {
     pub is_negative: bool,
     /// The greatest absolute value among the numbers of its type that it was made of.
     pub peak: u128,
-    pub form: Form,
+    pub form: NumberForm,
 }
 
 impl Value {
     /// A number that nothing was made of.
-    fn plain(absolute: u128, form: Form) -> Value {
+    fn plain(absolute: u128, form: NumberForm) -> Value {
         Value {
             absolute,
             is_negative: false,
@@ -102,7 +102,9 @@ impl Value {
             return character(token.text);
         }
         let (written, type_name) = without_type(token.text);
-        let form = NumberType::named(type_name).map_or(Form::Literal, Form::Typed);
+        let form = type_name
+            .and_then(NumberType::named)
+            .map_or(NumberForm::Literal, NumberForm::Typed);
         match number_of(written, false) {
             Ok(Number::Small(number)) => Some(Value::plain(number, form)),
             _ => None,
@@ -119,24 +121,24 @@ impl Value {
     }
 
     /// Whether it and all that it was made of fit its type, or this one if nothing else says the type.
-    pub fn fits(self, own: NumberType) -> bool {
+    pub fn fits(self, default: NumberType) -> bool {
         let form = match self.form {
-            Form::Typed(known) => known,
-            _ => own,
+            NumberForm::Typed(known) => known,
+            _ => default,
         };
         form.has(self.absolute, self.is_negative) && form.has(self.peak, self.is_negative)
     }
 
     /// The number as one of another type, if that has it. Others would lose bits.
-    pub fn cast(self, to: NumberType) -> Option<Value> {
+    pub fn cast(self, target: NumberType) -> Option<Value> {
         let is_right = match self.form {
-            Form::Literal | Form::Character => true,
-            Form::Computed | Form::Typed(_) => self.fits(NumberType::OF_LITERALS),
+            NumberForm::Literal | NumberForm::Character => true,
+            NumberForm::Computed | NumberForm::Typed(_) => self.fits(NumberType::OF_LITERALS),
         };
-        let is_right = is_right && to.has(self.absolute, self.is_negative);
+        let is_right = is_right && target.has(self.absolute, self.is_negative);
         is_right.then_some(Value {
             peak: self.absolute,
-            form: Form::Typed(to),
+            form: NumberForm::Typed(target),
             ..self
         })
     }
@@ -156,14 +158,14 @@ impl Value {
     }
 
     /// The number shifted to higher bits.
-    pub fn shifted_up(self, by: Value) -> Option<(u128, bool)> {
-        let power = 1u128.checked_shl(by.bits()?)?;
+    pub fn shifted_up(self, count: Value) -> Option<(u128, bool)> {
+        let power = 1u128.checked_shl(count.bits()?)?;
         Some((self.absolute.checked_mul(power)?, self.is_negative))
     }
 
     /// The number shifted to lower bits: a quotient, which is rounded down.
-    pub fn shifted_down(self, by: Value) -> Option<(u128, bool)> {
-        let bits = by.bits()?;
+    pub fn shifted_down(self, count: Value) -> Option<(u128, bool)> {
+        let bits = count.bits()?;
         let absolute = match self.is_negative {
             true => {
                 let below = self.absolute.saturating_sub(1).checked_shr(bits)?;
@@ -187,8 +189,8 @@ impl Value {
 fn character(text: &str) -> Option<Value> {
     let byte = text.strip_prefix('b');
     let form = match byte {
-        Some(_) => Form::Typed(NumberType::named("u8")?),
-        None => Form::Character,
+        Some(_) => NumberForm::Typed(NumberType::named("u8")?),
+        None => NumberForm::Character,
     };
     let quoted = byte.unwrap_or(text).strip_prefix('\'')?.strip_suffix('\'')?;
     let number = match quoted.strip_prefix('\\') {

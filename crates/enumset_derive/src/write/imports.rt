@@ -50,7 +50,7 @@ fn is_free(source: &Source, path: &str) -> Outcome<bool> {
     match *root {
         "crate" | "self" | "super" => Ok(false),
         root if root == source.facade || root.starts_with("enumset") => Ok(false),
-        root if !root.is_empty() && root == source.renamed => {
+        root if source.renamed == Some(root) => {
             Err(Reason::Text(RENAMED).at(other.place).into())
         }
         _ => Err(Reason::Text(TAKEN).at(other.place).into()),
