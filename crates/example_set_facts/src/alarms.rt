@@ -43,19 +43,23 @@ pub fn latched<T: EnumSetType>(
     active.difference(cleared.intersection(acknowledged.copied()))
 }
 
-/// Acknowledges an alarm: it moves from the open ones to the known ones, if it is open.
-pub fn acknowledge<T: EnumSetType>(open: &mut EnumSet<T>, known: &mut EnumSet<T>, alarm: T) -> bool
-    requires { set.is_disjoint open.old known.old ≡ true }
-    ensures was_open { result ≡ set.contains open.old (T.elements.bit alarm) }
-    ensures whole { set.union open.new known.new ≡ set.union open.old known.old }
-    ensures apart { set.is_disjoint open.new known.new ≡ true }
-    ensures closed { set.contains open.new (T.elements.bit alarm) ≡ false }
+/// Acknowledges an alarm: it moves from the pending ones to the known ones, if it is pending.
+pub fn acknowledge<T: EnumSetType>(
+    pending: &mut EnumSet<T>,
+    known: &mut EnumSet<T>,
+    alarm: T,
+) -> bool
+    requires { set.is_disjoint pending.old known.old ≡ true }
+    ensures was_pending { result ≡ set.contains pending.old (T.elements.bit alarm) }
+    ensures whole { set.union pending.new known.new ≡ set.union pending.old known.old }
+    ensures apart { set.is_disjoint pending.new known.new ≡ true }
+    ensures closed { set.contains pending.new (T.elements.bit alarm) ≡ false }
 {
-    let was_open = open.remove(alarm);
-    if was_open {
+    let was_pending = pending.remove(alarm);
+    if was_pending {
         known.insert(alarm);
     }
-    was_open
+    was_pending
 }
 
 /// The greatest active alarm that is not muted.
