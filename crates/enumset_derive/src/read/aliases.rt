@@ -87,11 +87,25 @@ impl<'a> Aliases<'a> {
         self.is_for(word.text, "EnumSet") || self.with_sets.contains(word.text)
     }
 
+    /// Whether a word names what derives JSON in another way than `serde` does.
+    pub fn is_other_json(&self, word: &Token) -> bool {
+        match self.originals.get(word.text) {
+            Some(original) => is_other_json(original),
+            None => is_other_json(word.text),
+        }
+    }
+
     /// Whether this is the name of something, or another name for it.
     pub fn is_for(&self, name: &str, original: &str) -> bool {
         let known = self.originals.get(name);
         name == original || known.is_some_and(|known| *known == original)
     }
+}
+
+/// Whether this is the name of a derive such as `Serialize_repr`.
+fn is_other_json(name: &str) -> bool {
+    let begins = name.starts_with("Serialize") || name.starts_with("Deserialize");
+    begins && !matches!(name, "Serialize" | "Deserialize")
 }
 
 /// The name and the value of `type NAME = VALUE`, if the tokens before a `;` end in it.

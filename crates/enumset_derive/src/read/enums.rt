@@ -80,7 +80,8 @@ impl<'a, 'b> Reader<'a, 'b> {
             self.note(named.place, DROPPED)?;
         }
         self.test_crate_name(&state, name)?;
-        let other_json = parts.iter().find_map(|part| part.other_json(&self.aliases));
+        let aliases = &self.aliases;
+        let other_json = parts.iter().find_map(|part| part.other_json(aliases));
         if let (Some(other), true) = (other_json, declaration.options.are_named()) {
             return Err(other.fault(OWN_JSON));
         }

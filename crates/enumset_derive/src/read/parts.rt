@@ -134,14 +134,12 @@ impl<'a, 'b> Part<'a, 'b> {
     }
 
     /// Whether it derives what writes or reads the enum in JSON in another way than `serde` does.
-    pub fn other_json(&self, aliases: &Aliases<'a>) -> Option<&'b Token<'a>> {
+    pub fn other_json(&self, aliases: &Aliases) -> Option<&'b Token<'a>> {
         let is_read = matches!(self.name.text, "derive" | "cfg_attr");
         let mut derives = self.tokens.split(|word| word.is("derive")).skip(1);
-        derives.filter(|_| is_read).find_map(|derived| derived.iter().find(|word| {
-            let name = aliases.original(word.text);
-            let begins = name.starts_with("Serialize") || name.starts_with("Deserialize");
-            begins && !matches!(name, "Serialize" | "Deserialize")
-        }))
+        derives.filter(|_| is_read).find_map(|derived| {
+            derived.iter().find(|word| aliases.is_other_json(word))
+        })
     }
 
     /// Its arguments, each with the mark at its end. The last is a fault if the attribute does not end after them.
