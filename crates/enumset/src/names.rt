@@ -1,6 +1,6 @@
 //! The names of an element type's values.
 
-ghost use Rattle.std.specs.Prelude.{◌≡◌, ◌<◌, ℕ, List, IfSome, length, map, option_map};
+ghost use Rattle.std.specs.Prelude.{◌≡◌, ◌<◌, ℕ, List, IfSome, length, map, option_map, slice_index};
 ghost use Rattle.std.specs.Str.{bytes_eq};
 ghost use Rattle.enumset.specs.Names.{names_of, name_of, bit_named, IsNaming};
 
@@ -75,6 +75,8 @@ pub(crate) fn find_value<T: EnumSetNames>(wanted: &[u8], next: &mut usize) -> Op
 #[inline(always)]
 fn find_in<T: EnumSetType>(names: &[(T, &str)], wanted: &[u8]) -> Option<(usize, T)>
     ensures within { IfSome result (λ found. found.0 < length names.now) }
+    ensures place { IfSome result (λ found.
+        slice_index (map (λ n. T.elements.bit n.0) names.now) found.0 ≡ T.elements.bit found.1) }
     ensures named { option_map (λ found. T.elements.bit found.1) result
         ≡ bit_named (map (λ n. (T.elements.bit n.0, n.1.now)) names.now) wanted.now }
 {

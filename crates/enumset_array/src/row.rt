@@ -28,8 +28,8 @@ pub trait Row {
     fn ask_front(&mut self, i: usize) -> Option<u32>
         requires { i < length (words self.old) }
         ensures counted { asks self.new ≡ asks self.old + 1 }
-        ensures empty { IfNone result
-            ((slice_index (words self.old) i ≡ 0) × (words self.new ≡ words self.old)) }
+        ensures empty { IfNone result (slice_index (words self.old) i ≡ 0) }
+        ensures kept { IfNone result (words self.new ≡ words self.old) }
         ensures taken { IfSome result (λ b.
             ascending (bits (slice_index (words self.old) i))
             ≡ b ∷ ascending (bits (slice_index (words self.new) i))) }
@@ -43,8 +43,8 @@ pub trait Row {
     fn ask_back(&mut self, i: usize) -> Option<u32>
         requires { i < length (words self.old) }
         ensures counted { asks self.new ≡ asks self.old + 1 }
-        ensures empty { IfNone result
-            ((slice_index (words self.old) i ≡ 0) × (words self.new ≡ words self.old)) }
+        ensures empty { IfNone result (slice_index (words self.old) i ≡ 0) }
+        ensures kept { IfNone result (words self.new ≡ words self.old) }
         ensures taken { IfSome result (λ b.
             ascending (bits (slice_index (words self.old) i))
             ≡ ascending (bits (slice_index (words self.new) i)) ++ b ∷ []) }

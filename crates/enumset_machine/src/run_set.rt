@@ -4,7 +4,7 @@ ghost use Rattle.std.specs.Prelude.{◌≡◌, ◌↔◌, ◌<◌, ◌*◌, ◌^
 ghost use Rattle.enumset_repr.specs.BitSet as set;
 ghost use Rattle.enumset_repr.specs.BitSet.{BitSet};
 ghost use Rattle.enumset_repr.specs.Number.{number as number_of, bits};
-ghost use Rattle.enumset_repr.specs.Words.{words as words_of, bits_of};
+ghost use Rattle.enumset_repr.specs.Words.{words, bits_of};
 ghost use Rattle.enumset_repr.specs.Ends.{first, last, without_first, without_last};
 ghost use Rattle.enumset_repr.specs.Order.{compare};
 ghost use Rattle.enumset_machine.specs.Plans.{Rules, is_width};
@@ -154,11 +154,11 @@ pub trait RunSet: Copy {
         ensures fits { IsSome result
             ↔ IsTrue (set.is_subset (members self.now) (set.below (64 * length slice.old))) }
         ensures words { IsSome result
-            → slice.new ≡ words_of (members self.now) (length slice.old) };
+            → slice.new ≡ words (members self.now) (length slice.old) };
 
     /// Writes a word of the set to each place of a slice.
     fn words_cut(&self, slice: &mut [u64])
-        ensures { slice.new ≡ words_of (members self.now) (length slice.old) };
+        ensures { slice.new ≡ words (members self.now) (length slice.old) };
 
     /// Returns the set of words, if a set may have each of their bits.
     fn from_words(words: &[u64]) -> Option<Self>

@@ -1,6 +1,6 @@
 //! The text of a set of elements.
 
-ghost use Rattle.std.specs.Prelude.{Some, map};
+ghost use Rattle.std.specs.Prelude.{Some, map, IsTrue, IsOk};
 ghost use Rattle.std.specs.Fmt.{DisplaysOnOk};
 ghost use Rattle.enumset_repr.specs.BitSet.{ascending};
 ghost use Rattle.enumset_sets.specs.Texts.{text_at, separator, joined_text};
@@ -29,7 +29,8 @@ impl<T: EnumSetType + fmt::Display> fmt::Display for EnumSet<T> {
 /// Writes ` | `, or nothing if the member that comes next is the first of a set. It is public for the crate of mixed
 /// sets, and has no counterpart in Rust's `enumset`.
 pub fn write_separator<W: fmt::Write>(is_first: bool, f: &mut fmt::Formatter<W>) -> fmt::Result
-    ensures { DisplaysOnOk W.write_str_gives f.old result (Some (separator is_first)) f.new }
+    ensures text { DisplaysOnOk W.write_str_gives f.old result (Some (separator is_first)) f.new }
+    ensures first { IsTrue is_first → IsOk result }
 {
     if is_first {
         return Ok(());

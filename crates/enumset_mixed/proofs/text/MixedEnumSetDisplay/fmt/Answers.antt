@@ -18,7 +18,7 @@ pub loop-member-preserved : goal.loop-member-preserved
 loop-member-preserved g c =
     let longer = length_push c.loop-member.yielded c.in-Some.member in record {
       first = grind (arith, nat_tests, longer);
-      written = writes_one_more (item_text g.T.Display.output) g.W.Write.write_str_gives c.loop-member.yielded c.in-Some.member _ _ _ _ _ c.loop-member.invariant.first c.loop-member.invariant.written c.in_ok-write_separator.ensures c.in_ok-fmt.ensures.writes;
+      written = writes_one_more (item_text g.T.Display.output) g.W.Write.write_str_gives c.loop-member.yielded c.in-Some.member _ _ _ _ _ c.loop-member.invariant.first c.loop-member.invariant.written c.in_ok-write_separator.ensures.text c.in_ok-fmt.ensures.writes;
     }
 
 pub returns-clause-writes : goal.returns-clause-writes

@@ -8,7 +8,7 @@ pub loop-element-preserved : goal.loop-element-preserved
 loop-element-preserved g c =
     let longer = length_push c.loop-element.yielded c.in-Some.element in record {
       first = grind (arith, nat_tests, longer);
-      written = writes_one_more g.T.Display.output g.W.Write.write_str_gives c.loop-element.yielded c.in-Some.element _ _ _ _ _ c.loop-element.invariant.first c.loop-element.invariant.written c.in_ok-write_separator.ensures c.in_ok-fmt.ensures.writes;
+      written = writes_one_more g.T.Display.output g.W.Write.write_str_gives c.loop-element.yielded c.in-Some.element _ _ _ _ _ c.loop-element.invariant.first c.loop-element.invariant.written c.in_ok-write_separator.ensures.text c.in_ok-fmt.ensures.writes;
     }
 
 pub returns-clause-writes : goal.returns-clause-writes
