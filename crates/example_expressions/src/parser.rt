@@ -1,7 +1,6 @@
 //! Whether tokens are an expression, and what could have come where they are none.
 
 ghost use Rattle.std.specs.Prelude.{◌≡◌, ◌≤◌, ◌<◌, ◌^◌, OnOk, IfErr};
-ghost use Rattle.enumset_repr.specs.BitSet as set;
 ghost use Rattle.example_expressions.specs.Grammar.{kinds_of, IsExpression, IsFault};
 ghost use Rattle.example_expressions.specs.States.{next_kinds, Reads, Refuses};
 
