@@ -1,4 +1,6 @@
 -- Which bit a discriminant names.
+--     bit_end, module_end      one past the greatest bit that a set may have;  that a module takes
+--     variant_limit      how many variants an enum may have
 --     width      how many bits an integer type has
 --     next_number, same_number      one more than a number, if that is kept;  whether two numbers are the same
 --     and_then      what comes next, if there is no fault so far
@@ -20,6 +22,17 @@ use Rattle.enumset_derive.specs.declared.plan.declaration.Serialized.{Serialized
 use Rattle.enumset_derive.specs.declared.plan.declaration.Serialized.TheVariants as serialized
 use Rattle.enumset_derive.specs.declared.fault.Reason.{Reason}
 use Rattle.enumset_derive.specs.declared.fault.Reason.TheVariants.{PastGreatest, PastRepresentation, NotAMask}
+
+-- as in Rust's crate
+abbrev pub bit_end : ℕ
+bit_end = 4294967232
+
+-- a module's constants are as long as the words
+abbrev pub module_end : ℕ
+module_end = 65536
+
+abbrev pub variant_limit : ℕ
+variant_limit = 256
 
 abbrev pub width : IntegerType → ℕ
 width U8 = 8
@@ -43,14 +56,14 @@ abbrev pub and_then : {A B E : Type 0} → Result A E → (A → Result B E) →
 and_then (Ok x) next = next x
 and_then (Err fault) next = Err fault
 
--- a number from 0 to 4294967231 names itself
+-- a number below `bit_end` names itself
 abbrev pub small_bit : Number → Result ℕ Reason
-small_bit (Small n) = if nat_lt n 4294967232 then Ok n else Err PastGreatest
+small_bit (Small n) = if nat_lt n bit_end then Ok n else Err PastGreatest
 small_bit n = Err PastGreatest
 
 abbrev pub bit_of_mask : Number → Result ℕ Reason
 bit_of_mask (Small n) = if is_power_of_two n then Ok (trailing_zeros w128 n) else Err NotAMask
-bit_of_mask (PowerOfTwo e) = if nat_lt e 4294967232 then Ok e else Err PastGreatest
+bit_of_mask (PowerOfTwo e) = if nat_lt e bit_end then Ok e else Err PastGreatest
 bit_of_mask (Negative n) = Err NotAMask
 
 abbrev pub bit_of : Map → ℕ → ℕ → Number → Result ℕ Reason
@@ -61,8 +74,8 @@ bit_of Compact w place n = Ok place
 
 abbrev pub bit_limit : Option Representation → ℕ
 bit_limit (Some (representation.Integer t)) = width t
-bit_limit r = 4294967232
+bit_limit r = bit_end
 
 abbrev pub json_limit : Option Serialized → ℕ
 json_limit (Some (serialized.Bits r)) = bit_limit (Some r)
-json_limit s = 4294967232
+json_limit s = bit_end

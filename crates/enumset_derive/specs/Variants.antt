@@ -13,7 +13,7 @@ use Rattle.std.specs.List.{find}
 use Rattle.std.specs.Option.{ok_or, option_or, option_map, option_map_or}
 use Rattle.std.specs.Result.{result_map_both}
 use Rattle.std.specs.Cmp.Lexicographic.{pointwise}
-use Rattle.enumset_derive.specs.Numbers.{next_number, same_number, and_then, bit_of, bit_limit, json_limit}
+use Rattle.enumset_derive.specs.Numbers.{module_end, variant_limit, next_number, same_number, and_then, bit_of, bit_limit, json_limit}
 use Rattle.enumset_derive.specs.declared.fault.Place.{Place}
 use Rattle.enumset_derive.specs.declared.plan.declaration.Number.{Number}
 use Rattle.enumset_derive.specs.declared.plan.declaration.Number.TheVariants.{Small}
@@ -48,7 +48,7 @@ bit_among o named n =
     and_then (bit_of (option_map_or (λ m. m.0) o.map Lsb) (bit_limit o.representation) (length named) n) (λ b.
     if nat_le (bit_limit o.representation) b then Err (PastRepresentation b (bit_limit o.representation))
     else if nat_le (json_limit o.serialized) b then Err (PastSerialized b (json_limit o.serialized))
-    else if nat_le 65536 b then Err (PastWords b)
+    else if nat_le module_end b then Err (PastWords b)
     else option_map_or (λ m. Err (taken_at b m)) (find (has_taken b n) named) (Ok b))
 
 abbrev pub has_name : Variant → Variant → Bool
@@ -60,7 +60,7 @@ number_place v = option_map_or (λ d. d.place) v.discriminant v.place
 -- the discriminant is as given, else as implied
 abbrev pub named_variant : Options → List Variant → List NamedVariant → Option Number → Variant → Result NamedVariant Fault
 named_variant o earlier named implied v =
-    if nat_le 256 (length named) then Err (fault_at v.place TooManyVariants)
+    if nat_le variant_limit (length named) then Err (fault_at v.place TooManyVariants)
     else option_map_or (λ w. Err (fault_at v.place (NameTwice w.place))) (find (has_name v) earlier)
     (result_map_both (λ m. m) (fault_at (number_place v))
     (and_then (ok_or (option_or (option_map (λ d. d.number) v.discriminant) implied) ImpliedTooLarge) (λ n.

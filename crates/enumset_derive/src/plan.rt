@@ -4,7 +4,7 @@ ghost use Rattle.std.specs.Prelude.{◌≡◌, ◌≤◌, ◌*◌, Some, length,
 ghost use Rattle.enumset_repr.specs.Number.{is_distinct, lists_bits};
 ghost use Rattle.enumset_repr.specs.Words.{lists_words};
 ghost use Rattle.enumset_repr.specs.Lawful.{one_past_all};
-ghost use Rattle.enumset_derive.specs.Numbers.{bit_limit};
+ghost use Rattle.enumset_derive.specs.Numbers.{bit_end, bit_limit};
 ghost use Rattle.enumset_derive.specs.Variants.{named_variants, bits_of, IsErrorOf};
 ghost use Rattle.enumset_derive.specs.Plans.{kind_of, IsPlanned, IsStore, IsLawfulStore, IsLawfulPlan, IsStoredAsAsked};
 
@@ -80,7 +80,7 @@ pub fn plan_enum(alloc: Global, declaration: &EnumDeclaration) -> Result<Plan, D
 
 /// One past the greatest bit, or 0 if there is none.
 fn width_of(named: &[NamedVariant]) -> u32
-    requires { one_past_all (bits_of named.now) ≤ 4294967232 }
+    requires { one_past_all (bits_of named.now) ≤ bit_end }
     ensures { result ≡ one_past_all (bits_of named.now) }
 {
     match named.split_first() {

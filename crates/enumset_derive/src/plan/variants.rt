@@ -7,7 +7,7 @@ ghost use Rattle.enumset_repr.specs.BitSet.{is_in};
 ghost use Rattle.enumset_repr.specs.Number.{is_distinct};
 ghost use Rattle.enumset_repr.specs.Lawful.{one_past_all};
 ghost use Rattle.enumset_derive.specs.declared.plan.declaration.Number.TheVariants.{Small};
-ghost use Rattle.enumset_derive.specs.Numbers.{bit_of, bit_limit, json_limit};
+ghost use Rattle.enumset_derive.specs.Numbers.{variant_limit, bit_of, bit_limit, json_limit};
 ghost use Rattle.enumset_derive.specs.Variants.{has_name, has_taken, bit_among, named_variant, named_from, bits_of, IsErrorOf};
 
 use crate::fault::{DeriveError, Fault, Place, Reason};
@@ -86,7 +86,7 @@ fn place_of_name(variants: &[Variant], variant: &Variant) -> Option<Place>
 /// The bit of one more variant with this discriminant, or what is wrong with it.
 #[tactic(auto, using(crate::proofs::Named::not_taken), unfolding(crate::specs::Variants::bit_among))]
 fn bit_among(options: &Options, named: &[NamedVariant], number: Number) -> Result<u32, Reason>
-    requires { length named.now < 256 }
+    requires { length named.now < variant_limit }
     ensures bit { result ≡ bit_among options.now named.now number }
     ensures new { IfOk result (λ b. is_in b (bits_of named.now) ≡ false) }
     ensures range { IfOk result (λ b. b < bit_limit options.now.representation) }
