@@ -14,7 +14,7 @@ mod variants;
 use crate::fault::{DeriveError, Place, Reason};
 pub use declaration::{
     Discriminant, EnumDeclaration, IntegerType, Map, Number, Options, Representation, Serialized,
-    Variant,
+    Variant, Visibility,
 };
 use std::alloc::{AllocError, Global};
 use variants::name_variants;

@@ -74,7 +74,7 @@ pub struct Element<'a> {
     /// Whether it has the discriminants that are given.
     pub has_discriminants: bool,
     /// The attribute of each of its implementations, if they are there for tests alone.
-    pub guard: &'static str,
+    pub guard: Option<&'static str>,
 }
 
 /// A name that a source gives to something: the crate of which it is imported, if it is, and the name.

@@ -13,14 +13,24 @@ pub struct EnumDeclaration<'a> {
     pub attributes: [String; 2],
     /// What is derived beside `EnumSetType`, in its order, each as it is written.
     pub derives: Vec<String>,
-    /// `pub` and what stands in brackets after it, as `(crate)`; empty if they are not there.
-    pub visibility: (&'a str, &'a str),
+    pub visibility: Visibility<'a>,
     pub name: &'a str,
     /// In the order of the declaration.
     pub variants: Vec<Variant<'a>>,
     /// The comments after the last variant, a line each.
     pub last_comments: String,
     pub options: Options<'a>,
+}
+
+/// The visibility of an enum, as it is written.
+#[derive(Clone, Copy)]
+pub enum Visibility<'a> {
+    /// None is written.
+    Private,
+    /// `pub`.
+    Public,
+    /// `pub` and what stands in brackets after it, as `(crate)`.
+    Restricted(&'a str),
 }
 
 /// A variant without fields.
@@ -42,8 +52,8 @@ pub struct Variant<'a> {
 pub struct Discriminant<'a> {
     /// Where it begins.
     pub place: Place,
-    /// The minus sign before the literal, if there is one.
-    pub sign: &'a str,
+    /// Whether a minus sign stands before the literal.
+    pub has_minus: bool,
     /// The literal as it is written, as `0x1F`, without the type after it; nothing of an expression.
     pub literal: Option<&'a str>,
     pub number: Number,

@@ -32,20 +32,20 @@ impl<'a, 'b> Cursor<'a, 'b> {
         let [tokens @ .., _] = self.tokens_since(&equal) else {
             return Err(begin.fault(NOT_A_NUMBER));
         };
-        let (sign, literal, number) = match tokens {
+        let (has_minus, literal, number) = match tokens {
             [minus, literal] if minus.is("-") && is_literal(literal) => {
                 let (literal, number) = read_literal(begin, literal, true)?;
-                ("-", Some(literal), number)
+                (true, Some(literal), number)
             }
             [literal] if is_literal(literal) => {
                 let (literal, number) = read_literal(begin, literal, false)?;
-                ("", Some(literal), number)
+                (false, Some(literal), number)
             }
-            tokens => ("", None, evaluate(alloc, begin, tokens, default)?),
+            tokens => (false, None, evaluate(alloc, begin, tokens, default)?),
         };
         Ok(Some(Discriminant {
             place: begin.place,
-            sign,
+            has_minus,
             literal,
             number,
         }))

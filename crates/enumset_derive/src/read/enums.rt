@@ -56,7 +56,7 @@ impl<'a, 'b> Reader<'a, 'b> {
             declaration: EnumDeclaration {
                 attributes: [String::new(alloc), String::new(alloc)],
                 derives: Vec::new(alloc),
-                visibility: ("", ""),
+                visibility: Visibility::Private,
                 name: "",
                 variants: Vec::new(alloc),
                 last_comments: String::new(alloc),
@@ -102,7 +102,7 @@ impl<'a, 'b> Reader<'a, 'b> {
             declaration: state.declaration,
             plan,
             json_names,
-            guard: if is_test { FOR_TESTS } else { "" },
+            guard: is_test.then_some(FOR_TESTS),
         };
         Ok(
             self.source

@@ -260,20 +260,20 @@ impl<'a, 'b> Cursor<'a, 'b> {
         })
     }
 
-    /// Reads a visibility, as `pub` or `pub(crate)`, if there is one: `pub` and what stands in brackets after it.
-    pub fn read_visibility(&mut self) -> Outcome<(&'a str, &'a str)> {
+    /// Reads a visibility, as `pub` or `pub(crate)`, if there is one.
+    pub fn read_visibility(&mut self) -> Outcome<Visibility<'a>> {
         if !self.token.is("pub") {
-            return Ok(("", ""));
+            return Ok(Visibility::Private);
         }
         self.advance_to_token()?;
         let begin = self.token.begin();
         if !self.token.is_mark("(") {
-            return Ok(("pub", ""));
+            return Ok(Visibility::Public);
         }
         self.skip_to(")", 0)?;
         let restriction = self.text_since(begin);
         self.advance_to_token()?;
-        Ok(("pub", restriction))
+        Ok(Visibility::Restricted(restriction))
     }
 }
 

@@ -48,7 +48,6 @@ pub(super) fn write_element_type(out: &mut String, subject: &Subject) -> Written
 /// Writes the enum.
 fn write_enum(out: &mut String, alloc: Global, element: &Element) -> Written {
     let declaration = &element.declaration;
-    let (visibility, restriction) = declaration.visibility;
     let (name, last_comments) = (declaration.name, &declaration.last_comments);
     let [attributes, later_attributes] = &declaration.attributes;
     out.push_str(attributes.as_str())?;
@@ -57,14 +56,23 @@ fn write_enum(out: &mut String, alloc: Global, element: &Element) -> Written {
     }
     write_derives(out, alloc, declaration)?;
     out.push_str(later_attributes.as_str())?;
-    let gap = if visibility.is_empty() { "" } else { " " };
     let is_empty = declaration.variants.is_empty() && last_comments.is_empty();
     let line = if is_empty { "" } else { "\n" };
-    write!(out, "{visibility}{restriction}{gap}enum {name} {{{line}")?;
+    write_visibility(out, declaration.visibility)?;
+    write!(out, "enum {name} {{{line}")?;
     for variant in &declaration.variants {
         write_variant(out, variant, element.has_discriminants)?;
     }
     write!(out, "{last_comments}}}")
+}
+
+/// Writes a visibility, with a space after it, or nothing if none is written.
+fn write_visibility(out: &mut String, visibility: Visibility) -> Written {
+    match visibility {
+        Visibility::Private => Ok(()),
+        Visibility::Public => out.push_str("pub "),
+        Visibility::Restricted(restriction) => write!(out, "pub{restriction} "),
+    }
 }
 
 /// Writes a variant, with its discriminant if the enum has them.
@@ -81,7 +89,8 @@ fn write_variant(out: &mut String, variant: &Variant, has_discriminant: bool) ->
 /// Writes a discriminant: its literal, or the number that an expression is.
 fn write_discriminant(out: &mut String, given: &Discriminant) -> Written {
     match (given.literal, given.number) {
-        (Some(literal), _) => write!(out, " = {}{literal}", given.sign),
+        (Some(literal), _) if given.has_minus => write!(out, " = -{literal}"),
+        (Some(literal), _) => write!(out, " = {literal}"),
         (None, Number::Small(number)) => write!(out, " = {number}"),
         (None, Number::Negative(number)) => write!(out, " = -{number}"),
         // No expression is past 128 bits.

@@ -150,7 +150,7 @@ fn model_of(subject: &Subject, name: &str, width: Option<u32>) -> Written<JsonMo
 
 /// Writes the calls. They name `Result` by its path, since the module may have another.
 pub(super) fn write_json(out: &mut String, subject: &Subject, serialized: Serialized) -> Written {
-    let (own, guard) = (subject.name, subject.element.guard);
+    let (own, guard) = (subject.name, subject.element.guard.unwrap_or(""));
     let width = width_of(serialized, &subject.element.plan);
     let JsonForm {
         name,

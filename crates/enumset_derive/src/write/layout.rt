@@ -56,6 +56,6 @@ pub(super) fn write_call(out: &mut String, alloc: Global, name: &str, items: &[S
 
 /// Writes the head of an implementation of a trait, after an empty line and the comment of its own.
 pub(super) fn write_head(out: &mut String, subject: &Subject, doc: &str, form: &str) -> Written {
-    let (name, guard) = (subject.name, subject.element.guard);
+    let (name, guard) = (subject.name, subject.element.guard.unwrap_or(""));
     write!(out, "\n\n{doc}{guard}impl {form} for {name} {{\n")
 }
