@@ -1,4 +1,5 @@
 pub mod Numbers
 pub mod Variants
 pub mod Plans
+pub mod Values
 pub mod Laws

@@ -1,5 +1,9 @@
 //! Discriminants that are written as expressions: exact whole numbers under Rust's operators, by Rust's precedence.
 
+ghost use Rattle.std.specs.Prelude.{◌≡◌, IfSome, Some};
+ghost use Rattle.std.specs.Option.{option_map};
+ghost use Rattle.enumset_derive.specs.Values.{IsNumber, applied, form_of, answer};
+
 use super::discriminants::NOT_A_NUMBER;
 use super::values::{NumberForm, NumberType, Value};
 use super::*;
@@ -62,33 +66,46 @@ impl Operator {
         Some((operator, 1))
     }
 
-    /// What it makes of two numbers, if that is a number. Bits of negative numbers are not looked at.
-    fn apply(self, left: Value, right: Value) -> Option<Value> {
-        let is_shift = matches!(self, Operator::Left | Operator::Right);
+    /// The absolute value of what it makes of two numbers, and whether it is negative, if it is a number of 128 bits. Bits
+    /// of negative numbers are not looked at.
+    fn applied(self, left: Value, right: Value) -> Option<(u128, bool)>
+        ensures { IsNumber result (applied self left right) }
+    {
         let has_sign = left.is_negative || right.is_negative;
-        let (absolute, is_negative) = match self {
-            Operator::Plus => left.plus(right)?,
-            Operator::Minus => left.plus(right.negated())?,
-            Operator::Times => {
-                let product = left.absolute.checked_mul(right.absolute)?;
-                (
-                    product,
-                    product > 0 && left.is_negative != right.is_negative,
-                )
-            }
-            Operator::Left => left.shifted_up(right)?,
-            Operator::Right => left.shifted_down(right)?,
-            Operator::Or if !has_sign => (left.absolute | right.absolute, false),
-            Operator::Xor if !has_sign => (left.absolute ^ right.absolute, false),
-            Operator::And if !has_sign => (left.absolute & right.absolute, false),
-            _ => return None,
-        };
-        let form = match (left.form, right.form) {
-            (NumberForm::Character, _) | (_, NumberForm::Character) => return None,
-            (NumberForm::Typed(known), _) => NumberForm::Typed(known),
-            (_, NumberForm::Typed(known)) if !is_shift => NumberForm::Typed(known),
-            _ => NumberForm::Computed,
-        };
+        match self {
+            Operator::Plus => left.plus(right),
+            Operator::Minus => left.plus(right.negated()),
+            Operator::Times => left.times(right),
+            Operator::Left => left.shifted_up(right),
+            Operator::Right => left.shifted_down(right),
+            Operator::Or if !has_sign => Some((left.absolute | right.absolute, false)),
+            Operator::Xor if !has_sign => Some((left.absolute ^ right.absolute, false)),
+            Operator::And if !has_sign => Some((left.absolute & right.absolute, false)),
+            _ => None,
+        }
+    }
+
+    /// What is known of the type of what it makes of two numbers, if neither is a character.
+    fn form_of(self, left: NumberForm, right: NumberForm) -> Option<NumberForm>
+        ensures { result ≡ form_of self left right }
+    {
+        let is_shift = matches!(self, Operator::Left | Operator::Right);
+        match (left, right) {
+            (NumberForm::Character, _) | (_, NumberForm::Character) => None,
+            (NumberForm::Typed(known), _) => Some(NumberForm::Typed(known)),
+            (_, NumberForm::Typed(known)) if !is_shift => Some(NumberForm::Typed(known)),
+            _ => Some(NumberForm::Computed),
+        }
+    }
+
+    /// What it makes of two numbers, if neither is a character and that is a number of 128 bits.
+    fn apply(self, left: Value, right: Value) -> Option<Value>
+        ensures number { IsNumber (option_map (λ v. (v.absolute, v.is_negative)) result) (answer self left right) }
+        ensures form { IfSome result (λ v. form_of self left.form right.form ≡ Some v.form) }
+    {
+        let form = self.form_of(left.form, right.form)?;
+        let (absolute, is_negative) = self.applied(left, right)?;
+        let is_shift = matches!(self, Operator::Left | Operator::Right);
         let other = if is_shift { 0 } else { right.peak };
         Some(Value {
             absolute,

@@ -1,5 +1,10 @@
 //! The numbers in an expression, with what is known of their types.
 
+ghost use Rattle.std.specs.Prelude.{◌≡◌, ◌^◌, ◌+ℤ◌, ◌*ℤ◌, pos, neg_ℤ, Some};
+ghost use Rattle.std.specs.Int.{int_shr};
+ghost use Rattle.std.specs.Option.{option_map};
+ghost use Rattle.enumset_derive.specs.Values.{whole_number, IsNumber, shift_of};
+
 use super::discriminants::{number_of, without_type};
 use super::*;
 
@@ -112,7 +117,9 @@ impl Value {
     }
 
     /// The same with the other sign.
-    pub fn negated(self) -> Value {
+    pub fn negated(self) -> Value
+        ensures { whole_number result ≡ neg_ℤ (whole_number self) }
+    {
         let is_negative = self.absolute > 0 && !self.is_negative;
         Value {
             is_negative,
@@ -144,7 +151,9 @@ impl Value {
     }
 
     /// The sum of both.
-    pub fn plus(self, other: Value) -> Option<(u128, bool)> {
+    pub fn plus(self, other: Value) -> Option<(u128, bool)>
+        ensures { IsNumber result (Some (whole_number self +ℤ whole_number other)) }
+    {
         if self.is_negative == other.is_negative {
             return Some((self.absolute.checked_add(other.absolute)?, self.is_negative));
         }
@@ -157,27 +166,40 @@ impl Value {
         }
     }
 
-    /// The number shifted to higher bits.
-    pub fn shifted_up(self, count: Value) -> Option<(u128, bool)> {
+    /// The product of both.
+    pub fn times(self, other: Value) -> Option<(u128, bool)>
+        ensures { IsNumber result (Some (whole_number self *ℤ whole_number other)) }
+    {
+        let absolute = self.absolute.checked_mul(other.absolute)?;
+        Some((absolute, self.is_negative != other.is_negative))
+    }
+
+    /// The number shifted to higher bits: a product.
+    #[tactic(auto, using(crate::proofs::Values::times_pos, crate::proofs::Values::size_times_pos))]
+    pub fn shifted_up(self, count: Value) -> Option<(u128, bool)>
+        ensures { IsNumber result (option_map (λ k. whole_number self *ℤ pos (2 ^ k)) (shift_of count)) }
+    {
         let power = 1u128.checked_shl(count.bits()?)?;
         Some((self.absolute.checked_mul(power)?, self.is_negative))
     }
 
     /// The number shifted to lower bits: a quotient, which is rounded down.
-    pub fn shifted_down(self, count: Value) -> Option<(u128, bool)> {
+    pub fn shifted_down(self, count: Value) -> Option<(u128, bool)>
+        ensures { IsNumber result (option_map (λ k. int_shr (whole_number self) k) (shift_of count)) }
+    {
         let bits = count.bits()?;
-        let absolute = match self.is_negative {
-            true => {
-                let below = self.absolute.saturating_sub(1).checked_shr(bits)?;
-                below.saturating_add(1)
+        match self.absolute.checked_sub(1) {
+            Some(below) if self.is_negative => {
+                Some((below.checked_shr(bits)?.saturating_add(1), true))
             }
-            false => self.absolute.checked_shr(bits)?,
-        };
-        Some((absolute, self.is_negative))
+            _ => Some((self.absolute.checked_shr(bits)?, false)),
+        }
     }
 
     /// By how many bits the number shifts another, if that is below 128.
-    fn bits(self) -> Option<u32> {
+    fn bits(self) -> Option<u32>
+        ensures { result ≡ shift_of self }
+    {
         match self.absolute {
             bits if bits < 128 && !self.is_negative => Some(bits as u32),
             _ => None,
