@@ -5,13 +5,19 @@
 --     shift_of      by how many bits a value shifts another, if it can
 --     of_bits, applied      what a word on bits, or an operator, makes of the numbers of two values
 --     form_of, answer      what is known of the type of what it makes;  the number, unless an operand is a character
-use Rattle.std.specs.Prelude.{◌≡◌, ℕ, ◌^◌, ◌≤◌, Bool, true, false, ◌||◌, ℤ, pos, ◌+ℤ◌, ◌-ℤ◌, ◌*ℤ◌, neg_ℤ, unsigned_abs, nat_lt, bit_and, bit_or, bit_xor, Option, Some, None, if◌then◌else◌}
+--     greatest, has      the greatest number of a type;  whether it has the number of a sign and an absolute value
+--     type_of, fits      the type of a value, or else a given one;  whether the value, and all it was made of, fit it
+--     is_exact, can_cast      whether a value of this form fits its type;  whether it can be made one of another type
+use Rattle.std.specs.Prelude.{◌≡◌, ℕ, ◌+◌, ◌-◌, ◌^◌, ◌≤◌, nat_le, Bool, true, false, ◌&&◌, ◌||◌, ℤ, pos, ◌+ℤ◌, ◌-ℤ◌, ◌*ℤ◌, neg_ℤ, unsigned_abs, nat_lt, bit_and, bit_or, bit_xor, Option, Some, None, if◌then◌else◌}
 use Rattle.std.specs.Int.{int_shr}
 use Rattle.std.specs.Option.{option_map, option_map_or}
+use Rattle.enumset_derive.specs.Numbers.{width}
+use Rattle.enumset_derive.specs.declared.plan.declaration.IntegerType.TheVariants.{U32}
 use Rattle.enumset_derive.specs.declared.read.expressions.Operator.{Operator}
 use Rattle.enumset_derive.specs.declared.read.expressions.Operator.TheVariants.{Or, Xor, And, Left, Right, Plus, Minus, Times}
 use Rattle.enumset_derive.specs.declared.read.values.NumberForm.{NumberForm}
-use Rattle.enumset_derive.specs.declared.read.values.NumberForm.TheVariants.{Character, Computed, Typed}
+use Rattle.enumset_derive.specs.declared.read.values.NumberForm.TheVariants.{Literal, Character, Computed, Typed}
+use Rattle.enumset_derive.specs.declared.read.values.NumberType.{NumberType}
 use Rattle.enumset_derive.specs.declared.read.values.Value.{Value}
 
 abbrev pub signed : Bool → ℕ → ℤ
@@ -57,3 +63,29 @@ form_of o f g = Some Computed
 
 abbrev pub answer : Operator → Value → Value → Option ℤ
 answer o v w = option_map_or (λ f. applied o v w) (form_of o v.form w.form) None
+
+-- ---- types
+
+abbrev pub greatest : NumberType → ℕ
+greatest t = 2 ^ (if t.is_signed then width t.size - 1 else width t.size) - 1
+
+abbrev pub has : NumberType → Bool → ℕ → Bool
+has t false n = nat_le n (greatest t)
+has t true n = t.is_signed && nat_le n (greatest t + 1)
+
+abbrev pub type_of : NumberForm → NumberType → NumberType
+type_of (Typed t) default = t
+type_of f default = default
+
+abbrev pub fits : Value → NumberType → Bool
+fits v default =
+    has (type_of v.form default) v.is_negative v.absolute && has (type_of v.form default) v.is_negative v.peak
+
+-- what operators made is an `i32` if nothing else says its type
+abbrev pub is_exact : Value → NumberForm → Bool
+is_exact v Literal = true
+is_exact v Character = true
+is_exact v f = fits v (record { size = U32; is_signed = true })
+
+abbrev pub can_cast : Value → NumberType → Bool
+can_cast v t = is_exact v v.form && has t v.is_negative v.absolute

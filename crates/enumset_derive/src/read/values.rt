@@ -1,9 +1,10 @@
 //! The numbers in an expression, with what is known of their types.
 
-ghost use Rattle.std.specs.Prelude.{◌≡◌, ◌^◌, ◌+ℤ◌, ◌*ℤ◌, pos, neg_ℤ, Some};
+ghost use Rattle.std.specs.Prelude.{◌≡◌, ◌^◌, ◌+ℤ◌, ◌*ℤ◌, pos, neg_ℤ, Some, is_some, IfSome};
 ghost use Rattle.std.specs.Int.{int_shr};
 ghost use Rattle.std.specs.Option.{option_map};
-ghost use Rattle.enumset_derive.specs.Values.{whole_number, IsNumber, shift_of};
+ghost use Rattle.enumset_derive.specs.Values.{whole_number, IsNumber, shift_of, greatest, has, fits, can_cast};
+ghost use Rattle.enumset_derive.specs.declared.read.values.NumberForm.TheVariants.{Typed};
 
 use super::discriminants::{number_of, without_type};
 use super::*;
@@ -43,7 +44,9 @@ impl NumberType {
     }
 
     /// The greatest number of the type.
-    fn greatest(self) -> u128 {
+    fn greatest(self) -> u128
+        ensures { result ≡ greatest self }
+    {
         let greatest = match self.size {
             IntegerType::U8 => u128::from(u8::MAX),
             IntegerType::U16 => u128::from(u16::MAX),
@@ -59,7 +62,9 @@ impl NumberType {
     }
 
     /// Whether the type has a number of this absolute value and sign.
-    fn has(self, absolute: u128, is_negative: bool) -> bool {
+    fn has(self, absolute: u128, is_negative: bool) -> bool
+        ensures { result ≡ has self is_negative absolute }
+    {
         match is_negative {
             true => self.is_signed && absolute.saturating_sub(1) <= self.greatest(),
             false => absolute <= self.greatest(),
@@ -128,7 +133,9 @@ impl Value {
     }
 
     /// Whether it and all that it was made of fit its type, or this one if nothing else says the type.
-    pub fn fits(self, default: NumberType) -> bool {
+    pub fn fits(self, default: NumberType) -> bool
+        ensures { result ≡ fits self default }
+    {
         let form = match self.form {
             NumberForm::Typed(known) => known,
             _ => default,
@@ -137,7 +144,11 @@ impl Value {
     }
 
     /// The number as one of another type, if that has it. Others would lose bits.
-    pub fn cast(self, target: NumberType) -> Option<Value> {
+    pub fn cast(self, target: NumberType) -> Option<Value>
+        ensures test { is_some result ≡ can_cast self target }
+        ensures number { IfSome result (λ v. whole_number v ≡ whole_number self) }
+        ensures form { IfSome result (λ v. v.form ≡ Typed target) }
+    {
         let is_right = match self.form {
             NumberForm::Literal | NumberForm::Character => true,
             NumberForm::Computed | NumberForm::Typed(_) => self.fits(NumberType::OF_LITERALS),
