@@ -6,7 +6,7 @@ ghost use Rattle.enumset_repr.specs.Words.{lists_words};
 ghost use Rattle.enumset_repr.specs.Lawful.{one_past_all};
 ghost use Rattle.enumset_derive.specs.Numbers.{bit_end, bit_limit};
 ghost use Rattle.enumset_derive.specs.Variants.{named_variants, bits_of, IsErrorOf};
-ghost use Rattle.enumset_derive.specs.Plans.{kind_of, IsPlanned, IsStore, IsLawfulStore, IsLawfulPlan, IsStoredAsAsked};
+ghost use Rattle.enumset_derive.specs.Plans.{kind_of, IsPlanned, IsLawfulPlan, IsStoredAsAsked};
 
 mod declaration;
 mod variants;
