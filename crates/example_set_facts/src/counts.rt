@@ -1,6 +1,6 @@
 //! How many members sets have.
 
-ghost use Rattle.std.specs.Prelude.{◌≡◌, ◌↔◌, ◌<◌, ◌≤◌, ◌+◌, ◌*◌, true, false, IfSome};
+ghost use Rattle.std.specs.Prelude.{◌≡◌, ◌≢◌, ◌↔◌, ◌<◌, ◌≤◌, ◌+◌, ◌*◌, true, false, IfSome, IfNone};
 ghost use Rattle.enumset_repr.specs.BitSet as set;
 ghost use Rattle.enumset_sets.specs.Elements.{valid_bits};
 
@@ -114,7 +114,8 @@ pub fn is_whole<T: EnumSetType>(part: &EnumSet<T>, whole: &EnumSet<T>) -> bool
 /// The only member, if there is one alone.
 #[tactic(auto, using(enumset_repr::specs::Laws::Decided::decided, enumset_repr::specs::Laws::DecidedEnds::ends, enumset_repr::specs::Laws::DecidedCounts::counts, enumset_repr::specs::Laws::DecidedCounts::counts_of_parts))]
 pub fn sole<T: EnumSetType>(members: &EnumSet<T>) -> Option<T>
-    ensures { IfSome result (λ t. members.now ≡ set.only (T.elements.bit t)) }
+    ensures sole { IfSome result (λ t. members.now ≡ set.only (T.elements.bit t)) }
+    ensures none { IfNone result (set.len members.now ≢ 1) }
 {
     if members.len() == 1 {
         members.first()
