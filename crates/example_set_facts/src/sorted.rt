@@ -1,6 +1,6 @@
 //! Vectors of sets in their order.
 
-ghost use Rattle.std.specs.Prelude.{◌≡◌, ◌≤◌, ◌++◌, IfOk};
+ghost use Rattle.std.specs.Prelude.{◌≡◌, ◌≢◌, ◌≤◌, ◌++◌, IfOk, IfErr, All};
 ghost use Rattle.std.specs.List.{slice_index_or};
 ghost use Rattle.std.specs.List.Sorted.{IsPermutation, IsSorted};
 ghost use Rattle.enumset_repr.specs.BitSet as set;
@@ -32,9 +32,11 @@ pub fn merged<T: EnumSetType>(
     Ok(all)
 }
 
-/// A place at which a list of sets has the wanted one, if a binary search finds it.
+/// A place at which a list of sets has the wanted one. In a sorted list a binary search finds it, if the list has it.
 pub fn place_of<T: EnumSetType>(sets: &[EnumSet<T>], wanted: &EnumSet<T>) -> Result<usize, usize>
-    ensures { IfOk result (λ k. slice_index_or sets.now k set.empty ≡ wanted.now) }
+    ensures found { IfOk result (λ k. slice_index_or sets.now k set.empty ≡ wanted.now) }
+    ensures absent { IsSorted compare sets.now
+        → IfErr result (λ _. All (λ s. s ≢ wanted.now) sets.now) }
 {
     sets.binary_search(wanted)
 }
