@@ -1,6 +1,7 @@
 //! Facts about sets that prove with the line below: what users state of permissions, schedules, parsers, features,
-//! messages, configurations, texts in JSON, alarms, votes, partitions and counts. Loops have an invariant beside it, and
-//! a few functions name a ruleset, or a definition to unfold, of their own.
+//! messages, configurations, texts in JSON, alarms, votes, partitions, slices of elements and counts. Loops have an
+//! invariant beside it, a few functions name a ruleset, or a definition to unfold, of their own, and the search in a
+//! sorted list has a lemma.
 #![tactic(auto, using(enumset::specs::Laws::SetLaws::set_laws))]
 
 pub mod access;
@@ -18,6 +19,7 @@ pub mod parsing;
 pub mod partitions;
 pub mod permissions;
 pub mod schedules;
+pub mod slices;
 pub mod sorted;
 pub mod versions;
 pub mod votes;
