@@ -1,6 +1,6 @@
 //! Slices of elements.
 
-ghost use Rattle.std.specs.Prelude.{◌≡◌, position};
+ghost use Rattle.std.specs.Prelude.{◌≡◌, position, count_by};
 ghost use Rattle.enumset_repr.specs.BitSet as set;
 
 use enumset::{EnumSet, EnumSetType};
@@ -10,4 +10,11 @@ pub fn first_place<T: EnumSetType>(elements: &[T], members: &EnumSet<T>) -> Opti
     ensures { result ≡ position (λ t. set.contains members.now (T.elements.bit t)) elements.now }
 {
     elements.iter().position(|t| members.contains(*t))
+}
+
+/// How many elements of a slice a set has, each counted as often as it comes.
+pub fn count_in<T: EnumSetType>(elements: &[T], members: &EnumSet<T>) -> usize
+    ensures { result ≡ count_by (λ t. set.contains members.now (T.elements.bit t)) elements.now }
+{
+    elements.iter().filter(|t| members.contains(**t)).count()
 }
