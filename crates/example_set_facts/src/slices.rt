@@ -1,6 +1,7 @@
 //! Slices of elements.
 
 ghost use Rattle.std.specs.Prelude.{◌≡◌, position, count_by};
+ghost use Rattle.std.specs.List.{list_all};
 ghost use Rattle.enumset_repr.specs.BitSet as set;
 
 use enumset::{EnumSet, EnumSetType};
@@ -17,4 +18,11 @@ pub fn count_in<T: EnumSetType>(elements: &[T], members: &EnumSet<T>) -> usize
     ensures { result ≡ count_by (λ t. set.contains members.now (T.elements.bit t)) elements.now }
 {
     elements.iter().filter(|t| members.contains(**t)).count()
+}
+
+/// Whether a set has all elements of a slice.
+pub fn has_each<T: EnumSetType>(elements: &[T], members: &EnumSet<T>) -> bool
+    ensures { result ≡ list_all (λ t. set.contains members.now (T.elements.bit t)) elements.now }
+{
+    elements.iter().all(|t| members.contains(*t))
 }
