@@ -1,7 +1,7 @@
 //! Slices of elements.
 
 ghost use Rattle.std.specs.Prelude.{◌≡◌, position, count_by};
-ghost use Rattle.std.specs.List.{list_all};
+ghost use Rattle.std.specs.List.{list_any, list_all};
 ghost use Rattle.enumset_repr.specs.BitSet as set;
 
 use enumset::{EnumSet, EnumSetType};
@@ -25,4 +25,11 @@ pub fn has_each<T: EnumSetType>(elements: &[T], members: &EnumSet<T>) -> bool
     ensures { result ≡ list_all (λ t. set.contains members.now (T.elements.bit t)) elements.now }
 {
     elements.iter().all(|t| members.contains(*t))
+}
+
+/// Whether a set has some element of a slice.
+pub fn has_some<T: EnumSetType>(elements: &[T], members: &EnumSet<T>) -> bool
+    ensures { result ≡ list_any (λ t. set.contains members.now (T.elements.bit t)) elements.now }
+{
+    elements.iter().any(|t| members.contains(*t))
 }
