@@ -1,10 +1,17 @@
 //! Slices of elements.
 
-ghost use Rattle.std.specs.Prelude.{◌≡◌, position, count_by};
+ghost use Rattle.std.specs.Prelude.{◌≡◌, fold, position, count_by};
 ghost use Rattle.std.specs.List.{list_any, list_all};
 ghost use Rattle.enumset_repr.specs.BitSet as set;
 
 use enumset::{EnumSet, EnumSetType};
+
+/// The set of the elements of a slice, inserted one by one.
+pub fn folded<T: EnumSetType>(elements: &[T]) -> EnumSet<T>
+    ensures { result ≡ fold (λ s t. set.union s (set.only (T.elements.bit t))) set.empty elements.now }
+{
+    elements.iter().fold(EnumSet::new(), |all, t| all | *t)
+}
 
 /// The place of the first element of a slice that a set has.
 pub fn first_place<T: EnumSetType>(elements: &[T], members: &EnumSet<T>) -> Option<usize>
