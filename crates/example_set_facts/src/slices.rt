@@ -1,6 +1,6 @@
 //! Slices of elements.
 
-ghost use Rattle.std.specs.Prelude.{◌≡◌, fold, position, count_by};
+ghost use Rattle.std.specs.Prelude.{◌≡◌, map, fold, position, count_by};
 ghost use Rattle.std.specs.List.{list_any, list_all};
 ghost use Rattle.enumset_repr.specs.BitSet as set;
 
@@ -11,6 +11,18 @@ pub fn folded<T: EnumSetType>(elements: &[T]) -> EnumSet<T>
     ensures { result ≡ fold (λ s t. set.union s (set.only (T.elements.bit t))) set.empty elements.now }
 {
     elements.iter().fold(EnumSet::new(), |all, t| all | *t)
+}
+
+/// The set of the elements of a slice, collected in a loop.
+#[tactic(auto, using(enumset_sets::specs::Laws::Folds::from_list_none, enumset_sets::specs::Laws::Folds::from_list_taken))]
+pub fn collected<T: EnumSetType>(elements: &[T]) -> EnumSet<T>
+    ensures { result ≡ set.from_list (map T.elements.bit elements.now) }
+{
+    let mut all = EnumSet::new();
+    for element in elements {
+        all.insert(*element);
+    }
+    all
 }
 
 /// The place of the first element of a slice that a set has.
