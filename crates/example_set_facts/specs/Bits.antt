@@ -1,12 +1,15 @@
 -- Variants in clauses.
 --     permission, day, feature      the bit of a variant
-use Rattle.std.specs.Prelude.{ℕ}
+--     dangerous_bits      the bits of the permissions that are dangerous
+use Rattle.std.specs.Prelude.{ℕ, [], ◌∷◌}
+use Rattle.enumset_repr.specs.BitSet.{BitSet, from_list}
 use Rattle.enumset_sets.specs.Elements.{in_place}
 use Rattle.example_set_facts.specs.contracts.features.Feature as features
 use Rattle.example_set_facts.specs.contracts.permissions.Permission as permissions
 use Rattle.example_set_facts.specs.contracts.weekdays.Weekday as weekdays
 use Rattle.example_set_facts.specs.declared.features.Feature.{Feature}
 use Rattle.example_set_facts.specs.declared.permissions.Permission.{Permission}
+use Rattle.example_set_facts.specs.declared.permissions.Permission.TheVariants.{Write, Delete}
 use Rattle.example_set_facts.specs.declared.weekdays.Weekday.{Weekday}
 
 abbrev pub permission : Permission → ℕ
@@ -17,3 +20,6 @@ day d = (in_place weekdays.the_type).bit d
 
 abbrev pub feature : Feature → ℕ
 feature f = (in_place features.the_type).bit f
+
+abbrev pub dangerous_bits : BitSet
+dangerous_bits = from_list (permission Write ∷ permission Delete ∷ [])

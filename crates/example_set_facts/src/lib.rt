@@ -12,6 +12,7 @@ pub mod choices;
 pub mod collections;
 pub mod configs;
 pub mod counts;
+pub mod dangers;
 pub mod enabling;
 pub mod features;
 pub mod messages;
