@@ -1,6 +1,7 @@
 //! Changes between two versions of a configuration.
 
-ghost use Rattle.std.specs.Prelude.{◌≡◌, ◌↔◌, true, false};
+ghost use Rattle.std.specs.Prelude.{◌≡◌, ◌↔◌, true, false, not};
+ghost use Rattle.std.specs.List.{list_all, list_any};
 ghost use Rattle.enumset_repr.specs.BitSet as set;
 ghost use Rattle.enumset_repr.specs.BitSet.{BitSet};
 ghost use Rattle.example_set_facts.specs.Bits.{feature};
@@ -125,4 +126,21 @@ pub fn replaced(version: EnumSet<Feature>, old: Feature, new: Feature) -> EnumSe
     next.remove(old);
     next.insert(new);
     next
+}
+
+/// Whether one of many changes adds a feature.
+pub fn is_added(changes: &[Change], wanted: Feature) -> bool
+    ensures { result ≡ list_any (λ change. set.contains change.added (feature wanted)) changes.now }
+{
+    changes.iter().any(|change| change.added.contains(wanted))
+}
+
+/// Whether no change of many removes a feature.
+pub fn is_kept(changes: &[Change], wanted: Feature) -> bool
+    ensures { result
+        ≡ list_all (λ change. not (set.contains change.removed (feature wanted))) changes.now }
+{
+    changes
+        .iter()
+        .all(|change| !change.removed.contains(wanted))
 }
