@@ -1,8 +1,12 @@
 //! Iterators and closures over sets.
 
-ghost use Rattle.std.specs.Prelude.{◌≡◌, ◌≤◌, ◌<◌, ℕ, not, true, IfSome, IfNone};
+ghost use Rattle.std.specs.Prelude.{◌≡◌, ◌≤◌, ◌<◌, ◌∷◌, [], ℕ, not, true, IfSome, IfNone, count_by};
+ghost use Rattle.std.specs.List.{list_all};
 ghost use Rattle.enumset_repr.specs.BitSet as set;
+ghost use Rattle.example_set_facts.specs.Bits.{permission};
 
+use crate::permissions::Permission;
+use crate::slices::count_in;
 use enumset::{EnumSet, EnumSetType};
 
 /// How many elements two sets share.
@@ -68,4 +72,33 @@ pub fn found_round<T: EnumSetType>(members: &EnumSet<T>, bit: u32) -> Option<T>
         Some(later) => Some(later),
         None => members.first(),
     }
+}
+
+/// How many of three permissions are granted.
+pub fn count_of_three(granted: EnumSet<Permission>) -> usize
+    ensures { result ≡ count_by (set.contains granted)
+        (permission Permission.Read ∷ permission Permission.Write ∷ permission Permission.Share ∷ []) }
+{
+    count_in(
+        &[Permission::Read, Permission::Write, Permission::Share],
+        &granted,
+    )
+}
+
+/// Whether two permissions are both granted.
+pub fn has_both(granted: EnumSet<Permission>) -> bool
+    ensures { result
+        ≡ list_all (λ q. set.contains granted q) (permission Permission.Read ∷ permission Permission.Write ∷ []) }
+{
+    [Permission::Read, Permission::Write]
+        .iter()
+        .all(|t| granted.contains(*t))
+}
+
+/// Whether another set lacks each element of a set.
+#[tactic(auto, using(enumset_repr::specs::Laws::Places::tests))]
+pub fn lacks_each<T: EnumSetType>(one: &EnumSet<T>, other: &EnumSet<T>) -> bool
+    ensures { result ≡ list_all (λ q. not (set.contains other.now q)) (set.ascending one.now) }
+{
+    !one.iter().any(|t| other.contains(t))
 }
