@@ -1,7 +1,7 @@
 //! Features that a text in JSON lists or has as a number, and what is checked of them.
 
-ghost use Rattle.std.specs.Prelude.{◌≡◌, true, Some, Ok, Err, IfOk, IfErr, IfSome, string_bytes};
-ghost use Rattle.std.specs.Prelude.{decimal};
+ghost use Rattle.std.specs.Prelude.{◌≡◌, true, false, Some, Ok, Err, IfOk, IfErr, IfSome};
+ghost use Rattle.std.specs.Prelude.{string_bytes, decimal};
 ghost use Rattle.enumset_repr.specs.BitSet as set;
 ghost use Rattle.enumset_repr.specs.BitSet.{BitSet};
 ghost use Rattle.enumset_repr.specs.Number.{number};
@@ -65,6 +65,8 @@ pub fn required<T: EnumSetType>(
 ) -> Result<EnumSet<T>, Refusal<T>>
     ensures same { IfOk result (λ s. s ≡ features.now) }
     ensures has { IfOk result (λ s. set.is_subset required.now s ≡ true) }
+    ensures missing { IfErr result (λ r. r ≡ Refusal.Missing (set.difference required.now features.now)) }
+    ensures lacks { IfErr result (λ _. set.is_subset required.now features.now ≡ false) }
 {
     let missing = required.difference(features.copied());
     if missing.is_empty() {
@@ -81,6 +83,8 @@ pub fn permitted<T: EnumSetType>(
 ) -> Result<EnumSet<T>, Refusal<T>>
     ensures same { IfOk result (λ s. s ≡ features.now) }
     ensures apart { IfOk result (λ s. set.is_disjoint s forbidden.now ≡ true) }
+    ensures forbidden { IfErr result (λ r. r ≡ Refusal.Forbidden (set.intersection features.now forbidden.now)) }
+    ensures shares { IfErr result (λ _. set.is_disjoint features.now forbidden.now ≡ false) }
 {
     let refused = features.intersection(forbidden.copied());
     if refused.is_empty() {
