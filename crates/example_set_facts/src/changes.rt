@@ -1,7 +1,7 @@
 //! Changes between two versions of a configuration.
 
-ghost use Rattle.std.specs.Prelude.{◌≡◌, ◌↔◌, true, false, not};
-ghost use Rattle.std.specs.List.{list_all, list_any};
+ghost use Rattle.std.specs.Prelude.{◌≡◌, ◌↔◌, true, false, not, count_by, position, option_map};
+ghost use Rattle.std.specs.List.{list_all, list_any, find};
 ghost use Rattle.enumset_repr.specs.BitSet as set;
 ghost use Rattle.enumset_repr.specs.BitSet.{BitSet};
 ghost use Rattle.example_set_facts.specs.Bits.{feature};
@@ -143,4 +143,31 @@ pub fn is_kept(changes: &[Change], wanted: Feature) -> bool
     changes
         .iter()
         .all(|change| !change.removed.contains(wanted))
+}
+
+/// How many of many changes add a feature.
+pub fn adding_count(changes: &[Change], wanted: Feature) -> usize
+    ensures { result ≡ count_by (λ change. set.contains change.added (feature wanted)) changes.now }
+{
+    changes
+        .iter()
+        .filter(|change| change.added.contains(wanted))
+        .count()
+}
+
+/// The place of the first change that adds a feature.
+pub fn first_adding(changes: &[Change], wanted: Feature) -> Option<usize>
+    ensures { result ≡ position (λ change. set.contains change.added (feature wanted)) changes.now }
+{
+    changes
+        .iter()
+        .position(|change| change.added.contains(wanted))
+}
+
+/// The first change that adds a feature.
+pub fn adding(changes: &[Change], wanted: Feature) -> Option<&Change>
+    ensures { option_map (λ change. change.now) result
+        ≡ find (λ change. set.contains change.added (feature wanted)) changes.now }
+{
+    changes.iter().find(|change| change.added.contains(wanted))
 }
