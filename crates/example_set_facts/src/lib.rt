@@ -15,6 +15,7 @@ pub mod counts;
 pub mod dangers;
 pub mod enabling;
 pub mod features;
+pub mod lists;
 pub mod messages;
 pub mod parsing;
 pub mod partitions;
