@@ -23,6 +23,7 @@ pub mod permissions;
 pub mod schedules;
 pub mod slices;
 pub mod sorted;
+pub mod texts;
 pub mod versions;
 pub mod votes;
 pub mod walks;

@@ -1,0 +1,11 @@
+-- Texts of several names.
+--     joined      names with a comma and a space before each, but not before the first if nothing stands before it
+--     title      the title of a permission
+use Rattle.std.specs.Prelude.{ℕ, Bool, false, if◌then◌else◌, List, [], ◌∷◌, ◌++◌, codes, slice_index_or}
+
+abbrev pub joined : Bool → List (List ℕ) → List ℕ
+joined is_first [] = []
+joined is_first (name ∷ names) = (if is_first then [] else codes ", ") ++ (name ++ joined false names)
+
+abbrev pub title : ℕ → List ℕ
+title q = slice_index_or (codes "read" ∷ codes "comment" ∷ codes "write" ∷ codes "share" ∷ codes "delete" ∷ []) q []

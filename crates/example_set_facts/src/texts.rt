@@ -1,0 +1,39 @@
+//! Texts of the names of a set's elements, with commas between.
+
+ghost use Rattle.std.specs.Prelude.{◌≡◌, true, map, string_bytes, IfOk};
+ghost use Rattle.enumset_repr.specs.BitSet as set;
+ghost use Rattle.example_set_facts.specs.Bits.{permission};
+ghost use Rattle.example_set_facts.specs.Texts.{joined, title};
+
+use crate::permissions::Permission;
+use enumset::EnumSet;
+use std::alloc::{AllocError, Global};
+
+/// The title of a permission.
+pub fn title_of(asked: Permission) -> &'static str
+    ensures { result.now ≡ title (permission asked) }
+{
+    match asked {
+        Permission::Read => "read",
+        Permission::Comment => "comment",
+        Permission::Write => "write",
+        Permission::Share => "share",
+        Permission::Delete => "delete",
+    }
+}
+
+/// The titles of permissions, in the order of their bits.
+pub fn titles(alloc: Global, granted: EnumSet<Permission>) -> Result<String, AllocError>
+    ensures { IfOk result (λ text. string_bytes text ≡ joined true (map title (set.ascending granted))) }
+{
+    let mut text = String::new(alloc);
+    let mut is_first = true;
+    for asked in granted {
+        if !is_first {
+            text.push_str(", ")?;
+        }
+        text.push_str(title_of(asked))?;
+        is_first = false;
+    }
+    Ok(text)
+}
