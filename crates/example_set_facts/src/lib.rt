@@ -20,6 +20,7 @@ pub mod messages;
 pub mod parsing;
 pub mod partitions;
 pub mod permissions;
+pub mod prices;
 pub mod schedules;
 pub mod slices;
 pub mod sorted;

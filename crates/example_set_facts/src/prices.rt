@@ -1,0 +1,35 @@
+//! What permissions cost.
+
+ghost use Rattle.std.specs.Prelude.{◌≡◌, ◌≤◌, sum_by, IfSome, IfNone};
+ghost use Rattle.enumset_repr.specs.BitSet as set;
+ghost use Rattle.example_set_facts.specs.Bits.{permission};
+ghost use Rattle.example_set_facts.specs.Prices.{price};
+
+use crate::permissions::Permission;
+use enumset::EnumSet;
+
+/// The price of a permission.
+pub fn price_of(asked: Permission) -> u32
+    ensures { result ≡ price (permission asked) }
+{
+    match asked {
+        Permission::Read => 1,
+        Permission::Comment => 2,
+        Permission::Write => 5,
+        Permission::Share => 10,
+        Permission::Delete => 20,
+    }
+}
+
+/// What permissions cost together, if it fits.
+#[tactic(auto, using(enumset_repr::specs::Laws::Loops::loops))]
+pub fn total_price(granted: EnumSet<Permission>) -> Option<u32>
+    ensures total { IfSome result (λ n. n ≡ sum_by price (set.ascending granted)) }
+    ensures none { IfNone result (4294967296 ≤ sum_by price (set.ascending granted)) }
+{
+    let mut total = 0u32;
+    for asked in granted {
+        total = total.checked_add(price_of(asked))?;
+    }
+    Some(total)
+}
