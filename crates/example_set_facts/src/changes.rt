@@ -171,3 +171,15 @@ pub fn adding(changes: &[Change], wanted: Feature) -> Option<&Change>
 {
     changes.iter().find(|change| change.added.contains(wanted))
 }
+
+/// Whether one of many changes adds a feature, found in a loop.
+pub fn is_added_somewhere(changes: &[Change], wanted: Feature) -> bool
+    ensures { result ≡ list_any (λ change. set.contains change.added (feature wanted)) changes.now }
+{
+    for change in changes {
+        if change.added.contains(wanted) {
+            return true;
+        }
+    }
+    false
+}
