@@ -52,3 +52,16 @@ pub fn has_some<T: EnumSetType>(elements: &[T], members: &EnumSet<T>) -> bool
 {
     elements.iter().any(|t| members.contains(*t))
 }
+
+/// How many elements of a slice a set has, counted in a loop.
+pub fn counted_in<T: EnumSetType>(elements: &[T], members: &EnumSet<T>) -> usize
+    ensures { result ≡ count_by (λ t. set.contains members.now (T.elements.bit t)) elements.now }
+{
+    let mut count = 0;
+    for element in elements {
+        if members.contains(*element) {
+            count += 1;
+        }
+    }
+    count
+}
