@@ -1,9 +1,9 @@
 //! Texts of the names of a set's elements, with commas between.
 
-ghost use Rattle.std.specs.Prelude.{◌≡◌, true, map, string_bytes, IfOk};
+ghost use Rattle.std.specs.Prelude.{◌≡◌, true, map, option_map, position, string_bytes, bytes_eq, IfOk};
 ghost use Rattle.enumset_repr.specs.BitSet as set;
 ghost use Rattle.example_set_facts.specs.Bits.{permission};
-ghost use Rattle.example_set_facts.specs.Texts.{joined, title};
+ghost use Rattle.example_set_facts.specs.Texts.{joined, title, all_titles};
 
 use crate::permissions::Permission;
 use enumset::EnumSet;
@@ -19,6 +19,20 @@ pub fn title_of(asked: Permission) -> &'static str
         Permission::Write => "write",
         Permission::Share => "share",
         Permission::Delete => "delete",
+    }
+}
+
+/// The permission of a title.
+pub fn of_title(text: &str) -> Option<Permission>
+    ensures { option_map permission result ≡ position (λ t. bytes_eq t text.now) all_titles }
+{
+    match text {
+        "read" => Some(Permission::Read),
+        "comment" => Some(Permission::Comment),
+        "write" => Some(Permission::Write),
+        "share" => Some(Permission::Share),
+        "delete" => Some(Permission::Delete),
+        _ => None,
     }
 }
 
