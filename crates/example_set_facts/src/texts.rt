@@ -2,11 +2,12 @@
 
 ghost use Rattle.std.specs.Prelude.{◌≡◌, true, map, option_map, position, string_bytes, bytes_eq, IfOk};
 ghost use Rattle.enumset_repr.specs.BitSet as set;
+ghost use Rattle.enumset.specs.Names.{name_of, names_of};
 ghost use Rattle.example_set_facts.specs.Bits.{permission};
 ghost use Rattle.example_set_facts.specs.Texts.{joined, title, all_titles};
 
 use crate::permissions::Permission;
-use enumset::EnumSet;
+use enumset::{EnumSet, EnumSetNames};
 use std::alloc::{AllocError, Global};
 
 /// The title of a permission.
@@ -47,6 +48,26 @@ pub fn titles(alloc: Global, granted: EnumSet<Permission>) -> Result<String, All
             text.push_str(", ")?;
         }
         text.push_str(title_of(asked))?;
+        is_first = false;
+    }
+    Ok(text)
+}
+
+/// The names of the elements, in the order of their bits, with a comma and a space between.
+pub fn names_text<T: EnumSetNames>(
+    alloc: Global,
+    members: &EnumSet<T>,
+) -> Result<String, AllocError>
+    ensures { IfOk result (λ text. string_bytes text
+        ≡ joined true (map (name_of (names_of T.elements T.names)) (set.ascending members.now))) }
+{
+    let mut text = String::new(alloc);
+    let mut is_first = true;
+    for element in members.iter() {
+        if !is_first {
+            text.push_str(", ")?;
+        }
+        text.push_str(element.name())?;
         is_first = false;
     }
     Ok(text)
