@@ -1,7 +1,7 @@
 //! Features that a text in JSON lists or has as a number, and what is checked of them.
 
-ghost use Rattle.std.specs.Prelude.{◌≡◌, true, false, Some, Ok, Err, IfOk, IfErr, IfSome};
-ghost use Rattle.std.specs.Prelude.{string_bytes, decimal};
+ghost use Rattle.std.specs.Prelude.{◌≡◌, ◌≢◌, ℕ, true, false, Some, Ok, Err, IfOk, IfErr, IfSome, IfNone};
+ghost use Rattle.std.specs.Prelude.{option_map, is_ok, string_bytes, decimal};
 ghost use Rattle.enumset_repr.specs.BitSet as set;
 ghost use Rattle.enumset_repr.specs.BitSet.{BitSet};
 ghost use Rattle.enumset_repr.specs.Number.{number};
@@ -111,15 +111,23 @@ pub fn checked<T: EnumSetNames>(
     permitted(&features, forbidden)
 }
 
-/// The place of the first name in a text that is of no feature.
-pub fn unknown_name<T: EnumSetNames>(alloc: Global, text: &str) -> Option<usize>
-    ensures { IfSome result (λ place.
+/// The place of the first name in a text that is of no feature, or `None` if the text lists a set. Any other fault is
+/// returned.
+pub fn unknown_name<T: EnumSetNames>(alloc: Global, text: &str) -> Result<Option<usize>, JsonFault>
+    ensures place { IfOk result (λ found. IfSome found (λ place.
         value_read (set_of_list (names_of T.elements T.names) unknown.Refuse) text.now
-        ≡ Some (Err (fault.UnknownName place))) }
+        ≡ Some (Err (fault.UnknownName place)))) }
+    ensures none { IfOk result (λ found. IfNone found
+        (option_map is_ok (value_read (set_of_list (names_of T.elements T.names) unknown.Refuse) text.now)
+        ≡ Some true)) }
+    ensures fault { IfErr result (λ f.
+        IsReadOf (set_of_list (names_of T.elements T.names) unknown.Refuse) text.now (Err f)) }
+    ensures other { IfErr result (λ f. (place : ℕ) → f ≢ fault.UnknownName place) }
 {
     match from_list_text::<T>(alloc, text, Unknown::Refuse) {
-        Err(JsonFault::UnknownName(place)) => Some(place),
-        _ => None,
+        Ok(_) => Ok(None),
+        Err(JsonFault::UnknownName(place)) => Ok(Some(place)),
+        Err(fault) => Err(fault),
     }
 }
 
