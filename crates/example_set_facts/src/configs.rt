@@ -174,16 +174,23 @@ pub fn numbered<T: EnumSetType>(alloc: Global, text: &str) -> Result<EnumSet<T>,
     from_number_text(alloc, text, JsonWidth::U8, Unknown::Refuse)
 }
 
-/// Whether the number in a text has a reserved bit.
-pub fn has_reserved<T: EnumSetType>(alloc: Global, text: &str) -> bool
-    ensures { result ≡ true
+/// Whether the number in a text has a reserved bit. A text that has no number of a byte is a fault.
+pub fn has_reserved<T: EnumSetType>(alloc: Global, text: &str) -> Result<bool, JsonFault>
+    ensures reserved { IfOk result (λ has. has ≡ true
         → value_read (set_of_number (valid_bits T.elements) 8 unknown.Refuse) text.now
-        ≡ Some (Err fault.UnknownBits) }
+        ≡ Some (Err fault.UnknownBits)) }
+    ensures none { IfOk result (λ has. has ≡ false
+        → option_map is_ok (value_read (set_of_number (valid_bits T.elements) 8 unknown.Refuse) text.now)
+        ≡ Some true) }
+    ensures fault { IfErr result (λ f.
+        IsReadOf (set_of_number (valid_bits T.elements) 8 unknown.Refuse) text.now (Err f)) }
+    ensures other { IfErr result (λ f. f ≢ fault.UnknownBits) }
 {
-    matches!(
-        from_number_text::<T>(alloc, text, JsonWidth::U8, Unknown::Refuse),
-        Err(JsonFault::UnknownBits)
-    )
+    match from_number_text::<T>(alloc, text, JsonWidth::U8, Unknown::Refuse) {
+        Ok(_) => Ok(false),
+        Err(JsonFault::UnknownBits) => Ok(true),
+        Err(fault) => Err(fault),
+    }
 }
 
 /// The number of the features that two texts list.
