@@ -10,6 +10,7 @@ ghost use Rattle.enumset.specs.Json.{set_of_number};
 ghost use Rattle.enumset.specs.JsonNames.{set_of_list};
 ghost use Rattle.enumset.specs.JsonReads.{IsReadOf, value_read};
 ghost use Rattle.enumset.specs.Names.{names_of};
+ghost use Rattle.enumset.specs.declared.set_json.fault.JsonFault.{JsonFault};
 ghost use Rattle.enumset.specs.declared.set_json.fault.JsonFault.TheVariants as fault;
 ghost use Rattle.enumset.specs.declared.set_json.unknown.Unknown.TheVariants as unknown;
 
@@ -31,6 +32,11 @@ pub enum Refusal<T: EnumSetType> {
 }
 
 impl<T: EnumSetType> From<JsonFault> for Refusal<T> {
+    ghost use Rattle.std.specs.Prelude.{◌≡◌};
+    ghost use Rattle.example_set_facts.specs.declared.configs.Refusal.TheVariants.{Unread};
+
+    ghost from_gives = { λ fault refusal. refusal ≡ Unread fault };
+
     fn from(fault: JsonFault) -> Refusal<T> {
         Refusal::Unread(fault)
     }
@@ -56,6 +62,16 @@ pub fn with_defaults<T: EnumSetNames>(
 {
     let listed = listed::<T>(alloc, text)?;
     Ok(listed.union(defaults.copied()))
+}
+
+/// The features that a text lists, or the fault of the reader as a refusal.
+pub fn read<T: EnumSetNames>(alloc: Global, text: &str) -> Result<EnumSet<T>, Refusal<T>>
+    ensures read { IfOk result (λ s.
+        value_read (set_of_list (names_of T.elements T.names) unknown.Refuse) text.now ≡ Some (Ok s)) }
+    ensures unread { IfErr result (λ r. (f : JsonFault) × (r ≡ Refusal.Unread f)
+        × IsReadOf (set_of_list (names_of T.elements T.names) unknown.Refuse) text.now (Err f)) }
+{
+    Ok(from_list_text(alloc, text, Unknown::Refuse)?)
 }
 
 /// Features if all that is required is among them.
