@@ -1,6 +1,6 @@
 -- Texts of several names.
 --     joined      names with a comma and a space before each, but not before the first if nothing stands before it
---     all_titles, title      the titles of the permissions, in the order of their bits;  the title of the permission of a bit
+--     all_titles, title      the titles of the permissions, in the order of their bits;  the title of a bit
 use Rattle.std.specs.Prelude.{ℕ, Bool, false, if◌then◌else◌, List, [], ◌∷◌, ◌++◌, codes, slice_index_or}
 
 abbrev pub joined : Bool → List (List ℕ) → List ℕ
