@@ -27,13 +27,16 @@ use std::collections::{BTreeMap, BTreeSet};
 use std::mem;
 
 /// The words that are keywords in Rattle and names in Rust.
-const KEYWORDS: [&str; 3] = ["ghost", "requires", "ensures"];
+const KEYWORDS: [&str; 4] = ["ghost", "requires", "ensures", "deriving"];
 
 const OWN_JSON: &str =
     "a set in JSON is of the variants' names here: remove this, and give other names by \
     `rename`, or write sets as numbers";
 
 const KEYWORD: &str = "this is a keyword here: choose another name";
+
+const NO_ENUM_NAME: &str =
+    "`TheVariants` names what clauses import of an enum: choose another name";
 
 /// What a source text has of which these are the tokens, or the first fault, of reading or of planning.
 pub fn read_source<'a>(alloc: Global, text: &'a str, found: &Tokens<'a>) -> Outcome<Source<'a>> {

@@ -273,6 +273,7 @@ impl<'a, 'b> Cursor<'a, 'b> {
         self.advance_to_token()?;
         let name = self.token;
         name.want(name.is_name(), "wanted: a name of an enum")?;
+        name.want(!name.is("TheVariants"), NO_ENUM_NAME)?;
         self.advance_to_token()?;
         let next = self.token;
         let has_parameters = next.is_mark("<") || next.is("where");

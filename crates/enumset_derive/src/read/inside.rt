@@ -1,4 +1,4 @@
-//! What an item may not have inside: element types, and sets in constants.
+//! What an item may not have inside: element types, sets in constants, and the constants that Rust's sets have.
 
 use super::*;
 
@@ -17,8 +17,11 @@ const SET_CONSTANT: &str = "a constant cannot be a set here: write a function th
 const CALLS_SETS: &str =
     "a constant calls no function of sets here: write a function that returns it";
 
+const WRITE_CALL: &str = "write the call: `EnumSet::empty()` or `EnumSet::all()`";
+
 impl<'a, 'b> Reader<'a, 'b> {
-    /// A fault if an item has an element type or a set in a constant. Takes in what it implements of `serde` by hand.
+    /// A fault if an item has an element type, a set in a constant, or a constant of sets. Takes in what it implements of
+    /// `serde` by hand.
     pub(super) fn test_item(
         &mut self,
         keyword: &'b Token<'a>,
@@ -43,7 +46,10 @@ impl<'a, 'b> Reader<'a, 'b> {
             self.take_serializer(word, rest)?;
             before = word;
         }
-        Ok(())
+        match constant_of_sets(tokens, &self.aliases) {
+            Some(name) => Err(name.fault(WRITE_CALL)),
+            None => Ok(()),
+        }
     }
 
     /// Takes in what the tokens after the name of a trait implement by hand, if the trait is one of `serde`.
@@ -97,6 +103,20 @@ fn after_text<'b>(tokens: &'b [Token<'b>]) -> &'b [Token<'b>] {
     rest.get(end.unwrap_or(rest.len())..).unwrap_or(&[])
 }
 
+/// The first `EMPTY` or `ALL` of sets among the tokens of an item, as in `EnumSet::<Color>::EMPTY`.
+fn constant_of_sets<'a, 'b>(tokens: &'b [Token<'a>], aliases: &Aliases) -> Option<&'b Token<'a>> {
+    // Whether the tokens so far end in a path that begins with a set.
+    let mut is_of_set = false;
+    for [word, name] in tokens.array_windows::<2>() {
+        let goes_on = is_of_set && (word.is_name() || word.is_mark(":<>"));
+        is_of_set = goes_on || aliases.names_set(word);
+        if is_of_set && word.is_mark(":") && matches!(name.text, "EMPTY" | "ALL") {
+            return Some(name);
+        }
+    }
+    None
+}
+
 /// A constant or a static of which the `;` at its end was not read.
 #[derive(Clone, Copy)]
 struct Constant<'a, 'b> {
@@ -107,7 +127,7 @@ struct Constant<'a, 'b> {
     has_set: bool,
     /// Whether its value names a function of sets.
     names_function: bool,
-    /// Whether its value calls something or joins elements.
+    /// Whether its value calls something, joins elements, or is `EMPTY` or `ALL`.
     is_made: bool,
 }
 
@@ -170,7 +190,7 @@ impl<'a, 'b> Constants<'a, 'b> {
         }
         let is_path = rest.first().is_some_and(|next| next.is_mark(":"));
         constant.names_function |= is_path && aliases.names_set(word);
-        constant.is_made |= word.is_mark("!|(");
+        constant.is_made |= word.is_mark("!|(") || matches!(word.text, "EMPTY" | "ALL");
         let is_macro = aliases.is_for(word.text, "enum_set");
         let is_set = is_macro || (constant.has_set && constant.is_made);
         constant.keyword.want(!is_set, SET_CONSTANT)?;

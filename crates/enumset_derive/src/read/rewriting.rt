@@ -41,7 +41,7 @@ impl<'a, 'b> Reader<'a, 'b> {
         let begin = rewriting.cursor.token;
         let is_in_macro = begin.begin() < rewriting.macro_end;
         if !is_in_macro {
-            rewriting.cursor.test_keyword()?;
+            rewriting.cursor.test_name()?;
         }
         if self.is_root(&rewriting.cursor) {
             out.push_str(rewriting.text_before(begin))?;
@@ -113,11 +113,14 @@ impl<'a, 'b> Rewriting<'a, 'b> {
 }
 
 impl<'a, 'b> Cursor<'a, 'b> {
-    /// A fault if a name here is a keyword in Rattle. After a keyword a clause has a name, `{` or `*`.
-    fn test_keyword(&self) -> Outcome {
+    /// A fault if a name here is a keyword in Rattle, or that of an enum is taken. After a keyword a clause has a name, `{`
+    /// or `*`.
+    fn test_name(&self) -> Outcome {
         let next = self.tokens.first().unwrap_or(self.token);
         let is_named = NAMED.contains(&self.token.text) || self.token.is("for");
         next.want(!(is_named && KEYWORDS.contains(&next.text)), KEYWORD)?;
+        let is_taken = self.token.is("enum") && next.is("TheVariants");
+        next.want(!is_taken, NO_ENUM_NAME)?;
         let is_clause = next.is_name() || next.is_mark("{*");
         let is_name = KEYWORDS.contains(&self.token.text) && !is_clause;
         self.token.want(!is_name, KEYWORD)

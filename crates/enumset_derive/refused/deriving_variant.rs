@@ -1,0 +1,7 @@
+use enumset::EnumSetType;
+
+#[derive(EnumSetType)]
+enum Step {
+    reading,
+    deriving,
+}

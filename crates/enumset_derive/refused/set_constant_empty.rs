@@ -1,0 +1,9 @@
+use enumset::{EnumSet, EnumSetType};
+
+#[derive(EnumSetType)]
+enum Color {
+    Red,
+    Blue,
+}
+
+const NONE: EnumSet<Color> = EnumSet::EMPTY;

@@ -1,0 +1,13 @@
+use enumset::{EnumSet, EnumSetType};
+
+#[derive(EnumSetType)]
+enum Color {
+    Red,
+    Blue,
+}
+
+mod kinds {
+    pub enum TheVariants {
+        First,
+    }
+}
