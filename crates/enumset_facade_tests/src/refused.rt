@@ -216,12 +216,19 @@ fn vectors_of_words(rt: HostRuntime) -> Result<(), Fail> {
     Ok(ended?)
 }
 
-// A row counts how often it was shown, so a refused walk showed none.
+// A row counts the asks. A refused walk makes none.
 #[test]
 fn a_walk_leaves_its_row(rt: HostRuntime) -> Result<(), Fail> {
     let mut row = ShownRow::new(ArrayRepr([8, 1, 4]));
     let ends = [End::Front, End::Back, End::Front];
-    let (answers, ended) = returned(&rt, || walk(rt.alloc(), &mut row, &ends));
+    let (answers, ended) = match walk(rt.alloc(), &mut row, &ends) {
+        Ok(answers) => (answers, Ok(())),
+        Err(refused) => {
+            expect(&rt, "shown after a refusal", row.shown(), 0);
+            let answers = walk(rt.alloc(), &mut row, &ends).expect(&rt, "refused once more");
+            (answers, Err(refused))
+        }
+    };
     let wanted = [Some(3), Some(130), Some(64)];
     expect(&rt, "walk", answers.as_slice(), &wanted);
     expect(&rt, "shown", row.shown(), 4);

@@ -8,6 +8,8 @@
 #[cfg(test)]
 mod expect;
 #[cfg(test)]
+mod hash_of;
+#[cfg(test)]
 mod macro_clauses;
 #[cfg(test)]
 mod repr;

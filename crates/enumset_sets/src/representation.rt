@@ -8,7 +8,7 @@ use crate::element::EnumSetType;
 use enumset_repr::EnumSetTypeRepr;
 
 /// Returns the value that represents the set of the valid bits of an element type. They are below the width. It is
-/// `ALL_BITS`, with what a proof needs of it.
+/// `ALL_BITS`, with what a proof needs of it. It has no counterpart in Rust's `enumset`.
 pub fn valid_repr<T: EnumSetType>() -> T::Repr
     ensures members { T.Repr.members result ≡ valid_bits T.elements }
     ensures is_value { T.Repr.is_value result }

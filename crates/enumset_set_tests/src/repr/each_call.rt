@@ -2,6 +2,7 @@
 //! word these sets are empty.
 
 use crate::expect::expect_at;
+use crate::hash_of::hash_of;
 use enumset_array::ArrayRepr;
 use enumset_repr::{
     EnumSetTypeRepr, from_u64_array, greatest_bit, least_bit, least_bit_from, to_u64_array,
@@ -109,6 +110,25 @@ fn items<R: EnumSetTypeRepr>(rt: &impl Abort, repr: &str) {
     expect_at(rt, repr, "next", items, [first, last, other, None]);
 }
 
+/// What the bounds of a representation give: equal sets feed a hasher the same data, and a clone of an iterator has the
+/// items that are left.
+fn bounds<R: EnumSetTypeRepr>(rt: &impl Abort, repr: &str) {
+    let (set, other) = (R::from_u8(73), R::from_u8(24));
+    set.learn_is_value();
+    let are_equal = [
+        hash_of(&set) == hash_of(&R::from_u64(73)),
+        hash_of(&set) == hash_of(&other),
+    ];
+    expect_at(rt, repr, "hashes", are_equal, [true, R::WIDTH == 0]);
+    let mut iter = set.iter();
+    let first = iter.next();
+    let mut same = iter.clone().expect(rt, "a clone takes no memory");
+    let items = [first, same.next_back(), same.next(), same.next()];
+    let [zero, three, six] = [0, 3, 6].map(|bit| kept_bit::<R>(bit));
+    expect_at(rt, repr, "clone", items, [zero, six, three, None]);
+    expect_at(rt, repr, "next after clone", iter.next(), three);
+}
+
 /// The numbers of {0, 3, 6}.
 fn numbers<R: EnumSetTypeRepr>(rt: &impl Abort, repr: &str) {
     let (set, wanted) = (R::from_u128(73), kept::<R>(73));
@@ -180,6 +200,7 @@ fn each_call<R: EnumSetTypeRepr>(rt: &impl Abort, repr: &str) {
     ends::<R>(rt, repr);
     bits::<R>(rt, repr);
     items::<R>(rt, repr);
+    bounds::<R>(rt, repr);
     numbers::<R>(rt, repr);
     sets_of_numbers::<R>(rt, repr);
     words::<R>(rt, repr);

@@ -22,6 +22,20 @@ fn debug_texts(rt: HostRuntime) -> Result<(), Fail> {
     Ok(())
 }
 
+const TEXTS_OF_FEW_WORDS: &str = "\
+    ArrayRepr([]) ArrayIter { row: Words { words: [], asks: Asks }, cursors: Cursors { front: 0, back: 0 } }\n\
+    ArrayRepr([8]) ArrayIter { row: Words { words: [PrimitiveIter(8)], asks: Asks }, \
+    cursors: Cursors { front: 0, back: 1 } }";
+
+#[test]
+fn debug_texts_of_no_word_and_of_one(rt: HostRuntime) -> Result<(), Fail> {
+    let (none, one) = (ArrayRepr([]), ArrayRepr([8]));
+    let (no_items, items) = (none.iter(), one.iter());
+    let text = format!(in rt.alloc(); "{none:?} {no_items:?}\n{one:?} {items:?}")?;
+    assert_eq!(rt; text.as_str(), TEXTS_OF_FEW_WORDS);
+    Ok(())
+}
+
 #[test]
 fn the_count_takes_no_bytes(rt: HostRuntime) {
     let sizes = [

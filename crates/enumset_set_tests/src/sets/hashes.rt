@@ -1,16 +1,10 @@
 //! What sets feed to a hasher, over an integer and over words.
 use crate::expect::expect;
+use crate::hash_of::hash_of;
 use crate::sets::marks;
 use enumset_mixed::MixedValue;
 use enumset_sets::{EnumSet, EnumSetType, raw};
 use enumset_worked::{Letters, Marks, Wide};
-use std::hash::{DefaultHasher, Hash, Hasher};
-
-fn hash_of<V: Hash>(value: &V) -> u64 {
-    let mut hasher = DefaultHasher::new();
-    value.hash(&mut hasher);
-    hasher.finish()
-}
 
 /// The hash of a set of one element, and of the value that represents it.
 fn hashes<T: EnumSetType>(element: T) -> [u64; 2] {
