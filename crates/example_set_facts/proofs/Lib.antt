@@ -1,1 +1,2 @@
 pub mod SortedSets
+pub mod StageTexts

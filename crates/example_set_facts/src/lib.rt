@@ -24,6 +24,7 @@ pub mod prices;
 pub mod schedules;
 pub mod slices;
 pub mod sorted;
+pub mod stages;
 pub mod texts;
 pub mod versions;
 pub mod votes;

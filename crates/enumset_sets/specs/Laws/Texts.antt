@@ -3,8 +3,11 @@
 --     writes_at      what was written for values is the text of their bits
 --     Tells      the first text is not known, or it is the second
 --     text_at-tells      the text of a bit is that of its value, if the value is listed
-use Rattle.std.proofs.Common.{◌≡◌, ℕ, Bool, false, List, [], ◌∷◌, ◌++◌, length, map, Option, Some, None, Ok, refl, sym, ap, subst, ◌∙◌, ◌⊎◌, inl, inr, codes, arith, ◌==◌, option_and_then}
-use Rattle.enumset_repr.specs.Laws.Common.{nat_tests, option_append, DisplaysOnOk, map-append, length-map}
+--     is_text      whether a text is known and is this one
+--     text_of_known      the text of a set if the text of each valid bit is known
+use Rattle.std.proofs.Common.{◌≡◌, ℕ, Bool, true, false, List, [], ◌∷◌, ◌++◌, length, map, Option, Some, None, Ok, refl, sym, ap, subst, ◌∙◌, ◌⊎◌, inl, inr, codes, arith, ◌==◌, option_and_then, append-nil, append_assoc, bytes_eq}
+use Rattle.std.specs.List.{flat_map, join_by}
+use Rattle.enumset_repr.specs.Laws.Common.{nat_tests, option_append, DisplaysOnOk, map-append, length-map, BitSet, ascending, from_list, is_subset, is_subset_contains, contains_ascending, contains_from_list, list_all, list_all_any, list_all_each, and_parts, bytes_eq-Decides}
 use Rattle.std.specs.declared.fmt.Formatter.{Formatter}
 use Rattle.std.proofs.Output.{displays_on_IsOk_append, then_text_assoc}
 use Rattle.enumset_sets.specs.Texts.{value_of, text_at, separator, joined_text}
@@ -84,3 +87,34 @@ module _ {T : Type 0} (bit : T → ℕ) where
     | None ↦ λ none. inl refl
     | Some w ↦ λ found. inr (ap text (one w v (value_of-bit values (bit v) w found)))
   ] refl
+
+-- ---- the text of a set if the text of each valid bit is known
+
+-- the text is known and is the second
+abbrev pub is_text : Option (List ℕ) → List ℕ → Bool
+is_text None text = false
+is_text (Some t) text = bytes_eq t text
+
+is_text-same : (o : Option (List ℕ)) (text : List ℕ) → is_text o text ≡ true → o ≡ Some text
+is_text-same None text same = absurd (cc)
+is_text-same (Some t) text same = ap Some ((bytes_eq-Decides t text).0 same)
+
+module _ (at : ℕ → Option (List ℕ)) (text : ℕ → List ℕ) where
+  joined_text-known : (bs : List ℕ) → list_all (λ b. is_text (at b) (text b)) bs ≡ true → joined_text (map at bs) ≡ Some (join_by text (codes " | ") bs)
+  joined_text-known [] known = refl
+  joined_text-known (b ∷ []) known = is_text-same (at b) (text b) (and_parts _ _ known).0 ∙ ap Some (sym (append-nil (text b)))
+  joined_text-known (b ∷ c ∷ bs) known =
+      let bar = codes " | " in
+      let parts = and_parts (is_text (at b) (text b)) _ known in
+      let rest = flat_map (λ d. bar ++ text d) bs in
+      (λ i. option_append (is_text-same (at b) (text b) parts.0 i) (option_append (Some bar) (joined_text-known (c ∷ bs) parts.1 i)))
+      ∙ ap (λ t. Some (text b ++ t)) (sym (append_assoc bar (text c) rest))
+
+-- The text of a set: the texts of its members, joined by ` | `. The premise computes over one enum. The equation
+-- `ascending s ≡ ascending s` shows a search which set it is about.
+pub text_of_known : {T : Type 0} (bit : T → ℕ) (values : List T) (output : T → Option (List ℕ)) (text : ℕ → List ℕ) (bit_list : List ℕ) → list_all (λ b. is_text (text_at bit values output b) (text b)) bit_list ≡ true → (s : BitSet) → (ascending s ≡ ascending s) × (is_subset s (from_list bit_list) ≡ true → joined_text (map (text_at bit values output) (ascending s)) ≡ Some (join_by text (codes " | ") (ascending s)))
+text_of_known bit values output text bit_list known s =
+    let at = text_at bit values output in
+    let is_known : ℕ → Bool = λ b. is_text (at b) (text b) in
+    let each : is_subset s (from_list bit_list) ≡ true → list_all is_known (ascending s) ≡ true = λ within. list_all_each is_known (ascending s) (λ q one. list_all_any is_known bit_list q known (sym (contains_from_list bit_list q) ∙ is_subset_contains s (from_list bit_list) within q (contains_ascending s q ∙ one))) in
+    (refl, λ within. joined_text-known at text (ascending s) (each within))
