@@ -1,6 +1,6 @@
 //! Alarms that are raised, acknowledged and cleared.
 
-ghost use Rattle.std.specs.Prelude.{◌≡◌, ◌↔◌, ◌≤◌, ◌&&◌, ◌||◌, ℕ, not, true, false, IfSome, IfNone};
+ghost use Rattle.std.specs.Prelude.{◌≡◌, ◌↔◌, ◌≤◌, ◌&&◌, ◌||◌, ◌∷◌, ℕ, not, true, false, if◌then◌else◌, IfSome, IfNone};
 ghost use Rattle.enumset_repr.specs.BitSet as set;
 
 use enumset::{EnumSet, EnumSetType};
@@ -51,6 +51,9 @@ pub fn acknowledge<T: EnumSetType>(
 ) -> bool
     requires { set.is_disjoint pending.old known.old ≡ true }
     ensures was_pending { result ≡ set.contains pending.old (T.elements.bit alarm) }
+    ensures pending { pending.new ≡ set.remove pending.old (T.elements.bit alarm) }
+    ensures known { known.new
+        ≡ (if result then set.insert known.old (T.elements.bit alarm) else known.old) }
     ensures whole { set.union pending.new known.new ≡ set.union pending.old known.old }
     ensures apart { set.is_disjoint pending.new known.new ≡ true }
     ensures closed { set.contains pending.new (T.elements.bit alarm) ≡ false }
@@ -73,13 +76,19 @@ pub fn most_urgent<T: EnumSetType>(active: &EnumSet<T>, muted: &EnumSet<T>) -> O
     active.difference(muted.copied()).last()
 }
 
-/// Takes the two least alarms out, if there are two.
+/// Takes the two least alarms out, if there are two. If there are fewer, nothing changes.
 pub fn take_two<T: EnumSetType>(active: &mut EnumSet<T>) -> Option<(T, T)>
+    ensures least { IfSome result (λ two. set.ascending active.old
+        ≡ T.elements.bit two.0 ∷ T.elements.bit two.1 ∷ set.ascending active.new) }
     ensures both { IfSome result (λ two. set.insert (set.insert active.new (T.elements.bit two.0))
         (T.elements.bit two.1) ≡ active.old) }
     ensures gone { IfSome result (λ two. set.contains active.new (T.elements.bit two.0) ≡ false) }
+    ensures fewer { IfNone result (set.len active.old ≤ 1) }
+    ensures kept { IfNone result (active.new ≡ active.old) }
 {
-    let first = active.pop_first()?;
-    let second = active.pop_first()?;
+    let mut left = active.copied();
+    let first = left.pop_first()?;
+    let second = left.pop_first()?;
+    *active = left;
     Some((first, second))
 }

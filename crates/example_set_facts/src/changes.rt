@@ -104,6 +104,9 @@ pub fn merged<T: EnumSetType>(
     ours: &EnumSet<T>,
     theirs: &EnumSet<T>,
 ) -> EnumSet<T>
+    ensures changed { result ≡ set.symmetric_difference base.now
+        (set.union (set.symmetric_difference base.now ours.now)
+        (set.symmetric_difference base.now theirs.now)) }
     ensures ours { base.now ≡ theirs.now → result ≡ ours.now }
     ensures theirs { base.now ≡ ours.now → result ≡ theirs.now }
     ensures agreed { ours.now ≡ theirs.now → result ≡ ours.now }

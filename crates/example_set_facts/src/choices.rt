@@ -60,12 +60,14 @@ pub fn count_of_three<T: EnumSetType>(
     one.union(two.copied()).union(three.copied()).len()
 }
 
-/// What all three have, or else two of them.
+/// What at least two of three sets have.
 pub fn two_of_three<T: EnumSetType>(
     one: &EnumSet<T>,
     two: &EnumSet<T>,
     three: &EnumSet<T>,
 ) -> EnumSet<T>
+    ensures shared { result ≡ set.union (set.intersection one.now two.now)
+        (set.union (set.intersection one.now three.now) (set.intersection two.now three.now)) }
     ensures all { set.is_subset (set.intersection one.now (set.intersection two.now three.now)) result ≡ true }
     ensures some { set.is_subset result (set.union one.now two.now) ≡ true }
     ensures agreed { one.now ≡ two.now → result ≡ one.now }

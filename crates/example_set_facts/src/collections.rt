@@ -1,8 +1,10 @@
 //! Slices and vectors of sets.
 
-ghost use Rattle.std.specs.Prelude.{◌≡◌, ◌++◌, ◌∷◌, [], true, fold, OnOk, OnErr};
+ghost use Rattle.std.specs.Prelude.{◌≡◌, ◌≤◌, ◌++◌, ◌∷◌, [], true, fold, vec_len, vec_capacity, OnOk, OnErr};
 ghost use Rattle.std.specs.List.{list_all, list_any};
+ghost use Rattle.std.specs.Ordering.{ord_max};
 ghost use Rattle.enumset_repr.specs.BitSet as set;
+ghost use Rattle.enumset_repr.specs.Order.{compare};
 
 use enumset::{EnumSet, EnumSetType};
 use std::alloc::AllocError;
@@ -29,10 +31,11 @@ pub fn are_within<T: EnumSetType>(sets: &[EnumSet<T>], whole: &EnumSet<T>) -> bo
     sets.iter().all(|members| members.is_subset_of(whole))
 }
 
-/// Adds a set at the end. If memory is refused, nothing changes.
+/// Adds a set at the end. Memory is refused only if there is no room left, and then nothing changes.
 pub fn add<T: EnumSetType>(sets: &mut Vec<EnumSet<T>>, new: EnumSet<T>) -> Result<(), AllocError>
     ensures added { OnOk result (sets.new.items ≡ sets.old.items ++ (new ∷ [])) }
     ensures unchanged { OnErr result (sets.new.items ≡ sets.old.items) }
+    ensures full { OnErr result (vec_capacity sets.old ≤ vec_len sets.old) }
 {
     sets.push(new)?;
     Ok(())
@@ -40,6 +43,7 @@ pub fn add<T: EnumSetType>(sets: &mut Vec<EnumSet<T>>, new: EnumSet<T>) -> Resul
 
 /// The greater of two sets, by their greatest bit that differs.
 pub fn greater<T: EnumSetType>(one: EnumSet<T>, other: EnumSet<T>) -> EnumSet<T>
+    ensures greater { result ≡ ord_max compare one other }
     ensures contained { set.is_subset one other ≡ true → result ≡ other }
     ensures containing { set.is_subset other one ≡ true → result ≡ one }
 {
@@ -64,6 +68,7 @@ pub fn in_all_of<T: EnumSetType>(whole: &EnumSet<T>, sets: &[EnumSet<T>]) -> Enu
 
 /// The part of a set that all sets of many have.
 pub fn part_in_all<T: EnumSetType>(whole: &EnumSet<T>, sets: &[EnumSet<T>]) -> EnumSet<T>
+    ensures part { result ≡ fold set.intersection whole.now sets.now }
     ensures within { set.is_subset result whole.now ≡ true }
 {
     in_all_of(whole, sets)
