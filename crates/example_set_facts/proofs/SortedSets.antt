@@ -1,7 +1,8 @@
 -- A binary search in a sorted list of sets.
---     absent      where it finds nothing, no set of the list is the wanted one
-use Rattle.std.proofs.Common.{◌≡◌, ◌≢◌, ℕ, List, All, Result, Ok, Err, IfErr, ap, sym, ◌∙◌, arith, slice_index_or, Equal}
-use Rattle.std.specs.List.Sorted.{IsSorted, IsNonDecreasingBy, IsBinarySearchResult}
+--     between      where it finds nothing, it gives the place between the lesser sets and the greater ones
+--     absent      then no set of the list is the wanted one
+use Rattle.std.proofs.Common.{◌≡◌, ◌≢◌, ℕ, List, All, Result, Ok, Err, IfErr, ap, sym, ◌∙◌, arith, slice_index_or, Less, Equal, Greater}
+use Rattle.std.specs.List.Sorted.{IsSorted, IsNonDecreasingBy, IsPartitionPoint, IsBinarySearchResult}
 use Rattle.std.specs.Ordering.{ordering_index, is_lt}
 use Rattle.std.proofs.lemmas.List.Sorted.{IsNonDecreasingBy-from_sort}
 use Rattle.std.proofs.lemmas.Bool.Decides.{nat_tests}
@@ -20,6 +21,10 @@ module _ (sets : List BitSet) (wanted : BitSet) (sorted : IsSorted compare sets)
       let one = compare_number (slice_index_or sets i d) wanted in
       let other = compare_number (slice_index_or sets j d) wanted in
       grind (arith, nat_tests)
+
+  pub between : (r : Result ℕ ℕ) → IsBinarySearchResult (λ s. compare s wanted) sets r → IfErr r (IsPartitionPoint (λ s. compare s wanted ≡ Less) (λ s. compare s wanted ≡ Greater) sets)
+  between (Ok i) found = tt
+  between (Err i) parted = parted comparisons_rise
 
   pub absent : (r : Result ℕ ℕ) → IsBinarySearchResult (λ s. compare s wanted) sets r → IfErr r (λ _. All (λ s. s ≢ wanted) sets)
   absent (Ok i) found = tt

@@ -69,6 +69,7 @@ pub fn expected<T: EnumSetType>(
 
 /// The tokens at which a parser goes on after a fault: those that may follow, and the mark of the end.
 pub fn resumes_at<T: EnumSetType>(follow: &EnumSet<T>, end: T) -> EnumSet<T>
+    ensures resumed { result ≡ set.insert follow.now (T.elements.bit end) }
     ensures within { set.is_subset follow.now result ≡ true }
     ensures end { set.contains result (T.elements.bit end) ≡ true }
     ensures no_more { (q : ℕ) → set.contains result q ≡ true → set.contains follow.now q ≡ false

@@ -1,7 +1,8 @@
 //! Sets that are split into parts, and put together again.
 
-ghost use Rattle.std.specs.Prelude.{◌≡◌, ◌↔◌, ◌≤◌, ◌+◌, ℕ, true, false, IfSome, IfNone};
+ghost use Rattle.std.specs.Prelude.{◌≡◌, ◌↔◌, ◌≤◌, ◌+◌, ℕ, true, false, IfSome, IfNone, option_map};
 ghost use Rattle.enumset_repr.specs.BitSet as set;
+ghost use Rattle.enumset_repr.specs.Ends.{least, greatest};
 
 use enumset::{EnumSet, EnumSetType};
 
@@ -10,6 +11,7 @@ pub fn split<T: EnumSetType>(whole: &EnumSet<T>, inside: &EnumSet<T>) -> (EnumSe
     ensures whole { set.union result.0 result.1 ≡ whole.now }
     ensures apart { set.is_disjoint result.0 result.1 ≡ true }
     ensures inside { result.0 ≡ set.intersection whole.now inside.now }
+    ensures outside { result.1 ≡ set.difference whole.now inside.now }
     ensures count { set.len result.0 + set.len result.1 ≡ set.len whole.now }
 {
     let part = whole.intersection(inside.copied());
@@ -27,6 +29,9 @@ pub fn in_three<T: EnumSetType>(
     ensures first { set.is_disjoint result.0 (set.union result.1 result.2) ≡ true }
     ensures last { set.is_disjoint result.1 result.2 ≡ true }
     ensures rest { set.is_disjoint result.2 (set.union one.now other.now) ≡ true }
+    ensures of_one { result.0 ≡ set.intersection whole.now one.now }
+    ensures of_other { result.1 ≡ set.difference (set.intersection whole.now other.now) one.now }
+    ensures of_none { result.2 ≡ set.difference whole.now (set.union one.now other.now) }
 {
     let first = whole.intersection(one.copied());
     let second = whole.intersection(other.difference(one.copied()));
@@ -48,6 +53,7 @@ pub fn move_over<T: EnumSetType>(from: &mut EnumSet<T>, to: &mut EnumSet<T>, mov
     requires apart { set.is_disjoint from.old to.old ≡ true }
     ensures whole { set.union from.new to.new ≡ set.union from.old to.old }
     ensures apart { set.is_disjoint from.new to.new ≡ true }
+    ensures left { from.new ≡ set.remove from.old (T.elements.bit moved) }
     ensures moved { to.new ≡ set.insert to.old (T.elements.bit moved) }
 {
     from.remove(moved);
@@ -56,6 +62,7 @@ pub fn move_over<T: EnumSetType>(from: &mut EnumSet<T>, to: &mut EnumSet<T>, mov
 
 /// Takes the first element out. What is left and the element make the set that was.
 pub fn take_first<T: EnumSetType>(pending: &mut EnumSet<T>) -> Option<T>
+    ensures first { option_map T.elements.bit result ≡ least pending.old }
     ensures taken { IfSome result (λ t. set.contains pending.old (T.elements.bit t) ≡ true) }
     ensures gone { IfSome result (λ t. set.contains pending.new (T.elements.bit t) ≡ false) }
     ensures whole { IfSome result (λ t. set.insert pending.new (T.elements.bit t) ≡ pending.old) }
@@ -93,8 +100,10 @@ pub fn regrouped<T: EnumSetType>(
     outside.union(inside.difference(other.copied()))
 }
 
-/// The first and the last element.
+/// The first and the last element, or nothing if there is none.
 pub fn ends_of<T: EnumSetType>(members: &EnumSet<T>) -> Option<(T, T)>
+    ensures least { option_map (λ ends. T.elements.bit ends.0) result ≡ least members.now }
+    ensures greatest { option_map (λ ends. T.elements.bit ends.1) result ≡ greatest members.now }
     ensures first { IfSome result (λ ends. (q : ℕ) → set.contains members.now q ≡ true
         → T.elements.bit ends.0 ≤ q) }
     ensures last { IfSome result (λ ends. (q : ℕ) → set.contains members.now q ≡ true

@@ -1,7 +1,8 @@
 //! Days on which somebody is free, and shifts that go round the end of a week.
 
-ghost use Rattle.std.specs.Prelude.{◌≡◌, ◌↔◌, ◌<◌, ◌≤◌, ℕ, true, false, IfSome, IfNone};
+ghost use Rattle.std.specs.Prelude.{◌≡◌, ◌↔◌, ◌<◌, ◌≤◌, ◌&&◌, ℕ, not, true, false, if◌then◌else◌, IfSome, IfNone, option_map};
 ghost use Rattle.enumset_repr.specs.BitSet as set;
+ghost use Rattle.enumset_repr.specs.Ends.{least};
 ghost use Rattle.enumset_sets.specs.Elements.{valid_bits};
 ghost use Rattle.example_set_facts.specs.Bits.{day};
 
@@ -10,6 +11,7 @@ use enumset::{EnumSet, EnumSetType};
 
 /// The next free day of this week, from a day on.
 pub fn next_this_week(free: EnumSet<Weekday>, from: Weekday) -> Option<Weekday>
+    ensures least { option_map day result ≡ least (set.difference free (set.below (day from))) }
     ensures free { IfSome result (λ d. set.contains free (day d) ≡ true) }
     ensures later { IfSome result (λ d. day from ≤ day d) }
     ensures next { IfSome result (λ d. (q : ℕ) → set.contains free q ≡ true → day from ≤ q → day d ≤ q) }
@@ -30,7 +32,7 @@ pub fn meeting_days<T: EnumSetType>(
     one.intersection(other.copied()).difference(away.copied())
 }
 
-/// Moves a shift from one day to another. The shift has a shift on the one day and none on the other.
+/// Moves a shift from one day to another. There is a shift on the one day and none on the other.
 pub fn moved(days: EnumSet<Weekday>, from: Weekday, to: Weekday) -> EnumSet<Weekday>
     requires on { set.contains days (day from) ≡ true }
     requires off { set.contains days (day to) ≡ false }
@@ -57,6 +59,8 @@ pub fn agree_but<T: EnumSetType>(
 /// Books a day. It is booked if it was free and is not a holiday, and nothing changes else.
 pub fn book(booked: &mut EnumSet<Weekday>, holidays: EnumSet<Weekday>, wanted: Weekday) -> bool
     requires { set.is_disjoint booked.old holidays ≡ true }
+    ensures free { result ≡ (not (set.contains holidays (day wanted))
+        && not (set.contains booked.old (day wanted))) }
     ensures booked { result ≡ true → booked.new ≡ set.insert booked.old (day wanted) }
     ensures refused { result ≡ false → booked.new ≡ booked.old }
     ensures apart { set.is_disjoint booked.new holidays ≡ true }
@@ -74,6 +78,8 @@ pub fn cover_week<T: EnumSetType>(one: &EnumSet<T>, two: &EnumSet<T>, three: &En
 
 /// The next free day, from a day on. After the last of the week it is the first of the week.
 pub fn next_free(free: EnumSet<Weekday>, from: Weekday) -> Option<Weekday>
+    ensures next { let later = set.difference free (set.below (day from)) in option_map day result
+        ≡ (if set.is_empty later then least free else least later) }
     ensures free { IfSome result (λ d. set.contains free (day d) ≡ true) }
     ensures this_week { IfSome result (λ d. (q : ℕ) → set.contains free q ≡ true → day from ≤ q
         → (day from ≤ day d) × (day d ≤ q)) }

@@ -1,8 +1,10 @@
 //! Vectors of sets in their order.
 
-ghost use Rattle.std.specs.Prelude.{◌≡◌, ◌≢◌, ◌≤◌, ◌++◌, IfOk, IfErr, All};
+ghost use Rattle.std.specs.Prelude.{◌≡◌, ◌≢◌, ◌≤◌, ◌++◌, IfOk, IfErr, All, length};
 ghost use Rattle.std.specs.List.{slice_index_or};
-ghost use Rattle.std.specs.List.Sorted.{IsPermutation, IsSorted};
+ghost use Rattle.std.specs.List.Sorted.{IsPartitionPoint, IsPermutation, IsSearchInRange, IsSorted};
+ghost use Rattle.std.specs.Ordering.{ord_max, ord_min};
+ghost use Rattle.std.specs.declared.cmp.Ordering.TheVariants.{Less, Greater};
 ghost use Rattle.enumset_repr.specs.BitSet as set;
 ghost use Rattle.enumset_repr.specs.Number.{number};
 ghost use Rattle.enumset_repr.specs.Order.{compare};
@@ -32,9 +34,13 @@ pub fn merged<T: EnumSetType>(
     Ok(all)
 }
 
-/// A place at which a list of sets has the wanted one. In a sorted list a binary search finds it, if the list has it.
+/// A place at which a list of sets has the wanted one. In a sorted list a binary search finds it, if the list has it, and
+/// else the place between the lesser sets and the greater ones.
 pub fn place_of<T: EnumSetType>(sets: &[EnumSet<T>], wanted: &EnumSet<T>) -> Result<usize, usize>
+    ensures within { IsSearchInRange result (length sets.now) }
     ensures found { IfOk result (λ k. slice_index_or sets.now k set.empty ≡ wanted.now) }
+    ensures between { IsSorted compare sets.now
+        → IfErr result (IsPartitionPoint (λ s. compare s wanted.now ≡ Less) (λ s. compare s wanted.now ≡ Greater) sets.now) }
     ensures absent { IsSorted compare sets.now
         → IfErr result (λ _. All (λ s. s ≢ wanted.now) sets.now) }
 {
@@ -44,6 +50,8 @@ pub fn place_of<T: EnumSetType>(sets: &[EnumSet<T>], wanted: &EnumSet<T>) -> Res
 /// Two sets, the lesser first.
 #[tactic(auto, using(enumset_repr::specs::Laws::Decided::decided))]
 pub fn in_order<T: EnumSetType>(one: EnumSet<T>, other: EnumSet<T>) -> (EnumSet<T>, EnumSet<T>)
+    ensures lesser { result.0 ≡ ord_min compare one other }
+    ensures greater { result.1 ≡ ord_max compare one other }
     ensures ordered { number result.0 ≤ number result.1 }
     ensures same { set.union result.0 result.1 ≡ set.union one other }
 {

@@ -35,6 +35,8 @@ pub fn merged(
     ours: EnumSet<Permission>,
     theirs: EnumSet<Permission>,
 ) -> EnumSet<Permission>
+    ensures merged { result ≡ set.union (set.intersection base (set.intersection ours theirs))
+        (set.difference (set.union ours theirs) base) }
     ensures ours { set.is_subset (set.difference ours base) result ≡ true }
     ensures theirs { set.is_subset (set.difference theirs base) result ≡ true }
     ensures taken { set.is_disjoint (set.difference base ours) result ≡ true }

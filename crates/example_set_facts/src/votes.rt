@@ -40,7 +40,7 @@ pub fn single<T: EnumSetType>(one: &EnumSet<T>, two: &EnumSet<T>, three: &EnumSe
     parity(one, two, three).difference(one.intersection(two.intersection(three.copied())))
 }
 
-/// Where a vote of two is not decided by a third, that is where the two differ.
+/// What a majority has by the vote of the third: what the third has where the two others differ.
 pub fn decided_by_third<T: EnumSetType>(
     one: &EnumSet<T>,
     two: &EnumSet<T>,
