@@ -1,6 +1,6 @@
 //! Allow-lists with exceptions, and capabilities of versions.
 
-ghost use Rattle.std.specs.Prelude.{◌≡◌, ◌↔◌, ◌&&◌, not, true, false, IfOk, IfErr};
+ghost use Rattle.std.specs.Prelude.{◌≡◌, ◌↔◌, ◌&&◌, ◌||◌, ℕ, not, true, false, if◌then◌else◌, IfOk, IfErr};
 ghost use Rattle.enumset_repr.specs.BitSet as set;
 ghost use Rattle.enumset_sets.specs.Folds.{union_all};
 ghost use Rattle.example_set_facts.specs.Bits.{day};
@@ -35,8 +35,9 @@ pub fn merged(
     ours: EnumSet<Permission>,
     theirs: EnumSet<Permission>,
 ) -> EnumSet<Permission>
-    ensures merged { result ≡ set.union (set.intersection base (set.intersection ours theirs))
-        (set.difference (set.union ours theirs) base) }
+    ensures merged { (q : ℕ) → set.contains result q ≡ (if set.contains base q
+        then set.contains ours q && set.contains theirs q
+        else set.contains ours q || set.contains theirs q) }
     ensures ours { set.is_subset (set.difference ours base) result ≡ true }
     ensures theirs { set.is_subset (set.difference theirs base) result ≡ true }
     ensures taken { set.is_disjoint (set.difference base ours) result ≡ true }
