@@ -34,13 +34,14 @@ pub fn merged<T: EnumSetType>(
     Ok(all)
 }
 
-/// A place at which a list of sets has the wanted one. In a sorted list a binary search finds it, if the list has it, and
-/// else the place between the lesser sets and the greater ones.
+/// A place at which a list of sets has the wanted one. In a sorted list a binary search finds it, if the list has it.
+/// Else it gives the place between the lesser sets and the greater ones.
 pub fn place_of<T: EnumSetType>(sets: &[EnumSet<T>], wanted: &EnumSet<T>) -> Result<usize, usize>
     ensures within { IsSearchInRange result (length sets.now) }
     ensures found { IfOk result (λ k. slice_index_or sets.now k set.empty ≡ wanted.now) }
     ensures between { IsSorted compare sets.now
-        → IfErr result (IsPartitionPoint (λ s. compare s wanted.now ≡ Less) (λ s. compare s wanted.now ≡ Greater) sets.now) }
+        → IfErr result (IsPartitionPoint (λ s. compare s wanted.now ≡ Less)
+        (λ s. compare s wanted.now ≡ Greater) sets.now) }
     ensures absent { IsSorted compare sets.now
         → IfErr result (λ _. All (λ s. s ≢ wanted.now) sets.now) }
 {
