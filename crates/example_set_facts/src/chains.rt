@@ -66,6 +66,8 @@ pub fn found_round<T: EnumSetType>(members: &EnumSet<T>, bit: u32) -> Option<T>
     ensures member { IfSome result (λ t. set.contains members.now (T.elements.bit t) ≡ true) }
     ensures later { IfSome result (λ t. (q : ℕ) → set.contains members.now q ≡ true → bit ≤ q
         → (bit ≤ T.elements.bit t) × (T.elements.bit t ≤ q)) }
+    ensures first { IfSome result (λ t. T.elements.bit t < bit → (q : ℕ) → set.contains members.now q ≡ true
+        → (q < bit) × (T.elements.bit t ≤ q)) }
     ensures none { IfNone result (members.now ≡ set.empty) }
 {
     match found_from(members, bit) {

@@ -7,12 +7,14 @@ ghost use Rattle.enumset_repr.specs.BitSet.{BitSet};
 ghost use Rattle.enumset_repr.specs.Number.{number};
 ghost use Rattle.enumset_sets.specs.Elements.{valid_bits};
 ghost use Rattle.enumset.specs.Json.{set_of_number};
-ghost use Rattle.enumset.specs.JsonNames.{set_of_list};
+ghost use Rattle.enumset.specs.JsonNames.{list_value, set_of_list};
 ghost use Rattle.enumset.specs.JsonReads.{IsReadOf, value_read};
 ghost use Rattle.enumset.specs.Names.{names_of};
 ghost use Rattle.enumset.specs.declared.set_json.fault.JsonFault.{JsonFault};
 ghost use Rattle.enumset.specs.declared.set_json.fault.JsonFault.TheVariants as fault;
 ghost use Rattle.enumset.specs.declared.set_json.unknown.Unknown.TheVariants as unknown;
+ghost use Rattle.example_set_facts.specs.Reads.{IsFaultOfBoth};
+ghost use Rattle.serde_json.specs.Written.{compact_text};
 
 use enumset::set_json::{
     JsonFault, JsonWidth, Unknown, from_list_text, from_number_text, to_list_text, to_number_text,
@@ -59,6 +61,10 @@ pub fn with_defaults<T: EnumSetNames>(
     ensures listed { (s : BitSet)
         → value_read (set_of_list (names_of T.elements T.names) unknown.Refuse) text.now ≡ Some (Ok s)
         → IfOk result (λ all. all ≡ set.union s defaults.now) }
+    ensures union { IfOk result (λ all. (s : BitSet) × (all ≡ set.union s defaults.now)
+        × (value_read (set_of_list (names_of T.elements T.names) unknown.Refuse) text.now ≡ Some (Ok s))) }
+    ensures fault { IfErr result (λ f.
+        IsReadOf (set_of_list (names_of T.elements T.names) unknown.Refuse) text.now (Err f)) }
 {
     let listed = listed::<T>(alloc, text)?;
     Ok(listed.union(defaults.copied()))
@@ -121,6 +127,15 @@ pub fn checked<T: EnumSetNames>(
     ensures apart { IfOk result (λ s. set.is_disjoint s forbidden.now ≡ true) }
     ensures listed { IfOk result (λ s.
         value_read (set_of_list (names_of T.elements T.names) unknown.Refuse) text.now ≡ Some (Ok s)) }
+    ensures unread { IfErr result (λ r. (f : JsonFault) → r ≡ Refusal.Unread f
+        → IsReadOf (set_of_list (names_of T.elements T.names) unknown.Refuse) text.now (Err f)) }
+    ensures missing { IfErr result (λ r. (missing : BitSet) → r ≡ Refusal.Missing missing → (s : BitSet)
+        × (value_read (set_of_list (names_of T.elements T.names) unknown.Refuse) text.now ≡ Some (Ok s))
+        × (missing ≡ set.difference wanted.now s) × (set.is_subset wanted.now s ≡ false)) }
+    ensures refused { IfErr result (λ r. (refused : BitSet) → r ≡ Refusal.Forbidden refused → (s : BitSet)
+        × (value_read (set_of_list (names_of T.elements T.names) unknown.Refuse) text.now ≡ Some (Ok s))
+        × (set.is_subset wanted.now s ≡ true)
+        × (refused ≡ set.intersection s forbidden.now) × (set.is_disjoint s forbidden.now ≡ false)) }
 {
     let features = listed(alloc, text)?;
     let features = required(&features, wanted)?;
@@ -149,6 +164,8 @@ pub fn unknown_name<T: EnumSetNames>(alloc: Global, text: &str) -> Result<Option
 
 /// The text that lists features. It is read as these.
 pub fn written<T: EnumSetNames>(alloc: Global, features: &EnumSet<T>) -> Result<String, JsonFault>
+    ensures text { IfOk result (λ text. string_bytes text
+        ≡ compact_text (list_value (names_of T.elements T.names) features.now)) }
     ensures reads { IfOk result (λ text. value_read (set_of_list (names_of T.elements T.names) unknown.Refuse)
         (string_bytes text) ≡ Some (Ok features.now)) }
     ensures fault { IfErr result (λ f. f ≡ fault.OutOfMemory) }
@@ -170,12 +187,18 @@ pub fn written_and_read<T: EnumSetNames>(
     from_list_text(alloc, text.as_str(), Unknown::Refuse)
 }
 
-/// The text with one feature more.
+/// The text that lists the features of a text and one more.
 pub fn with_feature<T: EnumSetNames>(alloc: Global, text: &str, new: T) -> Result<String, JsonFault>
-    ensures { (s : BitSet)
+    ensures reads { (s : BitSet)
         → value_read (set_of_list (names_of T.elements T.names) unknown.Refuse) text.now ≡ Some (Ok s)
         → IfOk result (λ text. value_read (set_of_list (names_of T.elements T.names) unknown.Refuse)
         (string_bytes text) ≡ Some (Ok (set.insert s (T.elements.bit new)))) }
+    ensures text { IfOk result (λ written. (s : BitSet)
+        × (value_read (set_of_list (names_of T.elements T.names) unknown.Refuse) text.now ≡ Some (Ok s))
+        × (string_bytes written
+        ≡ compact_text (list_value (names_of T.elements T.names) (set.insert s (T.elements.bit new))))) }
+    ensures fault { IfErr result (λ f.
+        IsReadOf (set_of_list (names_of T.elements T.names) unknown.Refuse) text.now (Err f)) }
 {
     let mut features = listed::<T>(alloc, text)?;
     features.insert(new);
@@ -209,16 +232,22 @@ pub fn has_reserved<T: EnumSetType>(alloc: Global, text: &str) -> Result<bool, J
     }
 }
 
-/// The number of the features that two texts list.
+/// The number of the features that both texts list, if it fits a byte.
 pub fn number_of_both<T: EnumSetNames>(
     alloc: Global,
     one: &str,
     other: &str,
 ) -> Result<String, JsonFault>
-    ensures { (s t : BitSet)
+    ensures number { (s t : BitSet)
         → value_read (set_of_list (names_of T.elements T.names) unknown.Refuse) one.now ≡ Some (Ok s)
         → value_read (set_of_list (names_of T.elements T.names) unknown.Refuse) other.now ≡ Some (Ok t)
         → IfOk result (λ text. string_bytes text ≡ decimal (number (set.intersection s t))) }
+    ensures within { IfOk result (λ _. (s t : BitSet)
+        × (value_read (set_of_list (names_of T.elements T.names) unknown.Refuse) one.now ≡ Some (Ok s))
+        × (value_read (set_of_list (names_of T.elements T.names) unknown.Refuse) other.now ≡ Some (Ok t))
+        × (set.is_subset (set.intersection s t) (set.below 8) ≡ true)) }
+    ensures fault { IfErr result
+        (IsFaultOfBoth (set_of_list (names_of T.elements T.names) unknown.Refuse) one.now other.now) }
 {
     let both = listed::<T>(alloc, one)?.intersection(listed(alloc, other)?);
     to_number_text(alloc, &both, JsonWidth::U8)

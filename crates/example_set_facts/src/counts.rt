@@ -1,6 +1,6 @@
 //! How many members sets have.
 
-ghost use Rattle.std.specs.Prelude.{◌≡◌, ◌≢◌, ◌↔◌, ◌<◌, ◌≤◌, ◌+◌, ◌*◌, true, false, IfSome, IfNone};
+ghost use Rattle.std.specs.Prelude.{◌≡◌, ◌≢◌, ◌↔◌, ◌<◌, ◌≤◌, ◌+◌, ◌*◌, true, false, not, nat_lt, IfSome, IfNone};
 ghost use Rattle.enumset_repr.specs.BitSet as set;
 ghost use Rattle.enumset_sets.specs.Elements.{valid_bits};
 
@@ -49,9 +49,10 @@ pub fn counted_insert<T: EnumSetType>(members: &mut EnumSet<T>, new: T) -> usize
     }
 }
 
-/// Adds an element if the quota allows it. The quota is met as before.
+/// Adds an element if the quota allows one more, and returns whether it does. The quota is met as before.
 pub fn insert_within<T: EnumSetType>(members: &mut EnumSet<T>, new: T, quota: usize) -> bool
     requires { set.len members.old ≤ quota }
+    ensures room { result ≡ nat_lt (set.len members.old) quota }
     ensures within { set.len members.new ≤ quota }
     ensures inserted { result ≡ true → members.new ≡ set.insert members.old (T.elements.bit new) }
     ensures refused { result ≡ false → members.new ≡ members.old }
@@ -83,9 +84,10 @@ pub fn absent<T: EnumSetType>(members: &EnumSet<T>) -> usize
     members.complement().len()
 }
 
-/// How many members are left after one is taken out that was there.
+/// Takes out a member, and returns how many are left.
 pub fn left_after<T: EnumSetType>(members: &mut EnumSet<T>, old: T) -> usize
     requires { set.contains members.old (T.elements.bit old) ≡ true }
+    ensures left { members.new ≡ set.remove members.old (T.elements.bit old) }
     ensures count { result + 1 ≡ set.len members.old }
     ensures fewer { set.len members.new < set.len members.old }
 {
@@ -124,10 +126,10 @@ pub fn sole<T: EnumSetType>(members: &EnumSet<T>) -> Option<T>
     }
 }
 
-/// Whether two sets share a member, since their union has fewer members than both have.
+/// Whether two sets share a member: exactly then their union has fewer members than both have.
 #[tactic(auto, using(enumset_repr::specs::Laws::DecidedCounts::counts, enumset_repr::specs::Laws::DecidedCounts::counts_of_parts, enumset_repr::specs::Laws::Members::subsets))]
 pub fn must_overlap<T: EnumSetType>(one: &EnumSet<T>, other: &EnumSet<T>) -> bool
-    ensures { result ≡ true → set.is_disjoint one.now other.now ≡ false }
+    ensures { result ≡ not (set.is_disjoint one.now other.now) }
 {
     let together = one.union(other.copied()).len();
     one.len() + other.len() > together
