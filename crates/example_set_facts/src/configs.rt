@@ -1,6 +1,6 @@
 //! Features that a text in JSON lists or has as a number, and what is checked of them.
 
-ghost use Rattle.std.specs.Prelude.{◌≡◌, ◌≢◌, ℕ, true, false, Some, Ok, Err, IfOk, IfErr, IfSome, IfNone};
+ghost use Rattle.std.specs.Prelude.{◌≡◌, ◌≢◌, ◌⊎◌, ℕ, true, false, Some, Ok, Err, IfOk, IfErr, IfSome, IfNone};
 ghost use Rattle.std.specs.Prelude.{option_map, is_ok, string_bytes, decimal};
 ghost use Rattle.enumset_repr.specs.BitSet as set;
 ghost use Rattle.enumset_repr.specs.BitSet.{BitSet};
@@ -61,8 +61,9 @@ pub fn with_defaults<T: EnumSetNames>(
     ensures listed { (s : BitSet)
         → value_read (set_of_list (names_of T.elements T.names) unknown.Refuse) text.now ≡ Some (Ok s)
         → IfOk result (λ all. all ≡ set.union s defaults.now) }
-    ensures union { IfOk result (λ all. (s : BitSet) × (all ≡ set.union s defaults.now)
-        × (value_read (set_of_list (names_of T.elements T.names) unknown.Refuse) text.now ≡ Some (Ok s))) }
+    ensures read { IfOk result (λ _.
+        option_map is_ok (value_read (set_of_list (names_of T.elements T.names) unknown.Refuse) text.now)
+        ≡ Some true) }
     ensures fault { IfErr result (λ f.
         IsReadOf (set_of_list (names_of T.elements T.names) unknown.Refuse) text.now (Err f)) }
 {
@@ -116,7 +117,8 @@ pub fn permitted<T: EnumSetType>(
     }
 }
 
-/// The features that a text lists, if all that is required is among them, and nothing that is forbidden.
+/// The features that a text lists, if all that is required is among them, and nothing that is forbidden. Else the fault
+/// of the reader, or what is missing; or, if nothing is, what is forbidden.
 pub fn checked<T: EnumSetNames>(
     alloc: Global,
     text: &str,
@@ -129,13 +131,18 @@ pub fn checked<T: EnumSetNames>(
         value_read (set_of_list (names_of T.elements T.names) unknown.Refuse) text.now ≡ Some (Ok s)) }
     ensures unread { IfErr result (λ r. (f : JsonFault) → r ≡ Refusal.Unread f
         → IsReadOf (set_of_list (names_of T.elements T.names) unknown.Refuse) text.now (Err f)) }
-    ensures missing { IfErr result (λ r. (missing : BitSet) → r ≡ Refusal.Missing missing → (s : BitSet)
-        × (value_read (set_of_list (names_of T.elements T.names) unknown.Refuse) text.now ≡ Some (Ok s))
-        × (missing ≡ set.difference wanted.now s) × (set.is_subset wanted.now s ≡ false)) }
-    ensures refused { IfErr result (λ r. (refused : BitSet) → r ≡ Refusal.Forbidden refused → (s : BitSet)
-        × (value_read (set_of_list (names_of T.elements T.names) unknown.Refuse) text.now ≡ Some (Ok s))
-        × (set.is_subset wanted.now s ≡ true)
-        × (refused ≡ set.intersection s forbidden.now) × (set.is_disjoint s forbidden.now ≡ false)) }
+    ensures read { IfErr result (λ r. (s : BitSet) → (r ≡ Refusal.Missing s) ⊎ (r ≡ Refusal.Forbidden s)
+        → option_map is_ok (value_read (set_of_list (names_of T.elements T.names) unknown.Refuse) text.now)
+        ≡ Some true) }
+    ensures missing { (s : BitSet)
+        → value_read (set_of_list (names_of T.elements T.names) unknown.Refuse) text.now ≡ Some (Ok s)
+        → IfErr result (λ r. (missing : BitSet) → r ≡ Refusal.Missing missing
+        → (missing ≡ set.difference wanted.now s) × (set.is_subset wanted.now s ≡ false)) }
+    ensures refused { (s : BitSet)
+        → value_read (set_of_list (names_of T.elements T.names) unknown.Refuse) text.now ≡ Some (Ok s)
+        → IfErr result (λ r. (refused : BitSet) → r ≡ Refusal.Forbidden refused
+        → (refused ≡ set.intersection s forbidden.now)
+        × (set.is_subset wanted.now s ≡ true) × (set.is_disjoint s forbidden.now ≡ false)) }
 {
     let features = listed(alloc, text)?;
     let features = required(&features, wanted)?;
@@ -193,10 +200,13 @@ pub fn with_feature<T: EnumSetNames>(alloc: Global, text: &str, new: T) -> Resul
         → value_read (set_of_list (names_of T.elements T.names) unknown.Refuse) text.now ≡ Some (Ok s)
         → IfOk result (λ text. value_read (set_of_list (names_of T.elements T.names) unknown.Refuse)
         (string_bytes text) ≡ Some (Ok (set.insert s (T.elements.bit new)))) }
-    ensures text { IfOk result (λ written. (s : BitSet)
-        × (value_read (set_of_list (names_of T.elements T.names) unknown.Refuse) text.now ≡ Some (Ok s))
-        × (string_bytes written
-        ≡ compact_text (list_value (names_of T.elements T.names) (set.insert s (T.elements.bit new))))) }
+    ensures text { (s : BitSet)
+        → value_read (set_of_list (names_of T.elements T.names) unknown.Refuse) text.now ≡ Some (Ok s)
+        → IfOk result (λ text. string_bytes text
+        ≡ compact_text (list_value (names_of T.elements T.names) (set.insert s (T.elements.bit new)))) }
+    ensures read { IfOk result (λ _.
+        option_map is_ok (value_read (set_of_list (names_of T.elements T.names) unknown.Refuse) text.now)
+        ≡ Some true) }
     ensures fault { IfErr result (λ f.
         IsReadOf (set_of_list (names_of T.elements T.names) unknown.Refuse) text.now (Err f)) }
 {
@@ -242,10 +252,19 @@ pub fn number_of_both<T: EnumSetNames>(
         → value_read (set_of_list (names_of T.elements T.names) unknown.Refuse) one.now ≡ Some (Ok s)
         → value_read (set_of_list (names_of T.elements T.names) unknown.Refuse) other.now ≡ Some (Ok t)
         → IfOk result (λ text. string_bytes text ≡ decimal (number (set.intersection s t))) }
-    ensures within { IfOk result (λ _. (s t : BitSet)
-        × (value_read (set_of_list (names_of T.elements T.names) unknown.Refuse) one.now ≡ Some (Ok s))
-        × (value_read (set_of_list (names_of T.elements T.names) unknown.Refuse) other.now ≡ Some (Ok t))
-        × (set.is_subset (set.intersection s t) (set.below 8) ≡ true)) }
+    ensures fits { (s t : BitSet)
+        → value_read (set_of_list (names_of T.elements T.names) unknown.Refuse) one.now ≡ Some (Ok s)
+        → value_read (set_of_list (names_of T.elements T.names) unknown.Refuse) other.now ≡ Some (Ok t)
+        → IfOk result (λ _. set.is_subset (set.intersection s t) (set.below 8) ≡ true) }
+    ensures too_wide { (s t : BitSet)
+        → value_read (set_of_list (names_of T.elements T.names) unknown.Refuse) one.now ≡ Some (Ok s)
+        → value_read (set_of_list (names_of T.elements T.names) unknown.Refuse) other.now ≡ Some (Ok t)
+        → IfErr result (λ f. f ≡ fault.TooWide → set.is_subset (set.intersection s t) (set.below 8) ≡ false) }
+    ensures read { IfOk result (λ _.
+        (option_map is_ok (value_read (set_of_list (names_of T.elements T.names) unknown.Refuse) one.now)
+        ≡ Some true)
+        × (option_map is_ok (value_read (set_of_list (names_of T.elements T.names) unknown.Refuse) other.now)
+        ≡ Some true)) }
     ensures fault { IfErr result
         (IsFaultOfBoth (set_of_list (names_of T.elements T.names) unknown.Refuse) one.now other.now) }
 {
