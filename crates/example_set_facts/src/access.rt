@@ -1,6 +1,6 @@
 //! Permissions with lists of what is denied.
 
-ghost use Rattle.std.specs.Prelude.{◌≡◌, ◌↔◌, ◌≤◌, ◌&&◌, ◌||◌, ℕ, not, true, false, IfSome, IfNone};
+ghost use Rattle.std.specs.Prelude.{◌≡◌, ◌↔◌, ◌&&◌, ◌||◌, ℕ, not, true, false};
 ghost use Rattle.enumset_repr.specs.BitSet as set;
 ghost use Rattle.enumset_sets.specs.Elements.{valid_bits};
 ghost use Rattle.example_set_facts.specs.Bits.{permission};
@@ -20,18 +20,6 @@ pub fn effective<T: EnumSetType>(
         (set.difference given.now denied.now) }
 {
     granted.union(given.copied()).difference(denied.copied())
-}
-
-/// Whether all that is asked for is granted, and none of it denied.
-pub fn is_allowed(
-    granted: EnumSet<Permission>,
-    denied: EnumSet<Permission>,
-    asked: EnumSet<Permission>,
-) -> bool
-    ensures { result ≡ true
-        ↔ (set.is_subset asked granted ≡ true) × (set.is_disjoint asked denied ≡ true) }
-{
-    (granted - denied).is_superset(asked)
 }
 
 /// Takes denied permissions away, and returns those that were allowed until now.
@@ -78,17 +66,6 @@ pub fn grant_with(granted: &mut EnumSet<Permission>, new: Permission, implied: E
 {
     granted.insert_all(implied);
     granted.insert(new);
-}
-
-/// The first permission that is asked for and not allowed.
-pub fn first_refused(allowed: EnumSet<Permission>, asked: EnumSet<Permission>) -> Option<Permission>
-    ensures asked { IfSome result (λ p. set.contains asked (permission p) ≡ true) }
-    ensures refused { IfSome result (λ p. set.contains allowed (permission p) ≡ false) }
-    ensures first { IfSome result (λ p. (q : ℕ) → set.contains asked q ≡ true
-        → set.contains allowed q ≡ false → permission p ≤ q) }
-    ensures none { IfNone result (set.is_subset asked allowed ≡ true) }
-{
-    (asked - allowed).first()
 }
 
 /// Whether a user may read and is given nothing else.

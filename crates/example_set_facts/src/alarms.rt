@@ -1,6 +1,6 @@
 //! Alarms that are raised, acknowledged and cleared.
 
-ghost use Rattle.std.specs.Prelude.{◌≡◌, ◌↔◌, ◌≤◌, ◌&&◌, ◌||◌, ◌∷◌, ℕ, not, true, false, if◌then◌else◌, IfSome, IfNone};
+ghost use Rattle.std.specs.Prelude.{◌≡◌, ◌≤◌, ◌&&◌, ◌||◌, ◌∷◌, ℕ, not, true, false, if◌then◌else◌, IfSome, IfNone};
 ghost use Rattle.enumset_repr.specs.BitSet as set;
 
 use enumset::{EnumSet, EnumSetType};
@@ -12,21 +12,6 @@ pub fn raised_since<T: EnumSetType>(before: &EnumSet<T>, now: &EnumSet<T>) -> En
     ensures none { result ≡ set.empty → set.is_subset now.now before.now ≡ true }
 {
     now.difference(before.copied())
-}
-
-/// Clears alarms and raises others, and returns whether that changed anything.
-pub fn update<T: EnumSetType>(
-    active: &mut EnumSet<T>,
-    cleared: &EnumSet<T>,
-    raised: &EnumSet<T>,
-) -> bool
-    ensures active { active.new ≡ set.union (set.difference active.old cleared.now) raised.now }
-    ensures changed { result ≡ false ↔ (active.new ≡ active.old) }
-{
-    let before = active.copied();
-    active.remove_all(cleared.copied());
-    active.insert_all(raised.copied());
-    active.copied() != before
 }
 
 /// Alarms stay active until they are both cleared and acknowledged.

@@ -1,6 +1,6 @@
 //! Bytes of messages, some bits of which are reserved for later versions.
 
-ghost use Rattle.std.specs.Prelude.{◌≡◌, ◌↔◌, true, IfSome, IsSome};
+ghost use Rattle.std.specs.Prelude.{◌≡◌, ◌↔◌, true};
 ghost use Rattle.enumset_repr.specs.BitSet as set;
 ghost use Rattle.enumset_repr.specs.Number.{bits};
 ghost use Rattle.enumset_sets.specs.Elements.{valid_bits};
@@ -16,15 +16,6 @@ pub fn known(byte: u8) -> EnumSet<Feature>
     ensures sent { set.is_subset result (bits byte) ≡ true }
 {
     EnumSet::from_u8_truncated(byte)
-}
-
-/// The features of a byte, if no reserved bit is set.
-pub fn read(byte: u8) -> Option<EnumSet<Feature>>
-    ensures read { IfSome result (λ s. s ≡ bits byte) }
-    ensures known { IsSome result ↔ (set.difference (bits byte)
-        (valid_bits ⟦<Feature as EnumSetType>⟧.elements) ≡ set.empty) }
-{
-    EnumSet::try_from_u8(byte)
 }
 
 /// The byte with a feature marked. Known features alone are kept.

@@ -19,26 +19,6 @@ pub fn split<T: EnumSetType>(whole: &EnumSet<T>, inside: &EnumSet<T>) -> (EnumSe
     (part, rest)
 }
 
-/// A set in three parts: what one has, what the other has beside, and the rest.
-pub fn in_three<T: EnumSetType>(
-    whole: &EnumSet<T>,
-    one: &EnumSet<T>,
-    other: &EnumSet<T>,
-) -> (EnumSet<T>, EnumSet<T>, EnumSet<T>)
-    ensures whole { set.union (set.union result.0 result.1) result.2 ≡ whole.now }
-    ensures first { set.is_disjoint result.0 (set.union result.1 result.2) ≡ true }
-    ensures last { set.is_disjoint result.1 result.2 ≡ true }
-    ensures rest { set.is_disjoint result.2 (set.union one.now other.now) ≡ true }
-    ensures of_one { result.0 ≡ set.intersection whole.now one.now }
-    ensures of_other { result.1 ≡ set.difference (set.intersection whole.now other.now) one.now }
-    ensures of_none { result.2 ≡ set.difference whole.now (set.union one.now other.now) }
-{
-    let first = whole.intersection(one.copied());
-    let second = whole.intersection(other.difference(one.copied()));
-    let rest = whole.difference(one.union(other.copied()));
-    (first, second, rest)
-}
-
 /// Whether two sets are the parts of a whole.
 pub fn are_parts<T: EnumSetType>(whole: &EnumSet<T>, one: &EnumSet<T>, other: &EnumSet<T>) -> bool
     ensures { result ≡ true ↔ (set.is_subset one.now whole.now ≡ true)
