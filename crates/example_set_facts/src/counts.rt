@@ -126,7 +126,7 @@ pub fn sole<T: EnumSetType>(members: &EnumSet<T>) -> Option<T>
     }
 }
 
-/// Whether two sets share a member: exactly then their union has fewer members than both have.
+/// Whether two sets share a member, told by counts: exactly then, their union has fewer than both in sum.
 #[tactic(auto, using(enumset_repr::specs::Laws::DecidedCounts::counts, enumset_repr::specs::Laws::DecidedCounts::counts_of_parts, enumset_repr::specs::Laws::Members::subsets))]
 pub fn must_overlap<T: EnumSetType>(one: &EnumSet<T>, other: &EnumSet<T>) -> bool
     ensures { result ≡ not (set.is_disjoint one.now other.now) }
