@@ -1,1 +1,3 @@
 pub mod Frames
+pub mod Digits
+pub mod Texts

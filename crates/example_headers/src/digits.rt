@@ -1,11 +1,14 @@
 //! Bytes as texts, each in two hexadecimal digits.
 
-ghost use Rattle.std.specs.Prelude.{◌<◌, IfSome};
+ghost use Rattle.std.specs.Prelude.{◌≡◌, ◌<◌, option_map, IfSome, IfOk};
+ghost use Rattle.example_headers.specs.Digits.{digit_of, bytes_of};
 
 use std::alloc::{AllocError, Global};
 
 /// The bytes of a text, or `None` if it has not two digits for each byte.
-pub fn decode(alloc: Global, text: &str) -> Result<Option<Vec<u8>>, AllocError> {
+pub fn decode(alloc: Global, text: &str) -> Result<Option<Vec<u8>>, AllocError>
+    ensures { IfOk result (λ read. option_map (λ bytes. bytes.items) read ≡ bytes_of text.now) }
+{
     let mut bytes = Vec::new(alloc);
     for pair in text.as_bytes().chunks(2) {
         let [high, low] = pair else {
@@ -21,7 +24,8 @@ pub fn decode(alloc: Global, text: &str) -> Result<Option<Vec<u8>>, AllocError> 
 
 /// The value of a digit.
 fn digit(letter: u8) -> Option<u8>
-    ensures { IfSome result (λ value. value < 16) }
+    ensures value { result ≡ digit_of letter }
+    ensures small { IfSome result (λ value. value < 16) }
 {
     match letter {
         b'0'..=b'9' => Some(letter - b'0'),

@@ -28,6 +28,11 @@ pub enum FrameFault {
 }
 
 impl fmt::Display for FrameFault {
+    ghost use Rattle.std.specs.Prelude.{Some};
+    ghost use Rattle.example_headers.specs.Texts.{frame_fault_text};
+
+    ghost output = { λ fault. Some (frame_fault_text fault) };
+
     fn fmt<W: fmt::Write>(&self, f: &mut fmt::Formatter<W>) -> fmt::Result {
         match self {
             FrameFault::NoHeader => write!(f, "no flags or no length"),
@@ -40,6 +45,11 @@ impl fmt::Display for FrameFault {
 
 /// The flags and how long the body is, as `Urgent | [5], 2 bytes`. A flag of later versions is the number of its bit.
 impl fmt::Display for Frame<'_> {
+    ghost use Rattle.example_headers.specs.Texts.{frame_text};
+
+    ghost output = { λ frame.
+        frame_text ⟦<MixedEnumSet<Flag> as fmt::Display>⟧.output frame.flags frame.body.now };
+
     fn fmt<W: fmt::Write>(&self, f: &mut fmt::Formatter<W>) -> fmt::Result {
         if self.flags.is_empty() {
             f.write_str("no flags")?;
