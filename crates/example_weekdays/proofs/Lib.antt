@@ -1,1 +1,4 @@
+pub mod LineLaws
+pub mod ScheduleLaws
 pub mod WeekLaws
+pub mod WordLaws

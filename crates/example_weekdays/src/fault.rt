@@ -7,17 +7,27 @@ use std::fmt;
 #[derive(Clone, Copy, Debug)]
 pub enum Fault<'a> {
     OutOfMemory,
-    NoName(u64),
-    NoDay(u64, &'a str),
+    NoName(usize),
+    NoDay(usize, &'a str),
 }
 
 impl<T: Drop> From<AllocFailed<T>> for Fault<'_> {
+    ghost use Rattle.std.specs.Prelude.{◌≡◌};
+    ghost use Rattle.example_weekdays.specs.declared.fault.Fault.TheVariants.{OutOfMemory};
+
+    ghost from_gives = { λ _ fault. fault ≡ OutOfMemory };
+
     fn from(_refused: AllocFailed<T>) -> Self {
         Fault::OutOfMemory
     }
 }
 
 impl fmt::Display for Fault<'_> {
+    ghost use Rattle.std.specs.Prelude.{Some};
+    ghost use Rattle.example_weekdays.specs.Texts.{fault_text};
+
+    ghost output = { λ fault. Some (fault_text fault) };
+
     fn fmt<W: fmt::Write>(&self, f: &mut fmt::Formatter<W>) -> fmt::Result {
         match self {
             Fault::OutOfMemory => f.write_str("memory ran out"),

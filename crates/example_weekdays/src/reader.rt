@@ -1,23 +1,33 @@
 //! Schedules as texts.
 
+ghost use Rattle.std.specs.Prelude.{◌≡◌, IfOk, IfErr};
+ghost use Rattle.example_weekdays.specs.Schedules.{days_in, schedules_in, IsFaultOf};
+
 use crate::fault::Fault;
 use crate::weekday::Weekday;
 use enumset::{EnumSet, EnumSetNames};
 use std::alloc::Global;
 
-/// The days of each line, as `ann: Monday Friday`. An empty line is nobody's.
-pub fn read_schedules(alloc: Global, text: &str) -> Result<Vec<EnumSet<Weekday>>, Fault<'_>> {
+/// The days of each line, as `ann: Monday Friday`. An empty line is nobody's. A fault says what is wrong with the first
+/// line that has no days, or that memory ran out.
+pub fn read_schedules(alloc: Global, text: &str) -> Result<Vec<EnumSet<Weekday>>, Fault<'_>>
+    ensures schedules { IfOk result (λ schedules. schedules_in text.now ≡ Ok schedules.items) }
+    ensures fault { IfErr result (IsFaultOf (schedules_in text.now)) }
+{
     let mut schedules = Vec::new(alloc);
-    for (line, number) in text.lines().zip(1..=u64::MAX) {
+    for (place, line) in text.lines().enumerate() {
         if !line.is_empty() {
-            schedules.push(read_days(line, number)?)?;
+            schedules.push(read_days(line, place + 1)?)?;
         }
     }
     Ok(schedules)
 }
 
 /// The days after the name.
-fn read_days(line: &str, number: u64) -> Result<EnumSet<Weekday>, Fault<'_>> {
+fn read_days(line: &str, number: usize) -> Result<EnumSet<Weekday>, Fault<'_>>
+    ensures days { IfOk result (λ days. days_in number line.now ≡ Ok days) }
+    ensures fault { IfErr result (IsFaultOf (days_in number line.now)) }
+{
     let Some((_name, words)) = line.split_once(':') else {
         return Err(Fault::NoName(number));
     };

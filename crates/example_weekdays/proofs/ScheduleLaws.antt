@@ -1,0 +1,28 @@
+-- The schedules of a text, one line more.
+use Rattle.std.proofs.Common.{◌≡◌, List, [], ◌∷◌, ◌++◌, Result, Ok, Err, refl, ap, sym, append_assoc, append-nil}
+use Rattle.enumset_repr.specs.BitSet.{BitSet}
+use Rattle.example_weekdays.specs.Schedules.{Trouble, and_schedules, IsFaultOf}
+use Rattle.example_weekdays.specs.declared.fault.Fault.{Fault}
+use Rattle.example_weekdays.specs.declared.fault.Fault.TheVariants.{OutOfMemory, NoName, NoDay}
+
+-- the schedules so far, before those of the lines to come
+abbrev pub after : List BitSet → Result (List BitSet) Trouble → Result (List BitSet) Trouble
+after done (Ok later) = Ok (done ++ later)
+after done (Err trouble) = Err trouble
+
+pub after_none : (later : Result (List BitSet) Trouble) → after [] later ≡ later
+after_none (Ok later) = refl
+after_none (Err trouble) = refl
+
+pub after_more : (done : List BitSet) (days : BitSet) (later : Result (List BitSet) Trouble) → after done (and_schedules (Ok days) later) ≡ after (done ++ days ∷ []) later
+after_more done days (Ok later) = ap Ok (sym (append_assoc done (days ∷ []) later))
+after_more done days (Err trouble) = refl
+
+pub after_end : (done : List BitSet) → after done (Ok []) ≡ Ok done
+after_end done = ap Ok (append-nil done)
+
+-- what is wrong with the next line is what is wrong with the text
+pub fault_of_next : (done : List BitSet) (days : Result BitSet Trouble) (later : Result (List BitSet) Trouble) (fault : Fault) → IsFaultOf days fault → IsFaultOf (after done (and_schedules days later)) fault
+fault_of_next done days later OutOfMemory wrong = tt
+fault_of_next done days later (NoName line) wrong = rw wrong refl
+fault_of_next done days later (NoDay line word) wrong = rw wrong refl
