@@ -129,7 +129,12 @@ pub fn run(start: EnumSet<Flag>, transitions: &[Transition]) -> EnumSet<Flag>
     state
 }
 
+/// What is missing, and what bars.
 impl fmt::Display for Refusal {
+    ghost use Rattle.example_door.specs.Texts.{refusal_text};
+
+    ghost output = { refusal_text ⟦<EnumSet<Flag> as fmt::Display>⟧.output };
+
     fn fmt<W: fmt::Write>(&self, f: &mut fmt::Formatter<W>) -> fmt::Result {
         f.write_str("refused")?;
         if !self.missing.is_empty() {
