@@ -1,5 +1,5 @@
 -- How the lines of a text go on after the first.
-use Rattle.std.proofs.Common.{◌≡◌, ◌==◌, ℕ, ◌-◌, ◌<◌, false, cond, List, [], ◌∷◌, ◌++◌, length, get_or, take, drop, refl, sym, ap, subst, ◌∙◌, arith, ne_eqb, eq-eqb, eqb-true, length-drop, inl, inr, Some, None, take-append-drop, take_all}
+use Rattle.std.proofs.Common.{◌≡◌, ◌==◌, ℕ, ◌-◌, ◌<◌, false, cond, List, [], ◌∷◌, ◌++◌, length, get_or, take, drop, refl, sym, ap, subst, ◌∙◌, arith, ne_eqb, eq-eqb, eqb-true, length-drop, inl, inr, Some, take-append-drop, take_all}
 use Rattle.std.specs.Borrow.{Bor}
 use Rattle.std.specs.Char.{encode_utf8}
 use Rattle.std.specs.List.{slice_split, All}
@@ -54,6 +54,3 @@ lines-first text line rest some (n, none, after, fits, whole, cut) =
 -- what a step of the lines of a text says
 pub lines_step : (s t : _) (line : Bor (List ℕ)) → lines_steps s (Some line) t → lines (lines_rest s) ≡ line.now ∷ lines (lines_rest t)
 lines_step s t line (step, _) = lines-first (lines_rest s) line.now (lines_rest t) step.0 step.2
-
-pub lines_end : (s t : _) → lines_steps s None t → lines (lines_rest s) ≡ []
-lines_end s t (step, _) = ap lines (nil_from_length (lines_rest s) step.0)

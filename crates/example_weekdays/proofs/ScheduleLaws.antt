@@ -1,5 +1,5 @@
 -- The schedules of a text, one line more.
-use Rattle.std.proofs.Common.{◌≡◌, List, [], ◌∷◌, ◌++◌, Result, Ok, Err, refl, ap, sym, append_assoc, append-nil}
+use Rattle.std.proofs.Common.{◌≡◌, List, [], ◌∷◌, ◌++◌, Result, Ok, Err, refl, ap, sym, append_assoc}
 use Rattle.enumset_repr.specs.BitSet.{BitSet}
 use Rattle.example_weekdays.specs.Schedules.{Trouble, and_schedules, IsFaultOf}
 use Rattle.example_weekdays.specs.declared.fault.Fault.{Fault}
@@ -10,16 +10,9 @@ abbrev pub after : List BitSet → Result (List BitSet) Trouble → Result (List
 after done (Ok later) = Ok (done ++ later)
 after done (Err trouble) = Err trouble
 
-pub after_none : (later : Result (List BitSet) Trouble) → after [] later ≡ later
-after_none (Ok later) = refl
-after_none (Err trouble) = refl
-
 pub after_more : (done : List BitSet) (days : BitSet) (later : Result (List BitSet) Trouble) → after done (and_schedules (Ok days) later) ≡ after (done ++ days ∷ []) later
 after_more done days (Ok later) = ap Ok (sym (append_assoc done (days ∷ []) later))
 after_more done days (Err trouble) = refl
-
-pub after_end : (done : List BitSet) → after done (Ok []) ≡ Ok done
-after_end done = ap Ok (append-nil done)
 
 -- what is wrong with the next line is what is wrong with the text
 pub fault_of_next : (done : List BitSet) (days : Result BitSet Trouble) (later : Result (List BitSet) Trouble) (fault : Fault) → IsFaultOf days fault → IsFaultOf (after done (and_schedules days later)) fault
