@@ -1,22 +1,14 @@
 -- How the bytes of a text go on, two digits after two.
-use Rattle.std.proofs.Common.{◌≡◌, ℕ, ◌+◌, ◌*◌, List, [], ◌∷◌, ◌++◌, length, slice_index, Option, Some, None, refl, ap, sym, append_assoc, append-nil, arith, option_map}
+use Rattle.std.proofs.Common.{◌≡◌, ℕ, ◌+◌, ◌*◌, List, [], ◌∷◌, ◌++◌, length, slice_index, Option, Some, None, refl, ap, sym, append_assoc, arith, option_map}
 use Rattle.example_headers.specs.Digits.{digit_of, bytes_of}
 
 -- the bytes so far, before those of the digits to come
 abbrev pub after : List ℕ → Option (List ℕ) → Option (List ℕ)
 after bytes more = option_map (λ later. bytes ++ later) more
 
-pub after_none : (more : Option (List ℕ)) → after [] more ≡ more
-after_none None = refl
-after_none (Some later) = refl
-
 pub after_more : (bytes : List ℕ) (byte : ℕ) (more : Option (List ℕ)) → after bytes (option_map (λ later. byte ∷ later) more) ≡ after (bytes ++ byte ∷ []) more
 after_more bytes byte None = refl
 after_more bytes byte (Some later) = ap Some (sym (append_assoc bytes (byte ∷ []) later))
-
-pub after_end : (bytes rest : List ℕ) → length rest ≡ 0 → after bytes (bytes_of rest) ≡ Some bytes
-after_end bytes [] none = ap Some (append-nil bytes)
-after_end bytes (x ∷ rest) none = absurd (omega arith)
 
 -- two digits, and the bytes of the digits after them
 pub bytes_of_pair : (all pair rest : List ℕ) (high low : ℕ) → all ≡ pair ++ rest → length pair ≡ 2 → digit_of (slice_index pair 0) ≡ Some high → digit_of (slice_index pair 1) ≡ Some low
