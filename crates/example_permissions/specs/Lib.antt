@@ -1,2 +1,5 @@
+pub mod Answers
 pub mod Decision
 pub mod Policy
+pub mod Reading
+pub mod Texts

@@ -1,9 +1,11 @@
 //! What a request gets.
 
 ghost use Rattle.std.specs.Prelude.{◌≡◌, ◌↔◌, ◌&&◌, ℕ, not};
+ghost use Rattle.std.specs.Fmt.{WritesOnOk};
 ghost use Rattle.enumset_repr.specs.BitSet as set;
 ghost use Rattle.example_permissions.specs.Policy.{is_granted, is_allowed, IsAllowed};
 ghost use Rattle.example_permissions.specs.Decision.{missing_of};
+ghost use Rattle.example_permissions.specs.Texts.{separator};
 
 use crate::policy::{Grant, User};
 use crate::rights::Right;
@@ -22,6 +24,11 @@ pub enum Decision {
 
 /// `allowed`, or the missing rights, as `denied: Write, Share`.
 impl fmt::Display for Decision {
+    ghost use Rattle.std.specs.Prelude.{Some};
+    ghost use Rattle.example_permissions.specs.Texts.{decision_text};
+
+    ghost output = { λ decision. Some (decision_text decision) };
+
     fn fmt<W: fmt::Write>(&self, f: &mut fmt::Formatter<W>) -> fmt::Result {
         let Decision::Denied(missing) = self else {
             return f.write_str("allowed");
@@ -29,14 +36,22 @@ impl fmt::Display for Decision {
         f.write_str("denied: ")?;
         let mut is_first = true;
         for right in *missing {
-            if !is_first {
-                f.write_str(", ")?;
-            }
-            f.write_str(right.name())?;
+            write_separator(is_first, f)?;
             is_first = false;
+            f.write_str(right.name())?;
         }
         Ok(())
     }
+}
+
+/// Writes a comma and a space, or nothing before the first name.
+fn write_separator<W: fmt::Write>(is_first: bool, f: &mut fmt::Formatter<W>) -> fmt::Result
+    ensures { WritesOnOk W.write_str_gives f.old result (separator is_first) f.new }
+{
+    if is_first {
+        return Ok(());
+    }
+    f.write_str(", ")
 }
 
 /// Decides whether a user may do all that a request asks for.

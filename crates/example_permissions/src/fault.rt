@@ -18,12 +18,24 @@ pub enum Fault {
 }
 
 impl From<AllocError> for Fault {
+    ghost use Rattle.std.specs.Prelude.{◌≡◌};
+    ghost use Rattle.std.specs.IoError.{error_kind};
+    ghost use Rattle.std.specs.declared.io.Error.{Error};
+    ghost use Rattle.std.specs.declared.io.ErrorKind.TheVariants.{OutOfMemory};
+    ghost use Rattle.example_permissions.specs.declared.fault.Fault.TheVariants.{Io};
+
+    ghost from_gives = { λ _ fault. (error : Error) × (fault ≡ Io error) × (error_kind error ≡ OutOfMemory) };
+
     fn from(error: AllocError) -> Fault {
         Fault::Io(error.into())
     }
 }
 
 impl fmt::Display for Fault {
+    ghost use Rattle.example_permissions.specs.Texts.{fault_text};
+
+    ghost output = { fault_text };
+
     fn fmt<W: fmt::Write>(&self, f: &mut fmt::Formatter<W>) -> fmt::Result {
         match self {
             Fault::Io(error) => write!(f, "{error}"),

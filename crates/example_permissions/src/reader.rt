@@ -1,5 +1,12 @@
 //! Policies and requests as texts.
 
+ghost use Rattle.std.specs.Prelude.{◌≡◌, map, option_map, string_bytes, [], Ok, IfOk, IfErr};
+ghost use Rattle.enumset.specs.Names.{names_of};
+ghost use Rattle.enumset.specs.JsonNames.{members_in};
+ghost use Rattle.serde_json.specs.View.{view, members_view};
+ghost use Rattle.example_permissions.specs.Answers.{grant_seen, user_of, AreUsersRead, IsPolicyRead, IsAnswerTo};
+ghost use Rattle.example_permissions.specs.Reading.{words_of, object_in, set_in, grants_in, users_in, policy_read, request_in, IsFaultOf, IsFaultOfText};
+
 use crate::decision::{Decision, decide};
 use crate::fault::Fault;
 use crate::policy::{Grant, User, add_grant};
@@ -19,16 +26,26 @@ pub struct Policy {
 }
 
 impl Policy {
-    /// The policy of a JSON text.
-    pub fn from_json(alloc: Global, text: &str) -> Result<Policy, Fault> {
+    /// The policy of a JSON text. A fault says what is wrong with the first part that is wrong, that the text is no JSON,
+    /// or that memory ran out.
+    pub fn from_json(alloc: Global, text: &str) -> Result<Policy, Fault>
+        ensures policy { IfOk result (IsPolicyRead (policy_read text.now)) }
+        ensures fault { IfErr result (IsFaultOfText (policy_read text.now)) }
+    {
         let policy = Value::from_str(alloc, text).map_err(Fault::Json)?;
         let grants = read_grants(alloc, object_in(&policy, "grants")?)?;
         let users = read_users(alloc, object_in(&policy, "users")?)?;
         Ok(Policy { grants, users })
     }
 
-    /// What a request gets, as `ann Read Write`. A line without words is no request.
-    pub fn answer(&self, alloc: Global, line: &str) -> Result<Option<Decision>, Fault> {
+    /// What a request gets, as `ann Read Write`. A line without words is no request. A fault says which name nobody has,
+    /// or that memory ran out.
+    pub fn answer(&self, alloc: Global, line: &str) -> Result<Option<Decision>, Fault>
+        ensures answer { IfOk result
+            (IsAnswerTo self.now (request_in (user_of self.now) (words_of line.now))) }
+        ensures fault { IfErr result
+            (IsFaultOf (request_in (user_of self.now) (words_of line.now))) }
+    {
         let mut words = line.split_ascii_whitespace();
         let Some(name) = words.next() else {
             return Ok(None);
@@ -48,13 +65,22 @@ impl Policy {
 }
 
 /// The object of a name.
-fn object_in<'a>(value: &'a Value, name: &'static str) -> Result<&'a Map<String, Value>, Fault> {
+fn object_in<'a>(value: &'a Value, name: &'static str) -> Result<&'a Map<String, Value>, Fault>
+    ensures object { IfOk result (λ object. object_in name.now (view value.now)
+        ≡ Ok (members_in (members_view object.now.entries))) }
+    ensures fault { IfErr result (IsFaultOf (object_in name.now (view value.now))) }
+{
     let object = value.get(name).and_then(|member| member.as_object());
     object.ok_or(Fault::NoObject(name))
 }
 
 /// What each role is granted.
-fn read_grants(alloc: Global, roles: &Map<String, Value>) -> Result<Vec<Grant>, Fault> {
+fn read_grants(alloc: Global, roles: &Map<String, Value>) -> Result<Vec<Grant>, Fault>
+    ensures grants { IfOk result (λ grants. grants_in (members_in (members_view roles.now.entries))
+        ≡ Ok (map grant_seen grants.items)) }
+    ensures fault { IfErr result
+        (IsFaultOf (grants_in (members_in (members_view roles.now.entries)))) }
+{
     let mut grants = Vec::new(alloc);
     for (name, rights) in roles.iter() {
         let Some(role) = Role::of_name(name.as_str()) else {
@@ -67,10 +93,12 @@ fn read_grants(alloc: Global, roles: &Map<String, Value>) -> Result<Vec<Grant>, 
 }
 
 /// The users by name.
-fn read_users(
-    alloc: Global,
-    members: &Map<String, Value>,
-) -> Result<BTreeMap<String, User>, Fault> {
+fn read_users(alloc: Global, members: &Map<String, Value>) -> Result<BTreeMap<String, User>, Fault>
+    ensures users { IfOk result
+        (AreUsersRead (users_in [] (members_in (members_view members.now.entries)))) }
+    ensures fault { IfErr result
+        (IsFaultOf (users_in [] (members_in (members_view members.now.entries)))) }
+{
     let mut users = BTreeMap::new(alloc);
     for (name, member) in members.iter() {
         let user = User {
@@ -87,7 +115,12 @@ fn read_list<T: EnumSetNames>(
     list: &'static str,
     name: &String,
     names: Option<&Value>,
-) -> Result<EnumSet<T>, Fault> {
+) -> Result<EnumSet<T>, Fault>
+    ensures set { IfOk result (λ set. set_in (names_of T.elements T.names) list.now
+        (string_bytes name.now) (option_map (λ v. view v.now) names.entry) ≡ Ok set) }
+    ensures fault { IfErr result (IsFaultOf (set_in (names_of T.elements T.names) list.now
+        (string_bytes name.now) (option_map (λ v. view v.now) names.entry))) }
+{
     let Some(names) = names else {
         return Ok(EnumSet::new());
     };
