@@ -1,13 +1,11 @@
 -- What is read, one part after another.
-use Rattle.std.proofs.Common.{◌≡◌, ℕ, List, [], ◌∷◌, ◌++◌, Result, Ok, Err, Option, Some, map, refl, ap, sym, append_assoc, append-nil}
+use Rattle.std.proofs.Common.{◌≡◌, ℕ, List, [], ◌∷◌, ◌++◌, Result, Ok, Err, Option, Some, map, refl, ap, sym, append_assoc}
 use Rattle.example_permissions.specs.Answers.{grant_seen}
 use Rattle.example_permissions.specs.declared.policy.Grant.{Grant}
 use Rattle.serde_json.specs.Data.{Data}
 use Rattle.enumset_repr.specs.BitSet.{BitSet, empty}
 use Rattle.example_permissions.specs.declared.policy.User.{User}
-use Rattle.example_permissions.specs.declared.fault.Fault.{Fault}
-use Rattle.example_permissions.specs.declared.fault.Fault.TheVariants as fault
-use Rattle.example_permissions.specs.Reading.{Trouble, ◌>>=◌, grant_in, grants_in, rights_in, request_in, IsFaultOf}
+use Rattle.example_permissions.specs.Reading.{Trouble, ◌>>=◌, grant_in, grants_in, rights_in, request_in}
 
 -- ---- grants
 

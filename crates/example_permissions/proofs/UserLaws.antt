@@ -1,14 +1,14 @@
 -- The users of members by name, one member after another.
-use Rattle.std.proofs.Common.{◌≡◌, ℕ, cond, List, [], ◌∷◌, Result, Ok, String, BTreeMap, Some, ap, ◌∙◌}
+use Rattle.std.proofs.Common.{◌≡◌, ℕ, cond, List, [], ◌∷◌, Ok, String, BTreeMap, Some, ap, ◌∙◌}
 use Rattle.std.specs.Cmp.Lexicographic.{nat_list_eq_equiv}
 use Rattle.std.specs.BTreeMap.{get_by_text}
-use Rattle.std.specs.Map.{lookup, update}
+use Rattle.std.specs.Map.{update}
 use Rattle.std.specs.Str.{bytes_eq}
 use Rattle.std.specs.declared.alloc.Global.{Global}
 use Rattle.serde_json.specs.Data.{Data}
 use Rattle.example_permissions.specs.declared.policy.User.{User}
-use Rattle.example_permissions.specs.Answers.{AreUsers, AreUsersRead}
-use Rattle.example_permissions.specs.Reading.{Trouble, user_in, users_in}
+use Rattle.example_permissions.specs.Answers.{AreUsers}
+use Rattle.example_permissions.specs.Reading.{user_in, users_in}
 
 -- the map has the users so far, and with those of the members left they are the users of all
 pub record UsersSoFar (left all : List (List ℕ × Data)) (by_name : BTreeMap (String Global) User) : Type 0 where

@@ -1,7 +1,7 @@
 -- How the words of a text go on after the first.
-use Rattle.std.proofs.Common.{◌≡◌, ◌==◌, ℕ, ◌<◌, ◌≤◌, true, false, not, cond, List, [], ◌∷◌, ◌++◌, length, filter, get_or, refl, sym, ap, ◌∙◌, arith, ne_eqb, length-append, append-nil, inl, inr, Option, Some, None}
+use Rattle.std.proofs.Common.{◌≡◌, ◌==◌, ℕ, ◌<◌, true, false, not, cond, List, [], ◌∷◌, ◌++◌, length, filter, get_or, refl, sym, ap, ◌∙◌, arith, ne_eqb, append-nil, inl, inr, Some, None}
 use Rattle.std.specs.Char.{is_ascii_whitespace}
-use Rattle.std.specs.List.{slice_split, All, AllPass, AllByRecursion}
+use Rattle.std.specs.List.{slice_split, All, AllByRecursion}
 use Rattle.std.specs.Str.{NoCharPasses}
 use Rattle.std.specs.Str.Iter.{IsAsciiSeparator, split_ascii_whitespace_steps, split_ascii_whitespace_text}
 use Rattle.std.proofs.lemmas.Bool.Decides.{nat_tests}

@@ -17,7 +17,7 @@ use Rattle.example_permissions.specs.declared.policy.Grant.{Grant}
 use Rattle.example_permissions.specs.declared.policy.User.{User}
 use Rattle.example_permissions.specs.declared.reader.Policy.{Policy}
 use Rattle.example_permissions.specs.declared.decision.Decision.{Decision}
-use Rattle.example_permissions.specs.declared.decision.Decision.TheVariants.{Allowed, Denied}
+use Rattle.example_permissions.specs.declared.decision.Decision.TheVariants.{Allowed}
 use Rattle.example_permissions.specs.Decision.{missing_of}
 use Rattle.example_permissions.specs.Policy.{role_bit, is_allowed, IsAllowed}
 use Rattle.example_permissions.specs.Reading.{Trouble, Contents}

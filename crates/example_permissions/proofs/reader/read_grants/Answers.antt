@@ -1,5 +1,4 @@
 use Rattle.std.proofs.Common.{◌≡◌, ◌++◌, ◌∷◌, [], Ok, map, sym, ap, ◌∙◌, string_bytes, arith}
-use Rattle.std.proofs.lemmas.Grind.{common_steps}
 use Rattle.serde_json.specs.View.{view, members_view}
 use Rattle.example_permissions.specs.Answers.{grant_seen}
 use Rattle.enumset.specs.JsonNames.{members_in}

@@ -1,9 +1,5 @@
-use Rattle.std.proofs.Common.{◌≡◌, ℕ, List, Ok, Some, ap, string_bytes, arith, rules}
-use Rattle.std.specs.BTreeMap.{get_by_text}
-use Rattle.std.specs.Map.{update}
-use Rattle.std.specs.Str.{bytes_eq}
+use Rattle.std.proofs.Common.{◌≡◌, Ok, Some, ap, string_bytes, arith, rules}
 use Rattle.std.proofs.lemmas.Map.Text.{btree_map_updates_text}
-use Rattle.std.proofs.lemmas.Result.{IfOk-at_ok}
 use Rattle.serde_json.specs.View.{view, members_view}
 use Rattle.enumset.specs.JsonNames.{members_in}
 use Rattle.example_permissions.specs.Reading.{user_in}

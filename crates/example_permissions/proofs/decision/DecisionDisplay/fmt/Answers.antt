@@ -1,4 +1,4 @@
-use Rattle.std.proofs.Common.{◌≡◌, List, ℕ, ◌++◌, [], map, refl, sym, ap, ◌∙◌, append_assoc, append-nil, true, codes, arith}
+use Rattle.std.proofs.Common.{◌≡◌, ◌++◌, map, refl, sym, ap, ◌∙◌, append_assoc, append-nil, true, codes}
 use Rattle.std.proofs.lemmas.Grind.{put_three}
 use Rattle.enumset.specs.Names.{name_of}
 use Rattle.example_permissions.specs.Reading.{right_names}

@@ -1,8 +1,8 @@
-use Rattle.std.proofs.Common.{◌≡◌, Some, Ok, map, refl, codes, arith}
+use Rattle.std.proofs.Common.{◌≡◌, Some, map, refl, arith}
 use Rattle.serde_json.specs.Read.{read}
-use Rattle.serde_json.specs.View.{view, members_view}
+use Rattle.serde_json.specs.View.{view}
 use Rattle.example_permissions.specs.Answers.{grant_seen}
-use Rattle.example_permissions.specs.Reading.{object_in, Contents}
+use Rattle.example_permissions.specs.Reading.{Contents}
 use Rattle.example_permissions.proofs.reader.Policy.from_json.Goals as goal
 
 pub returns-clause-policy : goal.returns-clause-policy
