@@ -1,2 +1,4 @@
+pub mod Characters
 pub mod Firsts
 pub mod Reading
+pub mod Written

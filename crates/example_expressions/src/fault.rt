@@ -1,5 +1,8 @@
 //! Why a line has no value.
 
+ghost use Rattle.std.specs.Prelude.{◌≡◌};
+ghost use Rattle.example_expressions.specs.Faults.{fault_at};
+
 use crate::parser::Unexpected;
 use std::fmt;
 
@@ -22,7 +25,10 @@ pub enum Reason {
 }
 
 impl Reason {
-    pub fn at(self, column: usize) -> Fault {
+    /// The fault of this reason at a column.
+    pub fn at(self, column: usize) -> Fault
+        ensures { result ≡ fault_at column self }
+    {
         Fault {
             column,
             reason: self,
@@ -31,9 +37,24 @@ impl Reason {
 }
 
 impl fmt::Display for Fault {
+    ghost use Rattle.std.specs.Prelude.{Some};
+    ghost use Rattle.example_expressions.specs.Texts.{fault_text};
+
+    ghost output = { λ fault. Some (fault_text fault) };
+
     fn fmt<W: fmt::Write>(&self, f: &mut fmt::Formatter<W>) -> fmt::Result {
-        write!(f, "column {}: ", self.column)?;
-        match self.reason {
+        write!(f, "column {}: {}", self.column, self.reason)
+    }
+}
+
+impl fmt::Display for Reason {
+    ghost use Rattle.std.specs.Prelude.{Some};
+    ghost use Rattle.example_expressions.specs.Texts.{reason_text};
+
+    ghost output = { λ reason. Some (reason_text reason) };
+
+    fn fmt<W: fmt::Write>(&self, f: &mut fmt::Formatter<W>) -> fmt::Result {
+        match self {
             Reason::NoToken(character) => write!(f, "{character} begins no token"),
             Reason::LargeNumber => f.write_str("the number is too large"),
             Reason::Unexpected(unexpected) => write!(f, "{unexpected}"),

@@ -1,8 +1,10 @@
 //! Whether tokens are an expression, and what could have come where they are none.
 
 ghost use Rattle.std.specs.Prelude.{◌≡◌, ◌≤◌, ◌<◌, ◌^◌, OnOk, IfErr};
+ghost use Rattle.std.specs.Fmt.{WritesOnOk};
 ghost use Rattle.example_expressions.specs.Grammar.{kinds_of, IsExpression, IsFault};
 ghost use Rattle.example_expressions.specs.States.{next_kinds, Reads, Refuses};
+ghost use Rattle.example_expressions.specs.Texts.{separator, kinds_text};
 
 use crate::first::operand_kinds;
 use crate::kind::Kind;
@@ -93,6 +95,11 @@ impl Reader {
 }
 
 impl fmt::Display for Kind {
+    ghost use Rattle.std.specs.Prelude.{Some};
+    ghost use Rattle.example_expressions.specs.Texts.{kind_text};
+
+    ghost output = { λ kind. Some (kind_text kind) };
+
     fn fmt<W: fmt::Write>(&self, f: &mut fmt::Formatter<W>) -> fmt::Result {
         f.write_str(match self {
             Kind::Number => "number",
@@ -108,16 +115,36 @@ impl fmt::Display for Kind {
 }
 
 impl fmt::Display for Unexpected {
+    ghost use Rattle.std.specs.Prelude.{Some};
+    ghost use Rattle.example_expressions.specs.Texts.{unexpected_text};
+
+    ghost output = { λ token. Some (unexpected_text token) };
+
     fn fmt<W: fmt::Write>(&self, f: &mut fmt::Formatter<W>) -> fmt::Result {
         write!(f, "found {}, expected ", self.found)?;
-        let mut is_first = true;
-        for kind in self.expected {
-            if !is_first {
-                f.write_str(", ")?;
-            }
-            write!(f, "{kind}")?;
-            is_first = false;
-        }
-        Ok(())
+        write_kinds(self.expected, f)
     }
+}
+
+/// Writes kinds, with a comma and a space between them.
+fn write_kinds<W: fmt::Write>(kinds: EnumSet<Kind>, f: &mut fmt::Formatter<W>) -> fmt::Result
+    ensures { WritesOnOk W.write_str_gives f.old result (kinds_text kinds) f.new }
+{
+    let mut is_first = true;
+    for kind in kinds {
+        write_separator(is_first, f)?;
+        write!(f, "{kind}")?;
+        is_first = false;
+    }
+    Ok(())
+}
+
+/// Writes a comma and a space, but not before the first kind.
+fn write_separator<W: fmt::Write>(is_first: bool, f: &mut fmt::Formatter<W>) -> fmt::Result
+    ensures { WritesOnOk W.write_str_gives f.old result (separator is_first) f.new }
+{
+    if is_first {
+        return Ok(());
+    }
+    f.write_str(", ")
 }
