@@ -2,8 +2,9 @@
 --     Trouble      what is wrong: a name that nobody has, an object that is missing, or whose list of names is no set, and why
 --     ◌>>=◌      what comes of what was read, or what is wrong with it
 --     words_of      the words of a text, which ASCII white space separates
---     role_named, right_named      the bits of the role and of the right of a name
+--     role_names, right_names      the bits of the roles and of the rights, each with its name
 --     object_in      the members of the object of a name, which a value has
+--     set_read      a set, or which list is none, whose it is, and why
 --     set_in      the set of a list of names, empty where there is no list
 --     grant_in, grants_in      what a member grants, as the bit of the role and the rights;  what members grant
 --     user_in, users_in      what a member says of a user;  the users of members by name, after those so far, the last one first
@@ -59,7 +60,6 @@ right_names = names_of (in_place the_right.the_type) (codes "Read" ∷ codes "Wr
 abbrev pub object_in : List ℕ → Data → Result (List (List ℕ × Data)) Trouble
 object_in name value = ok_or (option_map members_in (option_and_then as_object (get name value))) (no_object name)
 
--- which list it is, and whose
 abbrev pub set_read : List ℕ → List ℕ → Result BitSet JsonFault → Result BitSet Trouble
 set_read list whose (Ok set) = Ok set
 set_read list whose (Err fault) = Err (no_set list whose fault)
