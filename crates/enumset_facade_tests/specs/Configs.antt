@@ -2,7 +2,7 @@
 --     list_in      the member `flags`
 --     flags_in      the set that the list is read as, or the fault, if there is such a member
 --     with_flags      the config with the list of another set
-use Rattle.std.specs.Prelude.{ℕ, List, Option, option_and_then, option_map, Result, codes}
+use Rattle.std.specs.Prelude.{Option, option_map, Result, codes}
 use Rattle.enumset_repr.specs.BitSet.{BitSet}
 use Rattle.serde_json.specs.Data.{Data, null, boolean, number, string, array, object, put}
 use Rattle.serde_json.specs.Find.{get}

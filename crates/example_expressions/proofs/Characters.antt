@@ -2,7 +2,7 @@
 --     more_read, fault_read      what a character makes of the tokens so far, and of all
 --     all_read      after the last character the tokens are those of the line
 -- The turn of a loop over characters with their places gives the premise about `enumerate_from`.
-use Rattle.std.proofs.Common.{◌≡◌, ℕ, zero, suc, ◌+◌, ◌<◌, Bool, List, [], ◌∷◌, length, get_or, drop, Result, Ok, Err, sym, ap, ◌∙◌, arith}
+use Rattle.std.proofs.Common.{◌≡◌, ℕ, zero, suc, ◌+◌, ◌<◌, Bool, List, [], ◌∷◌, length, get_or, drop, Ok, Err, sym, ap, ◌∙◌, arith}
 use Rattle.std.specs.Char.{is_ascii_digit}
 use Rattle.std.specs.List.{enumerate_from}
 use Rattle.std.proofs.lemmas.List.{at_drop_more, at_drop_all}
