@@ -1,7 +1,5 @@
 -- Laws for users' proofs, beside those of `enumset_repr`; the functions of `laws` answer with them.
 --     Bits      numbers with the same bits, and with all; rulesets of numbers and of listed bits
 --     BothEnds      steps from both ends of a list
---     SetLaws      the ruleset for the head of a user's crate
 pub mod Bits
 pub mod BothEnds
-pub mod SetLaws

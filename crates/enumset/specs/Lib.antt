@@ -6,4 +6,5 @@ pub mod JsonReads
 pub mod Names
 pub mod BothEnds
 pub mod Laws
+pub mod Sets
 pub mod JsonPlain

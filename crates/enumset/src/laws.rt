@@ -30,14 +30,15 @@ use crate::names::EnumSetNames;
 use crate::set_json::{JsonWidth, Unknown};
 pub use asks::{asks_of_mixed_steps, asks_of_steps, take_mixed_steps, take_steps};
 pub use complementary::complements;
-pub use elements::{bit_and_back, bits_below, members_are_valid, valid_bits_listed};
+pub use elements::{bit_and_back, bits_below, valid_bits_listed};
 pub use ends::both_ends;
 pub use enumset_array::End;
 use enumset_mixed::MixedEnumSet;
 use enumset_repr::EnumSetTypeRepr;
 pub use enumset_repr::laws::order;
 pub use enumset_sets::laws::{
-    all_words_and_back, cut_number_and_back, cut_words_and_back, number_and_back, words_and_back,
+    all_words_and_back, cut_number_and_back, cut_words_and_back, members_are_valid,
+    number_and_back, words_and_back,
 };
 use enumset_sets::{EnumSet, EnumSetType, EnumSetTypeWithRepr};
 pub use folds::{fold_of_elements, fold_of_sets};

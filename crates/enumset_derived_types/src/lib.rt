@@ -3,7 +3,7 @@
 //! The modules are what the program writes from the files in `enums/`: change such a file, and call
 //! `scripts/written-types`. They hold what else stands in such sources: attributes, derives, imports, comments, functions
 //! and names in JSON as serde has them.
-#![tactic(auto)]
+#![tactic(auto, using(enumset::specs::Sets::set_laws))]
 
 pub mod axes;
 pub mod cards;

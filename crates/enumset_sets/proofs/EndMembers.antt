@@ -1,7 +1,8 @@
 -- The least and the greatest member of a set of valid bits, and the set without it.
-use Rattle.std.proofs.Common.{◌≡◌, ◌<◌, ℕ, true, List, ◌∷◌, [], ◌++◌, Some, None, sym, ap, ◌∙◌, refl, length, arith}
-use Rattle.enumset_repr.specs.Laws.Common.{nat_tests, BitSet, is_in, contains, ascending, empty, insert, remove, len, from_list, is_subset, difference, below, least, greatest, insert_remove, toggled, len_ascending, empty_of_ascending, least_facts, greatest_facts, ascending_least, ascending_greatest, fewer_greatest, ascending_no_least, ascending_no_greatest, members, subsets, is_subset_contains, difference_is_subset}
-use Rattle.enumset_sets.specs.Laws.Elements.{contains_is_in}
+use Rattle.std.proofs.Common.{◌≡◌, ◌<◌, ℕ, true, ◌∷◌, [], ◌++◌, Some, None, sym, ap, ◌∙◌, refl, length, arith}
+use Rattle.enumset_repr.specs.Laws.Common.{nat_tests, BitSet, is_in, contains, ascending, empty, insert, remove, len, is_subset, difference, below, least, greatest, insert_remove, toggled, len_ascending, empty_of_ascending, least_facts, greatest_facts, ascending_least, ascending_greatest, fewer_greatest, ascending_no_least, ascending_no_greatest, members, subsets, is_subset_contains, difference_is_subset}
+use Rattle.enumset_sets.specs.Elements.{Elements, valid_bits}
+use Rattle.enumset_sets.specs.Laws.Elements.{is_valid_bit}
 
 -- a set without an end is empty
 pub no_least : (s : BitSet) → None ≡ least s → (ascending s ≡ []) × (s ≡ empty)
@@ -12,14 +13,14 @@ no_greatest s is = let none = ascending_no_greatest s (sym is) in (none, empty_o
 
 module _ (s : BitSet) (b : ℕ) where
   -- a member is in the list of the valid bits
-  valid : (bs : List ℕ) → is_subset s (from_list bs) ≡ true → contains s b ≡ true → is_in b bs ≡ true
-  valid bs sub one = sym (contains_is_in bs (from_list bs) b refl) ∙ is_subset_contains s (from_list bs) sub b one
+  valid : {T : Type 0} (elements : Elements T) → is_subset s (valid_bits elements) ≡ true → contains s b ≡ true → is_in b elements.bit_list ≡ true
+  valid elements sub one = sym (is_valid_bit elements b) ∙ is_subset_contains s (valid_bits elements) sub b one
 
-  pub least_valid : (bs : List ℕ) → is_subset s (from_list bs) ≡ true → Some b ≡ least s → is_in b bs ≡ true
-  least_valid bs sub is = valid bs sub (least_facts s b (sym is)).0
+  pub least_valid : {T : Type 0} (elements : Elements T) → is_subset s (valid_bits elements) ≡ true → Some b ≡ least s → is_in b elements.bit_list ≡ true
+  least_valid elements sub is = valid elements sub (least_facts s b (sym is)).0
 
-  pub greatest_valid : (bs : List ℕ) → is_subset s (from_list bs) ≡ true → Some b ≡ greatest s → is_in b bs ≡ true
-  greatest_valid bs sub is = valid bs sub (greatest_facts s b (sym is)).0
+  pub greatest_valid : {T : Type 0} (elements : Elements T) → is_subset s (valid_bits elements) ≡ true → Some b ≡ greatest s → is_in b elements.bit_list ≡ true
+  greatest_valid elements sub is = valid elements sub (greatest_facts s b (sym is)).0
 
   module _ (t : BitSet) (c : ℕ) (rest : t ≡ remove s b) (same : c ≡ b) where
     put_back : contains s b ≡ true → s ≡ insert t c
@@ -37,8 +38,8 @@ module _ (s : BitSet) (b : ℕ) where
       omega (arith, fewer_greatest s b (sym is), ap len rest, len_ascending s, len_ascending (remove s b)),
     )
 
-pub least_from_valid : (s : BitSet) (b : ℕ) (bs : List ℕ) (from : ℕ) → is_subset s (from_list bs) ≡ true → Some b ≡ least (difference s (below from)) → is_in b bs ≡ true
-least_from_valid s b bs from sub = least_valid (difference s (below from)) b bs (difference_is_subset _ s (below from) sub)
+pub least_from_valid : {T : Type 0} (s : BitSet) (b : ℕ) (elements : Elements T) (from : ℕ) → is_subset s (valid_bits elements) ≡ true → Some b ≡ least (difference s (below from)) → is_in b elements.bit_list ≡ true
+least_from_valid s b elements from sub = least_valid (difference s (below from)) b elements (difference_is_subset _ s (below from) sub)
 
 -- what the calls of the ends need to name an element, and what `toggle` needs
 pub ruleset valid_ends = (subsets, least_valid, least_from_valid, greatest_valid)

@@ -1,12 +1,23 @@
--- A closure that is a test leaves the members that pass the test.
+-- What a closure leaves is a part of the set, and what a test leaves are the members that pass it.
 use Rattle.std.proofs.Common.{◌≡◌, ◌==◌, ℕ, Bool, true, false, cond, not, ◌&&◌, ◌||◌, List, [], ◌∷◌, map, refl, sym, ap, subst, ◌∙◌, arith}
-use Rattle.enumset_repr.specs.Laws.Common.{FoldsTo, nat_tests, BitSet, is_in, contains, remove, retain, same_set, contains_remove, contains_retain, contains_ascending}
+use Rattle.enumset_repr.specs.Laws.Common.{FoldsTo, nat_tests, BitSet, is_in, contains, remove, retain, is_subset, contains_is_subset, same_set, contains_remove, contains_retain, contains_ascending}
 use Rattle.std.specs.Fn.{Mut, Called}
 use Rattle.enumset_sets.specs.Retained.{Keeps, Retains, IsConstantTest, IsTest}
 
 one_kept : (s t : BitSet) (b : Bool) (m q : ℕ) → t ≡ cond b s (remove s m) → contains t q ≡ (contains s q && (not (q == m) || b))
 one_kept s t true m q is = ap (λ u. contains u q) is ∙ grind (arith, nat_tests)
 one_kept s t false m q is = ap (λ u. contains u q) is ∙ contains_remove s m q ∙ grind (arith, nat_tests)
+
+module _ {T F : Type 0} (bit : T → ℕ) (g : Mut F (T × Unit {0}) Bool) where
+  each_left : (xs : List T) (u v : F × BitSet) (q : ℕ) → FoldsTo (Keeps bit g) u xs v → contains v.1 q ≡ true → contains u.1 q ≡ true
+  each_left [] u v q same one = ap (λ w. contains w.1 q) same ∙ one
+  each_left (x ∷ xs) u v q calls one =
+      let here = one_kept u.1 calls.0.1 calls.1.0 (bit x) q calls.1.2 in
+      let later = each_left xs calls.0 v q calls.2 one in
+      grind arith
+
+  pub left : (f : F) (s t : BitSet) → Retains bit g f s t → is_subset t s ≡ true
+  left f s t calls = contains_is_subset t s (λ q one. each_left calls.1.0 (f, s) (calls.0, t) q calls.1.2 one)
 
 -- `Usual` holds of the closure at each call
 module _ {T F : Type 0} (bit : T → ℕ) (g : Mut F (T × Unit {0}) Bool) (p : ℕ → Bool) (Usual : F → Type 0)

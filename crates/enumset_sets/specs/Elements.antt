@@ -1,15 +1,17 @@
 -- What an element type says of its values and their bits, with its laws.
 --     Elements      the bit of each value, and the list of the variants' bits
 --     valid_bits      the set of the variants' bits
---     with_bits      the elements of an enum without fields: each variant has the bit at its place in a list
---     in_order      the same with the list 0, 1, 2 and so on
---     in_place      the same bits, each stated as its variant's place, not as an item of the list
+--     listed_bit, place      the bit of a variant of an enum without fields: the one at its place in a list;  its place
+--     with_bits, in_place      the elements of an enum with these bits
+--     in_order      as in_place, with the list 0, 1, 2 and so on
 --     one_past      one past a number, or 0 if there is none
 --     one_past_greatest      one past the greatest member, or 0 for the empty set
 --     IsElementType      the laws of an element type
 --     AreBitsOf      each number of a list is in the list of the variants' bits
 -- Of the words for enums, which the kit's logic defines, `tag_of D v` is the place of v's variant in the declaration,
 -- counted from 0, and `rowss D.parts` lists the variants.
+-- A search does not open `valid_bits`, `listed_bit` and `place`: it would try each bit of the list, and each variant that
+-- a variable can be. `Laws/Elements.antt` has their laws.
 use Rattle.std.specs.Prelude.{◌≡◌, ◌↔◌, ℕ, suc, Bool, List, Option, Some, None, length, slice_index, IsTrue}
 use Rattle.std.specs.List.{list_all, range_with_len}
 use denote.Enum.Declared.{Declared, rowss, tag_of}
@@ -23,20 +25,26 @@ pub record Elements (T : Type 0) : Type 0 where
   pub bit_list : List ℕ
 
 -- the valid bits as a set
-abbrev pub valid_bits : {T : Type 0} → Elements T → BitSet
+unfoldable pub valid_bits : {T : Type 0} → Elements T → BitSet
 valid_bits elements = from_list elements.bit_list
 
 -- the first variant of the declaration has the first bit of the list, and so on
+unfoldable pub listed_bit : (D : Declared) → List ℕ → D.D → ℕ
+listed_bit D bs v = slice_index bs (tag_of D v)
+
 abbrev pub with_bits : (D : Declared) → List ℕ → Elements D.D
-with_bits D bs = record { bit = λ v. slice_index bs (tag_of D v); bit_list = bs }
+with_bits D bs = record { bit = λ v. listed_bit D bs v; bit_list = bs }
 
 -- the bits 0, 1, 2 and so on, one for each variant
 abbrev pub in_order : (D : Declared) → Elements D.D
 in_order D = with_bits D (range_with_len 0 (length (rowss D.parts)))
 
 -- the same bits, each stated as its variant's place, so that a proof about `self as u32` needs no list
+unfoldable pub place : (D : Declared) → D.D → ℕ
+place D v = tag_of D v
+
 abbrev pub in_place : (D : Declared) → Elements D.D
-in_place D = record { bit = λ v. tag_of D v; bit_list = range_with_len 0 (length (rowss D.parts)) }
+in_place D = record { bit = λ v. place D v; bit_list = range_with_len 0 (length (rowss D.parts)) }
 
 -- one past a number, or 0 if there is none
 abbrev pub one_past : Option ℕ → ℕ
@@ -50,7 +58,7 @@ one_past_greatest s = one_past (greatest s)
 -- `count` is VARIANT_COUNT.
 pub record IsElementType {T : Type 0} (elements : Elements T) (eq : T → T → Bool) (all : BitSet) (width count : ℕ) : Type 0 where
   -- the members of ALL_BITS are the numbers of the list, which has each once
-  pub valid : all ≡ from_list elements.bit_list
+  pub valid : all ≡ valid_bits elements
   pub distinct : IsTrue (is_distinct elements.bit_list)
   -- each value's bit is valid
   pub bit_is_valid : (v : T) → IsTrue (contains all (elements.bit v))

@@ -539,7 +539,8 @@ impl<T: EnumSetType> EnumSet<T> {
         Some(T::enum_from_u32(bit))
     }
 
-    /// Removes each element for which `keep` returns false. It is called once for each, ascending by bit. If `keep` tests
+    /// Removes each element for which `keep` returns false. It is called once for each, ascending by bit. What is left is
+    /// a part of the set, whatever `keep` does. If `keep` tests
     /// only the bit, exactly the elements whose bits pass stay. The test may also read what `keep` captured, if no call
     /// changes it.
     ///
@@ -550,6 +551,7 @@ impl<T: EnumSetType> EnumSet<T> {
     pub fn retain<F: FnMut(T) -> bool>(&mut self, keep: F)
         requires { F.IsAlwaysCallable keep }
         ensures calls { Retains T.elements.bit F.FnMut keep self.old self.new }
+        ensures left { IsTrue (set.is_subset self.new self.old) }
         ensures kept { (p : ℕ → Bool) → IsTest T.elements.bit F.FnMut p → self.new ≡ set.retain self.old p }
         ensures kept_unchanged { (p : ℕ → Bool) → IsConstantTest T.elements.bit F.FnMut keep p
             → self.new ≡ set.retain self.old p }

@@ -1,10 +1,10 @@
-//! Laws of round trips: what one call makes of a set, another call reads as the same set.
+//! Laws of members, and of round trips: what one call makes of a set, another call reads as the same set.
 //!
 //! Each law is a function that does nothing at run time, over every element type. Code that needs a law calls it with
 //! its set, and the proof of that code then knows what the function ensures. Rust's `enumset` has no laws.
 
-ghost use Rattle.std.specs.Prelude.{◌≡◌, ◌*◌, IsTrue};
-ghost use Rattle.enumset_repr.specs.BitSet.{below, low, intersection, is_subset};
+ghost use Rattle.std.specs.Prelude.{◌≡◌, ◌<◌, ◌*◌, ◌^◌, ℕ, IsTrue};
+ghost use Rattle.enumset_repr.specs.BitSet.{is_in, contains, below, low, intersection, is_subset, len};
 ghost use Rattle.enumset_repr.specs.Number.{bits, number};
 ghost use Rattle.enumset_repr.specs.Words.{words, bits_of};
 ghost use Rattle.enumset_sets.specs.Elements.{valid_bits};
@@ -13,6 +13,20 @@ use crate::element::EnumSetType;
 use crate::enum_set::EnumSet;
 use crate::representation::valid_repr;
 use enumset_repr::EnumSetTypeRepr;
+
+/// Each member of a set is a valid bit, and so one of the list of the element type and below the width of the
+/// representation. So a set has fewer than 2³² members.
+pub fn members_are_valid<T: EnumSetType>(set: &EnumSet<T>)
+    ensures valid { IsTrue (is_subset set.now (valid_bits T.elements)) }
+    ensures listed { (bit : ℕ) → IsTrue (contains set.now bit)
+        → IsTrue (is_in bit T.elements.bit_list) }
+    ensures within { IsTrue (is_subset set.now (below T.Repr.WIDTH)) }
+    ensures count { len set.now < 2 ^ 32 }
+{
+    // Their contracts say that members are valid bits, that these are below the width, and how many members there are.
+    let _all = valid_repr::<T>();
+    let _members = set.iter();
+}
 
 /// From a set to its number and back: the number represents the same set, and its bits are valid. So if `try_as_u8`
 /// returned `Some(n)`, `try_from_u8(n)` returns `Some` of the same set. The same holds for each type of numbers.

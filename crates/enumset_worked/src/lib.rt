@@ -1,7 +1,7 @@
 //! The worked types: element types that the program can run commands over.
 //!
 //! `enumset_derive` writes each module from its file in `enums/`: change that file, and call `scripts/written-types`.
-#![tactic(auto)]
+#![tactic(auto, using(enumset_sets::specs::Laws::Elements::bits_of_variants))]
 
 pub mod four;
 pub mod high;

@@ -3,7 +3,7 @@
 //! `example_expressions` reads an expression a line from standard input, and answers with a line each: its value, or
 //! where it goes wrong and what could have come there. The exit status is 0 if each has a value, 1 if one has none, and
 //! 2 if reading or writing fails.
-#![tactic(auto, using(enumset::specs::Laws::SetLaws::set_laws))]
+#![tactic(auto, using(enumset::specs::Sets::set_laws))]
 
 mod fault;
 mod first;

@@ -2,7 +2,7 @@
 //!
 //! `example_headers` reads a frame a line from standard input, in hex, and writes the frame that is sent on. Standard
 //! error says what was understood.
-#![tactic(auto, using(enumset::specs::Laws::SetLaws::set_laws))]
+#![tactic(auto, using(enumset::specs::Sets::set_laws))]
 
 mod digits;
 mod flag;

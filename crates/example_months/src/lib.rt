@@ -1,4 +1,4 @@
-#![tactic(auto, using(enumset::specs::Laws::SetLaws::set_laws))]
+#![tactic(auto, using(enumset::specs::Sets::set_laws))]
 
 pub mod months;
 pub mod opening;

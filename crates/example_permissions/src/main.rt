@@ -2,7 +2,7 @@
 //!
 //! `example_permissions POLICY` reads a policy from a file, and a request a line from standard input. The exit status
 //! is 0 if all requests are allowed, 1 if one is denied, and 2 at a fault.
-#![tactic(auto, using(enumset::specs::Laws::SetLaws::set_laws))]
+#![tactic(auto, using(enumset::specs::Sets::set_laws))]
 
 mod decision;
 mod fault;

@@ -1,5 +1,5 @@
 //! Prints rights that are granted, and those that are missing.
-#![tactic(auto, using(enumset::specs::Laws::SetLaws::set_laws))]
+#![tactic(auto, using(enumset::specs::Sets::set_laws))]
 
 mod chains;
 mod expressions;

@@ -2,7 +2,7 @@
 //! messages, configurations, texts in JSON, alarms, votes, partitions, slices of elements and counts. Loops have an
 //! invariant beside it, a few functions name a ruleset, or a definition to unfold, of their own, and the search in a
 //! sorted list has a lemma.
-#![tactic(auto, using(enumset::specs::Laws::SetLaws::set_laws))]
+#![tactic(auto, using(enumset::specs::Sets::set_laws))]
 
 pub mod access;
 pub mod alarms;

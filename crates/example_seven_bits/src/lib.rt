@@ -1,5 +1,5 @@
 //! A representation of one's own: sets of the numbers from 0 to 6, kept in the low seven bits of a byte.
-#![tactic(auto, using(enumset_repr::specs::Laws::Integers::on_integers))]
+#![tactic(auto, using(enumset_repr::specs::Laws::Integers::on_integers, enumset_sets::specs::Laws::Elements::bits_of_variants))]
 
 ghost use Rattle.std.specs.Prelude.{◌≡◌, ℕ, IsTrue};
 ghost use Rattle.enumset_repr.specs.BitSet as set;

@@ -2,7 +2,7 @@
 //!
 //! `example_weekdays SCHEDULES --from DAY` prints it, the given day included. Without `--from DAY` it is the next from
 //! Monday on. The exit status is 0 if there is such a day, 1 if there is none, and 2 at a fault.
-#![tactic(auto, using(enumset::specs::Laws::SetLaws::set_laws))]
+#![tactic(auto, using(enumset::specs::Sets::set_laws))]
 
 mod fault;
 mod reader;

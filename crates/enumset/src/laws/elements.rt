@@ -8,21 +8,7 @@ ghost use Rattle.enumset_sets.specs.Elements.{valid_bits, one_past_greatest};
 
 use enumset_repr::EnumSetTypeRepr;
 use enumset_sets::representation::valid_repr;
-use enumset_sets::{EnumSet, EnumSetType};
-
-/// Each member of a set is a valid bit, and so one of the list of the element type and below the width of the
-/// representation. So a set has fewer than 2³² members.
-pub fn members_are_valid<T: EnumSetType>(set: &EnumSet<T>)
-    ensures valid { IsTrue (is_subset set.now (valid_bits T.elements)) }
-    ensures listed { (bit : ℕ) → IsTrue (contains set.now bit)
-        → IsTrue (is_in bit T.elements.bit_list) }
-    ensures within { IsTrue (is_subset set.now (below T.Repr.WIDTH)) }
-    ensures count { len set.now < 2 ^ 32 }
-{
-    // Their contracts say that members are valid bits, that these are below the width, and how many members there are.
-    let _all = valid_repr::<T>();
-    let _members = set.iter();
-}
+use enumset_sets::EnumSetType;
 
 /// The valid bits are those in the list of the element type, which has each bit once. They are also the bits of
 /// `ALL_BITS`. They are below the width of the representation.

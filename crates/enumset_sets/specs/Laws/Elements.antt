@@ -2,18 +2,22 @@
 -- `enumset_repr`).
 --     lawful_in, lawful_in_integer, lawful_in_words      the laws, over any representation, an integer or words
 --     lawful_in_place      the laws where each bit is its variant's place, from those of the same bits as a list
+--     is_valid_bit      a bit is valid exactly if the list has it
+--     place_is, listed_bit_is      what the bit of a variant is, and that it is valid
 --     passed      what a test says that passes
 --     derived_eq      what a derived `==` of such an enum returns
--- An element type imports the makers of its elements from here too.
-use Rattle.std.proofs.Common.{◌≡◌, ◌<◌, ◌≤◌, ℕ, suc, zero, ◌^◌, Bool, true, false, eqb, List, Some, sym, ap, ◌∙◌, length, get_or, sum_by, arith, inl, inr, ◌==◌, max, Option, None, eqb-true, eq-eqb, [], ◌∷◌, refl}
-use Rattle.enumset_repr.specs.Laws.Common.{nat_tests, cases_lt, and_parts, and_from, or_left, or_right, get_or-range_with_len, BitSet, is_in, contains, insert, from_list, ascending, len, is_subset, bits, is_distinct, greatest, contains_empty, contains_insert, contains_from_list, contains_ascending, list_all_each, is_subset_contains, len_empty, len_insert, empty_of_ascending, greatest_is, greatest_empty, greatest_facts, ascending_no_greatest, bits_of, lists_words, bits_listed, words_listed, one_past_all, or_else, once_known, IsLawful, IsLawfulNumber, IsLawfulWords}
+-- The ruleset `bits_of_variants` has the last two, and proves the functions of an element type. An element type imports
+-- the makers of its elements from here too.
+use Rattle.std.proofs.Common.{◌≡◌, ◌<◌, ◌≤◌, ℕ, suc, zero, slice_index, IsTrue, ◌^◌, Bool, true, false, eqb, List, Some, sym, ap, ◌∙◌, length, get_or, sum_by, arith, inl, inr, ◌==◌, max, Option, None, eqb-true, eq-eqb, [], ◌∷◌, refl}
+use Rattle.std.proofs.lemmas.List.FromFn.{length-range_with_len}
+use Rattle.enumset_repr.specs.Laws.Common.{nat_tests, cases_lt, and_parts, and_from, or_left, or_right, get_or-range_with_len, range_with_len, BitSet, is_in, contains, insert, from_list, ascending, len, is_subset, bits, is_distinct, greatest, contains_empty, contains_insert, contains_from_list, contains_ascending, list_all_each, is_subset_contains, len_empty, len_insert, empty_of_ascending, greatest_is, greatest_empty, greatest_facts, ascending_no_greatest, bits_of, lists_words, bits_listed, words_listed, one_past_all, or_else, once_known, IsLawful, IsLawfulNumber, IsLawfulWords}
 use denote.Struct.Field.{Field}
 use denote.Enum.Declared.{Declared, rowss, tag_of}
 use denote.Enum.Enum.{tag_below}
 use denote.Enum.Bare.{Bare, tag_one, sameb, same_true, true_same}
 use Rattle.enumset_repr.specs.Laws.Places.{read_in}
 pub use Rattle.enumset_sets.specs.Elements.{with_bits, in_order, in_place}
-use Rattle.enumset_sets.specs.Elements.{one_past, one_past_greatest, IsElementType, AreBitsOf}
+use Rattle.enumset_sets.specs.Elements.{Elements, valid_bits, listed_bit, place, one_past, one_past_greatest, IsElementType, AreBitsOf}
 
 -- ---- lists of numbers
 
@@ -24,7 +28,7 @@ distinct_places (b ∷ bs) apart zero (suc j) p q same = let there = read_in j 0
 distinct_places (b ∷ bs) apart (suc i) zero p q same = let there = read_in i 0 bs (omega (arith, p)) in absurd (grind (arith, nat_tests, same, apart))
 distinct_places (b ∷ bs) apart (suc i) (suc j) p q same = ap suc (distinct_places bs (and_parts _ _ apart).1 i j (omega (arith, p)) (omega (arith, q)) same)
 
-len-from_list : (bs : List ℕ) → is_distinct bs ≡ true → len (from_list bs) ≡ length bs
+pub len-from_list : (bs : List ℕ) → is_distinct bs ≡ true → len (from_list bs) ≡ length bs
 unfolding from_list
 len-from_list [] apart = len_empty
 len-from_list (b ∷ bs) apart = grind (arith, nat_tests, contains_from_list bs b, len_insert (from_list bs) b, len-from_list bs)
@@ -55,14 +59,16 @@ one_past_greatest-from_list (b ∷ bs) = one_past-insert (from_list bs) b ∙ ap
 
 -- ---- the bits of an enum's variants
 
+listed_is_in : (D : Declared) (bs : List ℕ) (v : D.D) → length bs ≡ length (rowss D.parts) → is_in (listed_bit D bs v) bs ≡ true
+unfolding listed_bit
+listed_is_in D bs v variants = read_in (tag_of D v) 0 bs (omega (arith, variants, tag_below (rowss D.parts) (D.to v)))
+
 module _ (D : Declared) (bare : Bare D.parts) (bs : List ℕ) (variants : length bs ≡ length (rowss D.parts)) (apart : is_distinct bs ≡ true) where
   tag_within : (v : D.D) → tag_of D v < length bs
   tag_within v = omega (arith, variants, tag_below (rowss D.parts) (D.to v))
 
-  bit-is_in : (v : D.D) → is_in ((with_bits D bs).bit v) bs ≡ true
-  bit-is_in v = read_in (tag_of D v) 0 bs (tag_within v)
-
   bit-tells : (v w : D.D) → (with_bits D bs).bit v ≡ (with_bits D bs).bit w → v ≡ w
+  unfolding listed_bit
   bit-tells v w same = tag_one D bare v w (distinct_places bs apart (tag_of D v) (tag_of D w) (tag_within v) (tag_within w) same)
 
 -- ---- a derived `==`
@@ -112,12 +118,13 @@ IsLawful-passes D bs valid fault width count none test =
     record { variants = eqb-true _ _ a.0; distinct = b.0; is_valid = c.0; width_is = eqb-true _ _ d.0; count_is = eqb-true _ _ e.0; bare = e.1 }
 
 laws : (D : Declared) (bs : List ℕ) (test : Bool) (all : BitSet) (width count : ℕ) → all ≡ from_list bs → Passes D bs test width count → IsElementType (with_bits D bs) (derived_eq D) all width count
+unfolding valid_bits
 laws D bs test all width count valid p =
     let tells = bit-tells D p.bare bs p.variants p.distinct in
     record {
       valid = valid;
       distinct = p.distinct;
-      bit_is_valid = λ v. ap (λ s. contains s ((with_bits D bs).bit v)) valid ∙ contains_from_list bs _ ∙ bit-is_in D p.bare bs p.variants p.distinct v;
+      bit_is_valid = λ v. ap (λ s. contains s ((with_bits D bs).bit v)) valid ∙ contains_from_list bs _ ∙ listed_is_in D bs v p.variants;
       bit_tells = tells;
       eq_tells = λ v w. (λ e. ap (with_bits D bs).bit (same_true D p.bare v w (sym (derived_eq-same D v w) ∙ e)), λ e. derived_eq-same D v w ∙ true_same D v w (tells v w e));
       width_is = sym p.width_is ∙ sym (one_past_greatest-from_list bs) ∙ ap one_past_greatest (sym valid);
@@ -144,10 +151,12 @@ lawful_in_words {bs} {width} {count} D ns test =
 -- ---- bits that are their variants' places
 
 in_place-bit : (D : Declared) (v : D.D) → (in_place D).bit v ≡ (in_order D).bit v
+unfolding place listed_bit
 in_place-bit D v = omega (arith, get_or-range_with_len 0 (length (rowss D.parts)) (tag_of D v) 0 (tag_below (rowss D.parts) (D.to v)))
 
 -- The laws of an enum whose bits are its variants' places, from those of the same bits as a list.
 pub lawful_in_place : (D : Declared) {eq : D.D → D.D → Bool} {all : BitSet} {width count : ℕ} → IsElementType (in_order D) eq all width count → IsElementType (in_place D) eq all width count
+unfolding valid_bits
 lawful_in_place D {eq} {all} l =
     let at : (v : D.D) → (in_place D).bit v ≡ (in_order D).bit v = in_place-bit D in
     record {
@@ -160,13 +169,29 @@ lawful_in_place D {eq} {all} l =
       count_is = l.count_is;
     }
 
+-- ---- what a proof over one enum knows
+
+pub is_valid_bit : {T : Type 0} (elements : Elements T) (q : ℕ) → contains (valid_bits elements) q ≡ is_in q elements.bit_list
+unfolding valid_bits
+is_valid_bit elements q = contains_from_list elements.bit_list q
+
+-- the bit of a variant that is named computes by these equations; that of a variable stays one word
+pub place_is : (D : Declared) (v : D.D) → (place D v ≡ tag_of D v) × (contains (valid_bits (in_place D)) (place D v) ≡ true)
+unfolding place
+place_is D v = (
+    refl,
+    is_valid_bit (in_place D) _ ∙ ap (λ b. is_in b (in_place D).bit_list) (in_place-bit D v) ∙ listed_is_in D _ v (length-range_with_len 0 (length (rowss D.parts))),
+  )
+
+pub listed_bit_is : (D : Declared) (bs : List ℕ) (v : D.D) → (listed_bit D bs v ≡ slice_index bs (tag_of D v)) × (length bs ≡ length (rowss D.parts) → contains (valid_bits (with_bits D bs)) (listed_bit D bs v) ≡ true)
+unfolding listed_bit
+listed_bit_is D bs v = (refl, λ variants. is_valid_bit (with_bits D bs) _ ∙ listed_is_in D bs v variants)
+
+pub ruleset bits_of_variants = (place_is, listed_bit_is)
+
 -- ---- consequences of the laws
 
 -- the members of a set of valid bits are bits of variants
 pub AreBitsOf-ascending : (bs : List ℕ) (all s : BitSet) → all ≡ from_list bs → is_subset s all ≡ true → AreBitsOf (ascending s) bs
 AreBitsOf-ascending bs all s valid sub =
     list_all_each (λ b. is_in b bs) (ascending s) (λ q one. sym (contains_from_list bs q) ∙ sym (ap (λ t. contains t q) valid) ∙ is_subset_contains s all sub q (contains_ascending s q ∙ one))
-
--- the valid bits are the bits of the variants
-pub contains_is_in : (bs : List ℕ) (all : BitSet) (b : ℕ) → all ≡ from_list bs → contains all b ≡ is_in b bs
-contains_is_in bs all b valid = ap (λ s. contains s b) valid ∙ contains_from_list bs b

@@ -1,9 +1,11 @@
 use Rattle.std.proofs.Common.{◌∙◌}
+use Rattle.enumset_sets.specs.Elements.{valid_bits}
 use Rattle.enumset.proofs.NameLaws.{IsNaming-passes, name_back}
 use Rattle.enumset.proofs.NamesTaken.{own_known, map_read, accepted_whole}
 use Rattle.enumset.proofs.laws.json_map_and_back.Goals as goal
 
 pub returns : goal.returns
+unfolding valid_bits
 returns g c =
     let are = IsNaming-passes g.T.EnumSetType.elements.bit_list g.T.EnumSetNames.names g.met.T.EnumSetNames.named in
     let valid = c.number_and_back.ensures.valid in

@@ -1,5 +1,6 @@
-use Rattle.std.proofs.Common.{sym, ◌∙◌}
-use Rattle.enumset_sets.specs.Laws.Elements.{contains_is_in}
+use Rattle.std.proofs.Common.{sym, ap, ◌∙◌}
+use Rattle.enumset_repr.specs.BitSet.{contains}
+use Rattle.enumset_sets.specs.Laws.Elements.{is_valid_bit}
 use Rattle.enumset.proofs.NameLaws.{IsNaming-passes, name_back, name_alone}
 use Rattle.enumset.proofs.laws.name_and_back.Goals as goal
 
@@ -11,6 +12,6 @@ returns g c =
     let b = g.T.EnumSetType.elements.bit c.args.element in
     let are = IsNaming-passes bs names g.met.T.EnumSetNames.named in
     record {
-      back = name_back bs names b are (sym (contains_is_in bs _ b lawful.valid) ∙ lawful.bit_is_valid c.args.element);
+      back = name_back bs names b are (sym (is_valid_bit g.T.EnumSetType.elements b) ∙ ap (λ s. contains s b) (sym lawful.valid) ∙ lawful.bit_is_valid c.args.element);
       only = λ is. (name_alone bs names b c.args.text.now lawful.distinct is).1;
     }

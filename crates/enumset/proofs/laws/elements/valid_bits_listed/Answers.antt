@@ -1,12 +1,13 @@
 use Rattle.std.proofs.Common.{sym, ap, ◌∙◌}
-use Rattle.enumset.proofs.Common.{contains_from_list, len, one_past_greatest}
+use Rattle.enumset_sets.specs.Laws.Elements.{is_valid_bit}
+use Rattle.enumset.proofs.Common.{len, one_past_greatest}
 use Rattle.enumset.proofs.laws.elements.valid_bits_listed.Goals as goal
 
 pub returns : goal.returns
 returns g c =
     let lawful = g.met.T.EnumSetType.lawful in
     record {
-      listed = contains_from_list g.T.EnumSetType.elements.bit_list;
+      listed = is_valid_bit g.T.EnumSetType.elements;
       each_once = lawful.distinct;
       all_bits = lawful.valid;
       count = ap len (sym lawful.valid) ∙ sym lawful.count_is;

@@ -1,4 +1,5 @@
 use Rattle.std.proofs.Common.{◌++◌, append-nil, map, sym, subst, ap, ◌∙◌}
+use Rattle.enumset_sets.specs.Elements.{valid_bits}
 use Rattle.enumset.proofs.Common.{AreMembers, name_of, names_of}
 use Rattle.enumset.proofs.NameLaws.{IsNaming-passes}
 use Rattle.enumset.proofs.NamesSorted.{name_more, sorted_members}
@@ -18,6 +19,7 @@ loop-element-preserved g c =
     ∙ c.loop-element.invariant
 
 pub returns : goal.returns
+unfolding valid_bits
 returns g c =
     let bits = g.T.EnumSetType.elements.bit_list in
     let are = IsNaming-passes bits g.T.EnumSetNames.names g.met.T.EnumSetNames.named in

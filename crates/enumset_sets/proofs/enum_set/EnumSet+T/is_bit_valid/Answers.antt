@@ -1,6 +1,6 @@
-use Rattle.std.proofs.Common.{refl, sym, ◌∙◌, arith, le-ltb}
+use Rattle.std.proofs.Common.{sym, ◌∙◌, arith, le-ltb}
 use Rattle.enumset_repr.specs.Laws.Common.{contains_past}
-use Rattle.enumset_sets.specs.Laws.Elements.{contains_is_in}
+use Rattle.enumset_sets.specs.Laws.Elements.{is_valid_bit}
 use Rattle.enumset_sets.proofs.enum_set.EnumSet+T.is_bit_valid.Goals as goal
 
 pub returns-else-bit-WIDTH-clause-valid : goal.returns-else-bit-WIDTH-clause-valid
@@ -10,8 +10,8 @@ returns-else-bit-WIDTH-clause-valid g c =
 
 pub returns-else-bit-WIDTH-clause-of_a_variant : goal.returns-else-bit-WIDTH-clause-of_a_variant
 returns-else-bit-WIDTH-clause-of_a_variant g c =
-    returns-else-bit-WIDTH-clause-valid g c ∙ contains_is_in _ _ _ refl
+    returns-else-bit-WIDTH-clause-valid g c ∙ is_valid_bit _ _
 
 pub returns-then-bit-WIDTH-clause-of_a_variant : goal.returns-then-bit-WIDTH-clause-of_a_variant
 returns-then-bit-WIDTH-clause-of_a_variant g c =
-    rw (c.has_bit.ensures, c.valid_repr-all.ensures.members) (contains_is_in _ _ _ refl)
+    rw (c.has_bit.ensures, c.valid_repr-all.ensures.members) (is_valid_bit _ _)

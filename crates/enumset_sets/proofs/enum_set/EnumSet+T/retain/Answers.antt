@@ -1,5 +1,8 @@
-use Rattle.enumset_sets.proofs.Retained.{kept_by_test, kept_unchanged}
+use Rattle.enumset_sets.proofs.Retained.{left, kept_by_test, kept_unchanged}
 use Rattle.enumset_sets.proofs.enum_set.EnumSet+T.retain.Goals as goal
+
+pub returns-clause-left : goal.returns-clause-left
+returns-clause-left g c = left _ _ _ _ _ (_, c.retain_by.ensures)
 
 pub returns-clause-kept : goal.returns-clause-kept
 returns-clause-kept g c p test = kept_by_test _ _ _ p _ _ (_, c.retain_by.ensures) test

@@ -1,0 +1,41 @@
+-- What the valid bits say of counts.
+--     len_valid      how many valid bits there are
+--     len_within      a set of valid bits has no more members than there are
+--     fewer_left, fewer_left_than      fewer valid bits are left once a set gets a member that it lacks, or members of a set
+--         that has such a one
+-- The ruleset `valid_counts` has the first two and stands beside `counts`; `fewer` has the others, for the measure of a loop
+-- that goes on until nothing changes.
+use Rattle.std.proofs.Common.{◌≡◌, ◌<◌, ◌≤◌, ℕ, Bool, true, false, true≢false, length, arith, refl, sym, ap, ◌∙◌}
+use Rattle.enumset_repr.specs.Laws.Common.{BitSet, contains, insert, remove, union, difference, is_subset, len, is_distinct, members, is_subset_contains, contains_is_subset, is_same_iff, false_from_ne_true}
+use Rattle.enumset_repr.specs.Laws.Counting.{len_subset, len_proper, len_removed}
+use Rattle.enumset_repr.specs.Laws.Decided.{decided}
+use Rattle.enumset_repr.specs.Laws.DecidedCounts.{counted, counted_at}
+use Rattle.enumset_sets.specs.Elements.{Elements, valid_bits}
+use Rattle.enumset_sets.specs.Laws.Elements.{len-from_list}
+
+pub len_valid : {T : Type 0} (elements : Elements T) → (len (valid_bits elements) ≡ len (valid_bits elements)) × (is_distinct elements.bit_list ≡ true → len (valid_bits elements) ≡ length elements.bit_list)
+unfolding valid_bits
+len_valid elements = (refl, len-from_list elements.bit_list)
+
+pub len_within : {T : Type 0} (elements : Elements T) (s : BitSet) (w : Bool) → (is_subset s (valid_bits elements) ≡ is_subset s (valid_bits elements)) × (counted s w ≡ counted s w) × (is_subset s (valid_bits elements) ≡ true → len s ≤ len (valid_bits elements))
+len_within elements s w = (refl, refl, len_subset s (valid_bits elements))
+
+pub ruleset valid_counts = (counted_at, len_valid, len_within)
+
+-- ---- what is left
+
+pub fewer_left : (all s : BitSet) (b : ℕ) → contains all b ≡ true → contains s b ≡ false → len (difference all (insert s b)) < len (difference all s)
+fewer_left all s b valid lacks =
+    let here : contains (difference all s) b ≡ true = grind (arith, decided) in
+    let left : difference all (insert s b) ≡ remove (difference all s) b = grind (arith, decided) in
+    omega (arith, ap len left, len_removed (difference all s) b here)
+
+pub fewer_left_than : (all s t : BitSet) → is_subset t all ≡ true → is_subset t s ≡ false → len (difference all (union s t)) < len (difference all s)
+fewer_left_than all s t valid more =
+    let part : is_subset (difference all (union s t)) (difference all s) ≡ true = grind (arith, decided) in
+    len_proper _ _ part (false_from_ne_true _ (λ same. true≢false (sym (contains_is_subset t s (λ q one.
+        let inside = is_subset_contains t all valid q one in
+        let alike = ap (λ u. contains u q) ((is_same_iff _ _).0 same) in
+        grind (arith, members))) ∙ more)))
+
+pub ruleset fewer = (fewer_left, fewer_left_than)
