@@ -1,5 +1,5 @@
 -- The least and the greatest member of a set of valid bits, and the set without it.
-use Rattle.std.proofs.Common.{◌≡◌, ◌<◌, ℕ, true, ◌∷◌, [], ◌++◌, Some, None, sym, ap, ◌∙◌, refl, length, arith}
+use Rattle.std.proofs.Common.{◌≡◌, ◌<◌, ℕ, true, ◌∷◌, [], ◌++◌, Some, None, sym, ap, ◌∙◌, length, arith}
 use Rattle.enumset_repr.specs.Laws.Common.{nat_tests, BitSet, is_in, contains, ascending, empty, insert, remove, len, is_subset, difference, below, least, greatest, insert_remove, toggled, len_ascending, empty_of_ascending, least_facts, greatest_facts, ascending_least, ascending_greatest, fewer_greatest, ascending_no_least, ascending_no_greatest, members, subsets, is_subset_contains, difference_is_subset}
 use Rattle.enumset_sets.specs.Elements.{Elements, valid_bits}
 use Rattle.enumset_sets.specs.Laws.Elements.{is_valid_bit}

@@ -7,8 +7,8 @@ ghost use Rattle.enumset_repr.specs.Number.{bits, is_distinct};
 ghost use Rattle.enumset_sets.specs.Elements.{valid_bits, one_past_greatest};
 
 use enumset_repr::EnumSetTypeRepr;
-use enumset_sets::representation::valid_repr;
 use enumset_sets::EnumSetType;
+use enumset_sets::representation::valid_repr;
 
 /// The valid bits are those in the list of the element type, which has each bit once. They are also the bits of
 /// `ALL_BITS`. They are below the width of the representation.

@@ -34,8 +34,8 @@ pub fewer_left_than : (all s t : BitSet) → is_subset t all ≡ true → is_sub
 fewer_left_than all s t valid more =
     let part : is_subset (difference all (union s t)) (difference all s) ≡ true = grind (arith, decided) in
     len_proper _ _ part (false_from_ne_true _ (λ same. true≢false (sym (contains_is_subset t s (λ q one.
-        let inside = is_subset_contains t all valid q one in
-        let alike = ap (λ u. contains u q) ((is_same_iff _ _).0 same) in
-        grind (arith, members))) ∙ more)))
+    let inside = is_subset_contains t all valid q one in
+    let alike = ap (λ u. contains u q) ((is_same_iff _ _).0 same) in
+    grind (arith, members))) ∙ more)))
 
 pub ruleset fewer = (fewer_left, fewer_left_than)

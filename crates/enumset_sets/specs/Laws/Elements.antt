@@ -8,9 +8,9 @@
 --     derived_eq      what a derived `==` of such an enum returns
 -- The ruleset `bits_of_variants` has the last two, and proves the functions of an element type. An element type imports
 -- the makers of its elements from here too.
-use Rattle.std.proofs.Common.{◌≡◌, ◌<◌, ◌≤◌, ℕ, suc, zero, slice_index, IsTrue, ◌^◌, Bool, true, false, eqb, List, Some, sym, ap, ◌∙◌, length, get_or, sum_by, arith, inl, inr, ◌==◌, max, Option, None, eqb-true, eq-eqb, [], ◌∷◌, refl}
+use Rattle.std.proofs.Common.{◌≡◌, ◌<◌, ◌≤◌, ℕ, suc, zero, slice_index, ◌^◌, Bool, true, false, eqb, List, Some, sym, ap, ◌∙◌, length, get_or, sum_by, arith, inl, inr, ◌==◌, max, Option, None, eqb-true, eq-eqb, [], ◌∷◌, refl}
 use Rattle.std.proofs.lemmas.List.FromFn.{length-range_with_len}
-use Rattle.enumset_repr.specs.Laws.Common.{nat_tests, cases_lt, and_parts, and_from, or_left, or_right, get_or-range_with_len, range_with_len, BitSet, is_in, contains, insert, from_list, ascending, len, is_subset, bits, is_distinct, greatest, contains_empty, contains_insert, contains_from_list, contains_ascending, list_all_each, is_subset_contains, len_empty, len_insert, empty_of_ascending, greatest_is, greatest_empty, greatest_facts, ascending_no_greatest, bits_of, lists_words, bits_listed, words_listed, one_past_all, or_else, once_known, IsLawful, IsLawfulNumber, IsLawfulWords}
+use Rattle.enumset_repr.specs.Laws.Common.{nat_tests, cases_lt, and_parts, and_from, or_left, or_right, get_or-range_with_len, BitSet, is_in, contains, insert, from_list, ascending, len, is_subset, bits, is_distinct, greatest, contains_empty, contains_insert, contains_from_list, contains_ascending, list_all_each, is_subset_contains, len_empty, len_insert, empty_of_ascending, greatest_is, greatest_empty, greatest_facts, ascending_no_greatest, bits_of, lists_words, bits_listed, words_listed, one_past_all, or_else, once_known, IsLawful, IsLawfulNumber, IsLawfulWords}
 use denote.Struct.Field.{Field}
 use denote.Enum.Declared.{Declared, rowss, tag_of}
 use denote.Enum.Enum.{tag_below}
@@ -179,9 +179,9 @@ is_valid_bit elements q = contains_from_list elements.bit_list q
 pub place_is : (D : Declared) (v : D.D) → (place D v ≡ tag_of D v) × (contains (valid_bits (in_place D)) (place D v) ≡ true)
 unfolding place
 place_is D v = (
-    refl,
-    is_valid_bit (in_place D) _ ∙ ap (λ b. is_in b (in_place D).bit_list) (in_place-bit D v) ∙ listed_is_in D _ v (length-range_with_len 0 (length (rowss D.parts))),
-  )
+  refl,
+  is_valid_bit (in_place D) _ ∙ ap (λ b. is_in b (in_place D).bit_list) (in_place-bit D v) ∙ listed_is_in D _ v (length-range_with_len 0 (length (rowss D.parts))),
+)
 
 pub listed_bit_is : (D : Declared) (bs : List ℕ) (v : D.D) → (listed_bit D bs v ≡ slice_index bs (tag_of D v)) × (length bs ≡ length (rowss D.parts) → contains (valid_bits (with_bits D bs)) (listed_bit D bs v) ≡ true)
 unfolding listed_bit
