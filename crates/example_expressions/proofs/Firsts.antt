@@ -10,7 +10,8 @@ use denote.Enum.Bare.{tag_one}
 use Rattle.enumset_repr.specs.BitSet.{BitSet, is_in, contains, empty, insert, remove, union, intersection, from_list, is_subset}
 use Rattle.enumset_repr.specs.Laws.Algebra.{intersection_right}
 use Rattle.enumset_repr.specs.Laws.Members.{members, same_set, contains_from_list, contains_union, contains_is_subset}
-use Rattle.enumset_sets.specs.Elements.{valid_bits, in_place}
+use Rattle.enumset_sets.specs.Elements.{valid_bits, in_place, place}
+use Rattle.enumset_sets.specs.Laws.Elements.{place_is}
 use Rattle.example_expressions.specs.contracts.part.Part.{the_type}
 use Rattle.example_expressions.specs.declared.part.Part.{Part}
 use Rattle.example_expressions.specs.declared.part.Part.TheVariants.{Sum, Product, Operand}
@@ -33,12 +34,10 @@ pub record IsWorklist (whole : Part) (kinds left pending : BitSet) : Type 0 wher
   pub parts_sound : (part : Part) → contains pending (part_bit part) ≡ true → (kind : ℕ) → CanBegin part kind → CanBegin whole kind
 
 one_part : (part other : Part) → part_bit part ≡ part_bit other → part ≡ other
-one_part = tag_one the_type tt
+one_part part other same = tag_one the_type tt part other (sym (place_is the_type part).0 ∙ same ∙ (place_is the_type other).0)
 
 is_part : (part : Part) → contains (valid_bits (in_place the_type)) (part_bit part) ≡ true
-is_part Sum = contains_from_list _ _
-is_part Product = contains_from_list _ _
-is_part Operand = contains_from_list _ _
+is_part part = (place_is the_type part).1
 
 pub at_first : (whole : Part) → IsWorklist whole empty (valid_bits (in_place the_type)) (insert empty (part_bit whole))
 at_first whole = record {
@@ -115,6 +114,7 @@ begins_operand Product kind (at_once is) = absurd (true≢false (sym is))
 begins_operand part kind (by_part first is begins) = begins_operand first kind begins
 
 pub sum_begins : (s : BitSet) → ((kind : ℕ) → IsTrue (contains s kind) ↔ CanBegin Sum kind) → s ≡ from_list (map bit (kinds_at Operand))
+unfolding place
 sum_begins s tells = same_set _ _ (λ kind. same_from_decides _ _ (tells kind) (
   λ is. by_part Product refl (by_part Operand refl (at_once (sym (contains_from_list _ kind) ∙ is))),
   λ begins. contains_from_list _ kind ∙ begins_operand Sum kind begins,

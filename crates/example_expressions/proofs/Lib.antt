@@ -1,3 +1,4 @@
+mod Answered
 pub mod Characters
 pub mod Firsts
 pub mod Reading

@@ -8,6 +8,7 @@ use Rattle.std.proofs.lemmas.Bool.{and_parts}
 use Rattle.std.proofs.lemmas.List.{append_cancel_right, take_more, get_or-map, get_or_past, length-map}
 use Rattle.enumset_repr.specs.BitSet.{is_in, contains}
 use Rattle.enumset_repr.specs.Laws.Members.{contains_from_list}
+use Rattle.enumset_sets.specs.Elements.{place}
 use Rattle.example_expressions.specs.declared.kind.Kind.{Kind}
 use Rattle.example_expressions.specs.declared.kind.Kind.TheVariants.{Number, Open, Minus, Plus, Times, Divide, Close, End}
 use Rattle.example_expressions.specs.declared.token.Token.{Token}
@@ -25,6 +26,7 @@ accepts _ depth [] = false
 accepts place depth (k ∷ ks) = may place depth k && accepts (place_after k) (depth_after k depth) ks
 
 operator : (op : Kind) (depth : ℕ) (ks : List Kind) → is_operator op ≡ true → accepts Operator depth (op ∷ ks) ≡ accepts Operand depth ks
+unfolding place
 operator Minus depth ks is = refl
 operator Plus depth ks is = refl
 operator Times depth ks is = refl
@@ -32,6 +34,7 @@ operator Divide depth ks is = refl
 operator _ depth ks is = absurd (true≢false (sym is))
 
 accepts-expression : {e : List Kind} → IsExpression e → (depth : ℕ) (rest : List Kind) → accepts Operand depth (e ++ rest) ≡ accepts Operator depth rest
+unfolding place
 accepts-expression number depth rest = refl
 accepts-expression (negated e) depth rest = accepts-expression e depth rest
 accepts-expression (joined {ks} {ls} op e is f) depth rest =
@@ -53,7 +56,7 @@ unfolding Follows Rest
 joins op depth ks is (f, tail, same, x, rest) = λ e y. (e ++ op ∷ f, tail, ap (λ l. e ++ op ∷ l) same ∙ sym (append_assoc e (op ∷ f) _), joined op y is x, rest)
 
 follows : (place : Place) (depth : ℕ) (ks : List Kind) → accepts place depth ks ≡ true → Follows place depth ks
-unfolding Follows Rest
+unfolding Follows Rest place
 follows Operand depth (Number ∷ ks) h = follows Operator depth ks h (Number ∷ []) number
 follows Operand depth (Minus ∷ ks) h = let (f, tail, same, x, rest) = follows Operand depth ks h in (Minus ∷ f, tail, ap (λ l. Minus ∷ l) same, negated x, rest)
 follows Operand depth (Open ∷ ks) h =
@@ -73,6 +76,7 @@ unfolding Follows Rest
 whole ks h = let (e, tail, same, x, none) = follows Operand 0 ks h in (e, same ∙ ap (λ l. e ++ End ∷ l) none, x)
 
 completed : (place : Place) (depth : ℕ) → (ks : List Kind) × (accepts place depth ks ≡ true)
+unfolding place
 completed Operand zero = (Number ∷ End ∷ [], refl)
 completed Operand (suc depth) = let (more, is) = completed Operator depth in (Number ∷ Close ∷ more, is)
 completed Operator zero = (End ∷ [], refl)
@@ -90,6 +94,7 @@ read_more p place depth k read comes =
     record { reads = λ rest. ap (accepts Operand 0) (append_assoc p (k ∷ []) rest) ∙ read.reads (k ∷ rest) ∙ ap (λ b. b && accepts (place_after k) (depth_after k depth) rest) comes }
 
 may_come : (p : List Kind) (place : Place) (depth : ℕ) (k : Kind) → IsRead p place depth → IsTrue (may place depth k) ↔ Begins (p ++ k ∷ [])
+unfolding place
 may_come p place depth k read = (
   λ comes. begins _ _ _ (read_more p place depth k read comes),
   λ (more, e, same, x). (and_parts _ _ (sym (read.reads (k ∷ more)) ∙ ap (accepts Operand 0) (sym (append_assoc p (k ∷ []) more) ∙ same) ∙ accepts-expression x 0 (End ∷ []))).0,
@@ -99,6 +104,7 @@ comes : (r : Reader) (k : Kind) → contains (next_kinds r) (bit k) ≡ may (pla
 comes r k = contains_from_list _ _
 
 pub closes_open : (r : Reader) → contains (next_kinds r) (bit Close) ≡ true → 0 < r.depth
+unfolding place
 closes_open r h = deep (place_after r.last) r.depth (sym (comes r Close) ∙ h) where
   deep : (place : Place) (depth : ℕ) → may place depth Close ≡ true → 0 < depth
   deep Operator (suc depth) h = omega arith

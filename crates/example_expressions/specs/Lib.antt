@@ -1,3 +1,4 @@
+pub mod Answers
 pub mod Faults
 pub mod First
 pub mod Grammar

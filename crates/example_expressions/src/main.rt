@@ -5,6 +5,10 @@
 //! 2 if reading or writing fails.
 #![tactic(auto, using(enumset::specs::Sets::set_laws))]
 
+ghost use Rattle.std.specs.Prelude.{◌≡◌, ◌⊎◌, IfOk, IfErr};
+ghost use Rattle.std.specs.Str.{chars};
+ghost use Rattle.example_expressions.specs.Answers.{column_of, IsValueOf, IsFaultOf};
+
 mod fault;
 mod first;
 mod kind;
@@ -17,17 +21,30 @@ use fault::{Fault, Reason};
 use std::alloc::Global;
 use std::io;
 use std::process::ExitCode;
+use token::Token;
 
-/// The value of an expression.
-fn answer(alloc: Global, line: &str) -> Result<i64, Fault> {
+/// The value of an expression, or why there is none.
+fn answer(alloc: Global, line: &str) -> Result<i64, Fault>
+    ensures value { IfOk result (IsValueOf (chars line.now)) }
+    ensures fault { IfErr result (λ fault. (fault.reason ≡ Reason.OutOfMemory)
+        ⊎ IsFaultOf (chars line.now) fault) }
+{
     let tokens = token::tokens(alloc, line)?;
     if let Err(unexpected) = parser::check(&tokens) {
-        let end = line.chars().count() + 1;
-        let token = tokens.get(unexpected.place);
-        let column = token.map_or(end, |token| token.column);
+        let column = column_at(line, &tokens, unexpected.place);
         return Err(Reason::Unexpected(unexpected).at(column));
     }
     value::evaluate(alloc, &tokens)
+}
+
+/// The column of the token at a place, or the one past the end of the line.
+fn column_at(line: &str, tokens: &[Token], place: usize) -> usize
+    ensures { result ≡ column_of (chars line.now) tokens.now place }
+{
+    match tokens.get(place) {
+        Some(token) => token.column,
+        None => line.chars().count() + 1,
+    }
 }
 
 /// Answers each line, and returns whether each has a value.

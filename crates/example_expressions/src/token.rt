@@ -2,6 +2,7 @@
 
 ghost use Rattle.std.specs.Prelude.{◌≡◌, ◌⊎◌, Ok, Err, IfOk, IfErr, OnOk};
 ghost use Rattle.std.specs.Str.{chars};
+ghost use Rattle.example_expressions.specs.Faults.{fault_at};
 ghost use Rattle.example_expressions.specs.Tokens.{begun, digit, kind_at, with_digit, with_character, tokens_of};
 
 use crate::fault::{Fault, Reason};
@@ -42,7 +43,7 @@ fn read(
 ) -> Result<(), Fault>
     ensures read { OnOk result (with_character after_digit tokens.old.items column character
         ≡ Ok tokens.new.items) }
-    ensures fault { IfErr result (λ fault. (fault.reason ≡ Reason.OutOfMemory)
+    ensures fault { IfErr result (λ fault. (fault ≡ fault_at column Reason.OutOfMemory)
         ⊎ (with_character after_digit tokens.old.items column character ≡ Err fault)) }
 {
     if after_digit && character.is_ascii_digit() {
@@ -57,7 +58,7 @@ fn read(
 fn begin(tokens: &mut Vec<Token>, column: usize, character: char) -> Result<(), Fault>
     ensures read { OnOk result (begun (kind_at character) tokens.old.items column character
         ≡ Ok tokens.new.items) }
-    ensures fault { IfErr result (λ fault. (fault.reason ≡ Reason.OutOfMemory)
+    ensures fault { IfErr result (λ fault. (fault ≡ fault_at column Reason.OutOfMemory)
         ⊎ (begun (kind_at character) tokens.old.items column character ≡ Err fault)) }
 {
     match kind_of(character) {

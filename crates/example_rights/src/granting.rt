@@ -16,6 +16,7 @@ pub fn grant(rights: &mut EnumSet<Right>, right: Right) -> bool
 }
 
 /// All rights: each of them, on the bits below 3.
+#[tactic(auto, unfolding(enumset_sets::specs::Elements::valid_bits))]
 pub fn all_granted() -> EnumSet<Right>
     ensures all { result ≡ set.below 3 }
     ensures each { (right : Right) → set.contains result (bit right) ≡ true }

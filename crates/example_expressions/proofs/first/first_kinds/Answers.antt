@@ -2,12 +2,13 @@ use Rattle.std.proofs.Common.{ap, subst, ◌∙◌, arith}
 use Rattle.enumset_repr.specs.BitSet.{contains}
 use Rattle.enumset_repr.specs.Laws.Algebra.{algebra, contains_inserted}
 use Rattle.enumset_repr.specs.Laws.Members.{contains_from_list}
+use Rattle.enumset_sets.specs.Laws.Elements.{bits_of_variants}
 use Rattle.example_expressions.specs.First.{part_bit}
 use Rattle.example_expressions.proofs.Firsts.{IsWorklist, step, at_end}
 use Rattle.example_expressions.proofs.first.first_kinds.Goals as goal
 
 pub loop-part-init : goal.loop-part-init
-loop-part-init c = grind (arith, algebra, contains_from_list)
+loop-part-init c = grind (arith, algebra, contains_from_list, bits_of_variants)
 
 pub loop-part-preserved : goal.loop-part-preserved
 loop-part-preserved c =

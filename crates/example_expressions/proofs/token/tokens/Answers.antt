@@ -1,4 +1,4 @@
-use Rattle.std.proofs.Common.{◌≡◌, Err, inl, inr, rules}
+use Rattle.std.proofs.Common.{◌≡◌, Err, ap, inl, inr, rules}
 use Rattle.std.proofs.lemmas.Iterator.{YieldsList-from_chars}
 use Rattle.std.proofs.lemmas.Iterator.Consumers.{YieldsList-from_enumerate, YieldsList-turn, YieldsList-end}
 use Rattle.std.proofs.lemmas.List.{length_push}
@@ -10,7 +10,7 @@ returns-in_err-read-clause-fault c =
     let turn = YieldsList-turn (YieldsList-from_enumerate (YieldsList-from_chars c.args.line.now c.utf8.line cc) cc) c.loop-index.yielded _ c.loop-index.yielded_by _ _ (c.in-Some.index, c.in-Some.character) c.in-Some.is c.next.ensures.steps in
     let failed : c.from_residual.result ≡ Err c.in_err-read.field-0.0 = search rules in
     rw failed (elim c.in_err-read.ensures.fault [
-      | inl memory ↦ inl memory
+      | inl memory ↦ inl (ap (λ fault. fault.reason) memory)
       | inr fault ↦ inr (fault_read _ _ _ _ c.loop-index.invariant _ turn _ fault)
     ])
 
