@@ -71,6 +71,7 @@ macro_rules! over_worked_types {
 /// Returns the text of the replies to the commands of an input, over the sets of a worked type, or over its mixed sets.
 ///
 /// The errors are those of [`serve_text`].
+#[tactic(auto, unfolding(enumset_sets::specs::Elements::valid_bits))]
 pub fn serve_worked(alloc: Global, worked: Worked, input: &[u8]) -> Result<Vec<u8>, TextFault>
     ensures answer { IfOk result (λ out. answer_over worked input.now ≡ Ok out.items) }
     ensures fault { IfErr result (λ fault. IsFaultOf (answer_over worked input.now) fault) }

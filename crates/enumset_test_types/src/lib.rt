@@ -7,7 +7,7 @@
 //!
 //! With those of `enumset_worked` they have each `repr`, each form and width in JSON, `no_super_impls` (`of_64`), gaps,
 //! and operators or none.
-#![tactic(auto, using(enumset_sets::specs::Laws::Elements::bits_of_variants))]
+#![tactic(auto, unfolding(enumset_sets::specs::Elements::place, enumset_sets::specs::Elements::listed_bit))]
 
 pub mod far_bits;
 pub mod forms;

@@ -5,6 +5,7 @@ use Rattle.enumset_repr.specs.BitSet.{BitSet}
 use Rattle.enumset_repr.specs.Laws.Members.{members}
 use Rattle.enumset_repr.specs.Laws.Firsts.{written_out}
 use Rattle.enumset_repr.specs.Laws.Loops.{is_subset_list, is_disjoint_list}
+use Rattle.enumset_sets.specs.Elements.{place}
 use Rattle.example_door.specs.declared.flag.Flag.TheVariants.{Open, Locked, Alarmed, Powered}
 use Rattle.example_door.specs.declared.event.Event.{Event}
 use Rattle.example_door.specs.declared.event.Event.TheVariants as event
@@ -15,6 +16,7 @@ use Rattle.example_door.proofs.Kept.{kept_iff}
 
 -- each row keeps the three rules, by the test of the four states
 kept : (e : Event) → (keeps_from_least (NeverBoth Open Locked) (row e) && (keeps_from_least (Implies Locked Powered) (row e) && keeps_from_least (Implies Alarmed Powered) (row e))) ≡ true
+unfolding place
 kept event.Open = simp (members, written_out, is_subset_list, is_disjoint_list)
 kept event.Close = simp (members, written_out, is_subset_list, is_disjoint_list)
 kept event.Lock = simp (members, written_out, is_subset_list, is_disjoint_list)

@@ -2,7 +2,7 @@
 use Rattle.std.proofs.Common.{◌≡◌, true, Some, [], ◌∷◌, map, codes, refl}
 use Rattle.std.specs.List.{join_by}
 use Rattle.enumset_repr.specs.BitSet.{BitSet, ascending, is_subset}
-use Rattle.enumset_sets.specs.Elements.{in_place, valid_bits}
+use Rattle.enumset_sets.specs.Elements.{in_place, place, valid_bits}
 use Rattle.enumset_sets.specs.Texts.{text_at, joined_text}
 use Rattle.enumset_sets.specs.Laws.Texts.{text_of_known}
 use Rattle.example_set_facts.specs.contracts.stages.Stage.{the_type}
@@ -10,4 +10,5 @@ use Rattle.example_set_facts.specs.declared.stages.Stage.TheVariants.{Draft, InR
 use Rattle.example_set_facts.specs.Stages.{stage, title}
 
 pub text_of_stages : (s : BitSet) → (ascending s ≡ ascending s) × (is_subset s (valid_bits (in_place the_type)) ≡ true → joined_text (map (text_at stage (Draft ∷ InReview ∷ Published ∷ []) (λ v. Some (title (stage v)))) (ascending s)) ≡ Some (join_by title (codes " | ") (ascending s)))
+unfolding place valid_bits
 text_of_stages = text_of_known stage (Draft ∷ InReview ∷ Published ∷ []) (λ v. Some (title (stage v))) title _ refl

@@ -1,10 +1,12 @@
 -- Laws of the days of the week.
 use Rattle.std.proofs.Common.{◌≡◌, ℕ, ◌+◌, ◌<◌, arith}
 use Rattle.std.proofs.lemmas.Bool.Decides.{nat_tests}
+use Rattle.enumset_sets.specs.Elements.{place}
 use Rattle.example_weekdays.specs.declared.weekday.Weekday.{Weekday}
 use Rattle.example_weekdays.specs.Week.{bit, wait, day_after}
 
 pub bit_small : (day : Weekday) → bit day < 7
+unfolding place
 bit_small day = grind arith
 
 -- a day later the wait is one day longer, until the week is over

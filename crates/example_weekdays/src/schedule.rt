@@ -26,6 +26,7 @@ impl Weekday {
 }
 
 /// The days on which everybody is free: each day, if there is nobody.
+#[tactic(auto, using(enumset::specs::Sets::set_laws), unfolding(enumset_sets::specs::Elements::valid_bits))]
 pub fn common_days(schedules: &[EnumSet<Weekday>]) -> EnumSet<Weekday>
     ensures { result ≡ intersection_all week schedules.now }
 {

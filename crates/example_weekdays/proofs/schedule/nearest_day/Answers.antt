@@ -1,10 +1,12 @@
 use Rattle.std.proofs.Common.{refl, arith}
 use Rattle.enumset_repr.specs.Laws.Members.{members, same_set, member_below}
+use Rattle.enumset_sets.specs.Elements.{valid_bits}
 use Rattle.example_weekdays.specs.Week.{bit}
 use Rattle.example_weekdays.proofs.WeekLaws.{bit_small, wait_next, wait_small, wait_tells}
 use Rattle.example_weekdays.proofs.schedule.nearest_day.Goals as goal
 
 pub loop-preserved : goal.loop-preserved
+unfolding valid_bits
 loop-preserved c =
     let far = c.loop.invariant.far c.loop-test.true in
     record {
@@ -17,6 +19,7 @@ loop-preserved c =
     }
 
 pub returns-clause-none : goal.returns-clause-none
+unfolding valid_bits
 returns-clause-none c = (
   λ _. same_set _ _ (λ q.
       let inside = member_below c.args.days 7 q (rw (← c.bits_below.ensures.list) c.members_are_valid.ensures.valid) in
