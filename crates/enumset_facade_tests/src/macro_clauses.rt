@@ -25,6 +25,7 @@ fn mixed_elements<T: EnumSetTypeWithRepr>(
     )
 }
 
+#[tactic(auto, unfolding(enumset_sets::specs::Elements::place))]
 fn of_sixteen(bit: u32) -> Of64
     requires { IsTrue (set.is_in bit (range_with_len 0 16)) }
     ensures { ⟦<Of64 as EnumSetType>⟧.elements.bit result ≡ bit }
@@ -32,6 +33,7 @@ fn of_sixteen(bit: u32) -> Of64
     variant_of!(bit, Of64: V0 V1 V2 V3 V4 V5 V6 V7 V8 V9 V10 V11 V12 V13 V14 V15)
 }
 
+#[tactic(auto, unfolding(enumset_sets::specs::Elements::place))]
 fn of_even(bit: u32) -> Of256
     requires { IsTrue (set.is_in bit (0 ∷ 2 ∷ 4 ∷ 6 ∷ 8 ∷ 10 ∷ 12 ∷ 14 ∷ 16 ∷ 18 ∷ 20 ∷ 22 ∷ 24 ∷ 26 ∷ 28 ∷
         30 ∷ 32 ∷ 34 ∷ 36 ∷ 38 ∷ 40 ∷ 42 ∷ 44 ∷ 46 ∷ 48 ∷ 50 ∷ 52 ∷ 54 ∷ 56 ∷ 58 ∷ 60 ∷ 62 ∷ 64 ∷ 66 ∷ 68 ∷
