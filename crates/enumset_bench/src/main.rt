@@ -2,7 +2,7 @@
 //!
 //! A job makes its input from the seed, and works on another part of it in each round. The program prints a digest of
 //! all results. `bench/run` times it.
-#![tactic(auto, using(enumset_sets::specs::Laws::Elements::bits_of_variants))]
+#![tactic(auto, unfolding(enumset_sets::specs::Elements::place, enumset_sets::specs::Elements::listed_bit))]
 
 mod commands;
 mod decide;
