@@ -15,6 +15,7 @@ pub fn is_dangerous(asked: Permission) -> bool
 }
 
 /// The dangerous ones of a user's permissions, collected one by one.
+#[tactic(auto, using(enumset::specs::Sets::set_laws), unfolding(enumset_sets::specs::Elements::place))]
 pub fn dangerous(granted: EnumSet<Permission>) -> EnumSet<Permission>
     ensures { result ≡ set.intersection granted dangerous_bits }
 {
