@@ -13,10 +13,7 @@ mod macros;
 mod names;
 pub mod set;
 pub mod set_json;
+mod set_macros;
 
-pub use enumset_sets::{
-    EnumSet, EnumSetIter, EnumSetType, EnumSetTypeWithRepr, enum_set, enum_set_complement,
-    enum_set_difference, enum_set_intersection, enum_set_symmetric_difference, enum_set_union,
-    variant_of, variants,
-};
+pub use enumset_sets::{EnumSet, EnumSetIter, EnumSetType, EnumSetTypeWithRepr, variants};
 pub use names::EnumSetNames;

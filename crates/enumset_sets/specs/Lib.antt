@@ -3,5 +3,6 @@ pub mod Folds
 pub mod Held
 pub mod Laws
 pub mod Retained
+pub mod Sets
 pub mod Texts
 pub mod Variants

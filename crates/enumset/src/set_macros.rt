@@ -19,6 +19,14 @@ macro_rules! enum_set {
     };
 }
 
+/// Gives the [`MixedEnumSet`](crate::set::MixedEnumSet) of elements joined by `|`, as [`enum_set!`] gives an `EnumSet`.
+#[macro_export]
+macro_rules! mixed_enum_set {
+    ($($elements:tt)*) => {
+        $crate::internal::set::convert_mixed($crate::enum_set!($($elements)*))
+    };
+}
+
 /// Gives the union of sets joined by commas: `a | b | c`. Each is a path, as the name of a variable. One comma may
 /// follow. Rust's macro also takes elements, and may stand in a constant.
 #[macro_export]
