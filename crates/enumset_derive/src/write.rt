@@ -12,7 +12,7 @@ use crate::fault::{Outcome, Reason};
 use crate::plan::*;
 use crate::source::{Element, Form, Source};
 use crate::tokens::names_last;
-use element_type::{is_in_table, is_narrow};
+use element_type::{is_in_place, is_in_table, is_narrow};
 use layout::*;
 use std::alloc::{AllocError, Global};
 use std::collections::BTreeSet;
@@ -33,6 +33,14 @@ struct Subject<'a, 'b> {
     element: &'a Element<'a>,
     /// The comments after the enum on its line, each after a space.
     comments: &'a str,
+}
+
+/// The crate whose definitions the clauses of a module cite.
+fn library_of(facade: &str) -> &'static str {
+    match facade {
+        "enumset_sets" => "enumset_sets",
+        _ => "enumset",
+    }
 }
 
 /// The text of the module that a source stands for, or the fault of a name that the module needs itself.

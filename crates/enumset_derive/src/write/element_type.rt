@@ -145,6 +145,11 @@ fn are_cast(element: &Element) -> bool {
     }
 }
 
+/// Whether each bit is its variant's place and number.
+pub(super) fn is_in_place(element: &Element) -> bool {
+    are_cast(element) && are_places(&element.plan)
+}
+
 /// Writes the implementation of an element type.
 fn write_impl(out: &mut String, subject: &Subject) -> Written {
     let (name, crate_name, module) = (
@@ -152,9 +157,10 @@ fn write_impl(out: &mut String, subject: &Subject) -> Written {
         subject.request.crate_name,
         &subject.request.module,
     );
+    let library = library_of(subject.facade);
     let is_wide = matches!(subject.element.plan.store, Store::Words(_));
     let law = if is_wide { "words" } else { "integer" };
-    let in_place = are_cast(subject.element) && are_places(&subject.element.plan);
+    let in_place = is_in_place(subject.element);
     let made = if in_place { "in_place" } else { "with_bits" };
     let (more, before, after) = match in_place {
         true => (", lawful_in_place", "lawful_in_place the_type (", ")"),
@@ -167,7 +173,7 @@ fn write_impl(out: &mut String, subject: &Subject) -> Written {
     }
     write!(
         out,
-        "    ghost use Rattle.enumset_sets.specs.Laws.Elements.{{{made}, lawful_in_{law}{more}}};
+        "    ghost use Rattle.{library}.specs.Sets.{{{made}, lawful_in_{law}{more}}};
     ghost use Rattle.{crate_name}.specs.contracts.{module}.{name}.{{the_type}};\n"
     )?;
     if has_values {
@@ -250,12 +256,13 @@ fn write_into_u32(out: &mut String, subject: &Subject) -> Written {
 }
 
 /// Writes the body that converts a bit to its variant: a match over the bits, or the call of the macro that makes a table.
+/// `enumset_sets` has no macro, so over it the match stands in full.
 fn write_from_u32(out: &mut String, subject: &Subject) -> Written {
     let (alloc, facade, name) = (subject.alloc, subject.facade, subject.name);
     let (variants, plan) = (&subject.element.declaration.variants, &subject.element.plan);
     let count = variants.len();
     let variants = variants.iter().zip(plan.variants.iter());
-    if is_in_table(plan) {
+    if is_in_table(plan) && facade != "enumset_sets" {
         let mut items = vec![in alloc; format!(in alloc; "val, {name}:")?]?;
         for (variant, named) in variants {
             items.push(format!(in alloc; "{} {}", named.bit, variant.name)?)?;
@@ -270,6 +277,9 @@ fn write_from_u32(out: &mut String, subject: &Subject) -> Written {
             named.bit, variant.name
         )?;
     }
+    if is_in_table(plan) {
+        return write_table_end(out, subject);
+    }
     if count <= 32 {
         return out.push_str("            _ => unreachable!(),\n        }\n");
     }
@@ -282,6 +292,46 @@ fn write_from_u32(out: &mut String, subject: &Subject) -> Written {
             }}
         }}\n"
     )
+}
+
+/// Writes the last arm of a match that is to make a table, as `variant_of!` does. The arm is never taken: a proof learns
+/// this for 64 bits at a time. It names a variant, so that the match can compile to a load from a table.
+fn write_table_end(out: &mut String, subject: &Subject) -> Written {
+    let variants = &subject.element.declaration.variants;
+    let count = variants.len();
+    let mut begun = 0;
+    out.push_str("            _ => {\n")?;
+    for later in [64, 128, 192] {
+        if later < count {
+            let (first, rest) = (
+                bits_from(subject, begun, 64)?,
+                bits_from(subject, later, count)?,
+            );
+            let path = "enumset_sets::variants::is_listed_later";
+            write!(out, "                {path}(val, &[{first}], &[{rest}]);\n")?;
+            begun = later;
+        }
+    }
+    let last = bits_from(subject, begun, count)?;
+    let name = variants.first().map_or("", |variant| variant.name);
+    write!(
+        out,
+        "                enumset_sets::variants::is_listed(val, &[{last}]);
+                Self::{name}
+            }}
+        }}\n"
+    )
+}
+
+/// The bits of at most so many variants as an array in code has them, without those of the first.
+fn bits_from(subject: &Subject, skipped: usize, count: usize) -> Text {
+    let alloc = subject.alloc;
+    let variants = subject.element.plan.variants.iter().skip(skipped);
+    let bits = variants
+        .take(count)
+        .map(|named| format!(in alloc; "{}, ", named.bit));
+    let bits: String = bits.try_collect(alloc)?;
+    String::from_str(alloc, bits.as_str().trim_end_matches(", "))
 }
 
 /// What keeps a set, as a module writes it.

@@ -13,7 +13,7 @@ pub(super) fn imports_of(alloc: Global, source: &Source) -> Outcome<String> {
     let mut needed: BTreeSet<&str> = BTreeSet::new(alloc);
     for item in &source.items {
         if let Form::Element(element) = &item.form {
-            for (is_needed, name) in needed_by(element) {
+            for (is_needed, name) in needed_by(element, source.facade) {
                 if is_needed && needed.insert(name)? && is_free(source, name)? {
                     imports.insert(name)?;
                 }
@@ -24,11 +24,12 @@ pub(super) fn imports_of(alloc: Global, source: &Source) -> Outcome<String> {
 }
 
 /// What the module of an element type may need of `enumset`, in order, and whether it does.
-fn needed_by(element: &Element) -> [(bool, &'static str); 8] {
+fn needed_by(element: &Element, facade: &str) -> [(bool, &'static str); 8] {
     let options = &element.declaration.options;
     let is_named = options.are_named();
     let has_form = options.serialized.is_some();
     let is_wide = matches!(element.plan.store, Store::Words(_));
+    let has_macro = facade != "enumset_sets";
     [
         (has_form || !options.leaves_out_operators, "EnumSet"),
         (is_named, "EnumSetNames"),
@@ -37,7 +38,7 @@ fn needed_by(element: &Element) -> [(bool, &'static str); 8] {
         (is_wide, "internal::ArrayRepr"),
         (is_named, "names_of"),
         (has_form, "set_json"),
-        (is_in_table(&element.plan), "variant_of"),
+        (has_macro && is_in_table(&element.plan), "variant_of"),
     ]
 }
 

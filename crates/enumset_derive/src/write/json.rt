@@ -4,13 +4,10 @@ use super::*;
 
 const OF_NUMBERS: &str =
     "    ghost use Rattle.std.specs.Prelude.{◌≡◌, ◌↔◌, IsOk, IfOk, IfErr, IsTrue};
-    ghost use Rattle.enumset_repr.specs.BitSet.{is_subset, below};
-    ghost use Rattle.enumset_repr.specs.Number.{number};
-    ghost use Rattle.enumset_sets.specs.Elements.{valid_bits};";
+    ghost use Rattle.enumset.specs.Sets.{is_subset, below, number, valid_bits};";
 
 const OF_WORDS: &str = "    ghost use Rattle.std.specs.Prelude.{◌≡◌, IfOk, IfErr};
-    ghost use Rattle.enumset_repr.specs.Words.{words};
-    ghost use Rattle.enumset_sets.specs.Elements.{valid_bits};";
+    ghost use Rattle.enumset.specs.Sets.{words, valid_bits};";
 
 const OF_NAMES: &str = "    ghost use Rattle.std.specs.Prelude.{◌≡◌, IfOk, IfErr};";
 

@@ -54,8 +54,8 @@ pub(super) fn write_call(out: &mut String, alloc: Global, name: &str, items: &[S
     write!(out, "        {name}(\n            {lines}\n        )\n")
 }
 
-/// Writes the head of an implementation of a trait, after an empty line and the comment of its own.
-pub(super) fn write_head(out: &mut String, subject: &Subject, doc: &str, form: &str) -> Written {
+/// Writes the head of an implementation of a trait, after an empty line and the comment or attribute of its own.
+pub(super) fn write_head(out: &mut String, subject: &Subject, above: &str, form: &str) -> Written {
     let (name, guard) = (subject.name, subject.element.guard.unwrap_or(""));
-    write!(out, "\n\n{doc}{guard}impl {form} for {name} {{\n")
+    write!(out, "\n\n{above}{guard}impl {form} for {name} {{\n")
 }

@@ -17,7 +17,13 @@ pub(super) fn write_names(out: &mut String, subject: &Subject) -> Written {
         })?;
     }
     let names = list_of(alloc, 80, &names, "codes \"", "\"")?;
-    write_head(out, subject, "", "EnumSetNames")?;
+    let unfolded = if is_in_place(element) {
+        "place"
+    } else {
+        "listed_bit"
+    };
+    let line = format!(in alloc; "#[tactic(auto, unfolding(enumset::specs::Sets::{unfolded}))]\n")?;
+    write_head(out, subject, line.as_str(), "EnumSetNames")?;
     write!(
         out,
         "    ghost use Rattle.std.specs.Prelude.{{codes, ◌∷◌, []}};\n

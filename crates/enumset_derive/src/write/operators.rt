@@ -89,7 +89,7 @@ fn write_operator(
     operator: Operator,
     operand: Operand,
 ) -> Written {
-    let (alloc, name) = (subject.alloc, subject.name);
+    let (alloc, name, library) = (subject.alloc, subject.name, library_of(subject.facade));
     let operation = operator.operation;
     let doc = operation.replace(alloc, "_", " ")?;
     let doc = format!(in alloc;
@@ -101,7 +101,7 @@ fn write_operator(
     write!(
         out,
         "    ghost use Rattle.std.specs.Prelude.{{◌≡◌}};
-    ghost use Rattle.enumset_repr.specs.BitSet as set;\n
+    ghost use Rattle.{library}.specs.Sets as set;\n
     type Output = EnumSet<{name}>;\n
     ghost {}_gives = {{ λ a b r. r ≡ set.{operation}
         (set.only (⟦<{name} as EnumSetType>⟧.elements.bit a)){} }};\n",
@@ -120,7 +120,7 @@ fn write_operator(
 
 /// Writes `!`.
 fn write_not(out: &mut String, subject: &Subject) -> Written {
-    let name = subject.name;
+    let (name, library) = (subject.name, library_of(subject.facade));
     write_head(
         out,
         subject,
@@ -130,8 +130,8 @@ fn write_not(out: &mut String, subject: &Subject) -> Written {
     write!(
         out,
         "    ghost use Rattle.std.specs.Prelude.{{◌≡◌}};
-    ghost use Rattle.enumset_repr.specs.BitSet as set;
-    ghost use Rattle.enumset_sets.specs.Elements.{{valid_bits}};\n
+    ghost use Rattle.{library}.specs.Sets as set;
+    ghost use Rattle.{library}.specs.Sets.{{valid_bits}};\n
     type Output = EnumSet<{name}>;\n
     ghost not_gives = {{ λ a r. r ≡ set.difference
         (valid_bits ⟦<{name} as EnumSetType>⟧.elements)
