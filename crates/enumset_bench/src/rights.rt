@@ -29,7 +29,7 @@ pub enum Right {
 
 impl EnumSetType for Right {
     ghost use Rattle.std.specs.Prelude.{◌∷◌, []};
-    ghost use Rattle.enumset_sets.specs.Laws.Elements.{in_place, lawful_in_integer, lawful_in_place};
+    ghost use Rattle.enumset.specs.Sets.{in_place, lawful_in_integer, lawful_in_place};
     ghost use Rattle.enumset_bench.specs.contracts.rights.Right.{the_type};
     ghost use Rattle.enumset_bench.specs.declared.rights.Right.TheVariants as variant;
 
@@ -94,6 +94,7 @@ impl EnumSetTypeWithRepr for Right {
     ghost narrow = { Prim.search rules };
 }
 
+#[tactic(auto, unfolding(enumset::specs::Sets::place))]
 impl EnumSetNames for Right {
     ghost use Rattle.std.specs.Prelude.{codes, ◌∷◌, []};
 
@@ -207,7 +208,7 @@ pub enum Role {
 }
 
 impl EnumSetType for Role {
-    ghost use Rattle.enumset_sets.specs.Laws.Elements.{in_place, lawful_in_integer, lawful_in_place};
+    ghost use Rattle.enumset.specs.Sets.{in_place, lawful_in_integer, lawful_in_place};
     ghost use Rattle.enumset_bench.specs.contracts.rights.Role.{the_type};
 
     type Repr = u16;

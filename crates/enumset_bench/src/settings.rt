@@ -104,7 +104,7 @@ pub enum Setting {
 }
 
 impl EnumSetType for Setting {
-    ghost use Rattle.enumset_sets.specs.Laws.Elements.{in_place, lawful_in_integer, lawful_in_place};
+    ghost use Rattle.enumset.specs.Sets.{in_place, lawful_in_integer, lawful_in_place};
     ghost use Rattle.enumset_bench.specs.contracts.settings.Setting.{the_type};
 
     type Repr = u128;
@@ -241,6 +241,7 @@ impl EnumSetTypeWithRepr for Setting {
     ghost narrow = { Prim.search rules };
 }
 
+#[tactic(auto, unfolding(enumset::specs::Sets::place))]
 impl EnumSetNames for Setting {
     ghost use Rattle.std.specs.Prelude.{codes, ◌∷◌, []};
 

@@ -170,7 +170,7 @@ pub enum Symbol {
 
 impl EnumSetType for Symbol {
     ghost use Rattle.std.specs.Prelude.{◌∷◌, []};
-    ghost use Rattle.enumset_sets.specs.Laws.Elements.{with_bits, lawful_in_words};
+    ghost use Rattle.enumset.specs.Sets.{with_bits, lawful_in_words};
     ghost use Rattle.enumset_bench.specs.contracts.symbols.Symbol.{the_type};
 
     type Repr = ArrayRepr<4>;

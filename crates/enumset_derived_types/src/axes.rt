@@ -17,7 +17,7 @@ pub enum Axis {
 
 impl EnumSetType for Axis {
     ghost use Rattle.std.specs.Prelude.{◌∷◌, []};
-    ghost use Rattle.enumset_sets.specs.Laws.Elements.{with_bits, lawful_in_integer};
+    ghost use Rattle.enumset.specs.Sets.{with_bits, lawful_in_integer};
     ghost use Rattle.enumset_derived_types.specs.contracts.axes.Axis.{the_type};
 
     type Repr = u8;

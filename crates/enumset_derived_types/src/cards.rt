@@ -11,7 +11,7 @@ pub enum Suit {
 }
 
 impl EnumSetType for Suit {
-    ghost use Rattle.enumset_sets.specs.Laws.Elements.{in_place, lawful_in_integer, lawful_in_place};
+    ghost use Rattle.enumset.specs.Sets.{in_place, lawful_in_integer, lawful_in_place};
     ghost use Rattle.enumset_derived_types.specs.contracts.cards.Suit.{the_type};
 
     type Repr = u8;

@@ -11,7 +11,7 @@ pub enum Day {
 
 impl EnumSetType for Day {
     ghost use Rattle.std.specs.Prelude.{◌∷◌, []};
-    ghost use Rattle.enumset_sets.specs.Laws.Elements.{with_bits, lawful_in_integer};
+    ghost use Rattle.enumset.specs.Sets.{with_bits, lawful_in_integer};
     ghost use Rattle.enumset_derived_types.specs.contracts.days.Day.{the_type};
 
     type Repr = u8;

@@ -11,7 +11,7 @@ pub enum Mode {
 
 impl EnumSetType for Mode {
     ghost use Rattle.std.specs.Prelude.{◌∷◌, []};
-    ghost use Rattle.enumset_sets.specs.Laws.Elements.{with_bits, lawful_in_integer};
+    ghost use Rattle.enumset.specs.Sets.{with_bits, lawful_in_integer};
     ghost use Rattle.enumset_derived_types.specs.contracts.modes.Mode.{the_type};
 
     type Repr = u16;
@@ -58,9 +58,7 @@ impl EnumSetTypeWithRepr for Mode {
 
 impl Mode {
     ghost use Rattle.std.specs.Prelude.{◌≡◌, ◌↔◌, IsOk, IfOk, IfErr, IsTrue};
-    ghost use Rattle.enumset_repr.specs.BitSet.{is_subset, below};
-    ghost use Rattle.enumset_repr.specs.Number.{number};
-    ghost use Rattle.enumset_sets.specs.Elements.{valid_bits};
+    ghost use Rattle.enumset.specs.Sets.{is_subset, below, number, valid_bits};
     ghost use Rattle.serde_json.specs.View.{view};
     ghost use Rattle.enumset.specs.Json.{number_value, set_of_number};
     ghost use Rattle.enumset.specs.declared.set_json.fault.JsonFault.TheVariants.{TooWide};

@@ -13,7 +13,7 @@ pub enum Node {
 }
 
 impl EnumSetType for Node {
-    ghost use Rattle.enumset_sets.specs.Laws.Elements.{in_place, lawful_in_integer, lawful_in_place};
+    ghost use Rattle.enumset.specs.Sets.{in_place, lawful_in_integer, lawful_in_place};
     ghost use Rattle.enumset_derived_types.specs.contracts.nodes.Node.{the_type};
 
     type Repr = u8;

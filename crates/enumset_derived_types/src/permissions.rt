@@ -17,7 +17,7 @@ pub enum Permission {
 }
 
 impl EnumSetType for Permission {
-    ghost use Rattle.enumset_sets.specs.Laws.Elements.{in_place, lawful_in_integer, lawful_in_place};
+    ghost use Rattle.enumset.specs.Sets.{in_place, lawful_in_integer, lawful_in_place};
     ghost use Rattle.enumset_derived_types.specs.contracts.permissions.Permission.{the_type};
 
     type Repr = u16;
@@ -59,6 +59,7 @@ impl EnumSetTypeWithRepr for Permission {
     ghost narrow = { Prim.search rules };
 }
 
+#[tactic(auto, unfolding(enumset::specs::Sets::place))]
 impl EnumSetNames for Permission {
     ghost use Rattle.std.specs.Prelude.{codes, ◌∷◌, []};
 
@@ -77,7 +78,7 @@ impl EnumSetNames for Permission {
 /// The intersection of the set of the one and that of the other.
 impl std::ops::BitAnd for Permission {
     ghost use Rattle.std.specs.Prelude.{◌≡◌};
-    ghost use Rattle.enumset_repr.specs.BitSet as set;
+    ghost use Rattle.enumset.specs.Sets as set;
 
     type Output = EnumSet<Permission>;
 
@@ -93,7 +94,7 @@ impl std::ops::BitAnd for Permission {
 /// The intersection of the set of the one and the other.
 impl std::ops::BitAnd<EnumSet<Permission>> for Permission {
     ghost use Rattle.std.specs.Prelude.{◌≡◌};
-    ghost use Rattle.enumset_repr.specs.BitSet as set;
+    ghost use Rattle.enumset.specs.Sets as set;
 
     type Output = EnumSet<Permission>;
 
@@ -108,7 +109,7 @@ impl std::ops::BitAnd<EnumSet<Permission>> for Permission {
 /// The union of the set of the one and that of the other.
 impl std::ops::BitOr for Permission {
     ghost use Rattle.std.specs.Prelude.{◌≡◌};
-    ghost use Rattle.enumset_repr.specs.BitSet as set;
+    ghost use Rattle.enumset.specs.Sets as set;
 
     type Output = EnumSet<Permission>;
 
@@ -124,7 +125,7 @@ impl std::ops::BitOr for Permission {
 /// The union of the set of the one and the other.
 impl std::ops::BitOr<EnumSet<Permission>> for Permission {
     ghost use Rattle.std.specs.Prelude.{◌≡◌};
-    ghost use Rattle.enumset_repr.specs.BitSet as set;
+    ghost use Rattle.enumset.specs.Sets as set;
 
     type Output = EnumSet<Permission>;
 
@@ -139,7 +140,7 @@ impl std::ops::BitOr<EnumSet<Permission>> for Permission {
 /// The symmetric difference of the set of the one and that of the other.
 impl std::ops::BitXor for Permission {
     ghost use Rattle.std.specs.Prelude.{◌≡◌};
-    ghost use Rattle.enumset_repr.specs.BitSet as set;
+    ghost use Rattle.enumset.specs.Sets as set;
 
     type Output = EnumSet<Permission>;
 
@@ -155,7 +156,7 @@ impl std::ops::BitXor for Permission {
 /// The symmetric difference of the set of the one and the other.
 impl std::ops::BitXor<EnumSet<Permission>> for Permission {
     ghost use Rattle.std.specs.Prelude.{◌≡◌};
-    ghost use Rattle.enumset_repr.specs.BitSet as set;
+    ghost use Rattle.enumset.specs.Sets as set;
 
     type Output = EnumSet<Permission>;
 
@@ -170,7 +171,7 @@ impl std::ops::BitXor<EnumSet<Permission>> for Permission {
 /// The difference of the set of the one and that of the other.
 impl std::ops::Sub for Permission {
     ghost use Rattle.std.specs.Prelude.{◌≡◌};
-    ghost use Rattle.enumset_repr.specs.BitSet as set;
+    ghost use Rattle.enumset.specs.Sets as set;
 
     type Output = EnumSet<Permission>;
 
@@ -186,7 +187,7 @@ impl std::ops::Sub for Permission {
 /// The difference of the set of the one and the other.
 impl std::ops::Sub<EnumSet<Permission>> for Permission {
     ghost use Rattle.std.specs.Prelude.{◌≡◌};
-    ghost use Rattle.enumset_repr.specs.BitSet as set;
+    ghost use Rattle.enumset.specs.Sets as set;
 
     type Output = EnumSet<Permission>;
 
@@ -201,8 +202,8 @@ impl std::ops::Sub<EnumSet<Permission>> for Permission {
 /// The set of all the others.
 impl std::ops::Not for Permission {
     ghost use Rattle.std.specs.Prelude.{◌≡◌};
-    ghost use Rattle.enumset_repr.specs.BitSet as set;
-    ghost use Rattle.enumset_sets.specs.Elements.{valid_bits};
+    ghost use Rattle.enumset.specs.Sets as set;
+    ghost use Rattle.enumset.specs.Sets.{valid_bits};
 
     type Output = EnumSet<Permission>;
 

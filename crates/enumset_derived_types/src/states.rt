@@ -11,7 +11,7 @@ pub enum State {
 
 impl EnumSetType for State {
     ghost use Rattle.std.specs.Prelude.{◌∷◌, []};
-    ghost use Rattle.enumset_sets.specs.Laws.Elements.{in_place, lawful_in_integer, lawful_in_place};
+    ghost use Rattle.enumset.specs.Sets.{in_place, lawful_in_integer, lawful_in_place};
     ghost use Rattle.enumset_derived_types.specs.contracts.states.State.{the_type};
     ghost use Rattle.enumset_derived_types.specs.declared.states.State.TheVariants as variant;
 

@@ -20,7 +20,7 @@ pub(crate) enum TokenKind {
 }
 
 impl EnumSetType for TokenKind {
-    ghost use Rattle.enumset_sets.specs.Laws.Elements.{in_place, lawful_in_integer, lawful_in_place};
+    ghost use Rattle.enumset.specs.Sets.{in_place, lawful_in_integer, lawful_in_place};
     ghost use Rattle.enumset_derived_types.specs.contracts.tokens.TokenKind.{the_type};
 
     type Repr = u16;

@@ -9,7 +9,7 @@ pub enum Verb {
 }
 
 impl EnumSetType for Verb {
-    ghost use Rattle.enumset_sets.specs.Laws.Elements.{in_place, lawful_in_integer, lawful_in_place};
+    ghost use Rattle.enumset.specs.Sets.{in_place, lawful_in_integer, lawful_in_place};
     ghost use Rattle.enumset_derived_types.specs.contracts.verbs.Verb.{the_type};
 
     type Repr = u8;

@@ -4,7 +4,7 @@ use enumset::EnumSetType;
 
 /// Two variants, on bits 3 and 1087, in seventeen words.
 #[derive(EnumSetType, Debug)]
-#[enumset(no_ops, crate_name = "enumset_sets")]
+#[enumset(no_ops)]
 pub enum In17Words {
     A = 3,
     B = 1087,

@@ -1,7 +1,7 @@
 //! An enum of two variants, one in the first word and one in the last of more words than the other types have.
 
-use enumset_array::ArrayRepr;
-use enumset_sets::EnumSetType;
+use enumset::EnumSetType;
+use enumset::internal::ArrayRepr;
 
 /// Two variants, on bits 3 and 1087, in seventeen words.
 #[derive(Clone, Copy, PartialEq, Eq, Debug)]
@@ -12,7 +12,7 @@ pub enum In17Words {
 
 impl EnumSetType for In17Words {
     ghost use Rattle.std.specs.Prelude.{◌∷◌, []};
-    ghost use Rattle.enumset_sets.specs.Laws.Elements.{with_bits, lawful_in_words};
+    ghost use Rattle.enumset.specs.Sets.{with_bits, lawful_in_words};
     ghost use Rattle.enumset_test_types.specs.contracts.far_bits.In17Words.{the_type};
 
     type Repr = ArrayRepr<17>;

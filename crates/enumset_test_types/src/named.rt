@@ -16,7 +16,7 @@ pub enum NamedLetters {
 }
 
 impl EnumSetType for NamedLetters {
-    ghost use Rattle.enumset_sets.specs.Laws.Elements.{in_place, lawful_in_integer, lawful_in_place};
+    ghost use Rattle.enumset.specs.Sets.{in_place, lawful_in_integer, lawful_in_place};
     ghost use Rattle.enumset_test_types.specs.contracts.named.NamedLetters.{the_type};
 
     type Repr = u8;
@@ -61,6 +61,7 @@ impl EnumSetTypeWithRepr for NamedLetters {
     ghost narrow = { Prim.search rules };
 }
 
+#[tactic(auto, unfolding(enumset::specs::Sets::place))]
 impl EnumSetNames for NamedLetters {
     ghost use Rattle.std.specs.Prelude.{codes, ◌∷◌, []};
 
@@ -125,7 +126,7 @@ pub enum LaterLetters {
 
 impl EnumSetType for LaterLetters {
     ghost use Rattle.std.specs.Prelude.{◌∷◌, []};
-    ghost use Rattle.enumset_sets.specs.Laws.Elements.{with_bits, lawful_in_words};
+    ghost use Rattle.enumset.specs.Sets.{with_bits, lawful_in_words};
     ghost use Rattle.enumset_test_types.specs.contracts.named.LaterLetters.{the_type};
 
     type Repr = ArrayRepr<2>;
@@ -172,6 +173,7 @@ impl EnumSetTypeWithRepr for LaterLetters {
     ghost narrow = { Prim.search rules };
 }
 
+#[tactic(auto, unfolding(enumset::specs::Sets::listed_bit))]
 impl EnumSetNames for LaterLetters {
     ghost use Rattle.std.specs.Prelude.{codes, ◌∷◌, []};
 
@@ -231,7 +233,7 @@ pub enum NamedSparse {
 
 impl EnumSetType for NamedSparse {
     ghost use Rattle.std.specs.Prelude.{◌∷◌, []};
-    ghost use Rattle.enumset_sets.specs.Laws.Elements.{with_bits, lawful_in_integer};
+    ghost use Rattle.enumset.specs.Sets.{with_bits, lawful_in_integer};
     ghost use Rattle.enumset_test_types.specs.contracts.named.NamedSparse.{the_type};
 
     type Repr = u128;
@@ -273,6 +275,7 @@ impl EnumSetTypeWithRepr for NamedSparse {
     ghost narrow = { Prim.search rules };
 }
 
+#[tactic(auto, unfolding(enumset::specs::Sets::listed_bit))]
 impl EnumSetNames for NamedSparse {
     ghost use Rattle.std.specs.Prelude.{codes, ◌∷◌, []};
 

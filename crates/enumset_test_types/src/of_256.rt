@@ -267,7 +267,7 @@ pub enum Of256 {
 
 impl EnumSetType for Of256 {
     ghost use Rattle.std.specs.Prelude.{◌∷◌, []};
-    ghost use Rattle.enumset_sets.specs.Laws.Elements.{in_place, lawful_in_words, lawful_in_place};
+    ghost use Rattle.enumset.specs.Sets.{in_place, lawful_in_words, lawful_in_place};
     ghost use Rattle.enumset_test_types.specs.contracts.of_256.Of256.{the_type};
 
     type Repr = ArrayRepr<4>;
@@ -564,6 +564,7 @@ impl EnumSetType for Of256 {
     ghost lawful = { lawful_in_place the_type (lawful_in_words the_type _ tt) };
 }
 
+#[tactic(auto, unfolding(enumset::specs::Sets::place))]
 impl EnumSetNames for Of256 {
     ghost use Rattle.std.specs.Prelude.{codes, ◌∷◌, []};
 

@@ -72,7 +72,7 @@ pub enum Of64 {
 }
 
 impl EnumSetType for Of64 {
-    ghost use Rattle.enumset_sets.specs.Laws.Elements.{in_place, lawful_in_integer, lawful_in_place};
+    ghost use Rattle.enumset.specs.Sets.{in_place, lawful_in_integer, lawful_in_place};
     ghost use Rattle.enumset_test_types.specs.contracts.of_64.Of64.{the_type};
 
     type Repr = u64;
@@ -179,9 +179,7 @@ impl EnumSetTypeWithRepr for Of64 {
 
 impl Of64 {
     ghost use Rattle.std.specs.Prelude.{◌≡◌, ◌↔◌, IsOk, IfOk, IfErr, IsTrue};
-    ghost use Rattle.enumset_repr.specs.BitSet.{is_subset, below};
-    ghost use Rattle.enumset_repr.specs.Number.{number};
-    ghost use Rattle.enumset_sets.specs.Elements.{valid_bits};
+    ghost use Rattle.enumset.specs.Sets.{is_subset, below, number, valid_bits};
     ghost use Rattle.serde_json.specs.View.{view};
     ghost use Rattle.enumset.specs.Json.{number_value, set_of_number};
     ghost use Rattle.enumset.specs.declared.set_json.fault.JsonFault.TheVariants.{TooWide};

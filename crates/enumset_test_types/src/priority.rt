@@ -12,7 +12,7 @@ pub enum Priority {
 
 impl EnumSetType for Priority {
     ghost use Rattle.std.specs.Prelude.{◌∷◌, []};
-    ghost use Rattle.enumset_sets.specs.Laws.Elements.{with_bits, lawful_in_integer};
+    ghost use Rattle.enumset.specs.Sets.{with_bits, lawful_in_integer};
     ghost use Rattle.enumset_test_types.specs.contracts.priority.Priority.{the_type};
 
     type Repr = u16;
@@ -59,9 +59,7 @@ impl EnumSetTypeWithRepr for Priority {
 
 impl Priority {
     ghost use Rattle.std.specs.Prelude.{◌≡◌, ◌↔◌, IsOk, IfOk, IfErr, IsTrue};
-    ghost use Rattle.enumset_repr.specs.BitSet.{is_subset, below};
-    ghost use Rattle.enumset_repr.specs.Number.{number};
-    ghost use Rattle.enumset_sets.specs.Elements.{valid_bits};
+    ghost use Rattle.enumset.specs.Sets.{is_subset, below, number, valid_bits};
     ghost use Rattle.serde_json.specs.View.{view};
     ghost use Rattle.enumset.specs.Json.{number_value, set_of_number};
     ghost use Rattle.enumset.specs.declared.set_json.fault.JsonFault.TheVariants.{TooWide};

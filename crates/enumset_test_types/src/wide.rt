@@ -13,7 +13,7 @@ pub enum NamedWide {
 
 impl EnumSetType for NamedWide {
     ghost use Rattle.std.specs.Prelude.{◌∷◌, []};
-    ghost use Rattle.enumset_sets.specs.Laws.Elements.{with_bits, lawful_in_words};
+    ghost use Rattle.enumset.specs.Sets.{with_bits, lawful_in_words};
     ghost use Rattle.enumset_test_types.specs.contracts.wide.NamedWide.{the_type};
 
     type Repr = ArrayRepr<3>;

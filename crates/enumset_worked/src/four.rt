@@ -13,7 +13,7 @@ pub enum Four {
 
 impl EnumSetType for Four {
     ghost use Rattle.std.specs.Prelude.{◌∷◌, []};
-    ghost use Rattle.enumset_sets.specs.Laws.Elements.{in_place, lawful_in_integer, lawful_in_place};
+    ghost use Rattle.enumset_sets.specs.Sets.{in_place, lawful_in_integer, lawful_in_place};
     ghost use Rattle.enumset_worked.specs.contracts.four.Four.{the_type};
     ghost use Rattle.enumset_worked.specs.declared.four.Four.TheVariants as variant;
 
@@ -82,7 +82,7 @@ impl std::fmt::Display for Four {
 /// The intersection of the set of the one and that of the other.
 impl std::ops::BitAnd for Four {
     ghost use Rattle.std.specs.Prelude.{◌≡◌};
-    ghost use Rattle.enumset_repr.specs.BitSet as set;
+    ghost use Rattle.enumset_sets.specs.Sets as set;
 
     type Output = EnumSet<Four>;
 
@@ -98,7 +98,7 @@ impl std::ops::BitAnd for Four {
 /// The intersection of the set of the one and the other.
 impl std::ops::BitAnd<EnumSet<Four>> for Four {
     ghost use Rattle.std.specs.Prelude.{◌≡◌};
-    ghost use Rattle.enumset_repr.specs.BitSet as set;
+    ghost use Rattle.enumset_sets.specs.Sets as set;
 
     type Output = EnumSet<Four>;
 
@@ -113,7 +113,7 @@ impl std::ops::BitAnd<EnumSet<Four>> for Four {
 /// The union of the set of the one and that of the other.
 impl std::ops::BitOr for Four {
     ghost use Rattle.std.specs.Prelude.{◌≡◌};
-    ghost use Rattle.enumset_repr.specs.BitSet as set;
+    ghost use Rattle.enumset_sets.specs.Sets as set;
 
     type Output = EnumSet<Four>;
 
@@ -129,7 +129,7 @@ impl std::ops::BitOr for Four {
 /// The union of the set of the one and the other.
 impl std::ops::BitOr<EnumSet<Four>> for Four {
     ghost use Rattle.std.specs.Prelude.{◌≡◌};
-    ghost use Rattle.enumset_repr.specs.BitSet as set;
+    ghost use Rattle.enumset_sets.specs.Sets as set;
 
     type Output = EnumSet<Four>;
 
@@ -144,7 +144,7 @@ impl std::ops::BitOr<EnumSet<Four>> for Four {
 /// The symmetric difference of the set of the one and that of the other.
 impl std::ops::BitXor for Four {
     ghost use Rattle.std.specs.Prelude.{◌≡◌};
-    ghost use Rattle.enumset_repr.specs.BitSet as set;
+    ghost use Rattle.enumset_sets.specs.Sets as set;
 
     type Output = EnumSet<Four>;
 
@@ -160,7 +160,7 @@ impl std::ops::BitXor for Four {
 /// The symmetric difference of the set of the one and the other.
 impl std::ops::BitXor<EnumSet<Four>> for Four {
     ghost use Rattle.std.specs.Prelude.{◌≡◌};
-    ghost use Rattle.enumset_repr.specs.BitSet as set;
+    ghost use Rattle.enumset_sets.specs.Sets as set;
 
     type Output = EnumSet<Four>;
 
@@ -175,7 +175,7 @@ impl std::ops::BitXor<EnumSet<Four>> for Four {
 /// The difference of the set of the one and that of the other.
 impl std::ops::Sub for Four {
     ghost use Rattle.std.specs.Prelude.{◌≡◌};
-    ghost use Rattle.enumset_repr.specs.BitSet as set;
+    ghost use Rattle.enumset_sets.specs.Sets as set;
 
     type Output = EnumSet<Four>;
 
@@ -191,7 +191,7 @@ impl std::ops::Sub for Four {
 /// The difference of the set of the one and the other.
 impl std::ops::Sub<EnumSet<Four>> for Four {
     ghost use Rattle.std.specs.Prelude.{◌≡◌};
-    ghost use Rattle.enumset_repr.specs.BitSet as set;
+    ghost use Rattle.enumset_sets.specs.Sets as set;
 
     type Output = EnumSet<Four>;
 
@@ -206,8 +206,8 @@ impl std::ops::Sub<EnumSet<Four>> for Four {
 /// The set of all the others.
 impl std::ops::Not for Four {
     ghost use Rattle.std.specs.Prelude.{◌≡◌};
-    ghost use Rattle.enumset_repr.specs.BitSet as set;
-    ghost use Rattle.enumset_sets.specs.Elements.{valid_bits};
+    ghost use Rattle.enumset_sets.specs.Sets as set;
+    ghost use Rattle.enumset_sets.specs.Sets.{valid_bits};
 
     type Output = EnumSet<Four>;
 

@@ -12,7 +12,7 @@ pub enum High {
 
 impl EnumSetType for High {
     ghost use Rattle.std.specs.Prelude.{◌∷◌, []};
-    ghost use Rattle.enumset_sets.specs.Laws.Elements.{with_bits, lawful_in_integer};
+    ghost use Rattle.enumset_sets.specs.Sets.{with_bits, lawful_in_integer};
     ghost use Rattle.enumset_worked.specs.contracts.high.High.{the_type};
     ghost use Rattle.enumset_worked.specs.declared.high.High.TheVariants as variant;
 

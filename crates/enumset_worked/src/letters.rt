@@ -16,7 +16,7 @@ pub enum Letters {
 
 impl EnumSetType for Letters {
     ghost use Rattle.std.specs.Prelude.{◌∷◌, []};
-    ghost use Rattle.enumset_sets.specs.Laws.Elements.{in_place, lawful_in_integer, lawful_in_place};
+    ghost use Rattle.enumset_sets.specs.Sets.{in_place, lawful_in_integer, lawful_in_place};
     ghost use Rattle.enumset_worked.specs.contracts.letters.Letters.{the_type};
     ghost use Rattle.enumset_worked.specs.declared.letters.Letters.TheVariants as variant;
 
@@ -93,7 +93,7 @@ impl std::fmt::Display for Letters {
 /// The intersection of the set of the one and that of the other.
 impl std::ops::BitAnd for Letters {
     ghost use Rattle.std.specs.Prelude.{◌≡◌};
-    ghost use Rattle.enumset_repr.specs.BitSet as set;
+    ghost use Rattle.enumset_sets.specs.Sets as set;
 
     type Output = EnumSet<Letters>;
 
@@ -109,7 +109,7 @@ impl std::ops::BitAnd for Letters {
 /// The intersection of the set of the one and the other.
 impl std::ops::BitAnd<EnumSet<Letters>> for Letters {
     ghost use Rattle.std.specs.Prelude.{◌≡◌};
-    ghost use Rattle.enumset_repr.specs.BitSet as set;
+    ghost use Rattle.enumset_sets.specs.Sets as set;
 
     type Output = EnumSet<Letters>;
 
@@ -124,7 +124,7 @@ impl std::ops::BitAnd<EnumSet<Letters>> for Letters {
 /// The union of the set of the one and that of the other.
 impl std::ops::BitOr for Letters {
     ghost use Rattle.std.specs.Prelude.{◌≡◌};
-    ghost use Rattle.enumset_repr.specs.BitSet as set;
+    ghost use Rattle.enumset_sets.specs.Sets as set;
 
     type Output = EnumSet<Letters>;
 
@@ -140,7 +140,7 @@ impl std::ops::BitOr for Letters {
 /// The union of the set of the one and the other.
 impl std::ops::BitOr<EnumSet<Letters>> for Letters {
     ghost use Rattle.std.specs.Prelude.{◌≡◌};
-    ghost use Rattle.enumset_repr.specs.BitSet as set;
+    ghost use Rattle.enumset_sets.specs.Sets as set;
 
     type Output = EnumSet<Letters>;
 
@@ -155,7 +155,7 @@ impl std::ops::BitOr<EnumSet<Letters>> for Letters {
 /// The symmetric difference of the set of the one and that of the other.
 impl std::ops::BitXor for Letters {
     ghost use Rattle.std.specs.Prelude.{◌≡◌};
-    ghost use Rattle.enumset_repr.specs.BitSet as set;
+    ghost use Rattle.enumset_sets.specs.Sets as set;
 
     type Output = EnumSet<Letters>;
 
@@ -171,7 +171,7 @@ impl std::ops::BitXor for Letters {
 /// The symmetric difference of the set of the one and the other.
 impl std::ops::BitXor<EnumSet<Letters>> for Letters {
     ghost use Rattle.std.specs.Prelude.{◌≡◌};
-    ghost use Rattle.enumset_repr.specs.BitSet as set;
+    ghost use Rattle.enumset_sets.specs.Sets as set;
 
     type Output = EnumSet<Letters>;
 
@@ -186,7 +186,7 @@ impl std::ops::BitXor<EnumSet<Letters>> for Letters {
 /// The difference of the set of the one and that of the other.
 impl std::ops::Sub for Letters {
     ghost use Rattle.std.specs.Prelude.{◌≡◌};
-    ghost use Rattle.enumset_repr.specs.BitSet as set;
+    ghost use Rattle.enumset_sets.specs.Sets as set;
 
     type Output = EnumSet<Letters>;
 
@@ -202,7 +202,7 @@ impl std::ops::Sub for Letters {
 /// The difference of the set of the one and the other.
 impl std::ops::Sub<EnumSet<Letters>> for Letters {
     ghost use Rattle.std.specs.Prelude.{◌≡◌};
-    ghost use Rattle.enumset_repr.specs.BitSet as set;
+    ghost use Rattle.enumset_sets.specs.Sets as set;
 
     type Output = EnumSet<Letters>;
 
@@ -217,8 +217,8 @@ impl std::ops::Sub<EnumSet<Letters>> for Letters {
 /// The set of all the others.
 impl std::ops::Not for Letters {
     ghost use Rattle.std.specs.Prelude.{◌≡◌};
-    ghost use Rattle.enumset_repr.specs.BitSet as set;
-    ghost use Rattle.enumset_sets.specs.Elements.{valid_bits};
+    ghost use Rattle.enumset_sets.specs.Sets as set;
+    ghost use Rattle.enumset_sets.specs.Sets.{valid_bits};
 
     type Output = EnumSet<Letters>;
 

@@ -12,7 +12,7 @@ pub enum Marks {
 
 impl EnumSetType for Marks {
     ghost use Rattle.std.specs.Prelude.{◌∷◌, []};
-    ghost use Rattle.enumset_sets.specs.Laws.Elements.{in_place, lawful_in_integer, lawful_in_place};
+    ghost use Rattle.enumset_sets.specs.Sets.{in_place, lawful_in_integer, lawful_in_place};
     ghost use Rattle.enumset_worked.specs.contracts.marks.Marks.{the_type};
     ghost use Rattle.enumset_worked.specs.declared.marks.Marks.TheVariants as variant;
 

@@ -12,7 +12,7 @@ pub enum Masks {
 
 impl EnumSetType for Masks {
     ghost use Rattle.std.specs.Prelude.{◌∷◌, []};
-    ghost use Rattle.enumset_sets.specs.Laws.Elements.{with_bits, lawful_in_integer};
+    ghost use Rattle.enumset_sets.specs.Sets.{with_bits, lawful_in_integer};
     ghost use Rattle.enumset_worked.specs.contracts.masks.Masks.{the_type};
     ghost use Rattle.enumset_worked.specs.declared.masks.Masks.TheVariants as variant;
 

@@ -11,7 +11,7 @@ pub enum PairNumber {
 
 impl EnumSetType for PairNumber {
     ghost use Rattle.std.specs.Prelude.{◌∷◌, []};
-    ghost use Rattle.enumset_sets.specs.Laws.Elements.{with_bits, lawful_in_integer};
+    ghost use Rattle.enumset_sets.specs.Sets.{with_bits, lawful_in_integer};
     ghost use Rattle.enumset_worked.specs.contracts.pair_number.PairNumber.{the_type};
     ghost use Rattle.enumset_worked.specs.declared.pair_number.PairNumber.TheVariants as variant;
 

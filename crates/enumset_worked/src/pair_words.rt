@@ -12,7 +12,7 @@ pub enum PairWords {
 
 impl EnumSetType for PairWords {
     ghost use Rattle.std.specs.Prelude.{◌∷◌, []};
-    ghost use Rattle.enumset_sets.specs.Laws.Elements.{with_bits, lawful_in_words};
+    ghost use Rattle.enumset_sets.specs.Sets.{with_bits, lawful_in_words};
     ghost use Rattle.enumset_worked.specs.contracts.pair_words.PairWords.{the_type};
     ghost use Rattle.enumset_worked.specs.declared.pair_words.PairWords.TheVariants as variant;
 

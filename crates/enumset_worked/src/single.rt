@@ -10,7 +10,7 @@ pub enum Single {
 
 impl EnumSetType for Single {
     ghost use Rattle.std.specs.Prelude.{◌∷◌, []};
-    ghost use Rattle.enumset_sets.specs.Laws.Elements.{in_place, lawful_in_integer, lawful_in_place};
+    ghost use Rattle.enumset_sets.specs.Sets.{in_place, lawful_in_integer, lawful_in_place};
     ghost use Rattle.enumset_worked.specs.contracts.single.Single.{the_type};
     ghost use Rattle.enumset_worked.specs.declared.single.Single.TheVariants as variant;
 

@@ -13,7 +13,7 @@ pub enum Sparse {
 
 impl EnumSetType for Sparse {
     ghost use Rattle.std.specs.Prelude.{◌∷◌, []};
-    ghost use Rattle.enumset_sets.specs.Laws.Elements.{with_bits, lawful_in_integer};
+    ghost use Rattle.enumset_sets.specs.Sets.{with_bits, lawful_in_integer};
     ghost use Rattle.enumset_worked.specs.contracts.sparse.Sparse.{the_type};
     ghost use Rattle.enumset_worked.specs.declared.sparse.Sparse.TheVariants as variant;
 

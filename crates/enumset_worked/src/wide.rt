@@ -13,7 +13,7 @@ pub enum Wide {
 
 impl EnumSetType for Wide {
     ghost use Rattle.std.specs.Prelude.{◌∷◌, []};
-    ghost use Rattle.enumset_sets.specs.Laws.Elements.{with_bits, lawful_in_words};
+    ghost use Rattle.enumset_sets.specs.Sets.{with_bits, lawful_in_words};
     ghost use Rattle.enumset_worked.specs.contracts.wide.Wide.{the_type};
     ghost use Rattle.enumset_worked.specs.declared.wide.Wide.TheVariants as variant;
 

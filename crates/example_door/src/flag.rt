@@ -13,7 +13,7 @@ pub enum Flag {
 
 impl EnumSetType for Flag {
     ghost use Rattle.std.specs.Prelude.{◌∷◌, []};
-    ghost use Rattle.enumset_sets.specs.Laws.Elements.{in_place, lawful_in_integer, lawful_in_place};
+    ghost use Rattle.enumset_sets.specs.Sets.{in_place, lawful_in_integer, lawful_in_place};
     ghost use Rattle.example_door.specs.contracts.flag.Flag.{the_type};
     ghost use Rattle.example_door.specs.declared.flag.Flag.TheVariants as variant;
 

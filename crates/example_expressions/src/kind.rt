@@ -17,7 +17,7 @@ pub enum Kind {
 }
 
 impl EnumSetType for Kind {
-    ghost use Rattle.enumset_sets.specs.Laws.Elements.{in_place, lawful_in_integer, lawful_in_place};
+    ghost use Rattle.enumset.specs.Sets.{in_place, lawful_in_integer, lawful_in_place};
     ghost use Rattle.example_expressions.specs.contracts.kind.Kind.{the_type};
 
     type Repr = u8;

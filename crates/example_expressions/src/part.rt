@@ -14,7 +14,7 @@ pub enum Part {
 }
 
 impl EnumSetType for Part {
-    ghost use Rattle.enumset_sets.specs.Laws.Elements.{in_place, lawful_in_integer, lawful_in_place};
+    ghost use Rattle.enumset.specs.Sets.{in_place, lawful_in_integer, lawful_in_place};
     ghost use Rattle.example_expressions.specs.contracts.part.Part.{the_type};
 
     type Repr = u8;

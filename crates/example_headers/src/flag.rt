@@ -11,7 +11,7 @@ pub enum Flag {
 
 impl EnumSetType for Flag {
     ghost use Rattle.std.specs.Prelude.{◌∷◌, []};
-    ghost use Rattle.enumset_sets.specs.Laws.Elements.{in_place, lawful_in_integer, lawful_in_place};
+    ghost use Rattle.enumset.specs.Sets.{in_place, lawful_in_integer, lawful_in_place};
     ghost use Rattle.example_headers.specs.contracts.flag.Flag.{the_type};
     ghost use Rattle.example_headers.specs.declared.flag.Flag.TheVariants as variant;
 

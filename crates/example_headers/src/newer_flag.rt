@@ -13,7 +13,7 @@ pub enum NewerFlag {
 
 impl EnumSetType for NewerFlag {
     ghost use Rattle.std.specs.Prelude.{◌∷◌, []};
-    ghost use Rattle.enumset_sets.specs.Laws.Elements.{with_bits, lawful_in_integer};
+    ghost use Rattle.enumset.specs.Sets.{with_bits, lawful_in_integer};
     ghost use Rattle.example_headers.specs.contracts.newer_flag.NewerFlag.{the_type};
     ghost use Rattle.example_headers.specs.declared.newer_flag.NewerFlag.TheVariants as variant;
 

@@ -17,7 +17,7 @@ pub enum Month {
 }
 
 impl EnumSetType for Month {
-    ghost use Rattle.enumset_sets.specs.Laws.Elements.{in_place, lawful_in_integer, lawful_in_place};
+    ghost use Rattle.enumset.specs.Sets.{in_place, lawful_in_integer, lawful_in_place};
     ghost use Rattle.example_months.specs.contracts.months.Month.{the_type};
 
     type Repr = u16;
@@ -70,7 +70,7 @@ impl EnumSetTypeWithRepr for Month {
 /// The intersection of the set of the one and that of the other.
 impl std::ops::BitAnd for Month {
     ghost use Rattle.std.specs.Prelude.{◌≡◌};
-    ghost use Rattle.enumset_repr.specs.BitSet as set;
+    ghost use Rattle.enumset.specs.Sets as set;
 
     type Output = EnumSet<Month>;
 
@@ -86,7 +86,7 @@ impl std::ops::BitAnd for Month {
 /// The intersection of the set of the one and the other.
 impl std::ops::BitAnd<EnumSet<Month>> for Month {
     ghost use Rattle.std.specs.Prelude.{◌≡◌};
-    ghost use Rattle.enumset_repr.specs.BitSet as set;
+    ghost use Rattle.enumset.specs.Sets as set;
 
     type Output = EnumSet<Month>;
 
@@ -101,7 +101,7 @@ impl std::ops::BitAnd<EnumSet<Month>> for Month {
 /// The union of the set of the one and that of the other.
 impl std::ops::BitOr for Month {
     ghost use Rattle.std.specs.Prelude.{◌≡◌};
-    ghost use Rattle.enumset_repr.specs.BitSet as set;
+    ghost use Rattle.enumset.specs.Sets as set;
 
     type Output = EnumSet<Month>;
 
@@ -117,7 +117,7 @@ impl std::ops::BitOr for Month {
 /// The union of the set of the one and the other.
 impl std::ops::BitOr<EnumSet<Month>> for Month {
     ghost use Rattle.std.specs.Prelude.{◌≡◌};
-    ghost use Rattle.enumset_repr.specs.BitSet as set;
+    ghost use Rattle.enumset.specs.Sets as set;
 
     type Output = EnumSet<Month>;
 
@@ -132,7 +132,7 @@ impl std::ops::BitOr<EnumSet<Month>> for Month {
 /// The symmetric difference of the set of the one and that of the other.
 impl std::ops::BitXor for Month {
     ghost use Rattle.std.specs.Prelude.{◌≡◌};
-    ghost use Rattle.enumset_repr.specs.BitSet as set;
+    ghost use Rattle.enumset.specs.Sets as set;
 
     type Output = EnumSet<Month>;
 
@@ -148,7 +148,7 @@ impl std::ops::BitXor for Month {
 /// The symmetric difference of the set of the one and the other.
 impl std::ops::BitXor<EnumSet<Month>> for Month {
     ghost use Rattle.std.specs.Prelude.{◌≡◌};
-    ghost use Rattle.enumset_repr.specs.BitSet as set;
+    ghost use Rattle.enumset.specs.Sets as set;
 
     type Output = EnumSet<Month>;
 
@@ -163,7 +163,7 @@ impl std::ops::BitXor<EnumSet<Month>> for Month {
 /// The difference of the set of the one and that of the other.
 impl std::ops::Sub for Month {
     ghost use Rattle.std.specs.Prelude.{◌≡◌};
-    ghost use Rattle.enumset_repr.specs.BitSet as set;
+    ghost use Rattle.enumset.specs.Sets as set;
 
     type Output = EnumSet<Month>;
 
@@ -179,7 +179,7 @@ impl std::ops::Sub for Month {
 /// The difference of the set of the one and the other.
 impl std::ops::Sub<EnumSet<Month>> for Month {
     ghost use Rattle.std.specs.Prelude.{◌≡◌};
-    ghost use Rattle.enumset_repr.specs.BitSet as set;
+    ghost use Rattle.enumset.specs.Sets as set;
 
     type Output = EnumSet<Month>;
 
@@ -194,8 +194,8 @@ impl std::ops::Sub<EnumSet<Month>> for Month {
 /// The set of all the others.
 impl std::ops::Not for Month {
     ghost use Rattle.std.specs.Prelude.{◌≡◌};
-    ghost use Rattle.enumset_repr.specs.BitSet as set;
-    ghost use Rattle.enumset_sets.specs.Elements.{valid_bits};
+    ghost use Rattle.enumset.specs.Sets as set;
+    ghost use Rattle.enumset.specs.Sets.{valid_bits};
 
     type Output = EnumSet<Month>;
 

@@ -11,7 +11,7 @@ pub enum Right {
 }
 
 impl EnumSetType for Right {
-    ghost use Rattle.enumset_sets.specs.Laws.Elements.{in_place, lawful_in_integer, lawful_in_place};
+    ghost use Rattle.enumset.specs.Sets.{in_place, lawful_in_integer, lawful_in_place};
     ghost use Rattle.example_permissions.specs.contracts.rights.Right.{the_type};
 
     type Repr = u8;
@@ -53,6 +53,7 @@ impl EnumSetTypeWithRepr for Right {
     ghost narrow = { Prim.search rules };
 }
 
+#[tactic(auto, unfolding(enumset::specs::Sets::place))]
 impl EnumSetNames for Right {
     ghost use Rattle.std.specs.Prelude.{codes, ◌∷◌, []};
 

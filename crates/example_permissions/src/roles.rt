@@ -10,7 +10,7 @@ pub enum Role {
 }
 
 impl EnumSetType for Role {
-    ghost use Rattle.enumset_sets.specs.Laws.Elements.{in_place, lawful_in_integer, lawful_in_place};
+    ghost use Rattle.enumset.specs.Sets.{in_place, lawful_in_integer, lawful_in_place};
     ghost use Rattle.example_permissions.specs.contracts.roles.Role.{the_type};
 
     type Repr = u8;
@@ -51,6 +51,7 @@ impl EnumSetTypeWithRepr for Role {
     ghost narrow = { Prim.search rules };
 }
 
+#[tactic(auto, unfolding(enumset::specs::Sets::place))]
 impl EnumSetNames for Role {
     ghost use Rattle.std.specs.Prelude.{codes, ◌∷◌, []};
 

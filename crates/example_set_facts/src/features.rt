@@ -12,7 +12,7 @@ pub enum Feature {
 }
 
 impl EnumSetType for Feature {
-    ghost use Rattle.enumset_sets.specs.Laws.Elements.{in_place, lawful_in_integer, lawful_in_place};
+    ghost use Rattle.enumset.specs.Sets.{in_place, lawful_in_integer, lawful_in_place};
     ghost use Rattle.example_set_facts.specs.contracts.features.Feature.{the_type};
 
     type Repr = u8;
@@ -59,7 +59,7 @@ impl EnumSetTypeWithRepr for Feature {
 /// The intersection of the set of the one and that of the other.
 impl std::ops::BitAnd for Feature {
     ghost use Rattle.std.specs.Prelude.{◌≡◌};
-    ghost use Rattle.enumset_repr.specs.BitSet as set;
+    ghost use Rattle.enumset.specs.Sets as set;
 
     type Output = EnumSet<Feature>;
 
@@ -75,7 +75,7 @@ impl std::ops::BitAnd for Feature {
 /// The intersection of the set of the one and the other.
 impl std::ops::BitAnd<EnumSet<Feature>> for Feature {
     ghost use Rattle.std.specs.Prelude.{◌≡◌};
-    ghost use Rattle.enumset_repr.specs.BitSet as set;
+    ghost use Rattle.enumset.specs.Sets as set;
 
     type Output = EnumSet<Feature>;
 
@@ -90,7 +90,7 @@ impl std::ops::BitAnd<EnumSet<Feature>> for Feature {
 /// The union of the set of the one and that of the other.
 impl std::ops::BitOr for Feature {
     ghost use Rattle.std.specs.Prelude.{◌≡◌};
-    ghost use Rattle.enumset_repr.specs.BitSet as set;
+    ghost use Rattle.enumset.specs.Sets as set;
 
     type Output = EnumSet<Feature>;
 
@@ -106,7 +106,7 @@ impl std::ops::BitOr for Feature {
 /// The union of the set of the one and the other.
 impl std::ops::BitOr<EnumSet<Feature>> for Feature {
     ghost use Rattle.std.specs.Prelude.{◌≡◌};
-    ghost use Rattle.enumset_repr.specs.BitSet as set;
+    ghost use Rattle.enumset.specs.Sets as set;
 
     type Output = EnumSet<Feature>;
 
@@ -121,7 +121,7 @@ impl std::ops::BitOr<EnumSet<Feature>> for Feature {
 /// The symmetric difference of the set of the one and that of the other.
 impl std::ops::BitXor for Feature {
     ghost use Rattle.std.specs.Prelude.{◌≡◌};
-    ghost use Rattle.enumset_repr.specs.BitSet as set;
+    ghost use Rattle.enumset.specs.Sets as set;
 
     type Output = EnumSet<Feature>;
 
@@ -137,7 +137,7 @@ impl std::ops::BitXor for Feature {
 /// The symmetric difference of the set of the one and the other.
 impl std::ops::BitXor<EnumSet<Feature>> for Feature {
     ghost use Rattle.std.specs.Prelude.{◌≡◌};
-    ghost use Rattle.enumset_repr.specs.BitSet as set;
+    ghost use Rattle.enumset.specs.Sets as set;
 
     type Output = EnumSet<Feature>;
 
@@ -152,7 +152,7 @@ impl std::ops::BitXor<EnumSet<Feature>> for Feature {
 /// The difference of the set of the one and that of the other.
 impl std::ops::Sub for Feature {
     ghost use Rattle.std.specs.Prelude.{◌≡◌};
-    ghost use Rattle.enumset_repr.specs.BitSet as set;
+    ghost use Rattle.enumset.specs.Sets as set;
 
     type Output = EnumSet<Feature>;
 
@@ -168,7 +168,7 @@ impl std::ops::Sub for Feature {
 /// The difference of the set of the one and the other.
 impl std::ops::Sub<EnumSet<Feature>> for Feature {
     ghost use Rattle.std.specs.Prelude.{◌≡◌};
-    ghost use Rattle.enumset_repr.specs.BitSet as set;
+    ghost use Rattle.enumset.specs.Sets as set;
 
     type Output = EnumSet<Feature>;
 
@@ -183,8 +183,8 @@ impl std::ops::Sub<EnumSet<Feature>> for Feature {
 /// The set of all the others.
 impl std::ops::Not for Feature {
     ghost use Rattle.std.specs.Prelude.{◌≡◌};
-    ghost use Rattle.enumset_repr.specs.BitSet as set;
-    ghost use Rattle.enumset_sets.specs.Elements.{valid_bits};
+    ghost use Rattle.enumset.specs.Sets as set;
+    ghost use Rattle.enumset.specs.Sets.{valid_bits};
 
     type Output = EnumSet<Feature>;
 

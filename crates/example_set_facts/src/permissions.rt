@@ -11,7 +11,7 @@ pub enum Permission {
 }
 
 impl EnumSetType for Permission {
-    ghost use Rattle.enumset_sets.specs.Laws.Elements.{in_place, lawful_in_integer, lawful_in_place};
+    ghost use Rattle.enumset.specs.Sets.{in_place, lawful_in_integer, lawful_in_place};
     ghost use Rattle.example_set_facts.specs.contracts.permissions.Permission.{the_type};
 
     type Repr = u8;
@@ -57,7 +57,7 @@ impl EnumSetTypeWithRepr for Permission {
 /// The intersection of the set of the one and that of the other.
 impl std::ops::BitAnd for Permission {
     ghost use Rattle.std.specs.Prelude.{◌≡◌};
-    ghost use Rattle.enumset_repr.specs.BitSet as set;
+    ghost use Rattle.enumset.specs.Sets as set;
 
     type Output = EnumSet<Permission>;
 
@@ -73,7 +73,7 @@ impl std::ops::BitAnd for Permission {
 /// The intersection of the set of the one and the other.
 impl std::ops::BitAnd<EnumSet<Permission>> for Permission {
     ghost use Rattle.std.specs.Prelude.{◌≡◌};
-    ghost use Rattle.enumset_repr.specs.BitSet as set;
+    ghost use Rattle.enumset.specs.Sets as set;
 
     type Output = EnumSet<Permission>;
 
@@ -88,7 +88,7 @@ impl std::ops::BitAnd<EnumSet<Permission>> for Permission {
 /// The union of the set of the one and that of the other.
 impl std::ops::BitOr for Permission {
     ghost use Rattle.std.specs.Prelude.{◌≡◌};
-    ghost use Rattle.enumset_repr.specs.BitSet as set;
+    ghost use Rattle.enumset.specs.Sets as set;
 
     type Output = EnumSet<Permission>;
 
@@ -104,7 +104,7 @@ impl std::ops::BitOr for Permission {
 /// The union of the set of the one and the other.
 impl std::ops::BitOr<EnumSet<Permission>> for Permission {
     ghost use Rattle.std.specs.Prelude.{◌≡◌};
-    ghost use Rattle.enumset_repr.specs.BitSet as set;
+    ghost use Rattle.enumset.specs.Sets as set;
 
     type Output = EnumSet<Permission>;
 
@@ -119,7 +119,7 @@ impl std::ops::BitOr<EnumSet<Permission>> for Permission {
 /// The symmetric difference of the set of the one and that of the other.
 impl std::ops::BitXor for Permission {
     ghost use Rattle.std.specs.Prelude.{◌≡◌};
-    ghost use Rattle.enumset_repr.specs.BitSet as set;
+    ghost use Rattle.enumset.specs.Sets as set;
 
     type Output = EnumSet<Permission>;
 
@@ -135,7 +135,7 @@ impl std::ops::BitXor for Permission {
 /// The symmetric difference of the set of the one and the other.
 impl std::ops::BitXor<EnumSet<Permission>> for Permission {
     ghost use Rattle.std.specs.Prelude.{◌≡◌};
-    ghost use Rattle.enumset_repr.specs.BitSet as set;
+    ghost use Rattle.enumset.specs.Sets as set;
 
     type Output = EnumSet<Permission>;
 
@@ -150,7 +150,7 @@ impl std::ops::BitXor<EnumSet<Permission>> for Permission {
 /// The difference of the set of the one and that of the other.
 impl std::ops::Sub for Permission {
     ghost use Rattle.std.specs.Prelude.{◌≡◌};
-    ghost use Rattle.enumset_repr.specs.BitSet as set;
+    ghost use Rattle.enumset.specs.Sets as set;
 
     type Output = EnumSet<Permission>;
 
@@ -166,7 +166,7 @@ impl std::ops::Sub for Permission {
 /// The difference of the set of the one and the other.
 impl std::ops::Sub<EnumSet<Permission>> for Permission {
     ghost use Rattle.std.specs.Prelude.{◌≡◌};
-    ghost use Rattle.enumset_repr.specs.BitSet as set;
+    ghost use Rattle.enumset.specs.Sets as set;
 
     type Output = EnumSet<Permission>;
 
@@ -181,8 +181,8 @@ impl std::ops::Sub<EnumSet<Permission>> for Permission {
 /// The set of all the others.
 impl std::ops::Not for Permission {
     ghost use Rattle.std.specs.Prelude.{◌≡◌};
-    ghost use Rattle.enumset_repr.specs.BitSet as set;
-    ghost use Rattle.enumset_sets.specs.Elements.{valid_bits};
+    ghost use Rattle.enumset.specs.Sets as set;
+    ghost use Rattle.enumset.specs.Sets.{valid_bits};
 
     type Output = EnumSet<Permission>;
 

@@ -13,7 +13,7 @@ pub enum Weekday {
 }
 
 impl EnumSetType for Weekday {
-    ghost use Rattle.enumset_sets.specs.Laws.Elements.{in_place, lawful_in_integer, lawful_in_place};
+    ghost use Rattle.enumset.specs.Sets.{in_place, lawful_in_integer, lawful_in_place};
     ghost use Rattle.example_set_facts.specs.contracts.weekdays.Weekday.{the_type};
 
     type Repr = u8;
@@ -61,7 +61,7 @@ impl EnumSetTypeWithRepr for Weekday {
 /// The intersection of the set of the one and that of the other.
 impl std::ops::BitAnd for Weekday {
     ghost use Rattle.std.specs.Prelude.{◌≡◌};
-    ghost use Rattle.enumset_repr.specs.BitSet as set;
+    ghost use Rattle.enumset.specs.Sets as set;
 
     type Output = EnumSet<Weekday>;
 
@@ -77,7 +77,7 @@ impl std::ops::BitAnd for Weekday {
 /// The intersection of the set of the one and the other.
 impl std::ops::BitAnd<EnumSet<Weekday>> for Weekday {
     ghost use Rattle.std.specs.Prelude.{◌≡◌};
-    ghost use Rattle.enumset_repr.specs.BitSet as set;
+    ghost use Rattle.enumset.specs.Sets as set;
 
     type Output = EnumSet<Weekday>;
 
@@ -92,7 +92,7 @@ impl std::ops::BitAnd<EnumSet<Weekday>> for Weekday {
 /// The union of the set of the one and that of the other.
 impl std::ops::BitOr for Weekday {
     ghost use Rattle.std.specs.Prelude.{◌≡◌};
-    ghost use Rattle.enumset_repr.specs.BitSet as set;
+    ghost use Rattle.enumset.specs.Sets as set;
 
     type Output = EnumSet<Weekday>;
 
@@ -108,7 +108,7 @@ impl std::ops::BitOr for Weekday {
 /// The union of the set of the one and the other.
 impl std::ops::BitOr<EnumSet<Weekday>> for Weekday {
     ghost use Rattle.std.specs.Prelude.{◌≡◌};
-    ghost use Rattle.enumset_repr.specs.BitSet as set;
+    ghost use Rattle.enumset.specs.Sets as set;
 
     type Output = EnumSet<Weekday>;
 
@@ -123,7 +123,7 @@ impl std::ops::BitOr<EnumSet<Weekday>> for Weekday {
 /// The symmetric difference of the set of the one and that of the other.
 impl std::ops::BitXor for Weekday {
     ghost use Rattle.std.specs.Prelude.{◌≡◌};
-    ghost use Rattle.enumset_repr.specs.BitSet as set;
+    ghost use Rattle.enumset.specs.Sets as set;
 
     type Output = EnumSet<Weekday>;
 
@@ -139,7 +139,7 @@ impl std::ops::BitXor for Weekday {
 /// The symmetric difference of the set of the one and the other.
 impl std::ops::BitXor<EnumSet<Weekday>> for Weekday {
     ghost use Rattle.std.specs.Prelude.{◌≡◌};
-    ghost use Rattle.enumset_repr.specs.BitSet as set;
+    ghost use Rattle.enumset.specs.Sets as set;
 
     type Output = EnumSet<Weekday>;
 
@@ -154,7 +154,7 @@ impl std::ops::BitXor<EnumSet<Weekday>> for Weekday {
 /// The difference of the set of the one and that of the other.
 impl std::ops::Sub for Weekday {
     ghost use Rattle.std.specs.Prelude.{◌≡◌};
-    ghost use Rattle.enumset_repr.specs.BitSet as set;
+    ghost use Rattle.enumset.specs.Sets as set;
 
     type Output = EnumSet<Weekday>;
 
@@ -170,7 +170,7 @@ impl std::ops::Sub for Weekday {
 /// The difference of the set of the one and the other.
 impl std::ops::Sub<EnumSet<Weekday>> for Weekday {
     ghost use Rattle.std.specs.Prelude.{◌≡◌};
-    ghost use Rattle.enumset_repr.specs.BitSet as set;
+    ghost use Rattle.enumset.specs.Sets as set;
 
     type Output = EnumSet<Weekday>;
 
@@ -185,8 +185,8 @@ impl std::ops::Sub<EnumSet<Weekday>> for Weekday {
 /// The set of all the others.
 impl std::ops::Not for Weekday {
     ghost use Rattle.std.specs.Prelude.{◌≡◌};
-    ghost use Rattle.enumset_repr.specs.BitSet as set;
-    ghost use Rattle.enumset_sets.specs.Elements.{valid_bits};
+    ghost use Rattle.enumset.specs.Sets as set;
+    ghost use Rattle.enumset.specs.Sets.{valid_bits};
 
     type Output = EnumSet<Weekday>;
 

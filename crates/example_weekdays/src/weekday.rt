@@ -14,7 +14,7 @@ pub enum Weekday {
 }
 
 impl EnumSetType for Weekday {
-    ghost use Rattle.enumset_sets.specs.Laws.Elements.{in_place, lawful_in_integer, lawful_in_place};
+    ghost use Rattle.enumset.specs.Sets.{in_place, lawful_in_integer, lawful_in_place};
     ghost use Rattle.example_weekdays.specs.contracts.weekday.Weekday.{the_type};
 
     type Repr = u8;
@@ -59,6 +59,7 @@ impl EnumSetTypeWithRepr for Weekday {
     ghost narrow = { Prim.search rules };
 }
 
+#[tactic(auto, unfolding(enumset::specs::Sets::place))]
 impl EnumSetNames for Weekday {
     ghost use Rattle.std.specs.Prelude.{codes, ◌∷◌, []};
 

@@ -9,7 +9,7 @@ pub enum Permission {
 }
 
 impl EnumSetType for Permission {
-    ghost use Rattle.enumset_sets.specs.Laws.Elements.{in_place, lawful_in_integer, lawful_in_place};
+    ghost use Rattle.enumset.specs.Sets.{in_place, lawful_in_integer, lawful_in_place};
     ghost use Rattle.example_wrong_bodies.specs.contracts.permissions.Permission.{the_type};
 
     type Repr = u8;
