@@ -28,7 +28,7 @@ pub enum Far {
 
 impl EnumSetType for Far {
     ghost use Rattle.std.specs.Prelude.{◌∷◌, [], replicate, slice_set};
-    ghost use Rattle.enumset_sets.specs.Laws.Elements.{with_bits, lawful_in_words};
+    ghost use Rattle.enumset.specs.Sets.{with_bits, lawful_in_words};
     ghost use Rattle.enumset_bench.specs.contracts.far.Far.{the_type};
 
     type Repr = ArrayRepr<1024>;

@@ -2,7 +2,7 @@
 //!
 //! A job makes its input from the seed, and works on another part of it in each round. The program prints a digest of
 //! all results. `bench/run` times it.
-#![tactic(auto, unfolding(enumset_sets::specs::Elements::place, enumset_sets::specs::Elements::listed_bit))]
+#![tactic(auto, using(enumset::specs::Sets::set_laws))]
 
 mod commands;
 mod decide;

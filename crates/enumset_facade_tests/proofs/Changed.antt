@@ -4,7 +4,7 @@
 use Rattle.std.proofs.Common.{◌≡◌, ◌≤◌, ℕ, max, List, [], ◌∷◌, map, Ordering, Less, Equal, Greater, Option, Some, option_map, Ok, codes, refl, sym, ap, ◌∙◌, arith}
 use Rattle.std.specs.Ordering.{match_ordering, nat_cmp}
 use Rattle.std.specs.Cmp.Lexicographic.{slice_cmp}
-use Rattle.enumset_repr.specs.BitSet.{BitSet, ascending}
+use Rattle.enumset.specs.Sets.{BitSet, ascending}
 use Rattle.serde_json.specs.Data.{Data, null, boolean, number, string, array, object, Members, no_members, member, put, depth, items_depth, members_depth}
 use Rattle.serde_json.specs.Find.{as_object}
 use Rattle.serde_json.specs.Read.{max_depth}

@@ -5,7 +5,7 @@
 use Rattle.std.proofs.Common.{◌≡◌, ℕ, suc, ◌+◌, Bool, true, false, cond, is_none, is_some, List, map, Some, None, option_and_then, IsSome, Result, Err, refl, sym, ap, subst, ◌∙◌, arith}
 use Rattle.std.proofs.lemmas.Iterator.Adapters.{position_from-zero}
 use Rattle.std.specs.List.{position, position_from}
-use Rattle.enumset_repr.specs.BitSet.{BitSet}
+use Rattle.enumset.specs.Sets.{BitSet}
 use Rattle.serde_json.specs.Data.{Data, null, boolean, number, string, array, object, Items, no_items, item}
 use Rattle.serde_json.specs.Find.{as_str, at, get_item}
 use Rattle.enumset.specs.Json.{unless_fault, values_of}

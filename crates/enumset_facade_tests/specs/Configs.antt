@@ -3,7 +3,7 @@
 --     flags_in      the set that the list is read as, or the fault, if there is such a member
 --     with_flags      the config with the list of another set
 use Rattle.std.specs.Prelude.{Option, option_map, Result, codes}
-use Rattle.enumset_repr.specs.BitSet.{BitSet}
+use Rattle.enumset.specs.Sets.{BitSet}
 use Rattle.serde_json.specs.Data.{Data, null, boolean, number, string, array, object, put}
 use Rattle.serde_json.specs.Find.{get}
 use Rattle.enumset.specs.JsonNames.{set_of_list, list_value}

@@ -3,8 +3,8 @@
 ghost use Rattle.std.specs.Prelude.{◌≡◌, ◌≢◌, ℕ, String, Some, None, Ok, Err, IfOk, OnOk};
 ghost use Rattle.std.specs.Prelude.{option_and_then, option_map, string_bytes};
 ghost use Rattle.std.specs.declared.alloc.Global.{Global};
-ghost use Rattle.enumset_repr.specs.BitSet as set;
-ghost use Rattle.enumset_repr.specs.BitSet.{BitSet};
+ghost use Rattle.enumset.specs.Sets as set;
+ghost use Rattle.enumset.specs.Sets.{BitSet};
 ghost use Rattle.serde_json.specs.Data.{Data, string};
 ghost use Rattle.serde_json.specs.Find.{at};
 ghost use Rattle.serde_json.specs.Read.{read};

@@ -1,14 +1,71 @@
-//! Macros in functions with contracts, so that the check refuses a macro with another meaning: `mixed_enum_set!`; and
-//! `variant_of!`, with as many variants as it takes without bits, and with more bits than a proof takes in at once. Those
-//! of sets are in `enumset_set_tests`.
+//! Macros in functions with contracts, so that the check refuses a macro with another meaning: those of sets, over sets of
+//! any enum, with three operands, and over mixed sets, with two; and `variant_of!`, with as many variants as it takes
+//! without bits, and with more bits than a proof takes in at once.
 
 ghost use Rattle.std.specs.Prelude.{◌≡◌, ◌∷◌, [], IsTrue};
 ghost use Rattle.std.specs.List.{range_with_len};
-ghost use Rattle.enumset_repr.specs.BitSet as set;
+ghost use Rattle.enumset.specs.Sets as set;
+ghost use Rattle.enumset.specs.Sets.{valid_bits};
 
 use enumset::set::MixedEnumSet;
-use enumset::{EnumSetType, EnumSetTypeWithRepr, mixed_enum_set, variant_of};
+use enumset::{
+    EnumSet, EnumSetType, EnumSetTypeWithRepr, enum_set, enum_set_complement, enum_set_difference,
+    enum_set_intersection, enum_set_symmetric_difference, enum_set_union, mixed_enum_set,
+    variant_of,
+};
 use enumset_test_types::{Of64, Of256};
+
+fn elements<T: EnumSetType>(a: T, b: T, c: T) -> (EnumSet<T>, EnumSet<T>, EnumSet<T>, EnumSet<T>)
+    ensures none { result.0 ≡ set.empty }
+    ensures one { result.1 ≡ set.only (T.elements.bit a) }
+    ensures two { result.2 ≡ set.union (set.only (T.elements.bit a)) (set.only (T.elements.bit b)) }
+    ensures three { result.3
+        ≡ set.union (set.union (set.only (T.elements.bit a)) (set.only (T.elements.bit b)))
+        (set.only (T.elements.bit c)) }
+{
+    (
+        enum_set!(),
+        enum_set!(a),
+        enum_set!(a | b),
+        enum_set!(a | b | c),
+    )
+}
+
+fn union_of_three<T: EnumSetType>(a: EnumSet<T>, b: EnumSet<T>, c: EnumSet<T>) -> EnumSet<T>
+    ensures { result ≡ set.union (set.union a b) c }
+{
+    enum_set_union!(a, b, c)
+}
+
+fn intersection_of_three<T: EnumSetType>(a: EnumSet<T>, b: EnumSet<T>, c: EnumSet<T>) -> EnumSet<T>
+    ensures { result ≡ set.intersection (set.intersection a b) c }
+{
+    enum_set_intersection!(a, b, c)
+}
+
+fn difference_of_three<T: EnumSetType>(a: EnumSet<T>, b: EnumSet<T>, c: EnumSet<T>) -> EnumSet<T>
+    ensures { result
+        ≡ set.intersection (set.intersection a (set.difference (valid_bits T.elements) b))
+        (set.difference (valid_bits T.elements) c) }
+{
+    enum_set_difference!(a, b, c)
+}
+
+fn symmetric_difference_of_three<T: EnumSetType>(
+    a: EnumSet<T>,
+    b: EnumSet<T>,
+    c: EnumSet<T>,
+) -> EnumSet<T>
+    ensures { result ≡ set.symmetric_difference (set.symmetric_difference a b) c }
+{
+    enum_set_symmetric_difference!(a, b, c)
+}
+
+fn complement<T: EnumSetType>(a: EnumSet<T>) -> EnumSet<T>
+    ensures { result ≡ set.difference (valid_bits T.elements) a }
+{
+    enum_set_complement!(a)
+}
 
 fn mixed_elements<T: EnumSetTypeWithRepr>(
     a: T,
@@ -25,7 +82,49 @@ fn mixed_elements<T: EnumSetTypeWithRepr>(
     )
 }
 
-#[tactic(auto, unfolding(enumset_sets::specs::Elements::place))]
+fn mixed_union_of_two<T: EnumSetTypeWithRepr>(
+    a: MixedEnumSet<T>,
+    b: MixedEnumSet<T>,
+) -> MixedEnumSet<T>
+    ensures { result ≡ set.union a b }
+{
+    enum_set_union!(a, b)
+}
+
+fn mixed_intersection_of_two<T: EnumSetTypeWithRepr>(
+    a: MixedEnumSet<T>,
+    b: MixedEnumSet<T>,
+) -> MixedEnumSet<T>
+    ensures { result ≡ set.intersection a b }
+{
+    enum_set_intersection!(a, b)
+}
+
+fn mixed_difference_of_two<T: EnumSetTypeWithRepr>(
+    a: MixedEnumSet<T>,
+    b: MixedEnumSet<T>,
+) -> MixedEnumSet<T>
+    ensures { result ≡ set.intersection a (set.difference (valid_bits T.elements) b) }
+{
+    enum_set_difference!(a, b)
+}
+
+fn mixed_symmetric_difference_of_two<T: EnumSetTypeWithRepr>(
+    a: MixedEnumSet<T>,
+    b: MixedEnumSet<T>,
+) -> MixedEnumSet<T>
+    ensures { result ≡ set.symmetric_difference a b }
+{
+    enum_set_symmetric_difference!(a, b)
+}
+
+fn mixed_complement<T: EnumSetTypeWithRepr>(a: MixedEnumSet<T>) -> MixedEnumSet<T>
+    ensures { result ≡ set.difference (valid_bits T.elements) a }
+{
+    enum_set_complement!(a)
+}
+
+#[tactic(auto, unfolding(enumset::specs::Sets::place))]
 fn of_sixteen(bit: u32) -> Of64
     requires { IsTrue (set.is_in bit (range_with_len 0 16)) }
     ensures { ⟦<Of64 as EnumSetType>⟧.elements.bit result ≡ bit }
@@ -33,7 +132,7 @@ fn of_sixteen(bit: u32) -> Of64
     variant_of!(bit, Of64: V0 V1 V2 V3 V4 V5 V6 V7 V8 V9 V10 V11 V12 V13 V14 V15)
 }
 
-#[tactic(auto, unfolding(enumset_sets::specs::Elements::place))]
+#[tactic(auto, unfolding(enumset::specs::Sets::place))]
 fn of_even(bit: u32) -> Of256
     requires { IsTrue (set.is_in bit (0 ∷ 2 ∷ 4 ∷ 6 ∷ 8 ∷ 10 ∷ 12 ∷ 14 ∷ 16 ∷ 18 ∷ 20 ∷ 22 ∷ 24 ∷ 26 ∷ 28 ∷
         30 ∷ 32 ∷ 34 ∷ 36 ∷ 38 ∷ 40 ∷ 42 ∷ 44 ∷ 46 ∷ 48 ∷ 50 ∷ 52 ∷ 54 ∷ 56 ∷ 58 ∷ 60 ∷ 62 ∷ 64 ∷ 66 ∷ 68 ∷

@@ -33,7 +33,7 @@ fn no_variant_is_enough(rt: HostRuntime) -> Result<(), Fail> {
 
     impl EnumSetType for Nothing {
         ghost use Rattle.std.specs.Prelude.{[]};
-        ghost use Rattle.enumset_sets.specs.Laws.Elements.{with_bits, lawful_in_words};
+        ghost use Rattle.enumset.specs.Sets.{with_bits, lawful_in_words};
         ghost use Rattle.enumset_facade_tests.specs.contracts.no_variant.fn.no_variant_is_enough.Nothing.{the_type};
 
         type Repr = ArrayRepr<0>;

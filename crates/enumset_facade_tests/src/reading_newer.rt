@@ -1,10 +1,10 @@
 //! Flags that an older program reads.
 
 ghost use Rattle.std.specs.Prelude.{◌≡◌, IsTrue, IfOk, IfErr};
-ghost use Rattle.enumset_repr.specs.BitSet as set;
+ghost use Rattle.enumset.specs.Sets as set;
 ghost use Rattle.enumset.specs.Names.{names_of, names_agree};
 ghost use Rattle.enumset.specs.declared.set_json.fault.JsonFault.TheVariants.{OutOfMemory};
-ghost use Rattle.enumset_sets.specs.Elements.{valid_bits};
+ghost use Rattle.enumset.specs.Sets.{valid_bits};
 
 use enumset::set_json::{JsonFault, Unknown, from_list_text, to_list_text};
 use enumset::{EnumSet, EnumSetNames, laws};

@@ -4,8 +4,7 @@
 //! words 16 more, for two cursors. Each pattern of bits is a set, so an `Option` needs a flag, which takes the bytes of
 //! the alignment: those of the integer, or 8 over words. Rust's `enumset` has the same sizes of sets.
 use crate::expect::expect;
-use enumset_mixed::{MixedEnumSet, MixedEnumSetIter};
-use enumset_sets::{EnumSet, EnumSetIter};
+use enumset::set::{EnumSet, EnumSetIter, MixedEnumSet, MixedEnumSetIter};
 use enumset_test_types::{In32Bits, Of64, Priority};
 use enumset_worked::{Letters, PairWords, Sparse, Wide};
 use std::mem::size_of;

@@ -7,7 +7,7 @@ ghost use Rattle.enumset_commands.specs.Texts.{IsFaultOf};
 
 use crate::{serve_mixed_text, serve_text};
 use enumset_commands::TextFault;
-use enumset_sets::{EnumSetType, EnumSetTypeWithRepr, variant_of};
+use enumset_sets::{EnumSetType, EnumSetTypeWithRepr};
 use std::alloc::Global;
 use std::fmt;
 
@@ -52,7 +52,7 @@ pub fn serve_nothing(alloc: Global, is_mixed: bool, input: &[u8]) -> Result<Vec<
         }
 
         fn enum_from_u32(val: u32) -> Nothing {
-            variant_of!(val, Nothing:)
+            unreachable!()
         }
 
         ghost lawful = { lawful_in_integer the_type _ tt };

@@ -1,16 +1,14 @@
 //! Tests of `enumset_repr`, `enumset_array`, `enumset_sets` and `enumset_mixed`.
 //!
 //! They test what no contract says: that calls succeed, that the definitions say what they should, texts, hashes and
-//! sizes; and functions with contracts say what the macros mean. They are in a crate of their own so that the crates that
-//! they test are proved once. They name no call of the crate `enumset`.
+//! sizes. They are in a crate of their own so that the crates that they test are proved once. They name no call of the
+//! crate `enumset`.
 #![tactic(auto)]
 
 #[cfg(test)]
 mod expect;
 #[cfg(test)]
 mod hash_of;
-#[cfg(test)]
-mod macro_clauses;
 #[cfg(test)]
 mod repr;
 #[cfg(test)]

@@ -7,7 +7,7 @@
 //!
 //! With those of `enumset_worked` they have each `repr`, each form and width in JSON, `no_super_impls` (`of_64`), gaps,
 //! and operators or none.
-#![tactic(auto, unfolding(enumset_sets::specs::Elements::place, enumset_sets::specs::Elements::listed_bit))]
+#![tactic(auto, using(enumset::specs::Sets::set_laws))]
 
 pub mod far_bits;
 pub mod forms;

@@ -6,8 +6,7 @@
 --         an operand is a number, a sum in parentheses, or a minus and an operand
 --     CanBegin      a part can begin with the kind of this bit
 use Rattle.std.specs.Prelude.{◌≡◌, ℕ, true, List, [], ◌∷◌, map}
-use Rattle.enumset_repr.specs.BitSet.{is_in}
-use Rattle.enumset_sets.specs.Elements.{in_place}
+use Rattle.enumset.specs.Sets.{is_in, in_place}
 use Rattle.example_expressions.specs.contracts.part.Part.{the_type}
 use Rattle.example_expressions.specs.declared.kind.Kind.{Kind}
 use Rattle.example_expressions.specs.declared.kind.Kind.TheVariants.{Number, Open, Minus}

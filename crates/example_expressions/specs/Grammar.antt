@@ -7,8 +7,7 @@
 --     IsFault      the first token that may not come, and with it each kind that may
 use Rattle.std.specs.Prelude.{◌≡◌, ◌↔◌, ℕ, Bool, true, false, List, [], ◌∷◌, ◌++◌, ◌≤◌, map, take, length, IsTrue}
 use Rattle.std.specs.List.{slice_index_or}
-use Rattle.enumset_repr.specs.BitSet.{contains}
-use Rattle.enumset_sets.specs.Elements.{in_place}
+use Rattle.enumset.specs.Sets.{contains, in_place}
 use Rattle.example_expressions.specs.contracts.kind.Kind.{the_type}
 use Rattle.example_expressions.specs.declared.kind.Kind.{Kind}
 use Rattle.example_expressions.specs.declared.kind.Kind.TheVariants.{Number, Open, Minus, Plus, Times, Divide, Close, End}

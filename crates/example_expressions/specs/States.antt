@@ -6,7 +6,7 @@
 --     next_kinds      the set of the kinds that may come
 --     Reads, Refuses      what a reader becomes with a kind that may come;  the fault at one that may not
 use Rattle.std.specs.Prelude.{◌≡◌, ℕ, zero, suc, ◌+◌, true, false, List, [], ◌∷◌, map}
-use Rattle.enumset_repr.specs.BitSet.{BitSet, contains, from_list}
+use Rattle.enumset.specs.Sets.{BitSet, contains, from_list}
 use Rattle.example_expressions.specs.declared.kind.Kind.{Kind}
 use Rattle.example_expressions.specs.declared.kind.Kind.TheVariants.{Number, Open, Minus, Plus, Times, Divide, Close, End}
 use Rattle.example_expressions.specs.declared.parser.Reader.{Reader}

@@ -6,7 +6,7 @@
 --     unexpected_text, reason_text, fault_text      the text of a token that may not come;  of a reason;  of a fault
 use Rattle.std.specs.Prelude.{ℕ, Bool, true, false, if◌then◌else◌, List, [], ◌∷◌, ◌++◌, map, slice_index_or, codes, decimal}
 use Rattle.std.specs.Char.{encode_utf8}
-use Rattle.enumset_repr.specs.BitSet.{BitSet, ascending}
+use Rattle.enumset.specs.Sets.{BitSet, ascending}
 use Rattle.example_expressions.specs.Grammar.{bit}
 use Rattle.example_expressions.specs.declared.fault.Fault.{Fault}
 use Rattle.example_expressions.specs.declared.fault.Reason.{Reason}

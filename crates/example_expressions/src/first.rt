@@ -1,7 +1,7 @@
 //! With which kinds of tokens each part of an expression begins.
 
 ghost use Rattle.std.specs.Prelude.{◌≡◌, ◌↔◌, ◌∷◌, [], ℕ, IsTrue, map};
-ghost use Rattle.enumset_repr.specs.BitSet as set;
+ghost use Rattle.enumset.specs.Sets as set;
 ghost use Rattle.example_expressions.specs.Grammar.{bit};
 ghost use Rattle.example_expressions.specs.First.{part_bit, kinds_at, parts_at, CanBegin};
 

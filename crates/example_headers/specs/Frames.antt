@@ -4,10 +4,7 @@
 --     wire_of      a frame's bytes: its flags, the length of its body, and the body
 --     fault_of      what is wrong with bytes that are no frame
 use Rattle.std.specs.Prelude.{ℕ, List, ◌∷◌, length}
-use Rattle.enumset_repr.specs.BitSet.{BitSet}
-use Rattle.enumset_repr.specs.Number.{number}
-use Rattle.enumset_sets.specs.Elements.{in_place, valid_bits}
-use Rattle.enumset_mixed.specs.Mixed.{valid_members, unknown_members}
+use Rattle.enumset.specs.Sets.{BitSet, number, valid_bits, in_place, unknown_members, valid_members}
 use Rattle.example_headers.specs.contracts.flag.Flag.{the_type}
 use Rattle.example_headers.specs.declared.flag.Flag.{Flag}
 use Rattle.example_headers.specs.declared.frame.FrameFault.{FrameFault}

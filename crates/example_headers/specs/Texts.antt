@@ -4,7 +4,7 @@
 --     frame_fault_text      the text of what is wrong with bytes
 use Rattle.std.specs.Prelude.{ℕ, if◌then◌else◌, List, ◌++◌, length, codes, Option, Some}
 use Rattle.std.specs.Fmt.{decimal, option_append}
-use Rattle.enumset_repr.specs.BitSet.{BitSet, is_empty}
+use Rattle.enumset.specs.Sets.{BitSet, is_empty}
 use Rattle.example_headers.specs.declared.frame.FrameFault.{FrameFault}
 use Rattle.example_headers.specs.declared.frame.FrameFault.TheVariants.{NoHeader, WrongLength}
 

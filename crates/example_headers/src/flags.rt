@@ -1,9 +1,8 @@
 //! What this version makes of a frame's flags.
 
 ghost use Rattle.std.specs.Prelude.{◌≡◌, ◌↔◌, true};
-ghost use Rattle.enumset_repr.specs.BitSet as set;
-ghost use Rattle.enumset_repr.specs.Number.{bits};
-ghost use Rattle.enumset_sets.specs.Elements.{valid_bits};
+ghost use Rattle.enumset.specs.Sets as set;
+ghost use Rattle.enumset.specs.Sets.{bits, valid_bits};
 ghost use Rattle.example_headers.specs.Frames.{bit, known, reserved};
 
 use crate::flag::Flag;

@@ -1,7 +1,7 @@
 //! Frames: a byte of flags, a byte with the length of the body, and the body.
 
 ghost use Rattle.std.specs.Prelude.{◌≡◌, ◌<◌, ℕ, List, length, IsOkAnd, IfOk, IfErr};
-ghost use Rattle.enumset_repr.specs.BitSet as set;
+ghost use Rattle.enumset.specs.Sets as set;
 ghost use Rattle.example_headers.specs.Frames.{bit, known, reserved, wire_of, fault_of};
 
 use crate::flag::Flag;

@@ -1,6 +1,6 @@
 -- What more and fewer roles are granted: the ruleset `on_roles`.
 use Rattle.std.proofs.Common.{◌≡◌, ℕ, true, List, [], ◌∷◌, refl, arith}
-use Rattle.enumset_repr.specs.BitSet.{BitSet, contains, insert, remove}
+use Rattle.enumset.specs.Sets.{BitSet, contains, insert, remove}
 use Rattle.enumset_repr.specs.Laws.Members.{members}
 use Rattle.example_permissions.specs.declared.policy.Grant.{Grant}
 use Rattle.example_permissions.specs.Policy.{role_bit, is_granted}

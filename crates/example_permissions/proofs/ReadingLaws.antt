@@ -3,7 +3,7 @@ use Rattle.std.proofs.Common.{◌≡◌, ℕ, List, [], ◌∷◌, ◌++◌, Res
 use Rattle.example_permissions.specs.Answers.{grant_seen}
 use Rattle.example_permissions.specs.declared.policy.Grant.{Grant}
 use Rattle.serde_json.specs.Data.{Data}
-use Rattle.enumset_repr.specs.BitSet.{BitSet, empty}
+use Rattle.enumset.specs.Sets.{BitSet, empty}
 use Rattle.example_permissions.specs.declared.policy.User.{User}
 use Rattle.example_permissions.specs.Reading.{Trouble, ◌>>=◌, grant_in, grants_in, rights_in, request_in}
 

@@ -12,7 +12,7 @@ use Rattle.std.specs.BTreeMap.{BTreeMap, get_by_text}
 use Rattle.std.specs.declared.alloc.Global.{Global}
 use Rattle.std.specs.Map.{lookup}
 use Rattle.std.specs.Str.{bytes_eq}
-use Rattle.enumset_repr.specs.BitSet.{BitSet, contains}
+use Rattle.enumset.specs.Sets.{BitSet, contains}
 use Rattle.example_permissions.specs.declared.policy.Grant.{Grant}
 use Rattle.example_permissions.specs.declared.policy.User.{User}
 use Rattle.example_permissions.specs.declared.reader.Policy.{Policy}

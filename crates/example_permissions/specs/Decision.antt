@@ -1,6 +1,6 @@
 -- What a request gets.
 --     missing_of      the rights that a decision says are missing
-use Rattle.enumset_repr.specs.BitSet.{BitSet, empty}
+use Rattle.enumset.specs.Sets.{BitSet, empty}
 use Rattle.example_permissions.specs.declared.decision.Decision.{Decision}
 use Rattle.example_permissions.specs.declared.decision.Decision.TheVariants.{Allowed, Denied}
 

@@ -6,8 +6,7 @@
 --     IsAllowed      each right that is asked for is allowed
 use Rattle.std.specs.Prelude.{◌≡◌, ℕ, Bool, true, not, ◌&&◌, List}
 use Rattle.std.specs.List.{list_any}
-use Rattle.enumset_repr.specs.BitSet.{BitSet, contains}
-use Rattle.enumset_sets.specs.Elements.{in_place}
+use Rattle.enumset.specs.Sets.{BitSet, contains, in_place}
 use Rattle.example_permissions.specs.contracts.roles.Role as the_role
 use Rattle.example_permissions.specs.contracts.rights.Right as the_right
 use Rattle.example_permissions.specs.declared.roles.Role.{Role}

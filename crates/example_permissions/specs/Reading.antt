@@ -18,8 +18,7 @@ use Rattle.std.specs.Char.{is_ascii_whitespace}
 use Rattle.std.specs.List.{slice_split}
 use Rattle.std.specs.IoError.{error_kind}
 use Rattle.std.specs.declared.io.ErrorKind.TheVariants.{OutOfMemory}
-use Rattle.enumset_repr.specs.BitSet.{BitSet, empty, insert}
-use Rattle.enumset_sets.specs.Elements.{in_place}
+use Rattle.enumset.specs.Sets.{BitSet, empty, insert, in_place}
 use Rattle.enumset.specs.Names.{Names, names_of, bit_named}
 use Rattle.enumset.specs.JsonNames.{members_in, set_of_list}
 use Rattle.enumset.specs.declared.set_json.fault.JsonFault.{JsonFault}

@@ -4,7 +4,7 @@
 --     decision_text      the text of a decision
 --     fault_text      the text of a fault, but for those of std and of `serde_json`, which state no text
 use Rattle.std.specs.Prelude.{ℕ, Bool, true, false, if◌then◌else◌, List, [], ◌∷◌, ◌++◌, map, codes, Option, Some, None, string_bytes}
-use Rattle.enumset_repr.specs.BitSet.{ascending}
+use Rattle.enumset.specs.Sets.{ascending}
 use Rattle.enumset.specs.Names.{name_of}
 use Rattle.enumset.specs.JsonTexts.{json_fault_text}
 use Rattle.example_permissions.specs.Reading.{right_names}

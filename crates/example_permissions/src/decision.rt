@@ -2,7 +2,7 @@
 
 ghost use Rattle.std.specs.Prelude.{◌≡◌, ◌↔◌, ◌&&◌, ℕ, not};
 ghost use Rattle.std.specs.Fmt.{WritesOnOk};
-ghost use Rattle.enumset_repr.specs.BitSet as set;
+ghost use Rattle.enumset.specs.Sets as set;
 ghost use Rattle.example_permissions.specs.Policy.{is_granted, is_allowed, IsAllowed};
 ghost use Rattle.example_permissions.specs.Decision.{missing_of};
 ghost use Rattle.example_permissions.specs.Texts.{separator};

@@ -1,7 +1,7 @@
 //! What roles grant, and what a user has.
 
 ghost use Rattle.std.specs.Prelude.{◌≡◌, ◌++◌, ◌∷◌, [], List, OnOk, OnErr};
-ghost use Rattle.enumset_repr.specs.BitSet as set;
+ghost use Rattle.enumset.specs.Sets as set;
 ghost use Rattle.example_permissions.specs.Policy.{role_bit, right_bit, IsAllowed};
 ghost use Rattle.example_permissions.specs.declared.policy.Grant.{Grant};
 ghost use Rattle.example_permissions.specs.declared.policy.User.{User};

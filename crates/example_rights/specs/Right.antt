@@ -1,7 +1,7 @@
 -- Rights in clauses.
 --     bit      the bit of a right
 use Rattle.std.specs.Prelude.{ℕ}
-use Rattle.enumset_sets.specs.Elements.{in_place}
+use Rattle.enumset.specs.Sets.{in_place}
 use Rattle.example_rights.specs.contracts.rights.Right.{the_type}
 use Rattle.example_rights.specs.declared.rights.Right.{Right}
 

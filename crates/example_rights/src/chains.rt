@@ -2,14 +2,14 @@
 
 ghost use Rattle.std.specs.Prelude.{◌≡◌, not, fold, option_map};
 ghost use Rattle.std.specs.List.{find, list_all};
-ghost use Rattle.enumset_repr.specs.BitSet as set;
-ghost use Rattle.enumset_sets.specs.Elements.{valid_bits};
+ghost use Rattle.enumset.specs.Sets as set;
+ghost use Rattle.enumset.specs.Sets.{valid_bits};
 
 use crate::rights::Right;
 use enumset::{EnumSet, EnumSetType};
 
 /// How many rights are granted.
-#[tactic(auto, using(enumset_repr::specs::Laws::Places::chains))]
+#[tactic(auto, using(enumset::specs::Sets::chains))]
 pub fn granted_count<T: EnumSetType>(granted: &EnumSet<T>) -> usize
     ensures { result ≡ set.len granted.now }
 {
@@ -17,7 +17,7 @@ pub fn granted_count<T: EnumSetType>(granted: &EnumSet<T>) -> usize
 }
 
 /// How many of the granted rights are requested.
-#[tactic(auto, using(enumset_repr::specs::Laws::Places::chains))]
+#[tactic(auto, using(enumset::specs::Sets::chains))]
 pub fn requested_count<T: EnumSetType>(granted: &EnumSet<T>, requested: &EnumSet<T>) -> usize
     ensures { result ≡ set.len (set.intersection granted.now requested.now) }
 {
@@ -28,7 +28,7 @@ pub fn requested_count<T: EnumSetType>(granted: &EnumSet<T>, requested: &EnumSet
 }
 
 /// Whether all granted rights are requested.
-#[tactic(auto, using(enumset_repr::specs::Laws::Places::chains))]
+#[tactic(auto, using(enumset::specs::Sets::chains))]
 pub fn are_requested<T: EnumSetType>(granted: &EnumSet<T>, requested: &EnumSet<T>) -> bool
     ensures { result ≡ set.is_subset granted.now requested.now }
 {
@@ -36,7 +36,7 @@ pub fn are_requested<T: EnumSetType>(granted: &EnumSet<T>, requested: &EnumSet<T
 }
 
 /// Whether one of the granted rights is requested.
-#[tactic(auto, using(enumset_repr::specs::Laws::Places::chains))]
+#[tactic(auto, using(enumset::specs::Sets::chains))]
 pub fn is_one_requested<T: EnumSetType>(granted: &EnumSet<T>, requested: &EnumSet<T>) -> bool
     ensures { result ≡ not (set.is_disjoint granted.now requested.now) }
 {
@@ -44,7 +44,7 @@ pub fn is_one_requested<T: EnumSetType>(granted: &EnumSet<T>, requested: &EnumSe
 }
 
 /// The first of the granted rights that is requested.
-#[tactic(auto, using(enumset_repr::specs::Laws::Places::chains))]
+#[tactic(auto, using(enumset::specs::Sets::chains))]
 pub fn first_requested<T: EnumSetType>(granted: &EnumSet<T>, requested: &EnumSet<T>) -> Option<T>
     ensures { option_map T.elements.bit result
         ≡ find (set.contains requested.now) (set.ascending granted.now) }

@@ -1,7 +1,7 @@
 //! Sets and elements in expressions.
 
 ghost use Rattle.std.specs.Prelude.{◌≡◌};
-ghost use Rattle.enumset_repr.specs.BitSet as set;
+ghost use Rattle.enumset.specs.Sets as set;
 
 use enumset::{EnumSet, EnumSetType};
 

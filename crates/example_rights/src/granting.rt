@@ -1,7 +1,7 @@
 //! Rights that are granted one by one, and all at once.
 
 ghost use Rattle.std.specs.Prelude.{◌≡◌, not, true};
-ghost use Rattle.enumset_repr.specs.BitSet as set;
+ghost use Rattle.enumset.specs.Sets as set;
 ghost use Rattle.example_rights.specs.Right.{bit};
 
 use crate::rights::Right;
@@ -16,7 +16,7 @@ pub fn grant(rights: &mut EnumSet<Right>, right: Right) -> bool
 }
 
 /// All rights: each of them, on the bits below 3.
-#[tactic(auto, unfolding(enumset_sets::specs::Elements::valid_bits))]
+#[tactic(auto, unfolding(enumset::specs::Sets::valid_bits))]
 pub fn all_granted() -> EnumSet<Right>
     ensures all { result ≡ set.below 3 }
     ensures each { (right : Right) → set.contains result (bit right) ≡ true }

@@ -3,12 +3,12 @@
 ghost use Rattle.std.specs.Prelude.{◌≡◌, ◌<◌, ◌≤◌, ℕ, not, false, true, IfSome, IfNone};
 ghost use Rattle.std.specs.List.{find};
 ghost use Rattle.std.specs.Option.{option_map};
-ghost use Rattle.enumset_repr.specs.BitSet as set;
+ghost use Rattle.enumset.specs.Sets as set;
 
 use enumset::{EnumSet, EnumSetType};
 
 /// The granted rights that are not denied.
-#[tactic(auto, using(enumset_repr::specs::Laws::Loops::loops))]
+#[tactic(auto, using(enumset::specs::Sets::loops))]
 pub fn allowed<T: EnumSetType>(granted: &EnumSet<T>, denied: &EnumSet<T>) -> EnumSet<T>
     ensures { result ≡ set.difference granted.now denied.now }
 {
@@ -22,7 +22,7 @@ pub fn allowed<T: EnumSetType>(granted: &EnumSet<T>, denied: &EnumSet<T>) -> Enu
 }
 
 /// How many of the granted rights are denied.
-#[tactic(auto, using(enumset_repr::specs::Laws::Loops::loops))]
+#[tactic(auto, using(enumset::specs::Sets::loops))]
 pub fn denied_count<T: EnumSetType>(granted: &EnumSet<T>, denied: &EnumSet<T>) -> usize
     ensures { result ≡ set.len (set.intersection granted.now denied.now) }
 {
@@ -36,7 +36,7 @@ pub fn denied_count<T: EnumSetType>(granted: &EnumSet<T>, denied: &EnumSet<T>) -
 }
 
 /// The first of the granted rights that is denied.
-#[tactic(auto, using(enumset_repr::specs::Laws::Loops::loops))]
+#[tactic(auto, using(enumset::specs::Sets::loops))]
 pub fn first_denied<T: EnumSetType>(granted: &EnumSet<T>, denied: &EnumSet<T>) -> Option<T>
     ensures { option_map T.elements.bit result
         ≡ find (set.contains denied.now) (set.ascending granted.now) }
@@ -68,7 +68,7 @@ pub fn next_granted<T: EnumSetType>(granted: &EnumSet<T>, past: T) -> Option<T>
 }
 
 /// Whether no granted right is denied.
-#[tactic(auto, using(enumset_repr::specs::Laws::Loops::loops))]
+#[tactic(auto, using(enumset::specs::Sets::loops))]
 pub fn is_unhindered<T: EnumSetType>(granted: &EnumSet<T>, denied: &EnumSet<T>) -> bool
     ensures { result ≡ set.is_disjoint granted.now denied.now }
 {
@@ -81,7 +81,7 @@ pub fn is_unhindered<T: EnumSetType>(granted: &EnumSet<T>, denied: &EnumSet<T>) 
 }
 
 /// The granted rights that are not denied, taken out one after another.
-#[tactic(auto, using(enumset_repr::specs::Laws::Loops::loops))]
+#[tactic(auto, using(enumset::specs::Sets::loops))]
 pub fn allowed_in_turn<T: EnumSetType>(granted: EnumSet<T>, denied: &EnumSet<T>) -> EnumSet<T>
     ensures { result ≡ set.difference granted denied.now }
 {
@@ -96,7 +96,7 @@ pub fn allowed_in_turn<T: EnumSetType>(granted: EnumSet<T>, denied: &EnumSet<T>)
 }
 
 /// The granted rights that are not denied, kept by a test that looks at another set.
-#[tactic(auto, unfolding(enumset_repr::specs::BitSet::difference))]
+#[tactic(auto, unfolding(enumset::specs::Sets::difference))]
 pub fn keep_allowed<T: EnumSetType>(granted: &mut EnumSet<T>, denied: &EnumSet<T>)
     ensures { granted.new ≡ set.difference granted.old denied.now }
 {

@@ -1,7 +1,7 @@
 //! What is requested and not granted.
 
 ghost use Rattle.std.specs.Prelude.{◌≡◌};
-ghost use Rattle.enumset_repr.specs.BitSet as set;
+ghost use Rattle.enumset.specs.Sets as set;
 
 use crate::rights::Right;
 use enumset::EnumSet;

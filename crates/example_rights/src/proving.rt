@@ -1,7 +1,7 @@
 //! Proofs about code over sets.
 
 ghost use Rattle.std.specs.Prelude.{◌≡◌, true, false};
-ghost use Rattle.enumset_repr.specs.BitSet as set;
+ghost use Rattle.enumset.specs.Sets as set;
 
 use enumset::{EnumSet, EnumSetType};
 
@@ -22,7 +22,7 @@ pub fn is_apart_from_the_rest<T: EnumSetType>(granted: &EnumSet<T>) -> bool
 }
 
 /// A new set, into which the granted rights are inserted one by one.
-#[tactic(auto, using(enumset_repr::specs::Laws::Loops::loops))]
+#[tactic(auto, using(enumset::specs::Sets::loops))]
 pub fn rebuilt<T: EnumSetType>(granted: &EnumSet<T>) -> EnumSet<T>
     ensures { result ≡ granted.now }
 {

@@ -2,7 +2,7 @@
 
 ghost use Rattle.std.specs.Prelude.{◌≡◌, ◌<◌, ◌≤◌, ℕ, true, nat_le, IfSome, IfNone};
 ghost use Rattle.std.specs.List.{list_all};
-ghost use Rattle.enumset_repr.specs.BitSet as set;
+ghost use Rattle.enumset.specs.Sets as set;
 
 use crate::rights::Right;
 use enumset::{EnumSet, EnumSetType};

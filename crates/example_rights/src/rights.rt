@@ -11,7 +11,7 @@ pub enum Right {
 }
 
 impl EnumSetType for Right {
-    ghost use Rattle.enumset_sets.specs.Laws.Elements.{in_place, lawful_in_integer, lawful_in_place};
+    ghost use Rattle.enumset.specs.Sets.{in_place, lawful_in_integer, lawful_in_place};
     ghost use Rattle.example_rights.specs.contracts.rights.Right.{the_type};
 
     type Repr = u8;

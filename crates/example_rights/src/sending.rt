@@ -1,9 +1,8 @@
 //! Sets that are sent as numbers.
 
 ghost use Rattle.std.specs.Prelude.{◌≡◌, ◌↔◌, true, false, IsTrue, IsSome, IfSome};
-ghost use Rattle.enumset_repr.specs.BitSet as set;
-ghost use Rattle.enumset_repr.specs.Number.{bits, number};
-ghost use Rattle.enumset_sets.specs.Elements.{valid_bits};
+ghost use Rattle.enumset.specs.Sets as set;
+ghost use Rattle.enumset.specs.Sets.{number, bits, valid_bits};
 
 use enumset::{EnumSet, EnumSetType, laws};
 

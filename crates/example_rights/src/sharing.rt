@@ -2,9 +2,8 @@
 
 ghost use Rattle.std.specs.Prelude.{◌≡◌, ◌&&◌, ℕ};
 ghost use Rattle.std.specs.List.{list_all};
-ghost use Rattle.enumset_repr.specs.BitSet as set;
-ghost use Rattle.enumset_sets.specs.Elements.{valid_bits};
-ghost use Rattle.enumset_mixed.specs.Mixed.{unknown_members};
+ghost use Rattle.enumset.specs.Sets as set;
+ghost use Rattle.enumset.specs.Sets.{valid_bits, unknown_members};
 ghost use Rattle.enumset.specs.Folds.{intersection_all};
 
 use enumset::set::MixedEnumSet;

@@ -6,9 +6,7 @@ use Rattle.std.specs.List.Sorted.{IsSorted, IsNonDecreasingBy, IsPartitionPoint,
 use Rattle.std.specs.Ordering.{ordering_index, is_lt}
 use Rattle.std.proofs.lemmas.List.Sorted.{IsNonDecreasingBy-from_sort}
 use Rattle.std.proofs.lemmas.Bool.Decides.{nat_tests}
-use Rattle.enumset_repr.specs.BitSet.{BitSet}
-use Rattle.enumset_repr.specs.Number.{number}
-use Rattle.enumset_repr.specs.Order.{compare}
+use Rattle.enumset.specs.Sets.{BitSet, number, compare}
 use Rattle.enumset_repr.specs.Laws.Order.{compare_number, compare_itself}
 
 module _ (sets : List BitSet) (wanted : BitSet) (sorted : IsSorted compare sets) where

@@ -2,8 +2,7 @@
 --     permission, day, feature      the bit of a variant
 --     dangerous_bits      the bits of the permissions that are dangerous
 use Rattle.std.specs.Prelude.{ℕ, [], ◌∷◌}
-use Rattle.enumset_repr.specs.BitSet.{BitSet, from_list}
-use Rattle.enumset_sets.specs.Elements.{in_place}
+use Rattle.enumset.specs.Sets.{BitSet, from_list, in_place}
 use Rattle.example_set_facts.specs.contracts.features.Feature as features
 use Rattle.example_set_facts.specs.contracts.permissions.Permission as permissions
 use Rattle.example_set_facts.specs.contracts.weekdays.Weekday as weekdays

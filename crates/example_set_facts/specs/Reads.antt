@@ -2,7 +2,7 @@
 --     IsFaultOfBoth      whether a fault is that of the first of two texts; or, if this one lists a set, that of the
 --         other; or, if both do, that a number is too wide
 use Rattle.std.specs.Prelude.{◌≡◌, ◌⊎◌, ℕ, true, List, Some, option_map, is_ok, Result, Err}
-use Rattle.enumset_repr.specs.BitSet.{BitSet}
+use Rattle.enumset.specs.Sets.{BitSet}
 use Rattle.serde_json.specs.Data.{Data}
 use Rattle.enumset.specs.JsonReads.{IsReadOf, value_read}
 use Rattle.enumset.specs.declared.set_json.fault.JsonFault.{JsonFault}

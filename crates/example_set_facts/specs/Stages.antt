@@ -2,7 +2,7 @@
 --     stage      the bit of a stage
 --     title      the title of the stage of a bit
 use Rattle.std.specs.Prelude.{ℕ, List, [], ◌∷◌, codes, slice_index_or}
-use Rattle.enumset_sets.specs.Elements.{in_place}
+use Rattle.enumset.specs.Sets.{in_place}
 use Rattle.example_set_facts.specs.contracts.stages.Stage.{the_type}
 use Rattle.example_set_facts.specs.declared.stages.Stage.{Stage}
 

@@ -1,8 +1,8 @@
 //! Permissions with lists of what is denied.
 
 ghost use Rattle.std.specs.Prelude.{◌≡◌, ◌↔◌, ◌&&◌, ◌||◌, ℕ, not, true, false};
-ghost use Rattle.enumset_repr.specs.BitSet as set;
-ghost use Rattle.enumset_sets.specs.Elements.{valid_bits};
+ghost use Rattle.enumset.specs.Sets as set;
+ghost use Rattle.enumset.specs.Sets.{valid_bits};
 ghost use Rattle.example_set_facts.specs.Bits.{permission};
 
 use crate::permissions::Permission;
@@ -76,7 +76,7 @@ pub fn may_only_read(granted: EnumSet<Permission>) -> bool
 }
 
 /// The permissions of somebody who may read whatever is shared with them, and change it where they may write.
-#[tactic(auto, using(enumset::specs::Sets::set_laws), unfolding(enumset_sets::specs::Elements::place))]
+#[tactic(auto, using(enumset::specs::Sets::set_laws), unfolding(enumset::specs::Sets::place))]
 pub fn of_editor(granted: EnumSet<Permission>) -> EnumSet<Permission>
     ensures { result ≡ set.insert (set.insert (set.remove granted (permission Permission.Delete))
         (permission Permission.Comment)) (permission Permission.Read) }

@@ -1,7 +1,7 @@
 //! Alarms that are raised, acknowledged and cleared.
 
 ghost use Rattle.std.specs.Prelude.{◌≡◌, ◌≤◌, ◌&&◌, ◌||◌, ◌∷◌, ℕ, not, true, false, if◌then◌else◌, IfSome, IfNone};
-ghost use Rattle.enumset_repr.specs.BitSet as set;
+ghost use Rattle.enumset.specs.Sets as set;
 
 use enumset::{EnumSet, EnumSetType};
 

@@ -2,7 +2,7 @@
 
 ghost use Rattle.std.specs.Prelude.{◌≡◌, ◌≤◌, ◌<◌, ◌∷◌, [], ℕ, not, true, IfSome, IfNone, count_by};
 ghost use Rattle.std.specs.List.{list_all};
-ghost use Rattle.enumset_repr.specs.BitSet as set;
+ghost use Rattle.enumset.specs.Sets as set;
 ghost use Rattle.example_set_facts.specs.Bits.{permission};
 
 use crate::permissions::Permission;
@@ -10,7 +10,7 @@ use crate::slices::count_in;
 use enumset::{EnumSet, EnumSetType};
 
 /// How many elements two sets share.
-#[tactic(auto, using(enumset_repr::specs::Laws::Places::chains))]
+#[tactic(auto, using(enumset::specs::Sets::chains))]
 pub fn shared_count<T: EnumSetType>(one: &EnumSet<T>, other: &EnumSet<T>) -> usize
     ensures { result ≡ set.len (set.intersection one.now other.now) }
 {
@@ -18,7 +18,7 @@ pub fn shared_count<T: EnumSetType>(one: &EnumSet<T>, other: &EnumSet<T>) -> usi
 }
 
 /// Whether all elements of a set are in another one.
-#[tactic(auto, using(enumset_repr::specs::Laws::Places::chains))]
+#[tactic(auto, using(enumset::specs::Sets::chains))]
 pub fn are_all_in<T: EnumSetType>(one: &EnumSet<T>, other: &EnumSet<T>) -> bool
     ensures { result ≡ set.is_subset one.now other.now }
 {
@@ -26,7 +26,7 @@ pub fn are_all_in<T: EnumSetType>(one: &EnumSet<T>, other: &EnumSet<T>) -> bool
 }
 
 /// Whether some element of a set is in another one.
-#[tactic(auto, using(enumset_repr::specs::Laws::Places::chains))]
+#[tactic(auto, using(enumset::specs::Sets::chains))]
 pub fn is_some_in<T: EnumSetType>(one: &EnumSet<T>, other: &EnumSet<T>) -> bool
     ensures { result ≡ not (set.is_disjoint one.now other.now) }
 {
@@ -34,7 +34,7 @@ pub fn is_some_in<T: EnumSetType>(one: &EnumSet<T>, other: &EnumSet<T>) -> bool
 }
 
 /// Keeps the elements that another set lacks.
-#[tactic(auto, unfolding(enumset_repr::specs::BitSet::difference))]
+#[tactic(auto, unfolding(enumset::specs::Sets::difference))]
 pub fn keep_absent<T: EnumSetType>(members: &mut EnumSet<T>, other: &EnumSet<T>)
     ensures { members.new ≡ set.difference members.old other.now }
 {
@@ -42,7 +42,7 @@ pub fn keep_absent<T: EnumSetType>(members: &mut EnumSet<T>, other: &EnumSet<T>)
 }
 
 /// Keeps the elements that another set has.
-#[tactic(auto, unfolding(enumset_repr::specs::BitSet::intersection))]
+#[tactic(auto, unfolding(enumset::specs::Sets::intersection))]
 pub fn keep_present<T: EnumSetType>(members: &mut EnumSet<T>, other: &EnumSet<T>)
     ensures { members.new ≡ set.intersection members.old other.now }
 {

@@ -2,8 +2,8 @@
 
 ghost use Rattle.std.specs.Prelude.{◌≡◌, ◌↔◌, true, false, not, count_by, position, option_map};
 ghost use Rattle.std.specs.List.{list_all, list_any, find};
-ghost use Rattle.enumset_repr.specs.BitSet as set;
-ghost use Rattle.enumset_repr.specs.BitSet.{BitSet};
+ghost use Rattle.enumset.specs.Sets as set;
+ghost use Rattle.enumset.specs.Sets.{BitSet};
 ghost use Rattle.example_set_facts.specs.Bits.{feature};
 
 use crate::features::Feature;

@@ -1,7 +1,7 @@
 //! Quorums, majorities, and exactly one of several.
 
 ghost use Rattle.std.specs.Prelude.{◌≡◌, ◌↔◌, ◌≤◌, ◌+◌, not, true, false, IfSome, IfNone};
-ghost use Rattle.enumset_repr.specs.BitSet as set;
+ghost use Rattle.enumset.specs.Sets as set;
 ghost use Rattle.example_set_facts.specs.Bits.{permission};
 
 use crate::permissions::Permission;

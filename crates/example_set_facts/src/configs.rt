@@ -2,10 +2,8 @@
 
 ghost use Rattle.std.specs.Prelude.{◌≡◌, ◌≢◌, ◌⊎◌, ℕ, true, false, Some, Ok, Err, IfOk, IfErr, IfSome, IfNone};
 ghost use Rattle.std.specs.Prelude.{option_map, is_ok, string_bytes, decimal};
-ghost use Rattle.enumset_repr.specs.BitSet as set;
-ghost use Rattle.enumset_repr.specs.BitSet.{BitSet};
-ghost use Rattle.enumset_repr.specs.Number.{number};
-ghost use Rattle.enumset_sets.specs.Elements.{valid_bits};
+ghost use Rattle.enumset.specs.Sets as set;
+ghost use Rattle.enumset.specs.Sets.{BitSet, number, valid_bits};
 ghost use Rattle.enumset.specs.Json.{set_of_number};
 ghost use Rattle.enumset.specs.JsonNames.{list_value, set_of_list};
 ghost use Rattle.enumset.specs.JsonReads.{IsReadOf, value_read};

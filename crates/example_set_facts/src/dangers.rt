@@ -1,7 +1,7 @@
 //! A test of elements that users write, and sets by it.
 
 ghost use Rattle.std.specs.Prelude.{◌≡◌, not};
-ghost use Rattle.enumset_repr.specs.BitSet as set;
+ghost use Rattle.enumset.specs.Sets as set;
 ghost use Rattle.example_set_facts.specs.Bits.{permission, dangerous_bits};
 
 use crate::permissions::Permission;
@@ -15,7 +15,7 @@ pub fn is_dangerous(asked: Permission) -> bool
 }
 
 /// The dangerous ones of a user's permissions, collected one by one.
-#[tactic(auto, using(enumset::specs::Sets::set_laws), unfolding(enumset_sets::specs::Elements::place))]
+#[tactic(auto, using(enumset::specs::Sets::set_laws), unfolding(enumset::specs::Sets::place))]
 pub fn dangerous(granted: EnumSet<Permission>) -> EnumSet<Permission>
     ensures { result ≡ set.intersection granted dangerous_bits }
 {
@@ -29,7 +29,7 @@ pub fn dangerous(granted: EnumSet<Permission>) -> EnumSet<Permission>
 }
 
 /// Keeps the permissions that are not dangerous.
-#[tactic(auto, unfolding(enumset_repr::specs::BitSet::difference))]
+#[tactic(auto, unfolding(enumset::specs::Sets::difference))]
 pub fn keep_harmless(granted: &mut EnumSet<Permission>)
     ensures { granted.new ≡ set.difference granted.old dangerous_bits }
 {
@@ -37,7 +37,7 @@ pub fn keep_harmless(granted: &mut EnumSet<Permission>)
 }
 
 /// Whether one of a user's permissions is dangerous.
-#[tactic(auto, using(enumset_repr::specs::Laws::Places::chains))]
+#[tactic(auto, using(enumset::specs::Sets::chains))]
 pub fn has_dangerous(granted: EnumSet<Permission>) -> bool
     ensures { result ≡ not (set.is_disjoint granted dangerous_bits) }
 {
@@ -45,7 +45,7 @@ pub fn has_dangerous(granted: EnumSet<Permission>) -> bool
 }
 
 /// How many of a user's permissions are dangerous.
-#[tactic(auto, using(enumset_repr::specs::Laws::Places::chains))]
+#[tactic(auto, using(enumset::specs::Sets::chains))]
 pub fn dangerous_count(granted: EnumSet<Permission>) -> usize
     ensures { result ≡ set.len (set.intersection granted dangerous_bits) }
 {

@@ -1,7 +1,7 @@
 //! Features that are enabled, and what they need.
 
 ghost use Rattle.std.specs.Prelude.{◌≡◌, ◌↔◌, true, false, IfOk, IfErr};
-ghost use Rattle.enumset_repr.specs.BitSet as set;
+ghost use Rattle.enumset.specs.Sets as set;
 ghost use Rattle.example_set_facts.specs.Bits.{feature};
 
 use crate::features::Feature;

@@ -1,8 +1,8 @@
 //! Sets of tokens of a parser: which token a phrase may begin with, and which may come after it.
 
 ghost use Rattle.std.specs.Prelude.{◌≡◌, ◌↔◌, ◌&&◌, ◌||◌, ℕ, true, false};
-ghost use Rattle.enumset_repr.specs.BitSet as set;
-ghost use Rattle.enumset_sets.specs.Elements.{valid_bits};
+ghost use Rattle.enumset.specs.Sets as set;
+ghost use Rattle.enumset.specs.Sets.{valid_bits};
 
 use enumset::{EnumSet, EnumSetType};
 

@@ -1,8 +1,8 @@
 //! Sets that are split into parts, and put together again.
 
 ghost use Rattle.std.specs.Prelude.{◌≡◌, ◌↔◌, ◌≤◌, ◌+◌, ℕ, true, false, IfSome, IfNone, option_map};
-ghost use Rattle.enumset_repr.specs.BitSet as set;
-ghost use Rattle.enumset_repr.specs.Ends.{least, greatest};
+ghost use Rattle.enumset.specs.Sets as set;
+ghost use Rattle.enumset.specs.Sets.{least, greatest};
 
 use enumset::{EnumSet, EnumSetType};
 

@@ -1,7 +1,7 @@
 //! What permissions cost.
 
 ghost use Rattle.std.specs.Prelude.{◌≡◌, ◌≤◌, sum_by, IfSome, IfNone};
-ghost use Rattle.enumset_repr.specs.BitSet as set;
+ghost use Rattle.enumset.specs.Sets as set;
 ghost use Rattle.example_set_facts.specs.Bits.{permission};
 ghost use Rattle.example_set_facts.specs.Prices.{price};
 
@@ -22,7 +22,7 @@ pub fn price_of(asked: Permission) -> u32
 }
 
 /// What permissions cost together, if it fits.
-#[tactic(auto, using(enumset_repr::specs::Laws::Loops::loops))]
+#[tactic(auto, using(enumset::specs::Sets::loops))]
 pub fn total_price(granted: EnumSet<Permission>) -> Option<u32>
     ensures total { IfSome result (λ n. n ≡ sum_by price (set.ascending granted)) }
     ensures none { IfNone result (4294967296 ≤ sum_by price (set.ascending granted)) }

@@ -1,9 +1,8 @@
 //! Days on which somebody is free, and shifts that go round the end of a week.
 
 ghost use Rattle.std.specs.Prelude.{◌≡◌, ◌↔◌, ◌<◌, ◌≤◌, ◌&&◌, ℕ, not, true, false, if◌then◌else◌, IfSome, IfNone, option_map};
-ghost use Rattle.enumset_repr.specs.BitSet as set;
-ghost use Rattle.enumset_repr.specs.Ends.{least};
-ghost use Rattle.enumset_sets.specs.Elements.{valid_bits};
+ghost use Rattle.enumset.specs.Sets as set;
+ghost use Rattle.enumset.specs.Sets.{least, valid_bits};
 ghost use Rattle.example_set_facts.specs.Bits.{day};
 
 use crate::weekdays::Weekday;

@@ -5,9 +5,8 @@ ghost use Rattle.std.specs.List.{slice_index_or};
 ghost use Rattle.std.specs.List.Sorted.{IsPartitionPoint, IsPermutation, IsSearchInRange, IsSorted};
 ghost use Rattle.std.specs.Ordering.{ord_max, ord_min};
 ghost use Rattle.std.specs.declared.cmp.Ordering.TheVariants.{Less, Greater};
-ghost use Rattle.enumset_repr.specs.BitSet as set;
-ghost use Rattle.enumset_repr.specs.Number.{number};
-ghost use Rattle.enumset_repr.specs.Order.{compare};
+ghost use Rattle.enumset.specs.Sets as set;
+ghost use Rattle.enumset.specs.Sets.{number, compare};
 
 use enumset::{EnumSet, EnumSetType, laws};
 use std::alloc::AllocError;

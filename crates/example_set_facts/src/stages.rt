@@ -2,7 +2,7 @@
 
 ghost use Rattle.std.specs.Prelude.{◌≡◌, IfOk, string_bytes, codes};
 ghost use Rattle.std.specs.List.{join_by};
-ghost use Rattle.enumset_repr.specs.BitSet as set;
+ghost use Rattle.enumset.specs.Sets as set;
 ghost use Rattle.example_set_facts.specs.Stages.{title};
 
 use enumset::{EnumSet, EnumSetType, laws};
@@ -19,7 +19,7 @@ pub enum Stage {
 
 impl EnumSetType for Stage {
     ghost use Rattle.std.specs.Prelude.{◌∷◌, []};
-    ghost use Rattle.enumset_sets.specs.Laws.Elements.{in_place, lawful_in_integer, lawful_in_place};
+    ghost use Rattle.enumset.specs.Sets.{in_place, lawful_in_integer, lawful_in_place};
     ghost use Rattle.example_set_facts.specs.contracts.stages.Stage.{the_type};
     ghost use Rattle.example_set_facts.specs.declared.stages.Stage.TheVariants as variant;
 

@@ -1,7 +1,7 @@
 //! Texts of the names of a set's elements, with commas between.
 
 ghost use Rattle.std.specs.Prelude.{◌≡◌, true, map, option_map, position, string_bytes, bytes_eq, IfOk};
-ghost use Rattle.enumset_repr.specs.BitSet as set;
+ghost use Rattle.enumset.specs.Sets as set;
 ghost use Rattle.enumset.specs.Names.{name_of, names_of};
 ghost use Rattle.example_set_facts.specs.Bits.{permission};
 ghost use Rattle.example_set_facts.specs.Texts.{joined, title, all_titles};

@@ -1,8 +1,8 @@
 //! Allow-lists with exceptions, and capabilities of versions.
 
 ghost use Rattle.std.specs.Prelude.{◌≡◌, ◌↔◌, ◌&&◌, ◌||◌, ℕ, not, true, false, if◌then◌else◌, IfOk, IfErr};
-ghost use Rattle.enumset_repr.specs.BitSet as set;
-ghost use Rattle.enumset_sets.specs.Folds.{union_all};
+ghost use Rattle.enumset.specs.Sets as set;
+ghost use Rattle.enumset.specs.Sets.{union_all};
 ghost use Rattle.example_set_facts.specs.Bits.{day};
 
 use crate::permissions::Permission;

@@ -1,7 +1,7 @@
 //! What most of several sets have.
 
 ghost use Rattle.std.specs.Prelude.{◌≡◌, ◌&&◌, ◌||◌, ℕ, true};
-ghost use Rattle.enumset_repr.specs.BitSet as set;
+ghost use Rattle.enumset.specs.Sets as set;
 
 use enumset::{EnumSet, EnumSetType};
 

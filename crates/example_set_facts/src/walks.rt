@@ -1,7 +1,7 @@
 //! Loops over sets. Each has an invariant in `proofs/walks`: what is there so far and what is still to come make the whole.
 
 ghost use Rattle.std.specs.Prelude.{◌≡◌, fold};
-ghost use Rattle.enumset_repr.specs.BitSet as set;
+ghost use Rattle.enumset.specs.Sets as set;
 
 use enumset::{EnumSet, EnumSetType};
 

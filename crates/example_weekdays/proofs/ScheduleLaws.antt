@@ -1,6 +1,6 @@
 -- The schedules of a text, one line more.
 use Rattle.std.proofs.Common.{◌≡◌, List, [], ◌∷◌, ◌++◌, Result, Ok, Err, refl, ap, sym, append_assoc}
-use Rattle.enumset_repr.specs.BitSet.{BitSet}
+use Rattle.enumset.specs.Sets.{BitSet}
 use Rattle.example_weekdays.specs.Schedules.{Trouble, and_schedules, IsFaultOf}
 use Rattle.example_weekdays.specs.declared.fault.Fault.{Fault}
 use Rattle.example_weekdays.specs.declared.fault.Fault.TheVariants.{OutOfMemory, NoName, NoDay}

@@ -13,8 +13,7 @@ use Rattle.std.specs.Char.{is_ascii_whitespace}
 use Rattle.std.specs.List.{slice_split, position_or_len, after_first}
 use Rattle.std.specs.Str.{byte}
 use Rattle.std.specs.Str.Lines.{lines}
-use Rattle.enumset_repr.specs.BitSet.{BitSet, empty, insert}
-use Rattle.enumset_sets.specs.Elements.{in_place}
+use Rattle.enumset.specs.Sets.{BitSet, empty, insert, in_place}
 use Rattle.enumset.specs.Names.{names_of, bit_named}
 use Rattle.example_weekdays.specs.contracts.weekday.Weekday.{the_type}
 use Rattle.example_weekdays.specs.declared.fault.Fault.{Fault}

@@ -4,8 +4,7 @@
 --     day_after, wait      the day after one;  how many days from one day on until another comes
 --     IsNearest      a day is in a set, and no day of the set comes sooner
 use Rattle.std.specs.Prelude.{◌≡◌, ℕ, ◌+◌, ◌-◌, ◌≤◌, ◌==◌, nat_le, if◌then◌else◌, true}
-use Rattle.enumset_repr.specs.BitSet.{BitSet, contains, below}
-use Rattle.enumset_sets.specs.Elements.{in_place}
+use Rattle.enumset.specs.Sets.{BitSet, contains, below, in_place}
 use Rattle.example_weekdays.specs.declared.weekday.Weekday.{Weekday}
 use Rattle.example_weekdays.specs.contracts.weekday.Weekday.{the_type}
 

@@ -1,7 +1,7 @@
 //! The next day on which everybody is free.
 
 ghost use Rattle.std.specs.Prelude.{◌≡◌, ◌↔◌, IfSome, IsNone};
-ghost use Rattle.enumset_repr.specs.BitSet as set;
+ghost use Rattle.enumset.specs.Sets as set;
 ghost use Rattle.enumset.specs.Folds.{intersection_all};
 ghost use Rattle.example_weekdays.specs.Week.{bit, day_after, week, IsNearest};
 
@@ -26,7 +26,7 @@ impl Weekday {
 }
 
 /// The days on which everybody is free: each day, if there is nobody.
-#[tactic(auto, using(enumset::specs::Sets::set_laws), unfolding(enumset_sets::specs::Elements::valid_bits))]
+#[tactic(auto, using(enumset::specs::Sets::set_laws), unfolding(enumset::specs::Sets::valid_bits))]
 pub fn common_days(schedules: &[EnumSet<Weekday>]) -> EnumSet<Weekday>
     ensures { result ≡ intersection_all week schedules.now }
 {

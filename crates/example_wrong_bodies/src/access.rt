@@ -1,7 +1,7 @@
 //! Permissions that are granted, denied and asked for.
 
 ghost use Rattle.std.specs.Prelude.{◌≡◌, ◌↔◌, ◌≤◌, ℕ, true, false, IfSome, IfNone};
-ghost use Rattle.enumset_repr.specs.BitSet as set;
+ghost use Rattle.enumset.specs.Sets as set;
 ghost use Rattle.example_wrong_bodies.specs.Permissions.{permission};
 
 use crate::permissions::Permission;

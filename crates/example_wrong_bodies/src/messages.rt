@@ -1,9 +1,8 @@
 //! Bytes of messages, some bits of which are reserved for later versions.
 
 ghost use Rattle.std.specs.Prelude.{◌≡◌, ◌↔◌, IfSome, IsSome};
-ghost use Rattle.enumset_repr.specs.BitSet as set;
-ghost use Rattle.enumset_repr.specs.Number.{bits};
-ghost use Rattle.enumset_sets.specs.Elements.{valid_bits};
+ghost use Rattle.enumset.specs.Sets as set;
+ghost use Rattle.enumset.specs.Sets.{bits, valid_bits};
 
 use crate::permissions::Permission;
 use enumset::{EnumSet, EnumSetType};

@@ -1,7 +1,7 @@
 //! The parts of a set.
 
 ghost use Rattle.std.specs.Prelude.{◌≡◌, true};
-ghost use Rattle.enumset_repr.specs.BitSet as set;
+ghost use Rattle.enumset.specs.Sets as set;
 
 use enumset::{EnumSet, EnumSetType};
 

@@ -1,5 +1,5 @@
 use Rattle.std.proofs.Common.{ap, subst, ◌∙◌, arith}
-use Rattle.enumset_repr.specs.BitSet.{contains}
+use Rattle.enumset.specs.Sets.{contains}
 use Rattle.enumset_repr.specs.Laws.Algebra.{algebra, contains_inserted}
 use Rattle.enumset_repr.specs.Laws.Members.{contains_from_list}
 use Rattle.enumset_sets.specs.Laws.Elements.{bits_of_variants}

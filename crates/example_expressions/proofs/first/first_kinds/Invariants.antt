@@ -1,4 +1,4 @@
-use Rattle.enumset_repr.specs.BitSet.{len}
+use Rattle.enumset.specs.Sets.{len}
 use Rattle.example_expressions.proofs.Firsts.{IsWorklist}
 use Rattle.example_expressions.proofs.first.first_kinds.Given as goal
 

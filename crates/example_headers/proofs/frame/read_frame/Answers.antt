@@ -1,6 +1,6 @@
 use Rattle.std.proofs.Common.{ap, ◌∙◌, arith}
 use Rattle.std.proofs.lemmas.Grind.{common_steps}
-use Rattle.enumset_repr.specs.Number.{bits}
+use Rattle.enumset.specs.Sets.{bits}
 use Rattle.enumset_repr.specs.Laws.Numbers.{bits_number, number_bits}
 use Rattle.example_headers.proofs.FrameLaws.{split}
 use Rattle.example_headers.proofs.frame.read_frame.Goals as goal

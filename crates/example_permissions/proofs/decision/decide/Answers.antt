@@ -1,5 +1,5 @@
 use Rattle.std.proofs.Common.{◌≡◌, arith}
-use Rattle.enumset_repr.specs.BitSet.{empty}
+use Rattle.enumset.specs.Sets.{empty}
 use Rattle.enumset_repr.specs.Laws.Members.{members, same_set}
 use Rattle.enumset_repr.specs.Laws.Ascending.{is_empty_iff}
 use Rattle.example_permissions.proofs.decision.decide.Goals as goal

@@ -1,5 +1,5 @@
 use Rattle.std.proofs.Common.{◌≡◌, ℕ, ◌||◌, drop}
-use Rattle.enumset_repr.specs.BitSet.{contains}
+use Rattle.enumset.specs.Sets.{contains}
 use Rattle.example_permissions.specs.Policy.{is_granted}
 use Rattle.example_permissions.proofs.decision.granted.Given as goal
 

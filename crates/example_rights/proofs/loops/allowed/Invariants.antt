@@ -1,5 +1,5 @@
 use Rattle.std.proofs.Common.{◌≡◌}
-use Rattle.enumset_repr.specs.BitSet.{from_list, union, difference}
+use Rattle.enumset.specs.Sets.{from_list, union, difference}
 use Rattle.example_rights.proofs.loops.allowed.Given as goal
 
 -- what is allowed so far, with what is allowed of those to come

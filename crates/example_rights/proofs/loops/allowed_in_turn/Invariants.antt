@@ -1,5 +1,5 @@
 use Rattle.std.proofs.Common.{◌≡◌}
-use Rattle.enumset_repr.specs.BitSet.{len, union, difference}
+use Rattle.enumset.specs.Sets.{len, union, difference}
 use Rattle.example_rights.proofs.loops.allowed_in_turn.Given as goal
 
 -- what is allowed so far, with what is allowed of those to come

@@ -1,5 +1,5 @@
 use Rattle.std.proofs.Common.{◌≡◌, ◌+◌, count_by}
-use Rattle.enumset_repr.specs.BitSet.{contains, ascending}
+use Rattle.enumset.specs.Sets.{contains, ascending}
 use Rattle.example_rights.proofs.loops.denied_count.Given as goal
 
 -- the count so far, plus the count of the elements to come

@@ -1,5 +1,5 @@
 use Rattle.std.proofs.Common.{◌≡◌, find}
-use Rattle.enumset_repr.specs.BitSet.{contains, ascending}
+use Rattle.enumset.specs.Sets.{contains, ascending}
 use Rattle.example_rights.proofs.loops.first_denied.Given as goal
 
 -- the first of those to come is the first of all

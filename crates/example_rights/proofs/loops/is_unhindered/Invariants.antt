@@ -1,6 +1,6 @@
 use Rattle.std.proofs.Common.{◌≡◌}
 use Rattle.std.specs.List.{list_any}
-use Rattle.enumset_repr.specs.BitSet.{contains, ascending}
+use Rattle.enumset.specs.Sets.{contains, ascending}
 use Rattle.example_rights.proofs.loops.is_unhindered.Given as goal
 
 -- one of those to come is denied exactly if one of all is

@@ -1,5 +1,5 @@
 use Rattle.std.proofs.Common.{◌≡◌, nat_lt, find}
-use Rattle.enumset_repr.specs.BitSet.{ascending}
+use Rattle.enumset.specs.Sets.{ascending}
 use Rattle.example_rights.proofs.loops.next_granted.Given as goal
 
 -- the first of those to come is the first of all

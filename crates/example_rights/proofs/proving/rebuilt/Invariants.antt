@@ -1,5 +1,5 @@
 use Rattle.std.proofs.Common.{◌≡◌}
-use Rattle.enumset_repr.specs.BitSet.{insert_each}
+use Rattle.enumset.specs.Sets.{insert_each}
 use Rattle.example_rights.proofs.proving.rebuilt.Given as goal
 
 -- the copy, with the rights that are still to come, is the granted set

@@ -1,5 +1,5 @@
 use Rattle.std.proofs.Common.{◌≡◌, drop}
-use Rattle.enumset_sets.specs.Elements.{valid_bits}
+use Rattle.enumset.specs.Sets.{valid_bits}
 use Rattle.enumset.specs.Folds.{intersection_all}
 use Rattle.example_rights.proofs.sharing.shared_by_all.Given as goal
 

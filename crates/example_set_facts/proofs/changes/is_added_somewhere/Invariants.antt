@@ -1,6 +1,6 @@
 use Rattle.std.proofs.Common.{◌≡◌, drop}
 use Rattle.std.specs.List.{list_any}
-use Rattle.enumset_repr.specs.BitSet.{contains}
+use Rattle.enumset.specs.Sets.{contains}
 use Rattle.example_set_facts.specs.Bits.{feature}
 use Rattle.example_set_facts.proofs.changes.is_added_somewhere.Given as goal
 

@@ -1,5 +1,5 @@
 use Rattle.std.proofs.Common.{◌≡◌}
-use Rattle.enumset_repr.specs.BitSet.{from_list, union, intersection}
+use Rattle.enumset.specs.Sets.{from_list, union, intersection}
 use Rattle.example_set_facts.specs.Bits.{dangerous_bits}
 use Rattle.example_set_facts.proofs.dangers.dangerous.Given as goal
 

@@ -1,5 +1,5 @@
 use Rattle.std.proofs.Common.{◌≡◌, ◌++◌, map, filter}
-use Rattle.enumset_repr.specs.BitSet.{contains, ascending}
+use Rattle.enumset.specs.Sets.{contains, ascending}
 use Rattle.example_set_facts.proofs.lists.shared_list.Given as goal
 
 -- the elements so far, and those to come that the other set has

@@ -1,5 +1,5 @@
 use Rattle.std.proofs.Common.{◌≡◌, ◌+◌, sum_by}
-use Rattle.enumset_repr.specs.BitSet.{ascending}
+use Rattle.enumset.specs.Sets.{ascending}
 use Rattle.example_set_facts.specs.Prices.{price}
 use Rattle.example_set_facts.proofs.prices.total_price.Given as goal
 

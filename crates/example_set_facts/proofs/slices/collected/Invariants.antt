@@ -1,5 +1,5 @@
 use Rattle.std.proofs.Common.{◌≡◌, map, take}
-use Rattle.enumset_repr.specs.BitSet.{from_list}
+use Rattle.enumset.specs.Sets.{from_list}
 use Rattle.example_set_facts.proofs.slices.collected.Given as goal
 
 -- the elements so far were inserted

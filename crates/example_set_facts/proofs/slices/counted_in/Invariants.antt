@@ -1,5 +1,5 @@
 use Rattle.std.proofs.Common.{◌≡◌, ◌+◌, ◌≤◌, drop, count_by}
-use Rattle.enumset_repr.specs.BitSet.{contains}
+use Rattle.enumset.specs.Sets.{contains}
 use Rattle.example_set_facts.proofs.slices.counted_in.Given as goal
 
 -- the count so far, with that of the elements to come; it is at most the number of elements so far

@@ -1,5 +1,5 @@
 use Rattle.std.proofs.Common.{◌≡◌, ◌++◌, true, map, string_bytes}
-use Rattle.enumset_repr.specs.BitSet.{ascending}
+use Rattle.enumset.specs.Sets.{ascending}
 use Rattle.enumset.specs.Names.{name_of, names_of}
 use Rattle.example_set_facts.specs.Texts.{joined}
 use Rattle.example_set_facts.proofs.texts.names_text.Given as goal

@@ -1,5 +1,5 @@
 use Rattle.std.proofs.Common.{◌≡◌}
-use Rattle.enumset_repr.specs.BitSet.{from_list, union, intersection, difference}
+use Rattle.enumset.specs.Sets.{from_list, union, intersection, difference}
 use Rattle.example_set_facts.proofs.walks.sorted_out.Given as goal
 
 -- each part so far, with what comes to it of those to come

@@ -1,5 +1,5 @@
 use Rattle.std.proofs.Common.{◌≡◌}
-use Rattle.enumset_repr.specs.BitSet.{len, union, intersection}
+use Rattle.enumset.specs.Sets.{len, union, intersection}
 use Rattle.example_set_facts.proofs.walks.taken_out.Given as goal
 
 -- what is taken so far, with what will be taken of the rest

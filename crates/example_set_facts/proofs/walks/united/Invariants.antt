@@ -1,5 +1,5 @@
 use Rattle.std.proofs.Common.{◌≡◌, drop, fold}
-use Rattle.enumset_repr.specs.BitSet.{empty, union}
+use Rattle.enumset.specs.Sets.{empty, union}
 use Rattle.example_set_facts.proofs.walks.united.Given as goal
 
 -- the sets so far united, and then those to come

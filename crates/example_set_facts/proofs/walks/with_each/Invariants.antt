@@ -1,5 +1,5 @@
 use Rattle.std.proofs.Common.{◌≡◌}
-use Rattle.enumset_repr.specs.BitSet.{from_list, union}
+use Rattle.enumset.specs.Sets.{from_list, union}
 use Rattle.example_set_facts.proofs.walks.with_each.Given as goal
 
 -- what is there so far, with those to come

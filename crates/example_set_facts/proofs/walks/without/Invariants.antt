@@ -1,5 +1,5 @@
 use Rattle.std.proofs.Common.{◌≡◌}
-use Rattle.enumset_repr.specs.BitSet.{from_list, union, difference}
+use Rattle.enumset.specs.Sets.{from_list, union, difference}
 use Rattle.example_set_facts.proofs.walks.without.Given as goal
 
 -- what is left so far, with what will be left of those to come

@@ -1,5 +1,5 @@
 use Rattle.std.proofs.Common.{◌≡◌}
-use Rattle.enumset_repr.specs.BitSet.{from_list, difference}
+use Rattle.enumset.specs.Sets.{from_list, difference}
 use Rattle.example_set_facts.proofs.walks.without_each.Given as goal
 
 -- what is left so far, without those to come

@@ -1,5 +1,5 @@
 use Rattle.std.proofs.Common.{◌≡◌, ℕ, ◌<◌, ◌≤◌, true}
-use Rattle.enumset_repr.specs.BitSet as set
+use Rattle.enumset.specs.Sets as set
 use Rattle.example_weekdays.specs.Week.{bit, wait}
 use Rattle.example_weekdays.proofs.schedule.nearest_day.Given as goal
 

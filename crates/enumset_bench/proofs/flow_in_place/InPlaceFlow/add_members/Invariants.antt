@@ -1,4 +1,4 @@
-use Rattle.enumset_repr.specs.BitSet.{len}
+use Rattle.enumset.specs.Sets.{len}
 use Rattle.enumset_bench.proofs.flow_in_place.InPlaceFlow.add_members.Given as goal
 
 abbrev pub decreases-loop-first : goal.decreases-loop-first

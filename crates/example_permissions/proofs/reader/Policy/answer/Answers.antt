@@ -1,6 +1,6 @@
 use Rattle.std.proofs.Common.{◌≡◌, [], Some, None, sym, ap, subst, ◌∙◌, refl, arith}
 use Rattle.std.specs.Str.Iter.{split_ascii_whitespace_text}
-use Rattle.enumset_repr.specs.BitSet.{empty}
+use Rattle.enumset.specs.Sets.{empty}
 use Rattle.enumset.specs.Names.{bit_named}
 use Rattle.example_permissions.specs.Policy.{right_bit}
 use Rattle.example_permissions.specs.Answers.{user_of, IsDecision}

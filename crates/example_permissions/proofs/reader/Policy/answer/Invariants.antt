@@ -1,6 +1,6 @@
 use Rattle.std.proofs.Common.{◌≡◌}
 use Rattle.std.specs.Str.Iter.{split_ascii_whitespace_text}
-use Rattle.enumset_repr.specs.BitSet.{empty}
+use Rattle.enumset.specs.Sets.{empty}
 use Rattle.example_permissions.specs.Reading.{words_of, rights_in}
 use Rattle.example_permissions.proofs.reader.Policy.answer.Given as goal
 
