@@ -3,8 +3,7 @@
 ghost use Rattle.std.specs.Prelude.{◌≡◌, ◌&&◌, ℕ};
 ghost use Rattle.std.specs.List.{list_all};
 ghost use Rattle.enumset.specs.Sets as set;
-ghost use Rattle.enumset.specs.Sets.{valid_bits, unknown_members};
-ghost use Rattle.enumset.specs.Folds.{intersection_all};
+ghost use Rattle.enumset.specs.Sets.{valid_bits, intersection_all, unknown_members};
 
 use enumset::set::MixedEnumSet;
 use enumset::{EnumSet, EnumSetType, EnumSetTypeWithRepr, laws};

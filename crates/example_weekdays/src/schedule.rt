@@ -2,7 +2,7 @@
 
 ghost use Rattle.std.specs.Prelude.{◌≡◌, ◌↔◌, IfSome, IsNone};
 ghost use Rattle.enumset.specs.Sets as set;
-ghost use Rattle.enumset.specs.Folds.{intersection_all};
+ghost use Rattle.enumset.specs.Sets.{intersection_all};
 ghost use Rattle.example_weekdays.specs.Week.{bit, day_after, week, IsNearest};
 
 use crate::weekday::Weekday;

@@ -1,6 +1,5 @@
 use Rattle.std.proofs.Common.{◌≡◌, drop}
-use Rattle.enumset.specs.Sets.{valid_bits}
-use Rattle.enumset.specs.Folds.{intersection_all}
+use Rattle.enumset.specs.Sets.{valid_bits, intersection_all}
 use Rattle.example_rights.proofs.sharing.shared_by_all.Given as goal
 
 -- what the grants still to come leave of the rights shared so far is what all grants share

@@ -1,5 +1,5 @@
 use Rattle.std.proofs.Common.{◌≡◌, drop}
-use Rattle.enumset.specs.Folds.{intersection_all}
+use Rattle.enumset.specs.Sets.{intersection_all}
 use Rattle.example_weekdays.specs.Week.{week}
 use Rattle.example_weekdays.proofs.schedule.common_days.Given as goal
 
