@@ -540,9 +540,8 @@ impl<T: EnumSetType> EnumSet<T> {
     }
 
     /// Removes each element for which `keep` returns false. It is called once for each, ascending by bit. What is left is
-    /// a part of the set, whatever `keep` does. If `keep` tests
-    /// only the bit, exactly the elements whose bits pass stay. The test may also read what `keep` captured, if no call
-    /// changes it.
+    /// a part of the set, whatever `keep` does. If `keep` tests only the bit, exactly the elements whose bits pass stay.
+    /// The test may also read what `keep` captured, if no call changes it.
     ///
     /// No clause says what the calls leave in a variable that `keep` borrows and changes, like a count of its calls: the
     /// variable has some value then. To count the removed elements, compare `len` before and after.

@@ -10,7 +10,7 @@ use denote.Enum.Bare.{tag_one}
 use Rattle.enumset.specs.Sets.{BitSet, is_in, contains, empty, insert, remove, from_list, union, intersection, is_subset, valid_bits, place, in_place}
 use Rattle.enumset_repr.specs.Laws.Algebra.{intersection_right}
 use Rattle.enumset_repr.specs.Laws.Members.{members, same_set, contains_from_list, contains_union, contains_is_subset}
-use Rattle.enumset_sets.specs.Laws.Elements.{place_is}
+use Rattle.enumset_sets.specs.Laws.Elements.{place_is, place_is_valid}
 use Rattle.example_expressions.specs.contracts.part.Part.{the_type}
 use Rattle.example_expressions.specs.declared.part.Part.{Part}
 use Rattle.example_expressions.specs.declared.part.Part.TheVariants.{Sum, Product, Operand}
@@ -33,10 +33,10 @@ pub record IsWorklist (whole : Part) (kinds left pending : BitSet) : Type 0 wher
   pub parts_sound : (part : Part) → contains pending (part_bit part) ≡ true → (kind : ℕ) → CanBegin part kind → CanBegin whole kind
 
 one_part : (part other : Part) → part_bit part ≡ part_bit other → part ≡ other
-one_part part other same = tag_one the_type tt part other (sym (place_is the_type part).0 ∙ same ∙ (place_is the_type other).0)
+one_part part other same = tag_one the_type tt part other (sym (place_is the_type part) ∙ same ∙ place_is the_type other)
 
 is_part : (part : Part) → contains (valid_bits (in_place the_type)) (part_bit part) ≡ true
-is_part part = (place_is the_type part).1
+is_part part = (place_is_valid the_type part).1
 
 pub at_first : (whole : Part) → IsWorklist whole empty (valid_bits (in_place the_type)) (insert empty (part_bit whole))
 at_first whole = record {

@@ -9,5 +9,5 @@ use Rattle.example_set_facts.specs.declared.stages.Stage.TheVariants.{Draft, InR
 use Rattle.example_set_facts.specs.Stages.{stage, title}
 
 pub text_of_stages : (s : BitSet) → (ascending s ≡ ascending s) × (is_subset s (valid_bits (in_place the_type)) ≡ true → joined_text (map (text_at stage (Draft ∷ InReview ∷ Published ∷ []) (λ v. Some (title (stage v)))) (ascending s)) ≡ Some (join_by title (codes " | ") (ascending s)))
-unfolding place valid_bits
-text_of_stages = text_of_known stage (Draft ∷ InReview ∷ Published ∷ []) (λ v. Some (title (stage v))) title _ refl
+unfolding place
+text_of_stages = text_of_known (in_place the_type) (Draft ∷ InReview ∷ Published ∷ []) (λ v. Some (title (stage v))) title refl

@@ -12,9 +12,20 @@ use Rattle.enumset_repr.specs.Laws.Sets.{len_symmetric_difference}
 use Rattle.enumset_repr.specs.Laws.Decided.{decided}
 use Rattle.enumset_repr.specs.Laws.DecidedEnds.{least_in}
 
-pub is_empty_len : (s : BitSet) → is_empty s ≡ (len s == 0)
+-- ---- sets whose members are counted
+
+-- a call that shows a set whose members are counted
+pub counted : BitSet → Bool → Bool
+counted u w = w
+
+pub counted_at : (s : BitSet) → (len s ≡ len s) × (counted s true ≡ true)
+unfolding counted
+counted_at s = (refl, refl)
+
+-- a test for the empty set is a question of numbers only where members are counted
+pub empty_len : (s u : BitSet) (w : Bool) → (is_empty s ≡ is_empty s) × (counted u w ≡ counted u w) × (is_empty s ≡ (len s == 0))
 unfolding is_empty
-is_empty_len s = refl
+empty_len s u w = (refl, refl, refl)
 
 subset_len : (s t : BitSet) → (is_subset s t ≡ true) ↔ (len (difference s t) ≡ 0)
 subset_len s t = (λ within. let e : difference s t ≡ empty = grind (arith, decided) in ap len e ∙ len_empty, λ none. let e = (len_zero_iff (difference s t)).0 none in grind (arith, decided))
@@ -40,17 +51,9 @@ len_of_symmetric_difference s t = (refl, len_symmetric_difference s t)
 pub len_union_covers : (s t : BitSet) → (len (union s t) ≡ len (union s t)) × (len (union s t) ≡ len s → is_subset t s ≡ true) × (is_subset t s ≡ true → len (union s t) ≡ len s)
 len_union_covers s t = (refl, (λ e. let h = len_union_same s t in grind (arith, nat_tests)), (λ e. let h = len_union_same s t in grind (arith, nat_tests)))
 
-pub ruleset counts = (len_of_union, len_of_difference, len_of_intersection, len_of_symmetric_difference, len_insert, len_remove, len_none, is_empty_len, len_union_covers)
+pub ruleset counts = (len_of_union, len_of_difference, len_of_intersection, len_of_symmetric_difference, len_insert, len_remove, len_none, counted_at, empty_len, len_union_covers)
 
 -- ---- subsets and disjoint sets, in a proof that counts
-
--- a call that shows a set whose members are counted
-pub counted : BitSet → Bool → Bool
-counted u w = w
-
-pub counted_at : (s : BitSet) → (len s ≡ len s) × (counted s true ≡ true)
-unfolding counted
-counted_at s = (refl, refl)
 
 pub len_of_subset : (s t u : BitSet) (w : Bool) → (is_subset s t ≡ is_subset s t) × (counted u w ≡ counted u w) × ((is_subset s t ≡ true) ↔ (len (difference s t) ≡ 0))
 len_of_subset s t u w = (refl, refl, subset_len s t)

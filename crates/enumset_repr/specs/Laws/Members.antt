@@ -1,6 +1,7 @@
 -- Laws of sets by membership: what `contains` returns for each set in `BitSet`.
 --     contains_..      what `contains` returns for such a set;  the ruleset `members` has them all
 --     same_set, is_same_iff      sets with the same members are equal
+--     same_in, same_both      what is made of such a set, or of two, is the same
 --     is_subset_.., contains_is_subset, is_subset_iff      a subset, by its members;  by an empty difference
 --     is_disjoint_.., contains_is_disjoint, is_disjoint_iff      disjoint sets, by their members;  by an empty
 --         intersection
@@ -87,6 +88,13 @@ pub ruleset members = (contains_empty, contains_insert, contains_remove, contain
 pub same_set : (s t : BitSet) → ((q : ℕ) → contains s q ≡ contains t q) → s ≡ t
 unfolding contains
 same_set s t is = map.same_map nat_cmp_total map.nat_cmp-IsAntisymmetric s t (λ q. mark_of _ ∙ ap marked (is q) ∙ sym (mark_of _))
+
+-- what is made of such sets is the same, as `Some` of a set, or a pair, in which a search looks for no equation of sets
+pub same_in : {A : Type 0} (f : BitSet → A) (s t : BitSet) → ((q : ℕ) → contains s q ≡ contains t q) → f s ≡ f t
+same_in f s t is = ap f (same_set s t is)
+
+pub same_both : {A : Type 0} (f : BitSet → BitSet → A) (s t u v : BitSet) → ((q : ℕ) → contains s q ≡ contains t q) → ((q : ℕ) → contains u q ≡ contains v q) → f s u ≡ f t v
+same_both f s t u v is also = ap (λ x. f x u) (same_set s t is) ∙ ap (f t) (same_set u v also)
 
 pub list_all_any : (p : ℕ → Bool) (bs : List ℕ) (q : ℕ) → list_all p bs ≡ true → list_any (λ b. q == b) bs ≡ true → p q ≡ true
 list_all_any p [] q all any = absurd (true≢false (sym any))

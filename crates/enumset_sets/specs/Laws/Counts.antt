@@ -9,7 +9,7 @@ use Rattle.std.proofs.Common.{◌≡◌, ◌<◌, ◌≤◌, ℕ, Bool, true, fa
 use Rattle.enumset_repr.specs.Laws.Common.{BitSet, contains, insert, remove, union, difference, is_subset, len, is_distinct, members, is_subset_contains, contains_is_subset, is_same_iff, false_from_ne_true}
 use Rattle.enumset_repr.specs.Laws.Counting.{len_subset, len_proper, len_removed}
 use Rattle.enumset_repr.specs.Laws.Decided.{decided}
-use Rattle.enumset_repr.specs.Laws.DecidedCounts.{counted, counted_at}
+use Rattle.enumset_repr.specs.Laws.DecidedCounts.{counted}
 use Rattle.enumset_sets.specs.Elements.{Elements, valid_bits}
 use Rattle.enumset_sets.specs.Laws.Elements.{len-from_list}
 
@@ -20,7 +20,7 @@ len_valid elements = (refl, len-from_list elements.bit_list)
 pub len_within : {T : Type 0} (elements : Elements T) (s : BitSet) (w : Bool) → (is_subset s (valid_bits elements) ≡ is_subset s (valid_bits elements)) × (counted s w ≡ counted s w) × (is_subset s (valid_bits elements) ≡ true → len s ≤ len (valid_bits elements))
 len_within elements s w = (refl, refl, len_subset s (valid_bits elements))
 
-pub ruleset valid_counts = (counted_at, len_valid, len_within)
+pub ruleset valid_counts = (len_valid, len_within)
 
 -- ---- what is left
 

@@ -3,11 +3,12 @@
 --     lawful_in, lawful_in_integer, lawful_in_words      the laws, over any representation, an integer or words
 --     lawful_in_place      the laws where each bit is its variant's place, from those of the same bits as a list
 --     is_valid_bit      a bit is valid exactly if the list has it
---     place_is, listed_bit_is      what the bit of a variant is, and that it is valid
+--     place_is, listed_bit_is      what the bit of a variant is
+--     place_is_valid, listed_bit_is_valid      that it is valid
 --     passed      what a test says that passes
 --     derived_eq      what a derived `==` of such an enum returns
--- The ruleset `bits_of_variants` has the last two, and proves the functions of an element type. An element type imports
--- the makers of its elements from here too.
+-- The ruleset `bits_of_variants` says of each variant what its bit is, and that it is valid. It proves the functions of an
+-- element type. The makers of an element type's elements come from here too.
 use Rattle.std.proofs.Common.{◌≡◌, ◌<◌, ◌≤◌, ℕ, suc, zero, slice_index, ◌^◌, Bool, true, false, eqb, List, Some, sym, ap, ◌∙◌, length, get_or, sum_by, arith, inl, inr, ◌==◌, max, Option, None, eqb-true, eq-eqb, [], ◌∷◌, refl}
 use Rattle.std.proofs.lemmas.List.FromFn.{length-range_with_len}
 use Rattle.enumset_repr.specs.Laws.Common.{nat_tests, cases_lt, and_parts, and_from, or_left, or_right, get_or-range_with_len, BitSet, is_in, contains, insert, from_list, ascending, len, is_subset, bits, is_distinct, greatest, contains_empty, contains_insert, contains_from_list, contains_ascending, list_all_each, is_subset_contains, len_empty, len_insert, empty_of_ascending, greatest_is, greatest_empty, greatest_facts, ascending_no_greatest, bits_of, lists_words, bits_listed, words_listed, one_past_all, or_else, once_known, IsLawful, IsLawfulNumber, IsLawfulWords}
@@ -176,18 +177,25 @@ unfolding valid_bits
 is_valid_bit elements q = contains_from_list elements.bit_list q
 
 -- the bit of a variant that is named computes by these equations; that of a variable stays one word
-pub place_is : (D : Declared) (v : D.D) → (place D v ≡ tag_of D v) × (contains (valid_bits (in_place D)) (place D v) ≡ true)
+pub place_is : (D : Declared) (v : D.D) → place D v ≡ tag_of D v
 unfolding place
-place_is D v = (
+place_is D v = refl
+
+pub listed_bit_is : (D : Declared) (bs : List ℕ) (v : D.D) → listed_bit D bs v ≡ slice_index bs (tag_of D v)
+unfolding listed_bit
+listed_bit_is D bs v = refl
+
+-- A bit is valid. The equation before says where a search takes this: a call that asks whether it is.
+pub place_is_valid : (D : Declared) (v : D.D) → (contains (valid_bits (in_place D)) (place D v) ≡ contains (valid_bits (in_place D)) (place D v)) × (contains (valid_bits (in_place D)) (place D v) ≡ true)
+place_is_valid D v = (
   refl,
   is_valid_bit (in_place D) _ ∙ ap (λ b. is_in b (in_place D).bit_list) (in_place-bit D v) ∙ listed_is_in D _ v (length-range_with_len 0 (length (rowss D.parts))),
 )
 
-pub listed_bit_is : (D : Declared) (bs : List ℕ) (v : D.D) → (listed_bit D bs v ≡ slice_index bs (tag_of D v)) × (length bs ≡ length (rowss D.parts) → contains (valid_bits (with_bits D bs)) (listed_bit D bs v) ≡ true)
-unfolding listed_bit
-listed_bit_is D bs v = (refl, λ variants. is_valid_bit (with_bits D bs) _ ∙ listed_is_in D bs v variants)
+pub listed_bit_is_valid : (D : Declared) (bs : List ℕ) (v : D.D) → (contains (valid_bits (with_bits D bs)) (listed_bit D bs v) ≡ contains (valid_bits (with_bits D bs)) (listed_bit D bs v)) × (length bs ≡ length (rowss D.parts) → contains (valid_bits (with_bits D bs)) (listed_bit D bs v) ≡ true)
+listed_bit_is_valid D bs v = (refl, λ variants. is_valid_bit (with_bits D bs) _ ∙ listed_is_in D bs v variants)
 
-pub ruleset bits_of_variants = (place_is, listed_bit_is)
+pub ruleset bits_of_variants = (place_is, listed_bit_is, place_is_valid, listed_bit_is_valid)
 
 -- ---- consequences of the laws
 

@@ -7,7 +7,7 @@
 --     any_same      a test of the items
 --     from_list_same, union_all_same, intersection_all_same      lists with the same items make the same set
 --     .._is_subset, .._is_disjoint      a union of many is a part of a set, or apart from it, exactly if each is
--- The ruleset `folds` has what `contains` returns, one set more, and one set after the other;  `folds_once` has what stands
+-- The ruleset `folds` has what `contains` returns, one set more, and one set after the other;  `folds_once` has the same
 -- beside `decided`.
 use Rattle.std.proofs.Common.{◌≡◌, ℕ, Bool, true, not, ◌&&◌, ◌||◌, List, [], ◌∷◌, ◌++◌, map, fold, refl, sym, ap, ◌∙◌, arith, Contains, ◌↔◌, ◌==◌}
 use Rattle.enumset_repr.specs.Laws.Common.{list_all, list_any, Any-from_list_any, list_any_at, same_from_decides, BitSet, is_in, contains, union, intersection, is_subset, is_disjoint, from_list, members, same_set, contains_from_list, contains_empty, contains_union, union_empty, union_assoc}
@@ -110,6 +110,6 @@ unfolding union_all
 union_all_is_disjoint [] u = grind (arith, decided)
 union_all_is_disjoint (s ∷ ss) u = disjoint_union s (union_all ss) u ∙ ap (λ b. is_disjoint s u && b) (union_all_is_disjoint ss u)
 
-pub ruleset folds_once = (union_all_once, fold_union_once, fold_intersection_once, fold_is_subset, union_all_is_subset, fold_is_disjoint, union_all_is_disjoint)
+pub ruleset folds_once = (union_all_once, fold_union_once, fold_intersection_once, fold_is_subset, union_all_is_subset, fold_is_disjoint, union_all_is_disjoint, intersection_all_more, union_all_none, union_all_step)
 
 pub ruleset folds = (contains_intersection_all, contains_union_all, contains_fold_intersection, contains_fold_union, intersection_all_more, union_all_none, union_all_step)

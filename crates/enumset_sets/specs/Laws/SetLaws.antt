@@ -14,8 +14,8 @@ use Rattle.enumset_repr.specs.Laws.Ordering.{ordering}
 pub use Rattle.enumset_repr.specs.Laws.Places.{chains}
 use Rattle.enumset_sets.specs.Laws.Counts.{valid_counts, fewer}
 use Rattle.enumset_sets.specs.Laws.Elements.{bits_of_variants}
-use Rattle.enumset_sets.specs.Laws.ManySets.{folds, folds_once}
+use Rattle.enumset_sets.specs.Laws.ManySets.{folds_once}
 
-pub ruleset set_laws = (decided, ends, counts, folds, folds_once, ordering, bits_number, number_bits, bits_within, number_within, bits_of_variants, valid_counts)
+pub ruleset set_laws = (decided, ends, counts, folds_once, ordering, bits_number, number_bits, bits_within, number_within, bits_of_variants, valid_counts)
 
 pub ruleset loops = (steps.loops, fewer)

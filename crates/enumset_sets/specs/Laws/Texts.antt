@@ -7,9 +7,11 @@
 --     text_of_known      the text of a set if the text of each valid bit is known
 use Rattle.std.proofs.Common.{◌≡◌, ℕ, Bool, true, false, List, [], ◌∷◌, ◌++◌, length, map, Option, Some, None, Ok, refl, sym, ap, subst, ◌∙◌, ◌⊎◌, inl, inr, codes, arith, ◌==◌, option_and_then, append-nil, append_assoc, bytes_eq}
 use Rattle.std.specs.List.{flat_map, join_by}
-use Rattle.enumset_repr.specs.Laws.Common.{nat_tests, option_append, DisplaysOnOk, map-append, length-map, BitSet, ascending, from_list, is_subset, is_subset_contains, contains_ascending, contains_from_list, list_all, list_all_any, list_all_each, and_parts, bytes_eq-Decides}
+use Rattle.enumset_repr.specs.Laws.Common.{nat_tests, option_append, DisplaysOnOk, map-append, length-map, BitSet, ascending, is_subset, is_subset_contains, contains_ascending, list_all, list_all_any, list_all_each, and_parts, bytes_eq-Decides}
 use Rattle.std.specs.declared.fmt.Formatter.{Formatter}
 use Rattle.std.proofs.Output.{displays_on_IsOk_append, then_text_assoc}
+use Rattle.enumset_sets.specs.Elements.{Elements, valid_bits}
+use Rattle.enumset_sets.specs.Laws.Elements.{is_valid_bit}
 use Rattle.enumset_sets.specs.Texts.{value_of, text_at, separator, joined_text}
 
 then_nothing : (t : Option (List ℕ)) → t ≡ option_append (Some []) (option_append (Some []) t)
@@ -112,9 +114,9 @@ module _ (at : ℕ → Option (List ℕ)) (text : ℕ → List ℕ) where
 
 -- The text of a set: the texts of its members, joined by ` | `. The premise computes over one enum. The equation
 -- `ascending s ≡ ascending s` shows a search which set it is about.
-pub text_of_known : {T : Type 0} (bit : T → ℕ) (values : List T) (output : T → Option (List ℕ)) (text : ℕ → List ℕ) (bit_list : List ℕ) → list_all (λ b. is_text (text_at bit values output b) (text b)) bit_list ≡ true → (s : BitSet) → (ascending s ≡ ascending s) × (is_subset s (from_list bit_list) ≡ true → joined_text (map (text_at bit values output) (ascending s)) ≡ Some (join_by text (codes " | ") (ascending s)))
-text_of_known bit values output text bit_list known s =
-    let at = text_at bit values output in
+pub text_of_known : {T : Type 0} (elements : Elements T) (values : List T) (output : T → Option (List ℕ)) (text : ℕ → List ℕ) → list_all (λ b. is_text (text_at elements.bit values output b) (text b)) elements.bit_list ≡ true → (s : BitSet) → (ascending s ≡ ascending s) × (is_subset s (valid_bits elements) ≡ true → joined_text (map (text_at elements.bit values output) (ascending s)) ≡ Some (join_by text (codes " | ") (ascending s)))
+text_of_known elements values output text known s =
+    let at = text_at elements.bit values output in
     let is_known : ℕ → Bool = λ b. is_text (at b) (text b) in
-    let each : is_subset s (from_list bit_list) ≡ true → list_all is_known (ascending s) ≡ true = λ within. list_all_each is_known (ascending s) (λ q one. list_all_any is_known bit_list q known (sym (contains_from_list bit_list q) ∙ is_subset_contains s (from_list bit_list) within q (contains_ascending s q ∙ one))) in
+    let each : is_subset s (valid_bits elements) ≡ true → list_all is_known (ascending s) ≡ true = λ within. list_all_each is_known (ascending s) (λ q one. list_all_any is_known elements.bit_list q known (sym (is_valid_bit elements q) ∙ is_subset_contains s (valid_bits elements) within q (contains_ascending s q ∙ one))) in
     (refl, λ within. joined_text-known at text (ascending s) (each within))
