@@ -5,8 +5,6 @@ ghost use Rattle.enumset_repr.specs.BitSet as set;
 ghost use Rattle.enumset_repr.specs.BitSet.{BitSet};
 ghost use Rattle.enumset_repr.specs.Ends.{least, greatest};
 
-use std::fmt::Debug;
-
 /// An integer of [`BITS`](Primitive::BITS) bits. It represents the set of the numbers of its bits that are 1, counted
 /// from the lowest, which is 0.
 ///
@@ -14,7 +12,7 @@ use std::fmt::Debug;
 /// `remove_bit` of a representation. Here [`BITS`](Primitive::BITS), [`ones`](Primitive::ones),
 /// [`without`](Primitive::without) and [`without_least`](Primitive::without_least) take their place, so the iterator
 /// needs no representation.
-pub trait Primitive: Copy + Debug {
+pub trait Primitive: Copy {
     // The set that the integer represents.
     ghost set_of: { Self → BitSet };
 
