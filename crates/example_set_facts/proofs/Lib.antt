@@ -1,2 +1,3 @@
+pub mod AllNeeds
 pub mod SortedSets
 pub mod StageTexts

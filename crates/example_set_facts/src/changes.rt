@@ -7,7 +7,7 @@ ghost use Rattle.enumset.specs.Sets.{BitSet};
 ghost use Rattle.example_set_facts.specs.Bits.{feature};
 
 use crate::features::Feature;
-use enumset::{EnumSet, EnumSetType};
+use enumset::EnumSet;
 
 /// What a version adds to the one before, and what it removes.
 #[derive(Clone, Copy, Debug)]
@@ -99,11 +99,11 @@ pub fn undone(change: &Change, version: EnumSet<Feature>) -> EnumSet<Feature>
 }
 
 /// Two versions that were made from the same one, merged: where they differ, the change counts.
-pub fn merged<T: EnumSetType>(
-    base: &EnumSet<T>,
-    ours: &EnumSet<T>,
-    theirs: &EnumSet<T>,
-) -> EnumSet<T>
+pub fn merged(
+    base: &EnumSet<Feature>,
+    ours: &EnumSet<Feature>,
+    theirs: &EnumSet<Feature>,
+) -> EnumSet<Feature>
     ensures changed { result ≡ set.symmetric_difference base.now
         (set.union (set.symmetric_difference base.now ours.now)
         (set.symmetric_difference base.now theirs.now)) }
@@ -113,9 +113,9 @@ pub fn merged<T: EnumSetType>(
     ensures added { set.is_subset (set.difference ours.now base.now) result ≡ true }
     ensures removed { set.is_disjoint (set.difference base.now theirs.now) result ≡ true }
 {
-    let kept = ours.intersection(theirs.copied());
-    let added = ours.union(theirs.copied()).difference(base.copied());
-    kept.union(added)
+    let kept = *ours & *theirs;
+    let added = (*ours | *theirs) - *base;
+    kept | added
 }
 
 /// Replaces a feature by another. The other is not enabled yet.

@@ -15,7 +15,6 @@ pub fn is_dangerous(asked: Permission) -> bool
 }
 
 /// The dangerous ones of a user's permissions, collected one by one.
-#[tactic(auto, using(enumset::specs::Sets::set_laws), unfolding(enumset::specs::Sets::place))]
 pub fn dangerous(granted: EnumSet<Permission>) -> EnumSet<Permission>
     ensures { result ≡ set.intersection granted dangerous_bits }
 {

@@ -5,7 +5,7 @@ ghost use Rattle.enumset.specs.Sets as set;
 ghost use Rattle.example_set_facts.specs.Bits.{feature};
 
 use crate::features::Feature;
-use enumset::{EnumSet, EnumSetType};
+use enumset::EnumSet;
 
 /// Enables a feature if all that it needs is enabled, and returns whether it did.
 pub fn enable(enabled: &mut EnumSet<Feature>, new: Feature, needs: EnumSet<Feature>) -> bool
@@ -22,14 +22,16 @@ pub fn enable(enabled: &mut EnumSet<Feature>, new: Feature, needs: EnumSet<Featu
 }
 
 /// The enabled features with one more and all that it needs.
-pub fn enabled_with<T: EnumSetType>(enabled: &EnumSet<T>, new: T, needs: &EnumSet<T>) -> EnumSet<T>
-    ensures with { result ≡ set.union needs.now (set.insert enabled.now (T.elements.bit new)) }
+pub fn enabled_with(
+    enabled: &EnumSet<Feature>,
+    new: Feature,
+    needs: &EnumSet<Feature>,
+) -> EnumSet<Feature>
+    ensures with { result ≡ set.union needs.now (set.insert enabled.now (feature new)) }
     ensures met { set.is_subset needs.now result ≡ true }
-    ensures has { set.contains result (T.elements.bit new) ≡ true }
+    ensures has { set.contains result (feature new) ≡ true }
 {
-    let mut all = enabled.union(needs.copied());
-    all.insert(new);
-    all
+    (*enabled | *needs) | new
 }
 
 /// Whether an enabled feature has what it needs.
@@ -41,7 +43,7 @@ pub fn is_supported(enabled: EnumSet<Feature>, of: Feature, needs: EnumSet<Featu
 }
 
 /// Turns a feature on and off again, or off and on.
-pub fn toggled_twice<T: EnumSetType>(enabled: &mut EnumSet<T>, of: T)
+pub fn toggled_twice(enabled: &mut EnumSet<Feature>, of: Feature)
     ensures { enabled.new ≡ enabled.old }
 {
     enabled.toggle(of);
@@ -72,19 +74,19 @@ pub fn open_needs(
 }
 
 /// The features that are on by default or turned on, but for those that are turned off.
-pub fn overridden<T: EnumSetType>(
-    defaults: &EnumSet<T>,
-    on: &EnumSet<T>,
-    off: &EnumSet<T>,
-) -> EnumSet<T>
+pub fn overridden(
+    defaults: &EnumSet<Feature>,
+    on: &EnumSet<Feature>,
+    off: &EnumSet<Feature>,
+) -> EnumSet<Feature>
     ensures overridden { result ≡ set.union (set.difference defaults.now off.now)
         (set.difference on.now off.now) }
     ensures off_last { set.is_disjoint off.now result ≡ true }
     ensures on { set.is_disjoint on.now off.now ≡ true → set.is_subset on.now result ≡ true }
 {
-    let mut enabled = defaults.copied();
-    enabled.insert_all(on.copied());
-    enabled.remove_all(off.copied());
+    let mut enabled = *defaults;
+    enabled.insert_all(*on);
+    enabled.remove_all(*off);
     enabled
 }
 

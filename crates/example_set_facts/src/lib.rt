@@ -1,11 +1,13 @@
-//! Facts about sets that prove with the line below: what users state of permissions, schedules, parsers, features,
-//! messages, configurations, texts in JSON, alarms, votes, partitions, slices of elements and counts. Loops have an
-//! invariant beside it, a few functions name a ruleset, or a definition to unfold, of their own, and the search in a
-//! sorted list has a lemma.
+//! Facts about sets that prove with the line below: what users state of permissions, schedules, parsers, features and
+//! what they need, messages, versions, configurations, texts in JSON, alarms, a council and its votes, partitions, slices
+//! of elements and counts. Most are over one enum: in place in a small integer, in 64 bits or in two words, with gaps, or
+//! with masks. Loops have an invariant beside it, a few functions name a ruleset, or a definition to unfold, of their own,
+//! and three have a proof: the search in a sorted list, what exactly one of three votes has, and what is needed in turn.
 #![tactic(auto, using(enumset::specs::Sets::set_laws))]
 
 pub mod access;
 pub mod alarms;
+pub mod capabilities;
 pub mod chains;
 pub mod changes;
 pub mod choices;
@@ -15,17 +17,22 @@ pub mod counts;
 pub mod dangers;
 pub mod enabling;
 pub mod features;
+pub mod flags;
 pub mod lists;
 pub mod messages;
+pub mod needs;
 pub mod parsing;
 pub mod partitions;
 pub mod permissions;
+pub mod plant;
 pub mod prices;
 pub mod schedules;
+pub mod seats;
 pub mod slices;
 pub mod sorted;
 pub mod stages;
 pub mod texts;
+pub mod tokens;
 pub mod versions;
 pub mod votes;
 pub mod walks;

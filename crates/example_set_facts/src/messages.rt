@@ -3,40 +3,40 @@
 ghost use Rattle.std.specs.Prelude.{◌≡◌, ◌↔◌, true};
 ghost use Rattle.enumset.specs.Sets as set;
 ghost use Rattle.enumset.specs.Sets.{bits, valid_bits};
-ghost use Rattle.example_set_facts.specs.Bits.{feature};
+ghost use Rattle.example_set_facts.specs.Bits.{flag};
 
-use crate::features::Feature;
+use crate::flags::Flag;
 use enumset::{EnumSet, EnumSetType, laws};
 
-/// The known features of a byte. Reserved bits are ignored.
-pub fn known(byte: u8) -> EnumSet<Feature>
+/// The known flags of a byte. Reserved bits are ignored.
+pub fn known(byte: u8) -> EnumSet<Flag>
     ensures known { result ≡ set.difference (bits byte)
-        (set.difference (bits byte) (valid_bits ⟦<Feature as EnumSetType>⟧.elements)) }
+        (set.difference (bits byte) (valid_bits ⟦<Flag as EnumSetType>⟧.elements)) }
     ensures sent { set.is_subset result (bits byte) ≡ true }
 {
     EnumSet::from_u8_truncated(byte)
 }
 
-/// The byte with a feature marked. Known features alone are kept.
-pub fn marked(byte: u8, new: Feature) -> u8
+/// The byte with a flag set. Known flags alone are kept.
+pub fn marked(byte: u8, new: Flag) -> u8
     ensures { bits result ≡ set.insert (set.intersection (bits byte)
-        (valid_bits ⟦<Feature as EnumSetType>⟧.elements)) (feature new) }
+        (valid_bits ⟦<Flag as EnumSetType>⟧.elements)) (flag new) }
 {
-    let mut features = EnumSet::from_u8_truncated(byte);
-    features.insert(new);
-    features.as_u8()
+    let mut flags = EnumSet::from_u8_truncated(byte);
+    flags.insert(new);
+    flags.as_u8()
 }
 
-/// What a peer reads of the features that were sent: the same.
-pub fn sent(features: EnumSet<Feature>) -> EnumSet<Feature>
-    ensures { result ≡ features }
+/// What a peer reads of the flags that were sent: the same.
+pub fn sent(flags: EnumSet<Flag>) -> EnumSet<Flag>
+    ensures { result ≡ flags }
 {
-    laws::number_and_back(&features);
-    EnumSet::from_u8(features.as_u8())
+    laws::number_and_back(&flags);
+    EnumSet::from_u8(flags.as_u8())
 }
 
-/// Whether the features that a byte asks for are supported.
-pub fn is_supported(byte: u8, supported: EnumSet<Feature>) -> bool
+/// Whether the flags that a byte asks for are supported.
+pub fn is_supported(byte: u8, supported: EnumSet<Flag>) -> bool
     ensures { result ≡ true ↔ (set.is_subset (bits byte) supported ≡ true) }
 {
     match EnumSet::try_from_u8(byte) {
@@ -46,10 +46,10 @@ pub fn is_supported(byte: u8, supported: EnumSet<Feature>) -> bool
 }
 
 /// What two bytes have in common, as far as it is known.
-pub fn negotiated<T: EnumSetType>(ours: u8, theirs: u8) -> EnumSet<T>
+pub fn negotiated(ours: u8, theirs: u8) -> EnumSet<Flag>
     ensures common { result ≡ set.intersection (set.intersection (bits ours) (bits theirs))
-        (valid_bits T.elements) }
+        (valid_bits ⟦<Flag as EnumSetType>⟧.elements) }
     ensures offered { set.is_subset result (bits ours) ≡ true }
 {
-    EnumSet::<T>::from_u8_truncated(ours) & EnumSet::<T>::from_u8_truncated(theirs)
+    EnumSet::<Flag>::from_u8_truncated(ours) & EnumSet::<Flag>::from_u8_truncated(theirs)
 }

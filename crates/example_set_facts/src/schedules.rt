@@ -1,12 +1,12 @@
 //! Days on which somebody is free, and shifts that go round the end of a week.
 
-ghost use Rattle.std.specs.Prelude.{◌≡◌, ◌↔◌, ◌<◌, ◌≤◌, ◌&&◌, ℕ, not, true, false, if◌then◌else◌, IfSome, IfNone, option_map};
+ghost use Rattle.std.specs.Prelude.{◌≡◌, ◌↔◌, ◌<◌, ◌≤◌, ◌+◌, ◌&&◌, ℕ, not, true, false, if◌then◌else◌, IfSome, IfNone, option_map};
 ghost use Rattle.enumset.specs.Sets as set;
 ghost use Rattle.enumset.specs.Sets.{least, valid_bits};
 ghost use Rattle.example_set_facts.specs.Bits.{day};
 
 use crate::weekdays::Weekday;
-use enumset::{EnumSet, EnumSetType};
+use enumset::{EnumSet, EnumSetType, enum_set};
 
 /// The next free day of this week, from a day on.
 pub fn next_this_week(free: EnumSet<Weekday>, from: Weekday) -> Option<Weekday>
@@ -20,15 +20,15 @@ pub fn next_this_week(free: EnumSet<Weekday>, from: Weekday) -> Option<Weekday>
 }
 
 /// The days on which two are free and a third is not away.
-pub fn meeting_days<T: EnumSetType>(
-    one: &EnumSet<T>,
-    other: &EnumSet<T>,
-    away: &EnumSet<T>,
-) -> EnumSet<T>
+pub fn meeting_days(
+    one: &EnumSet<Weekday>,
+    other: &EnumSet<Weekday>,
+    away: &EnumSet<Weekday>,
+) -> EnumSet<Weekday>
     ensures { result ≡ set.intersection (set.difference one.now away.now)
         (set.difference other.now away.now) }
 {
-    one.intersection(other.copied()).difference(away.copied())
+    (*one & *other) - *away
 }
 
 /// Moves a shift from one day to another. There is a shift on the one day and none on the other.
@@ -43,16 +43,15 @@ pub fn moved(days: EnumSet<Weekday>, from: Weekday, to: Weekday) -> EnumSet<Week
 }
 
 /// Whether the days of two teams are the same, but for holidays.
-pub fn agree_but<T: EnumSetType>(
-    one: &EnumSet<T>,
-    other: &EnumSet<T>,
-    holidays: &EnumSet<T>,
+pub fn agree_but(
+    one: &EnumSet<Weekday>,
+    other: &EnumSet<Weekday>,
+    holidays: &EnumSet<Weekday>,
 ) -> bool
     ensures { result ≡ true
         ↔ (set.difference one.now holidays.now ≡ set.difference other.now holidays.now) }
 {
-    one.symmetric_difference(other.copied())
-        .is_subset_of(holidays)
+    (*one ^ *other).is_subset(*holidays)
 }
 
 /// Books a day. It is booked if it was free and is not a holiday, and nothing changes else.
@@ -68,11 +67,11 @@ pub fn book(booked: &mut EnumSet<Weekday>, holidays: EnumSet<Weekday>, wanted: W
 }
 
 /// Whether the shifts of three cover the week.
-pub fn cover_week<T: EnumSetType>(one: &EnumSet<T>, two: &EnumSet<T>, three: &EnumSet<T>) -> bool
+pub fn cover_week(one: &EnumSet<Weekday>, two: &EnumSet<Weekday>, three: &EnumSet<Weekday>) -> bool
     ensures { result ≡ true ↔ (set.union one.now (set.union two.now three.now)
-        ≡ valid_bits T.elements) }
+        ≡ valid_bits ⟦<Weekday as EnumSetType>⟧.elements) }
 {
-    one.union(two.copied()).union(three.copied()) == EnumSet::all()
+    *one | *two | *three == EnumSet::all()
 }
 
 /// The next free day, from a day on. After the last of the week it is the first of the week.
@@ -88,4 +87,19 @@ pub fn next_free(free: EnumSet<Weekday>, from: Weekday) -> Option<Weekday>
         Some(later) => Some(later),
         None => free.first(),
     }
+}
+
+/// How many days of a week are left free.
+pub fn free_count(busy: EnumSet<Weekday>) -> usize
+    ensures free { result ≡ set.len (set.difference (valid_bits ⟦<Weekday as EnumSetType>⟧.elements) busy) }
+    ensures busy { result + set.len busy ≡ 7 }
+{
+    7 - busy.len()
+}
+
+/// The days on which nobody works.
+pub fn weekend() -> EnumSet<Weekday>
+    ensures { result ≡ set.insert (set.only (day Weekday.Saturday)) (day Weekday.Sunday) }
+{
+    enum_set!(Weekday::Saturday | Weekday::Sunday)
 }

@@ -1,0 +1,50 @@
+//! What features need, and what is needed in turn, until nothing is added.
+
+ghost use Rattle.std.specs.Prelude.{◌≡◌, true};
+ghost use Rattle.enumset.specs.Sets as set;
+ghost use Rattle.enumset.specs.Sets.{BitSet};
+ghost use Rattle.example_set_facts.specs.Bits.{feature};
+ghost use Rattle.example_set_facts.specs.Needs.{needs, all_needs};
+
+use crate::features::Feature;
+use enumset::{EnumSet, enum_set};
+
+/// What a feature needs by itself.
+#[tactic(auto, using(enumset::specs::Sets::set_laws), unfolding(enumset::specs::Sets::place))]
+pub fn needs_of(of: Feature) -> EnumSet<Feature>
+    ensures { result ≡ needs (feature of) }
+{
+    match of {
+        Feature::Accounts => EnumSet::empty(),
+        Feature::Payments => enum_set!(Feature::Accounts),
+        Feature::Invoices => enum_set!(Feature::Accounts | Feature::Payments),
+        Feature::Reports => enum_set!(Feature::Invoices),
+        Feature::Exports => enum_set!(Feature::Reports),
+        Feature::Alerts => enum_set!(Feature::Accounts),
+    }
+}
+
+/// What features need, each by itself.
+#[tactic(auto, using(enumset::specs::Sets::set_laws), unfolding(crate::specs::Needs::all_needs))]
+pub fn needed(features: &EnumSet<Feature>) -> EnumSet<Feature>
+    ensures { result ≡ all_needs features.now }
+{
+    let mut all = EnumSet::new();
+    for feature in features.iter() {
+        all.insert_all(needs_of(feature));
+    }
+    all
+}
+
+/// Features with all that they need, and all that this needs in turn: the least set that has them and lacks nothing.
+#[tactic(auto, using(enumset::specs::Sets::decided, enumset::specs::Sets::loops))]
+pub fn with_needs(from: EnumSet<Feature>) -> EnumSet<Feature>
+    ensures from { set.is_subset from result ≡ true }
+    ensures closed { set.is_subset (all_needs result) result ≡ true }
+    ensures least { (s : BitSet) → set.is_subset from s ≡ true → set.is_subset (all_needs s) s ≡ true
+        → set.is_subset result s ≡ true }
+{
+    let mut reached = from;
+    while reached.union_with(&needed(&reached)) {}
+    reached
+}
