@@ -2,7 +2,7 @@ use enumset::EnumSetType;
 
 /// An alarm of a power plant. A later one is more urgent.
 #[derive(EnumSetType, Debug)]
-#[enumset(no_ops)]
+#[enumset(repr = "array", no_ops)]
 pub enum Alarm {
     LampBroken,
     DoorOpen,

@@ -1,3 +1,4 @@
+use enumset::internal::ArrayRepr;
 use enumset::{EnumSetType, EnumSetTypeWithRepr};
 
 /// An alarm of a power plant. A later one is more urgent.
@@ -76,16 +77,17 @@ pub enum Alarm {
 }
 
 impl EnumSetType for Alarm {
-    ghost use Rattle.enumset.specs.Sets.{in_place, lawful_in_integer, lawful_in_place};
+    ghost use Rattle.std.specs.Prelude.{◌∷◌, []};
+    ghost use Rattle.enumset.specs.Sets.{in_place, lawful_in_words, lawful_in_place};
     ghost use Rattle.example_set_facts.specs.contracts.plant.Alarm.{the_type};
 
-    type Repr = u128;
+    type Repr = ArrayRepr<2>;
 
     ghost elements = { in_place the_type };
 
-    ghost ALL_BITS = { 1180591620717411303423 };
+    ghost ALL_BITS = { 18446744073709551615 ∷ 63 ∷ [] };
 
-    const ALL_BITS: u128 = 1180591620717411303423;
+    const ALL_BITS: ArrayRepr<2> = ArrayRepr([18446744073709551615, 63]);
 
     ghost BIT_WIDTH = { 70 };
 
@@ -178,7 +180,7 @@ impl EnumSetType for Alarm {
         }
     }
 
-    ghost lawful = { lawful_in_place the_type (lawful_in_integer the_type _ tt) };
+    ghost lawful = { lawful_in_place the_type (lawful_in_words the_type _ tt) };
 }
 
 impl EnumSetTypeWithRepr for Alarm {
