@@ -7,7 +7,8 @@ use Rattle.std.proofs.Common.{◌≡◌, ℕ, Bool, true, false, not, ◌||◌, 
 use Rattle.std.proofs.lemmas.Bool.{or_cases, or_left, or_right}
 use Rattle.std.proofs.lemmas.Bool.Decides.{nat_tests, same_from_decides}
 use denote.Enum.Bare.{tag_one}
-use Rattle.enumset.specs.Sets.{BitSet, is_in, contains, empty, insert, remove, from_list, union, intersection, is_subset, valid_bits, place, in_place}
+use Rattle.enumset.specs.Sets.{BitSet, is_in, contains, empty, insert, remove, from_list, union, intersection, is_subset, valid_bits, in_place}
+use Rattle.enumset_sets.specs.Elements.{place}
 use Rattle.enumset_repr.specs.Laws.Algebra.{intersection_right}
 use Rattle.enumset_repr.specs.Laws.Members.{members, same_set, contains_from_list, contains_union, contains_is_subset}
 use Rattle.enumset_sets.specs.Laws.Elements.{place_is, place_is_valid}

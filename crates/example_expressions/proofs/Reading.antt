@@ -6,7 +6,8 @@
 use Rattle.std.proofs.Common.{◌≡◌, ℕ, zero, suc, ◌+◌, ◌<◌, ◌≤◌, Bool, true, false, ◌&&◌, List, [], ◌∷◌, ◌++◌, map, length, take, refl, sym, ap, ◌∙◌, subst, true≢false, append_assoc, arith, ◌↔◌, IsTrue, slice_index_or, take_all}
 use Rattle.std.proofs.lemmas.Bool.{and_parts}
 use Rattle.std.proofs.lemmas.List.{append_cancel_right, take_more, get_or-map, get_or_past, length-map}
-use Rattle.enumset.specs.Sets.{is_in, contains, place}
+use Rattle.enumset.specs.Sets.{is_in, contains}
+use Rattle.enumset_sets.specs.Elements.{place}
 use Rattle.enumset_repr.specs.Laws.Members.{contains_from_list}
 use Rattle.example_expressions.specs.declared.kind.Kind.{Kind}
 use Rattle.example_expressions.specs.declared.kind.Kind.TheVariants.{Number, Open, Minus, Plus, Times, Divide, Close, End}
