@@ -1,8 +1,15 @@
 -- Steps of an iterator from either end: what they leave, and how many asks they may make.
 use Rattle.std.proofs.Common.{◌≡◌, ◌<◌, ◌≤◌, ℕ, ◌+◌, List, [], ◌∷◌, ◌++◌, Bool, Option, Some, None, MatchOption, is_some, if◌then◌else◌, length, drop, get_or, sym, ap, ◌∙◌, subst, arith}
-use Rattle.enumset.proofs.Common.{drop_more, drop_all, BoundsAsks, BitSet, first, last, without_first, without_last, last_push, without_last_push, Front, answer, without_answer, answers, without_answers, items_among, with_validity}
+use Rattle.std.proofs.lemmas.List.{drop_more, drop_all}
+use Rattle.enumset_repr.specs.Asks.{BoundsAsks}
+use Rattle.enumset_repr.specs.BitSet.{BitSet}
+use Rattle.enumset_repr.specs.Ends.{first, last, without_first, without_last}
+use Rattle.enumset_repr.specs.Laws.Ends.{last_push, without_last_push}
+use Rattle.enumset_array.specs.Walks.{answer, without_answer, answers, without_answers, items_among}
 use Rattle.enumset_array.specs.declared.traversal.End.{End}
+use Rattle.enumset_array.specs.declared.traversal.End.TheVariants.{Front}
 use Rattle.enumset_mixed.specs.Laws.Items.{none_left, gave_first, gave_last}
+use Rattle.enumset_mixed.specs.Mixed.{with_validity}
 
 -- ---- one step
 
@@ -15,7 +22,7 @@ last_by bit xs None ys step = (ap (λ zs. is_some (last zs)) (sym step.0), step.
 last_by bit xs (Some x) ys step =
     (sym (ap (λ zs. is_some (last zs)) step ∙ ap is_some (last_push ys (bit x))), sym (ap without_last step ∙ without_last_push ys (bit x)))
 
--- the same of the items of a mixed set
+-- the same for the items of a mixed set
 pub mixed_first_by : {A : Type 0} (item : A → ℕ × Bool) (valid : BitSet) (xs : List ℕ) (r : Option A) (ys : List ℕ) → MatchOption r ((with_validity valid xs ≡ []) × (with_validity valid ys ≡ [])) (λ x. with_validity valid xs ≡ item x ∷ with_validity valid ys) → (is_some r ≡ is_some (first xs)) × (ys ≡ without_first xs)
 mixed_first_by item valid xs None ys step = first_by (λ x. (item x).0) xs None ys (none_left valid xs step.0, none_left valid ys step.1)
 mixed_first_by item valid xs (Some x) ys step = first_by (λ y. (item y).0) xs (Some x) ys (gave_first valid xs ys (item x) step)
@@ -44,7 +51,7 @@ unfolding answers items_among
 few_answers xs [] = omega arith
 few_answers xs (e ∷ es) = grind (arith, items_among-cons (answer e xs) (answers (without_answer e xs) es), few_answers (without_answer e xs) es)
 
--- one more of a list of ends
+-- one more step of a list of ends
 pub left_next : (xs : List ℕ) (es : List End) (i : ℕ) (ys zs : List ℕ) → i < length es → without_answers ys (drop i es) ≡ without_answers xs es → zs ≡ without_answer (get_or es i Front) ys → without_answers zs (drop (i + 1) es) ≡ without_answers xs es
 unfolding without_answers
 left_next xs es i ys zs h before step =
@@ -61,7 +68,7 @@ asks_next total es i ys zs asks span new_asks new_span h before step bounds =
     ∙ ap (λ l. (if is_some (answer e ys) then 1 else 0) + length (items_among (answers l (drop (i + 1) es)))) (sym step) in
     omega (arith, before, bounds.1, count)
 
--- the end of a list of ends
+-- after the last of a list of ends
 pub left_last : (es : List End) (i : ℕ) (ys : List ℕ) → length es ≤ i → without_answers ys (drop i es) ≡ ys
 unfolding without_answers
 left_last es i ys h = ap (without_answers ys) (drop_all i es h)

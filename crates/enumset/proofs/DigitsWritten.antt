@@ -1,13 +1,16 @@
--- The digits of a number, two and four at a time, written after those before them.
+-- The digits of a number, written two and four at a time.
 use Rattle.std.proofs.Common.{◌≡◌, ℕ, zero, suc, ◌+◌, ◌*◌, ◌/◌, ◌%◌, ◌^◌, ◌<◌, ◌≤◌, Bool, true, ◌&&◌, List, [], ◌∷◌, ◌++◌, length, get_or, decimal, ap, ◌∙◌, arith, append_assoc, refl, sym, set, take, ◌==◌}
-use Rattle.enumset.proofs.Common.{Decides-and, Decides-eqb, Decides-below_and, common_steps, take_more_set, decimal_digit, decimal_step}
+use Rattle.std.proofs.lemmas.Bool.Decides.{Decides-and, Decides-eqb, Decides-below_and}
+use Rattle.std.proofs.lemmas.Fmt.{decimal_digit, decimal_step}
+use Rattle.std.proofs.lemmas.Grind.{common_steps}
+use Rattle.std.proofs.lemmas.List.{take_more_set}
 pub use Rattle.std.proofs.lemmas.Str.{IsUtf8-from_ascii}
 use Rattle.enumset.specs.declared.set_json.digits.TheConstants.{PAIRS}
 
 abbrev pub pair : ℕ → List ℕ
 pair p = (48 + p / 10) ∷ (48 + p % 10) ∷ []
 
--- the table has the digits of a number, and of each number below n
+-- the table has the two digits of p
 abbrev IsPair : ℕ → Type 0
 IsPair p = (get_or PAIRS (p * 2) 0 ≡ 48 + p / 10) × (get_or PAIRS (p * 2 + 1) 0 ≡ 48 + p % 10)
 
@@ -42,7 +45,7 @@ last_four n some fits =
     let c : n % 10000 % 100 ≡ n % 100 = omega arith in
     rw (last_two n (omega arith) fits, last_two (n / 100) (omega arith) (omega arith), append_assoc, a, b, c)
 
--- what is written after what was written before
+-- two texts written one after the other
 after : (front xs ys all one two : List ℕ) → all ≡ xs ++ ys → one ≡ front ++ xs → two ≡ one ++ ys → two ≡ front ++ all
 after front xs ys all one two is first then = then ∙ ap (λ l. l ++ ys) first ∙ append_assoc front xs ys ∙ ap (λ l. front ++ l) (sym is)
 

@@ -1,10 +1,17 @@
--- What serde_json reads of the digits of a number, digit by digit, before what ends it.
+-- What serde_json reads for the digits of a number, digit by digit, before what ends it.
 use Rattle.std.proofs.Common.{◌≡◌, ◌≤◌, ◌<◌, ◌^◌, ℕ, zero, suc, ◌+◌, ◌-◌, List, [], ◌∷◌, ◌++◌, length, take, drop, get_or, cond, refl, ap, subst, ◌∙◌, ◌⊎◌, inl, inr, decimal, arith, length-append, Bool, true, false, ◌==◌, ◌||◌, nat_lt}
-use Rattle.enumset.proofs.Common.{take-append_seam, decimal_is_IsNumeral, decimal_digit, first_decimal, ⊤, prefix_len, nat_tests, number_token, serde_json_on_literals, is_space}
+use Rattle.std.proofs.Math.Seq.{take-append_seam}
+use Rattle.std.proofs.lemmas.Bool.Decides.{nat_tests}
+use Rattle.std.proofs.lemmas.Fmt.{decimal_is_IsNumeral, decimal_digit, first_decimal}
 use Rattle.std.proofs.lemmas.Str.Parse.{digit_from_value}
-use Rattle.std.specs.Str.Parse.{AllDigits}
 use Rattle.std.specs.Char.{is_ascii_digit}
+use Rattle.std.specs.List.{prefix_len}
+use Rattle.std.specs.Prelude.{⊤}
+use Rattle.std.specs.Str.Parse.{AllDigits}
+use Rattle.serde_json.proofs.OnLiterals.{serde_json_on_literals}
+use Rattle.serde_json.specs.Sent.{number_token}
 use Rattle.enumset.proofs.JsonTokens.{tokens, Tokens, after_value}
+use Rattle.enumset.specs.JsonPlain.{is_space}
 
 abbrev pub IsDigit : ℕ → Type 0
 IsDigit x = (48 ≤ x) × (x ≤ 57)
@@ -13,7 +20,7 @@ abbrev pub AreDigits : List ℕ → Type 0
 AreDigits [] = ⊤
 AreDigits (x ∷ xs) = IsDigit x × AreDigits xs
 
--- no other byte that has a meaning
+-- a byte that is not one of the bytes with a meaning in JSON
 abbrev IsOther : ℕ → Type 0
 IsOther x =
     ((x == 34) ≡ false) × ((x == 92) ≡ false) × ((x == 123) ≡ false) × ((x == 125) ≡ false) × ((x == 91) ≡ false) × ((x == 93) ≡ false) × ((x == 58) ≡ false) × ((x == 44) ≡ false)
@@ -45,11 +52,11 @@ no_digits (c ∷ e) none = ap (λ b. cond b (1 + prefix_len is_ascii_digit e) 0)
 
 -- ---- digits before it
 
--- the digits at the front of xs stand before e
+-- xs is digits, and then e
 abbrev IsRun : List ℕ → List ℕ → Type 0
 IsRun xs e = (n : ℕ) × (1 + prefix_len is_ascii_digit xs ≡ suc n) × (drop n xs ≡ e)
 
--- they and the byte before them
+-- these digits, after the byte before them
 abbrev whole : ℕ → List ℕ → List ℕ → List ℕ
 whole x xs e = take (suc (length xs) - length e) (x ∷ xs)
 
@@ -58,7 +65,7 @@ whole_is x ds e =
     let count : suc (length (ds ++ e)) - length e ≡ suc (length ds) = omega (arith, length-append ds e) in
     ap (λ n. take n (x ∷ (ds ++ e))) count ∙ take-append_seam (x ∷ ds) e
 
--- a text's tokens, first or after a comma
+-- the tokens of a text, alone and after a comma
 abbrev pub Stands : List ℕ → Tokens → Type 0
 Stands text ts = (tokens text ≡ ts) × (after_value (44 ∷ text) ≡ ts)
 
@@ -93,7 +100,7 @@ after_digits : (ds e : List ℕ) → AreDigits ds → Ends e → drop 1 (tokens 
 after_digits [] e p ends = refl
 after_digits (x ∷ ds) e p ends = longer x (ds ++ e) e (is_other x p.0) (run ds e p.1 ends) (run (x ∷ ds) e p ends) ends ∙ after_digits ds e p.1 ends
 
--- nought, or digits of which the first is not nought
+-- the digit 0, or digits that begin with another one
 abbrev IsShort : List ℕ → Type 0
 IsShort s = (s ≡ 48 ∷ []) ⊎ ((x : ℕ) × (ds : List ℕ) × (s ≡ x ∷ ds) × ((x == 48) ≡ false) × IsDigit x × AreDigits ds)
 

@@ -1,13 +1,17 @@
--- The tokens of lists and maps whose strings stand for themselves, one item or member at a time, with spaces of any kind
--- between them.
+-- The tokens of lists and maps whose strings need no escape, one item or member at a time, with any spaces between
+-- them.
 use Rattle.std.proofs.Common.{◌≡◌, ℕ, List, [], ◌∷◌, ◌++◌, Bool, true, false, drop, nat_lt, ◌==◌, refl, sym, ap, subst, ◌∙◌, arith, append-nil, ◌⊎◌, inl, inr}
-use Rattle.enumset.proofs.Common.{text_token, bool_token, serde_json_on_literals, is_space, AreSpaces, Passed, IsPlain, StartsWithMember, boolean, compact_text}
-use Rattle.enumset.proofs.JsonTokens.{tokens, Tokens, after_value}
+use Rattle.serde_json.proofs.OnLiterals.{serde_json_on_literals}
+use Rattle.serde_json.specs.Data.{boolean}
+use Rattle.serde_json.specs.Sent.{text_token, bool_token}
+use Rattle.serde_json.specs.Written.{compact_text}
 use Rattle.enumset.proofs.JsonDigits.{Ends}
+use Rattle.enumset.proofs.JsonTokens.{tokens, Tokens, after_value}
+use Rattle.enumset.specs.JsonPlain.{is_space, AreSpaces, Passed, IsPlain, StartsWithMember}
 
 -- ---- spaces
 
--- what holds of the four spaces
+-- what holds for the four kinds of space holds for each space
 at_space : (P : ℕ → Type 0) → P 32 → P 9 → P 10 → P 13 → (x : ℕ) → is_space x ≡ true → P x
 at_space P a b c d x h = at (grind (arith, h))
   where
@@ -28,9 +32,9 @@ unfolding serde_json_on_literals
 spaces [] z h = (refl, refl, refl, refl, refl)
 spaces (x ∷ g) z h = let rest = spaces g z h.1 in at_space (λ x. Same (x ∷ (g ++ z)) z) rest rest rest rest x h.0
 
--- ---- what may stand after an item
+-- ---- what may follow an item
 
--- it ends a number, a string, and a member of either boolean
+-- a text that ends a number, a string, and a member of either boolean
 abbrev pub Stops : List ℕ → Type 0
 Stops rest =
     Ends rest × (drop 1 (tokens (49 ∷ rest)) ≡ after_value rest) × (tokens (34 ∷ 34 ∷ rest) ≡ text_token false [] ∷ after_value rest)
@@ -57,7 +61,7 @@ passed_stops text x rest stop (g, gs, is) = subst Stops (sym is) (spaces_stop g 
 
 -- ---- items
 
--- an item with these tokens stands at the front of a text
+-- a text begins with an item of these tokens
 abbrev pub IsItem : List ℕ → Tokens → List ℕ → Type 0
 IsItem text ts rest = Stops rest → tokens text ≡ ts ++ after_value rest
 
@@ -83,7 +87,7 @@ member_item left s b rest (p, (g, h, gs, hs, is)) stop =
     ap (λ l. tokens (34 ∷ l)) is
     ∙ string_before true s (g ++ 58 ∷ (h ++ (compact_text (boolean b) ++ rest))) _ p ((spaces g (58 ∷ (h ++ (compact_text (boolean b) ++ rest))) gs).1 ∙ (spaces h (compact_text (boolean b) ++ rest) hs).2 ∙ boolean_item b rest stop)
 
--- a quote begins a further item
+-- a quote after a comma begins another item
 pub quote_next : (after next : List ℕ) → Passed after 34 next → after_value (44 ∷ after) ≡ tokens (34 ∷ next)
 unfolding serde_json_on_literals
 quote_next after next (g, gs, is) = ap (λ l. after_value (44 ∷ l)) is ∙ (spaces g (34 ∷ next) gs).4 ∙ grind arith

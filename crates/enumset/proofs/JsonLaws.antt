@@ -1,9 +1,24 @@
--- What was written of a set is read as that set.
+-- What is written of a set is read as that set.
 use Rattle.std.proofs.Common.{◌≡◌, ℕ, ◌+◌, ◌*◌, ◌/◌, arith, true, None, Ok, Err, List, [], ◌∷◌, map, unwrap_or, position, refl, ap, ◌∙◌, map-id, lt-ltb}
-use Rattle.enumset.proofs.Common.{position_from, position_from-zero, map-map, cond-true, BitSet, is_subset, below, number, bits, words, bits_of, intersection_within, low_within, is_subset_wider, bits_number, number_within, Data, items_of, number_value, words_value, number_below, values_of, held_word, is_no_word, held_words, unless_fault, words_in, accepted, and_then, set_of_number, set_of_words, kept_below, mixed_set_of_number, mixed_set_of_words, Unknown, Drop, Refuse, NotAWord, OutOfRange, UnknownBits}
+use Rattle.std.proofs.lemmas.Bool.{cond-true}
+use Rattle.std.proofs.lemmas.Iterator.Adapters.{position_from-zero}
+use Rattle.std.proofs.lemmas.Simd.{map-map}
+use Rattle.std.specs.List.{position_from}
+use Rattle.serde_json.specs.Data.{Data}
+use Rattle.serde_json.specs.View.{items_of}
+use Rattle.enumset_repr.specs.BitSet.{BitSet, is_subset, below}
+use Rattle.enumset_repr.specs.Laws.Algebra.{intersection_within}
+use Rattle.enumset_repr.specs.Laws.Numbers.{bits_number, number_within}
+use Rattle.enumset_repr.specs.Laws.Widths.{low_within, is_subset_wider}
+use Rattle.enumset_repr.specs.Number.{number, bits}
+use Rattle.enumset_repr.specs.Words.{words, bits_of}
 use Rattle.enumset_sets.specs.Laws.Conversions.{words_within}
+use Rattle.enumset.specs.Json.{number_value, words_value, number_below, values_of, held_word, is_no_word, held_words, unless_fault, words_in, accepted, and_then, set_of_number, set_of_words, kept_below, mixed_set_of_number, mixed_set_of_words}
+use Rattle.enumset.specs.declared.set_json.fault.JsonFault.TheVariants.{NotAWord, OutOfRange, UnknownBits}
+use Rattle.enumset.specs.declared.set_json.unknown.Unknown.{Unknown}
+use Rattle.enumset.specs.declared.set_json.unknown.Unknown.TheVariants.{Drop, Refuse}
 
--- a set of valid bits is taken as it is, and so is one below the width
+-- a set of valid bits is accepted as it is, and so is a set below the width
 pub accepted_within : (s valid : BitSet) (unknown : Unknown) → is_subset s valid ≡ true → accepted valid unknown s ≡ Ok s
 accepted_within s valid Drop within = ap Ok (intersection_within s valid within)
 accepted_within s valid Refuse within = cond-true (is_subset s valid) (Ok s) (Err UnknownBits) within
@@ -42,7 +57,7 @@ words_back ns =
     ap (λ ds. unless_fault NotAWord (position is_no_word ds) (Ok (held_words ds))) (values_back values)
     ∙ (λ j. unless_fault NotAWord ((position_from-zero is_no_word values ∙ none_other ns 0) j) (Ok (back j)))
 
--- words that lose nothing of a set are read as the words that they are
+-- words that represent a set are read as that set
 pub words_accepted : (s valid : BitSet) (n : ℕ) (unknown : Unknown) → bits_of (words s n) ≡ s → set_of_words valid unknown (words_value (words s n)) ≡ accepted valid unknown s
 words_accepted s valid n unknown back =
     ap (λ r. and_then r (λ ns. accepted valid unknown (bits_of ns))) (words_back (words s n)) ∙ ap (accepted valid unknown) back
@@ -51,6 +66,6 @@ pub words_kept : (s : BitSet) (width n : ℕ) (past : Unknown) → is_subset s (
 words_kept s width n past within back =
     ap (λ r. and_then r (λ ns. kept_below width past (bits_of ns))) (words_back (words s n)) ∙ ap (kept_below width past) back ∙ kept_within s width past within
 
--- as many words as a representation of a width has lose nothing of a set below the width
+-- as many words as a representation of a width has represent a set below the width
 pub all_in_words : (s : BitSet) (n width : ℕ) → n ≡ (width + 63) / 64 → is_subset s (below width) ≡ true → bits_of (words s n) ≡ s
 all_in_words s n width is within = words_within s n (is_subset_wider s width (64 * n) (omega (arith, is)) within)

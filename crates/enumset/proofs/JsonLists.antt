@@ -1,9 +1,20 @@
--- What serde_json reads of a list of plain strings, one string at a time, and what it writes for one.
+-- What serde_json reads for a list of plain strings, one string at a time, and what it writes for one.
 use Rattle.std.proofs.Common.{◌≡◌, ℕ, List, [], ◌∷◌, ◌++◌, Some, map, refl, sym, ap, ◌∙◌, arith, append_assoc, subst, Bool, false, true, not, cond, length, ◌==◌, length-append}
-use Rattle.enumset.proofs.Common.{⊤, array, string, item, no_items, Items, read, items_of, compact_text, items_text, comma_if, text_token, serde_json_on_literals, BitSet, ascending, map-map, Names, name_of, list_value, IsPlain, IsTextOf, AreSpaces, Passed}
-use Rattle.enumset.proofs.JsonTokens.{tokens}
+use Rattle.std.proofs.lemmas.Simd.{map-map}
+use Rattle.std.specs.Prelude.{⊤}
+use Rattle.serde_json.proofs.OnLiterals.{serde_json_on_literals}
+use Rattle.serde_json.specs.Data.{array, string, item, no_items, Items}
+use Rattle.serde_json.specs.Read.{read}
+use Rattle.serde_json.specs.Sent.{text_token}
+use Rattle.serde_json.specs.View.{items_of}
+use Rattle.serde_json.specs.Written.{compact_text, items_text, comma_if}
+use Rattle.enumset_repr.specs.BitSet.{BitSet, ascending}
 use Rattle.enumset.proofs.JsonItems.{name_item, quote_next, next_item, passed, opens, closes, last_item, no_item}
 use Rattle.enumset.proofs.JsonSteps.{same_read, empty_list, item_step}
+use Rattle.enumset.proofs.JsonTokens.{tokens}
+use Rattle.enumset.specs.JsonNames.{list_value}
+use Rattle.enumset.specs.JsonPlain.{IsPlain, IsTextOf, AreSpaces, Passed}
+use Rattle.enumset.specs.Names.{Names, name_of}
 
 -- ---- what is read, with spaces between tokens
 
@@ -34,13 +45,13 @@ unfolding serde_json_on_literals
 plain_text [] p = refl
 plain_text (x ∷ s) p = grind (arith, plain_text s p.1, p.0.0, p.0.1, p.0.2)
 
--- a string's text before others
+-- the text of a string, and then other bytes
 pub text_before : (s rest : List ℕ) → IsPlain s → compact_text (string s) ++ rest ≡ 34 ∷ (s ++ 34 ∷ rest)
 text_before s rest p = ap (λ t. t ++ rest) (plain_text s p) ∙ ap (λ t. 34 ∷ t) (append_assoc s (34 ∷ []) rest)
 
--- ---- what the loop of a writer keeps
+-- ---- the invariant of a writer's loop
 
--- names with what closes each, and commas between them, before the end
+-- names, each followed by `close`, with commas between them, and then the end
 abbrev pub joined : List ℕ → List ℕ → Bool → List (List ℕ) → List ℕ
 joined close end later [] = end
 joined close end later (name ∷ names) = comma_if later ++ (34 ∷ (name ++ (close ++ joined close end true names)))
@@ -57,7 +68,8 @@ not_new : (text front close name : List ℕ) (is_new : Bool) → (length ((text 
 not_new text front close name true = grind (arith, length-append (text ++ (front ++ 34 ∷ [])) name, length-append text (front ++ 34 ∷ []), length-append front (34 ∷ []))
 not_new text front close name false = grind (arith, length-append (text ++ (close ++ 44 ∷ 34 ∷ [])) name, length-append text (close ++ 44 ∷ 34 ∷ []), length-append close (44 ∷ 34 ∷ []))
 
--- a text so far, with what opens it or closes the last name, and with the names that are left; all names are plain if those are
+-- A text so far, what opens it or closes its last name, and the names that are left make the whole text. All names are
+-- plain if those left are.
 pub record Writes (front close end : List ℕ) (all : List (List ℕ)) (text : List ℕ) (left : List (List ℕ)) : Type 0 where
   pub so_far : (text ++ cond (length text == 0) front close) ++ joined close end (not (length text == 0)) left ≡ front ++ joined close end false all
   pub plain : ArePlain left → ArePlain all

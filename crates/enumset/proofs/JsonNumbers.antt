@@ -1,13 +1,17 @@
--- What serde_json reads of a number, and of a list of numbers one at a time, with spaces of any kind between its tokens.
+-- What serde_json reads for a number, and for a list of numbers one at a time, with any spaces between its tokens.
 use Rattle.std.proofs.Common.{◌≡◌, ◌<◌, ◌^◌, ℕ, suc, List, [], ◌∷◌, ◌++◌, Some, decimal, refl, sym, ap, subst, ◌∙◌, append-nil, arith, false, option_map}
-use Rattle.enumset.proofs.Common.{Num, unsigned, array, item, no_items, Items, read, number_of, outline, number_token, serde_json_on_literals, AreSpaces, Passed}
-use Rattle.serde_json.specs.Data.{number}
 use Rattle.serde_json.proofs.Numbers.{number_of-decimal}
-use Rattle.enumset.proofs.JsonTokens.{tokens, after_value}
+use Rattle.serde_json.proofs.OnLiterals.{serde_json_on_literals}
+use Rattle.serde_json.specs.Data.{Num, unsigned, array, item, no_items, Items, number}
+use Rattle.serde_json.specs.Read.{read, number_of}
+use Rattle.serde_json.specs.Sent.{number_token}
+use Rattle.serde_json.specs.Written.{outline}
 use Rattle.enumset.proofs.JsonDigits.{Ends, decimal_before}
 use Rattle.enumset.proofs.JsonItems.{spaces, spaces_alone, Stops, spaces_stop, end_stops, IsItem, next_item, closes, last_item}
 use Rattle.enumset.proofs.JsonSteps.{empty_list}
+use Rattle.enumset.proofs.JsonTokens.{tokens, after_value}
 use Rattle.enumset.proofs.MapHandles.{value, whole}
+use Rattle.enumset.specs.JsonPlain.{AreSpaces, Passed}
 
 number_item : (n : ℕ) (text rest : List ℕ) → n < 2 ^ 64 → text ≡ decimal n ++ rest → IsItem text (number_token false (decimal n) ∷ []) rest
 number_item n text rest fits is stop = ap tokens is ∙ (decimal_before n rest fits stop.0).0 ∙ ap (λ ts. number_token false (decimal n) ∷ ts) stop.1
@@ -26,14 +30,14 @@ number_alone n g h fits gs hs =
 
 -- ---- a list, from its end to its front
 
--- the depth is a variable, so that no tactic computes the reader of each depth
+-- the depth is a variable, so that no tactic computes the reader at each depth
 item_step : (d : ℕ) → suc (suc d) ≡ 127 → (ys zs s : List ℕ) (n : Num) (ds : Items)
     → tokens ys ≡ number_token false s ∷ tokens zs → number_of s ≡ Some n → read (91 ∷ zs) ≡ Some (array ds) → read (91 ∷ ys) ≡ Some (array (item (number n) ds))
 item_step d e ys zs s n ds t is h =
     let h' = rw (← e) at h in
     rw (← e) (unfold serde_json_on_literals in grind (arith, t, is, h'))
 
--- a number stands first, and something ends it
+-- a text begins with a number, which something ends
 abbrev pub IsNumberFirst : List ℕ → Type 0
 IsNumberFirst text = (n : ℕ) × (e : List ℕ) × (n < 2 ^ 64) × Ends e × (text ≡ decimal n ++ e)
 

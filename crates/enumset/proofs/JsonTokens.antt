@@ -1,7 +1,9 @@
--- The tokens of a text, taken from a definition of serde_json that speaks of them, since they stand in a crate that this
--- one does not name.
+-- The tokens of a text, taken from a definition of serde_json that mentions them, since this crate does not depend on
+-- the crate that defines them.
 use Rattle.std.proofs.Common.{◌≡◌, ℕ, List, ◌∷◌, drop, false}
-use Rattle.enumset.proofs.Common.{Data, null, IsInOrder, outline, start}
+use Rattle.serde_json.specs.Data.{Data, null}
+use Rattle.serde_json.specs.Sent.{start}
+use Rattle.serde_json.specs.Written.{IsInOrder, outline}
 
 abbrev pub TypeOf : {A : Type 0} → A → Type 0
 TypeOf {A = A} a = A
@@ -19,6 +21,6 @@ by f g h same = f
 abbrev pub tokens : List ℕ → Tokens
 tokens = by _ _ _ (λ text d w. w)
 
--- the tokens of what stands after a value
+-- the tokens of what comes after a value
 abbrev pub after_value : List ℕ → Tokens
 after_value rest = drop 1 (tokens (49 ∷ 32 ∷ rest))

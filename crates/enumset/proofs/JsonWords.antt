@@ -1,13 +1,31 @@
 -- The words of JSON arrays, read one by one into a set.
 use Rattle.std.proofs.Common.{◌≡◌, ◌<◌, ◌≤◌, ℕ, ◌+◌, ◌*◌, ◌/◌, ◌^◌, Bool, true, false, ◌&&◌, if◌then◌else◌, inl, inr, Option, Some, is_none, unwrap_or, ok_or, Ok, List, map, drop, get_or, length, refl, sym, ap, subst, ◌∙◌, arith, slice_index, eqb-true, eq-eqb, ltb-false, Decides, ◌==◌, nat_lt}
-use Rattle.enumset.proofs.Common.{cases_lt, and_parts, and_from, nat_tests, same_from_decides, position_from-zero, get_or_past, get_or-map, length-map, map-map, position_from, BitSet, empty, contains, is_subset, below, low, word, with_word, bits_of, contains_low, same_number, low_within, low_narrow, is_subset_wider, contains_bits_word, word_bits_of, put_next, bits_of_within, none_put, all_kept, Data, as_array, view, items_view, Value, held_word, is_no_word, held_words, and_then, unless_fault, values_of, words_among, words_in, NotAnArray, NotAWord}
+use Rattle.std.proofs.lemmas.Bool.{cases_lt, and_parts, and_from}
+use Rattle.std.proofs.lemmas.Bool.Decides.{nat_tests, same_from_decides}
+use Rattle.std.proofs.lemmas.Iterator.Adapters.{position_from-zero}
+use Rattle.std.proofs.lemmas.List.{get_or_past, get_or-map, length-map}
+use Rattle.std.proofs.lemmas.Simd.{map-map}
+use Rattle.std.specs.List.{position_from}
+use Rattle.serde_json.specs.Data.{Data}
+use Rattle.serde_json.specs.Find.{as_array}
+use Rattle.serde_json.specs.View.{view, items_view}
+use Rattle.serde_json.specs.declared.value.Value.{Value}
+use Rattle.enumset_repr.specs.BitSet.{BitSet, empty, contains, is_subset, below, low}
+use Rattle.enumset_repr.specs.Laws.Members.{contains_low}
+use Rattle.enumset_repr.specs.Laws.Numbers.{same_number}
+use Rattle.enumset_repr.specs.Laws.Widths.{low_within, low_narrow, is_subset_wider}
+use Rattle.enumset_repr.specs.Laws.WordLists.{word_bits_of, put_next, bits_of_within, none_put, all_kept}
+use Rattle.enumset_repr.specs.Laws.Words.{contains_bits_word}
+use Rattle.enumset_repr.specs.Words.{word, with_word, bits_of}
 use Rattle.enumset.proofs.JsonLaws.{values_back}
 use Rattle.enumset.proofs.NameLists.{left_at}
+use Rattle.enumset.specs.Json.{held_word, is_no_word, held_words, and_then, unless_fault, values_of, words_among, words_in}
+use Rattle.enumset.specs.declared.set_json.fault.JsonFault.TheVariants.{NotAnArray, NotAWord}
 
 pub length-held_words : (vs : List Value) → length (held_words (map view vs)) ≡ length vs
 length-held_words vs = length-map (map view vs) (λ value. unwrap_or (held_word value) 0) ∙ length-map vs view
 
--- the first element from a place on that is no word
+-- the index of the first element, from an index on, that is not a word
 abbrev pub other_from : List Value → ℕ → Option ℕ
 other_from vs place = position_from is_no_word place (map view (drop place vs))
 
@@ -27,11 +45,11 @@ words_read d vs found is other =
     ap (λ o. and_then (ok_or o NotAnArray) (λ items. words_among (values_of items))) is ∙ ap words_among (values_back (map view vs))
     ∙ ap (λ o. unless_fault NotAWord o (Ok (held_words (map view vs)))) (position_from-zero is_no_word (map view vs) ∙ other)
 
--- whether a set has the words of a list before a place
+-- whether a set has the words of a list before an index
 abbrev pub Has : BitSet → List ℕ → ℕ → Type 0
 Has s ws place = (w : ℕ) → w < place → word s w ≡ slice_index ws w
 
--- a set of the words before a place, and whether a width cuts none of them
+-- a set has the words before an index, and `is_whole` says whether a width cuts none of them
 pub record AreRead (ws : List ℕ) (place width : ℕ) (s : BitSet) (is_whole : Bool) : Type 0 where
   pub small : (w : ℕ) → w < place → slice_index ws w < 2 ^ 64
   pub put : (t : BitSet) → Has t ws place → s ≡ low (low t (64 * place)) width
@@ -85,7 +103,7 @@ module _ (ws : List ℕ) (place width : ℕ) (s : BitSet) (is_whole : Bool) (bef
         );
   }
 
-  -- the same of a word that is put in where the representation has n words
+  -- the same with one more word, which is put in if the representation has it
   pub taken : (n x : ℕ) (r : BitSet) (kept : Bool) → n ≡ (width + 63) / 64 → x ≡ slice_index ws place → x < 2 ^ 64
       → r ≡ (if nat_lt place n then with_word s width place x else s) → kept ≡ (is_whole && (word r place == x)) → AreRead ws (place + 1) width r kept
   taken n x r kept count is fits made whole = subst (AreRead ws (place + 1) width r) (sym whole) (one_read x r is fits (at (nat_lt place n) refl))
@@ -94,7 +112,7 @@ module _ (ws : List ℕ) (place width : ℕ) (s : BitSet) (is_whole : Bool) (bef
       at true under = put_in x r is (made ∙ ap (λ b. if b then with_word s width place x else s) under)
       at false past = λ t has. made ∙ ap (λ b. if b then with_word s width place x else s) past ∙ left_out (omega (arith, count, ltb-false _ _ past)) t has
 
-  -- words that are the same before the place are read as well
+  -- words that are the same before the index have been read as well
   pub same_before : (us : List ℕ) → ((w : ℕ) → w < place → slice_index us w ≡ slice_index ws w) → AreRead us place width s is_whole
   same_before us same = record {
     small = λ w under. subst (λ x. x < 2 ^ 64) (sym (same w under)) (before.small w under);

@@ -1,4 +1,3 @@
-mod Common
 mod AskedSteps
 mod NameLists
 mod NamePlaces

@@ -1,6 +1,10 @@
--- The reader of values, at any depth and any tokens, taken from the definition of `read`.
+-- The reader of values at any depth and for any tokens, taken from the definition of `read`.
 use Rattle.std.proofs.Common.{◌≡◌, ℕ, suc, List, [], ◌∷◌, ◌++◌, length, refl, arith, Bool, Option, Some, None, false, true, option_and_then, option_map}
-use Rattle.enumset.proofs.Common.{Data, object, boolean, Members, member, no_members, read, of_json, outline, members_outline, text_token, bool_token, serde_json_on_literals}
+use Rattle.serde_json.proofs.OnLiterals.{serde_json_on_literals}
+use Rattle.serde_json.specs.Data.{Data, object, boolean, Members, member, no_members}
+use Rattle.serde_json.specs.Read.{read, of_json}
+use Rattle.serde_json.specs.Sent.{text_token, bool_token}
+use Rattle.serde_json.specs.Written.{outline, members_outline}
 use Rattle.enumset.proofs.JsonTokens.{tokens, Tokens, Json, TypeOf}
 
 -- `option_and_then`, which does not unfold
@@ -21,7 +25,7 @@ mapped_is f (Some a) = refl
 abbrev pub pick : {A B Given : Type 0} (f : A → Option B) (o : Option A) → (Given → then f o ≡ then f o) → Option A
 pick f o same = o
 
--- the value at the front of tokens, and those after it
+-- the value at the front of tokens, and the tokens after it
 unfoldable pub value : ℕ → Tokens → Option (Json × Tokens)
 value d ts =
     pick {A = Json × Tokens} {B = Data} {Given = (text : List ℕ) × (d ≡ 127) × (ts ≡ tokens text)} _ _
@@ -37,7 +41,7 @@ whole text j e = rw e refl
 abbrev pub JsonMembers : Type 0
 JsonMembers = TypeOf (members_outline no_members)
 
--- the token of an opening brace, before others
+-- the token of an opening brace, and then other tokens
 abbrev brace_before : Tokens → Tokens
 brace_before ts = tokens (123 ∷ []) ++ ts
 

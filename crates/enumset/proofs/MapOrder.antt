@@ -1,11 +1,22 @@
--- Names of members that rise, as many as there are members, are the names of all members in the order of a map.
+-- Names of members, each before the next and as many as there are members, are all names in the order of a map.
 use Rattle.std.proofs.Common.{◌≡◌, ◌⊎◌, inl, inr, ℕ, List, [], ◌∷◌, Bor, refl, sym, ap, ◌∙◌, subst, nat_cmp, Ordering, Less, Equal, Greater, ◌≤◌, ◌+◌, length, suc, arith, is_eq, true≢false, true}
-use Rattle.enumset.proofs.Common.{⊤, Data, nat_list_cmp_total, recursion_from_All, IsTotalOrder, slice_cmp, AllByRecursion, IsStrictlySortedBy, ordering_reverse, match_ordering, BitSet, ascending, len_ascending, boolean, Members, member, members_in, no_members, put, AreRising, IsName, AreMembers, with_bits_true, Names, name_of}
-use Rattle.std.proofs.lemmas.Cmp.{on_total, tied_itself}
-use Rattle.std.proofs.lemmas.List.Elements.{All-weaker}
+use Rattle.std.proofs.lemmas.Cmp.{nat_list_cmp_total, on_total, tied_itself}
+use Rattle.std.proofs.lemmas.List.Elements.{recursion_from_All, All-weaker}
+use Rattle.std.specs.Cmp.{IsTotalOrder}
+use Rattle.std.specs.Cmp.Lexicographic.{slice_cmp}
+use Rattle.std.specs.List.{AllByRecursion}
+use Rattle.std.specs.List.Sorted.{IsStrictlySortedBy}
+use Rattle.std.specs.Ordering.{ordering_reverse, match_ordering}
+use Rattle.std.specs.Prelude.{⊤}
+use Rattle.serde_json.specs.Data.{Data, boolean, Members, member, no_members, put}
+use Rattle.enumset_repr.specs.BitSet.{BitSet, ascending}
+use Rattle.enumset_repr.specs.Laws.Ascending.{len_ascending}
 use Rattle.enumset.proofs.NamesTaken.{Each, each_put, same_key}
+use Rattle.enumset.specs.JsonNames.{members_in, with_bits_true}
+use Rattle.enumset.specs.JsonPlain.{AreRising, IsName, AreMembers}
+use Rattle.enumset.specs.Names.{Names, name_of}
 
--- names, as the code has them
+-- names, in the form that the code has
 abbrev pub Texts : Type 0
 Texts = List (Bor (List ℕ))
 
@@ -34,12 +45,12 @@ IsIn t (member name d ms) = (name ≡ t) ⊎ IsIn t ms
 abbrev count : Members → ℕ
 count ms = length (members_in ms)
 
--- what a name comes before, an earlier one does too
+-- if one name is before another, it is before all that the other is before
 before_all : {A : Type 0} (f : A → List ℕ) (a b : List ℕ) (xs : List A) → slice_cmp nat_cmp a b ≡ Less → AllByRecursion (λ x. slice_cmp nat_cmp b (f x) ≡ Less) xs → AllByRecursion (λ x. slice_cmp nat_cmp a (f x) ≡ Less) xs
 before_all f a b [] less all = tt
 before_all f a b (x ∷ xs) less all = (nat_list_cmp_total.trans a b (f x) less all.0, before_all f a b xs less all.1)
 
--- members with a name more, or with the name that they had
+-- members with one more name, or with a name that they had
 abbrev HasMore : List ℕ → Members → Members → Type 0
 HasMore name ms more = Rises more × IsIn name more × ((t : List ℕ) → IsIn t ms → IsIn t more) × (count more ≤ suc (count ms))
 
@@ -71,7 +82,7 @@ has_all names (b ∷ bs) ms rises =
       omega (arith, one.3, rest.3),
     )
 
--- ---- names that rise, among others that rise
+-- ---- names in order, among others in order
 
 before_in : (a t : List ℕ) (ms : Members) → IsIn t ms → Each (λ u d. slice_cmp nat_cmp a u ≡ Less) ms → slice_cmp nat_cmp a t ≡ Less
 before_in a t no_members i all = absurd i

@@ -1,21 +1,26 @@
--- What serde_json reads of the tokens of an object of booleans.
+-- What serde_json reads for the tokens of an object of booleans.
 use Rattle.std.proofs.Common.{◌≡◌, ◌+◌, ◌≤◌, ℕ, zero, suc, List, [], ◌∷◌, ◌++◌, length, Some, refl, ap, ◌∙◌, arith, Bool, true, false, option_map}
-use Rattle.enumset.proofs.Common.{object, boolean, Members, no_members, member, put, read, of_members, outline, members_outline, text_token, bool_token, serde_json_on_literals, AreSpaces, Passed, StartsWithMember}
-use Rattle.enumset.proofs.JsonTokens.{tokens, Tokens}
+use Rattle.serde_json.proofs.OnLiterals.{serde_json_on_literals}
+use Rattle.serde_json.specs.Data.{object, boolean, Members, no_members, member, put}
+use Rattle.serde_json.specs.Read.{read, of_members}
+use Rattle.serde_json.specs.Sent.{text_token, bool_token}
+use Rattle.serde_json.specs.Written.{outline, members_outline}
 use Rattle.enumset.proofs.JsonItems.{member_item, quote_next, next_item, passed, opens, closes, last_item}
+use Rattle.enumset.proofs.JsonTokens.{tokens, Tokens}
 use Rattle.enumset.proofs.MapHandles.{value, members, whole, members_end, member_step, object_value}
+use Rattle.enumset.specs.JsonPlain.{AreSpaces, Passed, StartsWithMember}
 
 -- the members of names with booleans, in the order given
 abbrev listed : List (List ℕ × Bool) → Members
 listed [] = no_members
 listed (m ∷ ms) = member m.0 (boolean m.1) (listed ms)
 
--- those put into an object one after another
+-- these members put into an object one after another
 abbrev pub put_all : List (List ℕ × Bool) → Members → Members
 put_all [] found = found
 put_all (m ∷ ms) found = put_all ms (put m.0 (boolean m.1) found)
 
--- the tokens after the brace
+-- the tokens after the opening brace
 abbrev pub member_tokens : List (List ℕ × Bool) → Tokens
 member_tokens [] = tokens (125 ∷ [])
 member_tokens (m ∷ ms) = text_token true m.0 ∷ bool_token false m.1 ∷ member_tokens ms
@@ -35,7 +40,7 @@ put_in : (ms : List (List ℕ × Bool)) (found : Members) → of_members (member
 put_in [] found = refl
 put_in (m ∷ ms) found = put_in ms (put m.0 (boolean m.1) found)
 
--- a text of members after an opening brace reads as the members, put in one after another
+-- a text of an opening brace and members reads as the members, put in one after another
 pub opened : (text rest : List ℕ) (ms : List (List ℕ × Bool)) → Passed text 123 rest → tokens rest ≡ member_tokens ms → read text ≡ Some (object (put_all ms no_members))
 opened text rest ms found later =
     let all = passed text 123 rest found ∙ opens.1 rest ∙ ap (λ ts. tokens (123 ∷ []) ++ ts) later in

@@ -1,11 +1,25 @@
--- What a scanner of maps keeps, and what the map that it has read is as a set.
+-- The invariant of the loop that reads plain maps, and the set that a map is read as.
 use Rattle.std.proofs.Common.{◌≡◌, ◌+◌, ℕ, Bool, true, false, cond, Some, None, Ok, List, [], ◌∷◌, refl, sym, ap, subst, ◌∙◌, inr, true≢false, arith, option_map, filter_map}
-use Rattle.enumset.proofs.Common.{cons_option, position_from, position_from-zero, insert_comm, contains_inserted, members, nat_tests, BitSet, empty, contains, insert, from_list, Data, boolean, object, Members, no_members, member, put, read, Names, bit_named, unless_fault, StartsWithMember, members_in, names_in, true_names, is_no_boolean, is_unknown, known_set, decided, set_of_map, AreSpaces, Passed, IsResult, IsReadOf, Unknown, NotABoolean}
-use Rattle.enumset.proofs.JsonTokens.{tokens}
+use Rattle.std.proofs.lemmas.Bool.Decides.{nat_tests}
+use Rattle.std.proofs.lemmas.Iterator.Adapters.{position_from-zero}
+use Rattle.std.specs.List.{cons_option, position_from}
+use Rattle.serde_json.specs.Data.{Data, boolean, object, Members, no_members, member, put}
+use Rattle.serde_json.specs.Read.{read}
+use Rattle.enumset_repr.specs.BitSet.{BitSet, empty, contains, insert, from_list}
+use Rattle.enumset_repr.specs.Laws.Algebra.{insert_comm, contains_inserted}
+use Rattle.enumset_repr.specs.Laws.Members.{members}
 use Rattle.enumset.proofs.JsonItems.{passed, closes, no_item}
+use Rattle.enumset.proofs.JsonTokens.{tokens}
 use Rattle.enumset.proofs.MapTokens.{put_all, member_tokens, opened, next_member, last_member}
 use Rattle.enumset.proofs.NamesTaken.{Each, put_cases, each_put}
 use Rattle.enumset.proofs.PlainLists.{no_unknown}
+use Rattle.enumset.specs.Json.{unless_fault}
+use Rattle.enumset.specs.JsonNames.{members_in, names_in, true_names, is_no_boolean, is_unknown, known_set, decided, set_of_map}
+use Rattle.enumset.specs.JsonPlain.{StartsWithMember, AreSpaces, Passed}
+use Rattle.enumset.specs.JsonReads.{IsResult, IsReadOf}
+use Rattle.enumset.specs.Names.{Names, bit_named}
+use Rattle.enumset.specs.declared.set_json.fault.JsonFault.TheVariants.{NotABoolean}
+use Rattle.enumset.specs.declared.set_json.unknown.Unknown.{Unknown}
 
 module _ (names : Names) where
   -- a boolean under a name whose bit is in a set
@@ -59,7 +73,7 @@ module _ (names : Names) where
 
   -- ---- the loop of the scanner
 
-  -- some members were read, and are this set; those of what is left after an opening quote go in after them
+  -- some members were read, as this set, and the members that are left, after an opening quote, are put in after them
   abbrev pub Scanned : List ℕ → List ℕ → BitSet → BitSet → Type 0
   Scanned text left seen s =
       (done : Members) × Each (IsSeen seen) done × (set_in done ≡ s) × ((ms : List (List ℕ × Bool)) → tokens (34 ∷ left) ≡ member_tokens ms → read text ≡ Some (object (put_all ms done)))

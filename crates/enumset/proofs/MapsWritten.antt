@@ -1,15 +1,25 @@
--- The text of names that rise, as members of an object, and what it reads as.
+-- The text of names, each before the next, as members of an object, and what it is read as.
 use Rattle.std.proofs.Common.{◌≡◌, List, [], ◌∷◌, ◌++◌, Bor, Some, map, refl, sym, ap, ◌∙◌, Less, ℕ, Bool, true, false}
-use Rattle.enumset.proofs.Common.{nat_list_cmp_total, AllByRecursion, IsStrictlySortedBy, ordering_reverse, BitSet, object, boolean, Members, no_members, member, put, read, compact_text, members_text, comma_if, IsTextOf, AreRising, AreMembers, map_value, Names}
+use Rattle.std.proofs.lemmas.Cmp.{nat_list_cmp_total}
+use Rattle.std.specs.List.{AllByRecursion}
+use Rattle.std.specs.List.Sorted.{IsStrictlySortedBy}
+use Rattle.std.specs.Ordering.{ordering_reverse}
+use Rattle.serde_json.specs.Data.{object, boolean, Members, no_members, member, put}
+use Rattle.serde_json.specs.Read.{read}
+use Rattle.serde_json.specs.Written.{compact_text, members_text, comma_if}
+use Rattle.enumset_repr.specs.BitSet.{BitSet}
 use Rattle.enumset.proofs.JsonLists.{ArePlain, joined, text_before}
 use Rattle.enumset.proofs.JsonTokens.{tokens}
 use Rattle.enumset.proofs.MapOrder.{by_bytes, Texts, all_true, all_sorted}
 use Rattle.enumset.proofs.MapTokens.{put_all, member_tokens, opened, next_member, last_member}
+use Rattle.enumset.specs.JsonNames.{map_value}
+use Rattle.enumset.specs.JsonPlain.{IsTextOf, AreRising, AreMembers}
+use Rattle.enumset.specs.Names.{Names}
 
 abbrev pairs : Texts → List (List ℕ × Bool)
 pairs names = map (λ n. (n.now, true)) names
 
--- those after a name are put behind it
+-- names that are after a name are put in behind it
 put_behind : (n : Bor (List ℕ)) (names : Texts) (ms : Members) → AllByRecursion (λ m. by_bytes n m ≡ Less) names
     → put_all (pairs names) (member n.now (boolean true) ms) ≡ member n.now (boolean true) (put_all (pairs names) ms)
 put_behind n [] ms later = refl

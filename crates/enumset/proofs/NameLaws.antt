@@ -1,10 +1,19 @@
--- A bit's name is the name of that bit alone.
+-- A bit's name is the name of no other bit.
 use Rattle.std.proofs.Common.{◌≡◌, ℕ, Bool, true, false, cond, Some, None, List, [], ◌∷◌, length, refl, sym, ap, ◌∙◌, arith, true≢false, inl, inr, ◌==◌, ◌||◌, zip, bytes_eq, eqb-true, eq-eqb, ne_eqb}
-use Rattle.enumset.proofs.Common.{beq, booleans_Decides, list_any, list_all, or_left, or_right, and_parts, and_from, not-true, cases_Bool, cond-true, cond-false, false_from_ne_true, nat_tests, bytes_eq-Decides, is_in, is_distinct, passed, Names, name_of, bit_named, names_agree, are_distinct, IsNaming, NameCountShouldBe, NamesAValueTwice}
+use Rattle.std.proofs.lemmas.Bool.{or_left, or_right, and_parts, and_from, not-true, cases_Bool, cond-true, cond-false, false_from_ne_true}
+use Rattle.std.proofs.lemmas.Bool.Decides.{nat_tests}
+use Rattle.std.proofs.lemmas.Slice.Eq.{bytes_eq-Decides}
+use Rattle.std.specs.Bool.{beq}
+use Rattle.std.specs.Cmp.{booleans_Decides}
+use Rattle.std.specs.List.{list_any, list_all}
+use Rattle.enumset_repr.specs.BitSet.{is_in}
+use Rattle.enumset_repr.specs.Number.{is_distinct}
+use Rattle.enumset_sets.specs.Laws.Elements.{passed}
+use Rattle.enumset.specs.Names.{Names, name_of, bit_named, names_agree, are_distinct, IsNaming, NameCountShouldBe, NamesAValueTwice}
 
 -- ---- the test
 
--- what the test says where it passes
+-- what is known if the test passes
 pub record AreNames (bs : List ℕ) (names : List (List ℕ)) : Type 0 where
   pub as_many : length names ≡ length bs
   pub distinct : are_distinct names ≡ true
@@ -20,7 +29,7 @@ IsNaming-passes bs names test =
 later_in : (b c : ℕ) (later : Bool) → (c == b) ≡ false → ((b == c) || later) ≡ true → later ≡ true
 later_in b c later other one = grind (arith, nat_tests)
 
--- what a name among others passes, and what all bits with their names pass
+-- a test that the name of a bit passes, and a test that all bits with their names pass
 name_listed : (p : List ℕ → Bool) (bs : List ℕ) (names : List (List ℕ)) (b : ℕ) → length names ≡ length bs → is_in b bs ≡ true → p (name_of (zip bs names) b) ≡ true → list_any p names ≡ true
 name_listed p (c ∷ bs) (n ∷ names) b len one is = elim (cases_Bool (c == b)) [
   | inl here ↦ or_left (p n) _ (ap p (sym (cond-true (c == b) n _ here)) ∙ is)

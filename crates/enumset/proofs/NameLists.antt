@@ -1,8 +1,9 @@
 -- Names, looked up along a list.
 use Rattle.std.proofs.Common.{◌≡◌, ◌<◌, ◌+◌, ℕ, Some, List, ◌∷◌, map, drop, length, get_or, sym, ap, ◌∙◌, ◌==◌, if◌then◌else◌, bytes_eq}
-use Rattle.enumset.proofs.Common.{drop_more, name_of, bit_named}
+use Rattle.std.proofs.lemmas.List.{drop_more}
+use Rattle.enumset.specs.Names.{name_of, bit_named}
 
--- what is left of a list at an element of it
+-- the rest of a list from an element on
 pub left_at : {A : Type 0} (xs : List A) (i : ℕ) (x : A) → i < length xs → x ≡ get_or xs i x → drop i xs ≡ x ∷ drop (i + 1) xs
 left_at xs i x within is = drop_more xs i x within ∙ ap (λ y. y ∷ drop (i + 1) xs) (sym is)
 

@@ -1,15 +1,19 @@
--- The name at a place of a list of names, and the bit there.
+-- The name at an index of a list of names, and the bit there.
 use Rattle.std.proofs.Common.{◌≡◌, ◌<◌, ℕ, suc, zero, Bool, true, List, [], ◌∷◌, length, map, get_or, refl, sym, ap, ◌∙◌, arith, true≢false, ◌==◌, zip, eq-eqb}
-use Rattle.enumset.proofs.Common.{list_any, not-true, and_parts, or_left, or_right, cond-true, cond-false, false_from_ne_true, length-map, get_or-map, is_distinct, name_of}
+use Rattle.std.proofs.lemmas.Bool.{not-true, and_parts, or_left, or_right, cond-true, cond-false, false_from_ne_true}
+use Rattle.std.proofs.lemmas.List.{length-map, get_or-map}
+use Rattle.std.specs.List.{list_any}
+use Rattle.enumset_repr.specs.Number.{is_distinct}
+use Rattle.enumset.specs.Names.{name_of}
 
--- a test that the bit of an entry passes, one of all bits passes
+-- a test that passes for the bit of an entry passes for one of all bits
 bit_passes : (p : ℕ → Bool) (bs : List ℕ) (names : List (List ℕ)) (i : ℕ) (d : ℕ × List ℕ) → i < length (zip bs names) → p (get_or (zip bs names) i d).0 ≡ true → list_any p bs ≡ true
 bit_passes p (b ∷ bs) (n ∷ names) zero d within is = or_left (p b) _ is
 bit_passes p (b ∷ bs) (n ∷ names) (suc i) d within is = or_right (p b) _ (bit_passes p bs names i d (omega (arith, within)) is)
 bit_passes p [] names i d within is = absurd (omega (arith, within))
 bit_passes p (b ∷ bs) [] i d within is = absurd (omega (arith, within))
 
--- where no bit comes twice, the name of a bit is the one that stands with it
+-- if no bit occurs twice, the name of a bit is the name in its entry
 name_at : (bs : List ℕ) (names : List (List ℕ)) (i : ℕ) (d : ℕ × List ℕ) → is_distinct bs ≡ true → i < length (zip bs names) → name_of (zip bs names) (get_or (zip bs names) i d).0 ≡ (get_or (zip bs names) i d).1
 name_at (b ∷ bs) (n ∷ names) zero d apart within = cond-true (b == b) n _ (eq-eqb b b refl)
 name_at (b ∷ bs) (n ∷ names) (suc i) d apart within =

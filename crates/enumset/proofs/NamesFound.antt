@@ -1,7 +1,11 @@
--- A name among those of a type, looked for in a later part of the list, then in the part before.
+-- A name among the names of a type, looked for in a later part of the list, then in the part before.
 use Rattle.std.proofs.Common.{◌≡◌, ℕ, true, false, cond, Some, None, List, [], ◌∷◌, ◌++◌, length, map, take, drop, sym, ap, subst, ◌∙◌, arith, zip, bytes_eq, take-append-drop}
+use Rattle.std.proofs.lemmas.Bool.{and_parts, not-true}
+use Rattle.std.proofs.lemmas.List.{map-append}
+use Rattle.std.proofs.lemmas.Slice.Eq.{bytes_eq-Decides}
 use Rattle.std.proofs.lemmas.Slice.Zip.{seconds-zip}
-use Rattle.enumset.proofs.Common.{list_any, and_parts, not-true, map-append, bytes_eq-Decides, Names, bit_named, are_distinct}
+use Rattle.std.specs.List.{list_any}
+use Rattle.enumset.specs.Names.{Names, bit_named, are_distinct}
 
 texts : Names → List (List ℕ)
 texts ns = map (λ n. n.1) ns
@@ -11,7 +15,7 @@ unfolding texts
 among (n ∷ ns) t b is = grind (arith, is, among ns t b)
 among [] t b is = absurd (cc)
 
--- where no name comes twice, one that is found in the later part is the first
+-- if no name occurs twice, a name that is found in the later part is the first
 later_at : (xs ys : Names) (t : List ℕ) (b : ℕ) → are_distinct (texts (xs ++ ys)) ≡ true → bit_named ys t ≡ Some b → bit_named (xs ++ ys) t ≡ Some b
 unfolding texts
 later_at [] ys t b apart is = is
@@ -24,7 +28,7 @@ earlier_at : (xs ys : Names) (t : List ℕ) → bit_named ys t ≡ None → bit_
 earlier_at [] ys t none = none
 earlier_at (x ∷ xs) ys t none = ap (λ o. cond (bytes_eq x.1 t) (Some x.0) o) (earlier_at xs ys t none)
 
--- what the two searches find, of the names of a type cut in two
+-- what the two searches find in the names of a type, cut in two
 module _ (bs : List ℕ) (names : List (List ℕ)) (xs ys : Names) (t : List ℕ) (whole : xs ++ ys ≡ zip bs names) where
   pub found_later : length names ≡ length bs → are_distinct names ≡ true → (b : ℕ) → bit_named ys t ≡ Some b → bit_named (zip bs names) t ≡ Some b
   unfolding texts
@@ -33,6 +37,6 @@ module _ (bs : List ℕ) (names : List (List ℕ)) (xs ys : Names) (t : List ℕ
   pub found_earlier : bit_named ys t ≡ None → bit_named (zip bs names) t ≡ bit_named xs t
   found_earlier none = ap (λ ns. bit_named ns t) (sym whole) ∙ earlier_at xs ys t none
 
--- the two parts of a list that is cut in two
+-- the two parts of a list make the list
 pub cut : {A : Type 0} (named : A → ℕ × List ℕ) (all front back : List A) (i : ℕ) → front ≡ take i all → back ≡ drop i all → map named front ++ map named back ≡ map named all
 cut named all front back i first rest = sym (map-append named front back) ∙ ap (map named) ((λ j. first j ++ rest j) ∙ take-append-drop i all)

@@ -1,8 +1,21 @@
--- Lists and maps of names that are read one by one, up to the first that is a fault, and what they are read as.
+-- Lists and maps of names, read one name at a time up to the first fault, and what they are read as.
 use Rattle.std.proofs.Common.{◌≡◌, ◌+◌, Bool, true, false, cond, ℕ, Option, Some, None, Err, List, [], ◌∷◌, map, String, string_bytes, refl, sym, ap, ◌∙◌, arith, position, filter, filter_map, is_none, Result, Global}
-use Rattle.enumset.proofs.Common.{cons_option, position_from, option_or, position_from-zero, BitSet, empty, insert, union, from_list, empty_union, union_insert, insert_union, union_none, Data, view, items_view, members_view, Value, Names, bit_named, unless_fault, values_of, members_in, string_in, is_true, is_no_string, is_no_boolean, is_unknown, known_set, decided, set_of_values, set_of_members, Unknown, JsonFault, NotAText, NotABoolean}
-use Rattle.std.specs.Option.{option_map_or}
+use Rattle.std.proofs.lemmas.Iterator.Adapters.{position_from-zero}
+use Rattle.std.specs.List.{cons_option, position_from}
+use Rattle.std.specs.Option.{option_or, option_map_or}
+use Rattle.serde_json.specs.Data.{Data}
+use Rattle.serde_json.specs.View.{view, items_view, members_view}
+use Rattle.serde_json.specs.declared.value.Value.{Value}
+use Rattle.enumset_repr.specs.BitSet.{BitSet, empty, insert, union, from_list}
+use Rattle.enumset_repr.specs.Laws.Algebra.{empty_union, union_insert, insert_union}
+use Rattle.enumset_sets.specs.Laws.Folds.{union_none}
 use Rattle.enumset.proofs.JsonLaws.{values_back}
+use Rattle.enumset.specs.Json.{unless_fault, values_of}
+use Rattle.enumset.specs.JsonNames.{members_in, string_in, is_true, is_no_string, is_no_boolean, is_unknown, known_set, decided, set_of_values, set_of_members}
+use Rattle.enumset.specs.Names.{Names, bit_named}
+use Rattle.enumset.specs.declared.set_json.fault.JsonFault.{JsonFault}
+use Rattle.enumset.specs.declared.set_json.fault.JsonFault.TheVariants.{NotAText, NotABoolean}
+use Rattle.enumset.specs.declared.set_json.unknown.Unknown.{Unknown}
 
 named_first : (o : Option ℕ) (s : BitSet) (bs : List ℕ) → union (option_map_or (insert s) o s) (from_list bs) ≡ union s (from_list (cons_option o bs))
 unfolding from_list
@@ -15,10 +28,10 @@ or_none first = grind arith
 first_place : (first : Option ℕ) (b : Bool) (place : ℕ) (later : Option ℕ) → option_or (option_or first (cond b (Some place) None)) later ≡ option_or first (cond b (Some place) later)
 first_place first b place later = grind arith
 
--- ---- what is read of items, each a name that is taken or not, or a fault
+-- ---- what items are read as: each is a name that is accepted or not, or a fault
 
 module _ {X : Type 0} (is_fault is_taken : X → Bool) (name : X → List ℕ) (fault : ℕ → JsonFault) (names : Names) (unknown : Unknown) where
-  -- what the items from a place on are read as, after a set and the first unknown place
+  -- what the items from an index on are read as, given the set so far and the index of the first unknown name
   pub read_on : ℕ → BitSet → Option ℕ → List X → Result BitSet JsonFault
   read_on place s first xs =
       unless_fault fault (position_from is_fault place xs) (decided unknown (option_or first (position_from (is_unknown names) place (map name xs))) (union s (known_set names (map name (filter is_taken xs)))))
@@ -36,7 +49,7 @@ module _ {X : Type 0} (is_fault is_taken : X → Bool) (name : X → List ℕ) (
     unfolding read_on
     read_fault one = rw (is, one) refl
 
-    -- a name that has a bit, or has none
+    -- the next name, which has a bit or does not
     pub read_next : (bit : Option ℕ) (taken : Bool) → is_fault x ≡ false → is_taken x ≡ taken → bit_named names (name x) ≡ bit
         → read_on place s first xs ≡ read_on (place + 1) (cond taken (option_map_or (insert s) bit s) s) (option_or first (cond (is_none bit) (Some place) None)) rest
     unfolding read_on
@@ -70,7 +83,7 @@ list_read names unknown vs = list_read_all names unknown (map view vs) ∙ ap (s
 abbrev pub map_on : Names → Unknown → ℕ → BitSet → Option ℕ → List (List ℕ × Data) → Result BitSet JsonFault
 map_on = read_on is_no_boolean is_true (λ m. m.0) NotABoolean
 
--- a member, as the code sees it
+-- a member, from the name and the value that the code has
 abbrev pub seen : String Global × Value → List ℕ × Data
 seen m = (string_bytes m.0, view m.1)
 

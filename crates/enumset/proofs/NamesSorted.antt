@@ -1,13 +1,24 @@
--- The names of a set's members rise once they are sorted, since no two of them are the same.
+-- The names of a set's members, once sorted, are each before the next, since no two of them are the same.
 use Rattle.std.proofs.Common.{◌≡◌, ◌+◌, ◌<◌, ◌≤◌, ◌==◌, ℕ, zero, suc, true, cond, Ordering, Less, Equal, Greater, unwrap_or, List, [], ◌∷◌, ◌++◌, Bor, length, map, zip, get_or, count_by, inl, inr, refl, sym, ap, subst, ◌∙◌, arith, true≢false, eq-eqb, eqb-true, ne_eqb, is_lt}
+use Rattle.std.proofs.lemmas.Bool.{and_parts, cases_Bool}
+use Rattle.std.proofs.lemmas.Cmp.{nat_list_cmp_total}
+use Rattle.std.proofs.lemmas.List.{get_or-map, length-map}
 use Rattle.std.proofs.lemmas.List.Elements.{All-from_recursion}
-use Rattle.std.proofs.lemmas.List.Sorted.{IsPermutation-map, length_permutation, sum_by-IsPermutation}
+use Rattle.std.proofs.lemmas.List.Sorted.{IsPermutation-map, length_permutation, sum_by-IsPermutation, All-permutation}
+use Rattle.std.proofs.lemmas.List.Sums.{sum_by-cons}
 use Rattle.std.proofs.lemmas.Map.Keys.{sorted_from_all_adjacent}
+use Rattle.std.proofs.lemmas.Simd.{map-map}
+use Rattle.std.specs.List.{AllByRecursion, list_all}
 use Rattle.std.specs.List.Sorted.{IsPermutation, IsSorted}
-use Rattle.enumset.proofs.Common.{AllByRecursion, All-permutation, AscendsFrom, ascending_ascends, AreBitsOf-ascending, and_parts, cases_Bool, get_or-map, length-map, map-map, nat_list_cmp_total, ordering_reverse, sum_by-cons, BitSet, ascending, from_list, is_in, is_subset, len_ascending, list_all, AreMembers, AreRising, IsName, Names, name_of, bit_named}
+use Rattle.std.specs.Ordering.{ordering_reverse}
+use Rattle.enumset_repr.specs.BitSet.{BitSet, ascending, from_list, is_in, is_subset}
+use Rattle.enumset_repr.specs.Laws.Ascending.{AscendsFrom, ascending_ascends, len_ascending}
+use Rattle.enumset_sets.specs.Laws.Elements.{AreBitsOf-ascending}
 use Rattle.enumset.proofs.MapOrder.{Texts, by_bytes, by_bytes_total}
 use Rattle.enumset.proofs.NameLaws.{AreNames, name_back}
 use Rattle.enumset.proofs.NamesTaken.{same_key}
+use Rattle.enumset.specs.JsonPlain.{AreMembers, AreRising, IsName}
+use Rattle.enumset.specs.Names.{Names, name_of, bit_named}
 
 -- ---- how often a number is in a list
 
@@ -41,7 +52,7 @@ module _ (b : ℕ) where
 
 -- ---- names that are sorted
 
--- the bit of a name that some bit has
+-- the bit of a name, for a name that a bit has
 abbrev bit_of : Names → List ℕ → ℕ
 bit_of names text = unwrap_or (bit_named names text) 0
 
@@ -90,7 +101,7 @@ sorted_members bs names s ns sorted are within texts moved in_order =
       omega (arith, length_permutation ns sorted moved, length-map ns (λ n. n.now), ap length texts, length-map (ascending s) (name_of all), len_ascending s),
     )
 
--- a name more, of the first of the bits that are left
+-- one more name, of the first of the bits that are left
 pub name_more : (f : ℕ → List ℕ) (ns : Texts) (n : Bor (List ℕ)) (bits rest : List ℕ) (b : ℕ) → bits ≡ b ∷ rest → n.now ≡ f b → map (λ n. n.now) (ns ++ n ∷ []) ++ map f rest ≡ map (λ n. n.now) ns ++ map f bits
 name_more f [] n bits rest b first is = (λ j. is j ∷ map f rest) ∙ ap (map f) (sym first)
 name_more f (m ∷ ns) n bits rest b first is = ap (λ ts. m.now ∷ ts) (name_more f ns n bits rest b first is)

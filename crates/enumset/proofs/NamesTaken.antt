@@ -1,14 +1,35 @@
--- What a reader takes of the names that a writer wrote of a set, as a list and as a map.
+-- What a reader accepts of the names that a writer wrote for a set, as a list and as a map.
 use Rattle.std.proofs.Common.{◌≡◌, ◌+◌, ℕ, Bool, true, cond, Ordering, Less, Equal, Greater, Option, Some, None, Result, Ok, List, [], ◌∷◌, map, refl, sym, ap, subst, ◌∙◌, arith, position, ◌||◌, not, nat_lt, zip, filter_map, is_none, length, nat_cmp, is_eq}
-use Rattle.enumset.proofs.Common.{AllByRecursion, list_all, prefix_len, position_or_len, cons_option, position_from, match_ordering, slice_cmp, and_parts, cond-true, nat_tests, same_from_decides, position_from-zero, length-map, map-map, bytes_eq-Decides, BitSet, is_in, contains, intersection, from_list, ascending, is_subset, same_set, contains_from_list, contains_ascending, contains_is_subset, is_subset_contains, list_all_any, list_all_each, from_list_ascending, insert_inside, empty_intersection, intersection_within, intersection_insert, AreBitsOf-ascending, Data, boolean, string, Members, no_members, member, put, Names, name_of, bit_named, names_agree, unless_fault, members_in, names_in, true_names, string_in, is_no_string, is_no_boolean, is_unknown, decided, named_set, set_of_values, set_of_list, set_of_map, list_value, with_bits_true, map_value, in_map, accepted_by_name, Unknown, Drop, Refuse, JsonFault, NotAText, NotABoolean}
+use Rattle.std.proofs.lemmas.Bool.{and_parts, cond-true}
+use Rattle.std.proofs.lemmas.Bool.Decides.{nat_tests, same_from_decides}
+use Rattle.std.proofs.lemmas.Iterator.Adapters.{position_from-zero}
+use Rattle.std.proofs.lemmas.List.{length-map}
 use Rattle.std.proofs.lemmas.List.Recursion.{same_from_clauses}
 use Rattle.std.proofs.lemmas.Map.Text.{is_eq-slice_cmp}
-use Rattle.enumset.proofs.NameLaws.{AreNames, name_back, agree_at}
+use Rattle.std.proofs.lemmas.Simd.{map-map}
+use Rattle.std.proofs.lemmas.Slice.Eq.{bytes_eq-Decides}
+use Rattle.std.specs.Cmp.Lexicographic.{slice_cmp}
+use Rattle.std.specs.List.{AllByRecursion, list_all, prefix_len, position_or_len, cons_option, position_from}
+use Rattle.std.specs.Ordering.{match_ordering}
+use Rattle.serde_json.specs.Data.{Data, boolean, string, Members, no_members, member, put}
+use Rattle.enumset_repr.specs.BitSet.{BitSet, is_in, contains, intersection, from_list, ascending, is_subset}
+use Rattle.enumset_repr.specs.Laws.Algebra.{from_list_ascending, insert_inside, empty_intersection, intersection_within}
+use Rattle.enumset_repr.specs.Laws.Members.{same_set, contains_from_list, contains_ascending, contains_is_subset, is_subset_contains, list_all_any, list_all_each}
+use Rattle.enumset_repr.specs.Laws.Sets.{intersection_insert}
+use Rattle.enumset_sets.specs.Laws.Elements.{AreBitsOf-ascending}
 use Rattle.enumset.proofs.JsonLaws.{values_back}
+use Rattle.enumset.proofs.NameLaws.{AreNames, name_back, agree_at}
+use Rattle.enumset.specs.Json.{unless_fault}
+use Rattle.enumset.specs.JsonNames.{members_in, names_in, true_names, string_in, is_no_string, is_no_boolean, is_unknown, decided, named_set, set_of_values, set_of_list, set_of_map, list_value, with_bits_true, map_value, in_map, accepted_by_name}
+use Rattle.enumset.specs.Names.{Names, name_of, bit_named, names_agree}
+use Rattle.enumset.specs.declared.set_json.fault.JsonFault.{JsonFault}
+use Rattle.enumset.specs.declared.set_json.fault.JsonFault.TheVariants.{NotAText, NotABoolean}
+use Rattle.enumset.specs.declared.set_json.unknown.Unknown.{Unknown}
+use Rattle.enumset.specs.declared.set_json.unknown.Unknown.TheVariants.{Drop, Refuse}
 
 -- ---- the bits of names
 
--- what a reader takes of names whose bits are these
+-- what a reader accepts of names with these bits
 abbrev taken : Unknown → List (Option ℕ) → Result BitSet JsonFault
 taken unknown bits = decided unknown (position is_none bits) (from_list (filter_map (λ o. o) bits))
 
@@ -45,7 +66,7 @@ module _ (valid : BitSet) where
   accepted Drop s bs is = ap Ok (kept bs ∙ ap (λ t. intersection t valid) is)
   accepted Refuse s bs is = grind (arith, nat_tests, is, kept bs, first_other bs, other_within bs, all_valid bs, length-map bs known, intersection_within s valid)
 
-  -- a set of valid bits is taken as it is
+  -- a set of valid bits is accepted as it is
   pub accepted_whole : (unknown : Unknown) (s : BitSet) (bs : List ℕ) → is_subset s valid ≡ true → accepted_by_name valid unknown s bs ≡ Ok s
   accepted_whole Drop s bs within = ap Ok (intersection_within s valid within)
   accepted_whole Refuse s bs within = cond-true (is_subset s valid) (Ok s) _ within
@@ -58,14 +79,14 @@ all_texts f place (b ∷ bs) = all_texts f (place + 1) bs
 
 -- ---- maps
 
--- what is so of each member
+-- what holds for each member
 abbrev pub Each : (List ℕ → Data → Type 0) → Members → Type 0
 Each P ms = AllByRecursion (λ m. P m.0 m.1) (members_in ms)
 
 pub same_key : (k l : List ℕ) → slice_cmp nat_cmp k l ≡ Equal → k ≡ l
 same_key k l tied = (bytes_eq-Decides k l).0 (sym (is_eq-slice_cmp k l) ∙ ap is_eq tied)
 
--- a member that is put in comes before the others, in the place of one, or behind one
+-- a member that is put in comes before the others, replaces one, or comes behind one
 pub put_cases : (P : Members → Members → Type 0) (k : List ℕ) (d : Data) → ((ms : Members) → P ms (member k d ms)) → ((e : Data) (ms : Members) → P (member k e ms) (member k d ms))
     → ((l : List ℕ) (e : Data) (ms new : Members) → P ms new → P (member l e ms) (member l e new)) → (ms : Members) → P ms (put k d ms)
 put_cases P k d before same behind no_members = before no_members
@@ -84,7 +105,7 @@ each_written P names [] all done one within each = each
 each_written P names (b ∷ bs) all done one within each =
     each_written P names bs all (put (name_of names b) (boolean true) done) one (and_parts _ _ within).1 (each_put P (name_of names b) (boolean true) done (one b (and_parts _ _ within).0) each)
 
--- whether a bit is that of a name, or of one of the names of members
+-- whether a name, or one of the names of members, has a bit
 abbrev is_of : Names → ℕ → List ℕ → Bool
 is_of names q t = is_in q (cons_option (bit_named names t) [])
 
@@ -104,7 +125,7 @@ is_among-put names q k d =
     first : (l : List ℕ) (e : Data) (ms : Members) → is_among names q (member l e ms) ≡ (is_of names q l || is_among names q ms)
     first l e ms = either (bit_named names l) q (filter_map (bit_named names) (names_in (members_in ms)))
 
--- each member of a map that was written is a name with `true`: so none is a fault, and all are taken
+-- each member of a map that was written is a name with `true`, so none is a fault, and all are accepted
 all_true : (P : List ℕ → Type 0) (place : ℕ) (ms : Members) → Each (λ t d. (d ≡ boolean true) × P t) ms → (position_from is_no_boolean place (members_in ms) ≡ None) × (true_names (members_in ms) ≡ names_in (members_in ms))
 all_true P place no_members each = (refl, refl)
 all_true P place (member t d ms) each =
@@ -158,7 +179,7 @@ module _ (readers writers : Names) (valid : BitSet) (bs : List ℕ) (back : (b :
 pub own_known : (bs : List ℕ) (names : List (List ℕ)) → AreNames bs names → (b : ℕ) → is_in b bs ≡ true → bit_named (zip bs names) (name_of (zip bs names) b) ≡ known (from_list bs) b
 own_known bs names are b one = name_back bs names b are one ∙ sym (cond-true (contains (from_list bs) b) (Some b) None (contains_from_list bs b ∙ one))
 
--- a type reads what another wrote, whose names agree with its own
+-- a type reads what another type wrote, if their names agree
 pub other_known : (os : List ℕ) (olds : List (List ℕ)) (bs : List ℕ) (names : List (List ℕ)) → AreNames os olds → AreNames bs names → names_agree (zip os olds) (zip bs names) ≡ true
     → (b : ℕ) → is_in b bs ≡ true → bit_named (zip os olds) (name_of (zip bs names) b) ≡ known (from_list os) b
 other_known os olds bs names old are agree b one = agree_at os olds bs names b old are agree one ∙ ap (λ t. cond t (Some b) None) (sym (contains_from_list os b))

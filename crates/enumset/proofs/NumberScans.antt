@@ -1,6 +1,7 @@
--- What the scanner of a number's digits keeps.
+-- The invariant of the loop that scans a number's digits.
 use Rattle.std.proofs.Common.{◌≡◌, ◌<◌, ◌≤◌, ◌+◌, ◌*◌, ◌/◌, ◌%◌, ◌^◌, ℕ, suc, List, [], ◌∷◌, ◌++◌, length, drop, get_or, decimal, sym, ap, ◌∙◌, append_assoc, drop-cons, arith, pow-add}
-use Rattle.enumset.proofs.Common.{pow-le-pow_right, decimal_digit, decimal_step}
+use Rattle.std.proofs.Math.Nat.{pow-le-pow_right}
+use Rattle.std.proofs.lemmas.Fmt.{decimal_digit, decimal_step}
 use Rattle.enumset.proofs.DigitsWritten.{last_two}
 
 pub first_digit : (s xs : List ℕ) (x d : ℕ) → d < 10 → x ≡ 48 + d → s ≡ x ∷ xs → s ≡ decimal d ++ xs
@@ -12,7 +13,7 @@ one_more_digit n d xs some small fits =
     let last : (n * 10 + d) % 10 ≡ d = omega (arith, small) in
     sym (append_assoc (decimal n) ((48 + d) ∷ []) xs) ∙ ap (λ l. l ++ xs) (sym (decimal_step (n * 10 + d) (omega (arith, some)) fits ∙ (λ j. decimal (front j) ++ (48 + last j) ∷ [])))
 
--- the digits before a place are those of n
+-- the digits before an index are the digits of n
 abbrev pub Scanned : List ℕ → List ℕ → ℕ → ℕ → Type 0
 Scanned s xs i n = (0 < n) × (n < 10 ^ (i + 1)) × (s ≡ decimal n ++ drop i xs)
 

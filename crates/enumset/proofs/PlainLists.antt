@@ -1,22 +1,32 @@
--- What the loop of the reader of plain lists keeps.
+-- The invariant of the loop that reads plain lists.
 use Rattle.std.proofs.Common.{◌≡◌, ◌+◌, ℕ, cond, List, [], ◌∷◌, ◌++◌, Option, Some, None, Ok, refl, sym, ap, ◌∙◌, inr, subst, option_map, Result, true}
-use Rattle.enumset.proofs.Common.{option_or, BitSet, empty, insert, Data, array, string, item, no_items, Items, read, values_of, set_of_list, decided, IsPlain, AreSpaces, Passed, value_read, IsResult, IsReadOf, Names, bit_named, is_unknown, JsonFault, Unknown, Drop, Refuse}
-use Rattle.std.specs.Option.{option_map_or}
+use Rattle.std.specs.Option.{option_or, option_map_or}
+use Rattle.serde_json.specs.Data.{Data, array, string, item, no_items, Items}
+use Rattle.serde_json.specs.Read.{read}
+use Rattle.enumset_repr.specs.BitSet.{BitSet, empty, insert}
 use Rattle.enumset.proofs.JsonItems.{passed}
 use Rattle.enumset.proofs.JsonLists.{opened, no_items_read, next_string, last_string}
 use Rattle.enumset.proofs.NamesRead.{list_on, list_read_all, read_next, read_end}
+use Rattle.enumset.specs.Json.{values_of}
+use Rattle.enumset.specs.JsonNames.{set_of_list, decided, is_unknown}
+use Rattle.enumset.specs.JsonPlain.{IsPlain, AreSpaces, Passed}
+use Rattle.enumset.specs.JsonReads.{value_read, IsResult, IsReadOf}
+use Rattle.enumset.specs.Names.{Names, bit_named}
+use Rattle.enumset.specs.declared.set_json.fault.JsonFault.{JsonFault}
+use Rattle.enumset.specs.declared.set_json.unknown.Unknown.{Unknown}
+use Rattle.enumset.specs.declared.set_json.unknown.Unknown.TheVariants.{Drop, Refuse}
 
--- what a text's value is read as is what is read of the text
+-- the result for a text's value is the result for the text
 pub is_read : (reader : Data → Result BitSet JsonFault) (text : List ℕ) (wanted result : Result BitSet JsonFault) → value_read reader text ≡ Some wanted → result ≡ wanted → IsReadOf reader text result
 is_read reader text wanted result e is = inr (subst (λ o. IsResult o result) (sym e) is)
 
--- where no name is unknown, the set is read
+-- if no name is unknown, the set is the result
 pub no_unknown : (unknown : Unknown) (s t : BitSet) → s ≡ t → Ok s ≡ decided unknown None t
 no_unknown Drop s t same = ap Ok same
 no_unknown Refuse s t same = ap Ok same
 
 module _ (names : Names) (unknown : Unknown) (text : List ℕ) where
-  -- where what is left after an opening quote is that of a list, the text is read as the names before it and this list
+  -- if what is left after an opening quote goes on as a list, the text is read as the names before it and then this list
   abbrev pub GoesOn : List ℕ → ℕ → BitSet → Option ℕ → Type 0
   GoesOn left place s first =
       (ds : Items) → read (91 ∷ 34 ∷ left) ≡ Some (array ds) → value_read (set_of_list names unknown) text ≡ Some (list_on names unknown place s first (values_of ds))

@@ -1,19 +1,26 @@
--- What the loop of the reader of plain words keeps.
+-- The invariant of the loop that reads plain words.
 use Rattle.std.proofs.Common.{◌≡◌, ◌<◌, ◌+◌, ◌/◌, ◌^◌, ℕ, Bool, true, false, ◌&&◌, if◌then◌else◌, Option, Some, IfSome, List, [], ◌∷◌, ◌++◌, length, length-append, decimal, refl, sym, ap, subst, ◌∙◌, append_assoc, arith, slice_index, ◌==◌, nat_lt}
-use Rattle.enumset.proofs.Common.{get_or-append_seam, get_or_append_left, then_some, BitSet, empty, is_subset, below, low, word, with_word, bits_of, read, words_value, AreSpaces, Passed}
-use Rattle.enumset.proofs.JsonTokens.{tokens}
-use Rattle.enumset.proofs.JsonLists.{opened, no_items_read}
+use Rattle.std.proofs.Math.Seq.{get_or-append_seam}
+use Rattle.std.proofs.lemmas.List.{get_or_append_left}
+use Rattle.std.specs.Bool.{then_some}
+use Rattle.serde_json.specs.Read.{read}
+use Rattle.enumset_repr.specs.BitSet.{BitSet, empty, is_subset, below, low}
+use Rattle.enumset_repr.specs.Words.{word, with_word, bits_of}
 use Rattle.enumset.proofs.JsonItems.{spaces, comma_stops, closes, passed_stops}
+use Rattle.enumset.proofs.JsonLists.{opened, no_items_read}
 use Rattle.enumset.proofs.JsonNumbers.{IsNumberFirst, next_number, last_number}
+use Rattle.enumset.proofs.JsonTokens.{tokens}
 use Rattle.enumset.proofs.JsonWords.{AreRead, begun, taken, same_before, all_read}
+use Rattle.enumset.specs.Json.{words_value}
+use Rattle.enumset.specs.JsonPlain.{AreSpaces, Passed}
 
--- what a value that is kept under a condition has
+-- a fact about a value that is kept under a condition
 pub kept_if : {A : Type 0} (P : A → Type 0) (o : Option A) (b : Bool) (v : A) → o ≡ then_some b v → (b ≡ true → P v) → IfSome o P
 kept_if P o true v is has = subst (λ o. IfSome o P) (sym is) (has refl)
 kept_if P o false v is has = subst (λ o. IfSome o P) (sym is) tt
 
 module _ (text : List ℕ) (width : ℕ) where
-  -- the words before a place were read, and what is left goes on the array
+  -- the words before an index were read, and the text that is left goes on with the array
   abbrev pub GoesOn : List ℕ → ℕ → BitSet → Bool → Type 0
   GoesOn left place s is_whole =
       (ws : List ℕ) × (length ws ≡ place) × AreRead ws place width s is_whole

@@ -1,16 +1,24 @@
 -- The text of an array of words, word by word.
 use Rattle.std.proofs.Common.{◌≡◌, ◌<◌, ◌^◌, ℕ, List, [], ◌∷◌, ◌++◌, Some, map, decimal, refl, sym, ap, subst, ◌+◌, ◌∙◌, append_assoc, append-nil, arith, Bool, true, false, nat_lt, lt-ltb, IsAscii}
-use Rattle.enumset.proofs.Common.{⊤, IsAscii-decimal, read, items_of, compact_text, items_text, comma_if, BitSet, word, words, words_none, words_more, word_small, number_value, words_value}
+use Rattle.std.proofs.lemmas.Fmt.{IsAscii-decimal}
 use Rattle.std.proofs.lemmas.Str.{IsAscii-append}
 use Rattle.std.proofs.lemmas.Str.Ascii.{IsAscii-nil, IsAscii-cons}
+use Rattle.std.specs.Prelude.{⊤}
+use Rattle.serde_json.specs.Read.{read}
+use Rattle.serde_json.specs.View.{items_of}
+use Rattle.serde_json.specs.Written.{compact_text, items_text, comma_if}
+use Rattle.enumset_repr.specs.BitSet.{BitSet}
+use Rattle.enumset_repr.specs.Laws.WordLists.{words_none, words_more, word_small}
+use Rattle.enumset_repr.specs.Words.{word, words}
 use Rattle.enumset.proofs.JsonDigits.{Ends}
 use Rattle.enumset.proofs.JsonNumbers.{next_number, last_number}
 use Rattle.enumset.proofs.JsonSteps.{empty_list}
+use Rattle.enumset.specs.Json.{number_value, words_value}
 
 -- ---- the words of a set
 
 module _ (s : BitSet) where
-  -- the bytes are the first words, whatever words come after them
+  -- the bytes are the text of the first words, whatever words come after them
   abbrev pub AreWords : List ℕ → ℕ → Type 0
   AreWords bytes i = ((more : List ℕ) → bytes ++ items_text (nat_lt 0 i) (items_of (map number_value more)) ≡ compact_text (words_value (words s i ++ more))) × IsAscii bytes
 
@@ -42,7 +50,7 @@ module _ (s : BitSet) where
     subst IsAscii (sym put) (IsAscii-append old _ so_far.1 (IsAscii-cons 93 [] (omega arith) IsAscii-nil)),
   )
 
--- ---- it reads as the words
+-- ---- it is read as the words
 
 abbrev AreSmall : List ℕ → Type 0
 AreSmall [] = ⊤

@@ -1,9 +1,19 @@
--- What is written of a set holds no float, and nests no deeper than a parser allows.
+-- What is written of a set holds no float, and is not nested deeper than a parser allows.
 use Rattle.std.proofs.Common.{◌≡◌, ℕ, ◌≤◌, true, false, List, [], ◌∷◌, map, refl, sym, ap, arith}
-use Rattle.enumset.proofs.Common.{or_from, BitSet, ascending, from_list_ascending, is_subset_itself, AreBitsOf-ascending, Data, Members, string, boolean, no_members, member, depth, items_depth, members_depth, max_depth, items_of, has_float, items_have_float, members_have_float, list_value, map_value, Names, name_of}
+use Rattle.std.proofs.lemmas.Bool.{or_from}
+use Rattle.serde_json.specs.Data.{Data, Members, string, boolean, no_members, member, depth, items_depth, members_depth}
+use Rattle.serde_json.specs.Read.{max_depth}
+use Rattle.serde_json.specs.View.{items_of}
+use Rattle.serde_json.specs.Written.{has_float, items_have_float, members_have_float}
+use Rattle.enumset_repr.specs.BitSet.{BitSet, ascending}
+use Rattle.enumset_repr.specs.Laws.Algebra.{from_list_ascending}
+use Rattle.enumset_repr.specs.Laws.Members.{is_subset_itself}
+use Rattle.enumset_sets.specs.Laws.Elements.{AreBitsOf-ascending}
 use Rattle.enumset.proofs.NamesTaken.{Each, each_written}
+use Rattle.enumset.specs.JsonNames.{list_value, map_value}
+use Rattle.enumset.specs.Names.{Names, name_of}
 
--- no float is in a value, and a parser allows its depth
+-- a value holds no float, and a parser allows its depth
 abbrev pub IsFlat : Data → Type 0
 IsFlat d = (has_float d ≡ false) × (depth d ≤ max_depth)
 

@@ -1,16 +1,18 @@
--- JSON values as sets, and what is wrong with one that is none.
+-- JSON values as sets, and the fault of a value that is not a set.
 --     width_of      how many bits a width has
---     and_then      what comes of what was read, or the fault
+--     and_then      the next step with what was read, or the fault
 --     whole_number      the whole number from 0 to 2 ^ 64 - 1 that a value holds, or the fault
 --     number_below      the number of a value, or the fault, also where it is not below 2 ^ width
---     unless_fault      a result, or the fault of a place, if there is one
+--     unless_fault      a result, or the fault at an index if there is one
 --     values_of      the elements of an array
---     held_word, held_words      the word that an element holds, if it holds one;  those of all elements, 0 where one holds none
---     is_no_word      the test that finds a fault
---     words_among, words_in      the words that values in a list hold, or the fault;  that the elements of an array hold
---     accepted      the set of valid bits that is taken of a set, or the fault
---     kept_below      the set of bits below a width that is taken of a set, or the fault
---     set_of_number, mixed_set_of_number, set_of_words, mixed_set_of_words      the set that a value is read as, or the fault
+--     held_word, held_words      the word that an element holds, if it holds one;  the words of all elements, with 0
+--         for an element that holds none
+--     is_no_word      the test that finds a fault: whether an element does not hold a word
+--     words_among, words_in      the words that the values of a list hold, or the fault;  the same for an array
+--     accepted      the set of valid bits that a reader keeps of a set, or the fault
+--     kept_below      the set of bits below a width that a reader keeps of a set, or the fault
+--     set_of_number, mixed_set_of_number, set_of_words, mixed_set_of_words      the set that a value is read as, or the
+--         fault
 --     number_value, words_value      the values that a number and words are written as
 use Rattle.std.specs.Prelude.{ℕ, Bool, ◌^◌, List, [], ◌∷◌, map, nat_lt, position, Option, Some, None, is_none, unwrap_or, ok_or, option_and_then, Result, Ok, Err, if◌then◌else◌}
 use Rattle.enumset_repr.specs.BitSet.{BitSet, intersection, is_subset, below, low}
@@ -51,7 +53,7 @@ whole_number (object ms) = Err NotANumber
 abbrev pub number_below : ℕ → Data → Result ℕ JsonFault
 number_below width value = and_then (whole_number value) (λ n. if nat_lt n (2 ^ width) then Ok n else Err OutOfRange)
 
--- what `as_u64` gives
+-- what `as_u64` returns
 abbrev pub held_word : Data → Option ℕ
 held_word value = option_and_then as_u64 (as_number value)
 
@@ -65,7 +67,7 @@ abbrev pub values_of : Items → List Data
 values_of no_items = []
 values_of (item value items) = value ∷ values_of items
 
--- a result, or the fault of a place, if there is one
+-- a result, or the fault at an index if there is one
 abbrev pub unless_fault : {A : Type 0} → (ℕ → JsonFault) → Option ℕ → Result A JsonFault → Result A JsonFault
 unless_fault fault None result = result
 unless_fault fault (Some place) result = Err (fault place)
@@ -76,7 +78,7 @@ words_among values = unless_fault NotAWord (position is_no_word values) (Ok (hel
 abbrev pub words_in : Data → Result (List ℕ) JsonFault
 words_in value = and_then (ok_or (as_array value) NotAnArray) (λ items. words_among (values_of items))
 
--- bits that are not valid are left out, or refused
+-- bits that are not valid are dropped, or refused
 abbrev pub accepted : BitSet → Unknown → BitSet → Result BitSet JsonFault
 accepted valid Drop s = Ok (intersection s valid)
 accepted valid Refuse s = if is_subset s valid then Ok s else Err UnknownBits
@@ -90,7 +92,7 @@ set_of_words valid unknown value = and_then (words_in value) (λ ns. accepted va
 abbrev pub mixed_set_of_number : ℕ → Data → Result BitSet JsonFault
 mixed_set_of_number width value = and_then (number_below width value) (λ n. Ok (bits n))
 
--- bits at and past the width are left out, or refused
+-- bits at and past the width are dropped, or refused
 abbrev pub kept_below : ℕ → Unknown → BitSet → Result BitSet JsonFault
 kept_below width Drop s = Ok (low s width)
 kept_below width Refuse s = if is_subset s (below width) then Ok s else Err OutOfRange

@@ -1,18 +1,21 @@
--- JSON lists and maps of names as sets, and what is wrong with one that is none.
+-- JSON lists and maps of names as sets, and the fault of a value that is not one.
 --     members_in      the members of an object, each name with its value, in the order of their names
 --     string_in, is_true      the string that a value is, if it is one;  whether a member's value is `true`
---     is_no_string, is_no_boolean      the tests that find a fault
---     is_unknown      whether a string is the name of no variant
+--     is_no_string, is_no_boolean      the tests that find a fault: whether a value is not a string, and whether a
+--         member's value is not a boolean
+--     is_unknown      whether no variant has a string as its name
 --     known_set      the set of the names that are known
 --     decided      the set that was read, or the fault of the first unknown name
---     named_set      the set of the names that are known, where unknown names are left out, or the first is the fault
---     names_in, true_names      the names of members;  of those whose value is `true`
---     set_of_values, set_of_list      the set that values in a list are read as, or the fault;  that the elements of an array are
---     set_of_members, set_of_map      the set that members in a list are read as, or the fault;  that those of an object are
+--     named_set      the set of the names that are known, where unknown names are dropped, or the first of them is the
+--         fault
+--     names_in, true_names      the names of members;  of the members whose value is `true`
+--     set_of_values, set_of_list      the set that a list of values is read as, or the fault;  the same for an array
+--     set_of_members, set_of_map      the set that a list of members is read as, or the fault;  the same for an object
 --     list_value, map_value      the values that a set is written as
 --     with_bits_true      members, with `true` at the names of further bits
 --     in_map      the members of a set in the order in which a map has their names
---     accepted_by_name      the set of valid bits that is taken of a set whose members' names come in an order, or the fault
+--     accepted_by_name      the set of valid bits that a reader keeps of a set, whose members' names come in a given
+--         order, or the fault
 use Rattle.std.specs.Prelude.{ℕ, Bool, true, false, if◌then◌else◌, is_none, List, [], ◌∷◌, map, filter, filter_map, position, Option, unwrap_or, ok_or, Result, Ok, Err}
 use Rattle.std.specs.List.{prefix_len}
 use Rattle.enumset_repr.specs.BitSet.{BitSet, from_list, ascending, contains, intersection, is_subset}
@@ -55,7 +58,7 @@ abbrev pub decided : Unknown → Option ℕ → BitSet → Result BitSet JsonFau
 decided Drop first s = Ok s
 decided Refuse first s = unless_fault UnknownName first (Ok s)
 
--- the set of the names that are chosen among all that are there
+-- the set of the names that are chosen among all names
 abbrev pub named_set : Names → Unknown → List (List ℕ) → List (List ℕ) → Result BitSet JsonFault
 named_set names unknown all chosen = decided unknown (position (is_unknown names) all) (known_set names chosen)
 
@@ -84,7 +87,7 @@ set_of_map names unknown value = and_then (ok_or (as_object value) NotAnObject) 
 abbrev pub list_value : Names → BitSet → Data
 list_value names s = array (items_of (map (λ b. string (name_of names b)) (ascending s)))
 
--- the members put in so far, with those of further bits
+-- the members put in so far, and then the members of further bits
 abbrev pub with_bits_true : Names → Members → List ℕ → Members
 with_bits_true names done [] = done
 with_bits_true names done (b ∷ bs) = with_bits_true names (put (name_of names b) (boolean true) done) bs
@@ -92,12 +95,12 @@ with_bits_true names done (b ∷ bs) = with_bits_true names (put (name_of names 
 abbrev pub map_value : Names → BitSet → Data
 map_value names s = object (with_bits_true names no_members (ascending s))
 
--- ---- what a reader of another type takes
+-- ---- what a reader of another type accepts
 
 abbrev pub in_map : Names → BitSet → List ℕ
 in_map names s = filter_map (bit_named names) (names_in (members_in (with_bits_true names no_members (ascending s))))
 
--- the place of the first other name is the number of valid bits before it
+-- the index of the first unknown name is the number of valid bits before it
 abbrev pub accepted_by_name : BitSet → Unknown → BitSet → List ℕ → Result BitSet JsonFault
 accepted_by_name valid Drop s bits = Ok (intersection s valid)
 accepted_by_name valid Refuse s bits = if is_subset s valid then Ok s else Err (UnknownName (prefix_len (contains valid) bits))

@@ -1,13 +1,14 @@
--- Texts that stand for themselves in JSON. No clause of a public call cites this file: it serves the contracts of private
--- functions, which read and write such texts.
---     IsPlainByte, IsPlain      a byte of a string that needs no escape;  bytes
---     is_space, AreSpaces      a byte that may stand between tokens;  bytes
+-- Strings that need no escape in JSON, and how they are read and written. No clause of a public call cites this file:
+-- it serves the contracts of private functions.
+--     IsPlainByte, IsPlain      a byte needs no escape in a string;  each byte of a list needs none
+--     is_space, AreSpaces      whether a byte is allowed between tokens;  each byte of a list is
 --     Passed      spaces, a byte, and what follows it
---     IsTextOf, IsTextIfPlain      the text that a value is written as, which reads as the value;  it, where there is a text
+--     IsTextOf, IsTextIfPlain      a text is what a value is written as, and reads as the value;  a result is such a text
+--         if it is a text
 --     StartsWithMember      a plain name up to its closing quote and a boolean, with spaces, and what follows them
---     AreRising      names, each of whose bytes come before those of later ones
---     IsName      whether a text is the name of one of some bits
---     AreMembers      the names of a set's members, in the order of their bytes
+--     AreRising      each of some names is before the later ones, in the order of their bytes
+--     IsName      a text is the name of one of some bits
+--     AreMembers      some names are the names of a set's members, in the order of their bytes
 use Rattle.std.specs.Prelude.{◌≡◌, ◌⊎◌, ℕ, List, [], ◌∷◌, ◌++◌, length, Bool, true, false, nat_lt, ◌==◌, ◌||◌, Option, Some, Result, String, IfOk, IfSome, string_bytes}
 use Rattle.std.specs.Borrow.{Bor}
 use Rattle.std.specs.Cmp.Lexicographic.{slice_cmp}

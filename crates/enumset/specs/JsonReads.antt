@@ -1,6 +1,7 @@
 -- What JSON texts are read as.
---     value_read      what a reader of values makes of the value that a text is, if it is one
---     IsResult      whether a result is that, or, of a text that is no value, the fault of such a text at some line
+--     value_read      the result of a reader of values for the value that a text is, if it is one
+--     IsResult      whether a result is that;  for a text that is not a value, whether it is the fault `NotJson` at
+--         some line
 --     IsReadOf      the same, or memory was refused
 use Rattle.std.specs.Prelude.{◌≡◌, ◌⊎◌, ℕ, List, Option, Some, None, option_map, Result, Err}
 use Rattle.enumset_repr.specs.BitSet.{BitSet}

@@ -3,9 +3,9 @@
 --     names_of      the valid bits with the names of a list, in the order of the list of bits
 --     name_of      the name of a bit
 --     bit_named      the bit of a name, if there is one
---     names_agree      whether any bit of one type and any bit of another are the same exactly where their names are
---     are_distinct      whether no text comes twice
---     IsNaming      the test that each bit has a name of its own;  where it fails, a type whose name says what to mend
+--     names_agree      whether a bit of one type and a bit of another are the same exactly if their names are
+--     are_distinct      whether no text occurs twice
+--     IsNaming      the test that each bit has a name of its own;  where it fails, a type whose name says what to fix
 use Rattle.std.specs.Prelude.{ℕ, Bool, true, not, ◌&&◌, ◌==◌, if◌then◌else◌, List, [], ◌∷◌, length, zip, Option, Some, None}
 use Rattle.std.specs.Bool.{beq}
 use Rattle.std.specs.List.{list_any, list_all}
@@ -36,7 +36,7 @@ abbrev pub are_distinct : List (List ℕ) → Bool
 are_distinct [] = true
 are_distinct (n ∷ ns) = not (list_any (λ m. bytes_eq m n) ns) && are_distinct ns
 
--- What names may get wrong. Nothing is of these types: where a proof has to give one, its name says what to mend.
+-- What names may get wrong. These types have no values: where a proof has to give one, its name says what to fix.
 pub data NameCountShouldBe (count : ℕ) : Type 0 where
 
 pub data NamesAValueTwice : Type 0 where

@@ -1,8 +1,8 @@
-//! Folds of all that an iterator gives into a set: elements are inserted, sets are united.
+//! Folds of everything that an iterator yields into a set: elements are inserted, sets are united.
 //!
-//! Each stands for a form of `Extend`, `FromIterator` or `Sum` of Rust's `enumset` that is not a form of the trait here.
-//! The functions named `extend` start from the set handed in, the others from the empty set. The iterator has to end; the
-//! order of its items and their repeats do not matter. None takes memory.
+//! Each mirrors an impl of `Extend`, `FromIterator` or `Sum` in Rust's `enumset` that the traits of std do not allow
+//! here. The functions named `extend` start from the set handed in, the others from the empty set. The order and the
+//! repeats of items do not matter. None takes memory.
 
 mod into_mixed_sets;
 mod into_sets;

@@ -1,11 +1,12 @@
-//! Laws of sets. Each is a function that does nothing at run time, but for those of asks: code that needs a law calls it,
-//! and the proof of that code then knows what the function ensures.
+//! Laws of sets. Each is a function that does nothing at run time, except the laws of asks. Code that needs a law calls
+//! it, and the proof of that code then knows what the function ensures.
 //!
-//! Here stand the laws of round trips through JSON: the value that was written of a set is read as that set. The clause
-//! `reads` of each writer of texts says that its text is read as this value, so what the laws say of values holds of
-//! texts too. Those of numbers and words without JSON come from `enumset_sets`, that of the order from `enumset_repr`, and
-//! all others from the modules below: what a reader of another element type reads, elements, complements, mixed sets,
-//! folds, iterators from both ends, and asks. Most laws of sets alone are in rulesets. Rust's `enumset` has no laws.
+//! This module has the laws of round trips through JSON: the value that was written for a set is read as that set. The
+//! clause `reads` of each writer of texts says that its text is read as this value, so the laws hold for texts too. The
+//! laws of numbers and words without JSON come from `enumset_sets`, the law of the order from `enumset_repr`, and all
+//! others from the modules below: what a reader of another element type reads, elements, complements, mixed sets,
+//! folds, iterators from both ends, and asks. Most laws that are about sets only are in rulesets. Rust's `enumset` has
+//! no laws.
 
 ghost use Rattle.std.specs.Prelude.{◌≡◌, Ok, Some, IsTrue};
 ghost use Rattle.enumset_repr.specs.BitSet.{below, is_subset};
@@ -45,8 +46,8 @@ pub use folds::{fold_of_elements, fold_of_sets};
 pub use mixed_sets::{unknown_kept, valid_before_invalid};
 pub use readers::{carried_along, carried_along_in_number, older_reader, older_reader_of_names};
 
-/// The number that `to_number` writes of a set is read as that set by `from_number` at the same width, under `Drop` as
-/// under `Refuse`.
+/// The number that `to_number` writes for a set is read as that set by `from_number` at the same width, under `Drop`
+/// and under `Refuse`.
 pub fn json_number_and_back<T: EnumSetType>(set: &EnumSet<T>, width: JsonWidth, unknown: Unknown)
     ensures { IsTrue (is_subset set.now (below (width_of width)))
         → set_of_number (valid_bits T.elements) (width_of width) unknown
@@ -56,7 +57,7 @@ pub fn json_number_and_back<T: EnumSetType>(set: &EnumSet<T>, width: JsonWidth, 
     number_and_back(set);
 }
 
-/// The words that `to_words` writes of a set are read as that set by `from_words`, under `Drop` as under `Refuse`.
+/// The words that `to_words` writes for a set are read as that set by `from_words`, under `Drop` and under `Refuse`.
 pub fn json_words_and_back<T: EnumSetType>(set: &EnumSet<T>, unknown: Unknown)
     ensures { set_of_words (valid_bits T.elements) unknown
         (words_value (words set.now T.Repr.PREFERRED_ARRAY_LEN))
@@ -65,27 +66,27 @@ pub fn json_words_and_back<T: EnumSetType>(set: &EnumSet<T>, unknown: Unknown)
     all_words_and_back(set);
 }
 
-/// The number that `mixed_to_number` writes of a mixed set is read as that set, unknown bits included, by
+/// The number that `mixed_to_number` writes for a mixed set is read as that set, unknown bits included, by
 /// `mixed_from_number`.
 pub fn json_mixed_number_and_back<T: EnumSetTypeWithRepr>(set: &MixedEnumSet<T>)
     ensures { mixed_set_of_number T.Repr.WIDTH (number_value (number set.now)) ≡ Ok set.now }
 {
-    // That the members are below the width is a law of values.
+    // Each member of a value is below the width.
     set.as_repr().learn_is_value();
 }
 
-/// The words that `mixed_to_words` writes of a mixed set are read as that set, unknown bits included, by
-/// `mixed_from_words`, under `Drop` as under `Refuse`.
+/// The words that `mixed_to_words` writes for a mixed set are read as that set, unknown bits included, by
+/// `mixed_from_words`, under `Drop` and under `Refuse`.
 pub fn json_mixed_words_and_back<T: EnumSetTypeWithRepr>(set: &MixedEnumSet<T>, past: Unknown)
     ensures { mixed_set_of_words T.Repr.WIDTH past
         (words_value (words set.now T.Repr.PREFERRED_ARRAY_LEN))
         ≡ Ok set.now }
 {
-    // That the members are below the width is a law of values.
+    // Each member of a value is below the width.
     set.as_repr().learn_is_value();
 }
 
-/// From a value to its name and back: `of_name` of the name is the value, and of no other text.
+/// From a value to its name and back: `of_name` returns the value for its name, and for no other text.
 pub fn name_and_back<T: EnumSetNames>(element: T, text: &str)
     ensures back { bit_named (names_of T.elements T.names)
         (name_of (names_of T.elements T.names) (T.elements.bit element))
@@ -94,7 +95,7 @@ pub fn name_and_back<T: EnumSetNames>(element: T, text: &str)
         → text.now ≡ name_of (names_of T.elements T.names) (T.elements.bit element) }
 {}
 
-/// The list that `to_list` writes of a set is read as that set by `from_list`, under `Drop` as under `Refuse`.
+/// The list that `to_list` writes for a set is read as that set by `from_list`, under `Drop` and under `Refuse`.
 pub fn json_list_and_back<T: EnumSetNames>(set: &EnumSet<T>, unknown: Unknown)
     ensures { set_of_list (names_of T.elements T.names) unknown
         (list_value (names_of T.elements T.names) set.now)
@@ -103,7 +104,7 @@ pub fn json_list_and_back<T: EnumSetNames>(set: &EnumSet<T>, unknown: Unknown)
     number_and_back(set);
 }
 
-/// The map that `to_map` writes of a set is read as that set by `from_map`, under `Drop` as under `Refuse`.
+/// The map that `to_map` writes for a set is read as that set by `from_map`, under `Drop` and under `Refuse`.
 pub fn json_map_and_back<T: EnumSetNames>(set: &EnumSet<T>, unknown: Unknown)
     ensures { set_of_map (names_of T.elements T.names) unknown
         (map_value (names_of T.elements T.names) set.now)

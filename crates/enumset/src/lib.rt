@@ -1,15 +1,15 @@
 //! Sets of an enum's variants, by the paths of Rust's crate `enumset`.
 //!
-//! What stands here comes from the crates below: [`EnumSet`] and the traits of its elements from `enumset_sets`,
+//! Most items come from the crates below: [`EnumSet`] and the traits of its elements from `enumset_sets`,
 //! [`MixedEnumSet`](set::MixedEnumSet) from `enumset_mixed`, and the representations from `enumset_repr` and
 //! `enumset_array`. New here are the macros, the names of elements ([`EnumSetNames`]), the modules [`folds`] and
 //! [`set_json`], and most of the [`laws`].
 #![tactic(auto)]
 
+mod element_macros;
 pub mod folds;
 pub mod internal;
 pub mod laws;
-mod macros;
 mod names;
 pub mod set;
 pub mod set_json;

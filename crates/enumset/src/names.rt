@@ -24,7 +24,7 @@ pub trait EnumSetNames: EnumSetType + 'static {
     {
         let bit = self.enum_into_u32();
         let names = Self::names();
-        // In most types the bit is the place in the list.
+        // In most types the bit is the index in the list.
         if let Some((value, name)) = names.get(bit as usize)
             && value.enum_into_u32() == bit
         {
@@ -51,9 +51,9 @@ pub trait EnumSetNames: EnumSetType + 'static {
     ghost named: { IsNaming Self.elements.bit_list names };
 }
 
-/// The value that has this name, if there is one. The search begins at the place `next`, then goes from the front, since
-/// most lists and maps have their names in the order of the table; `next` becomes the place after the name that was
-/// found.
+/// The value that has this name, if there is one. The search begins at the index `next` and then goes on from the
+/// front, since most lists and maps have their names in the order of the table. `next` becomes the index after the name
+/// that was found.
 #[inline(always)]
 pub(crate) fn find_value<T: EnumSetNames>(wanted: &[u8], next: &mut usize) -> Option<T>
     ensures { option_map T.elements.bit result
@@ -71,7 +71,7 @@ pub(crate) fn find_value<T: EnumSetNames>(wanted: &[u8], next: &mut usize) -> Op
     Some(value)
 }
 
-/// The first value of a list that has this name, and its place.
+/// The first value of a list that has this name, and its index.
 #[inline(always)]
 fn find_in<T: EnumSetType>(names: &[(T, &str)], wanted: &[u8]) -> Option<(usize, T)>
     ensures within { IfSome result (λ found. found.0 < length names.now) }
@@ -88,7 +88,8 @@ fn find_in<T: EnumSetType>(names: &[(T, &str)], wanted: &[u8]) -> Option<(usize,
     None
 }
 
-/// Whether a name is these bytes. The last eight are compared first, since names that begin alike seldom end alike.
+/// Whether a name has exactly these bytes. The last eight are compared first, since names that begin alike seldom end
+/// alike.
 #[inline(always)]
 fn has_bytes(name: &str, wanted: &[u8]) -> bool
     ensures { result ≡ bytes_eq name.now wanted.now }

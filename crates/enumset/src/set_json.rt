@@ -1,4 +1,4 @@
-//! Sets to and from JSON values of `serde_json`, and to and from their texts: as one number, as the array of the set's
+//! Sets to and from JSON values of `serde_json`, and to and from JSON texts: as one number, as the array of the set's
 //! words of 64 bits, as the list of its members' names, or as a map of names to booleans.
 //!
 //! In Rust's `enumset` these are the forms that its `serde` feature writes and reads.

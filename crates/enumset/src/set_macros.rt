@@ -1,11 +1,11 @@
 //! The macros of sets: elements that are written out, and operations over many sets.
 //!
-//! Each mirrors the macro of its name of Rust's `enumset`. They are expressions in the body of a function; elements and
-//! sets are named by paths.
+//! Each mirrors the macro of the same name of Rust's `enumset`. They are expressions in the body of a function.
+//! Elements and sets are paths.
 
-/// Gives the [`EnumSet`](crate::EnumSet) of elements joined by `|`, as `enum_set!(Right::Read | Right::Share)`, or the
-/// empty set where there are none. The elements are paths, of one type. Any number of single `|` may follow. Rust's
-/// macro also takes the names of sets, and may stand in a constant.
+/// Returns the [`EnumSet`](crate::EnumSet) of elements joined by `|`, such as `enum_set!(Right::Read | Right::Share)`,
+/// or the empty set if there are none. The elements are paths of one type. Any number of single `|` may follow. Rust's
+/// macro also takes the names of sets, and works in constants.
 #[macro_export]
 macro_rules! enum_set {
     ($(|)*) => {
@@ -19,7 +19,8 @@ macro_rules! enum_set {
     };
 }
 
-/// Gives the [`MixedEnumSet`](crate::set::MixedEnumSet) of elements joined by `|`, as [`enum_set!`] gives an `EnumSet`.
+/// Returns the [`MixedEnumSet`](crate::set::MixedEnumSet) of elements joined by `|`, as [`enum_set!`] returns an
+/// `EnumSet`.
 #[macro_export]
 macro_rules! mixed_enum_set {
     ($($elements:tt)*) => {
@@ -27,8 +28,8 @@ macro_rules! mixed_enum_set {
     };
 }
 
-/// Gives the union of sets joined by commas: `a | b | c`. Each is a path, as the name of a variable. One comma may
-/// follow. Rust's macro also takes elements, and may stand in a constant.
+/// Returns the union of sets separated by commas: `a | b | c`. Each is a path, such as a variable. One comma may
+/// follow. Rust's macro also takes elements, and works in constants.
 #[macro_export]
 macro_rules! enum_set_union {
     ($first:path $(, $rest:path)* $(,)?) => {
@@ -36,8 +37,8 @@ macro_rules! enum_set_union {
     };
 }
 
-/// Gives the intersection of sets joined by commas: `a & b & c`. Each is a path, as the name of a variable. One comma
-/// may follow. Rust's macro also takes elements, and may stand in a constant.
+/// Returns the intersection of sets separated by commas: `a & b & c`. Each is a path, such as a variable. One comma may
+/// follow. Rust's macro also takes elements, and works in constants.
 #[macro_export]
 macro_rules! enum_set_intersection {
     ($first:path $(, $rest:path)* $(,)?) => {
@@ -45,9 +46,8 @@ macro_rules! enum_set_intersection {
     };
 }
 
-/// Gives the set of what is in the first of sets joined by commas and in none of the others: `a & !b & !c`. Each is a
-/// path, as the name of a variable. One comma may follow. Rust's macro also takes elements, and may stand in a
-/// constant.
+/// Returns the first of sets separated by commas, without the members of the others: `a & !b & !c`. Each is a path,
+/// such as a variable. One comma may follow. Rust's macro also takes elements, and works in constants.
 #[macro_export]
 macro_rules! enum_set_difference {
     ($first:path $(, $rest:path)* $(,)?) => {
@@ -55,8 +55,8 @@ macro_rules! enum_set_difference {
     };
 }
 
-/// Gives the symmetric difference of sets joined by commas: `a ^ b ^ c`. Each is a path, as the name of a variable. One
-/// comma may follow. Rust's macro also takes elements, and may stand in a constant.
+/// Returns the symmetric difference of sets separated by commas: `a ^ b ^ c`. Each is a path, such as a variable. One
+/// comma may follow. Rust's macro also takes elements, and works in constants.
 #[macro_export]
 macro_rules! enum_set_symmetric_difference {
     ($first:path $(, $rest:path)* $(,)?) => {
@@ -64,8 +64,8 @@ macro_rules! enum_set_symmetric_difference {
     };
 }
 
-/// Gives the complement of a set: `!a`. The set is a path, as the name of a variable. One comma may follow. Rust's
-/// macro also takes an element, and may stand in a constant.
+/// Returns the complement of a set: `!a`. The set is a path, such as a variable. One comma may follow. Rust's macro
+/// also takes an element, and works in constants.
 #[macro_export]
 macro_rules! enum_set_complement {
     ($set:path $(,)?) => {

@@ -1,9 +1,21 @@
--- The words of an `ArrayRepr` made from those of others, word by word.
-use Rattle.std.proofs.Common.{◌≡◌, ◌<◌, ◌≤◌, ◌↔◌, ℕ, ◌*◌, ◌+◌, ◌^◌, false, ◌-◌, List, ◌++◌, length, drop, refl, sym, ap, ◌∙◌, subst, arith, w64, ◌==◌, slice_index, IsTrue, get_or-take, get_or-drop, length-append, length-take, length-drop}
-use Rattle.enumset_repr.specs.Laws.Common.{list_all, bit_not, ones_sub-lt, nat_tests, get_or_past, get_or_append_left, get_or-append_right, length-zip2, get_or-zip2, zip2, BitSet, contains, empty, below, difference, bits, contains_below, contains_difference, bits_not, contains_zero}
-use Rattle.enumset_array.specs.Operations.{IsOnBits}
+-- The words of an `ArrayRepr` that are made, word by word, from the words of others.
+use Rattle.std.proofs.Common.{◌≡◌, ◌<◌, ◌≤◌, ◌↔◌, ℕ, ◌*◌, ◌+◌, ◌^◌, false, ◌-◌, List, ◌++◌, length, drop, sym, ap, ◌∙◌, subst, arith, w64, ◌==◌, slice_index, nat_eq, map, IsTrue, get_or-take, get_or-drop, length-append, length-take, length-drop}
+use Rattle.std.proofs.Math.Pow.{ones_sub-lt}
+use Rattle.std.proofs.lemmas.Bool.Decides.{nat_tests, same_from_decides}
+use Rattle.std.proofs.lemmas.List.{get_or_past, get_or_append_left, get_or-append_right, get_or-map, length-map}
+use Rattle.std.proofs.lemmas.Simd.{length-zip2, get_or-zip2}
+use Rattle.std.specs.Cmp.Lexicographic.{pointwise}
+use Rattle.std.specs.Int.{bit_not}
+use Rattle.std.specs.List.{list_all}
+use Rattle.std.specs.Simd.Lanes.{zip2}
+use Rattle.enumset_repr.specs.BitSet.{BitSet, contains, empty, below, difference, is_same}
+use Rattle.enumset_repr.specs.Laws.Members.{contains_below, contains_difference, is_same_iff}
+use Rattle.enumset_repr.specs.Laws.Numbers.{bits_not}
+use Rattle.enumset_repr.specs.Laws.WordLists.{contains_zero}
+use Rattle.enumset_repr.specs.Number.{bits}
 use Rattle.enumset_array.specs.ArrayWords.{in_use, words_in_use, set_of, IsArrayRepr}
-use Rattle.enumset_array.specs.Laws.ArrayWords.{contains_set_of, set_is, past_is, empty_past, none_iff}
+use Rattle.enumset_array.specs.Laws.ArrayWords.{contains_set_of, set_is, past_is, empty_past, none_iff, equal}
+use Rattle.enumset_array.specs.Operations.{IsOnBits}
 
 module _ (op : ℕ → ℕ → ℕ) (of_sets : BitSet → BitSet → BitSet) (on : IsOnBits op of_sets) (n : ℕ) (a b : List ℕ) (first : IsArrayRepr n a) (second : IsArrayRepr n b) where
   none_past : (k : ℕ) → in_use n ≤ k → op (slice_index a k) (slice_index b k) ≡ 0
@@ -36,25 +48,29 @@ module _ (op : ℕ → ℕ → ℕ) (of_sets : BitSet → BitSet → BitSet) (on
   pub made_none : IsTrue (list_all (λ w. w == 0) (zip2 op a b)) ↔ (of_sets (set_of n a) (set_of n b) ≡ empty)
   made_none = subst (λ s. IsTrue (list_all (λ w. w == 0) (zip2 op a b)) ↔ (s ≡ empty)) made_set (none_iff n _ made_repr)
 
+  -- the words stay exactly if the set does
+  pub made_same : pointwise nat_eq a (zip2 op a b) ≡ is_same (set_of n a) (of_sets (set_of n a) (set_of n b))
+  made_same = subst (λ s. pointwise nat_eq a (zip2 op a b) ≡ is_same (set_of n a) s) made_set (same_from_decides _ _ (equal n a _ first made_repr) (is_same_iff _ _))
+
 -- ---- `!`: the words in use are inverted, and the others stay
 
 abbrev pub inverted : ℕ → List ℕ → List ℕ
-inverted n a = zip2 (λ x _. bit_not w64 x) (words_in_use n a) (words_in_use n a) ++ drop (in_use n) a
+inverted n a = map (bit_not w64) (words_in_use n a) ++ drop (in_use n) a
 
 module _ (n : ℕ) (a : List ℕ) (first : IsArrayRepr n a) where
   abbrev front : List ℕ
-  front = zip2 (λ x _. bit_not w64 x) (words_in_use n a) (words_in_use n a)
+  front = map (bit_not w64) (words_in_use n a)
 
   length-used : length (words_in_use n a) ≡ in_use n
   length-used = omega (arith, length-take (in_use n) a, first.long)
 
   length-front : length front ≡ in_use n
-  length-front = length-zip2 (λ x _. bit_not w64 x) (words_in_use n a) (words_in_use n a) refl ∙ length-used
+  length-front = length-map (words_in_use n a) (bit_not w64) ∙ length-used
 
   turned : (k : ℕ) → k < in_use n → slice_index (inverted n a) k ≡ bit_not w64 (slice_index a k)
   turned k low =
       get_or_append_left front (drop (in_use n) a) 0 k (omega (arith, low, length-front))
-      ∙ get_or-zip2 (λ x _. bit_not w64 x) (words_in_use n a) (words_in_use n a) k 0 0 0 (omega (arith, low, length-used)) (omega (arith, low, length-used))
+      ∙ get_or-map (bit_not w64) (words_in_use n a) k 0 0 (omega (arith, low, length-used))
       ∙ ap (bit_not w64) (get_or-take (in_use n) a k 0 low)
 
   none : (k : ℕ) → in_use n ≤ k → slice_index (inverted n a) k ≡ 0

@@ -1,13 +1,18 @@
 -- Two lists of words that are compared from the top, down to the highest place where they differ.
 use Rattle.std.proofs.Common.{◌≡◌, ◌≢◌, ◌<◌, ◌≤◌, ℕ, zero, suc, ◌+◌, true, List, ◌∷◌, ◌++◌, length, drop, refl, sym, ap, ◌∙◌, arith, slice_index, bit_xor, Ordering, Equal, nat_cmp}
-use Rattle.enumset_repr.specs.Laws.Common.{MatchOrdering, ordering_then, ranks, tied_itself, same_text, zip2, chunk, nat_tests, length-chunk, chunk-drop}
-use Rattle.enumset_array.specs.Order.{highest_first}
-use Rattle.enumset_array.specs.Laws.Order.{highest_first_cons, highest_first_total}
+use Rattle.std.proofs.lemmas.Bool.Decides.{nat_tests}
+use Rattle.std.proofs.lemmas.Simd.{length-chunk, chunk-drop}
+use Rattle.std.specs.Cmp.{ranks, tied_itself}
+use Rattle.std.specs.Cmp.Lexicographic.{same_text}
+use Rattle.std.specs.Ordering.{MatchOrdering, ordering_then}
+use Rattle.std.specs.Simd.Lanes.{zip2, chunk}
 use Rattle.enumset_array.proofs.WordLanes.{none_in, none_apart}
+use Rattle.enumset_array.specs.Laws.Order.{highest_first_cons, highest_first_total}
+use Rattle.enumset_array.specs.Order.{highest_first}
 
 -- ---- what decides
 
--- lists that are equal from their first place on
+-- lists that are equal from the first place on
 pub all_equal : (a b : List ℕ) (i : ℕ) → i ≡ 0 → drop i a ≡ drop i b → Equal ≡ highest_first a b
 all_equal a b i none same =
     let whole : a ≡ b = ap (λ n. drop n a) (sym none) ∙ same ∙ ap (λ n. drop n b) none in
@@ -16,7 +21,7 @@ all_equal a b i none same =
 kept : (o p : Ordering) (u v : ℕ) → MatchOrdering o (u < v) (u ≡ v) (v < u) → u ≢ v → ordering_then o p ≡ o
 kept o p u v h apart = grind (arith, nat_tests, h, apart)
 
--- words that differ, with equal words after them
+-- two words that differ decide if the words after them are equal
 pub decided : (a b : List ℕ) (i : ℕ) → length a ≡ length b → i < length a → slice_index a i ≢ slice_index b i → drop (suc i) a ≡ drop (suc i) b
     → highest_first a b ≡ nat_cmp (slice_index a i) (slice_index b i)
 decided (x ∷ a) (y ∷ b) zero long under apart same =
@@ -29,7 +34,7 @@ decided a b i long under apart same = absurd (omega (arith, long, under))
 
 -- ---- lists that are equal from a place on
 
--- n words lower
+-- the same from n words lower
 pub block_lower : (a b : List ℕ) (i n end : ℕ) → end ≡ i + n → length a ≡ length b → end ≤ length a → none_in (zip2 bit_xor (chunk i n a) (chunk i n b)) ≡ true
     → drop end a ≡ drop end b → drop i a ≡ drop i b
 block_lower a b i n end next long under none same =

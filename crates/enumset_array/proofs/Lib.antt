@@ -1,6 +1,8 @@
 pub mod WordLanes
 pub mod HighestApart
 pub mod Walks
+pub mod ChangedWords
+pub mod Changes
 pub mod CombinedWords
 pub mod ReplacedWord
 pub mod RowWords

@@ -1,10 +1,23 @@
--- The words of an `ArrayRepr` after one of them was replaced.
+-- The words of an `ArrayRepr` after one of them is replaced.
 use Rattle.std.proofs.Common.{◌≡◌, ◌≢◌, ◌<◌, ℕ, ◌*◌, ◌+◌, ◌-◌, ◌/◌, ◌%◌, ◌^◌, true, false, not, List, set, bit_and, bit_or, refl, sym, ap, ◌∙◌, subst, arith, w64, length-set, ◌==◌, slice_index, get_or-set_same, get_or-set_other, drop-set-lt}
-use Rattle.enumset_repr.specs.Laws.Common.{list_all, bit_not, and_lt, or_lt, div-add-mod, ones_sub-lt, nat_tests, BitSet, contains, insert, remove, bits, with_word, contains_insert, contains_remove, bits_set, bits_clear, bits_test, contains_with_word, contains_bits_above}
+use Rattle.std.proofs.Math.Nat.{div-add-mod}
+use Rattle.std.proofs.Math.Pow.{ones_sub-lt}
+use Rattle.std.proofs.lemmas.Bool.Decides.{nat_tests}
+use Rattle.std.proofs.lemmas.Nat.{or_lt}
+use Rattle.std.specs.Int.{bit_not}
+use Rattle.std.specs.Int.Bits.{and_lt}
+use Rattle.std.specs.List.{list_all}
+use Rattle.enumset_repr.specs.BitSet.{BitSet, contains, insert, remove}
+use Rattle.enumset_repr.specs.Laws.Members.{contains_insert, contains_remove}
+use Rattle.enumset_repr.specs.Laws.Numbers.{bits_set, bits_clear, bits_test}
+use Rattle.enumset_repr.specs.Laws.WordLists.{contains_bits_above}
+use Rattle.enumset_repr.specs.Laws.Words.{contains_with_word}
+use Rattle.enumset_repr.specs.Number.{bits}
+use Rattle.enumset_repr.specs.Words.{with_word}
 use Rattle.enumset_array.specs.ArrayWords.{in_use, set_of, IsArrayRepr}
 use Rattle.enumset_array.specs.Laws.ArrayWords.{contains_set_of, set_is}
 
--- what holds of one place, and of each other, holds of all
+-- what holds at one place and at each other place holds at all
 pub at_or_apart : (P : ℕ → Type 0) (i : ℕ) → P i → ((j : ℕ) → j ≢ i → P j) → (j : ℕ) → P j
 at_or_apart P i here apart j = elim (j == i) as (λ t. (j == i) ≡ t → P j) [
   | true ↦ λ e. let same : i ≡ j = grind (arith, nat_tests, e) in subst P same here
@@ -25,7 +38,7 @@ module _ (n : ℕ) (ws : List ℕ) (i x : ℕ) (is_repr : IsArrayRepr n ws) (low
     past = ap (list_all (λ w. w == 0)) (drop-set-lt (in_use n) ws i x low) ∙ is_repr.past;
   }
 
-  -- the set, by its bits in that word and elsewhere
+  -- which set the words represent, by its bits in that word and elsewhere
   pub set_at : (s : BitSet) → ((b : ℕ) → b < 64 → contains (bits x) b ≡ contains s (64 * i + b))
       → ((w b : ℕ) → w ≢ i → b < 64 → contains (set_of n ws) (64 * w + b) ≡ contains s (64 * w + b)) → IsArrayRepr n (set ws i x) × (set_of n (set ws i x) ≡ s)
   set_at s here elsewhere = (

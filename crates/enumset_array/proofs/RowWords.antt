@@ -1,9 +1,15 @@
--- The words of a row after one of them was replaced, and the bits of words counted word by word.
+-- The words of a row after one of them is replaced, and a count of bits word by word.
 use Rattle.std.proofs.Common.{◌≡◌, ◌<◌, ℕ, ◌+◌, ◌^◌, List, [], ◌∷◌, ◌++◌, length, take, set, refl, sym, ap, subst, ◌∙◌, arith, add-one, zero-add, slice_index, sum_by, Option, Some, None, MatchOption, length-take, get_or-set_same}
-use Rattle.enumset_repr.specs.Laws.Common.{count_ones, take-add, take-set-lt, take-suc, chunk, sum_by-append, len, ascending, bits, len_bits}
-use Rattle.enumset_array.specs.ArrayWords.{in_use, words_in_use, IsArrayRepr}
+use Rattle.std.proofs.Math.Seq.{take-add, take-set-lt, take-suc}
+use Rattle.std.proofs.lemmas.List.Sums.{sum_by-append}
+use Rattle.std.specs.Int.RustNames.{count_ones}
+use Rattle.std.specs.Simd.Lanes.{chunk}
+use Rattle.enumset_repr.specs.BitSet.{len, ascending}
+use Rattle.enumset_repr.specs.Laws.Numbers.{len_bits}
+use Rattle.enumset_repr.specs.Number.{bits}
 use Rattle.enumset_array.proofs.ReplacedWord.{set_repr}
 use Rattle.enumset_array.proofs.TakenOut.{by_first, by_last, small}
+use Rattle.enumset_array.specs.ArrayWords.{in_use, words_in_use, IsArrayRepr}
 
 -- ---- one word replaced
 

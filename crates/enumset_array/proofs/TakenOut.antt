@@ -1,9 +1,18 @@
--- The least or the greatest bit taken out of one word of a list.
+-- The least or the greatest bit, taken out of one word of a list.
 use Rattle.std.proofs.Common.{◌≡◌, ◌<◌, ◌≤◌, ◌≢◌, ℕ, ◌+◌, ◌*◌, ◌^◌, true, false, List, [], ◌∷◌, ◌++◌, Some, length, length-set, set, sym, ap, ◌∙◌, subst, arith, lit<, slice_index, get_or-set_other}
-use Rattle.enumset_repr.specs.Laws.Common.{nat_tests, BitSet, contains, ascending, remove, from_list, bits, bits_of, from_list_ascending, ascending_first, ascending_last, ascending_empty, first_member, first_least, first_rest, last_member, last_greatest, last_rest, same_set, contains_remove, remove_is_subset, member_below, bits_within, number_bits, number_within, contains_bits_of, by_word, contains_zero, bits_of_zeros}
+use Rattle.std.proofs.lemmas.Bool.Decides.{nat_tests}
+use Rattle.enumset_repr.specs.BitSet.{BitSet, contains, ascending, remove, from_list}
+use Rattle.enumset_repr.specs.Laws.Algebra.{from_list_ascending}
+use Rattle.enumset_repr.specs.Laws.Ascending.{ascending_first, ascending_last, ascending_empty}
+use Rattle.enumset_repr.specs.Laws.Firsts.{first_member, first_least, first_rest, last_member, last_greatest, last_rest}
+use Rattle.enumset_repr.specs.Laws.Members.{same_set, contains_remove, remove_is_subset, member_below}
+use Rattle.enumset_repr.specs.Laws.Numbers.{bits_within, number_bits, number_within}
+use Rattle.enumset_repr.specs.Laws.WordLists.{contains_bits_of, by_word, contains_zero, bits_of_zeros}
+use Rattle.enumset_repr.specs.Number.{bits}
+use Rattle.enumset_repr.specs.Words.{bits_of}
+use Rattle.enumset_array.proofs.ReplacedWord.{at_or_apart}
 use Rattle.enumset_array.specs.Cursors.{Reach, Covers}
 use Rattle.enumset_array.specs.OneStep.{TakesOut}
-use Rattle.enumset_array.proofs.ReplacedWord.{at_or_apart}
 
 -- b is a member of s, and t is s without it
 pub record IsTaken (s : BitSet) (b : ℕ) (t : BitSet) : Type 0 where

@@ -1,11 +1,16 @@
--- The laws of steps from either end of a list: one step more.
+-- Laws of steps from either end of a list: what one more step does.
 use Rattle.std.proofs.Common.{◌≡◌, ◌<◌, ◌≤◌, ℕ, suc, ◌+◌, List, [], ◌∷◌, ◌++◌, Option, Some, None, length, take, get_or, is_some, MatchOption, if◌then◌else◌, refl, sym, ap, ◌∙◌, subst, arith, length-append, append-nil, inl, inr, IfNone, Contains}
-use Rattle.enumset_repr.specs.Laws.Common.{cons_option, take_more, filter_map-append, Contains-push_cases, BitSet, remove, difference, from_list, members, same_set, contains_from_list, is_in_push}
+use Rattle.std.proofs.lemmas.List.{take_more}
+use Rattle.std.proofs.lemmas.List.Elements.{filter_map-append, Contains-push_cases}
+use Rattle.std.specs.List.{cons_option}
+use Rattle.enumset_repr.specs.BitSet.{BitSet, remove, difference, from_list}
+use Rattle.enumset_repr.specs.Laws.Ascending.{is_in_push}
+use Rattle.enumset_repr.specs.Laws.Members.{members, same_set, contains_from_list}
+use Rattle.enumset_array.specs.Walks.{answer, without_answer, answers, without_answers, items_among}
 use Rattle.enumset_array.specs.declared.traversal.End.{End}
 use Rattle.enumset_array.specs.declared.traversal.End.TheVariants.{Front}
-use Rattle.enumset_array.specs.Walks.{answer, without_answer, answers, without_answers, items_among}
 
--- ---- one step more
+-- ---- one more step
 
 pub answers-push : (xs : List ℕ) (es : List End) (e : End) → answers xs (es ++ e ∷ []) ≡ answers xs es ++ answer e (without_answers xs es) ∷ []
 unfolding answers without_answers

@@ -1,8 +1,18 @@
 -- Loops over lists of words, four words at a time.
 use Rattle.std.proofs.Common.{◌≡◌, ◌≢◌, ◌<◌, ◌≤◌, ℕ, zero, suc, ◌+◌, ◌*◌, ◌/◌, Bool, true, false, ◌&&◌, List, [], ◌∷◌, length, take, drop, get_or, set, add-one, ◌++◌, bit_and, bit_or, refl, sym, ap, ◌∙◌, arith, w64, map, ◌==◌, nat_eq, slice_index, bit_xor, take-append-drop, get_or-drop, take_all, take_at, drop_at, drop-drop, append-nil, append_assoc, length-append, length-drop, length-take-le}
-use Rattle.enumset_repr.specs.Laws.Common.{bit_not, or_zero_l, xor_zero_l, xor_zero_r, list_all, pointwise, zip2, chunk, put_chunk, fold_l, take-add, nat_tests, drop_all, drop_more, set_split, list_all-append, list_all_more, le_or_l, le_or_r, length-chunk, length-zip2, get_or-zip2, put_chunk_is}
-use Rattle.std.specs.Simd.{first_chunks}
 use Rattle.std.proofs.Math.Bool.{and-true, and_assoc}
+use Rattle.std.proofs.Math.Seq.{take-add}
+use Rattle.std.proofs.lemmas.Bool.Decides.{nat_tests}
+use Rattle.std.proofs.lemmas.List.{drop_all, drop_more, set_split}
+use Rattle.std.proofs.lemmas.List.Folds.{list_all-append, list_all_more}
+use Rattle.std.proofs.lemmas.Nat.{le_or_l, le_or_r}
+use Rattle.std.proofs.lemmas.Simd.{length-chunk, length-zip2, get_or-zip2, put_chunk_is}
+use Rattle.std.specs.Cmp.Lexicographic.{pointwise}
+use Rattle.std.specs.Int.{bit_not}
+use Rattle.std.specs.Int.Bits.{or_zero_l, xor_zero_l, xor_zero_r}
+use Rattle.std.specs.List.{list_all}
+use Rattle.std.specs.Simd.{first_chunks}
+use Rattle.std.specs.Simd.Lanes.{zip2, chunk, put_chunk, fold_l}
 use lib.Bits.{xor_assoc, xor_self}
 
 -- ---- parts of a list of results
@@ -29,7 +39,7 @@ module _ (op : ℕ → ℕ → ℕ) (a b : List ℕ) where
   abbrev all : List ℕ
   all = zip2 op a b
 
-  -- ws is the list a with its first i words replaced by the results for them and those of b
+  -- ws is the list a with its first i words replaced by the results of op for these words of a and b
   abbrev pub PartMade : ℕ → List ℕ → Type 0
   PartMade i ws = ws ≡ take i all ++ drop i a
 
@@ -37,7 +47,7 @@ module _ (op : ℕ → ℕ → ℕ) (a b : List ℕ) where
   all_made ws i e past part =
       part ∙ (λ m. take_all i all (omega (arith, past, length-zip2 op a b e)) m ++ drop_all i a past m) ∙ append-nil all
 
-  -- n words more
+  -- the same for n more words
   pub lanes_made : (ws : List ℕ) (i n j : ℕ) → length a ≡ length b → j ≡ i + n → j ≤ length a → PartMade i ws → PartMade j (put_chunk i ws (zip2 op (chunk i n ws) (chunk i n b)))
   lanes_made ws i n j e next within part =
       let long = length-take-le i all (omega (arith, next, within, length-zip2 op a b e)) in
@@ -49,7 +59,7 @@ module _ (op : ℕ → ℕ → ℕ) (a b : List ℕ) where
       ∙ (λ m. made m ++ (chunk i n all ++ drop (four m) (kept m))) ∙ sym (append_assoc (take i all) (chunk i n all) (drop n (drop i a)))
       ∙ (λ m. sym (take-add i n all) m ++ drop-drop n i a m) ∙ ap (λ k. take k all ++ drop k a) (sym next)
 
-  -- one word more, as a chunk
+  -- the same for one more word
   pub one_made : (ws : List ℕ) (i : ℕ) → length a ≡ length b → i < length a → PartMade i ws → PartMade (i + 1) (set ws i (op (slice_index ws i) (slice_index b i)))
   one_made ws i e low part =
       let long : length ws ≡ length a = omega (arith, ap length part, length-append (take i all) (drop i a), length-drop i a, length-take-le i all (omega (arith, low, length-zip2 op a b e))) in
@@ -64,12 +74,6 @@ pub turned_lanes : (a b : List ℕ) → zip2 bit_and a (map (bit_not w64) b) ≡
 turned_lanes [] b = refl
 turned_lanes (x ∷ a) [] = refl
 turned_lanes (x ∷ a) (y ∷ b) = ap (λ l. bit_and x (bit_not w64 y) ∷ l) (turned_lanes a b)
-
--- an operation that uses the first lanes alone
-pub first_lanes : (op : ℕ → ℕ) (a b : List ℕ) → length a ≡ length b → map op a ≡ zip2 (λ x _. op x) a b
-first_lanes op [] b e = refl
-first_lanes op (x ∷ a) [] e = absurd (omega (arith, e))
-first_lanes op (x ∷ a) (y ∷ b) e = ap (λ l. op x ∷ l) (first_lanes op a b (omega (arith, e)))
 
 -- ---- a list as chunks
 
@@ -99,7 +103,7 @@ fold_none : (x : ℕ) (ws : List ℕ) → (fold_l bit_or x ws == 0) ≡ ((x == 0
 fold_none x [] = sym (and-true (x == 0))
 fold_none x (w ∷ ws) = fold_none (bit_or x w) ws ∙ ap (λ t. t && none_in ws) (or_none x w) ∙ and_assoc (x == 0) (w == 0) (none_in ws)
 
--- lanes that stand for the first i words
+-- lanes that are all 0 exactly if the first i words are
 pub lanes_ended : (ws lanes : List ℕ) (i j : ℕ) → none_in lanes ≡ none_in (take i ws) → i ≡ j → (fold_l bit_or 0 lanes == 0) ≡ none_in (take j ws)
 lanes_ended ws lanes i j before same = fold_none 0 lanes ∙ before ∙ ap (λ k. none_in (take k ws)) same
 
@@ -108,24 +112,24 @@ zip_none [] [] e = refl
 zip_none (x ∷ a) (y ∷ b) e = grind (arith, nat_tests, or_none x y, zip_none a b (omega (arith, e)))
 zip_none a b e = absurd (omega (arith, e))
 
--- the test of the first j words, from that of the first i and that of the next n
+-- the test of the first j words, from the tests of the first i and of the next n
 pub more_none : (ws : List ℕ) (i n j : ℕ) → j ≡ i + n → none_in (take j ws) ≡ (none_in (take i ws) && none_in (chunk i n ws))
 more_none ws i n j next = ap (λ k. none_in (take k ws)) next ∙ ap none_in (take-add i n ws) ∙ list_all-append (λ w. w == 0) (take i ws) (chunk i n ws)
 
--- four words more, as lanes
+-- the same for four more words, as lanes
 pub joined_none : (ws lanes more : List ℕ) (i j : ℕ) → more ≡ chunk i 4 ws → j ≡ i + 4 → j ≤ length ws → length lanes ≡ 4 → none_in lanes ≡ none_in (take i ws)
     → none_in (zip2 bit_or lanes more) ≡ none_in (take j ws)
 joined_none ws lanes more i j is next long four before =
     ap (λ m. none_in (zip2 bit_or lanes m)) is
     ∙ zip_none lanes (chunk i 4 ws) (four ∙ sym (length-chunk i 4 ws (omega (arith, next, long)))) ∙ ap (λ t. t && none_in (chunk i 4 ws)) before ∙ sym (more_none ws i 4 j next)
 
--- one word more
+-- the same for one more word
 pub one_none : (ws : List ℕ) (any w i j : ℕ) → w ≡ slice_index ws i → j ≡ i + 1 → i < length ws → (any == 0) ≡ none_in (take i ws) → (bit_or any w == 0) ≡ none_in (take j ws)
 one_none ws any w i j is next low before =
     ap (λ v. bit_or any v == 0) is
     ∙ or_none any (slice_index ws i) ∙ ap (λ t. t && (slice_index ws i == 0)) before ∙ sym (ap (λ k. none_in (take k ws)) next ∙ list_all_more (λ w. w == 0) ws i 0 low)
 
--- steps of a loop over chunks of four words, and of one over the words past them
+-- steps of a loop over chunks of four words, and of a loop over the words past them
 module _ (op : ℕ → ℕ → ℕ) (a b : List ℕ) (e : length a ≡ length b) where
   pub next_chunk : (us vs : List (List ℕ)) (lanes x y r : List ℕ) (k n : ℕ) → us ≡ first_chunks 4 (length a / 4) a → length us ≡ length a / 4 → vs ≡ first_chunks 4 (length b / 4) b → length vs ≡ length b / 4
       → k < length us → k < length vs → x ≡ get_or us k [] → y ≡ get_or vs k [] → r ≡ zip2 op x y → n ≡ k + 1 → length lanes ≡ 4
@@ -161,19 +165,19 @@ none_apart a b e = absurd (omega (arith, e))
 -- ---- blocks of pairs of words, where `any` is 0 exactly if all results of a block are
 
 module _ (op : ℕ → ℕ → ℕ) (a b : List ℕ) (i n any : ℕ) (here : (any == 0) ≡ none_in (zip2 op (chunk i n a) (chunk i n b))) where
-  -- the first i + n results
+  -- the test of the first i + n results
   with_block : none_in (take (i + n) (zip2 op a b)) ≡ (none_in (take i (zip2 op a b)) && (any == 0))
   with_block = more_none (zip2 op a b) i n (i + n) refl ∙ ap (λ t. none_in (take i (zip2 op a b)) && t) (ap none_in (chunk-zip2 op i n a b) ∙ sym here)
 
-  -- one block more
+  -- the same for one more block
   pub next_block : (j : ℕ) → j ≡ i + n → none_in (take i (zip2 op a b)) ≡ true → any ≡ 0 → none_in (take j (zip2 op a b)) ≡ true
   next_block j next before none = ap (λ k. none_in (take k (zip2 op a b))) next ∙ with_block ∙ grind (arith, nat_tests, before)
 
-  -- a block with a result that is not 0
+  -- where a result of the block is not 0
   pub some_block : any ≢ 0 → false ≡ none_in (zip2 op a b)
   some_block some = let part = with_block in let whole = ap none_in (sym (take-append-drop (i + n) (zip2 op a b))) ∙ list_all-append (λ w. w == 0) (take (i + n) (zip2 op a b)) (drop (i + n) (zip2 op a b)) in grind (arith, nat_tests)
 
-  -- the results after the last whole block
+  -- the test of all results, at the last block
   pub last_block : i + n ≡ length a → length a ≡ length b → none_in (take i (zip2 op a b)) ≡ true → (any == 0) ≡ none_in (zip2 op a b)
   last_block all long before =
       let whole : take (i + n) (zip2 op a b) ≡ zip2 op a b = take_all (i + n) (zip2 op a b) (omega (arith, all, length-zip2 op a b long)) in

@@ -1,10 +1,10 @@
 -- One step over words, from either end: what it does to their set, to the number of asks and to the cursors.
---     TakesOut      the bit that the step yields is taken out of the set, and no other; if it yields none, the set
---         stays; the number of words stays
---     CountsAsks      the sum of asks and span grows by one if the step yields a bit, and stays otherwise; the span does
---         not grow; if the step yields none, the cursors have met; if they had met before, it yields none and makes no
---         ask
---     MovesFront, MovesBack      that cursor alone may move, towards the other and not past it
+--     TakesOut      the set loses only the bit that the step yields, and nothing if it yields None; the number of words
+--         stays
+--     CountsAsks      the sum of asks and span grows by one if the step yields a bit, and stays otherwise; the span
+--         does not grow; if the step yields None, the cursors have met; if they had met before, it yields None and
+--         makes no ask
+--     MovesFront, MovesBack      only that cursor may move, towards the other and not past it
 use Rattle.std.specs.Prelude.{◌≡◌, ℕ, ◌+◌, ◌≤◌, List, length, Option, None, IfNone, MatchOption, is_some, if◌then◌else◌}
 use Rattle.enumset_repr.specs.BitSet.{remove}
 use Rattle.enumset_array.specs.Cursors.{Reach}

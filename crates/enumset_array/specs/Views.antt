@@ -1,6 +1,6 @@
 -- What contracts see of a row of words.
 --     RowView      a row: its words, and the number of asks so far
---     AreWords      what holds of the words of a row: they are fewer than the limit, and each is a number of 64 bits
+--     AreWords      the words of a row are fewer than the limit, and each is a number of 64 bits
 use Rattle.std.specs.Prelude.{ℕ, ◌<◌, ◌^◌, List, length, slice_index}
 use Rattle.enumset_array.specs.declared.array_repr.TheConstants.{WORD_LIMIT}
 

@@ -1,9 +1,9 @@
 -- Steps from either end of a list.
 --     answer      what a step from an end yields: the first item of the list or its last, or None if the list is empty
 --     without_answer      the list without that item
---     answers, without_answers      what the steps from a list of ends yield, one after another;  the list that they
+--     answers, without_answers      what steps from the ends in a list yield, one after another;  the list that they
 --         leave
---     items_among      the items among the answers: each that is not None
+--     items_among      the answers that are not None
 use Rattle.std.specs.Prelude.{ℕ, List, [], ◌∷◌, Option, filter_map}
 use Rattle.enumset_repr.specs.Ends.{first, last, without_first, without_last}
 use Rattle.enumset_array.specs.declared.traversal.End.{End}

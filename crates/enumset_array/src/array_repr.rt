@@ -10,8 +10,8 @@ ghost use Rattle.enumset_array.specs.Laws.Order.{compare_is};
 ghost use Rattle.enumset_array.specs.Laws.ArrayWords.{set_of_none, within, inverse, width_words, equal};
 
 use crate::array_iter::ArrayIter;
-use crate::lanes::{And, AndNot, Or, Xor, are_none, ones_of};
-use crate::set_operation::{change_by, yields_none};
+use crate::lanes;
+use crate::set_operation::{And, AndNot, Or, Xor, apply, apply_changes, yields_none};
 use enumset_repr::EnumSetTypeRepr;
 use std::marker::Model;
 
@@ -52,7 +52,7 @@ impl<const N: usize> PartialEq for ArrayRepr<N> {
     ghost laws = { partial_equiv_from_equiv nat_list_eq_equiv };
 
     fn eq(&self, other: &ArrayRepr<N>) -> bool {
-        are_none::<Xor>(&self.0, &other.0)
+        lanes::yields_none::<Xor>(&self.0, &other.0)
     }
 }
 
@@ -116,7 +116,7 @@ impl<const N: usize> EnumSetTypeRepr for ArrayRepr<N> {
     }
 
     fn count_ones(&self) -> u32 {
-        ones_of(&self.words()[..N % WORD_LIMIT])
+        lanes::ones_of(&self.words()[..N % WORD_LIMIT])
     }
 
     fn add_bit(&mut self, bit: u32) {
@@ -133,24 +133,24 @@ impl<const N: usize> EnumSetTypeRepr for ArrayRepr<N> {
 
     fn and_not(&self, other: ArrayRepr<N>) -> ArrayRepr<N> {
         let mut result = *self;
-        change_by::<AndNot, N>(&mut result, &other);
+        result.and_not_with(&other);
         result
     }
 
     fn or_with(&mut self, other: &ArrayRepr<N>) {
-        change_by::<Or, N>(self, other);
+        apply::<Or, N>(self, other);
     }
 
     fn and_with(&mut self, other: &ArrayRepr<N>) {
-        change_by::<And, N>(self, other);
+        apply::<And, N>(self, other);
     }
 
     fn xor_with(&mut self, other: &ArrayRepr<N>) {
-        change_by::<Xor, N>(self, other);
+        apply::<Xor, N>(self, other);
     }
 
     fn and_not_with(&mut self, other: &ArrayRepr<N>) {
-        change_by::<AndNot, N>(self, other);
+        apply::<AndNot, N>(self, other);
     }
 
     #[tactic(auto, using(enumset_repr::specs::Laws::Counting::is_empty_difference))]
@@ -161,6 +161,21 @@ impl<const N: usize> EnumSetTypeRepr for ArrayRepr<N> {
     #[tactic(auto, using(enumset_repr::specs::Laws::Counting::is_empty_intersection))]
     fn is_disjoint_from(&self, other: &ArrayRepr<N>) -> bool {
         yields_none::<And, N>(self, other)
+    }
+
+    #[tactic(auto, using(crate::proofs::Changes::same_union))]
+    fn or_changes(&mut self, other: &ArrayRepr<N>) -> bool {
+        apply_changes::<Or, N>(self, other)
+    }
+
+    #[tactic(auto, using(crate::proofs::Changes::same_intersection))]
+    fn and_changes(&mut self, other: &ArrayRepr<N>) -> bool {
+        apply_changes::<And, N>(self, other)
+    }
+
+    #[tactic(auto, using(crate::proofs::Changes::same_difference))]
+    fn and_not_changes(&mut self, other: &ArrayRepr<N>) -> bool {
+        apply_changes::<AndNot, N>(self, other)
     }
 
     fn iter(self) -> ArrayIter<N>

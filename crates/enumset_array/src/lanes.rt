@@ -1,6 +1,7 @@
 //! Operations on lists of words, four words at a time.
 
-ghost use Rattle.std.specs.Prelude.{◌≡◌, ◌<◌, ◌≤◌, ◌==◌, ℕ, bit_and, bit_or, bit_xor, drop, length, sum_by};
+ghost use Rattle.std.specs.Prelude.{◌≡◌, ◌<◌, ◌≤◌, ◌==◌, drop, length, map, nat_eq, not, sum_by};
+ghost use Rattle.std.specs.Cmp.Lexicographic.{pointwise};
 ghost use Rattle.std.specs.Int.{w64, bit_not};
 ghost use Rattle.std.specs.List.{list_all};
 ghost use Rattle.std.specs.Simd.Lanes.{zip2};
@@ -8,101 +9,13 @@ ghost use Rattle.enumset_repr.specs.BitSet.{len};
 ghost use Rattle.enumset_repr.specs.Number.{bits};
 
 use crate::array_repr::WORD_LIMIT;
+use crate::set_operation::{SetOperation, Xor};
 use std::simd::prelude::*;
 
-/// An operation on two words, and on four pairs of words at once.
-pub(crate) trait WordOperation {
-    // The result for two words.
-    ghost of_two: { ℕ → ℕ → ℕ };
-
-    /// The result for two words.
-    fn on_words(a: u64, b: u64) -> u64
-        ensures { result ≡ of_two a b };
-
-    /// The results for four pairs of words: each word of `a` with the word of `b` in the same place.
-    fn on_lanes(a: u64x4, b: u64x4) -> u64x4
-        ensures { result ≡ zip2 of_two a b };
-}
-
-/// `a & b`.
-pub(crate) struct And;
-
-/// `a | b`.
-pub(crate) struct Or;
-
-/// `a ^ b`.
-pub(crate) struct Xor;
-
-/// `a & !b`.
-pub(crate) struct AndNot;
-
-/// `!a`, whatever b is.
-pub(crate) struct Inverse;
-
-impl WordOperation for And {
-    ghost of_two = { bit_and };
-
-    fn on_words(a: u64, b: u64) -> u64 {
-        a & b
-    }
-
-    fn on_lanes(a: u64x4, b: u64x4) -> u64x4 {
-        a & b
-    }
-}
-
-impl WordOperation for Or {
-    ghost of_two = { bit_or };
-
-    fn on_words(a: u64, b: u64) -> u64 {
-        a | b
-    }
-
-    fn on_lanes(a: u64x4, b: u64x4) -> u64x4 {
-        a | b
-    }
-}
-
-impl WordOperation for Xor {
-    ghost of_two = { bit_xor };
-
-    fn on_words(a: u64, b: u64) -> u64 {
-        a ^ b
-    }
-
-    fn on_lanes(a: u64x4, b: u64x4) -> u64x4 {
-        a ^ b
-    }
-}
-
-impl WordOperation for AndNot {
-    ghost of_two = { λ a b. bit_and a (bit_not w64 b) };
-
-    fn on_words(a: u64, b: u64) -> u64 {
-        a & !b
-    }
-
-    fn on_lanes(a: u64x4, b: u64x4) -> u64x4 {
-        a & !b
-    }
-}
-
-impl WordOperation for Inverse {
-    ghost of_two = { λ a _. bit_not w64 a };
-
-    fn on_words(a: u64, _b: u64) -> u64 {
-        !a
-    }
-
-    fn on_lanes(a: u64x4, _b: u64x4) -> u64x4 {
-        !a
-    }
-}
-
 /// Replaces each word by the result for it and the other word in its place. The lists must have the same length.
-pub(crate) fn combine<O: WordOperation>(words: &mut [u64], others: &[u64])
+pub(crate) fn apply<O: SetOperation>(words: &mut [u64], others: &[u64])
     requires { length words.old ≡ length others.now }
-    ensures { words.new ≡ zip2 O.of_two words.old others.now }
+    ensures { words.new ≡ zip2 O.of_words words.old others.now }
 {
     for k in 0..words.len() / 4 {
         let i = 4 * k;
@@ -117,13 +30,54 @@ pub(crate) fn combine<O: WordOperation>(words: &mut [u64], others: &[u64])
     }
 }
 
+/// Replaces each word by the result for it and the other word in its place, and returns whether a word changed. The
+/// lists must have the same length.
+///
+/// From sixteen words on the first is compared alone. If it changes, no other word is compared, which saves nearly a third
+/// of the time over 64 words.
+pub(crate) fn apply_changes<O: SetOperation>(words: &mut [u64], others: &[u64]) -> bool
+    requires { length words.old ≡ length others.now }
+    ensures words { words.new ≡ zip2 O.of_words words.old others.now }
+    ensures changed { result ≡ not (pointwise nat_eq words.old words.new) }
+{
+    if words.len() >= 16 && O::on_words(words[0], others[0]) != words[0] {
+        apply::<O>(words, others);
+        return true;
+    }
+    let mut changed = u64x4::splat(0);
+    for k in 0..words.len() / 4 {
+        let i = 4 * k;
+        let old = u64x4::from_slice(&words[i..]);
+        let lanes = O::on_lanes(old, u64x4::from_slice(&others[i..]));
+        lanes.copy_to_slice(&mut words[i..]);
+        changed |= old ^ lanes;
+    }
+    let mut any = changed.reduce_or();
+    for i in words.len() / 4 * 4..words.len() {
+        let old = words[i];
+        let word = O::on_words(old, others[i]);
+        words[i] = word;
+        any |= old ^ word;
+    }
+    any != 0
+}
+
+/// Inverts each bit of the words.
+pub(crate) fn invert(words: &mut [u64])
+    ensures { words.new ≡ map (bit_not w64) words.old }
+{
+    for i in 0..words.len() {
+        words[i] = !words[i];
+    }
+}
+
 /// Whether the operation yields 0 for every pair of words. The lists must have the same length.
 ///
 /// From sixteen words on it stops early: after the first pair if its result is not 0, and after each block of sixteen
 /// pairs with such a result. For fewer words there is one test, at the end.
-pub(crate) fn are_none<O: WordOperation>(words: &[u64], others: &[u64]) -> bool
+pub(crate) fn yields_none<O: SetOperation>(words: &[u64], others: &[u64]) -> bool
     requires { length words.now ≡ length others.now }
-    ensures { result ≡ list_all (λ w. w == 0) (zip2 O.of_two words.now others.now) }
+    ensures { result ≡ list_all (λ w. w == 0) (zip2 O.of_words words.now others.now) }
 {
     if words.len() >= 16 && O::on_words(words[0], others[0]) != 0 {
         return false;
@@ -162,9 +116,9 @@ pub(crate) fn equal_from(words: &[u64], others: &[u64]) -> usize
 }
 
 /// The results for all pairs of words, combined by `|`: it is 0 exactly if each result is 0.
-fn any_of<O: WordOperation>(words: &[u64], others: &[u64]) -> u64
+fn any_of<O: SetOperation>(words: &[u64], others: &[u64]) -> u64
     requires { length words.now ≡ length others.now }
-    ensures { (result == 0) ≡ list_all (λ w. w == 0) (zip2 O.of_two words.now others.now) }
+    ensures { (result == 0) ≡ list_all (λ w. w == 0) (zip2 O.of_words words.now others.now) }
 {
     let (chunks, rest) = words.as_chunks::<4>();
     let (other_chunks, other_rest) = others.as_chunks::<4>();

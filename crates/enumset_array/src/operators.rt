@@ -5,8 +5,8 @@ ghost use Rattle.enumset_repr.specs.BitSet as set;
 ghost use Rattle.enumset_array.specs.ArrayWords.{in_use, set_of};
 
 use crate::array_repr::{ArrayRepr, WORD_LIMIT};
-use crate::lanes::{And, Inverse, Or, Xor, combine};
-use crate::set_operation::change_by;
+use crate::lanes::invert;
+use enumset_repr::EnumSetTypeRepr;
 use std::ops::{BitAnd, BitOr, BitXor, Not};
 
 impl<const N: usize> BitAnd for ArrayRepr<N> {
@@ -17,7 +17,7 @@ impl<const N: usize> BitAnd for ArrayRepr<N> {
     /// Returns the members of both.
     fn bitand(self, other: ArrayRepr<N>) -> ArrayRepr<N> {
         let mut result = self;
-        change_by::<And, N>(&mut result, &other);
+        result.and_with(&other);
         result
     }
 }
@@ -30,7 +30,7 @@ impl<const N: usize> BitOr for ArrayRepr<N> {
     /// Returns the members of either.
     fn bitor(self, other: ArrayRepr<N>) -> ArrayRepr<N> {
         let mut result = self;
-        change_by::<Or, N>(&mut result, &other);
+        result.or_with(&other);
         result
     }
 }
@@ -43,7 +43,7 @@ impl<const N: usize> BitXor for ArrayRepr<N> {
     /// Returns the members of exactly one of the two.
     fn bitxor(self, other: ArrayRepr<N>) -> ArrayRepr<N> {
         let mut result = self;
-        change_by::<Xor, N>(&mut result, &other);
+        result.xor_with(&other);
         result
     }
 }
@@ -56,8 +56,7 @@ impl<const N: usize> Not for ArrayRepr<N> {
     /// Returns the numbers below the width that are not members.
     fn not(self) -> ArrayRepr<N> {
         let mut words = self.0;
-        let used = &self.0[..N % WORD_LIMIT];
-        combine::<Inverse>(&mut words[..N % WORD_LIMIT], used);
+        invert(&mut words[..N % WORD_LIMIT]);
         ArrayRepr(words)
     }
 }

@@ -1,4 +1,4 @@
-//! The order of the representation of many words: that of the sets.
+//! The order of the representation of many words, which is the order of the sets.
 
 ghost use Rattle.std.specs.Prelude.{◌≡◌, Some, length, refl};
 ghost use Rattle.enumset_repr.specs.Order.{compare};

@@ -1,4 +1,4 @@
-//! A list of words that can be read by two calls alone, each of them counted as an ask.
+//! A list of words that can be read only by two calls, each of which counts as an ask.
 
 ghost use Rattle.std.specs.Prelude.{◌≡◌, ℕ, ◌+◌, ◌<◌, List, ◌∷◌, [], ◌++◌, length, slice_index, slice_set, IfSome, IfNone};
 ghost use Rattle.enumset_repr.specs.BitSet.{ascending};
@@ -8,7 +8,7 @@ ghost use Rattle.enumset_array.specs.Views.{AreWords};
 /// A list of fewer than 67108864 words of 64 bits, and a count of asks.
 ///
 /// An ask is one call of [`ask_front`](Row::ask_front) or [`ask_back`](Row::ask_back). Code over a row can read its
-/// words by these calls alone, so the count says how often it has read a word. Rust's `enumset` has nothing like it.
+/// words only by these calls, so the count says how often it has read a word. Rust's `enumset` has nothing like it.
 pub trait Row {
     // The words.
     ghost words: { Self → List ℕ };

@@ -42,7 +42,7 @@ fn step<R: Row>(row: &mut R, cursors: &mut Cursors, end: End) -> Option<u32>
 ///
 /// All steps use one pair of cursors, which starts over the whole row. However long `ends` is, the number of asks that
 /// the call makes is at most the number of bits that it found plus the number of words of the row. If an answer is
-/// `None`, it is exactly that. The number of words stays.
+/// `None`, the number of asks is exactly that. The number of words stays the same.
 ///
 /// Room for all answers is taken before the first step. If the call returns `AllocError`, no bit was taken out and no
 /// word was asked.

@@ -35,7 +35,7 @@ impl<const N: usize> Words<N> {
     pub(crate) fn new(repr: ArrayRepr<N>) -> Self
         ensures { result ≡ record { words = words_in_use N repr.entry; asks = 0 } }
     {
-        // A proof does not know of a value that is only moved that its words have 64 bits.
+        // A move alone does not tell the proof that the words have 64 bits.
         repr.learn_is_value();
         Words {
             repr,

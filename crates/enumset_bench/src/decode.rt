@@ -14,7 +14,7 @@ use std::collections::BTreeMap;
 /// How many values of each kind come in a round.
 const VALUES: u32 = 20000;
 
-/// The digest of what comes of all numbers and rows.
+/// The digest of the results of all numbers and rows.
 pub fn digest(alloc: Global, seed: u32, rounds: u32) -> Result<u64, AllocError> {
     let mut random = Random::new(seed);
     let mut digest = Digest::new();
@@ -35,7 +35,7 @@ pub fn digest(alloc: Global, seed: u32, rounds: u32) -> Result<u64, AllocError> 
     Ok(digest.value())
 }
 
-/// The set of a number of 32 bits, a third of which have unknown bits. These are kept in a mixed set.
+/// The set of a number of 32 bits. A third of the numbers have unknown bits, and are kept in a mixed set.
 fn right_set(random: &mut Random, digest: &mut Digest) -> EnumSet<Right> {
     let kept = if random.is_one_in(2) {
         0xFF_FFFF
@@ -57,7 +57,7 @@ fn right_set(random: &mut Random, digest: &mut Digest) -> EnumSet<Right> {
     }
 }
 
-/// The set of a number of 128 bits, of which a quarter have unknown bits.
+/// The set of a number of 128 bits. A quarter of the numbers have unknown bits.
 fn setting_set(random: &mut Random, digest: &mut Digest) -> EnumSet<Setting> {
     let low = random.number();
     let high = random.number() & if low & 3 == 0 { u64::MAX } else { 0xFFFF_FFFF };
@@ -76,7 +76,7 @@ fn setting_set(random: &mut Random, digest: &mut Digest) -> EnumSet<Setting> {
     }
 }
 
-/// A row of six words, of which the last two are 0. Half of the rows have unknown bits, and equal rows come often.
+/// A row of six words. The last two are 0. Half of the rows have unknown bits, and equal rows are frequent.
 fn random_row(random: &mut Random, valid: [u64; 4]) -> [u64; 6] {
     let number = random.number();
     let [first, second, third, fourth] = if number >> 63 == 0 {

@@ -1,5 +1,5 @@
-//! The element type of facts that lie far apart. It is as `enumset_derive` writes it, but for the 1012 words of no bit,
-//! for which the program takes a line each.
+//! The element type of facts that lie far apart. It is as `enumset_derive` writes it, except for the 1012 words without
+//! a bit, for which the program takes a line each.
 
 use enumset::EnumSetType;
 use enumset::internal::ArrayRepr;

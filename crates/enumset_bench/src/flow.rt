@@ -62,7 +62,7 @@ pub(crate) fn digest_by<F: Flow>(alloc: Global, seed: u32, rounds: u32) -> Resul
     Ok(digest.value())
 }
 
-/// Lets the facts of a graph flow, and mixes in those of each node.
+/// Lets the facts of a graph flow, and mixes in the facts of each node.
 fn add_facts<F: Flow, T: EnumSetType>(nodes: &mut Vec<Node<T>>, digest: &mut Digest) {
     F::settle(nodes, digest);
     for (at, node) in nodes.iter().enumerate() {

@@ -6,7 +6,7 @@ use crate::flow::{Flow, Node, PASSES, digest_by};
 use enumset::{EnumSet, EnumSetType};
 use std::alloc::{AllocError, Global};
 
-/// The digest of the facts of all graphs, the same as that of `flow`.
+/// The digest of the facts of all graphs, the same as in `flow`.
 pub fn digest(alloc: Global, seed: u32, rounds: u32) -> Result<u64, AllocError> {
     digest_by::<InPlace>(alloc, seed, rounds)
 }

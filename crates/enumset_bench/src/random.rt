@@ -38,7 +38,7 @@ impl Random {
         self.number() as usize % limit
     }
 
-    /// Whether one of so many equal chances comes true.
+    /// Returns `true` with probability 1 / `chances`.
     pub fn is_one_in(&mut self, chances: usize) -> bool
         requires { 0 < chances }
     {

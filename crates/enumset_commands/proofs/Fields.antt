@@ -7,7 +7,7 @@ use Rattle.std.proofs.lemmas.List.{drop_all}
 use Rattle.std.proofs.lemmas.Bool.Decides.{nat_tests}
 use Rattle.enumset_commands.specs.Fields.{value, register, bit, word, Takes, BeginsWithNone}
 
--- the value that digits write after those of n
+-- the value that digits write after the digits of n
 abbrev pub value_after : ℕ → List ℕ → Option ℕ
 value_after n ds =
     if all_ascii_digits ds && nat_lt (digits_value_after 10 n ds) (2 ^ 128) then Some (digits_value_after 10 n ds) else None

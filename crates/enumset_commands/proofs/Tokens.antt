@@ -109,7 +109,7 @@ number_at_end s i n more all fits h =
 
 -- ---- a first token that writes no number
 
--- what begins with the first token's first i + 1 bytes is no word, so the token is none
+-- no word begins with the first i + 1 bytes of the first token, so this token is not a word
 no_word_at : (o : Option ℕ) (s : List ℕ) (i : ℕ) → position (λ b. b == 32) s ≡ o → NoneBelow (λ b. b == 32) s (i + 1) → i < length s → ((e : ℕ) → i < e → e ≤ length s → word (take e s) ≡ None) → BeginsWithNone word (tokens_of s)
 no_word_at None s i h apart l none =
     let last = tokens_of-last s (split-past (λ b. b == 32) s h) (ne_eqb (length s) 0 (λ z. omega arith)) in

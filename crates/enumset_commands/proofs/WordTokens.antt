@@ -3,7 +3,7 @@ use Rattle.std.proofs.Common.{◌≡◌, ◌==◌, ◌<◌, true, false, length,
 use Rattle.std.proofs.lemmas.Bool.Decides.{nat_tests}
 use Rattle.enumset_commands.specs.Fields.{word, written_words, Takes, BeginsWithNone}
 
--- what tokens write where other words stand before theirs
+-- what tokens write, after other words
 abbrev pub after_words : List ℕ → Option (List ℕ) → Option (List ℕ)
 after_words ws more = option_map (λ vs. ws ++ vs) more
 

@@ -1,10 +1,10 @@
 -- The fields of a command, which are tokens, and the operands that they write.
 --     value, field, register, count, bit, width, word      the number that a field writes, if it fits
---     one, two, three      the numbers of exactly one field, two or three, if each of them is read so
+--     one, two, three      the numbers of exactly one, two or three fields, if each of them writes one
 --     written_words      the words that tokens write, if each of them is one
 --     register_and_words      the numbers of a register and of any number of words
---     BeginsWithNone      there is no token, or the first one is not read as a number
---     Takes      the number, if there is one, is what the first token is read as, and the others are left
+--     BeginsWithNone      there is no token, or the first one does not write a number
+--     Takes      if there is a number, the first token writes it, and the other tokens are left
 use Rattle.std.specs.Prelude.{◌≡◌, ⊤, ℕ, ◌^◌, ◌==◌, not, ◌&&◌, nat_lt, List, [], ◌∷◌, length, Option, Some, None, option_map, option_and_then, if◌then◌else◌}
 use Rattle.std.specs.Str.{all_ascii_digits}
 use Rattle.std.specs.Str.Parse.{digits_value}
@@ -14,7 +14,7 @@ abbrev pub value : List ℕ → Option ℕ
 value token =
     if not (length token == 0) && all_ascii_digits token && nat_lt (digits_value 10 token) (2 ^ 128) then Some (digits_value 10 token) else None
 
--- a value of at most so many bits
+-- a value of at most this many bits
 abbrev pub field : ℕ → List ℕ → Option ℕ
 field bits token = option_and_then (λ n. if nat_lt n (2 ^ bits) then Some n else None) (value token)
 
@@ -34,7 +34,7 @@ width token = field 32 token
 abbrev pub word : List ℕ → Option ℕ
 word token = field 64 token
 
--- exactly so many fields, each of which is read in its own way
+-- exactly one, two or three fields, each read in its own way
 abbrev pub one : (List ℕ → Option ℕ) → List (List ℕ) → Option ℕ
 one first (x ∷ []) = first x
 one first other = None

@@ -1,11 +1,11 @@
--- The texts of replies and of faults, and where a fault may come.
+-- The texts of replies and of faults, and which fault may be reported.
 --     refusal_text      the text of a refusal
 --     words_text      a space before each word, in decimal
 --     text_of      the text of a reply
 --     text      the texts of replies, each followed by one line feed
 --     fault_text      the text of a fault
---     IsFaultOf      the fault may come in place of this answer
---     IsReadAs      text that writes this, or nothing, is read as this: what it writes, nothing, or an error
+--     IsFaultOf      the fault may be reported instead of this answer
+--     IsReadAs      whether a reader may return this for a text that writes that: what is written, `None` if nothing is, or an error
 use Rattle.std.specs.Prelude.{◌≡◌, ℕ, true, false, List, ◌++◌, codes, Option, Some, None, Result, Ok, Err}
 use Rattle.std.specs.List.{flat_map}
 use Rattle.std.specs.Option.{IsSome}
@@ -54,7 +54,7 @@ abbrev pub IsFaultOf : {A : Type 0} → Result A TextFault → TextFault → Typ
 IsFaultOf (Ok value) fault = fault ≡ OutOfMemory
 IsFaultOf (Err own) fault = fault ≡ own
 
--- text that writes nothing is read as nothing, even if memory runs out
+-- if the text writes nothing, the reader returns `None`, even if memory runs out
 abbrev pub IsReadAs : {A E : Type 0} → Option A → Option (Result A E) → Type 0
 IsReadAs own None = own ≡ None
 IsReadAs own (Some (Ok value)) = own ≡ Some value

@@ -4,7 +4,7 @@ ghost use Rattle.enumset_commands.specs.Lines.{command_of, without_words};
 ghost use Rattle.enumset_commands.specs.Verbs.{assignments, queries, changes, written};
 
 use crate::grammar::line_command::LineCommand;
-use crate::grammar::operands::with_words;
+use crate::grammar::operands::register_and_words;
 use crate::grammar::tokens::Tokens;
 use crate::names::is;
 use crate::word_list::WordList;
@@ -85,7 +85,7 @@ pub enum Command {
     Left { i: u8 },
 }
 
-/// Gives the command of a name, by a table that has for each name its operands and its command.
+/// Looks a name up in a table, whose rows are a name, its operands and its command.
 macro_rules! command_of_name {
     ($name:ident, $fields:ident => $commands:ident: $($word:literal $operands:ident $command:ident { $($field:ident),+ };)+) => {
         match $name {
@@ -111,7 +111,7 @@ impl LineCommand for Command {
         if !cuts && !is(name, "from_words") {
             return None;
         }
-        match with_words(alloc, fields)? {
+        match register_and_words(alloc, fields)? {
             Ok((r, words)) if cuts => Some(Ok(Command::FromWordsCut { r, words })),
             Ok((r, words)) => Some(Ok(Command::FromWords { r, words })),
             Err(error) => Some(Err(error)),
@@ -137,19 +137,19 @@ fn assignment(name: &[u8], fields: &Tokens) -> Option<Command>
     ensures { result ≡ written assignments name.now fields.now }
 {
     command_of_name! { name, fields => Command:
-        "new" one New { r };
-        "all" one All { r };
-        "only" with_u32 Only { r, bit };
-        "clear" one Clear { r };
-        "union" three Union { to, a, b };
-        "intersection" three Intersection { to, a, b };
-        "difference" three Difference { to, a, b };
-        "symmetric" three SymmetricDifference { to, a, b };
-        "complement" two Complement { to, a };
-        "insert_all" two InsertAll { r, a };
-        "remove_all" two RemoveAll { r, a };
-        "from_number_cut" with_value FromNumberCut { r, width, value };
-        "iter" two Iter { i, r };
+        "new" register New { r };
+        "all" register All { r };
+        "only" register_and_u32 Only { r, bit };
+        "clear" register Clear { r };
+        "union" three_registers Union { to, a, b };
+        "intersection" three_registers Intersection { to, a, b };
+        "difference" three_registers Difference { to, a, b };
+        "symmetric" three_registers SymmetricDifference { to, a, b };
+        "complement" two_registers Complement { to, a };
+        "insert_all" two_registers InsertAll { r, a };
+        "remove_all" two_registers RemoveAll { r, a };
+        "from_number_cut" register_width_value FromNumberCut { r, width, value };
+        "iter" two_registers Iter { i, r };
     }
 }
 
@@ -158,31 +158,31 @@ fn query(name: &[u8], fields: &Tokens) -> Option<Command>
     ensures { result ≡ written queries name.now fields.now }
 {
     command_of_name! { name, fields => Command:
-        "contains" with_u32 Contains { r, bit };
-        "len" one Len { r };
-        "empty" one IsEmpty { r };
-        "disjoint" two Disjoint { a, b };
-        "superset" two Superset { a, b };
-        "subset" two Subset { a, b };
-        "equal" two Equal { a, b };
-        "compare" two Compare { a, b };
-        "number" with_u32 Number { r, width };
-        "number_cut" with_u32 NumberCut { r, width };
-        "words" two Words { r, count };
-        "words_cut" two WordsCut { r, count };
-        "left" one Left { i };
+        "contains" register_and_u32 Contains { r, bit };
+        "len" register Len { r };
+        "empty" register IsEmpty { r };
+        "disjoint" two_registers Disjoint { a, b };
+        "superset" two_registers Superset { a, b };
+        "subset" two_registers Subset { a, b };
+        "equal" two_registers Equal { a, b };
+        "compare" two_registers Compare { a, b };
+        "number" register_and_u32 Number { r, width };
+        "number_cut" register_and_u32 NumberCut { r, width };
+        "words" two_registers Words { r, count };
+        "words_cut" two_registers WordsCut { r, count };
+        "left" register Left { i };
     }
 }
 
-/// The command of this name, if it is one that may change a register and tells something.
+/// The command of this name, if it is one that may change a register, and replies more than `ok`.
 fn change(name: &[u8], fields: &Tokens) -> Option<Command>
     ensures { result ≡ written changes name.now fields.now }
 {
     command_of_name! { name, fields => Command:
-        "insert" with_u32 Insert { r, bit };
-        "remove" with_u32 Remove { r, bit };
-        "from_number" with_value FromNumber { r, width, value };
-        "next" one Next { i };
-        "next_back" one NextBack { i };
+        "insert" register_and_u32 Insert { r, bit };
+        "remove" register_and_u32 Remove { r, bit };
+        "from_number" register_width_value FromNumber { r, width, value };
+        "next" register Next { i };
+        "next_back" register NextBack { i };
     }
 }

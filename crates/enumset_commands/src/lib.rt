@@ -1,6 +1,6 @@
 //! Commands on sets of bit numbers and the replies to them, and the texts of both.
 //!
-//! Nothing here knows a set: what commands do is said, and carried out, in `enumset_machine`.
+//! Nothing here knows sets: `enumset_machine` says what commands do, and does it.
 #![tactic(auto)]
 
 pub mod command;

@@ -11,7 +11,7 @@ use std::alloc::{AllocError, Global};
 
 /// One command of a run of mixed sets: one that every run has, or one on bits that need not be valid.
 ///
-/// The fields are those of a [`Command`]. Any bit below the width of the representation may be a member.
+/// The fields are as in a [`Command`]. Any bit below the width of the representation may be a member.
 #[derive(Drop)]
 pub enum MixedCommand {
     /// A command that every run has.
@@ -52,18 +52,18 @@ impl LineCommand for MixedCommand {
     }
 }
 
-/// The command that mixed sets alone have of this name.
+/// The command of this name, if only mixed sets have it.
 fn own_command(name: &[u8], fields: &Tokens) -> Option<MixedCommand>
     ensures { result ≡ written own_verbs name.now fields.now }
 {
     command_of_name! { name, fields => MixedCommand:
-        "has_bit" with_u32 HasBit { r, bit };
-        "insert_bit" with_u32 InsertBit { r, bit };
-        "remove_bit" with_u32 RemoveBit { r, bit };
-        "full_complement" two FullComplement { to, a };
-        "valid_len" one ValidLen { r };
-        "unknown" one Unknown { r };
-        "as_enumset" two AsEnumset { to, a };
-        "truncate" two Truncate { to, a };
+        "has_bit" register_and_u32 HasBit { r, bit };
+        "insert_bit" register_and_u32 InsertBit { r, bit };
+        "remove_bit" register_and_u32 RemoveBit { r, bit };
+        "full_complement" two_registers FullComplement { to, a };
+        "valid_len" register ValidLen { r };
+        "unknown" register Unknown { r };
+        "as_enumset" two_registers AsEnumset { to, a };
+        "truncate" two_registers Truncate { to, a };
     }
 }

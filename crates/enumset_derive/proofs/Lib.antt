@@ -1,4 +1,5 @@
+pub mod Digits
 pub mod Named
+pub mod Sources
 pub mod Sums
 pub mod Tests
-pub mod Values

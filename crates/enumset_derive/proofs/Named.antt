@@ -1,12 +1,18 @@
 -- Variants with their bits, one more at a time.
 use Rattle.std.proofs.Common.{◌≡◌, ◌==◌, ◌<◌, ◌≤◌, ℕ, Bool, true, false, not, cond, ◌||◌, List, [], ◌∷◌, ◌++◌, Option, Some, None, ◌+◌, suc, length, get_or, drop, drop-cons, add-one, refl, ap, sym, ◌∙◌, arith, find}
-use Rattle.enumset_repr.specs.Laws.Common.{and_parts, or_parts, not-true, nat_tests, map-append, list_any-append, is_in, is_distinct, one_past_all}
+use Rattle.std.proofs.lemmas.Bool.{and_parts, or_parts, not-true}
+use Rattle.std.proofs.lemmas.Bool.Decides.{nat_tests}
+use Rattle.std.proofs.lemmas.List.{map-append}
+use Rattle.std.proofs.lemmas.List.Folds.{list_any-append}
+use Rattle.enumset_repr.specs.BitSet.{is_in}
+use Rattle.enumset_repr.specs.Lawful.{one_past_all}
+use Rattle.enumset_repr.specs.Number.{is_distinct}
 use Rattle.enumset_derive.specs.Numbers.{next_number, same_number, and_then}
 use Rattle.enumset_derive.specs.Variants.{bits_of, has_taken, named_variant, named_from}
-use Rattle.enumset_derive.specs.declared.plan.declaration.Number.{Number}
-use Rattle.enumset_derive.specs.declared.plan.declaration.Variant.{Variant}
-use Rattle.enumset_derive.specs.declared.plan.declaration.Options.{Options}
 use Rattle.enumset_derive.specs.declared.plan.NamedVariant.{NamedVariant}
+use Rattle.enumset_derive.specs.declared.plan.declaration.Number.{Number}
+use Rattle.enumset_derive.specs.declared.plan.declaration.Options.{Options}
+use Rattle.enumset_derive.specs.declared.plan.declaration.Variant.{Variant}
 
 pub not_taken : (b : ℕ) (n : Number) (named : List NamedVariant) → find (has_taken b n) named ≡ None → is_in b (bits_of named) ≡ false
 not_taken b n [] none = refl

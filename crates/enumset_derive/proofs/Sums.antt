@@ -1,6 +1,12 @@
 -- Numbers and words of different bits.
 use Rattle.std.proofs.Common.{◌≡◌, ◌<◌, ℕ, suc, zero, ◌+◌, ◌-◌, ◌*◌, ◌%◌, ◌^◌, true, false, not, List, [], ◌∷◌, length, get_or, set, replicate, sum_by, refl, ap, sym, ◌∙◌, arith, eq-eqb, nat_lt, bit_or}
-use Rattle.enumset_repr.specs.Laws.Common.{and_parts, and_from, nat_tests, is_in, insert, from_list, number, bits, is_distinct, lists_bits, in_first_word, in_later_words, lists_words, number_bits, bits_set, bits_listed}
+use Rattle.std.proofs.lemmas.Bool.{and_parts, and_from}
+use Rattle.std.proofs.lemmas.Bool.Decides.{nat_tests}
+use Rattle.enumset_repr.specs.BitSet.{is_in, insert, from_list}
+use Rattle.enumset_repr.specs.Laws.BitLists.{bits_listed}
+use Rattle.enumset_repr.specs.Laws.Numbers.{number_bits, bits_set}
+use Rattle.enumset_repr.specs.Number.{number, bits, is_distinct, lists_bits}
+use Rattle.enumset_repr.specs.Words.{in_first_word, in_later_words, lists_words}
 use Rattle.enumset_derive.specs.Variants.{bits_of}
 use Rattle.enumset_derive.specs.declared.plan.NamedVariant.{NamedVariant}
 

@@ -1,9 +1,10 @@
 -- The test of an element type, from its parts.
 use Rattle.std.proofs.Common.{◌≡◌, ℕ, suc, zero, Bool, true, false, List, [], length, replicate, sym, ◌∙◌, eq-eqb}
-use Rattle.enumset_repr.specs.Laws.Common.{is_distinct, one_past_all, or_else, IsLawful}
 use denote.Enum.Bare.{Bare}
-use Rattle.enumset_derive.specs.Plans.{without_fields}
+use Rattle.enumset_repr.specs.Lawful.{one_past_all, or_else, IsLawful}
+use Rattle.enumset_repr.specs.Number.{is_distinct}
 use Rattle.enumset_derive.specs.Laws.Plans.{variants_of, known}
+use Rattle.enumset_derive.specs.Plans.{without_fields}
 
 past : (test : Bool) (fault next : Type 0) → test ≡ true → next → or_else test fault next
 past true fault next passes h = h

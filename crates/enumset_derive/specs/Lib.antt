@@ -1,5 +1,6 @@
 pub mod Numbers
 pub mod Variants
 pub mod Plans
-pub mod Values
+pub mod Sources
+pub mod Literals
 pub mod Laws

@@ -75,6 +75,8 @@ impl Error for Fault {}
 pub enum Reason {
     /// A fault of reading.
     Text(&'static str),
+    /// What is expected, and what is there.
+    Expected(&'static str, Found),
     /// What is given twice, as an option, and where it was given first.
     GivenTwice(&'static str, Place),
     /// `map = "msb"` counts from the end of an integer, and none is asked for.
@@ -91,7 +93,7 @@ pub enum Reason {
     PastWords(u32),
     BitTwice(Place),
     DiscriminantTwice(Place),
-    /// Where an item is whose name is this in other letters.
+    /// Where an enum is whose name is this in other letters.
     OtherCase(Place),
 }
 
@@ -99,6 +101,7 @@ impl fmt::Display for Reason {
     fn fmt<W: fmt::Write>(&self, f: &mut fmt::Formatter<W>) -> fmt::Result {
         match self {
             Reason::Text(text) => write!(f, "{text}"),
+            Reason::Expected(what, found) => write!(f, "expected {what}, found {found}"),
             Reason::GivenTwice(what, first) => write!(f, "this {what} was given at {first}"),
             Reason::IntegerMissing => write!(f, "`map = \"msb\"` needs `repr` to be an integer"),
             Reason::TooManyVariants => write!(f, "an enum may have at most 256 variants"),
@@ -133,6 +136,32 @@ impl fmt::Display for Reason {
                     "this name and that at {first} differ only in case: choose another"
                 )
             }
+        }
+    }
+}
+
+/// What stands where something else is expected.
+#[derive(Clone, Copy, Debug)]
+pub enum Found {
+    Identifier,
+    Literal,
+    Lifetime,
+    Comment,
+    Punctuation(char),
+    /// The end of the source.
+    End,
+}
+
+impl fmt::Display for Found {
+    fn fmt<W: fmt::Write>(&self, f: &mut fmt::Formatter<W>) -> fmt::Result {
+        match self {
+            Found::Identifier => write!(f, "an identifier"),
+            Found::Literal => write!(f, "a literal"),
+            Found::Lifetime => write!(f, "a lifetime"),
+            Found::Comment => write!(f, "a comment"),
+            Found::Punctuation(character) if character.is_ascii() => write!(f, "`{character}`"),
+            Found::Punctuation(character) => write!(f, "U+{:04X}", u32::from(*character)),
+            Found::End => write!(f, "the end"),
         }
     }
 }

@@ -3,18 +3,21 @@
 //! `enumset_derive CRATE MODULE` reads the source from standard input and prints the module of this name in this crate.
 //! The module `bar` in the module `foo` is named `foo::bar`.
 //! With `-o FILE` after them the module goes into that file, once the source had no fault.
+//! With `--bits FILE` that file gets the definitions of the words by which clauses speak of the variants' bits.
 #![tactic(auto)]
 
+mod element;
 mod fault;
+mod items;
 mod plan;
 mod read;
-mod source;
-mod space;
+mod report;
 mod tokens;
 mod write;
 
+use element::elements_of;
 use fault::{DeriveError, Outcome, Place, Reason};
-use read::read_source;
+use read::{Source, read_source};
 use std::alloc::{AllocError, Global};
 use std::env::{self, Env};
 use std::fs;
@@ -22,12 +25,13 @@ use std::io::{self, ErrorKind, Input, Print, Read, Write};
 use std::process::ExitCode;
 use std::rt::Files;
 use tokens::tokens_of;
-use write::module_text;
+use write::{bits_text, module_text};
 
 const NOT_A_NAME: DeriveError = DeriveError::Arguments("an argument is no name");
 
 const WRONG: DeriveError = DeriveError::Arguments(
-    "two arguments: the names of the crate and of the module; and for a file in place of standard output, -o FILE",
+    "two arguments: the names of the crate and of the module; then -o FILE for a file in place of standard output, and \
+    --bits FILE for one that defines the word for a bit",
 );
 
 /// What the program is to write, and where.
@@ -38,11 +42,22 @@ pub struct Request<'a> {
     pub module: String,
     /// The file that it goes into, if not standard output.
     pub file: Option<&'a str>,
+    /// The file that the words for bits go into, if they are asked for.
+    pub bits: Option<&'a str>,
+}
+
+/// What is written, if the source had no fault.
+#[derive(Drop)]
+struct Output {
+    module: String,
+    bits: String,
 }
 
 fn main(rt: HostRuntime) -> ExitCode {
-    let Err(fault) = answer(&rt) else {
-        return ExitCode::SUCCESS;
+    let fault = match answer(&rt) {
+        Ok(true) => return ExitCode::SUCCESS,
+        Ok(false) => return ExitCode::from(1),
+        Err(fault) => fault,
     };
     let _ = eprintln!(rt; "{fault}");
     ExitCode::from(match fault {
@@ -52,12 +67,25 @@ fn main(rt: HostRuntime) -> ExitCode {
     })
 }
 
-/// Tests the arguments, reads the source and writes the module.
-fn answer<R: Env + Files + Input + Print + Eprint + AllocGlobal>(rt: &R) -> Outcome {
+/// Tests the arguments, reads the source and writes the module. Gives whether the source had no fault.
+fn answer<R: Env + Files + Input + Print + Eprint + AllocGlobal>(rt: &R) -> Outcome<bool> {
     let arguments = env::args(rt).map_err(|error| fault_of(error, NOT_A_NAME))?;
     let arguments: Vec<String> = arguments.collect(rt.alloc())?;
     let request = request_of(rt.alloc(), &arguments)?;
-    write_module(rt, &request, derive(rt, &request)?.as_str())
+    let Some(Output { module, bits }) = derive(rt, &request)? else {
+        return Ok(false);
+    };
+    match request.file {
+        Some(file) => write_file(rt, file, module.as_str())?,
+        None => {
+            let written = io::writer(rt).write_all(module.as_str().as_bytes());
+            written.map_err(|_| DeriveError::Stream("writing failed"))?;
+        }
+    }
+    if let Some(file) = request.bits {
+        write_file(rt, file, bits.as_str())?;
+    }
+    Ok(true)
 }
 
 /// The fault that a failure of the system is: that memory ran out, or this one.
@@ -77,16 +105,27 @@ fn request_of(alloc: Global, arguments: &[String]) -> Outcome<Request<'_>> {
     if !is_name(crate_name) || !path.split("::").all(is_name) {
         return Err(NOT_A_NAME);
     }
-    let file = match rest {
-        [] => None,
-        [flag, file] if flag.as_str() == "-o" => Some(file.as_str()),
-        _ => return Err(WRONG),
-    };
-    Ok(Request {
+    let mut request = Request {
         crate_name,
         module: path.replace(alloc, "::", ".")?,
-        file,
-    })
+        file: None,
+        bits: None,
+    };
+    for option in rest.chunks(2) {
+        let [flag, file] = option else {
+            return Err(WRONG);
+        };
+        let given = match flag.as_str() {
+            "-o" => &mut request.file,
+            "--bits" => &mut request.bits,
+            _ => return Err(WRONG),
+        };
+        if given.is_some() {
+            return Err(WRONG);
+        }
+        *given = Some(file.as_str());
+    }
+    Ok(request)
 }
 
 /// Whether a text is a name: a small letter or `_`, and then small letters, digits and `_`; at most 256 of them.
@@ -96,24 +135,37 @@ fn is_name(name: &str) -> bool {
     matches!(name.len(), 1..=256) && name.chars().all(is_plain) && !name.starts_with(is_digit)
 }
 
-/// The module that the input stands for. Standard error says what is left out, and that a text has no element type.
-fn derive<R: Input + Eprint + AllocGlobal>(rt: &R, request: &Request) -> Outcome<String> {
+/// What the input stands for, if it has no fault. Standard error says what is wrong, or what is left out.
+fn derive<R: Input + Eprint + AllocGlobal>(rt: &R, request: &Request) -> Outcome<Option<Output>> {
     let alloc = rt.alloc();
     let mut input = Vec::new(alloc);
     let read = rt.reader().read_to_end(&mut input);
     read.map_err(|error| fault_of(error, DeriveError::Stream("reading failed")))?;
     let text = text_of(&input)?.replace(alloc, "\r\n", "\n")?;
     let tokens = tokens_of(alloc, text.as_str())?;
-    let source = read_source(alloc, text.as_str(), &tokens)?;
-    let module = module_text(alloc, request, &source)?;
-    for (place, note) in &source.notes {
-        let _ = eprintln!(rt; "{place}: {note}");
+    let Source {
+        docs,
+        enums,
+        mut report,
+    } = read_source(alloc, &tokens)?;
+    let elements = elements_of(alloc, enums, &mut report)?;
+    report.sort()?;
+    for fault in &report.faults {
+        let _ = eprintln!(rt; "{fault}");
     }
-    let is_blank = source.items.is_empty() && source.notes.is_empty();
-    if !source.has_enums && !is_blank {
+    if !report.faults.is_empty() {
+        return Ok(None);
+    }
+    for note in &report.notes {
+        let _ = eprintln!(rt; "{note}");
+    }
+    if elements.is_empty() && tokens.len() > 1 {
         let _ = eprintln!(rt; "no enum derives EnumSetType");
     }
-    Ok(module)
+    Ok(Some(Output {
+        module: module_text(alloc, request, &docs, &elements)?,
+        bits: bits_text(alloc, request, &elements)?,
+    }))
 }
 
 /// The text that bytes are, without a byte order mark, or the fault where they are no text.
@@ -125,12 +177,8 @@ fn text_of(input: &[u8]) -> Outcome<&str> {
     Ok(str::from_utf8(input).map_err(|_| fault)?)
 }
 
-/// Writes a text to a file, or to standard output.
-fn write_module<R: Files + Print + AllocGlobal>(rt: &R, request: &Request, text: &str) -> Outcome {
-    let Some(file) = request.file else {
-        let written = io::writer(rt).write_all(text.as_bytes());
-        return written.map_err(|_| DeriveError::Stream("writing failed"));
-    };
+/// Writes a text to a file.
+fn write_file<R: Files + AllocGlobal>(rt: &R, file: &str, text: &str) -> Outcome {
     let why = match fs::write(rt, file, text) {
         Ok(()) => return Ok(()),
         Err(error) if error.kind() == ErrorKind::NotFound => "there is no such folder",

@@ -13,8 +13,8 @@ mod variants;
 
 use crate::fault::{DeriveError, Place, Reason};
 pub use declaration::{
-    Discriminant, EnumDeclaration, IntegerType, Map, Number, Options, Representation, Serialized,
-    Variant, Visibility,
+    Derive, Discriminant, EnumDeclaration, IntegerType, Line, Map, Number, Options, Representation,
+    Serialized, Variant,
 };
 use std::alloc::{AllocError, Global};
 use variants::name_variants;

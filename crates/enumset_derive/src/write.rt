@@ -1,5 +1,7 @@
 //! The text of a module.
 
+mod bits;
+mod declaration;
 mod element_type;
 mod imports;
 mod json;
@@ -8,15 +10,11 @@ mod names;
 mod operators;
 
 use crate::Request;
-use crate::fault::{Outcome, Reason};
-use crate::plan::*;
-use crate::source::{Element, Form, Source};
-use crate::tokens::names_last;
-use element_type::{is_in_place, is_in_table, is_narrow};
-use layout::*;
+use crate::element::Element;
+pub use bits::bits_text;
+use element_type::write_element_type;
+use imports::imports_of;
 use std::alloc::{AllocError, Global};
-use std::collections::BTreeSet;
-use std::fmt::Display;
 
 /// What is written, unless memory ran out.
 type Written<T = ()> = Result<T, AllocError>;
@@ -25,14 +23,22 @@ type Text = Written<String>;
 
 /// An element type that is written: what it is, and where.
 #[derive(Clone, Copy)]
-struct Subject<'a, 'b> {
+struct Subject<'r, 's, 'a, 'b> {
     alloc: Global,
-    request: &'b Request<'b>,
+    crate_name: &'r str,
+    /// The names of the modules down to its own, with dots between them.
+    module: &'r str,
+    element: &'s Element<'a, 'b>,
     facade: &'a str,
     name: &'a str,
-    element: &'a Element<'a>,
-    /// The comments after the enum on its line, each after a space.
-    comments: &'a str,
+}
+
+/// The name by which the module of these element types cites the crate `enumset`.
+fn facade_of<'a>(elements: &[Element<'a, '_>]) -> &'a str {
+    match elements {
+        [first, ..] => first.declaration.options.facade(),
+        [] => "enumset",
+    }
 }
 
 /// The crate whose definitions the clauses of a module cite.
@@ -43,40 +49,27 @@ fn library_of(facade: &str) -> &'static str {
     }
 }
 
-/// The text of the module that a source stands for, or the fault of a name that the module needs itself.
-/// The imports stand where the first of the source stand, or after its head.
-pub fn module_text(alloc: Global, request: &Request, source: &Source) -> Outcome<String> {
-    let imports = imports::imports_of(alloc, source)?;
+/// The text of the module with these doc comments and element types.
+pub fn module_text(alloc: Global, request: &Request, docs: &[&str], elements: &[Element]) -> Text {
     let mut text = String::new(alloc);
-    for (index, item) in source.items.iter().enumerate() {
-        let lines = text.len().saturating_sub(text.trim_end_matches('\n').len());
-        let written = if text.is_empty() { 2 } else { lines };
-        text.push_str(item.gap.text().get(written..).unwrap_or(""))?;
-        let has_place = source.has_imports || imports.is_empty();
-        if index == source.head && !has_place {
-            write!(text, "{imports}\n\n")?;
-        }
-        match &item.form {
-            Form::Text(other) => text.push_str(other.as_str())?,
-            Form::Comment(_) => {}
-            Form::Import(import) => text.push_str(import.text.as_str())?,
-            Form::Imports => text.push_str(imports.as_str())?,
-            Form::Element(element) => {
-                let subject = Subject {
-                    alloc,
-                    request: &*request,
-                    facade: source.facade,
-                    name: element.declaration.name,
-                    element,
-                    comments: item.comments.as_str(),
-                };
-                element_type::write_element_type(&mut text, &subject)?;
-                continue;
-            }
-        }
-        text.push_str(item.comments.as_str())?;
+    for doc in docs {
+        write!(text, "{doc}\n")?;
     }
-    if !text.is_empty() {
+    if !docs.is_empty() && !elements.is_empty() {
+        text.push('\n')?;
+    }
+    text.push_str(imports_of(alloc, elements)?.as_str())?;
+    for element in elements {
+        let subject = Subject {
+            alloc,
+            crate_name: request.crate_name,
+            module: request.module.as_str(),
+            element,
+            facade: element.declaration.options.facade(),
+            name: element.declaration.name.text,
+        };
+        text.push('\n')?;
+        write_element_type(&mut text, &subject)?;
         text.push('\n')?;
     }
     Ok(text)

@@ -1,17 +1,16 @@
--- The text of the replies so far and of those to the commands that are left.
+-- The text of the replies so far, and of the replies to the remaining commands.
 use Rattle.std.proofs.Common.{◌≡◌, ℕ, List, [], ◌++◌, codes, Some, None, Result, Ok, Err, refl, ap, append_assoc, append-nil}
 use Rattle.std.specs.Result.{result_err}
+use Rattle.enumset_commands.specs.Lines.{before}
+use Rattle.enumset_commands.specs.Texts.{IsFaultOf, text, text_of}
 use Rattle.enumset_commands.specs.declared.reply.Reply.{Reply}
 use Rattle.enumset_commands.specs.declared.text_fault.TextFault.{TextFault}
 use Rattle.enumset_commands.specs.declared.text_fault.TextFault.TheVariants.{OutOfMemory}
-use Rattle.enumset_commands.specs.Texts.{IsFaultOf}
-use Rattle.enumset_commands.specs.Lines.{before}
-use Rattle.enumset_commands.specs.Texts.{text, text_of}
-use Rattle.enumset_machine.specs.States.{State, start}
-use Rattle.enumset_machine.specs.Plans.{Outcome, replies_by}
 use Rattle.enumset_machine.specs.Answers.{answer_by}
+use Rattle.enumset_machine.specs.Plans.{Outcome, replies_by}
+use Rattle.enumset_machine.specs.States.{State, start}
 
--- the answer where this text was written so far, a machine has this state, and these commands are left
+-- the answer, if this text has been written, a machine has this state, and these commands remain
 abbrev pub answer_after : {C : Type 0} → (State → C → Outcome) → State → List ℕ → Result (List C) TextFault → Result (List ℕ) TextFault
 answer_after outcome s written (Ok cs) = Ok (written ++ text (replies_by outcome s cs))
 answer_after outcome s written (Err fault) = Err fault
@@ -33,12 +32,12 @@ answer_after-before outcome s written c n (Err fault) = refl
 pub answer_after-end : {C : Type 0} (outcome : State → C → Outcome) (s : State) (written : List ℕ) → answer_after outcome s written (Ok []) ≡ Ok written
 answer_after-end outcome s written = ap Ok (append-nil written)
 
--- a command brings no fault
+-- a command adds no fault
 pub result_err-before : {C : Type 0} (c : C) (n : ℕ) (rest : Result (List C) TextFault) → result_err (before (Some c) n rest) ≡ result_err rest
 result_err-before c n (Ok ds) = refl
 result_err-before c n (Err fault) = refl
 
--- the fault of lines, and out of memory if they have none
+-- the fault of the lines, and out of memory if they have none
 pub IsFaultOf-own : {C : Type 0} (replies : List C → List Reply) (read : Result (List C) TextFault) (fault : TextFault) → Some fault ≡ result_err read → IsFaultOf (answer_by replies read) fault
 IsFaultOf-own replies (Ok cs) fault own = absurd (cc)
 IsFaultOf-own replies (Err other) fault own = cc

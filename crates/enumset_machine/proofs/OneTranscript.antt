@@ -1,14 +1,21 @@
 -- Commands within two widths have the same outcomes over both, and so the same replies.
 use Rattle.std.proofs.Common.{◌≡◌, ◌≤◌, ℕ, min, Bool, true, false, ◌&&◌, Option, Some, None, IsTrue, List, [], ◌∷◌, refl, ap, sym, ◌∙◌, arith}
-use Rattle.enumset_repr.specs.Laws.Common.{list_all, min-le_left, min-le_right, BitSet, contains, only, below, intersection, is_subset, bits, bits_of, members, is_subset_contains, intersection_within, is_subset_wider}
+use Rattle.std.proofs.Math.Nat.{min-le_left, min-le_right}
+use Rattle.std.specs.List.{list_all}
 use Rattle.enumset_commands.specs.declared.command.Command.{Command}
 use Rattle.enumset_commands.specs.declared.command.Command.TheVariants.{FromNumber, FromNumberCut, FromWords, FromWordsCut}
 use Rattle.enumset_commands.specs.declared.mixed_command.MixedCommand.{MixedCommand}
 use Rattle.enumset_commands.specs.declared.mixed_command.MixedCommand.TheVariants.{Common, InsertBit, FullComplement}
 use Rattle.enumset_commands.specs.declared.reply.Refusal.{Refusal}
-use Rattle.enumset_machine.specs.States.{State, start, put_set}
+use Rattle.enumset_repr.specs.BitSet.{BitSet, contains, only, below, intersection, is_subset}
+use Rattle.enumset_repr.specs.Laws.Algebra.{intersection_within}
+use Rattle.enumset_repr.specs.Laws.Members.{members, is_subset_contains}
+use Rattle.enumset_repr.specs.Laws.Widths.{is_subset_wider}
+use Rattle.enumset_repr.specs.Number.{bits}
+use Rattle.enumset_repr.specs.Words.{bits_of}
 use Rattle.enumset_machine.specs.Plans.{Rules, width_rules, Plan, refusal, outcome_unless, outcome_by, replies_by}
 use Rattle.enumset_machine.specs.Runs.{plan, mixed_plan, mixed_outcome, mixed_replies, is_within}
+use Rattle.enumset_machine.specs.States.{State, start, put_set}
 
 both : (a b : Bool) → (a && b) ≡ true → (a ≡ true) × (b ≡ true)
 both true b h = (refl, h)
@@ -17,7 +24,7 @@ both false b h = absurd (cc)
 bit_within : (bit n : ℕ) → is_subset (only bit) (below n) ≡ true → contains (below n) bit ≡ true
 bit_within bit n within = is_subset_contains (only bit) (below n) within bit (grind (arith, members))
 
--- plans that are refused alike, reply alike and leave the same state
+-- plans with the same refusal, the same reply and the same state afterwards
 unless_same : (refused : Option Refusal) (a b : Rules) (s : State) (p : Plan) → p.reply a s ≡ p.reply b s → p.after a s ≡ p.after b s → outcome_unless refused a s p ≡ outcome_unless refused b s p
 unless_same (Some refused) a b s p reply after = refl
 unless_same None a b s p reply after = cc

@@ -1,7 +1,7 @@
 -- The answer to an input: the text of the replies to the commands of its lines, or why there is none.
 --     commands_of      the commands of an input, or its fault
 --     answer_by      the answer, by the commands of an input and their replies
---     answer_to, mixed_answer_to      the answer to an input of commands;  to one of commands of mixed sets
+--     answer_to, mixed_answer_to      the answer to an input of commands, or of commands of mixed sets
 use Rattle.std.specs.Prelude.{ℕ, nat_lt, List, length, Option, Result, Ok, Err, if◌then◌else◌}
 use Rattle.enumset_repr.specs.BitSet.{BitSet}
 use Rattle.enumset_commands.specs.declared.reply.Reply.{Reply}
@@ -24,6 +24,6 @@ answer_by replies (Err fault) = Err fault
 abbrev pub answer_to : BitSet → List ℕ → Result (List ℕ) TextFault
 answer_to valid input = answer_by (replies valid) (commands_of command_of input)
 
--- over sets of bits below a width, of which some are valid
+-- over sets of bits below a width; some of them are valid
 abbrev pub mixed_answer_to : BitSet → ℕ → List ℕ → Result (List ℕ) TextFault
 mixed_answer_to valid width input = answer_by (mixed_replies valid width) (commands_of mixed_command_of input)

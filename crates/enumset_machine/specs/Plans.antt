@@ -1,17 +1,17 @@
--- What a command names, replies and leaves: its plan. What comes of a plan.
+-- Plans of commands: what a command names, what it replies, and the state that it leaves. The outcomes of plans.
 --     Rules      which bits the sets of a run may have, and how a step of an iterator replies
 --     valid_rules      the rules of a run whose sets have valid bits alone
 --     width_rules      the rules of a run whose sets have bits below a width
---     is_width      whether a number is the width of one of the integers that sets go to and come from
+--     is_width      whether a number is the width of an integer that sets are converted to and from
 --     Plan      what a command names, replies and leaves
 --     query, change, assignment, assignment_where, assignment_if_allowed, assignment_cut, iterator_plan      plans, by what the command does
---     with_bit, with_allowed_bit, with_any_bit, with_width, with_value      the same plan, which names a valid bit, one that a set may have, any bit, a width, or a value and its width too
+--     with_bit, with_allowed_bit, with_any_bit, with_width, with_value      the same plan, naming also a valid bit, a bit that a set may have, any bit, a width, or a value and its width
 --     reply_if_below      a reply, if each member of a set is below a number
 --     step_reply      the reply to a step of an iterator, by the bit that it gives
 --     takes_memory      whether a reply takes memory: it has words
 --     refusal      why a command is refused, if it is
 --     Outcome      a reply, and the state after it
---     outcome_unless, outcome_by      what comes of a plan, unless it is refused;  what comes of the plan of a command
+--     outcome_unless, outcome_by      the outcome of a plan, which may be refused;  the outcome of a command
 --     replies_by      the replies to a list of commands, from the outcome of each
 use Rattle.std.specs.Prelude.{ℕ, ◌^◌, Bool, true, false, not, ◌&&◌, nat_lt, List, [], ◌∷◌, Option, Some, None, if◌then◌else◌}
 use Rattle.std.specs.List.{list_all}
@@ -38,9 +38,9 @@ width_rules valid width =
 abbrev pub is_width : ℕ → Bool
 is_width w = is_in w (8 ∷ 16 ∷ 32 ∷ 64 ∷ 128 ∷ [])
 
--- whether the registers that a command names exist, whether its width does and its value fits that, and whether it may
--- name its bit; the bits that it names, or that its number or its words have; if nothing is refused, its reply and the
--- state that it leaves
+-- whether the registers of a command exist, whether its width exists and its value fits the width, and whether it may name
+-- its bit; the bits that it names, or that are in its number or its words; if it is not refused, its reply, and the state
+-- that it leaves
 pub record Plan : Type 0 where
   pub registers : Bool
   pub widths : Bool
@@ -67,11 +67,12 @@ abbrev pub assignment_where : (Rules → BitSet → Bool) → ℕ → List ℕ �
 assignment_where test to sets new =
     record (query (to ∷ sets) (λ rules s. if test rules (new s) then Done else Absent)) { after = λ rules s. if test rules (new s) then put_set s to (new s) else s }
 
--- these bits in a register, if a set may have each of them, else nothing changes; those of them that a set may have
+-- these bits in a register, if a set may have each of them, else nothing changes
 abbrev pub assignment_if_allowed : ℕ → BitSet → Plan
 assignment_if_allowed r new =
     record (assignment_where (λ rules s. is_subset s rules.allowed) r [] (λ s. new)) { input = new }
 
+-- the bits among these that a set may have, in a register
 abbrev pub assignment_cut : ℕ → BitSet → Plan
 assignment_cut r new = record (assignment r [] (λ rules s. intersection new rules.allowed)) { input = new }
 
@@ -80,7 +81,7 @@ abbrev pub iterator_plan : ℕ → List ℕ → (Rules → State → Reply) → 
 iterator_plan i sets reply after =
     record (query sets reply) { registers = is_iterator_register i && list_all is_set_register sets; after = after }
 
--- the same plan, which names a valid bit, a bit that a set may have, any bit, a width, or a value that has to fit a width
+-- the same plan, naming also a valid bit, a bit that a set may have, any bit, a width, or a value that must fit a width
 abbrev pub with_bit : ℕ → Plan → Plan
 with_bit bit plan = record plan { bits = λ rules. contains rules.valid bit; input = only bit }
 

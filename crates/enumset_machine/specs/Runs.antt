@@ -1,9 +1,9 @@
 -- What a list of commands replies, over finite sets of bit numbers alone.
 --     plan      the plan of each command: what it names, what it replies and what it leaves
---     outcome      what comes of a command, a refused one included
+--     outcome      the reply to a command, refused or not, and the state after it
 --     replies      the replies to a list of commands, from the start
---     mixed_plan, mixed_outcome, mixed_replies      the same of commands of mixed sets; a command of every run has the plan that it has there
---     is_within      whether a command names or has in a number or words only bits below a width, and is no full complement
+--     mixed_plan, mixed_outcome, mixed_replies      the same for commands of mixed sets; a command of every run has the same plan
+--     is_within      whether the bits of a command, also those in its number or its words, are below a width, and it is not a full complement
 use Rattle.std.specs.Prelude.{ℕ, ◌*◌, Bool, false, not, List, [], ◌∷◌, length}
 use Rattle.enumset_repr.specs.BitSet as set
 use Rattle.enumset_repr.specs.BitSet.{BitSet}
@@ -81,7 +81,7 @@ mixed_plan (Unknown r) = query (r ∷ []) (λ rules s. Truth (not (set.is_empty 
 mixed_plan (AsEnumset to a) = assignment_where (λ rules s. set.is_subset s rules.valid) to (a ∷ []) (λ s. set_at s a)
 mixed_plan (Truncate to a) = assignment to (a ∷ []) (λ rules s. set.intersection (set_at s a) rules.valid)
 
--- over sets of bits below a width, of which some are valid
+-- over sets of bits below a width; some of them are valid
 unfoldable pub mixed_outcome : BitSet → ℕ → State → MixedCommand → Outcome
 mixed_outcome valid width = outcome_by (width_rules valid width) mixed_plan
 

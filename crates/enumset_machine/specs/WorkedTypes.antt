@@ -1,7 +1,7 @@
 -- The worked types: their names, what commands are run over, and the answer to an input over each.
 --     names      the types by their names
 --     worked_of      the type of a name, byte by byte
---     over      what commands are run over: the bits of a type, and of its mixed sets the width of their representation
+--     over      what commands are run over: the bits of a type, and for mixed sets the width of their representation
 --     answer_by_width      the answer to an input over sets of valid bits, or over mixed sets of a width
 --     answer_over      the answer to an input over a worked type
 use Rattle.std.specs.Prelude.{ℕ, List, [], ◌∷◌, codes, Option, None, Some, Result}

@@ -1,28 +1,28 @@
-//! The commands of every run: why one is refused, and how it is carried out. Runs over sets have no others.
+//! The commands of every run: why one is refused, and how it is carried out. Runs over sets have only these.
 
 ghost use Rattle.std.specs.Prelude.{◌≡◌, ◌^◌, ◌&&◌, nat_lt, Some, None, if◌then◌else◌, true, false, IsOk, IfOk, OnOk, OnErr};
 ghost use Rattle.enumset_machine.specs.Plans.{is_width, refusal, takes_memory};
 ghost use Rattle.enumset_machine.specs.Runs.{plan};
 
-use crate::iterators::is_iterator_register;
-use crate::machine_over::MachineOver;
-use crate::numbers::{number_reply, words_cut_reply, words_reply};
-use crate::registers::{are_set_registers, is_set_register};
+use crate::machine::{
+    MachineOver, are_set_registers, is_iterator_register, is_set_register, number_reply,
+    words_cut_reply, words_reply,
+};
 use crate::run_set::RunSet;
-use crate::steps::Run;
+use crate::runs::Commands;
 use enumset_commands::Command::{self, *};
 use enumset_commands::Refusal::{self, NoRegister, NotABit, NotAWidth};
 use enumset_commands::Reply;
 use enumset_sets::{EnumSet, EnumSetType};
 use std::alloc::{AllocError, Global};
 
-impl<T: EnumSetType> Run for EnumSet<T> {
+impl<T: EnumSetType> Commands for EnumSet<T> {
     type Command = Command;
 
     ghost plan = { plan };
 
-    fn refusal(command: &Command) -> Option<Refusal> {
-        refusal::<EnumSet<T>>(command)
+    fn refusal_of(command: &Command) -> Option<Refusal> {
+        refusal_of_common::<EnumSet<T>>(command)
     }
 
     fn carry_out(
@@ -30,13 +30,13 @@ impl<T: EnumSetType> Run for EnumSet<T> {
         alloc: Global,
         command: &Command,
     ) -> Result<Reply, AllocError> {
-        carry_out(machine, alloc, command)
+        carry_out_common(machine, alloc, command)
     }
 }
 
 /// Why a command is refused, if it is.
 #[tactic(auto, unfolding(crate::specs::Runs::plan))]
-pub(crate) fn refusal<S: RunSet>(command: &Command) -> Option<Refusal>
+pub(crate) fn refusal_of_common<S: RunSet>(command: &Command) -> Option<Refusal>
     ensures { result ≡ refusal S.rules (plan command.now) }
 {
     match *command {
@@ -75,9 +75,9 @@ pub(crate) fn refusal<S: RunSet>(command: &Command) -> Option<Refusal>
     }
 }
 
-/// Carries out a command that is not refused, by the call of the set that stands for it.
+/// Carries out a command that is not refused, by the call of the set that the command names.
 #[tactic(auto, unfolding(crate::specs::Runs::plan))]
-pub(crate) fn carry_out<S: RunSet>(
+pub(crate) fn carry_out_common<S: RunSet>(
     machine: &mut MachineOver<S>,
     alloc: Global,
     command: &Command,
@@ -149,21 +149,21 @@ pub(crate) fn carry_out<S: RunSet>(
     })
 }
 
-/// The refusal, if the condition does not hold.
+/// This refusal, unless the condition holds.
 pub(crate) fn unless(holds: bool, refusal: Refusal) -> Option<Refusal>
     ensures { result ≡ (if holds then None else Some refusal) }
 {
     (!holds).then_some(refusal)
 }
 
-/// Whether a number is the width of one of the integers that sets go to and come from.
+/// Whether a number is the width of an integer that sets are converted to and from.
 fn is_width(width: u32) -> bool
     ensures { result ≡ is_width width }
 {
     matches!(width, 8 | 16 | 32 | 64 | 128)
 }
 
-/// Whether there is such a width, and a number is below 2 to the power of it.
+/// Whether this is such a width, and the value is below 2 to the power of the width.
 fn fits(width: u32, value: u128) -> bool
     ensures { result ≡ (is_width width && nat_lt value (2 ^ width)) }
 {

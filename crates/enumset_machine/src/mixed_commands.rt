@@ -1,4 +1,4 @@
-//! The commands of runs over mixed sets: those of every run, and those that mixed sets alone have.
+//! The commands of runs over mixed sets: the commands of every run, and those for mixed sets alone.
 
 ghost use Rattle.std.specs.Prelude.{◌≡◌, true, if◌then◌else◌};
 ghost use Rattle.enumset_repr.specs.BitSet.{contains, below, is_subset};
@@ -7,10 +7,9 @@ ghost use Rattle.enumset_commands.specs.declared.reply.Reply.TheVariants.{Done, 
 ghost use Rattle.enumset_machine.specs.States.{is_set_register, set_at, put_set};
 ghost use Rattle.enumset_machine.specs.Runs.{mixed_plan};
 
-use crate::commands::{carry_out, refusal, unless};
-use crate::machine_over::MachineOver;
-use crate::registers::{are_set_registers, is_set_register};
-use crate::steps::Run;
+use crate::commands::{carry_out_common, refusal_of_common, unless};
+use crate::machine::{MachineOver, are_set_registers, is_set_register};
+use crate::runs::Commands;
 use enumset_commands::MixedCommand::{self, *};
 use enumset_commands::Refusal::{self, NoRegister, NotABit};
 use enumset_commands::Reply;
@@ -19,15 +18,15 @@ use enumset_repr::EnumSetTypeRepr;
 use enumset_sets::{EnumSetType, EnumSetTypeWithRepr};
 use std::alloc::{AllocError, Global};
 
-impl<T: EnumSetTypeWithRepr> Run for MixedEnumSet<T> {
+impl<T: EnumSetTypeWithRepr> Commands for MixedEnumSet<T> {
     type Command = MixedCommand;
 
     ghost plan = { mixed_plan };
 
     #[tactic(auto, unfolding(crate::specs::Runs::mixed_plan))]
-    fn refusal(command: &MixedCommand) -> Option<Refusal> {
+    fn refusal_of(command: &MixedCommand) -> Option<Refusal> {
         match *command {
-            Common(ref command) => refusal::<MixedEnumSet<T>>(command),
+            Common(ref command) => refusal_of_common::<MixedEnumSet<T>>(command),
             HasBit { r, .. } | RemoveBit { r, .. } | ValidLen { r } | Unknown { r } => {
                 unless(is_set_register(r), NoRegister)
             }
@@ -47,7 +46,7 @@ impl<T: EnumSetTypeWithRepr> Run for MixedEnumSet<T> {
         command: &MixedCommand,
     ) -> Result<Reply, AllocError> {
         Ok(match *command {
-            Common(ref command) => carry_out(machine, alloc, command)?,
+            Common(ref command) => carry_out_common(machine, alloc, command)?,
             HasBit { r, bit } => Reply::Truth(machine.get(r).has_bit(bit)),
             InsertBit { r, bit } => {
                 let mut set = machine.get(r);

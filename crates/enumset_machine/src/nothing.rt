@@ -13,7 +13,8 @@ use std::fmt;
 
 /// Returns the answer of `serve_worked` over the sets of an enum without variants in a `u8`, or over its mixed sets.
 ///
-/// Nothing can call a function that takes a value of that enum, so only what stands in here can name it.
+/// The enum is inside the function, since the checker refuses functions that nothing can call, and nothing can make a
+/// value of this enum.
 #[tactic(auto, unfolding(enumset_sets::specs::Elements::valid_bits))]
 pub fn serve_nothing(alloc: Global, is_mixed: bool, input: &[u8]) -> Result<Vec<u8>, TextFault>
     ensures answer { IfOk result (λ out. answer_by_width (if is_mixed then Some 8 else None)

@@ -1,5 +1,8 @@
 //! The sets of a run.
 
+mod enum_set;
+mod mixed_enum_set;
+
 ghost use Rattle.std.specs.Prelude.{◌≡◌, ◌↔◌, ◌<◌, ◌*◌, ◌^◌, ℕ, List, not, length, true, IsTrue, IsSome, IfSome};
 ghost use Rattle.enumset_repr.specs.BitSet as set;
 ghost use Rattle.enumset_repr.specs.BitSet.{BitSet};
@@ -12,8 +15,8 @@ ghost use Rattle.enumset_machine.specs.Plans.{Rules, is_width};
 use enumset_commands::Reply;
 use std::cmp::Ordering;
 
-/// A set of a run, and the calls that its commands need, each named as the command or as the set's own call. They take the
-/// bit of an element in place of the element, so a run knows no element type.
+/// A set of a run, with the calls that commands need. They take the bit of an element instead of the element, so a run
+/// does not depend on an element type.
 pub trait RunSet: Copy {
     // The members' bits.
     ghost members: { Self → BitSet };
@@ -54,7 +57,7 @@ pub trait RunSet: Copy {
         ensures inserted { members self.new ≡ set.insert (members self.old) bit }
         ensures was_absent { result ≡ not (set.contains (members self.old) bit) };
 
-    /// Takes a valid bit out, and returns whether it was a member.
+    /// Removes a valid bit, and returns whether it was a member.
     fn remove(&mut self, bit: u32) -> bool
         requires { set.contains rules.valid bit ≡ true }
         ensures removed { members self.new ≡ set.remove (members self.old) bit }
@@ -65,7 +68,7 @@ pub trait RunSet: Copy {
         requires { set.contains rules.valid bit ≡ true }
         ensures { result ≡ set.contains (members self.now) bit };
 
-    /// Takes all members out.
+    /// Removes all members.
     fn clear(&mut self)
         ensures { members self.new ≡ set.empty };
 
@@ -81,7 +84,7 @@ pub trait RunSet: Copy {
     fn union(&self, other: Self) -> Self
         ensures { members result ≡ set.union (members self.now) (members other) };
 
-    /// Returns the members of both.
+    /// Returns the common members.
     fn intersection(&self, other: Self) -> Self
         ensures { members result ≡ set.intersection (members self.now) (members other) };
 
@@ -101,11 +104,11 @@ pub trait RunSet: Copy {
     fn insert_all(&mut self, other: Self)
         ensures { members self.new ≡ set.union (members self.old) (members other) };
 
-    /// Takes each member of the other set out.
+    /// Removes each member of the other set.
     fn remove_all(&mut self, other: Self)
         ensures { members self.new ≡ set.difference (members self.old) (members other) };
 
-    /// Returns whether the two have no common member.
+    /// Returns whether the two share no member.
     fn is_disjoint(&self, other: Self) -> bool
         ensures { result ≡ set.is_disjoint (members self.now) (members other) };
 
@@ -113,7 +116,7 @@ pub trait RunSet: Copy {
     fn is_superset(&self, other: Self) -> bool
         ensures { result ≡ set.is_subset (members other) (members self.now) };
 
-    /// Returns whether each member is one of the other set.
+    /// Returns whether each member is a member of the other set.
     fn is_subset(&self, other: Self) -> bool
         ensures { result ≡ set.is_subset (members self.now) (members other) };
 
@@ -169,7 +172,7 @@ pub trait RunSet: Copy {
     fn from_words_cut(words: &[u64]) -> Self
         ensures { members result ≡ set.intersection (bits_of words.now) rules.allowed };
 
-    /// Returns the members as they are now, ascending, from both ends.
+    /// Returns an iterator over the members as they are now, ascending, from both ends.
     fn items(&self) -> Self::Items
         ensures { rest result ≡ set.ascending (members self.now) };
 

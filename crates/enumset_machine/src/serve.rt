@@ -1,4 +1,4 @@
-//! Answers a text of commands by the text of their replies.
+//! Answers a text of commands with the text of their replies.
 
 ghost use Rattle.std.specs.Prelude.{◌≡◌, ◌++◌, codes, IfOk, IfErr, Ok, OnOk};
 ghost use Rattle.std.specs.String.{string_bytes};
@@ -9,8 +9,8 @@ ghost use Rattle.enumset_commands.specs.Lines.{commands_of_text};
 ghost use Rattle.enumset_commands.specs.Texts.{IsFaultOf, text_of};
 ghost use Rattle.enumset_sets.specs.Elements.{valid_bits};
 
-use crate::machine_over::MachineOver;
-use crate::steps::{Run, step};
+use crate::machine::MachineOver;
+use crate::runs::{Commands, reply_to};
 use enumset_commands::grammar::lines::Lines;
 use enumset_commands::grammar::tokens::Tokens;
 use enumset_commands::{LineCommand, TextFault, write_reply};
@@ -29,10 +29,10 @@ pub const INPUT_LIMIT: usize = 1_048_576;
 /// [`TextFault::OutOfMemory`].
 #[tactic(auto, unfolding(crate::specs::Runs::outcome))]
 pub fn serve_text<T: EnumSetType>(alloc: Global, input: &[u8]) -> Result<Vec<u8>, TextFault>
-    // The replies are those of finite sets of bit numbers.
+    // The replies are as over finite sets of bit numbers.
     ensures answer { IfOk result (λ out.
         answer_to (valid_bits T.elements) input.now ≡ Ok out.items) }
-    // A fault is the input's own if it has one, and else out of memory.
+    // If the input has a fault, it is reported, else out of memory.
     ensures fault { IfErr result (λ fault.
         IsFaultOf (answer_to (valid_bits T.elements) input.now) fault) }
 {
@@ -41,25 +41,25 @@ pub fn serve_text<T: EnumSetType>(alloc: Global, input: &[u8]) -> Result<Vec<u8>
 
 /// Returns the text of the replies to the commands of mixed sets of an input.
 ///
-/// The errors are those of [`serve_text`].
+/// The errors are as for [`serve_text`].
 #[tactic(auto, unfolding(crate::specs::Runs::mixed_outcome))]
 pub fn serve_mixed_text<T: EnumSetTypeWithRepr>(
     alloc: Global,
     input: &[u8],
 ) -> Result<Vec<u8>, TextFault>
-    // The replies are those of finite sets of bit numbers below the width of the representation.
+    // The replies are as over finite sets of bit numbers below the width of the representation.
     ensures answer { IfOk result (λ out.
         mixed_answer_to (valid_bits T.elements) T.Repr.WIDTH input.now ≡ Ok out.items) }
-    // A fault is the input's own if it has one, and else out of memory.
+    // If the input has a fault, it is reported, else out of memory.
     ensures fault { IfErr result (λ fault.
         IsFaultOf (mixed_answer_to (valid_bits T.elements) T.Repr.WIDTH input.now) fault) }
 {
     serve_over::<MixedEnumSet<T>>(alloc, input)
 }
 
-/// The text of the replies to the commands of an input over sets of one type, from empty registers. The errors are those
-/// of [`serve_text`].
-fn serve_over<S: Run>(alloc: Global, input: &[u8]) -> Result<Vec<u8>, TextFault>
+/// The text of the replies to the commands of an input over sets of one type, from empty registers, with the errors of
+/// [`serve_text`].
+fn serve_over<S: Commands>(alloc: Global, input: &[u8]) -> Result<Vec<u8>, TextFault>
 where
     S::Command: LineCommand,
     ensures answer { IfOk result (λ out. answer_by (replies_by (outcome_by S.rules S.plan) start)
@@ -76,7 +76,7 @@ where
 /// The same for an input of any length. Each command is read, carried out and answered before the next. If memory runs
 /// out, the remaining lines are still read, so an input with a line that is not a command is reported as such.
 #[tactic(auto, using(crate::proofs::Answered::line_steps))]
-fn answer_lines<S: Run>(alloc: Global, input: &[u8]) -> Result<Vec<u8>, TextFault>
+fn answer_lines<S: Commands>(alloc: Global, input: &[u8]) -> Result<Vec<u8>, TextFault>
 where
     S::Command: LineCommand,
     ensures answer { IfOk result (λ out. answer_by (replies_by (outcome_by S.rules S.plan) start)
@@ -108,7 +108,7 @@ where
 }
 
 /// Carries out one command, and writes its reply in a line.
-fn answer_command<S: Run>(
+fn answer_command<S: Commands>(
     alloc: Global,
     machine: &mut MachineOver<S>,
     command: S::Command,
@@ -121,6 +121,6 @@ where
     ensures text { OnOk result (string_bytes text.new ≡ string_bytes text.old
         ++ text_of (outcome_by S.rules S.plan machine.old command).reply ++ codes "\n") }
 {
-    let reply = step(machine, alloc, &command)?;
+    let reply = reply_to(machine, alloc, &command)?;
     write_reply(text, &reply)
 }

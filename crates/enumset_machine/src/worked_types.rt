@@ -51,9 +51,9 @@ pub fn worked_of_bytes(name: &[u8]) -> Option<Worked>
     })
 }
 
-/// Gives the answer over a worked type, by a table that has for each type its variant and that of its mixed sets.
-/// `wide` has no mixed sets, and `nothing` has a function of its own. A row names its type once, so none is taken for
-/// another whose sets give the same replies.
+/// The answer over a worked type. A row of the table is the variant for the sets of a type, and the variant for its mixed
+/// sets. It names the type once, so that no type is mistaken for another with the same replies. `wide` has no mixed sets,
+/// and `nothing` has a function of its own.
 macro_rules! over_worked_types {
     ($worked:ident, $alloc:ident, $input:ident: $($of_sets:ident $of_mixed_sets:ident;)+) => {
         match $worked {
@@ -70,7 +70,7 @@ macro_rules! over_worked_types {
 
 /// Returns the text of the replies to the commands of an input, over the sets of a worked type, or over its mixed sets.
 ///
-/// The errors are those of [`serve_text`].
+/// The errors are as for [`serve_text`].
 #[tactic(auto, unfolding(enumset_sets::specs::Elements::valid_bits))]
 pub fn serve_worked(alloc: Global, worked: Worked, input: &[u8]) -> Result<Vec<u8>, TextFault>
     ensures answer { IfOk result (λ out. answer_over worked input.now ≡ Ok out.items) }

@@ -1,6 +1,6 @@
--- The bits of a mixed set: valid ones, each of a variant, and unknown ones.
---     IsKept      what is true of the value of the representation: it is a value of its type, and it is the one that
---         represents its set
+-- The bits of a mixed set: valid bits, each the bit of a variant, and unknown bits.
+--     IsKept      what every `MixedEnumSet` guarantees about the value of its representation: it is a value of its
+--         type, and it is the one that represents its set
 --     valid_members, unknown_members      the members that are valid bits;  the members that are not
 --     bit_with_validity      the bit of an item of the iterator, paired with whether it is valid
 --     with_validity      the bits of a list, each paired with whether it is valid
@@ -13,14 +13,14 @@ pub record IsKept {R : Type 0} (members : R → BitSet) (of_members : BitSet →
   pub is_value : IsValue repr
   pub inverse : of_members (members repr) ≡ repr
 
--- in these two the first set is that of the valid bits
+-- the first set of these two is the set of the valid bits
 abbrev pub valid_members : BitSet → BitSet → BitSet
 valid_members valid s = intersection s valid
 
 abbrev pub unknown_members : BitSet → BitSet → BitSet
 unknown_members valid s = difference s valid
 
--- the bit of `Valid v` is that of v, and the bit of `Invalid b` is b
+-- the bit of `Valid v` is the bit of v, and the bit of `Invalid b` is b
 abbrev pub bit_with_validity : {T R I : Type 0} → (T → ℕ) → MixedValue T R I → ℕ × Bool
 bit_with_validity bit (Valid v) = (bit v, true)
 bit_with_validity bit (Invalid b) = (b, false)

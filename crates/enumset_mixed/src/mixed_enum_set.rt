@@ -11,7 +11,7 @@ use crate::conversions::convert_mixed;
 use crate::mixed_enum_set_iter::MixedEnumSetIter;
 use crate::mixed_value::{MixedValue, value_of};
 use enumset_repr::{EnumSetTypeRepr, are_same, greatest_bit, least_bit};
-use enumset_sets::representation::valid_repr;
+use enumset_sets::raw::valid_repr;
 use enumset_sets::text::write_separator;
 use enumset_sets::{EnumSet, EnumSetType, EnumSetTypeWithRepr};
 use std::alloc::AllocError;
@@ -19,7 +19,7 @@ use std::fmt;
 use std::marker::{Model, PhantomData};
 
 /// A set of elements that also keeps unknown bits, as a value of a representation. So a program can pass on what a
-/// newer peer sent, and loses nothing of it.
+/// newer peer sent without losing any of it.
 ///
 /// Calls with another set take a mixed set. In Rust they also take an element or an [`EnumSet`], as operators do here.
 ///
@@ -70,7 +70,7 @@ impl<T: EnumSetTypeWithRepr, R: EnumSetTypeRepr> Copy for MixedEnumSet<T, R> {}
 /// Sets are equal if they have the same members.
 impl<T: EnumSetTypeWithRepr> PartialEq for MixedEnumSet<T> {
     ghost use Rattle.enumset_repr.specs.BitSet.{is_same};
-    ghost use Rattle.enumset_repr.specs.Laws.Equality.{is_same-IsPartialEquivalence};
+    ghost use Rattle.enumset_repr.specs.Laws.Members.{is_same-IsPartialEquivalence};
 
     ghost eq = { is_same };
 
@@ -82,7 +82,7 @@ impl<T: EnumSetTypeWithRepr> PartialEq for MixedEnumSet<T> {
 }
 
 impl<T: EnumSetTypeWithRepr> Eq for MixedEnumSet<T> {
-    ghost use Rattle.enumset_repr.specs.Laws.Equality.{is_same-IsEquivalence};
+    ghost use Rattle.enumset_repr.specs.Laws.Members.{is_same-IsEquivalence};
 
     ghost laws = { is_same-IsEquivalence };
 }
@@ -100,7 +100,7 @@ impl<T: EnumSetTypeWithRepr> Default for MixedEnumSet<T> {
 }
 
 /// `MixedEnumSet(`, the `{:?}` texts of the members, ascending by bit and joined by ` | `, and `)`. The text of an
-/// unknown bit is its number in brackets, as `[3]`. No contract speaks of `{:?}`; tests do.
+/// unknown bit is its number in brackets, such as `[3]`. No contract speaks of `{:?}`; tests do.
 impl<T: EnumSetTypeWithRepr + fmt::Debug> fmt::Debug for MixedEnumSet<T> {
     fn fmt<W: fmt::Write>(&self, f: &mut fmt::Formatter<W>) -> fmt::Result {
         f.write_str("MixedEnumSet(")?;
@@ -119,7 +119,7 @@ impl<T: EnumSetTypeWithRepr> MixedEnumSet<T> {
     pub(crate) fn of_repr(repr: T::Repr) -> MixedEnumSet<T>
         ensures { result ≡ T.Repr.members repr }
     {
-        // What the type says of a set is about values alone.
+        // The invariant of the type speaks of values only.
         repr.learn_is_value();
         MixedEnumSet {
             repr,
@@ -251,8 +251,8 @@ impl<T: EnumSetTypeWithRepr> MixedEnumSet<T> {
     }
 
     /// Adds a bit, valid or not, and returns whether it was absent. The bit must be below the width of the
-    /// representation, `T::Repr::WIDTH`. In Rust's `enumset` the call for any other bit concerns another bit, overflows or
-    /// panics.
+    /// representation, `T::Repr::WIDTH`. In Rust's `enumset` the call for any other bit concerns another bit, overflows
+    /// or panics.
     pub fn insert_bit(&mut self, value: u32) -> bool
         requires { value < T.Repr.WIDTH }
         ensures inserted { self.new ≡ set.insert self.old value }
@@ -275,8 +275,8 @@ impl<T: EnumSetTypeWithRepr> MixedEnumSet<T> {
     }
 
     /// Removes a bit, valid or not, and returns whether it was present. A bit at or past the width of the
-    /// representation is never present, so the call returns false and the set stays as it was. In Rust's `enumset` the call
-    /// then concerns another bit, overflows or panics.
+    /// representation is never present, so the call returns false and the set stays as it was. In Rust's `enumset` the
+    /// call then concerns another bit, overflows or panics.
     #[tactic(auto, using(enumset_repr::specs::Laws::Algebra::remove_absent))]
     pub fn remove_bit(&mut self, value: u32) -> bool
         ensures removed { self.new ≡ set.remove self.old value }
@@ -358,7 +358,7 @@ impl<T: EnumSetTypeWithRepr> MixedEnumSet<T> {
 
     /// Returns all bits below the width of the representation that are not in the set, valid or not. Each member of the
     /// set is below the width, so the full complement of the full complement is the set itself.
-    /// [`complement`](MixedEnumSet::complement) has the elements alone.
+    /// [`complement`](MixedEnumSet::complement) has only the elements.
     pub fn full_complement(&self) -> MixedEnumSet<T>
         ensures complement { result ≡ set.difference (set.below T.Repr.WIDTH) self.now }
         ensures within { IsTrue (set.is_subset self.now (set.below T.Repr.WIDTH)) }

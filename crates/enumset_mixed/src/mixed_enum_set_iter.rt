@@ -18,8 +18,8 @@ use std::marker::Model;
 /// unknown one.
 ///
 /// It mirrors `MixedEnumSetIter` of Rust's `enumset`. Contracts see the list of the bits left, the count of asks, which
-/// are counted reads of a word, and the span: how many asks the iterator may still need beyond one for each member. So k
-/// steps, from either end, make at most k asks plus the span. Once one end has yielded `None`, both ends yield `None`
+/// are counted reads of a word, and the span: how many asks the iterator may still need beyond one for each member. So
+/// k steps, from either end, make at most k asks plus the span. Once one end has yielded `None`, both ends yield `None`
 /// from then on.
 pub struct MixedEnumSetIter<T: EnumSetType> {
     iter: <T::Repr as EnumSetTypeRepr>::Iter,

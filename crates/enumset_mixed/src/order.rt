@@ -1,4 +1,4 @@
-//! The order of mixed sets: that of their members' bits, valid and unknown, over every representation.
+//! The order of mixed sets: the order of their members' bits, valid and unknown, over every representation.
 
 ghost use Rattle.std.specs.Prelude.{Some, refl};
 ghost use Rattle.enumset_repr.specs.Order.{compare};
@@ -20,7 +20,8 @@ impl<T: EnumSetTypeWithRepr> PartialOrd for MixedEnumSet<T> {
 }
 
 /// Of two sets that differ, the greater is the one that has the greatest bit that is in exactly one of them. So it has
-/// the greater number, and a proper subset is less. Rust's mixed sets, which are over integers alone, compare so too.
+/// the greater number, and a proper subset is less. Rust's mixed sets, which are over integers only, compare the same
+/// way.
 impl<T: EnumSetTypeWithRepr> Ord for MixedEnumSet<T> {
     ghost cmp = { compare };
 

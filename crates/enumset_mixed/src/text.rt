@@ -13,7 +13,7 @@ use enumset_sets::text::write_separator;
 use enumset_sets::{EnumSetType, EnumSetTypeWithRepr};
 use std::fmt;
 
-/// The text of the element, or the number of the bit in brackets, as `[3]`.
+/// The text of the element, or the number of the bit in brackets, such as `[3]`.
 impl<T: EnumSetType + fmt::Display> fmt::Display for MixedValue<T> {
     ghost output = { item_text T.Display.output };
 
@@ -26,8 +26,8 @@ impl<T: EnumSetType + fmt::Display> fmt::Display for MixedValue<T> {
 }
 
 /// The texts of the members, ascending by bit and joined by ` | `. The text of an unknown bit is its number in
-/// brackets, as `[3]`. The empty set has the empty text. A contract knows the text if the element type lists the set's
-/// elements among its `values`, and their texts are known.
+/// brackets, such as `[3]`. The empty set has the empty text. A contract knows the text if the element type lists the
+/// set's elements among its `values`, and their texts are known.
 impl<T: EnumSetTypeWithRepr + fmt::Display> fmt::Display for MixedEnumSet<T> {
     ghost output = { λ s. joined_text
         (map (text_with_validity (text_at T.elements.bit T.values T.Display.output))

@@ -1,22 +1,33 @@
 -- The least and the greatest member of a set, by the words of the set.
 use Rattle.std.proofs.Common.{◌≡◌, ◌≢◌, ◌<◌, ◌≤◌, ℕ, ◌+◌, ◌-◌, ◌*◌, ◌/◌, ◌^◌, false, Some, None, sym, ap, ◌∙◌, ◌&&◌, inl, inr, true, arith, nat_lt}
-use Rattle.enumset_repr.specs.Laws.Common.{count_trailing_zeros, count_leading_zeros, cases_lt, nat_tests, BitSet, contains, empty, below, difference, is_subset, least, greatest, bits, word, least_is, least_empty, greatest_is, greatest_empty, members, same_set, contains_difference, contains_empty, contains_below, contains_past, contains_bits_shifted, least_bits, greatest_bits, by_word, contains_zero, contains_bits_word}
+use Rattle.std.proofs.lemmas.Bool.{cases_lt}
+use Rattle.std.proofs.lemmas.Bool.Decides.{nat_tests}
+use Rattle.std.specs.Int.Count.{count_trailing_zeros, count_leading_zeros}
+use Rattle.enumset_repr.specs.BitSet.{BitSet, contains, empty, below, difference, is_subset}
+use Rattle.enumset_repr.specs.Ends.{least, greatest}
+use Rattle.enumset_repr.specs.Laws.Ends.{least_is, least_empty, greatest_is, greatest_empty}
+use Rattle.enumset_repr.specs.Laws.Members.{members, same_set, contains_difference, contains_empty, contains_below, contains_past}
+use Rattle.enumset_repr.specs.Laws.Numbers.{contains_bits_shifted, least_bits, greatest_bits}
+use Rattle.enumset_repr.specs.Laws.WordLists.{by_word, contains_zero}
+use Rattle.enumset_repr.specs.Laws.Words.{contains_bits_word}
+use Rattle.enumset_repr.specs.Number.{bits}
+use Rattle.enumset_repr.specs.Words.{word}
 use Rattle.enumset_repr.proofs.ZeroWords.{NoneIn}
 
 module _ (s : BitSet) where
-  -- words that are 0 have no member
+  -- words that are 0 have no members
   pub no_member : (from to : ℕ) → NoneIn (word s) from to → (q : ℕ) → 64 * from ≤ q → q < 64 * to → contains s q ≡ false
   no_member from to none = by_word (λ q. 64 * from ≤ q → q < 64 * to → contains s q ≡ false) (λ w b small start end.
       let zero = contains_zero (word s w) b (none w (omega (arith, small, start)) (omega (arith, end))) in grind (arith, nat_tests, contains_bits_word s w b))
 
-  -- the bits of a word without its k lowest are the members from there to the end of the word
+  -- a word without its k lowest bits has the members from there to the end of the word
   shifted : (i k x q : ℕ) → x ≡ word s i / 2 ^ k → 64 * i + k ≤ q → contains (bits x) (q - (64 * i + k)) ≡ (contains s q && nat_lt q (64 * i + 64))
   shifted i k x q is past =
       let b : ℕ = q - (64 * i + k) in
       let e : 64 * i + (k + b) ≡ q = omega (arith, past) in
       ap (λ n. contains (bits n) b) is ∙ contains_bits_shifted (word s i) k b ∙ contains_bits_word s i (k + b) ∙ ap (λ p. contains s p && nat_lt (k + b) 64) e ∙ grind (arith, nat_tests)
 
-  -- the least member from a number on, if the first word there that is not 0 without its k lowest bits is x
+  -- the least member from a number on, where x is the first word that is not 0 once its k lowest bits are dropped
   pub least_at : (from start i k x : ℕ) → start ≡ 64 * i + k → from ≤ start → ((q : ℕ) → from ≤ q → q < start → contains s q ≡ false) → x ≡ word s i / 2 ^ k → x ≢ 0 → x < 2 ^ 64
       → Some (start + count_trailing_zeros 64 x) ≡ least (difference s (below from))
   least_at from start i k x place after none is some fits =
@@ -31,7 +42,7 @@ module _ (s : BitSet) where
       let here = shifted i k x q is in
       grind (arith, nat_tests, contains_difference s (below from) q, contains_below from q)))
 
-  -- a word that is 0 without its k lowest bits has no other members
+  -- a word that is 0 without its k lowest bits has no members from there on
   pub least_past : (i k x : ℕ) → k < 64 → x ≡ word s i / 2 ^ k → x ≡ 0 → difference s (below (64 * (i + 1))) ≡ difference s (below (64 * i + k))
   least_past i k x low is none = same_set _ _ (λ q.
       let here = shifted i k x q is in
@@ -56,7 +67,7 @@ module _ (s : BitSet) where
   greatest_none : ((q : ℕ) → contains s q ≡ false) → None ≡ greatest s
   greatest_none none = sym (ap greatest (same_set s empty (λ q. none q ∙ sym (contains_empty q))) ∙ greatest_empty)
 
-  -- words up to the last that are 0
+  -- where each word up to the last is 0
   module _ (width n : ℕ) (within : is_subset s (below width) ≡ true) (count : n ≡ (width + 63) / 64) where
     pub none_from : (from i : ℕ) → NoneIn (word s) from i → n ≤ i → (q : ℕ) → 64 * from ≤ q → contains s q ≡ false
     none_from from i none end q start = elim (cases_lt q (64 * n)) [

@@ -1,14 +1,13 @@
--- Finite sets of bit numbers. In contracts a value of a representation, an `EnumSet` and a register of a run are such
--- sets.
+-- Finite sets of bit numbers: in contracts, a value of a representation, an `EnumSet` and a register of a run.
 --     is_in      whether a number is in a list
 --     BitSet, coded_set      the sets;  their code, which a model's `Value` needs and no clause cites
 --     contains      whether a number is a member
 --     ascending, len      the list of the members, each once, ascending;  the number of members
 --     empty, insert, remove, retain, union, intersection, difference, symmetric_difference      as in Rust's `BTreeSet`
 --     only      the set of one number
---     is_empty      whether a set has no member
---     is_subset, is_disjoint, is_same      whether each member of the first set is one of the second;  whether none
---         is;  whether the two have the same members
+--     is_empty      whether a set has no members
+--     is_subset, is_disjoint, is_same      whether each member of the first set is a member of the second;
+--         whether none is;  whether the two have the same members
 --     below, low      the numbers below a number;  the members below it
 --     from_list, insert_each      the set of the numbers of a list;  a set with the numbers of a list inserted
 -- `Laws/Members.antt` and `Laws/Ascending.antt` have the laws: what `contains` returns for each of these sets, that two
@@ -79,15 +78,15 @@ difference s t = retain s (λ b. not (contains t b))
 unfoldable pub symmetric_difference : BitSet → BitSet → BitSet
 symmetric_difference s t = union (difference s t) (difference t s)
 
--- whether each member of s is one of t
+-- whether each member of s is a member of t
 unfoldable pub is_subset : BitSet → BitSet → Bool
 is_subset s t = list_all (contains t) (ascending s)
 
--- whether s has no member
+-- whether s has no members
 unfoldable pub is_empty : BitSet → Bool
 is_empty s = len s == 0
 
--- whether no member of s is one of t
+-- whether no member of s is a member of t
 unfoldable pub is_disjoint : BitSet → BitSet → Bool
 is_disjoint s t = list_all (λ b. not (contains t b)) (ascending s)
 

@@ -1,7 +1,7 @@
--- One test of an enum without fields, its bits and its constants. An element type that passes it has its laws
+-- One test of an enum without fields, its bits and its constants. An element type that passes it satisfies the laws
 -- (`Laws/Elements` of `enumset_sets`).
---     IsLawful, IsLawfulNumber, IsLawfulWords      the test, over any representation, an integer or words; if it fails,
---         it is a fault, whose name says what to mend
+--     IsLawful, IsLawfulNumber, IsLawfulWords      the test over any representation, over an integer, over words;
+--         where it fails, it is a fault, a type whose name says what to fix
 --     BitCountShouldBe, NamesABitTwice, BitWidthShouldBe, VariantCountShouldBe      the faults
 --     AllBitsShouldBe, AllBitsShouldBeWords      the faults of ALL_BITS, over an integer and over words
 --     one_past_all, or_else      one past the greatest number of a list;  a fault if a test fails, else what comes next
@@ -16,8 +16,7 @@ abbrev pub one_past_all : List ℕ → ℕ
 one_past_all [] = 0
 one_past_all (b ∷ bs) = max (suc b) (one_past_all bs)
 
--- What an element type may get wrong. These types have no values. Where a value of one is wanted, its name says what to
--- mend.
+-- What an element type may get wrong. These types have no values: where one is expected, its name says what to fix.
 pub data BitCountShouldBe (variants : ℕ) : Type 0 where
 
 pub data NamesABitTwice : Type 0 where
@@ -35,8 +34,8 @@ abbrev pub or_else : Bool → Type 0 → Type 0 → Type 0
 or_else true fault next = next
 or_else false fault next = fault
 
--- What comes next, once a number is known. It makes the checker find both numbers before it computes any of the test:
--- half computed, the test of a thousand words takes more memory than a check has.
+-- What comes next, once a number is known. The checker then finds both numbers before it computes any of the test: half
+-- computed, the test of a thousand words takes more memory than a check has.
 abbrev pub once_known : ℕ → Type 0 → Type 0
 once_known zero next = next
 once_known (suc n) next = next
@@ -56,11 +55,11 @@ abbrev pub IsLawfulNumber : (D : Declared) → List ℕ → ℕ → ℕ → ℕ 
 IsLawfulNumber D bs n width count =
     IsLawful D bs (sum_by (λ b. 2 ^ b) bs == n) (AllBitsShouldBe (sum_by (λ b. 2 ^ b) bs)) width count
 
--- as many words as ns has, with the bits that a list names
+-- words with the bits that a list names, as many words as ns has
 abbrev pub words_naming : List ℕ → List ℕ → List ℕ
 words_naming bs [] = []
 words_naming bs (n ∷ ns) = sum_by (λ b. 2 ^ b) (in_first_word bs) ∷ words_naming (in_later_words bs) ns
 
--- the same over words: the words of ALL_BITS have the bits of the list and no other
+-- the same over words: the words of ALL_BITS have the bits of the list and no others
 abbrev pub IsLawfulWords : (D : Declared) → List ℕ → List ℕ → ℕ → ℕ → Type 0
 IsLawfulWords D bs ns width count = IsLawful D bs (lists_words bs ns) (AllBitsShouldBeWords (words_naming bs ns)) width count

@@ -1,58 +1,40 @@
--- Laws of the definitions, each proved. Nothing here has to be believed: contracts cite the definitions alone. The laws
+-- Laws of the definitions, each proved. Nothing here has to be believed: contracts cite only the definitions. The laws
 -- are in specs/ so that representations, and the crates above, can cite them.
---     Base      names of std and of the definitions, passed on from one place to the files below
 --     Members      what `contains` returns for each set, subsets, and that sets with the same members are equal
+--     MemberRules      rules for a search: facts of sets, decided by their members
 --     Algebra      the algebra of sets, for users' proofs: order, grouping, De Morgan, inserting and removing
 --     Sets      one set inside and outside another: parts, complements, subsets by equations
 --     Ascending      the list of the members, and `len`
---     Equality      `is_same` is an equivalence
---     Numbers      sets and numbers, at every width
---     Ends      the least and the greatest member
---     Order      the order of two sets
---     Words      words of 64 bits
---     Low      sets cut at a width, and sets and numbers that fit one
---     WordLists      lists of words of 64 bits, and the words of a set
---     Filled      the loop that fills a representation with the words of a list
---     Listed      the set of a number, or of words, whose bits are listed
---     Steps      a step from an end of a list
---     Integers      an integer as a representation
---     Representations      the laws of a representation whose parts say themselves what they are, and that counts no asks
 --     Counting      how many members sets have
+--     CountRules      rules for a search: how many members
+--     Ends      the least and the greatest member, and steps from an end of a list
 --     Firsts      the first and the last member, and the list of a set that is written out
---     Ordering      the greater and the lesser of two sets
---     Places      where members stand in their order: chains and tests over a set's iterator
---     Found      what is found in a set: the least member that passes, the least, the greatest
---     Decided      facts of sets, decided by their members: the ruleset for the root of a crate
---     DecidedEnds      first and last members beside it
---     DecidedCounts      how many members beside it
---     Masks      numbers with bits masked out
---     Loops      the steps of a loop over a set's iterator
---     Common      names of all these, passed on from one place to proofs
-pub mod Base
+--     EndRules      rules for a search: the least and the greatest member, the list of the members, what `find` finds
+--     Iteration      chains and loops over a set's iterator, and the places of members in their order
+--     Order      the order of two sets, and the greater and the lesser of them
+--     Numbers      sets and numbers, at every width
+--     Widths      sets cut at a width, and sets and numbers that fit one
+--     Words      words of 64 bits
+--     WordLists      lists of words of 64 bits, and the words of a set
+--     BitLists      the set of a number, or of words, whose bits are listed
+--     Representations      the laws of a representation that states its parts as sets and lists, and counts no asks
+--     Integers      an integer as a representation, and numbers with bits masked out
 pub mod Members
+pub mod MemberRules
 pub mod Algebra
 pub mod Sets
 pub mod Ascending
-pub mod Equality
-pub mod Numbers
-pub mod Ends
-pub mod Order
-pub mod Steps
-pub mod Words
-pub mod Integers
-pub mod Listed
-pub mod Low
-pub mod WordLists
-pub mod Filled
-pub mod Representations
 pub mod Counting
+pub mod CountRules
+pub mod Ends
 pub mod Firsts
-pub mod Ordering
-pub mod Places
-pub mod Found
-pub mod Decided
-pub mod DecidedEnds
-pub mod DecidedCounts
-pub mod Masks
-pub mod Loops
-pub mod Common
+pub mod EndRules
+pub mod Iteration
+pub mod Order
+pub mod Numbers
+pub mod Widths
+pub mod Words
+pub mod WordLists
+pub mod BitLists
+pub mod Representations
+pub mod Integers

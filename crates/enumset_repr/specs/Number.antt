@@ -1,8 +1,8 @@
 -- Sets, and the numbers that represent them.
 --     number      the sum of 2 ^ b over the members b of a set
---     bits      the set that a number represents: the places of its ones in base two, the lowest 0
+--     bits      the set that a number represents: the places of its ones in base two, counted from 0
 --     is_distinct      whether no number is in a list twice
---     lists_bits      whether a list names each bit of a number once, and no other
+--     lists_bits      whether a list names each bit of a number once, and no other number
 use Rattle.std.specs.Prelude.{ℕ, ◌^◌, ◌==◌, Bool, true, not, ◌&&◌, List, [], ◌∷◌, sum_by}
 use Rattle.std.specs.Int.{bit_at}
 use Rattle.enumset_repr.specs.BitSet.{BitSet, is_in, below, retain, ascending}
@@ -19,6 +19,6 @@ abbrev pub is_distinct : List ℕ → Bool
 is_distinct [] = true
 is_distinct (b ∷ bs) = not (is_in b bs) && is_distinct bs
 
--- whether a list names each bit of a number once, and no other: their powers of two add up to the number
+-- whether a list names each bit of a number once, and no other number: their powers of two add up to the number
 abbrev pub lists_bits : List ℕ → ℕ → Bool
 lists_bits bs n = is_distinct bs && (sum_by (λ b. 2 ^ b) bs == n)

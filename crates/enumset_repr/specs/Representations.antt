@@ -1,11 +1,12 @@
 -- Laws of a representation, in three records.
---     IsRepresentation      the set of each value is below the width, and a value is the one that represents its set. `==`
---         and the order are those of the sets, and there are as many words as the width needs
+--     IsRepresentation      the set of each value is below the width, and a value is the one that represents its set.
+--         `==` and the order are the same as for the sets, and there are as many words as the width needs
 --     AreSetOperators      `&`, `|`, `^` and `!` may be applied to any values. They are intersection, union, symmetric
 --         difference, and the complement below the width
 --     IsListed      an iterator may step from either end at any time. A step yields the first or the last of the items
 --         left, a clone has the same items left, and no more items come than are left
--- `Laws/Representations.antt` proves them for types whose operators and iterators say so themselves.
+-- `Laws/Representations.antt` proves them for types whose contracts state the operators by sets and the iterators by
+-- lists.
 use Rattle.std.specs.Prelude.{◌≡◌, ℕ, ◌+◌, ◌/◌, ◌↔◌, Bool, IsTrue, List, Option}
 use Rattle.std.specs.declared.cmp.Ordering.{Ordering}
 use Rattle.std.specs.Iterator.{YieldsFirst, YieldsLast, item_count, Count}

@@ -2,8 +2,8 @@
 --     is_in_word      whether a bit is in word w: from 64 w to 64 w + 63
 --     word      word w of a set as a number: the sum of 2 ^ (b - 64 w) over the members b in it
 --     upward_shift      the set of b + k for each member b
---     with_word      a set with its word w replaced by a number below 2 ^ 64, without the bits that would then be at or
---         past a width
+--     with_word      a set with its word w replaced by a number below 2 ^ 64, without the bits at or past a width that
+--         the number would add
 --     words      the first n words of a set, the lowest first
 --     bits_of      the set that a list of words represents: 64 w + b for each place w and each bit b of the word there
 --     in_first_word, in_later_words      the numbers of a list below 64;  those from 64 on, each reduced by 64

@@ -38,7 +38,7 @@ impl Asks {
         }
     }
 
-    /// A count whose number may depend on that of another.
+    /// A count whose number may depend on the number of another.
     fn counted_from(other: &Asks) -> Asks
         ghost n: { ℕ }
         ensures { result ≡ n }

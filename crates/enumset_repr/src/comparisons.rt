@@ -12,7 +12,7 @@ use std::cmp::Ordering;
 pub fn are_same<R: EnumSetTypeRepr>(a: &R, b: &R) -> bool
     ensures { result ≡ set.is_same (R.members a.now) (R.members b.now) }
 {
-    // The laws of `==` and of the order are about values alone.
+    // The laws of `==` and of the order hold only for values of the type.
     a.learn_is_value();
     b.learn_is_value();
     a.eq(b)
@@ -23,7 +23,7 @@ pub fn are_same<R: EnumSetTypeRepr>(a: &R, b: &R) -> bool
 pub fn order_of<R: EnumSetTypeRepr>(a: &R, b: &R) -> Ordering
     ensures { result ≡ compare (R.members a.now) (R.members b.now) }
 {
-    // The laws of `==` and of the order are about values alone.
+    // The laws of `==` and of the order hold only for values of the type.
     a.learn_is_value();
     b.learn_is_value();
     a.cmp(b)

@@ -1,6 +1,6 @@
 //! The least and the greatest member of a set, over any representation. Rust's `enumset` has none of these calls.
 
-ghost use Rattle.std.specs.Prelude.{◌≡◌, ◌*◌};
+ghost use Rattle.std.specs.Prelude.{◌≡◌, ◌*◌, ◌<◌, ◌^◌, IsTrue};
 ghost use Rattle.enumset_repr.specs.BitSet as set;
 ghost use Rattle.enumset_repr.specs.Ends.{least, greatest};
 
@@ -17,9 +17,7 @@ pub fn least_bit<R: EnumSetTypeRepr>(repr: &R) -> Option<u32>
 pub fn least_bit_from<R: EnumSetTypeRepr>(repr: &R, from: u32) -> Option<u32>
     ensures { result ≡ least (set.difference (R.members repr.now) (set.below from)) }
 {
-    // That each member is below the width, which is a `u32`, is a law of values, here and below.
-    repr.learn_is_value();
-    let _width = R::WIDTH;
+    learn_members(repr);
     let place = (from / 64) as usize;
     let word = word_or_zero(repr, place) >> (from % 64);
     if word != 0 {
@@ -32,8 +30,7 @@ pub fn least_bit_from<R: EnumSetTypeRepr>(repr: &R, from: u32) -> Option<u32>
 pub fn greatest_bit<R: EnumSetTypeRepr>(repr: &R) -> Option<u32>
     ensures { result ≡ greatest (R.members repr.now) }
 {
-    repr.learn_is_value();
-    let _width = R::WIDTH;
+    learn_members(repr);
     let mut end = R::PREFERRED_ARRAY_LEN;
     // Zeros are passed sixteen words at a time, here and below.
     while end >= 16 && are_zero(repr, end - 16, end) {
@@ -53,8 +50,7 @@ pub fn greatest_bit<R: EnumSetTypeRepr>(repr: &R) -> Option<u32>
 fn least_bit_from_word<R: EnumSetTypeRepr>(repr: &R, from: usize) -> Option<u32>
     ensures { result ≡ least (set.difference (R.members repr.now) (set.below (64 * from))) }
 {
-    repr.learn_is_value();
-    let _width = R::WIDTH;
+    learn_members(repr);
     let len = R::PREFERRED_ARRAY_LEN;
     let mut left = len.saturating_sub(from);
     while left >= 16 && are_zero(repr, len - left, len - left + 16) {
@@ -67,4 +63,14 @@ fn least_bit_from_word<R: EnumSetTypeRepr>(repr: &R, from: usize) -> Option<u32>
         }
     }
     None
+}
+
+/// Tells the proof that each member is below the width, which is a `u32`. It does nothing at run time.
+#[inline]
+fn learn_members<R: EnumSetTypeRepr>(repr: &R)
+    ensures within { IsTrue (set.is_subset (R.members repr.now) (set.below R.WIDTH)) }
+    ensures width { R.WIDTH < 2 ^ 32 }
+{
+    repr.learn_is_value();
+    let _width = R::WIDTH;
 }

@@ -9,7 +9,7 @@
 //! - [`integers`]: `u8`, `u16`, `u32`, `u64` and `u128` as representations.
 //! - [`comparisons`]: whether two values represent one set, and how they compare.
 //! - [`laws`]: laws that a proof learns from a call.
-//! - [`asks`]: a count of asks, which are counted reads of a word, that takes no bytes.
+//! - [`asks`]: a count of asks (counted reads of a word) that takes no bytes.
 //!
 //! Contracts are about the finite sets of `specs/BitSet.antt`. `specs/Number.antt` says which set a number represents,
 //! `specs/Words.antt` what the words of 64 bits of a set are, `specs/Ends.antt` what its least and its greatest member

@@ -24,8 +24,9 @@ use std::ops::{BitAnd, BitOr, BitXor, Not};
 /// to and from arrays are functions of [`arrays`](crate::arrays), and the ends of a set are functions of
 /// [`ends`](crate::ends).
 ///
-/// The default bodies of calls with two sets build values. A representation of many words should have its own.
-#[tactic(auto, using(crate::specs::Laws::Low::cuts_to))]
+/// The default bodies of calls with two sets build values, and those of `or_changes`, `and_changes` and `and_not_changes`
+/// are two passes, a test and then the change. A representation of many words should have its own, of one pass each.
+#[tactic(auto, using(crate::specs::Laws::Widths::cuts_to))]
 pub trait EnumSetTypeRepr: Copy
     + Eq
     + Ord
@@ -175,7 +176,7 @@ pub trait EnumSetTypeRepr: Copy
     }
 
     /// Adds every member of `other`, in place, and returns whether one of them was absent.
-    final fn or_changes(&mut self, other: &Self) -> bool
+    fn or_changes(&mut self, other: &Self) -> bool
         ensures members { members self.new ≡ set.union (members self.old) (members other.now) }
         ensures value { is_value self.new }
         ensures changed { result ≡ not (set.is_subset (members other.now) (members self.old)) }
@@ -186,7 +187,7 @@ pub trait EnumSetTypeRepr: Copy
     }
 
     /// Removes every member that is not in `other`, in place, and returns whether there was one.
-    final fn and_changes(&mut self, other: &Self) -> bool
+    fn and_changes(&mut self, other: &Self) -> bool
         ensures members { members self.new ≡ set.intersection (members self.old) (members other.now) }
         ensures value { is_value self.new }
         ensures changed { result ≡ not (set.is_subset (members self.old) (members other.now)) }
@@ -197,7 +198,7 @@ pub trait EnumSetTypeRepr: Copy
     }
 
     /// Removes every member of `other`, in place, and returns whether one of them was present.
-    final fn and_not_changes(&mut self, other: &Self) -> bool
+    fn and_not_changes(&mut self, other: &Self) -> bool
         ensures members { members self.new ≡ set.difference (members self.old) (members other.now) }
         ensures value { is_value self.new }
         ensures changed { result ≡ not (set.is_disjoint (members self.old) (members other.now)) }

@@ -1,8 +1,8 @@
--- The argument of the program, and its faults: their texts and exit statuses, and where they may come.
+-- The argument of the program, and its faults: their texts, their exit statuses, and when they may be reported.
 --     program_fault_text, status_of      the text and the exit status of a fault of the program
---     type_of_arguments      the type that the arguments name, by what looking up the first and the second found
---     IsFaultOver      the program may fail so, over an input whose answer is given
---     AppendsFrontOf      what a writer holds grows by a front part of a text
+--     type_of_arguments      the type that the arguments name, from what was found of the first and of the second
+--     IsFaultOver      whether the program may report a fault, over an input with this answer
+--     AppendsFrontOf      the contents of a writer grow by a front part of a text
 use Rattle.std.specs.Prelude.{◌≢◌, ℕ, List, [], take, codes, Option, Result, Ok, Err, ok_or, IsOkAnd, ⊤}
 use Rattle.std.specs.Io.KnownBytes.{Appends}
 use Rattle.std.specs.declared.env.FillError.{FillError}
@@ -29,8 +29,8 @@ status_of Reading = 1
 status_of Writing = 1
 status_of other = 2
 
--- Reading may fail over any input, memory may be refused where there are replies, and writing may fail where
--- there is something to write. Else the fault is the input's own.
+-- Reading may fail over any input, memory may be refused if there are replies, and writing may fail if there is something
+-- to write. Any other fault is the fault of the input.
 abbrev pub IsFaultOver : Result (List ℕ) TextFault → ProgramFault → Type 0
 IsFaultOver answer (Text fault) = IsFaultOf answer fault
 IsFaultOver answer Reading = ⊤

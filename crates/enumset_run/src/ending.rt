@@ -19,7 +19,7 @@ pub fn report<W: Write>(answered: &Result<(), ProgramFault>, writer: &mut W) -> 
     }
 }
 
-/// The exit status of a run: 0 if it succeeded, else that of its fault.
+/// The exit status of a run: 0 if it succeeded, else the status of its fault.
 pub fn exit_status(answered: &Result<(), ProgramFault>) -> u8
     ensures ok { OnOk answered.now (result ≡ 0) }
     ensures fault { IfErr answered.now (λ fault. result ≡ status_of fault) }

@@ -21,7 +21,7 @@ const NAME_LIMIT: usize = 64;
 /// The most bytes of an input that are read: one more than it may have, which shows that it is too long.
 const READ_LIMIT: usize = INPUT_LIMIT + 1;
 
-/// The room for an input. What is left of it lets the end be seen without more room.
+/// The room for an input. It is larger than an input, so that the end can be seen without more room.
 pub(crate) const ROOM: usize = READ_LIMIT + 1;
 
 /// Tests the argument, reads the input, and writes the answer once.
@@ -51,8 +51,8 @@ fn names_fit()
     ensures { list_all (λ row. nat_lt (length row.0) (NAME_LIMIT + 1)) names ≡ true }
 {}
 
-/// The type that the arguments name, by what looking up the first and the second found. `name` begins with the bytes
-/// of the first.
+/// The type that the arguments name, from what was found of the first and of the second. `name` begins with the bytes of
+/// the first.
 fn type_of_arguments(
     first: Result<usize, FillError>,
     name: &[u8],
@@ -80,8 +80,8 @@ pub(crate) fn answer_input<R: Read + Drop, W: Write>(
 ) -> Result<(), ProgramFault>
     requires empty { room.items ≡ [] }
     requires room { READ_LIMIT ≤ vec_capacity room }
-    // Where the bytes of the reader are known, the writer gets the answer to them, and a fault is one that
-    // they may have.
+    // If the bytes of the reader are known, the writer gets the answer to them, and a fault is one that they may
+    // have.
     ensures answer { OnOk result (IfSome (R.remaining reader) (λ input.
         IsOkAnd (answer_over worked input)
         (Appends (W.contents writer.old) (W.contents writer.new)))) }
@@ -100,8 +100,8 @@ pub(crate) fn answer_input<R: Read + Drop, W: Write>(
     Ok(())
 }
 
-/// The bytes of a reader until its end, or until there is one too many, in an empty vector that has room for
-/// them. A read that was interrupted is tried again.
+/// The bytes of a reader until its end, or until there is one too many, in this empty vector, which has room for them. A
+/// read that was interrupted is tried again.
 fn read_input<R: Read + Drop>(room: Vec<u8>, reader: R) -> Result<Vec<u8>, ProgramFault>
     requires empty { room.items ≡ [] }
     requires room { READ_LIMIT ≤ vec_capacity room }
@@ -117,7 +117,7 @@ fn read_input<R: Read + Drop>(room: Vec<u8>, reader: R) -> Result<Vec<u8>, Progr
     }
 }
 
-/// Writes an answer, of which an empty one needs no writing. A write that was interrupted is tried again.
+/// Writes an answer; an empty one needs no call. A write that was interrupted is tried again.
 fn write_output<W: Write>(writer: &mut W, output: &[u8]) -> Result<(), ProgramFault>
     ensures written { OnOk result
         (Appends (W.contents writer.old) (W.contents writer.new) output.now) }

@@ -1,6 +1,12 @@
 -- The least and the greatest member of a set of valid bits, and the set without it.
 use Rattle.std.proofs.Common.{◌≡◌, ◌<◌, ℕ, true, ◌∷◌, [], ◌++◌, Some, None, sym, ap, ◌∙◌, length, arith}
-use Rattle.enumset_repr.specs.Laws.Common.{nat_tests, BitSet, is_in, contains, ascending, empty, insert, remove, len, is_subset, difference, below, least, greatest, insert_remove, toggled, len_ascending, empty_of_ascending, least_facts, greatest_facts, ascending_least, ascending_greatest, fewer_greatest, ascending_no_least, ascending_no_greatest, members, subsets, is_subset_contains, difference_is_subset}
+use Rattle.std.proofs.lemmas.Bool.Decides.{nat_tests}
+use Rattle.enumset_repr.specs.BitSet.{BitSet, is_in, contains, ascending, empty, insert, remove, len, is_subset, difference, below}
+use Rattle.enumset_repr.specs.Ends.{least, greatest}
+use Rattle.enumset_repr.specs.Laws.Algebra.{insert_remove, toggled}
+use Rattle.enumset_repr.specs.Laws.Ascending.{len_ascending, empty_of_ascending}
+use Rattle.enumset_repr.specs.Laws.Ends.{least_facts, greatest_facts, ascending_least, ascending_greatest, fewer_greatest, ascending_no_least, ascending_no_greatest}
+use Rattle.enumset_repr.specs.Laws.Members.{members, subsets, is_subset_contains, difference_is_subset}
 use Rattle.enumset_sets.specs.Elements.{Elements, valid_bits}
 use Rattle.enumset_sets.specs.Laws.Elements.{is_valid_bit}
 
@@ -41,7 +47,7 @@ module _ (s : BitSet) (b : ℕ) where
 pub least_from_valid : {T : Type 0} (s : BitSet) (b : ℕ) (elements : Elements T) (from : ℕ) → is_subset s (valid_bits elements) ≡ true → Some b ≡ least (difference s (below from)) → is_in b elements.bit_list ≡ true
 least_from_valid s b elements from sub = least_valid (difference s (below from)) b elements (difference_is_subset _ s (below from) sub)
 
--- what the calls of the ends need to name an element, and what `toggle` needs
+-- what `first`, `last` and the like need to name an element, and what `toggle` needs
 pub ruleset valid_ends = (subsets, least_valid, least_from_valid, greatest_valid)
 
 pub ruleset toggles = (members, nat_tests, toggled)

@@ -1,3 +1,3 @@
 pub mod Lists
 pub mod EndMembers
-pub mod Retained
+pub mod Retain

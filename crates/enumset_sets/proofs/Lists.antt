@@ -1,9 +1,11 @@
 -- Numbers in a list.
---     not_none      a number in a list is not different from all of its numbers
---     is_in-later      a number in two lists that is not in the first is in the second
---     below_range      a number among n neighbours from a on is below a + n
+--     not_none      a number in a list is not `IsNoneOf` the list
+--     is_in-later      a number in two lists joined that is not in the first is in the second
+--     below_range      a number among the n numbers from a on is below a + n
 use Rattle.std.proofs.Common.{◌≡◌, ◌<◌, ℕ, suc, zero, ◌+◌, true, List, [], ◌∷◌, ◌++◌, sym, arith, true≢false}
-use Rattle.enumset_repr.specs.Laws.Common.{range_with_len, nat_tests, is_in}
+use Rattle.std.proofs.lemmas.Bool.Decides.{nat_tests}
+use Rattle.std.specs.List.{range_with_len}
+use Rattle.enumset_repr.specs.BitSet.{is_in}
 use Rattle.enumset_sets.specs.Variants.{IsNoneOf}
 
 pub not_none : (q : ℕ) (bs : List ℕ) → is_in q bs ≡ true → IsNoneOf q bs → ⊥

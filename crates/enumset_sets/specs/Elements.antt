@@ -1,17 +1,17 @@
--- What an element type says of its values and their bits, with its laws.
+-- What an element type says about its values and their bits, with its laws.
 --     Elements      the bit of each value, and the list of the variants' bits
 --     valid_bits      the set of the variants' bits
---     listed_bit, place      the bit of a variant of an enum without fields: the one at its place in a list;  its place
+--     listed_bit, place      the bit of a variant of an enum without fields: the one at the variant's place in a list;
+--         that place itself
 --     with_bits, in_place      the elements of an enum with these bits
---     in_order      as in_place, with the list 0, 1, 2 and so on
+--     in_order      the same elements as `in_place`, with the list 0, 1, 2 and so on
 --     one_past      one past a number, or 0 if there is none
 --     one_past_greatest      one past the greatest member, or 0 for the empty set
 --     IsElementType      the laws of an element type
 --     AreBitsOf      each number of a list is in the list of the variants' bits
--- Of the words for enums, which the kit's logic defines, `tag_of D v` is the place of v's variant in the declaration,
--- counted from 0, and `rowss D.parts` lists the variants.
--- A search does not open `valid_bits`, `listed_bit` and `place`: it would try each bit of the list, and each variant that
--- a variable can be. `Laws/Elements.antt` has their laws.
+-- The toolchain's logic defines `tag_of D v`, the place of v's variant in the declaration, counted from 0, and
+-- `rowss D.parts`, the list of the variants. A search does not unfold `valid_bits`, `listed_bit` and `place`: it would
+-- try each bit of the list, and each variant that a variable can be. `Laws/Elements.antt` has their laws.
 use Rattle.std.specs.Prelude.{◌≡◌, ◌↔◌, ℕ, suc, Bool, List, Option, Some, None, length, slice_index, IsTrue}
 use Rattle.std.specs.List.{list_all, range_with_len}
 use denote.Enum.Declared.{Declared, rowss, tag_of}
@@ -57,12 +57,12 @@ one_past_greatest s = one_past (greatest s)
 -- The laws of an element type with these elements and this `==`. `all` is the set of ALL_BITS, `width` is BIT_WIDTH and
 -- `count` is VARIANT_COUNT.
 pub record IsElementType {T : Type 0} (elements : Elements T) (eq : T → T → Bool) (all : BitSet) (width count : ℕ) : Type 0 where
-  -- the members of ALL_BITS are the numbers of the list, which has each once
+  -- the members of ALL_BITS are the numbers of the list, and none is in the list twice
   pub valid : all ≡ valid_bits elements
   pub distinct : IsTrue (is_distinct elements.bit_list)
   -- each value's bit is valid
   pub bit_is_valid : (v : T) → IsTrue (contains all (elements.bit v))
-  -- two values with the same bit are one, and `==` is true exactly if the bits are the same
+  -- two values with the same bit are equal, and `==` is true exactly if the bits are the same
   pub bit_tells : (v w : T) → elements.bit v ≡ elements.bit w → v ≡ w
   pub eq_tells : (v w : T) → IsTrue (eq v w) ↔ (elements.bit v ≡ elements.bit w)
   -- the width is one past the greatest valid bit, and the count is the number of valid bits

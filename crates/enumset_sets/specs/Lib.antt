@@ -1,8 +1,8 @@
 pub mod Elements
 pub mod Folds
-pub mod Held
+pub mod SetInvariant
 pub mod Laws
-pub mod Retained
+pub mod Retain
 pub mod Sets
 pub mod Texts
 pub mod Variants

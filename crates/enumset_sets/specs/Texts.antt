@@ -1,9 +1,9 @@
 -- The text of a set, from the texts of its elements.
 --     value_of      the value in a list that has a bit, if there is one
---     text_at      the text of a bit: that of the value in a list that has it
+--     text_at      the text of a bit: the text of the value in a list that has this bit
 --     separator      what is written before a member: nothing before the first, ` | ` before the others
 --     joined_text      the texts of a list, joined by ` | `
--- A text that is not known is `None`, and so is each text that it is part of.
+-- A text that is not known is `None`, and so is each text that contains it.
 use Rattle.std.specs.Prelude.{ℕ, Bool, if◌then◌else◌, ◌==◌, List, [], ◌∷◌, Option, Some, None, codes}
 use Rattle.std.specs.Option.{option_and_then}
 use Rattle.std.specs.Fmt.{option_append}

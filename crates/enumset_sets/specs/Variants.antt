@@ -1,5 +1,5 @@
 -- What a match over bits knows if no arm was taken.
---     IsNoneOf      a number is none of those in a list
+--     IsNoneOf      a number is not in a list
 use Rattle.std.specs.Prelude.{◌≡◌, ℕ, List, [], ◌∷◌}
 
 abbrev pub IsNoneOf : ℕ → List ℕ → Type 0

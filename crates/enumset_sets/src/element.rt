@@ -18,7 +18,7 @@ pub trait EnumSetType: Copy + Eq {
     ghost elements: { Elements Self };
 
     // The values, in any order. If they are listed and their texts are known, so are the texts of sets. Without the
-    // list, the text of the empty set alone is known.
+    // list, only the text of the empty set is known.
     ghost values: { List Self } = { [] };
 
     ghost ALL_BITS: { Self.Repr };

@@ -8,11 +8,11 @@ ghost use Rattle.enumset_repr.specs.BitSet as set;
 ghost use Rattle.enumset_repr.specs.Ends.{least, greatest};
 ghost use Rattle.enumset_repr.specs.Number.{bits};
 ghost use Rattle.enumset_sets.specs.Elements.{one_past_greatest, valid_bits};
-ghost use Rattle.enumset_sets.specs.Retained.{IsConstantTest, IsTest, Retains, RetainsTo};
+ghost use Rattle.enumset_sets.specs.Retain.{IsConstantTest, IsTest, Retains, RetainsTo};
 
 use crate::element::EnumSetType;
 use crate::enum_set_iter::EnumSetIter;
-use crate::representation::valid_repr;
+use crate::raw::{learn_valid_bits, valid_repr};
 use crate::text::write_separator;
 use enumset_repr::{EnumSetTypeRepr, are_same, greatest_bit, least_bit, least_bit_from};
 use std::alloc::AllocError;
@@ -68,7 +68,7 @@ pub struct EnumSet<T: EnumSetType, R: EnumSetTypeRepr = <T as EnumSetType>::Repr
 impl<T: EnumSetType, R: EnumSetTypeRepr> Model for EnumSet<T, R> {
     ghost use Rattle.enumset_repr.specs.BitSet.{BitSet, coded_set};
     ghost use Rattle.enumset_sets.specs.Elements.{valid_bits};
-    ghost use Rattle.enumset_sets.specs.Held.{IsHeld};
+    ghost use Rattle.enumset_sets.specs.SetInvariant.{IsHeld};
 
     ghost Value = { BitSet };
 
@@ -105,7 +105,7 @@ impl<T: EnumSetType, R: EnumSetTypeRepr> Copy for EnumSet<T, R> {}
 /// Sets are equal if they have the same members.
 impl<T: EnumSetType> PartialEq for EnumSet<T> {
     ghost use Rattle.enumset_repr.specs.BitSet.{is_same};
-    ghost use Rattle.enumset_repr.specs.Laws.Equality.{is_same-IsPartialEquivalence};
+    ghost use Rattle.enumset_repr.specs.Laws.Members.{is_same-IsPartialEquivalence};
 
     ghost eq = { is_same };
 
@@ -117,7 +117,7 @@ impl<T: EnumSetType> PartialEq for EnumSet<T> {
 }
 
 impl<T: EnumSetType> Eq for EnumSet<T> {
-    ghost use Rattle.enumset_repr.specs.Laws.Equality.{is_same-IsEquivalence};
+    ghost use Rattle.enumset_repr.specs.Laws.Members.{is_same-IsEquivalence};
 
     ghost laws = { is_same-IsEquivalence };
 }
@@ -149,19 +149,32 @@ impl<T: EnumSetType + fmt::Debug> fmt::Debug for EnumSet<T> {
     }
 }
 
-#[tactic(auto, using(enumset_repr::specs::Laws::Decided::decided))]
+#[tactic(auto, using(enumset_repr::specs::Laws::MemberRules::decided))]
 impl<T: EnumSetType> EnumSet<T> {
     /// The set that a value represents.
     pub(crate) fn of_repr(repr: T::Repr) -> EnumSet<T>
         requires { IsTrue (set.is_subset (T.Repr.members repr) (valid_bits T.elements)) }
         ensures { result ≡ T.Repr.members repr }
     {
-        // What the type says of a set is about values alone.
+        // The invariant of the type speaks of values only.
         repr.learn_is_value();
         EnumSet {
             repr,
             of: PhantomData,
         }
+    }
+
+    /// Tells the proof that the members are valid bits, and that these are below the width, which is a `u32`. It does
+    /// nothing at run time.
+    #[inline]
+    pub(crate) fn learn_members(&self)
+        ensures valid { IsTrue (set.is_subset self.now (valid_bits T.elements)) }
+        ensures within { IsTrue (set.is_subset (valid_bits T.elements) (set.below T.Repr.WIDTH)) }
+        ensures width { T.Repr.WIDTH < 2 ^ 32 }
+    {
+        learn_valid_bits::<T>();
+        // The proof learns the invariant of the type from a read.
+        let _held = self.repr;
     }
 
     /// Returns the empty set.
@@ -214,8 +227,7 @@ impl<T: EnumSetType> EnumSet<T> {
         ensures valid { IsTrue (set.contains (valid_bits T.elements) result) }
         ensures within { result < T.Repr.WIDTH }
     {
-        // The contract of `valid_repr` alone says that the valid bits are below the width.
-        let _all = valid_repr::<T>();
+        learn_valid_bits::<T>();
         t.enum_into_u32()
     }
 
@@ -380,8 +392,7 @@ impl<T: EnumSetType> EnumSet<T> {
             (λ run. ItemsMapTo run T.elements.bit run.from.items) }
         ensures fits { length result.items < 2 ^ 32 }
     {
-        let _all = valid_repr::<T>();
-        let _width = T::Repr::WIDTH;
+        self.learn_members();
         EnumSetIter::over(self.repr)
     }
 
@@ -403,11 +414,10 @@ impl<T: EnumSetType> EnumSet<T> {
             (λ q. nat_le (T.elements.bit from) q && nat_le q (T.elements.bit to)) }
     {
         let (first, last) = (Self::bit_index(from), Self::bit_index(to));
-        // Bits are below the width, which is a `u32`.
-        let _width = T::Repr::WIDTH;
+        learn_valid_bits::<T>();
         let all = valid_repr::<T>();
         let mut range = T::Repr::EMPTY;
-        // No word is past the last one: so the compiler sees that an integer has one word.
+        // The limit lets the compiler see that an integer has one word.
         let end = (last as usize / 64 + 1).min(T::Repr::PREFERRED_ARRAY_LEN);
         for i in first as usize / 64..end {
             let start = 64 * i as u32;
@@ -539,14 +549,14 @@ impl<T: EnumSetType> EnumSet<T> {
         Some(T::enum_from_u32(bit))
     }
 
-    /// Removes each element for which `keep` returns false. It is called once for each, ascending by bit. What is left is
-    /// a part of the set, whatever `keep` does. If `keep` tests only the bit, exactly the elements whose bits pass stay.
-    /// The test may also read what `keep` captured, if no call changes it.
+    /// Removes each element for which `keep` returns false. It is called once for each, ascending by bit. What is left
+    /// is a part of the set, whatever `keep` does. If `keep` tests only the bit, exactly the elements whose bits pass
+    /// stay. The test may also read what `keep` captured, if no call changes it.
     ///
-    /// No clause says what the calls leave in a variable that `keep` borrows and changes, like a count of its calls: the
-    /// variable has some value then. To count the removed elements, compare `len` before and after.
+    /// No clause says what the calls leave in a variable that `keep` borrows and changes, like a count of its calls:
+    /// the variable has some value then. To count the removed elements, compare `len` before and after.
     ///
-    /// Rust's `enumset` has no such call; `BTreeSet::retain` is its model.
+    /// Its model is `BTreeSet::retain`.
     pub fn retain<F: FnMut(T) -> bool>(&mut self, keep: F)
         requires { F.IsAlwaysCallable keep }
         ensures calls { Retains T.elements.bit F.FnMut keep self.old self.new }
@@ -559,8 +569,8 @@ impl<T: EnumSetType> EnumSet<T> {
         self.retain_by(&mut keep_each);
     }
 
-    /// Makes the calls of [`retain`](EnumSet::retain). It takes the closure by reference, so that its clause can tell what
-    /// they make of the closure: one call for each element, and no more.
+    /// Makes the calls of [`retain`](EnumSet::retain). It takes the closure by reference, so that its clause can tell
+    /// what they make of the closure: one call for each element, and no more.
     fn retain_by<F: FnMut(T) -> bool>(&mut self, keep: &mut F)
         requires { F.IsAlwaysCallable keep.old }
         ensures { RetainsTo T.elements.bit F.FnMut keep.old keep.new self.old self.new }
@@ -573,7 +583,7 @@ impl<T: EnumSetType> EnumSet<T> {
     }
 }
 
-/// The 64 bits without those below `k`.
+/// The word of the bits from `k` to 63.
 fn ones_from(k: u32) -> u64
     ensures { bits result ≡ set.difference (set.below 64) (set.below k) }
 {

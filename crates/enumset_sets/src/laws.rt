@@ -11,7 +11,6 @@ ghost use Rattle.enumset_sets.specs.Elements.{valid_bits};
 
 use crate::element::EnumSetType;
 use crate::enum_set::EnumSet;
-use crate::representation::valid_repr;
 use enumset_repr::EnumSetTypeRepr;
 
 /// Each member of a set is a valid bit, and so one of the list of the element type and below the width of the
@@ -23,8 +22,8 @@ pub fn members_are_valid<T: EnumSetType>(set: &EnumSet<T>)
     ensures within { IsTrue (is_subset set.now (below T.Repr.WIDTH)) }
     ensures count { len set.now < 2 ^ 32 }
 {
-    // Their contracts say that members are valid bits, that these are below the width, and how many members there are.
-    let _all = valid_repr::<T>();
+    set.learn_members();
+    // The contract of `iter` says how many members there are.
     let _members = set.iter();
 }
 
@@ -34,8 +33,7 @@ pub fn number_and_back<T: EnumSetType>(set: &EnumSet<T>)
     ensures back { bits (number set.now) ≡ set.now }
     ensures valid { IsTrue (is_subset set.now (valid_bits T.elements)) }
 {
-    // A proof knows what the type says of its sets once the body reads the set.
-    let _held = set.repr;
+    set.learn_members();
 }
 
 /// From a set to the number of its members below a width, and back: the valid bits of that number are these members. So
@@ -44,8 +42,7 @@ pub fn cut_number_and_back<T: EnumSetType>(set: &EnumSet<T>, width: u32)
     ensures { intersection (bits (number (low set.now width))) (valid_bits T.elements)
         ≡ low set.now width }
 {
-    // A proof knows what the type says of its sets once the body reads the set.
-    let _held = set.repr;
+    set.learn_members();
 }
 
 /// From a set to its first `len` words and back: if every member is in one of them, the words represent the same set,
@@ -56,8 +53,7 @@ pub fn words_and_back<T: EnumSetType>(set: &EnumSet<T>, len: usize)
         → bits_of (words set.now len) ≡ set.now }
     ensures valid { IsTrue (is_subset set.now (valid_bits T.elements)) }
 {
-    // A proof knows what the type says of its sets once the body reads the set.
-    let _held = set.repr;
+    set.learn_members();
 }
 
 /// From a set to its first `len` words and back: the valid bits of these words are the members below `64 * len`. So
@@ -66,8 +62,7 @@ pub fn cut_words_and_back<T: EnumSetType>(set: &EnumSet<T>, len: usize)
     ensures { intersection (bits_of (words set.now len)) (valid_bits T.elements)
         ≡ low set.now (64 * len) }
 {
-    // A proof knows what the type says of its sets once the body reads the set.
-    let _held = set.repr;
+    set.learn_members();
 }
 
 /// From a set to all its words and back: the words represent the same set, and their bits are valid. So `from_slice`
@@ -76,8 +71,5 @@ pub fn all_words_and_back<T: EnumSetType>(set: &EnumSet<T>)
     ensures back { bits_of (words set.now T.Repr.PREFERRED_ARRAY_LEN) ≡ set.now }
     ensures valid { IsTrue (is_subset set.now (valid_bits T.elements)) }
 {
-    // A proof knows what the type says of its sets once the body reads the set.
-    let _held = set.repr;
-    // The contract of `valid_repr` says that the valid bits are below the width.
-    let _all = valid_repr::<T>();
+    set.learn_members();
 }

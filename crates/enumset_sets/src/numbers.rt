@@ -12,15 +12,14 @@ mod usize_conversions;
 
 use crate::element::EnumSetType;
 use crate::enum_set::EnumSet;
-use crate::representation::valid_repr;
-use enumset_repr::EnumSetTypeRepr;
 
-/// A cut at a width leaves a set as it is, if the width holds the representation or every member is below it.
+/// Tells the proof that a set has no member at or past a width, if the representation has no such bit or every member
+/// is below it. It does nothing at run time.
+#[inline]
 #[tactic(auto, using(crate::specs::Laws::Conversions::conversions))]
 fn learn_fits<T: EnumSetType>(set: &EnumSet<T>, width: u32)
     requires { width < T.Repr.WIDTH → IsTrue (is_subset set.now (below width)) }
     ensures { low set.now width ≡ set.now }
 {
-    let _held = set.repr;
-    let _all = valid_repr::<T>();
+    set.learn_members();
 }

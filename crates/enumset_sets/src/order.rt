@@ -1,4 +1,4 @@
-//! The order of sets of elements: that of their members' bits, over every representation.
+//! The order of sets of elements: the order of their members' bits, over every representation.
 
 ghost use Rattle.std.specs.Prelude.{Some, refl};
 ghost use Rattle.enumset_repr.specs.Order.{compare};

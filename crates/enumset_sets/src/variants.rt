@@ -1,6 +1,6 @@
 //! Functions that tell a proof that a match over bits has an arm for each variant.
 //!
-//! A match over at most 32 bits proves without them. They do nothing at run time, and have no counterpart in Rust's
+//! A match over at most 32 bits needs none of them. They do nothing at run time, and have no counterpart in Rust's
 //! `enumset`.
 
 ghost use Rattle.std.specs.Prelude.{◌<◌, ◌++◌, IsTrue};
@@ -8,14 +8,14 @@ ghost use Rattle.std.specs.List.{range_with_len};
 ghost use Rattle.enumset_repr.specs.BitSet.{is_in};
 ghost use Rattle.enumset_sets.specs.Variants.{IsNoneOf};
 
-/// Tells the proof that a number among 0, 1, 2 and so on, `count` numbers in all, is below `count`.
+/// Tells the proof that a number in the list of the numbers from 0 to `count - 1` is below `count`.
 #[inline]
 pub fn is_below(bit: u32, count: u32)
     requires { IsTrue (is_in bit (range_with_len 0 count)) }
     ensures { bit < count }
 {}
 
-/// Tells the proof that a number in a list cannot differ from all numbers of the list.
+/// Tells the proof that a number in a list equals one of its numbers.
 #[inline]
 pub fn is_listed(bit: u32, bits: &[u32])
     requires { IsTrue (is_in bit bits.now) }

@@ -1,4 +1,4 @@
-//! Element types over a representation of at most 128 bits, and their sets to and from its values.
+//! Element types whose representation has at most 128 bits, and their sets to and from its values.
 
 ghost use Rattle.std.specs.Prelude.{◌≡◌, ◌≤◌, ◌↔◌, IsTrue, IsSome, IfSome};
 ghost use Rattle.enumset_repr.specs.BitSet as set;
@@ -6,12 +6,12 @@ ghost use Rattle.enumset_sets.specs.Elements.{valid_bits};
 
 use crate::element::EnumSetType;
 use crate::enum_set::EnumSet;
-use crate::validated::{truncated, validated};
+use crate::raw::{truncated, validated};
 
 /// An element type whose sets each fit a `u128`: its representation has at most 128 bits.
 ///
-/// It mirrors `EnumSetTypeWithRepr` of Rust's `enumset`, except that `Repr` is an item of [`EnumSetType`] here, and that
-/// Rust's derive implements the trait only for an integer that the option `repr` names.
+/// It mirrors `EnumSetTypeWithRepr` of Rust's `enumset`, except that `Repr` is an item of [`EnumSetType`] here, and
+/// that Rust's derive implements the trait only for an integer that the option `repr` names.
 pub trait EnumSetTypeWithRepr: EnumSetType {
     // The representation has at most 128 bits.
     ghost narrow: { Self.Repr.WIDTH ≤ 128 };

@@ -1,8 +1,8 @@
--- Where a transition keeps a rule.
+-- When a transition keeps a rule.
 --     tried      a rule that is kept from a state between what is required and another state is kept from that one, if
 --         the two agree about its flags
 --     kept_iff      a rule that is kept from the four states that are tried is kept from every state, and the other way
---     kept_all      what each transition keeps, a list of them keeps
+--     kept_all      a rule that each transition keeps is kept by a list of them
 use Rattle.std.proofs.Common.{◌≡◌, ℕ, Bool, true, false, List, [], ◌∷◌, refl, arith, ◌↔◌, All}
 use Rattle.std.proofs.lemmas.Bool.{and_parts, and_from}
 use Rattle.std.proofs.lemmas.List.Elements.{All-head, All-tail}
@@ -14,7 +14,7 @@ use Rattle.example_door.specs.declared.machine.Rule.{Rule}
 use Rattle.example_door.specs.declared.machine.Rule.TheVariants.{NeverBoth, Implies}
 use Rattle.example_door.specs.Machines.{bit, allows, after, after_all, holds, Keeps, keeps_from, keeps_from_least, first, second}
 
--- about its two flags, a rule asks nothing else of a state
+-- a rule depends on its two flags only
 agree : (rule : Rule) (s u : BitSet) → contains s (bit (first rule)) ≡ contains u (bit (first rule)) → contains s (bit (second rule)) ≡ contains u (bit (second rule))
     → holds rule s ≡ holds rule u
 agree (NeverBoth one other) s u e f = cc

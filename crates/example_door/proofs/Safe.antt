@@ -1,11 +1,10 @@
 -- A door stays safe.
 use Rattle.std.proofs.Common.{◌≡◌, true, ◌&&◌}
 use Rattle.std.proofs.lemmas.Bool.{and_parts}
-use Rattle.enumset_repr.specs.BitSet.{BitSet}
+use Rattle.enumset_sets.specs.Sets.{BitSet, place}
 use Rattle.enumset_repr.specs.Laws.Members.{members}
 use Rattle.enumset_repr.specs.Laws.Firsts.{written_out}
-use Rattle.enumset_repr.specs.Laws.Loops.{is_subset_list, is_disjoint_list}
-use Rattle.enumset_sets.specs.Elements.{place}
+use Rattle.enumset_repr.specs.Laws.Iteration.{is_subset_list, is_disjoint_list}
 use Rattle.example_door.specs.declared.flag.Flag.TheVariants.{Open, Locked, Alarmed, Powered}
 use Rattle.example_door.specs.declared.event.Event.{Event}
 use Rattle.example_door.specs.declared.event.Event.TheVariants as event

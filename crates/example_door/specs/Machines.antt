@@ -1,6 +1,6 @@
 -- Machines whose states are sets of flags.
 --     bit      the bit of a flag
---     transition      one that requires, forbids, clears and sets these
+--     transition      the transition that requires, forbids, clears and sets these flags
 --     allows, after      whether a transition may be taken in a state;  the state after it, which is the same if not
 --     after_all      the state after a list of transitions
 --     holds, Keeps      whether a rule holds of a state;  a transition after which a rule holds wherever it held before
@@ -41,7 +41,7 @@ holds (Implies one other) s = not (contains s (bit one)) || contains s (bit othe
 abbrev pub Keeps : Rule → Transition → Type 0
 Keeps rule t = (s : BitSet) → holds rule s ≡ true → holds rule (after t s) ≡ true
 
--- after a step from one state it holds if it held before
+-- if it holds in a state, it holds after a step from there
 abbrev pub keeps_from : Rule → Transition → BitSet → Bool
 keeps_from rule t s = not (holds rule s) || holds rule (after t s)
 

@@ -1,7 +1,8 @@
 -- The text of a refusal, from the texts of sets of flags.
 --     part      a word and the text of a set, or nothing if the set is empty
 --     refusal_text      what is missing, and what bars
--- `++?` joins texts; one that is not known is `None`, and so is each text that it is part of. Those of sets of flags are known.
+-- `++?` joins texts. A text that is not known is `None`, and so is each text that it is part of. The texts of sets of
+-- flags are known.
 use Rattle.std.specs.Prelude.{ℕ, if◌then◌else◌, List, [], Option, Some, codes}
 use Rattle.std.specs.Fmt.{◌++?◌}
 use Rattle.enumset_repr.specs.BitSet.{BitSet, is_empty}

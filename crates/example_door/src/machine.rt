@@ -32,7 +32,7 @@ pub struct Refusal {
 pub enum Rule {
     /// The two flags are not both set.
     NeverBoth(Flag, Flag),
-    /// Where the first flag is set, so is the second.
+    /// If the first flag is set, so is the second.
     Implies(Flag, Flag),
 }
 
@@ -81,7 +81,7 @@ impl Transition {
         }
     }
 
-    /// Whether the transition keeps a rule: whether it holds after each step from a state where it holds.
+    /// Whether the transition keeps a rule: if the rule holds in a state, it holds after the step.
     ///
     /// Only the two flags of the rule matter, so it tries the states with what is required and any of the two.
     #[tactic(auto, using(crate::proofs::Kept::kept_iff))]
@@ -116,7 +116,7 @@ impl Transition {
     }
 }
 
-/// The state after transitions in turn, of which those that may not be taken change nothing.
+/// The state after transitions in turn. A transition that may not be taken changes nothing.
 pub fn run(start: EnumSet<Flag>, transitions: &[Transition]) -> EnumSet<Flag>
     ensures steps { result ≡ after_all transitions.now start }
     ensures kept { (rule : Rule) → All (Keeps rule) transitions.now → holds rule start ≡ true →

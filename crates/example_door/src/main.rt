@@ -1,7 +1,7 @@
 //! A door with a magnetic lock.
 //!
-//! `example_door` reads an event a line from standard input, and prints after each which flags are set, or why it is
-//! refused. The exit status is 0 if all events are taken, 1 if one is refused, and 2 at a fault.
+//! `example_door` reads events from standard input, one a line. After each it prints which flags are set, or why the
+//! event is refused. The exit status is 0 if all events are taken, 1 if one is refused, and 2 at a fault.
 #![tactic(auto, using(enumset_sets::specs::Laws::SetLaws::set_laws))]
 
 mod door;
@@ -17,7 +17,7 @@ use machine::Refusal;
 use std::process::ExitCode;
 use std::{fmt, io};
 
-/// Lets the events happen in turn, up to the first line that is none.
+/// Lets the events happen in turn, up to the first line that is not an event.
 fn take_all<R: Input + Print + Eprint + AllocGlobal>(rt: &R) -> io::Result<ExitCode> {
     let mut door = Door::new();
     let mut status = ExitCode::SUCCESS;

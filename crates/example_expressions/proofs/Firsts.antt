@@ -7,8 +7,7 @@ use Rattle.std.proofs.Common.{◌≡◌, ℕ, Bool, true, false, not, ◌||◌, 
 use Rattle.std.proofs.lemmas.Bool.{or_cases, or_left, or_right}
 use Rattle.std.proofs.lemmas.Bool.Decides.{nat_tests, same_from_decides}
 use denote.Enum.Bare.{tag_one}
-use Rattle.enumset.specs.Sets.{BitSet, is_in, contains, empty, insert, remove, from_list, union, intersection, is_subset, valid_bits, in_place}
-use Rattle.enumset_sets.specs.Elements.{place}
+use Rattle.enumset.specs.Sets.{BitSet, is_in, contains, empty, insert, remove, from_list, union, intersection, is_subset, valid_bits, place, in_place}
 use Rattle.enumset_repr.specs.Laws.Algebra.{intersection_right}
 use Rattle.enumset_repr.specs.Laws.Members.{members, same_set, contains_from_list, contains_union, contains_is_subset}
 use Rattle.enumset_sets.specs.Laws.Elements.{place_is, place_is_valid}
@@ -106,7 +105,7 @@ module _ (whole : Part) (kinds left : BitSet) (list : IsWorklist whole kinds lef
   pub at_end : (kind : ℕ) → IsTrue (contains kinds kind) ↔ CanBegin whole kind
   at_end kind = (list.kinds_sound kind, complete kind whole (gone _ list.reached))
 
--- an operand stands first in each rule in the end
+-- in the end each rule begins with an operand
 begins_operand : (part : Part) (kind : ℕ) → CanBegin part kind → is_in kind (map bit (kinds_at Operand)) ≡ true
 begins_operand Operand kind (at_once is) = is
 begins_operand Sum kind (at_once is) = absurd (true≢false (sym is))

@@ -1,13 +1,12 @@
--- What the states of the parser know of the tokens so far.
---     may, accepts      whether a kind may come;  whether kinds may come in turn, up to the end
---     accepts-expression, whole      an expression may come for an operand;  what is accepted is one, and the end
---     IsRead      what has been read: what makes an expression of it is what may come
---     fault, accepted      what that says of a kind that may not come;  of the end, where it may
+-- What a state of the parser says about the tokens so far.
+--     may, accepts      whether a kind is expected;  whether each kind of a list is expected in its turn, up to the end
+--     accepts-expression, whole      an expression is accepted for an operand;  what is accepted is an expression and the end
+--     IsRead      what has been read: the kinds that complete it to an expression are the expected ones
+--     fault, accepted      so an unexpected kind is a fault;  and an expected end completes an expression
 use Rattle.std.proofs.Common.{◌≡◌, ℕ, zero, suc, ◌+◌, ◌<◌, ◌≤◌, Bool, true, false, ◌&&◌, List, [], ◌∷◌, ◌++◌, map, length, take, refl, sym, ap, ◌∙◌, subst, true≢false, append_assoc, arith, ◌↔◌, IsTrue, slice_index_or, take_all}
 use Rattle.std.proofs.lemmas.Bool.{and_parts}
 use Rattle.std.proofs.lemmas.List.{append_cancel_right, take_more, get_or-map, get_or_past, length-map}
-use Rattle.enumset.specs.Sets.{is_in, contains}
-use Rattle.enumset_sets.specs.Elements.{place}
+use Rattle.enumset.specs.Sets.{is_in, contains, place}
 use Rattle.enumset_repr.specs.Laws.Members.{contains_from_list}
 use Rattle.example_expressions.specs.declared.kind.Kind.{Kind}
 use Rattle.example_expressions.specs.declared.kind.Kind.TheVariants.{Number, Open, Minus, Plus, Times, Divide, Close, End}
@@ -41,7 +40,7 @@ accepts-expression (joined {ks} {ls} op e is f) depth rest =
     ap (accepts Operand depth) (append_assoc ks (op ∷ ls) rest) ∙ accepts-expression e depth (op ∷ (ls ++ rest)) ∙ operator op depth (ls ++ rest) is ∙ accepts-expression f depth rest
 accepts-expression (grouped {ks} e) depth rest = ap (accepts Operand (suc depth)) (append_assoc ks (Close ∷ []) rest) ∙ accepts-expression e (suc depth) (Close ∷ rest)
 
--- behind any expression it makes a longer one, up to what closes that, and so on outwards
+-- after any expression it makes a longer one, up to its closing parenthesis, and so on outwards
 Rest : ℕ → List Kind → Type 0
 Rest zero ks = ks ≡ []
 Rest (suc depth) ks = (e : List Kind) → IsExpression e → (f : List Kind) × (tail : List Kind) × (e ++ ks ≡ f ++ closing depth ∷ tail) × IsExpression f × Rest depth tail

@@ -1,8 +1,8 @@
--- What the program answers to a line.
---     column_of      the column of the token at a place, or the one past the end of the line
+-- The answer of the program to a line.
+--     column_of      the column of the token at an index, or the column past the end of the line
 --     IsValueOf      a number is the value of a line
---     IsFaultOf      why a line has no value: its characters are no tokens, its tokens are no expression, or a number on the
---         way to the value does not fit
+--     IsFaultOf      why a line has no value: some character does not begin a token, the tokens are not an expression, or
+--         a number on the way to the value does not fit
 use Rattle.std.specs.Prelude.{◌≡◌, ℕ, ◌+◌, ℤ, List, map, length, Ok, Err}
 use Rattle.std.specs.List.{slice_index_or}
 use Rattle.example_expressions.specs.Faults.{fault_at}

@@ -1,7 +1,7 @@
 -- Results that are faults.
 --     fault_at      a reason, at a column
---     and_then      what follows a result that is no fault
---     at      a result whose reason, if it has one, is at a column
+--     and_then      the next result, unless this one is a fault
+--     at      a result, with a column for its reason if it has one
 use Rattle.std.specs.Prelude.{ℕ, Result, Ok, Err}
 use Rattle.example_expressions.specs.declared.fault.Fault.{Fault}
 use Rattle.example_expressions.specs.declared.fault.Reason.{Reason}

@@ -1,4 +1,4 @@
--- With which kinds of tokens the parts of an expression begin.
+-- The kinds of tokens with which the parts of an expression begin.
 --     part_bit      the bit of a part
 --     kinds_at, parts_at      the kinds, and the parts, that come first in a rule of a part, by this grammar:
 --         a sum is a product, or a sum, + or -, and a product

@@ -4,7 +4,7 @@
 --     is_operator      whether a kind is +, -, * or /
 --     IsExpression      the four ways to write one
 --     Begins      a list with which an expression, followed by the end, begins
---     IsFault      the first token that may not come, and with it each kind that may
+--     IsFault      the first unexpected token, and each kind that is expected in its place
 use Rattle.std.specs.Prelude.{◌≡◌, ◌↔◌, ℕ, Bool, true, false, List, [], ◌∷◌, ◌++◌, ◌≤◌, map, take, length, IsTrue}
 use Rattle.std.specs.List.{slice_index_or}
 use Rattle.enumset.specs.Sets.{contains, in_place}
@@ -33,16 +33,16 @@ pub data IsExpression : List Kind → Type 0 where
   joined : {ks ls : List Kind} (op : Kind) → IsExpression ks → is_operator op ≡ true → IsExpression ls → IsExpression (ks ++ op ∷ ls)
   grouped : {ks : List Kind} → IsExpression ks → IsExpression (Open ∷ (ks ++ Close ∷ []))
 
--- some more tokens make it an expression, with the end behind it
+-- some more tokens make it an expression, followed by the end
 abbrev pub Begins : List Kind → Type 0
 Begins ks = (more : List Kind) × (e : List Kind) × (ks ++ more ≡ e ++ End ∷ []) × IsExpression e
 
 pub record IsFault (ks : List Kind) (fault : Unexpected) : Type 0 where
   pub no_expression : IsExpression ks → ⊥
-  -- what is before the fault begins an expression, and with what is found there it begins none
+  -- the tokens before the fault begin an expression; with the token that was found they do not
   pub begins : Begins (take fault.place ks)
   pub within : fault.place ≤ length ks
   pub found : fault.found ≡ slice_index_or ks fault.place End
   pub not_expected : IsTrue (contains fault.expected (bit fault.found)) → ⊥
-  -- a kind is expected if and only if what is before it, with that kind next, begins an expression
+  -- a kind is expected if and only if the tokens before the fault, and then this kind, begin an expression
   pub expected : (kind : Kind) → IsTrue (contains fault.expected (bit kind)) ↔ Begins (take fault.place ks ++ kind ∷ [])

@@ -1,10 +1,10 @@
 -- The states of a reader of tokens.
---     Place      what may come next: an operand, an operator, or nothing
---     closing      the end, or where parentheses are open `)`
---     coming      the kinds that may come
---     place_after, depth_after      what may come after a kind that may come;  how many parentheses are open then
---     next_kinds      the set of the kinds that may come
---     Reads, Refuses      what a reader becomes with a kind that may come;  the fault at one that may not
+--     Place      what is expected next: an operand, an operator, or nothing
+--     closing      `)` if parentheses are open, else the end
+--     coming      the kinds that are expected
+--     place_after, depth_after      what is expected after an expected kind;  how many parentheses are open then
+--     next_kinds      the set of the expected kinds
+--     Reads, Refuses      a reader after an expected kind;  the fault at another kind
 use Rattle.std.specs.Prelude.{◌≡◌, ℕ, zero, suc, ◌+◌, true, false, List, [], ◌∷◌, map}
 use Rattle.enumset.specs.Sets.{BitSet, contains, from_list}
 use Rattle.example_expressions.specs.declared.kind.Kind.{Kind}

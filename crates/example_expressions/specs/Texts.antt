@@ -1,9 +1,9 @@
 -- The texts of faults.
---     all_texts, text_at, kind_text      the texts of the kinds, in the order of their bits;  that of a bit;  of a kind
+--     all_texts, text_at, kind_text      the texts of the kinds, in the order of their bits;  the text of a bit;  of a kind
 --     separator      what is written before a kind: nothing before the first, a comma and a space before the others
 --     listed      texts, each with what is written before it
 --     kinds_text      the texts of a set of kinds
---     unexpected_text, reason_text, fault_text      the text of a token that may not come;  of a reason;  of a fault
+--     unexpected_text, reason_text, fault_text      the text of an unexpected token;  of a reason;  of a fault
 use Rattle.std.specs.Prelude.{ℕ, Bool, true, false, if◌then◌else◌, List, [], ◌∷◌, ◌++◌, map, slice_index_or, codes, decimal}
 use Rattle.std.specs.Char.{encode_utf8}
 use Rattle.enumset.specs.Sets.{BitSet, ascending}

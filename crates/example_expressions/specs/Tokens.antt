@@ -1,12 +1,12 @@
 -- The tokens of a line.
 --     fits      whether a number fits 64 bits
---     digit      the number that a digit says, and 0 of another character
+--     digit      the value of a digit; 0 for another character
 --     kind_at      the kind of the token that a character begins
 --     with_digit      a number with one more digit
---     begun      tokens with the token that a character begins, or with none at a space or a tab
---     continued      tokens with a digit of their last one, if there is one, and else with what the character begins
+--     begun      tokens with one more token, which a character begins; a space or a tab begins none
+--     continued      tokens with one more digit of the last one; for another character, with the token that it begins
 --     with_character      tokens with one more character, after a digit or not
---     tokens_from      tokens with the characters from a column on
+--     tokens_from      tokens, followed by the tokens of the characters from a column on
 --     tokens_of      the tokens of the characters of a line
 use Rattle.std.specs.Prelude.{ℕ, ◌+◌, ◌-◌, ◌^◌, ◌==◌, ℤ, pos, negsuc, ◌+ℤ◌, ◌*ℤ◌, Bool, false, ◌&&◌, ◌||◌, if◌then◌else◌, nat_lt, List, [], ◌∷◌, ◌++◌, length, slice_get, slice_set, Option, Some, None, Result, Ok, Err}
 use Rattle.std.specs.Char.{is_ascii_digit}
@@ -24,7 +24,7 @@ fits (negsuc n) = nat_lt n (2 ^ 63)
 abbrev pub digit : ℕ → ℤ
 digit c = if is_ascii_digit c then pos (c - 48) else pos 0
 
--- the characters are those of "()+-*/"
+-- the numbers of the characters ( ) + - * /
 abbrev pub kind_at : ℕ → Option Kind
 kind_at c =
     if is_ascii_digit c then Some Number else

@@ -4,12 +4,12 @@
 --     level_value      the value of what was read between two parentheses
 --     is_zero      whether a number is 0
 --     with_operand      what was read, with one more operand
---     Reading      what was read between each two open parentheses, the innermost last, and whether an operand came last
---     seen      a state of the code, as that
+--     Reading      what was read in each open pair of parentheses, the innermost last, and whether the last token was an operand
+--     seen      a state of the code as a `Reading`
 --     before, start      the level and the state before the first token
---     next      a state after a token that is no operand and no parenthesis
+--     next      a state after an operator or the end
 --     with_kind      a state with one more token, of a kind and with a number
---     value_from      the value of a state with more tokens, where the token before them is at a column
+--     value_from      the value of a state with more tokens; the token before them is at a column
 --     value_of      the value of tokens
 -- Each number on the way has to fit 64 bits. A fault is at the column of the token that was read last.
 use Rattle.std.specs.Prelude.{ℕ, ◌-◌, ◌==◌, ℤ, pos, negsuc, ◌+ℤ◌, ◌*ℤ◌, int_div, Bool, true, false, not, ◌&&◌, if◌then◌else◌, List, [], ◌∷◌, ◌++◌, length, take, slice_index_or, Result, Ok, Err}

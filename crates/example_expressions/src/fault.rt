@@ -1,4 +1,4 @@
-//! Why a line has no value.
+//! Faults: why a line has no value.
 
 ghost use Rattle.std.specs.Prelude.{◌≡◌};
 ghost use Rattle.example_expressions.specs.Faults.{fault_at};
@@ -6,7 +6,7 @@ ghost use Rattle.example_expressions.specs.Faults.{fault_at};
 use crate::parser::Unexpected;
 use std::fmt;
 
-/// Why a line has no value, and at which column that shows.
+/// Why a line has no value, and the column of the fault.
 #[derive(Clone, Copy, Debug)]
 pub struct Fault {
     pub column: usize,

@@ -1,4 +1,4 @@
-//! With which kinds of tokens each part of an expression begins.
+//! The kinds of tokens with which each part of an expression begins.
 
 ghost use Rattle.std.specs.Prelude.{◌≡◌, ◌↔◌, ◌∷◌, [], ℕ, IsTrue, map};
 ghost use Rattle.enumset.specs.Sets as set;
@@ -36,7 +36,7 @@ pub fn first_kinds(whole: Part) -> EnumSet<Kind>
 }
 
 /// The kinds of tokens with which a rule of a part begins.
-#[tactic(auto, using(enumset_repr::specs::Laws::Firsts::written_out))]
+#[tactic(auto, using(enumset::specs::Sets::written_out))]
 fn leading_kinds(part: Part) -> EnumSet<Kind>
     ensures { result ≡ set.from_list (map bit (kinds_at part)) }
 {
@@ -47,7 +47,7 @@ fn leading_kinds(part: Part) -> EnumSet<Kind>
 }
 
 /// The parts with which a rule of a part begins.
-#[tactic(auto, using(enumset_repr::specs::Laws::Firsts::written_out))]
+#[tactic(auto, using(enumset::specs::Sets::written_out))]
 fn leading_parts(part: Part) -> EnumSet<Part>
     ensures { result ≡ set.from_list (map part_bit (parts_at part)) }
 {

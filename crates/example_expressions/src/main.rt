@@ -1,8 +1,8 @@
 //! Answers arithmetic expressions.
 //!
-//! `example_expressions` reads an expression a line from standard input, and answers with a line each: its value, or
-//! where it goes wrong and what could have come there. The exit status is 0 if each has a value, 1 if one has none, and
-//! 2 if reading or writing fails.
+//! `example_expressions` reads expressions from standard input, one a line. For each it prints a line: the value, or
+//! where the expression is wrong and which tokens were expected there. The exit status is 0 if each line has a value, 1
+//! if some line has none, and 2 if reading or writing fails.
 #![tactic(auto, using(enumset::specs::Sets::set_laws))]
 
 ghost use Rattle.std.specs.Prelude.{◌≡◌, ◌⊎◌, IfOk, IfErr};
@@ -37,7 +37,7 @@ fn answer(alloc: Global, line: &str) -> Result<i64, Fault>
     value::evaluate(alloc, &tokens)
 }
 
-/// The column of the token at a place, or the one past the end of the line.
+/// The column of the token at an index, or the column past the end of the line.
 fn column_at(line: &str, tokens: &[Token], place: usize) -> usize
     ensures { result ≡ column_of (chars line.now) tokens.now place }
 {

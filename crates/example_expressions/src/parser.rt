@@ -1,4 +1,4 @@
-//! Whether tokens are an expression, and what could have come where they are none.
+//! Parsing: whether tokens are an expression, and if not, which tokens were expected where.
 
 ghost use Rattle.std.specs.Prelude.{◌≡◌, ◌≤◌, ◌<◌, ◌^◌, OnOk, IfErr};
 ghost use Rattle.std.specs.Fmt.{WritesOnOk};
@@ -12,17 +12,17 @@ use crate::token::Token;
 use enumset::EnumSet;
 use std::fmt;
 
-/// A token that may not come.
+/// An unexpected token.
 #[derive(Clone, Copy, Debug)]
 pub struct Unexpected {
-    /// Its place among the tokens, or their number if they end too soon.
+    /// Its index, or the number of tokens if they end too soon.
     pub place: usize,
     pub found: Kind,
-    /// The kinds of tokens that could have come.
+    /// The kinds of tokens that were expected.
     pub expected: EnumSet<Kind>,
 }
 
-/// Tests whether tokens are an expression. The fault is the first token that may not come, with all that may.
+/// Checks that tokens are an expression. The fault is the first unexpected token, with all kinds that are expected.
 pub fn check(tokens: &[Token]) -> Result<(), Unexpected>
     ensures accepted { OnOk result (IsExpression (kinds_of tokens.now)) }
     ensures refused { IfErr result (IsFault (kinds_of tokens.now)) }
@@ -47,7 +47,7 @@ struct Reader {
 }
 
 impl Reader {
-    /// Reads a token, if it may come.
+    /// Reads a token, if it is expected.
     #[tactic(auto, using(crate::proofs::Reading::closes_open))]
     fn read(&mut self, kind: Kind) -> Result<(), Unexpected>
         requires place { self.old.place < 2 ^ 63 }
@@ -74,8 +74,8 @@ impl Reader {
         Ok(())
     }
 
-    /// The kinds of tokens that may come.
-    #[tactic(auto, using(enumset_repr::specs::Laws::Firsts::written_out))]
+    /// The kinds of tokens that are expected.
+    #[tactic(auto, using(enumset::specs::Sets::written_out))]
     fn expected(&self) -> EnumSet<Kind>
         ensures { result ≡ next_kinds self.now }
     {

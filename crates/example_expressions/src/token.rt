@@ -15,11 +15,11 @@ pub struct Token {
     pub kind: Kind,
     /// The column of its first character, counted from 1.
     pub column: usize,
-    /// What a number says, and 0 for a token of another kind.
+    /// The value of a number, and 0 for a token of another kind.
     pub number: i64,
 }
 
-/// The tokens of a line, or its first fault. Spaces and tabs may stand between tokens.
+/// The tokens of a line, or its first fault. Spaces and tabs may separate tokens.
 pub fn tokens(alloc: Global, line: &str) -> Result<Vec<Token>, Fault>
     ensures tokens { IfOk result (λ tokens. tokens_of (chars line.now) ≡ Ok tokens.items) }
     ensures fault { IfErr result (λ fault. (fault.reason ≡ Reason.OutOfMemory)
@@ -54,7 +54,7 @@ fn read(
     begin(tokens, column, character)
 }
 
-/// Begins a token with a character, which is no further digit of a number.
+/// Begins a token with a character that does not continue a number.
 fn begin(tokens: &mut Vec<Token>, column: usize, character: char) -> Result<(), Fault>
     ensures read { OnOk result (begun (kind_at character) tokens.old.items column character
         ≡ Ok tokens.new.items) }
@@ -87,7 +87,7 @@ fn add_digit(token: &mut Token, digit: i64) -> Result<(), Fault>
     Ok(())
 }
 
-/// What a digit says, and 0 for another character.
+/// The value of a digit, and 0 for another character.
 fn digit_of(character: char) -> i64
     ensures { result ≡ digit character }
 {

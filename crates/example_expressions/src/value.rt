@@ -57,7 +57,7 @@ impl Level {
     }
 }
 
-/// What was read between each two open parentheses, the innermost last, and whether an operand came last.
+/// What was read in each open pair of parentheses, the innermost last, and whether the last token was an operand.
 #[derive(Drop)]
 struct State {
     outer: Vec<Level>,
@@ -97,7 +97,7 @@ impl State {
     }
 }
 
-/// The value of an expression up to a column, which is that of the token that is read.
+/// The value of an expression up to the column of the current token.
 fn value_up_to(column: &mut usize, alloc: Global, tokens: &[Token]) -> Result<i64, Reason>
     ensures value { IfOk result (λ value. value_from column.old start tokens.now ≡ Ok value) }
     ensures fault { IfErr result (λ reason. (reason ≡ Reason.OutOfMemory)

@@ -1,8 +1,8 @@
--- How the bytes of a text go on, two digits after two.
+-- The bytes of a text, two digits at a time.
 use Rattle.std.proofs.Common.{◌≡◌, ℕ, ◌+◌, ◌*◌, List, [], ◌∷◌, ◌++◌, length, slice_index, Option, Some, None, refl, ap, sym, append_assoc, arith, option_map}
 use Rattle.example_headers.specs.Digits.{digit_of, bytes_of}
 
--- the bytes so far, before those of the digits to come
+-- the bytes so far, and then the bytes of the remaining digits
 abbrev pub after : List ℕ → Option (List ℕ) → Option (List ℕ)
 after bytes more = option_map (λ later. bytes ++ later) more
 

@@ -2,7 +2,7 @@
 --     bit      the bit of a flag of this version
 --     known, reserved      the flags of this version that are set in a byte of flags;  the bits of later versions
 --     wire_of      a frame's bytes: its flags, the length of its body, and the body
---     fault_of      what is wrong with bytes that are no frame
+--     fault_of      what is wrong with bytes that are not a frame
 use Rattle.std.specs.Prelude.{ℕ, List, ◌∷◌, length}
 use Rattle.enumset.specs.Sets.{BitSet, number, valid_bits, in_place, unknown_members, valid_members}
 use Rattle.example_headers.specs.contracts.flag.Flag.{the_type}

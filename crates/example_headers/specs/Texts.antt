@@ -1,5 +1,5 @@
 -- The texts of frames and of their faults.
---     flags_text      the text of flags, from the one that the set of them has: if none is set, this is said
+--     flags_text      the text of flags, from the text of their set; if no flag is set, the text says so
 --     frame_text      the text of a frame: of its flags, and how long its body is
 --     frame_fault_text      the text of what is wrong with bytes
 use Rattle.std.specs.Prelude.{ℕ, if◌then◌else◌, List, ◌++◌, length, codes, Option, Some}

@@ -5,7 +5,7 @@ ghost use Rattle.example_headers.specs.Digits.{digit_of, bytes_of};
 
 use std::alloc::{AllocError, Global};
 
-/// The bytes of a text, or `None` if it has not two digits for each byte.
+/// The bytes of a text, or `None` if it does not have two digits for each byte.
 pub fn decode(alloc: Global, text: &str) -> Result<Option<Vec<u8>>, AllocError>
     ensures { IfOk result (λ read. option_map (λ bytes. bytes.items) read ≡ bytes_of text.now) }
 {

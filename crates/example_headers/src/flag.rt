@@ -1,4 +1,5 @@
 //! The flags of a frame that this version knows.
+
 use enumset::{EnumSetType, EnumSetTypeWithRepr};
 
 /// A flag of version 1. Bits 3 to 7 are reserved for later versions.

@@ -21,7 +21,7 @@ pub fn decide(flags: EnumSet<Flag>) -> EnumSet<Flag>
 }
 
 /// The bits of a byte of flags that this version does not know.
-#[tactic(auto, using(enumset_repr::specs::Laws::Masks::masks))]
+#[tactic(auto, using(enumset::specs::Sets::masks))]
 pub fn reserved_bits(byte: u8) -> u8
     ensures { bits result ≡ reserved (bits byte) }
 {
@@ -29,7 +29,7 @@ pub fn reserved_bits(byte: u8) -> u8
 }
 
 /// Whether this version knows every flag of a byte.
-#[tactic(auto, using(enumset_repr::specs::Laws::Masks::masks))]
+#[tactic(auto, using(enumset::specs::Sets::masks))]
 pub fn is_understood(byte: u8) -> bool
     ensures { result ≡ true ↔ (set.is_subset (bits byte)
         (valid_bits ⟦<Flag as EnumSetType>⟧.elements) ≡ true) }

@@ -13,17 +13,17 @@ use std::fmt;
 /// A frame.
 #[derive(Clone, Copy, Debug)]
 pub struct Frame<'a> {
-    /// The flags, those of later versions too.
+    /// The flags, also of later versions.
     pub flags: MixedEnumSet<Flag>,
     pub body: &'a [u8],
 }
 
-/// Why bytes are no frame.
+/// Why bytes are not a frame.
 #[derive(Clone, Copy, Debug, PartialEq, Eq)]
 pub enum FrameFault {
-    /// There are no flags or no length.
+    /// The flags or the length are missing.
     NoHeader,
-    /// The body has not as many bytes as were stated.
+    /// The body does not have as many bytes as were stated.
     WrongLength { stated: u8, has: usize },
 }
 
@@ -75,7 +75,7 @@ impl Frame<'_> {
     }
 }
 
-/// The frame that bytes are, or why they are none.
+/// The frame that bytes are, or why they are not a frame.
 pub fn read_frame(bytes: &[u8]) -> Result<Frame<'_>, FrameFault>
     ensures written { IfOk result (λ frame. bytes.now ≡ wire_of frame.flags frame.body.now) }
     ensures back { (flags : set.BitSet) (body : List ℕ) → bytes.now ≡ wire_of flags body →

@@ -1,7 +1,7 @@
 //! Relays frames, and keeps the flags of later versions.
 //!
-//! `example_headers` reads a frame a line from standard input, in hex, and writes the frame that is sent on. Standard
-//! error says what was understood.
+//! `example_headers` reads frames in hexadecimal digits from standard input, one a line, and writes each frame that is
+//! sent on. Standard error says what was understood.
 #![tactic(auto, using(enumset::specs::Sets::set_laws))]
 
 mod digits;

@@ -7,7 +7,8 @@ use crate::frame::{Frame, read_frame, write_frame};
 use std::process::ExitCode;
 use std::{fmt, io};
 
-/// Relays each frame in turn, up to the first line that is none, and says what was understood. An empty line is left out.
+/// Relays each frame in turn, up to the first line that is not a frame, and says what was understood. Skips empty
+/// lines.
 pub fn relay<R: Input + Print + Eprint + AllocGlobal>(rt: &R) -> io::Result<ExitCode> {
     for (line, number) in rt.lines(rt.alloc()).zip(1..=u64::MAX) {
         let line = line?;

@@ -9,7 +9,7 @@ use Rattle.example_permissions.specs.Reading.{Trouble, ◌>>=◌, grant_in, gran
 
 -- ---- grants
 
--- the grants so far, before those to come
+-- the grants so far, and then the remaining ones
 abbrev pub after : List (ℕ × BitSet) → Result (List (ℕ × BitSet)) Trouble → Result (List (ℕ × BitSet)) Trouble
 after done later = later >>= (λ more. Ok (done ++ more))
 

@@ -10,13 +10,13 @@ use Rattle.example_permissions.specs.declared.policy.User.{User}
 use Rattle.example_permissions.specs.Answers.{AreUsers}
 use Rattle.example_permissions.specs.Reading.{user_in, users_in}
 
--- the map has the users so far, and with those of the members left they are the users of all
+-- the map has the users so far, and with the users of the remaining members they are all users
 pub record UsersSoFar (left all : List (List ℕ × Data)) (by_name : BTreeMap (String Global) User) : Type 0 where
   pub seen : List (List ℕ × User)
   pub read : users_in seen left ≡ users_in [] all
   pub kept : AreUsers seen by_name
 
--- a member more, whose user was put into the map
+-- one more member, whose user was put into the map
 pub users_more : {left all : List (List ℕ × Data)} {by_name : BTreeMap (String Global) User} (so_far : UsersSoFar left all by_name) (member : List ℕ × Data) (next : List (List ℕ × Data)) (user : User) (new : BTreeMap (String Global) User)
     → left ≡ member ∷ next → user_in member ≡ Ok user → ((q : List ℕ) → get_by_text new q ≡ update bytes_eq (get_by_text by_name) member.0 (Some user) q) → UsersSoFar next all new
 users_more {left} {all} {by_name} so_far member next user new cut is put = record {

@@ -5,7 +5,7 @@
 --     IsPolicyOf      a policy has these grants, in their order, and these users
 --     IsPolicyRead      a policy is what was read
 --     IsDecision      the decision for a user who asks for rights: exactly those that are not allowed are missing
---     IsAnswer      a decision for a request, and none where there is no request
+--     IsAnswer      a decision if there is a request, and none if there is not
 --     IsAnswerTo      the answer of a policy to the request that was read
 use Rattle.std.specs.Prelude.{◌≡◌, ◌↔◌, ℕ, ◌&&◌, not, List, map, Option, Some, None, Result, Ok, String, ⊤}
 use Rattle.std.specs.BTreeMap.{BTreeMap, get_by_text}

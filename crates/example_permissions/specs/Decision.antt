@@ -1,4 +1,4 @@
--- What a request gets.
+-- Decisions on requests.
 --     missing_of      the rights that a decision says are missing
 use Rattle.enumset.specs.Sets.{BitSet, empty}
 use Rattle.example_permissions.specs.declared.decision.Decision.{Decision}

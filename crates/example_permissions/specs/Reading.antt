@@ -1,18 +1,18 @@
--- Policies and requests as texts, and what is wrong with a text that is none.
---     Trouble      what is wrong: a name that nobody has, an object that is missing, or whose list of names is no set, and why
---     ◌>>=◌      what comes of what was read, or what is wrong with it
+-- Policies and requests as texts, and their faults.
+--     Trouble      what is wrong: an unknown name, a missing object, or a list of names that is not a set: whose list, and why
+--     ◌>>=◌      the next step with what was read, unless something is wrong with it
 --     words_of      the words of a text, which ASCII white space separates
 --     role_names, right_names      the bits of the roles and of the rights, each with its name
---     object_in      the members of the object of a name, which a value has
---     set_read      a set, or which list is none, whose it is, and why
---     set_in      the set of a list of names, empty where there is no list
+--     object_in      the members of the object with this name in a value
+--     set_read      a set, or which list is not a set, whose it is, and why
+--     set_in      the set of a list of names; empty if there is no list
 --     grant_in, grants_in      what a member grants, as the bit of the role and the rights;  what members grant
 --     user_in, users_in      what a member says of a user;  the users of members by name, after those so far, the last one first
 --     Contents      what a policy has: its grants, and its users by name
 --     policy_in, policy_read      the contents of a JSON value;  of a JSON text, if it is one
 --     rights_in, request_in      the rights of words, with those so far;  the user and the rights of a request, if it has words
 --     IsFaultOf      the fault says what is wrong, or memory ran out
---     IsFaultOfText      the same, or the text is no JSON
+--     IsFaultOfText      the same, or the text is not JSON
 use Rattle.std.specs.Prelude.{◌≡◌, ℕ, ◌==◌, not, List, [], ◌∷◌, length, filter, codes, Option, Some, None, option_map, option_and_then, ok_or, Result, Ok, Err, string_bytes}
 use Rattle.std.specs.Char.{is_ascii_whitespace}
 use Rattle.std.specs.List.{slice_split}

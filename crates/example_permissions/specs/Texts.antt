@@ -2,7 +2,7 @@
 --     separator      what is written before a name: nothing before the first, a comma and a space before the others
 --     joined      names with what is written before each of them
 --     decision_text      the text of a decision
---     fault_text      the text of a fault, but for those of std and of `serde_json`, which state no text
+--     fault_text      the text of a fault, except for faults of std and of `serde_json`, whose contracts state no text
 use Rattle.std.specs.Prelude.{ℕ, Bool, true, false, if◌then◌else◌, List, [], ◌∷◌, ◌++◌, map, codes, Option, Some, None, string_bytes}
 use Rattle.enumset.specs.Sets.{ascending}
 use Rattle.enumset.specs.Names.{name_of}

@@ -1,4 +1,4 @@
-//! What a request gets.
+//! Decisions on requests.
 
 ghost use Rattle.std.specs.Prelude.{◌≡◌, ◌↔◌, ◌&&◌, ℕ, not};
 ghost use Rattle.std.specs.Fmt.{WritesOnOk};
@@ -13,7 +13,7 @@ use crate::roles::Role;
 use enumset::{EnumSet, EnumSetNames};
 use std::fmt;
 
-/// What a request gets.
+/// The decision on a request.
 #[derive(Clone, Copy, Debug, PartialEq, Eq)]
 pub enum Decision {
     /// The user may do all of it.

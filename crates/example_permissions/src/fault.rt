@@ -1,10 +1,10 @@
-//! Why a text is no policy or no request.
+//! Faults of policies and of requests.
 
 use enumset::set_json::JsonFault;
 use std::alloc::AllocError;
 use std::{fmt, io};
 
-/// Why a text is no policy or no request.
+/// Why a text is not a policy, or not a request.
 #[derive(Debug, Drop)]
 pub enum Fault {
     Io(io::Error),
@@ -13,7 +13,7 @@ pub enum Fault {
     NoRole(String),
     NoUser(String),
     NoRight(String),
-    /// Why a list is no set of roles or rights, and whose it is.
+    /// Why a list is not a set of roles or rights, and whose it is.
     List(&'static str, String, JsonFault),
 }
 

@@ -1,7 +1,7 @@
 //! Says which requests of users a policy allows.
 //!
-//! `example_permissions POLICY` reads a policy from a file, and a request a line from standard input. The exit status
-//! is 0 if all requests are allowed, 1 if one is denied, and 2 at a fault.
+//! `example_permissions POLICY` reads a policy from a file, and requests from standard input, one a line. The exit
+//! status is 0 if all requests are allowed, 1 if one is denied, and 2 at a fault.
 #![tactic(auto, using(enumset::specs::Sets::set_laws))]
 
 mod decision;
@@ -33,7 +33,7 @@ where
     }
 }
 
-/// Answers each request in turn, up to the first line that is none.
+/// Answers each request in turn, up to the first line that is not a request.
 fn answer_requests<R>(rt: &R, policy: &Policy) -> io::Result<ExitCode>
 where
     R: Input + Print + Eprint + AllocGlobal,

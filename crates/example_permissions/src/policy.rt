@@ -37,7 +37,7 @@ pub fn add_grant(grants: &mut Vec<Grant>, grant: Grant) -> Result<(), AllocError
 }
 
 impl User {
-    /// Gives the user a role. All that the user might do is still allowed.
+    /// Gives the user a role. All that was allowed still is.
     #[tactic(auto, using(crate::proofs::Allowed::on_roles))]
     pub fn assign(&mut self, role: Role)
         ensures roles { self.new
@@ -48,7 +48,7 @@ impl User {
         self.roles.insert(role);
     }
 
-    /// Takes a role from the user, who may not do more afterwards.
+    /// Takes a role from the user. Nothing new is allowed afterwards.
     #[tactic(auto, using(crate::proofs::Allowed::on_roles))]
     pub fn revoke(&mut self, role: Role)
         ensures roles { self.new
@@ -59,7 +59,7 @@ impl User {
         self.roles.remove(role);
     }
 
-    /// Denies the user a right, whatever the roles grant. The user may not do more afterwards.
+    /// Denies the user a right, whatever the roles grant. Nothing new is allowed afterwards.
     #[tactic(auto, using(enumset_repr::specs::Laws::Members::members))]
     pub fn deny(&mut self, right: Right)
         ensures denied { self.new

@@ -26,8 +26,8 @@ pub struct Policy {
 }
 
 impl Policy {
-    /// The policy of a JSON text. A fault says what is wrong with the first part that is wrong, that the text is no JSON,
-    /// or that memory ran out.
+    /// The policy of a JSON text. The fault is of the first part that is wrong, or that the text is not JSON, or that
+    /// memory ran out.
     pub fn from_json(alloc: Global, text: &str) -> Result<Policy, Fault>
         ensures policy { IfOk result (IsPolicyRead (policy_read text.now)) }
         ensures fault { IfErr result (IsFaultOfText (policy_read text.now)) }
@@ -38,8 +38,8 @@ impl Policy {
         Ok(Policy { grants, users })
     }
 
-    /// What a request gets, as `ann Read Write`. A line without words is no request. A fault says which name nobody has,
-    /// or that memory ran out.
+    /// The decision for a request, such as `ann Read Write`. A line without words is not a request. The fault is an
+    /// unknown name, or that memory ran out.
     pub fn answer(&self, alloc: Global, line: &str) -> Result<Option<Decision>, Fault>
         ensures answer { IfOk result
             (IsAnswerTo self.now (request_in (user_of self.now) (words_of line.now))) }
@@ -110,7 +110,7 @@ fn read_users(alloc: Global, members: &Map<String, Value>) -> Result<BTreeMap<St
     Ok(users)
 }
 
-/// The set of a list of names, empty where there is no list.
+/// The set of a list of names; empty if there is no list.
 fn read_list<T: EnumSetNames>(
     list: &'static str,
     name: &String,

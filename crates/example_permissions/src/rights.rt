@@ -1,4 +1,5 @@
 //! What may be done with a document.
+
 use enumset::{EnumSet, EnumSetNames, EnumSetType, EnumSetTypeWithRepr, names_of, set_json};
 
 /// A right.

@@ -1,4 +1,5 @@
 //! What a user of documents may be.
+
 use enumset::{EnumSet, EnumSetNames, EnumSetType, EnumSetTypeWithRepr, names_of, set_json};
 
 /// A role.

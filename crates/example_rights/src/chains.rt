@@ -68,7 +68,7 @@ pub fn is_in_each<T: EnumSetType>(sets: &[EnumSet<T>], right: T) -> bool
 }
 
 /// How many of the granted rights are requested or licensed.
-#[tactic(auto, using(enumset_repr::specs::Laws::Places::chains_of_two))]
+#[tactic(auto, using(enumset::specs::Sets::chains_of_two))]
 pub fn useful_count(
     granted: EnumSet<Right>,
     requested: EnumSet<Right>,
@@ -83,7 +83,7 @@ pub fn useful_count(
 }
 
 /// How many of the granted rights are requested and not denied.
-#[tactic(auto, using(enumset_repr::specs::Laws::Places::chains_of_two))]
+#[tactic(auto, using(enumset::specs::Sets::chains_of_two))]
 pub fn permitted_count(
     granted: EnumSet<Right>,
     requested: EnumSet<Right>,
@@ -98,7 +98,7 @@ pub fn permitted_count(
 }
 
 /// How many of the granted rights are neither requested nor denied.
-#[tactic(auto, using(enumset_repr::specs::Laws::Places::chains_of_two))]
+#[tactic(auto, using(enumset::specs::Sets::chains_of_two))]
 pub fn idle_count(
     granted: EnumSet<Right>,
     requested: EnumSet<Right>,

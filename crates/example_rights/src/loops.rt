@@ -50,7 +50,7 @@ pub fn first_denied<T: EnumSetType>(granted: &EnumSet<T>, denied: &EnumSet<T>) -
 }
 
 /// The first of the granted rights after one.
-#[tactic(auto, using(enumset_repr::specs::Laws::Loops::searches))]
+#[tactic(auto, using(enumset::specs::Sets::searches))]
 pub fn next_granted<T: EnumSetType>(granted: &EnumSet<T>, past: T) -> Option<T>
     ensures granted { IfSome result (λ right. set.contains granted.now (T.elements.bit right) ≡ true) }
     ensures later { IfSome result (λ right. T.elements.bit past < T.elements.bit right) }
@@ -104,7 +104,7 @@ pub fn keep_allowed<T: EnumSetType>(granted: &mut EnumSet<T>, denied: &EnumSet<T
 }
 
 /// Grants more rights, and returns whether one of them is new. If none is, nothing changes.
-#[tactic(auto, using(enumset_repr::specs::Laws::Algebra::algebra))]
+#[tactic(auto, using(enumset::specs::Sets::algebra))]
 pub fn gain<T: EnumSetType>(granted: &mut EnumSet<T>, more: &EnumSet<T>) -> bool
     ensures granted { granted.new ≡ set.union granted.old more.now }
     ensures is_new { result ≡ not (set.is_subset more.now granted.old) }

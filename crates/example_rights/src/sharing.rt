@@ -42,7 +42,7 @@ pub fn shared_by_two<T: EnumSetType>(one: &EnumSet<T>, other: &EnumSet<T>) -> En
     one.intersection(other.copied())
 }
 
-/// Grants a right in place of another. What newer peers have put into the set stays.
+/// Grants a right instead of another. What newer peers have put into the set stays.
 pub fn replaced<T: EnumSetTypeWithRepr>(rights: &mut MixedEnumSet<T>, old: T, new: T)
     ensures replaced { rights.new
         ≡ set.insert (set.remove rights.old (T.elements.bit old)) (T.elements.bit new) }

@@ -1,13 +1,13 @@
 -- What the features of a set need, in turn.
---     needs_within      a set that has what its features need also has what those of a part of it need
+--     needs_within      a set that has what its features need also has what the features of a part of it need
 --     IsInEach      what is reached from some features is in each set that has these and lacks nothing
 --     in_each_at_first, more_in_each      so it is at first;  and with what is needed next
 --     complete      once nothing new is needed, what is reached lacks nothing, and is in each such set
---     fewer_left      where something new is reached, fewer are left
+--     fewer_left      if something new is reached, fewer are left
 use Rattle.std.proofs.Common.{◌≡◌, ◌<◌, ℕ, Bool, true, false, ◌&&◌, List, [], ◌∷◌, map, refl, sym, ap, ◌∙◌, arith}
 use Rattle.std.specs.List.{list_all}
 use Rattle.enumset.specs.Sets.{BitSet, contains, ascending, is_subset, union, difference, len}
-use Rattle.enumset_repr.specs.Laws.Decided.{decided}
+use Rattle.enumset_repr.specs.Laws.MemberRules.{decided}
 use Rattle.enumset_repr.specs.Laws.Counting.{len_proper}
 use Rattle.enumset_repr.specs.Laws.Members.{contains_ascending, list_all_any, list_all_each}
 use Rattle.enumset_sets.specs.Laws.ManySets.{union_all_is_subset}

@@ -1,5 +1,5 @@
 -- A binary search in a sorted list of sets.
---     between      where it finds nothing, it gives the place between the lesser sets and the greater ones
+--     between      if it finds nothing, it returns the index between the lesser sets and the greater ones
 --     absent      then no set of the list is the wanted one
 use Rattle.std.proofs.Common.{◌≡◌, ◌≢◌, ℕ, List, All, Result, Ok, Err, IfErr, ap, sym, ◌∙◌, arith, slice_index_or, Less, Equal, Greater}
 use Rattle.std.specs.List.Sorted.{IsSorted, IsNonDecreasingBy, IsPartitionPoint, IsBinarySearchResult}

@@ -1,8 +1,7 @@
 -- The text of a set of stages.
 use Rattle.std.proofs.Common.{◌≡◌, true, Some, [], ◌∷◌, map, codes, refl}
 use Rattle.std.specs.List.{join_by}
-use Rattle.enumset.specs.Sets.{BitSet, ascending, is_subset, valid_bits, in_place}
-use Rattle.enumset_sets.specs.Elements.{place}
+use Rattle.enumset.specs.Sets.{BitSet, ascending, is_subset, valid_bits, place, in_place}
 use Rattle.enumset_sets.specs.Texts.{text_at, joined_text}
 use Rattle.enumset_sets.specs.Laws.Texts.{text_of_known}
 use Rattle.example_set_facts.specs.contracts.stages.Stage.{the_type}

@@ -1,5 +1,5 @@
 -- Texts of several names.
---     joined      names with a comma and a space before each, but not before the first if nothing stands before it
+--     joined      names with a comma and a space before each, except before the first if nothing precedes it
 --     all_titles, title      the titles of the permissions, in the order of their bits;  the title of a bit
 use Rattle.std.specs.Prelude.{ℕ, Bool, false, if◌then◌else◌, List, [], ◌∷◌, ◌++◌, codes, slice_index_or}
 

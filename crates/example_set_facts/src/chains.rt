@@ -50,7 +50,7 @@ pub fn keep_present<T: EnumSetType>(members: &mut EnumSet<T>, other: &EnumSet<T>
 }
 
 /// The first element from a bit on.
-#[tactic(auto, using(enumset_repr::specs::Laws::Places::tests))]
+#[tactic(auto, using(enumset::specs::Sets::tests))]
 pub fn found_from<T: EnumSetType>(members: &EnumSet<T>, bit: u32) -> Option<T>
     ensures member { IfSome result (λ t. set.contains members.now (T.elements.bit t) ≡ true) }
     ensures later { IfSome result (λ t. bit ≤ T.elements.bit t) }
@@ -98,7 +98,7 @@ pub fn has_both(granted: EnumSet<Permission>) -> bool
 }
 
 /// Whether another set lacks each element of a set.
-#[tactic(auto, using(enumset_repr::specs::Laws::Places::tests))]
+#[tactic(auto, using(enumset::specs::Sets::tests))]
 pub fn lacks_each<T: EnumSetType>(one: &EnumSet<T>, other: &EnumSet<T>) -> bool
     ensures { result ≡ list_all (λ q. not (set.contains other.now q)) (set.ascending one.now) }
 {

@@ -50,7 +50,7 @@ pub fn greater<T: EnumSetType>(one: EnumSet<T>, other: EnumSet<T>) -> EnumSet<T>
     one.max(other)
 }
 
-/// Whether a set may come before one that contains it, in a sorted list: always.
+/// Whether, in a sorted list, a set may be before a set that contains it: always.
 pub fn may_precede<T: EnumSetType>(part: &EnumSet<T>, whole: &EnumSet<T>) -> bool
     requires { set.is_subset part.now whole.now ≡ true }
     ensures { result ≡ true }

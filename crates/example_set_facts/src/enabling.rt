@@ -73,7 +73,7 @@ pub fn open_needs(
     needs - (enabled - dropped)
 }
 
-/// The features that are on by default or turned on, but for those that are turned off.
+/// The features that are on by default or turned on, and not turned off.
 pub fn overridden(
     defaults: &EnumSet<Feature>,
     on: &EnumSet<Feature>,

@@ -10,7 +10,6 @@ use crate::features::Feature;
 use enumset::{EnumSet, enum_set};
 
 /// What a feature needs by itself.
-#[tactic(auto, using(enumset::specs::Sets::set_laws), unfolding(enumset::specs::Sets::place))]
 pub fn needs_of(of: Feature) -> EnumSet<Feature>
     ensures { result ≡ needs (feature of) }
 {

@@ -1,4 +1,4 @@
-//! Sets of tokens of a parser: which token a phrase may begin with, and which may come after it.
+//! Sets of tokens of a parser: which tokens a phrase may begin with, and which may follow it.
 
 ghost use Rattle.std.specs.Prelude.{◌≡◌, ◌↔◌, ◌&&◌, ◌||◌, ℕ, true, false};
 ghost use Rattle.enumset.specs.Sets as set;
@@ -24,7 +24,7 @@ pub fn first_of_both(
     }
 }
 
-/// Adds what a phrase begins with, but for the mark of an empty one, to what may follow another. Returns whether that
+/// Adds what a phrase begins with, except the mark of an empty one, to what may follow another. Returns whether that
 /// has grown.
 pub fn add_follow(follow: &mut EnumSet<Token>, first: &EnumSet<Token>, mark: Token) -> bool
     ensures added { follow.new ≡ set.union follow.old (set.remove first.now (token mark)) }

@@ -67,7 +67,7 @@ pub fn joined<T: EnumSetType>(
     one.union(other.copied())
 }
 
-/// What is left of a part after a second split, put beside what the first left.
+/// What is left of a part after a second split, together with what the first left.
 pub fn regrouped<T: EnumSetType>(
     whole: &EnumSet<T>,
     one: &EnumSet<T>,

@@ -42,7 +42,7 @@ pub fn moved(days: EnumSet<Weekday>, from: Weekday, to: Weekday) -> EnumSet<Week
     (days - from) | to
 }
 
-/// Whether the days of two teams are the same, but for holidays.
+/// Whether the days of two teams are the same, except for holidays.
 pub fn agree_but(
     one: &EnumSet<Weekday>,
     other: &EnumSet<Weekday>,

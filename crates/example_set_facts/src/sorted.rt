@@ -48,7 +48,7 @@ pub fn place_of<T: EnumSetType>(sets: &[EnumSet<T>], wanted: &EnumSet<T>) -> Res
 }
 
 /// Two sets, the lesser first.
-#[tactic(auto, using(enumset_repr::specs::Laws::Decided::decided))]
+#[tactic(auto, using(enumset::specs::Sets::decided))]
 pub fn in_order<T: EnumSetType>(one: EnumSet<T>, other: EnumSet<T>) -> (EnumSet<T>, EnumSet<T>)
     ensures lesser { result.0 ≡ ord_min compare one other }
     ensures greater { result.1 ≡ ord_max compare one other }

@@ -67,7 +67,7 @@ pub fn restored(
     (*old & *later) - *new
 }
 
-/// What many versions have together, but for what is reserved.
+/// What many versions have together, without what is reserved.
 pub fn unreserved(
     sets: &[EnumSet<Capability>],
     reserved: &EnumSet<Capability>,

@@ -35,7 +35,7 @@ pub fn single(one: &EnumSet<Seat>, two: &EnumSet<Seat>, three: &EnumSet<Seat>) -
     parity(one, two, three) - (*one & *two & *three)
 }
 
-/// The seats that make a majority by the third vote: those that vote yes there where the two others differ.
+/// The seats that make a majority by the third vote: yes there, while the two other votes differ.
 pub fn decided_by_third(
     one: &EnumSet<Seat>,
     two: &EnumSet<Seat>,
@@ -46,7 +46,7 @@ pub fn decided_by_third(
     majority(one, two, three) - (*one & *two)
 }
 
-/// The answers of some seats in one vote, and those of the other seats in another.
+/// The answers of some seats in one vote, and of the other seats in another.
 pub fn chosen(by: &EnumSet<Seat>, one: &EnumSet<Seat>, other: &EnumSet<Seat>) -> EnumSet<Seat>
     ensures chosen { result ≡ set.union (set.intersection by.now one.now) (set.difference other.now by.now) }
     ensures both { one.now ≡ other.now → result ≡ one.now }

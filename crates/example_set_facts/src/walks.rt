@@ -1,4 +1,4 @@
-//! Loops over sets. Each has an invariant in `proofs/walks`: what is there so far and what is still to come make the whole.
+//! Loops over sets. Each has an invariant in `proofs/walks`: what there is so far, and what remains, make the whole.
 
 ghost use Rattle.std.specs.Prelude.{◌≡◌, fold};
 ghost use Rattle.enumset.specs.Sets as set;

@@ -17,7 +17,7 @@ pub enum Segment {
 
 impl EnumSetType for Segment {
     ghost use Rattle.std.specs.Prelude.{◌∷◌, [], refl};
-    ghost use Rattle.enumset_repr.specs.Laws.Listed.{bits_listed};
+    ghost use Rattle.enumset_repr.specs.Laws.BitLists.{bits_listed};
     ghost use Rattle.enumset_sets.specs.Laws.Elements.{with_bits, lawful_in};
     ghost use Rattle.example_seven_bits.specs.contracts.segment.Segment.{the_type};
 

@@ -1,11 +1,11 @@
--- The schedules of a text, one line more.
+-- The schedules of a text with one more line.
 use Rattle.std.proofs.Common.{◌≡◌, List, [], ◌∷◌, ◌++◌, Result, Ok, Err, refl, ap, sym, append_assoc}
 use Rattle.enumset.specs.Sets.{BitSet}
 use Rattle.example_weekdays.specs.Schedules.{Trouble, and_schedules, IsFaultOf}
 use Rattle.example_weekdays.specs.declared.fault.Fault.{Fault}
 use Rattle.example_weekdays.specs.declared.fault.Fault.TheVariants.{OutOfMemory, NoName, NoDay}
 
--- the schedules so far, before those of the lines to come
+-- the schedules so far, and then the schedules of the remaining lines
 abbrev pub after : List BitSet → Result (List BitSet) Trouble → Result (List BitSet) Trouble
 after done (Ok later) = Ok (done ++ later)
 after done (Err trouble) = Err trouble

@@ -1,7 +1,7 @@
 -- Laws of the days of the week.
 use Rattle.std.proofs.Common.{◌≡◌, ℕ, ◌+◌, ◌<◌, arith}
 use Rattle.std.proofs.lemmas.Bool.Decides.{nat_tests}
-use Rattle.enumset_sets.specs.Elements.{place}
+use Rattle.enumset.specs.Sets.{place}
 use Rattle.example_weekdays.specs.declared.weekday.Weekday.{Weekday}
 use Rattle.example_weekdays.specs.Week.{bit, wait, day_after}
 

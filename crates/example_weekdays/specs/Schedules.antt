@@ -1,11 +1,11 @@
--- Schedules as texts, and what is wrong with a text that has none.
---     Trouble      what is wrong at a line, which is counted from 1: it has no colon, or a word that is no day
+-- Schedules as texts, and their faults.
+--     Trouble      what is wrong at a line, counted from 1: it has no colon, or a word that is not a day
 --     words_of      the words of a text, which ASCII white space separates
 --     day_names, day_named      the names of the days, in the order of their numbers;  the day of a name
---     and_days      the days so far with those of words, or the first word that is no day
+--     and_days      the days so far with the days of words, or the first word that is not a day
 --     days_in      the days of a line, which follow its first colon
---     and_schedules      the schedule of a line with those of the lines after it, or what is wrong with the first of them
---     schedules_from, schedules_in      the schedules of lines, of which empty ones are left out;  of a text
+--     and_schedules      the schedule of a line with the schedules of the later lines, or the first fault
+--     schedules_from, schedules_in      the schedules of lines, without empty ones;  of a text
 --     IsFaultOf      the fault says what is wrong, or memory ran out
 use Rattle.std.specs.Prelude.{◌≡◌, ℕ, ◌+◌, ◌==◌, not, nat_lt, if◌then◌else◌, List, [], ◌∷◌, length, filter, codes, Option, Result, Ok, Err, ⊤}
 use Rattle.std.specs.Option.{option_map_or}

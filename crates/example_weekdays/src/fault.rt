@@ -1,9 +1,9 @@
-//! Why a text has no schedules.
+//! Faults of schedules.
 
 use std::alloc::AllocFailed;
 use std::fmt;
 
-/// Why a text has no schedules, and at which line.
+/// Why a text is not a list of schedules, and at which line.
 #[derive(Clone, Copy, Debug)]
 pub enum Fault<'a> {
     OutOfMemory,

@@ -8,8 +8,8 @@ use crate::weekday::Weekday;
 use enumset::{EnumSet, EnumSetNames};
 use std::alloc::Global;
 
-/// The days of each line, as `ann: Monday Friday`. An empty line is nobody's. A fault says what is wrong with the first
-/// line that has no days, or that memory ran out.
+/// The days of each line, such as `ann: Monday Friday`. Empty lines are skipped. The fault is of the first line that is
+/// wrong, or that memory ran out.
 pub fn read_schedules(alloc: Global, text: &str) -> Result<Vec<EnumSet<Weekday>>, Fault<'_>>
     ensures schedules { IfOk result (λ schedules. schedules_in text.now ≡ Ok schedules.items) }
     ensures fault { IfErr result (IsFaultOf (schedules_in text.now)) }

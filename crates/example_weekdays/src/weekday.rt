@@ -1,4 +1,5 @@
 //! The days of the week.
+
 use enumset::{EnumSet, EnumSetNames, EnumSetType, EnumSetTypeWithRepr, names_of, set_json};
 
 /// A day of the week, on bits 0 to 6.

@@ -7,7 +7,7 @@ ghost use Rattle.example_wrong_bodies.specs.Permissions.{permission};
 use crate::permissions::Permission;
 use enumset::EnumSet;
 
-/// Whether all that is asked for is granted, and none of it denied.
+/// Whether everything that is asked for is granted, and none of it denied.
 pub fn is_allowed(
     granted: EnumSet<Permission>,
     denied: EnumSet<Permission>,

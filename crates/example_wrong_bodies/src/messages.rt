@@ -1,6 +1,6 @@
 //! Bytes of messages, some bits of which are reserved for later versions.
 
-ghost use Rattle.std.specs.Prelude.{◌≡◌, ◌↔◌, IfSome, IsSome};
+ghost use Rattle.std.specs.Prelude.{◌≡◌, ◌↔◌, IfSome, IsSome, length};
 ghost use Rattle.enumset.specs.Sets as set;
 ghost use Rattle.enumset.specs.Sets.{bits, valid_bits};
 
@@ -14,4 +14,11 @@ pub fn read(byte: u8) -> Option<EnumSet<Permission>>
         (valid_bits ⟦<Permission as EnumSetType>⟧.elements) ≡ set.empty) }
 {
     EnumSet::try_from_u8(byte)
+}
+
+/// Writes permissions into the words of a message: words after the last permission become 0.
+pub fn write(permissions: EnumSet<Permission>, out: &mut [u64])
+    ensures { out.new ≡ set.words permissions (length out.old) }
+{
+    permissions.copy_into_slice_truncated(out);
 }

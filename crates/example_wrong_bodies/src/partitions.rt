@@ -5,7 +5,7 @@ ghost use Rattle.enumset.specs.Sets as set;
 
 use enumset::{EnumSet, EnumSetType};
 
-/// A set in three parts: what one has, what the other has beside, and the rest.
+/// A set in three parts: what one has, what only the other has, and the rest.
 pub fn in_three<T: EnumSetType>(
     whole: &EnumSet<T>,
     one: &EnumSet<T>,

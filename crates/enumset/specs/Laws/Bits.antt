@@ -1,12 +1,18 @@
 -- Laws of numbers and of listed bits.
---     bits_tell      two numbers with the same bits are one
---     bits_in_order      the numbers of the list 0, 1, 2 and so on are those below n
--- `number_max` and `number_min`, the number of the greater set and of the lesser, come from `enumset_repr`.
--- Two rulesets, for `#[tactic(auto, using(enumset::specs::Laws::Bits::numbers))]`: `numbers` has a set and its number,
--- there and back, `listed` the set of a number, of words or of a list, by a list of its bits.
+--     bits_tell      two numbers with the same bits are equal
+--     bits_in_order      the set of the list 0, 1, 2 and so on is the set of the numbers below n
+-- `number_max` and `number_min`, the number of the greater set and of the lesser, come from `enumset_repr`. There are
+-- two rulesets, for `#[tactic(auto, using(enumset::specs::Laws::Bits::numbers))]`: `numbers` has a set and its number,
+-- in both directions, and `listed` has the set of a number, of words or of a list, by a list of its bits.
 use Rattle.std.proofs.Common.{◌≡◌, ℕ, suc, zero, ◌+◌, ◌&&◌, ◌||◌, sym, ap, ◌∙◌, arith, ◌==◌, nat_le, nat_lt}
-use Rattle.enumset_repr.specs.Laws.Common.{range_with_len, nat_tests, is_in, from_list, below, bits, number, same_set, contains_below, contains_from_list, contains_ascending, bits_number, number_bits, bits_within, number_within, bits_listed, words_listed}
-pub use Rattle.enumset_repr.specs.Laws.Ordering.{number_max, number_min}
+use Rattle.std.proofs.lemmas.Bool.Decides.{nat_tests}
+use Rattle.std.specs.List.{range_with_len}
+use Rattle.enumset_repr.specs.BitSet.{is_in, from_list, below}
+use Rattle.enumset_repr.specs.Laws.BitLists.{bits_listed, words_listed}
+use Rattle.enumset_repr.specs.Laws.Members.{same_set, contains_below, contains_from_list, contains_ascending}
+use Rattle.enumset_repr.specs.Laws.Numbers.{bits_number, number_bits, bits_within, number_within}
+pub use Rattle.enumset_repr.specs.Laws.Order.{number_max, number_min}
+use Rattle.enumset_repr.specs.Number.{bits, number}
 
 pub bits_tell : (m n : ℕ) → bits m ≡ bits n → m ≡ n
 bits_tell m n same = sym (number_bits m) ∙ ap number same ∙ number_bits n

@@ -1,13 +1,20 @@
 -- Laws of steps from both ends of a list.
---     both_ends      what came from the front, what is left, and what came from the back reversed are the list
---     ended, ended_answer      once a step gave None, nothing is left;  a step from either end gives None
---     both_ends_whole      then what came from the front and what came from the back reversed are the list
---     none_twice      of an ascending list no item comes twice
+--     both_ends      the items from the front, those left, and those from the back reversed are together the list
+--     ended, ended_answer      after a step that yielded None, nothing is left;  a step from either end yields None
+--     both_ends_whole      then the items from the front and those from the back reversed are together the list
+--     none_twice      no item of an ascending list comes twice
 use Rattle.std.proofs.Common.{◌≡◌, ◌<◌, ℕ, suc, true, not, List, [], ◌∷◌, ◌++◌, None, reverse, refl, sym, ap, ◌∙◌, arith, inl, inr, subst, get_or, append_assoc, append-nil, Contains, true≢false}
-use Rattle.enumset_repr.specs.Laws.Common.{reverse_onto, and_from, false_from_ne_true, nat_tests, Contains-append_cases, is_in, is_distinct, last_push, without_last_push, cases_last, none_last, AscendsFrom, is_in_from, is_in_push, before_last}
+use Rattle.std.proofs.lemmas.Bool.{and_from, false_from_ne_true}
+use Rattle.std.proofs.lemmas.Bool.Decides.{nat_tests}
+use Rattle.std.proofs.lemmas.Grind.{reverse_onto}
+use Rattle.std.proofs.lemmas.List.Elements.{Contains-append_cases}
+use Rattle.enumset_repr.specs.BitSet.{is_in}
+use Rattle.enumset_repr.specs.Laws.Ascending.{AscendsFrom, is_in_from, is_in_push, before_last}
+use Rattle.enumset_repr.specs.Laws.Ends.{last_push, without_last_push, cases_last, none_last}
+use Rattle.enumset_repr.specs.Number.{is_distinct}
+use Rattle.enumset_array.specs.Walks.{answer, without_answer, answers, without_answers, items_among}
 use Rattle.enumset_array.specs.declared.traversal.End.{End}
 use Rattle.enumset_array.specs.declared.traversal.End.TheVariants.{Front, Back}
-use Rattle.enumset_array.specs.Walks.{answer, without_answer, answers, without_answers, items_among}
 use Rattle.enumset.specs.BothEnds.{from_front, from_back}
 
 abbrev both : List ℕ → List End → List ℕ
@@ -30,26 +37,26 @@ both_ends xs (Back ∷ es) = elim (cases_last xs) [
   | inr some ↦ ap (λ l. both l (Back ∷ es)) some.2 ∙ both-back some.0 some.1 es ∙ ap (λ l. l ++ some.1 ∷ []) (both_ends some.0 es) ∙ sym some.2
 ]
 
--- ---- once a step gave None
+-- ---- after a step that yielded None
 
 none_of_none : (e : End) → answer e [] ≡ None
 none_of_none Front = refl
 none_of_none Back = refl
 
--- nothing is left of nothing
+-- steps from the empty list leave the empty list
 none_left : (es : List End) → without_answers [] es ≡ []
 unfolding without_answers
 none_left [] = refl
 none_left (Front ∷ es) = none_left es
 none_left (Back ∷ es) = none_left es
 
--- an end that gives nothing is that of the empty list
+-- a list whose end yields None is empty
 no_answer : (e : End) (xs : List ℕ) → answer e xs ≡ None → xs ≡ []
 no_answer Front [] none = refl
 no_answer Front (x ∷ xs) none = absurd (cc)
 no_answer Back xs none = none_last xs none
 
--- once a step gave None, nothing is left
+-- after a step that yielded None, nothing is left
 pub ended : (xs : List ℕ) (es : List End) → Contains (answers xs es) None → without_answers xs es ≡ []
 unfolding answers without_answers
 ended xs [] has = absurd (omega (arith, has.1))
@@ -79,7 +86,7 @@ items-back : (xs : List ℕ) (x : ℕ) (es : List End) → items (xs ++ x ∷ []
 unfolding answers items_among
 items-back xs x es = rw (last_push xs x, without_last_push xs x) refl
 
--- what came is of the list
+-- each item that came is in the list
 came : (xs : List ℕ) (es : List End) (q : ℕ) → is_in q (items xs es) ≡ true → is_in q xs ≡ true
 unfolding answers items_among
 came xs [] q one = absurd (true≢false (sym one))
@@ -114,6 +121,6 @@ apart k xs (Back ∷ es) ascends = elim (cases_last xs) [
       ∙ and_from _ _ (absent some.1 (items some.0 es) (λ one. before_last k some.0 some.1 some.1 parts (came some.0 es some.1 one))) (apart k some.0 es (ascends-front k some.0 some.1 parts))
 ]
 
--- of an ascending list no item comes twice
+-- no item of an ascending list comes twice
 pub none_twice : (xs : List ℕ) (es : List End) → AscendsFrom 0 xs → is_distinct (items_among (answers xs es)) ≡ true
 none_twice xs es ascends = apart 0 xs es ascends

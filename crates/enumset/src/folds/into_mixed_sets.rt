@@ -10,7 +10,7 @@ use super::into_sets::{sum_element_refs, sum_elements};
 use enumset_mixed::{MixedEnumSet, convert_mixed};
 use enumset_sets::EnumSetTypeWithRepr;
 
-/// Adds each element that an iterator yields. The iterator must end. It stands for Rust's `Extend<&T>`.
+/// Adds each element that an iterator yields, like Rust's `Extend<&T>`. The iterator must end.
 pub fn mixed_extend_refs<'a, T: EnumSetTypeWithRepr + 'a, I: Iterator<Item = &'a T> + Drop>(
     set: &mut MixedEnumSet<T>,
     items: I,
@@ -23,8 +23,7 @@ pub fn mixed_extend_refs<'a, T: EnumSetTypeWithRepr + 'a, I: Iterator<Item = &'a
     set.insert_all(mixed_sum_element_refs(items));
 }
 
-/// Returns the set of the elements that an iterator yields. The iterator must end. It stands for Rust's
-/// `FromIterator<&T>`.
+/// Returns the set of the elements that an iterator yields, like Rust's `FromIterator<&T>`. The iterator must end.
 pub fn mixed_from_refs<'a, T: EnumSetTypeWithRepr + 'a, I: Iterator<Item = &'a T> + Drop>(
     items: I,
 ) -> MixedEnumSet<T>
@@ -36,8 +35,7 @@ pub fn mixed_from_refs<'a, T: EnumSetTypeWithRepr + 'a, I: Iterator<Item = &'a T
     mixed_sum_element_refs(items)
 }
 
-/// Adds each member of each set that an iterator yields. The iterator must end. It stands for Rust's
-/// `Extend<MixedEnumSet<T>>`.
+/// Adds each member of each set that an iterator yields, like Rust's `Extend<MixedEnumSet<T>>`. The iterator must end.
 pub fn mixed_extend_sets<T: EnumSetTypeWithRepr, I: Iterator<Item = MixedEnumSet<T>> + Drop>(
     set: &mut MixedEnumSet<T>,
     items: I,
@@ -49,8 +47,7 @@ pub fn mixed_extend_sets<T: EnumSetTypeWithRepr, I: Iterator<Item = MixedEnumSet
     set.insert_all(items.sum());
 }
 
-/// Adds each member of each set that an iterator yields. The iterator must end. It stands for Rust's
-/// `Extend<&MixedEnumSet<T>>`.
+/// Adds each member of each set that an iterator yields, like Rust's `Extend<&MixedEnumSet<T>>`. The iterator must end.
 pub fn mixed_extend_set_refs<
     'a,
     T: EnumSetTypeWithRepr + 'a,
@@ -64,8 +61,8 @@ pub fn mixed_extend_set_refs<
     set.insert_all(mixed_sum_set_refs(items));
 }
 
-/// Returns the union of the sets that an iterator yields. The iterator must end. It stands for Rust's
-/// `FromIterator<MixedEnumSet<T>>`.
+/// Returns the union of the sets that an iterator yields, like Rust's `FromIterator<MixedEnumSet<T>>`. The iterator
+/// must end.
 pub fn mixed_from_sets<T: EnumSetTypeWithRepr, I: Iterator<Item = MixedEnumSet<T>> + Drop>(
     items: I,
 ) -> MixedEnumSet<T>
@@ -76,8 +73,8 @@ pub fn mixed_from_sets<T: EnumSetTypeWithRepr, I: Iterator<Item = MixedEnumSet<T
     items.sum()
 }
 
-/// Returns the union of the sets that an iterator yields. The iterator must end. It stands for Rust's
-/// `FromIterator<&MixedEnumSet<T>>`.
+/// Returns the union of the sets that an iterator yields, like Rust's `FromIterator<&MixedEnumSet<T>>`. The iterator
+/// must end.
 pub fn mixed_from_set_refs<
     'a,
     T: EnumSetTypeWithRepr + 'a,
@@ -90,8 +87,7 @@ pub fn mixed_from_set_refs<
     mixed_sum_set_refs(items)
 }
 
-/// Returns the union of the sets that an iterator yields. The iterator must end. It stands for Rust's
-/// `Sum<&MixedEnumSet<T>>`.
+/// Returns the union of the sets that an iterator yields, like Rust's `Sum<&MixedEnumSet<T>>`. The iterator must end.
 pub fn mixed_sum_set_refs<
     'a,
     T: EnumSetTypeWithRepr + 'a,
@@ -108,7 +104,7 @@ pub fn mixed_sum_set_refs<
     all
 }
 
-/// Returns the set of the elements that an iterator yields. The iterator must end. It stands for Rust's `Sum<T>`.
+/// Returns the set of the elements that an iterator yields, like Rust's `Sum<T>`. The iterator must end.
 pub fn mixed_sum_elements<T: EnumSetTypeWithRepr, I: Iterator<Item = T> + Drop>(
     items: I,
 ) -> MixedEnumSet<T>
@@ -119,7 +115,7 @@ pub fn mixed_sum_elements<T: EnumSetTypeWithRepr, I: Iterator<Item = T> + Drop>(
     convert_mixed(sum_elements(items))
 }
 
-/// Returns the set of the elements that an iterator yields. The iterator must end. It stands for Rust's `Sum<&T>`.
+/// Returns the set of the elements that an iterator yields, like Rust's `Sum<&T>`. The iterator must end.
 pub fn mixed_sum_element_refs<'a, T: EnumSetTypeWithRepr + 'a, I: Iterator<Item = &'a T> + Drop>(
     items: I,
 ) -> MixedEnumSet<T>

@@ -8,7 +8,7 @@ ghost use Rattle.enumset.specs.Folds.{OnAllItems};
 
 use enumset_sets::{EnumSet, EnumSetType};
 
-/// Adds each element that an iterator yields. The iterator must end. It stands for Rust's `Extend<&T>`.
+/// Adds each element that an iterator yields, like Rust's `Extend<&T>`. The iterator must end.
 pub fn extend_refs<'a, T: EnumSetType + 'a, I: Iterator<Item = &'a T> + Drop>(
     set: &mut EnumSet<T>,
     items: I,
@@ -21,8 +21,7 @@ pub fn extend_refs<'a, T: EnumSetType + 'a, I: Iterator<Item = &'a T> + Drop>(
     set.insert_all(sum_element_refs(items));
 }
 
-/// Returns the set of the elements that an iterator yields. The iterator must end. It stands for Rust's
-/// `FromIterator<&T>`.
+/// Returns the set of the elements that an iterator yields, like Rust's `FromIterator<&T>`. The iterator must end.
 pub fn from_refs<'a, T: EnumSetType + 'a, I: Iterator<Item = &'a T> + Drop>(items: I) -> EnumSet<T>
     requires can { I.can_next items }
     requires finite { IsFinite (I.remaining items) }
@@ -32,8 +31,7 @@ pub fn from_refs<'a, T: EnumSetType + 'a, I: Iterator<Item = &'a T> + Drop>(item
     sum_element_refs(items)
 }
 
-/// Adds each member of each set that an iterator yields. The iterator must end. It stands for Rust's
-/// `Extend<EnumSet<T>>`.
+/// Adds each member of each set that an iterator yields, like Rust's `Extend<EnumSet<T>>`. The iterator must end.
 pub fn extend_sets<T: EnumSetType, I: Iterator<Item = EnumSet<T>> + Drop>(
     set: &mut EnumSet<T>,
     items: I,
@@ -45,8 +43,7 @@ pub fn extend_sets<T: EnumSetType, I: Iterator<Item = EnumSet<T>> + Drop>(
     set.insert_all(items.sum());
 }
 
-/// Adds each member of each set that an iterator yields. The iterator must end. It stands for Rust's
-/// `Extend<&EnumSet<T>>`.
+/// Adds each member of each set that an iterator yields, like Rust's `Extend<&EnumSet<T>>`. The iterator must end.
 pub fn extend_set_refs<'a, T: EnumSetType + 'a, I: Iterator<Item = &'a EnumSet<T>> + Drop>(
     set: &mut EnumSet<T>,
     items: I,
@@ -59,8 +56,8 @@ pub fn extend_set_refs<'a, T: EnumSetType + 'a, I: Iterator<Item = &'a EnumSet<T
     set.insert_all(sum_set_refs(items));
 }
 
-/// Returns the union of the sets that an iterator yields. The iterator must end. It stands for Rust's
-/// `FromIterator<EnumSet<T>>`.
+/// Returns the union of the sets that an iterator yields, like Rust's `FromIterator<EnumSet<T>>`. The iterator must
+/// end.
 pub fn from_sets<T: EnumSetType, I: Iterator<Item = EnumSet<T>> + Drop>(items: I) -> EnumSet<T>
     requires can { I.can_next items }
     requires finite { IsFinite (I.remaining items) }
@@ -69,8 +66,8 @@ pub fn from_sets<T: EnumSetType, I: Iterator<Item = EnumSet<T>> + Drop>(items: I
     items.sum()
 }
 
-/// Returns the union of the sets that an iterator yields. The iterator must end. It stands for Rust's
-/// `FromIterator<&EnumSet<T>>`.
+/// Returns the union of the sets that an iterator yields, like Rust's `FromIterator<&EnumSet<T>>`. The iterator must
+/// end.
 pub fn from_set_refs<'a, T: EnumSetType + 'a, I: Iterator<Item = &'a EnumSet<T>> + Drop>(
     items: I,
 ) -> EnumSet<T>
@@ -81,8 +78,7 @@ pub fn from_set_refs<'a, T: EnumSetType + 'a, I: Iterator<Item = &'a EnumSet<T>>
     sum_set_refs(items)
 }
 
-/// Returns the union of the sets that an iterator yields. The iterator must end. It stands for Rust's
-/// `Sum<&EnumSet<T>>`.
+/// Returns the union of the sets that an iterator yields, like Rust's `Sum<&EnumSet<T>>`. The iterator must end.
 pub fn sum_set_refs<'a, T: EnumSetType + 'a, I: Iterator<Item = &'a EnumSet<T>> + Drop>(
     items: I,
 ) -> EnumSet<T>
@@ -97,7 +93,7 @@ pub fn sum_set_refs<'a, T: EnumSetType + 'a, I: Iterator<Item = &'a EnumSet<T>> 
     all
 }
 
-/// Returns the set of the elements that an iterator yields. The iterator must end. It stands for Rust's `Sum<T>`.
+/// Returns the set of the elements that an iterator yields, like Rust's `Sum<T>`. The iterator must end.
 pub fn sum_elements<T: EnumSetType, I: Iterator<Item = T> + Drop>(items: I) -> EnumSet<T>
     requires can { I.can_next items }
     requires finite { IsFinite (I.remaining items) }
@@ -108,7 +104,7 @@ pub fn sum_elements<T: EnumSetType, I: Iterator<Item = T> + Drop>(items: I) -> E
     all
 }
 
-/// Returns the set of the elements that an iterator yields. The iterator must end. It stands for Rust's `Sum<&T>`.
+/// Returns the set of the elements that an iterator yields, like Rust's `Sum<&T>`. The iterator must end.
 pub fn sum_element_refs<'a, T: EnumSetType + 'a, I: Iterator<Item = &'a T> + Drop>(
     items: I,
 ) -> EnumSet<T>

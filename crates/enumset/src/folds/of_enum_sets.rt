@@ -10,8 +10,7 @@ use super::into_sets::sum_set_refs;
 use enumset_mixed::{MixedEnumSet, convert_mixed};
 use enumset_sets::{EnumSet, EnumSetTypeWithRepr};
 
-/// Adds each member of each set that an iterator yields. The iterator must end. It stands for Rust's
-/// `Extend<EnumSet<T>>`.
+/// Adds each member of each set that an iterator yields, like Rust's `Extend<EnumSet<T>>`. The iterator must end.
 pub fn mixed_extend_enumsets<T: EnumSetTypeWithRepr, I: Iterator<Item = EnumSet<T>> + Drop>(
     set: &mut MixedEnumSet<T>,
     items: I,
@@ -23,8 +22,7 @@ pub fn mixed_extend_enumsets<T: EnumSetTypeWithRepr, I: Iterator<Item = EnumSet<
     set.insert_all(mixed_sum_enumsets(items));
 }
 
-/// Adds each member of each set that an iterator yields. The iterator must end. It stands for Rust's
-/// `Extend<&EnumSet<T>>`.
+/// Adds each member of each set that an iterator yields, like Rust's `Extend<&EnumSet<T>>`. The iterator must end.
 pub fn mixed_extend_enumset_refs<
     'a,
     T: EnumSetTypeWithRepr + 'a,
@@ -38,8 +36,8 @@ pub fn mixed_extend_enumset_refs<
     set.insert_all(mixed_sum_enumset_refs(items));
 }
 
-/// Returns the union of the sets that an iterator yields. The iterator must end. It stands for Rust's
-/// `FromIterator<EnumSet<T>>`.
+/// Returns the union of the sets that an iterator yields, like Rust's `FromIterator<EnumSet<T>>`. The iterator must
+/// end.
 pub fn mixed_from_enumsets<T: EnumSetTypeWithRepr, I: Iterator<Item = EnumSet<T>> + Drop>(
     items: I,
 ) -> MixedEnumSet<T>
@@ -50,8 +48,8 @@ pub fn mixed_from_enumsets<T: EnumSetTypeWithRepr, I: Iterator<Item = EnumSet<T>
     mixed_sum_enumsets(items)
 }
 
-/// Returns the union of the sets that an iterator yields. The iterator must end. It stands for Rust's
-/// `FromIterator<&EnumSet<T>>`.
+/// Returns the union of the sets that an iterator yields, like Rust's `FromIterator<&EnumSet<T>>`. The iterator must
+/// end.
 pub fn mixed_from_enumset_refs<
     'a,
     T: EnumSetTypeWithRepr + 'a,
@@ -64,8 +62,7 @@ pub fn mixed_from_enumset_refs<
     mixed_sum_enumset_refs(items)
 }
 
-/// Returns the union of the sets that an iterator yields. The iterator must end. It stands for Rust's
-/// `Sum<EnumSet<T>>`.
+/// Returns the union of the sets that an iterator yields, like Rust's `Sum<EnumSet<T>>`. The iterator must end.
 pub fn mixed_sum_enumsets<T: EnumSetTypeWithRepr, I: Iterator<Item = EnumSet<T>> + Drop>(
     items: I,
 ) -> MixedEnumSet<T>
@@ -76,8 +73,7 @@ pub fn mixed_sum_enumsets<T: EnumSetTypeWithRepr, I: Iterator<Item = EnumSet<T>>
     convert_mixed(items.sum())
 }
 
-/// Returns the union of the sets that an iterator yields. The iterator must end. It stands for Rust's
-/// `Sum<&EnumSet<T>>`.
+/// Returns the union of the sets that an iterator yields, like Rust's `Sum<&EnumSet<T>>`. The iterator must end.
 pub fn mixed_sum_enumset_refs<
     'a,
     T: EnumSetTypeWithRepr + 'a,

@@ -35,8 +35,8 @@ fn mixed_step<T: EnumSetTypeWithRepr>(iter: &mut MixedEnumSetIter<T>, end: End)
     };
 }
 
-/// Takes a step of an iterator from each of `ends`, in that order. The sum of its asks and its span grows by at most one
-/// for each element that the steps yield.
+/// Takes a step of an iterator from each of `ends`, in that order. The sum of its asks and its span grows by at most
+/// one for each element that the steps yield.
 pub fn take_steps<T: EnumSetType>(iter: &mut EnumSetIter<T>, ends: &[End])
     ensures items { iter.new.items ≡ without_answers iter.old.items ends.now }
     ensures asks { iter.new.asks + iter.new.span

@@ -8,10 +8,10 @@ ghost use Rattle.enumset_sets.specs.Elements.{valid_bits, one_past_greatest};
 
 use enumset_repr::EnumSetTypeRepr;
 use enumset_sets::EnumSetType;
-use enumset_sets::representation::valid_repr;
+use enumset_sets::raw::valid_repr;
 
-/// The valid bits are those in the list of the element type, which has each bit once. They are also the bits of
-/// `ALL_BITS`. They are below the width of the representation.
+/// The valid bits are the bits in the list of the element type, which has each bit once, and the bits of `ALL_BITS`.
+/// They are below the width of the representation.
 pub fn valid_bits_listed<T: EnumSetType>()
     ensures listed { (bit : ℕ)
         → contains (valid_bits T.elements) bit ≡ is_in bit T.elements.bit_list }
@@ -21,7 +21,7 @@ pub fn valid_bits_listed<T: EnumSetType>()
     ensures width { one_past_greatest (valid_bits T.elements) ≡ T.BIT_WIDTH }
     ensures within { IsTrue (is_subset (valid_bits T.elements) (below T.Repr.WIDTH)) }
 {
-    // Its contract says that the valid bits are below the width.
+    // The contract of `valid_repr` says that the valid bits are below the width.
     let _all = valid_repr::<T>();
 }
 
@@ -35,12 +35,11 @@ pub fn bit_and_back<T: EnumSetType>()
     ensures equal { (value other : T)
         → IsTrue (T.PartialEq.eq value other) ↔ (T.elements.bit value ≡ T.elements.bit other) }
 {
-    // Its contract says that the valid bits are below the width.
-    let _all = valid_repr::<T>();
+    valid_bits_listed::<T>();
 }
 
-/// The bits below a width are those of a number and those of a list: at 3 they are `bits 7`, and `from_list` of 0, 1
-/// and 2.
+/// The bits below a width are the bits of a number, and the numbers of a list: at 3 they are `bits 7`, and `from_list`
+/// of 0, 1 and 2.
 pub fn bits_below(width: u32)
     ensures number { bits (2 ^ width - 1) ≡ below width }
     ensures list { from_list (range_with_len 0 width) ≡ below width }

@@ -1,4 +1,4 @@
-//! Laws of folds: only which items there are matters, neither their order nor repeats.
+//! Laws of folds: only which items there are matters, not their order or repeats.
 
 ghost use Rattle.std.specs.Prelude.{◌≡◌, ◌↔◌, List, Contains, map};
 ghost use Rattle.enumset_repr.specs.BitSet.{BitSet, from_list};

@@ -11,7 +11,7 @@ use crate::laws::elements::bit_and_back;
 use enumset_mixed::MixedValue;
 use enumset_sets::EnumSetType;
 
-/// Unknown members stay, if one element or a set of elements is inserted or removed. The complement has no unknown
+/// Unknown members stay if one element or a set of elements is inserted or removed. The complement has no unknown
 /// member.
 pub fn unknown_kept<T: EnumSetType>()
     ensures inserted { (s : BitSet) (element : T)

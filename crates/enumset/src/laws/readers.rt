@@ -1,4 +1,4 @@
-//! Laws of readers of another element type, as of an older program that reads what a newer one wrote.
+//! Laws of readers of another element type, such as an older program that reads what a newer one wrote.
 
 ghost use Rattle.std.specs.Prelude.{◌≡◌, ◌≤◌, Ok, IsTrue};
 ghost use Rattle.enumset_repr.specs.BitSet.{ascending, below, is_subset};
@@ -18,9 +18,9 @@ use enumset_repr::EnumSetTypeRepr;
 use enumset_sets::laws::{all_words_and_back, number_and_back};
 use enumset_sets::{EnumSet, EnumSetType, EnumSetTypeWithRepr};
 
-/// What a writer of one element type wrote of a set, a reader of another reads under `Drop` as the members that it
-/// knows. Under `Refuse` it reads the whole set, or reports `UnknownBits` if there is a member that it does not know. So
-/// it is of words, and of a number at a width that the members are below.
+/// A set is written by one element type and read by another. Under `Drop` the reader returns the members that it knows.
+/// Under `Refuse` it returns the whole set, or reports `UnknownBits` if there is a member that it does not know. This
+/// holds for words, and for a number at a width that the members are below.
 pub fn older_reader<Old: EnumSetType, New: EnumSetType>(
     set: &EnumSet<New>,
     width: JsonWidth,
@@ -37,9 +37,9 @@ pub fn older_reader<Old: EnumSetType, New: EnumSetType>(
     all_words_and_back(set);
 }
 
-/// What [`older_reader`] says is so of names, as lists and as maps, where the names of the two types agree. Under
-/// `Refuse` the fault names the place of the first other member, in a list by the order of the bits, and in a map by
-/// the order of the names.
+/// What [`older_reader`] says also holds for names, in lists and in maps, where the names of the two types agree. Under
+/// `Refuse` the fault has the place of the first member that the reader does not know: in a list by the order of the
+/// bits, in a map by the order of the names.
 pub fn older_reader_of_names<Old: EnumSetNames, New: EnumSetNames>(
     set: &EnumSet<New>,
     unknown: Unknown,
@@ -57,8 +57,8 @@ pub fn older_reader_of_names<Old: EnumSetNames, New: EnumSetNames>(
     number_and_back(set);
 }
 
-/// A mixed set of one element type keeps all bits that a writer of another wrote as words, if they are below its width.
-/// What it writes again, the other type reads as the set that was first written.
+/// A mixed set of one element type keeps all bits that a writer of another type wrote as words, if they are below its
+/// width. The words that it then writes are read by the other type as the set that was first written.
 pub fn carried_along<Old: EnumSetTypeWithRepr, New: EnumSetType>(
     set: &EnumSet<New>,
     past: Unknown,
@@ -76,8 +76,8 @@ pub fn carried_along<Old: EnumSetTypeWithRepr, New: EnumSetType>(
     all_words_and_back(set);
 }
 
-/// What [`carried_along`] says is so of a number, where the representation of the mixed set has at most 64 bits, and
-/// the other type reads and writes at a width that the members are below.
+/// What [`carried_along`] says also holds for a number, where the representation of the mixed set has at most 64 bits,
+/// and the other type reads and writes at a width that the members are below.
 pub fn carried_along_in_number<Old: EnumSetTypeWithRepr, New: EnumSetType>(
     set: &EnumSet<New>,
     width: JsonWidth,

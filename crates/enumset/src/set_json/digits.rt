@@ -20,7 +20,7 @@ pub(super) fn ascii_text(bytes: Vec<u8>) -> String
     unsafe { String::from_utf8_unchecked(bytes) }
 }
 
-/// Appends a number's digits, over room for twenty. In a loop each division would wait for the one before it.
+/// Appends a number's digits, after making room for twenty. In a loop, each division would wait for the one before it.
 #[inline(always)]
 pub(super) fn push_digits(bytes: &mut Vec<u8>, number: u64) -> Result<(), AllocError>
     ensures { OnOk result (bytes.new.items ≡ bytes.old.items ++ decimal number) }
@@ -40,7 +40,7 @@ pub(super) fn push_digits(bytes: &mut Vec<u8>, number: u64) -> Result<(), AllocE
     Ok(())
 }
 
-/// Writes the digits of a number below 10^12 from a place of a row on, and returns the place after them.
+/// Writes the digits of a number below 10^12 to a row, from the index `at` on, and returns the index after them.
 #[inline(always)]
 fn put_twelve(row: &mut [u8], at: usize, number: u64) -> usize
     requires small { number < 1000000000000 }
@@ -62,7 +62,7 @@ fn put_twelve(row: &mut [u8], at: usize, number: u64) -> usize
     next + 8
 }
 
-/// The same, of at most four digits.
+/// The same for at most four digits.
 #[inline(always)]
 fn put_short(row: &mut [u8], at: usize, number: u64) -> usize
     requires small { number < 10000 }
@@ -87,7 +87,7 @@ fn put_short(row: &mut [u8], at: usize, number: u64) -> usize
     at + 4
 }
 
-/// Writes four digits to a place of a row.
+/// Writes four digits to a row, from the index `at` on.
 #[inline(always)]
 fn put_four(row: &mut [u8], at: usize, number: u64)
     requires small { number < 10000 }
@@ -99,7 +99,7 @@ fn put_four(row: &mut [u8], at: usize, number: u64)
     put_pair(row, at + 2, number % 100);
 }
 
-/// Writes two digits to a place of a row.
+/// Writes two digits to a row, from the index `at` on.
 #[inline(always)]
 fn put_pair(row: &mut [u8], at: usize, pair: u64)
     requires small { pair < 100 }

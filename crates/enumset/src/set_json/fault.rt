@@ -1,10 +1,10 @@
-//! Why a set has no JSON value, or a JSON value no set.
+//! Why a set was not written as a JSON value, or a JSON value not read as a set.
 
 use std::alloc::{AllocError, AllocFailed};
 use std::{error, fmt};
 
 /// Why a set was not written as a JSON value, or a JSON value not read as a set. Rust's `enumset` has the errors of
-/// each format in its place.
+/// each format instead.
 #[derive(Clone, Copy, Debug, PartialEq, Eq)]
 pub enum JsonFault {
     /// A member is at or past the width.

@@ -30,9 +30,9 @@ pub fn to_list<T: EnumSetNames>(alloc: Global, set: &EnumSet<T>) -> Result<Value
 
 /// Returns the set of the names of an array of strings, in any order. A name may be repeated.
 ///
-/// The errors are [`JsonFault::NotAnArray`], [`JsonFault::NotAText`] of the first element that is no string and, where
-/// unknown names are refused, [`JsonFault::UnknownName`] of the first, tested in this order. It takes no memory. It
-/// reads the form of `serialize_repr = "list"` of Rust's `enumset`.
+/// The errors are [`JsonFault::NotAnArray`], [`JsonFault::NotAText`] of the first element that is not a string and,
+/// where unknown names are refused, [`JsonFault::UnknownName`] of the first, tested in this order. It takes no memory.
+/// It reads the form of `serialize_repr = "list"` of Rust's `enumset`.
 pub fn from_list<T: EnumSetNames>(value: &Value, unknown: Unknown) -> Result<EnumSet<T>, JsonFault>
     ensures { result ≡ set_of_list (names_of T.elements T.names) unknown (view value.now) }
 {

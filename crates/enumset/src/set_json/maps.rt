@@ -1,4 +1,4 @@
-//! Sets as JSON objects, whose members are names with booleans.
+//! Sets as JSON objects of names with booleans.
 
 ghost use Rattle.std.specs.Prelude.{◌≡◌, IfOk, IfErr};
 ghost use Rattle.serde_json.specs.View.{view};
@@ -28,12 +28,12 @@ pub fn to_map<T: EnumSetNames>(alloc: Global, set: &EnumSet<T>) -> Result<Value,
     Ok(Value::from(members))
 }
 
-/// Returns the set of the names with `true` of an object of booleans. A name with `false` is left out.
+/// Returns the set of the names that have `true` in an object of booleans. A name with `false` is left out.
 ///
-/// The errors are [`JsonFault::NotAnObject`], [`JsonFault::NotABoolean`] of the first name whose value is no boolean
-/// and, where unknown names are refused, [`JsonFault::UnknownName`] of the first, with `true` or with `false`, tested
-/// in this order. The first is that of the names in the order of their bytes. It takes no memory. It reads the form of
-/// `serialize_repr = "map"` of Rust's `enumset`.
+/// The errors are [`JsonFault::NotAnObject`], [`JsonFault::NotABoolean`] of the first name whose value is not a
+/// boolean and, where unknown names are refused, [`JsonFault::UnknownName`] of the first, with `true` or with `false`,
+/// tested in this order. The first is the first in the order of the names' bytes. It takes no memory. It reads the form
+/// of `serialize_repr = "map"` of Rust's `enumset`.
 pub fn from_map<T: EnumSetNames>(value: &Value, unknown: Unknown) -> Result<EnumSet<T>, JsonFault>
     ensures { result ≡ set_of_map (names_of T.elements T.names) unknown (view value.now) }
 {

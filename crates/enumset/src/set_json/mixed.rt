@@ -21,8 +21,8 @@ use serde_json::Value;
 use std::alloc::Global;
 
 /// Returns the set's number, unknown bits included. The representation may have 64 bits at most. It takes no memory,
-/// and always succeeds; the allocator and the `Result` are those of the other writers. It is what Rust's `enumset`
-/// writes of a `MixedEnumSet`.
+/// and always succeeds; the allocator and the `Result` are as in the other writers. It is what Rust's `enumset` writes
+/// for a `MixedEnumSet`.
 pub fn mixed_to_number<T: EnumSetTypeWithRepr>(
     _alloc: Global,
     set: &MixedEnumSet<T>,
@@ -40,7 +40,7 @@ pub(super) fn mixed_number_of<T: EnumSetTypeWithRepr>(set: &MixedEnumSet<T>) -> 
     ensures { result ≡ number set.now }
 {
     let repr = set.as_repr();
-    // That the members are below the width is a law of values.
+    // Each member of a value is below the width.
     repr.learn_is_value();
     repr.to_u64()
 }
@@ -48,7 +48,7 @@ pub(super) fn mixed_number_of<T: EnumSetTypeWithRepr>(set: &MixedEnumSet<T>) -> 
 /// Returns the set of all bits of a number below two to the representation's width, which may be 64 at most.
 ///
 /// The errors are [`JsonFault::NotANumber`], [`JsonFault::NotWhole`] and [`JsonFault::OutOfRange`], tested in this
-/// order. It takes no memory. It reads what Rust's `enumset` writes of a `MixedEnumSet`.
+/// order. It takes no memory. It reads what Rust's `enumset` writes for a `MixedEnumSet`.
 pub fn mixed_from_number<T: EnumSetTypeWithRepr>(
     value: &Value,
 ) -> Result<MixedEnumSet<T>, JsonFault>
@@ -88,9 +88,9 @@ pub fn mixed_to_words<T: EnumSetTypeWithRepr>(
 /// Returns the set of all bits of an array of words of 64 bits, the lowest first. There may be any number of them. Bits
 /// at and past the representation's width are left out, or refused.
 ///
-/// The errors are [`JsonFault::NotAnArray`], [`JsonFault::NotAWord`] of the first element that is none and, where bits
-/// past the width are refused, [`JsonFault::OutOfRange`], tested in this order. It takes no memory. Rust's `enumset`
-/// reads a number of 128 bits instead.
+/// The errors are [`JsonFault::NotAnArray`], [`JsonFault::NotAWord`] of the first element that is not one and, where
+/// bits past the width are refused, [`JsonFault::OutOfRange`], tested in this order. It takes no memory. Rust's
+/// `enumset` reads a number of 128 bits instead.
 pub fn mixed_from_words<T: EnumSetTypeWithRepr>(
     value: &Value,
     past: Unknown,

@@ -24,7 +24,7 @@ use serde_json::Value;
 use std::alloc::Global;
 
 /// Writes the digits of the set's number, unknown bits included. The representation may have 64 bits at most. The only
-/// fault is [`JsonFault::OutOfMemory`]. `serde_json` writes this string of a `MixedEnumSet` of Rust's `enumset`.
+/// fault is [`JsonFault::OutOfMemory`]. `serde_json` writes this string for a `MixedEnumSet` of Rust's `enumset`.
 pub fn mixed_to_number_text<T: EnumSetTypeWithRepr>(
     alloc: Global,
     set: &MixedEnumSet<T>,
@@ -56,7 +56,7 @@ pub fn mixed_to_words_text<T: EnumSetTypeWithRepr>(
 
 /// Reads a set from a string of JSON that is a number, as [`mixed_from_number`] reads it from the number. The
 /// representation may have 64 bits at most. It has the faults of [`mixed_from_number`] and two more:
-/// [`JsonFault::NotJson`] if the string is not JSON, and [`JsonFault::OutOfMemory`], since other strings than whole
+/// [`JsonFault::NotJson`] if the string is not JSON, and [`JsonFault::OutOfMemory`], since strings other than whole
 /// numbers are parsed in memory.
 pub fn mixed_from_number_text<T: EnumSetTypeWithRepr>(
     alloc: Global,
@@ -73,7 +73,7 @@ pub fn mixed_from_number_text<T: EnumSetTypeWithRepr>(
 
 /// Reads a set from a string of JSON that is an array of words of 64 bits, as [`mixed_from_words`] reads it from the
 /// array. It has the faults of [`mixed_from_words`] and two more: [`JsonFault::NotJson`] if the string is not JSON, and
-/// [`JsonFault::OutOfMemory`], since other strings than arrays of whole numbers are parsed in memory.
+/// [`JsonFault::OutOfMemory`], since strings other than arrays of whole numbers are parsed in memory.
 pub fn mixed_from_words_text<T: EnumSetTypeWithRepr>(
     alloc: Global,
     text: &str,

@@ -11,14 +11,14 @@ use super::unknown::Unknown;
 use crate::names::{EnumSetNames, find_value};
 use enumset_sets::EnumSet;
 
-/// What the names are that were read so far.
+/// The names that were read so far.
 #[derive(Drop)]
 pub(super) struct NamesRead<T: EnumSetNames> {
-    /// The values that they name and that are members.
+    /// The members that they name.
     set: EnumSet<T>,
     /// The place of the first name that no value has.
     first_unknown: Option<usize>,
-    /// Where the search for the next name begins in the list of all names.
+    /// The index in the list of all names where the search for the next name begins.
     next: usize,
 }
 
@@ -36,7 +36,7 @@ impl<T: EnumSetNames> NamesRead<T> {
         }
     }
 
-    /// Reads one more name: puts in its value where it is a member, or keeps the place of the first unknown name.
+    /// Reads one more name: inserts its value if it is a member, or keeps the place of the first unknown name.
     #[inline(always)]
     pub(super) fn take(&mut self, name: &[u8], is_member: bool, place: usize)
         ensures set { self.new.set ≡ (if is_member

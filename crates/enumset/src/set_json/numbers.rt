@@ -16,8 +16,8 @@ use serde_json::Value;
 use std::alloc::Global;
 
 /// Returns the set's number, if each member is below the width, else [`JsonFault::TooWide`]. It takes no memory: the
-/// allocator is there because each writer of a value takes one. It is the form of `serialize_repr = "u8"` to `"u64"` of
-/// Rust's `enumset`.
+/// allocator is there because every writer of a value takes one. It is the form of `serialize_repr = "u8"` to `"u64"`
+/// of Rust's `enumset`.
 pub fn to_number<T: EnumSetType>(
     _alloc: Global,
     set: &EnumSet<T>,

@@ -1,4 +1,4 @@
-//! Texts of lists of names that stand for themselves, written and read without a tree of values.
+//! Texts of lists of names without escapes, written and read without a tree of values.
 
 ghost use Rattle.std.specs.Prelude.{◌≡◌, ◌==◌, ◌++◌, if◌then◌else◌, IfSome, OnOk, length, string_bytes};
 ghost use Rattle.enumset.specs.JsonNames.{list_value, set_of_list};
@@ -14,7 +14,7 @@ use crate::names::EnumSetNames;
 use enumset_sets::EnumSet;
 use std::alloc::{AllocError, Global};
 
-/// A text of names that stand for themselves. There is none where one needs an escape.
+/// A text of names without escapes, or `None` if a name needs one.
 pub(super) type TextIfPlain = Result<Option<String>, AllocError>;
 
 /// The list of the members' names, unless one of them needs an escape.
@@ -35,7 +35,7 @@ pub(super) fn write_plain_list<T: EnumSetNames>(alloc: Global, set: &EnumSet<T>)
     Ok(Some(text))
 }
 
-/// Begins a text, or goes on with it. Each piece has a known length at each call, so no call copies it.
+/// Begins a text with `first`, or goes on with `later`. It is inlined so that each piece has a known length.
 #[inline(always)]
 pub(super) fn push_either(text: &mut String, first: &str, later: &str) -> Result<(), AllocError>
     ensures { OnOk result (string_bytes text.new
@@ -48,7 +48,7 @@ pub(super) fn push_either(text: &mut String, first: &str, later: &str) -> Result
     }
 }
 
-/// What is read of a list of plain strings, with spaces anywhere between its tokens. No other text is read.
+/// The result of reading a list of plain strings, with spaces anywhere between its tokens. No other text is read.
 pub(super) fn read_plain_list<T: EnumSetNames>(
     text: &str,
     unknown: Unknown,

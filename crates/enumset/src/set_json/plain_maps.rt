@@ -1,4 +1,4 @@
-//! Texts of maps of names that stand for themselves, written and read without a tree of values.
+//! Texts of maps of names without escapes, written and read without a tree of values.
 
 ghost use Rattle.std.specs.Prelude.{Ok, IfSome};
 ghost use Rattle.enumset_repr.specs.BitSet.{BitSet};

@@ -18,7 +18,7 @@ pub(super) fn write_plain_number(alloc: Global, number: u64) -> Result<String, A
     Ok(ascii_text(bytes))
 }
 
-/// The whole number below 2^64 that a text is, but for spaces at its ends. No other text is read.
+/// The whole number below 2^64 in a text that has nothing else, except spaces at its ends. No other text is read.
 pub(super) fn read_plain_number(text: &str) -> Option<u64>
     ensures { IfSome result (λ number. read text.now ≡ Some (number_value number)) }
 {
@@ -27,7 +27,7 @@ pub(super) fn read_plain_number(text: &str) -> Option<u64>
     are_spaces(end).then_some(number)
 }
 
-/// The whole number below 2^64 whose digits stand first, and what follows them.
+/// The whole number below 2^64 whose digits come first, and what follows them.
 #[inline(always)]
 pub(super) fn split_number(bytes: &[u8]) -> Option<(u64, &[u8])>
     ensures below { IfSome result (λ parts. parts.0 < 2 ^ 64) }
@@ -38,7 +38,7 @@ pub(super) fn split_number(bytes: &[u8]) -> Option<(u64, &[u8])>
     if number == 0 {
         return Some((0, rest));
     }
-    // Two digits a turn, under one test, are faster than one. Nineteen always fit: only the next is tested for it.
+    // Two digits a turn, with one test, are faster than one. Nineteen digits always fit: only a twentieth can overflow.
     let count = rest.len().min(18);
     let mut at = 0;
     while at + 2 <= count {

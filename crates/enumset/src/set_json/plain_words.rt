@@ -39,7 +39,7 @@ pub(super) fn write_plain_words<R: EnumSetTypeRepr>(
 }
 
 /// The bits of an array's words below the representation's width, and whether these are all their bits. The array has
-/// whole numbers below 2^64 alone, with spaces anywhere between its tokens. No other text is read.
+/// only whole numbers below 2^64, with spaces anywhere between its tokens. No other text is read.
 pub(super) fn read_plain_words<R: EnumSetTypeRepr>(text: &str) -> Option<WordsRead<R>>
     ensures { IfSome result (λ found. (ws : List ℕ)
         × (read text.now ≡ Some (words_value ws))

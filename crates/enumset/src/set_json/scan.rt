@@ -1,12 +1,12 @@
-//! Steps over a JSON text whose strings stand for themselves: spaces byte by byte, strings sixteen bytes at a time where
-//! as many are left.
+//! Steps over a JSON text whose strings have no escapes: spaces byte by byte, strings sixteen bytes at a time where
+//! sixteen are left.
 
 ghost use Rattle.std.specs.Prelude.{◌≡◌, ◌≤◌, ◌+◌, ◌*◌, ◌++◌, ◌∷◌, [], IfSome, IsTrue, length, take, drop};
 ghost use Rattle.enumset.specs.JsonPlain.{IsPlain, AreSpaces, Passed};
 
 use std::simd::prelude::*;
 
-/// Whether a byte stands for itself in a JSON string.
+/// Whether a byte needs no escape in a JSON string and does not end it.
 #[inline(always)]
 fn is_plain_byte(byte: u8) -> bool
     ensures { IsTrue result → IsPlain (byte ∷ []) }
@@ -14,7 +14,7 @@ fn is_plain_byte(byte: u8) -> bool
     byte != b'"' && byte != b'\\' && byte >= b' '
 }
 
-/// Whether a name stands for itself in a JSON string.
+/// Whether a name needs no escape in a JSON string.
 pub(super) fn is_plain(name: &str) -> bool
     ensures { IsTrue result → IsPlain name.now }
 {
@@ -26,7 +26,7 @@ pub(super) fn is_plain(name: &str) -> bool
     }
 }
 
-/// Whether the first N bytes stand for themselves, and the last N: for short names, faster than byte by byte.
+/// Whether the first N bytes and the last N are plain: for short names, faster than byte by byte.
 #[inline(always)]
 fn are_ends_plain<const N: usize>(bytes: &[u8]) -> bool
     requires room { N ≤ length bytes.now }
@@ -37,7 +37,7 @@ fn are_ends_plain<const N: usize>(bytes: &[u8]) -> bool
     plain_before::<N>(bytes, 0) == N && plain_before::<N>(bytes, bytes.len() - N) == N
 }
 
-/// How many bytes at the front stand for themselves.
+/// How many bytes at the front are plain.
 #[inline(always)]
 fn plain_len(bytes: &[u8]) -> usize
     ensures within { result ≤ length bytes.now }
@@ -57,7 +57,7 @@ fn plain_len(bytes: &[u8]) -> usize
     bytes.len()
 }
 
-/// How many of the N bytes from a place on come before one that does not stand for itself.
+/// How many of the N bytes from a place on come before one that is not plain.
 #[inline(always)]
 fn plain_before<const N: usize>(bytes: &[u8], begin: usize) -> usize
     requires room { begin + N ≤ length bytes.now }
@@ -88,7 +88,7 @@ pub(super) fn split_spaces(bytes: &[u8]) -> (&[u8], &[u8])
     bytes.split_at(bytes.len())
 }
 
-/// What follows a byte that stands first but for spaces.
+/// What follows a byte, if only spaces come before it.
 #[inline(always)]
 pub(super) fn after_byte(bytes: &[u8], byte: u8) -> Option<&[u8]>
     ensures { IfSome result (λ rest. Passed bytes.now byte rest.now) }
@@ -97,7 +97,7 @@ pub(super) fn after_byte(bytes: &[u8], byte: u8) -> Option<&[u8]>
     (*first == byte).then_some(rest)
 }
 
-/// Whether there are spaces alone.
+/// Whether there are only spaces.
 #[inline(always)]
 pub(super) fn are_spaces(bytes: &[u8]) -> bool
     ensures { IsTrue result → AreSpaces bytes.now }

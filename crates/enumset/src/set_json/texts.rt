@@ -32,7 +32,7 @@ use serde_json::Value;
 use std::alloc::Global;
 
 /// Writes the digits of the set's number, if each member is below the width, else [`JsonFault::TooWide`]. The other
-/// fault is [`JsonFault::OutOfMemory`]. `serde_json` writes this string of a set of Rust's `enumset` under
+/// fault is [`JsonFault::OutOfMemory`]. `serde_json` writes this string for a set of Rust's `enumset` under
 /// `serialize_repr = "u8"` to `"u64"`.
 pub fn to_number_text<T: EnumSetType>(
     alloc: Global,
@@ -49,7 +49,7 @@ pub fn to_number_text<T: EnumSetType>(
 }
 
 /// Writes the set's words of 64 bits as an array without spaces, the lowest first, as many as its representation has.
-/// The only fault is [`JsonFault::OutOfMemory`]. `serde_json` writes this string of a set of Rust's `enumset` under
+/// The only fault is [`JsonFault::OutOfMemory`]. `serde_json` writes this string for a set of Rust's `enumset` under
 /// `serialize_repr = "array"`.
 pub fn to_words_text<T: EnumSetType>(alloc: Global, set: &EnumSet<T>) -> Result<String, JsonFault>
     ensures text { IfOk result (λ text. string_bytes text
@@ -61,9 +61,9 @@ pub fn to_words_text<T: EnumSetType>(alloc: Global, set: &EnumSet<T>) -> Result<
     Ok(write_plain_words(alloc, &raw::get(set.copied()))?)
 }
 
-/// Writes the names of the set's members as an array without spaces, in ascending order of their bits, as
-/// `["Read","Share"]`. The only fault is [`JsonFault::OutOfMemory`]. `serde_json` writes this string of a set of Rust's
-/// `enumset` under `serialize_repr = "list"`.
+/// Writes the names of the set's members as an array without spaces, in ascending order of their bits, such as
+/// `["Read","Share"]`. The only fault is [`JsonFault::OutOfMemory`]. `serde_json` writes this string for a set of
+/// Rust's `enumset` under `serialize_repr = "list"`.
 pub fn to_list_text<T: EnumSetNames>(alloc: Global, set: &EnumSet<T>) -> Result<String, JsonFault>
     ensures text { IfOk result (λ text. string_bytes text
         ≡ compact_text (list_value (names_of T.elements T.names) set.now)) }
@@ -78,8 +78,8 @@ pub fn to_list_text<T: EnumSetNames>(alloc: Global, set: &EnumSet<T>) -> Result<
 }
 
 /// Writes an object without spaces that has the name of each of the set's members with `true`, in the order of the
-/// names' bytes, as `{"Read":true,"Share":true}`. The only fault is [`JsonFault::OutOfMemory`]. `serde_json` writes
-/// this string of a set of Rust's `enumset` under `serialize_repr = "map"`, but in the order of bits.
+/// names' bytes, such as `{"Read":true,"Share":true}`. The only fault is [`JsonFault::OutOfMemory`]. `serde_json`
+/// writes this string for a set of Rust's `enumset` under `serialize_repr = "map"`, but in the order of bits.
 pub fn to_map_text<T: EnumSetNames>(alloc: Global, set: &EnumSet<T>) -> Result<String, JsonFault>
     ensures text { IfOk result (λ text. string_bytes text
         ≡ compact_text (map_value (names_of T.elements T.names) set.now)) }
@@ -95,7 +95,7 @@ pub fn to_map_text<T: EnumSetNames>(alloc: Global, set: &EnumSet<T>) -> Result<S
 
 /// Reads a set from a string of JSON that is a number, as [`from_number`] reads it from the number. It has the faults
 /// of [`from_number`] and two more: [`JsonFault::NotJson`] if the string is not JSON, and [`JsonFault::OutOfMemory`],
-/// since other strings than whole numbers are parsed in memory.
+/// since strings other than whole numbers are parsed in memory.
 pub fn from_number_text<T: EnumSetType>(
     alloc: Global,
     text: &str,
@@ -112,7 +112,7 @@ pub fn from_number_text<T: EnumSetType>(
 
 /// Reads a set from a string of JSON that is an array of words of 64 bits, as [`from_words`] reads it from the array.
 /// It has the faults of [`from_words`] and two more: [`JsonFault::NotJson`] if the string is not JSON, and
-/// [`JsonFault::OutOfMemory`], since other strings than arrays of whole numbers are parsed in memory.
+/// [`JsonFault::OutOfMemory`], since strings other than arrays of whole numbers are parsed in memory.
 pub fn from_words_text<T: EnumSetType>(
     alloc: Global,
     text: &str,
@@ -128,7 +128,7 @@ pub fn from_words_text<T: EnumSetType>(
 
 /// Reads a set from a string of JSON that is an array of names, as [`from_list`] reads it from the array. It has the
 /// faults of [`from_list`] and two more: [`JsonFault::NotJson`] if the string is not JSON, and
-/// [`JsonFault::OutOfMemory`], since other strings than arrays of strings without escapes are parsed in memory.
+/// [`JsonFault::OutOfMemory`], since strings other than arrays of strings without escapes are parsed in memory.
 pub fn from_list_text<T: EnumSetNames>(
     alloc: Global,
     text: &str,
@@ -144,7 +144,7 @@ pub fn from_list_text<T: EnumSetNames>(
 
 /// Reads a set from a string of JSON that is an object of names, as [`from_map`] reads it from the object. It has the
 /// faults of [`from_map`] and two more: [`JsonFault::NotJson`] if the string is not JSON, and
-/// [`JsonFault::OutOfMemory`], since other strings than objects with known names, each once and without escapes, are
+/// [`JsonFault::OutOfMemory`], since strings other than objects with known names, each once and without escapes, are
 /// parsed in memory.
 pub fn from_map_text<T: EnumSetNames>(
     alloc: Global,

@@ -12,7 +12,7 @@ use super::fault::JsonFault;
 use super::unknown::Unknown;
 use super::words_read::WordsRead;
 use enumset_repr::EnumSetTypeRepr;
-use enumset_sets::{EnumSet, EnumSetType, raw, representation};
+use enumset_sets::{EnumSet, EnumSetType, raw};
 use serde_json::Value;
 use std::alloc::Global;
 
@@ -45,7 +45,7 @@ pub(super) fn write_words<R: EnumSetTypeRepr>(alloc: Global, repr: &R) -> Result
 /// Returns the set of the valid bits of an array of words of 64 bits, the lowest first. There may be any number of
 /// them.
 ///
-/// The errors are [`JsonFault::NotAnArray`], [`JsonFault::NotAWord`] of the first element that is none and, where
+/// The errors are [`JsonFault::NotAnArray`], [`JsonFault::NotAWord`] of the first element that is not one and, where
 /// unknown bits are refused, [`JsonFault::UnknownBits`], tested in this order. It takes no memory. It reads the form of
 /// `serialize_repr = "array"` of Rust's `enumset`.
 pub fn from_words<T: EnumSetType>(value: &Value, unknown: Unknown) -> Result<EnumSet<T>, JsonFault>
@@ -54,7 +54,7 @@ pub fn from_words<T: EnumSetType>(value: &Value, unknown: Unknown) -> Result<Enu
     accepted(read_words(value)?, unknown)
 }
 
-/// The set of the valid bits that words have below the width, unless the words have other bits and these are refused.
+/// The set of the valid bits of words, unless the words have other bits and these are refused.
 pub(super) fn accepted<T: EnumSetType>(
     words: WordsRead<T::Repr>,
     unknown: Unknown,
@@ -64,7 +64,7 @@ pub(super) fn accepted<T: EnumSetType>(
         → result ≡ accepted (valid_bits T.elements) unknown bits }
 {
     let WordsRead { repr, is_whole } = words;
-    let all = representation::valid_repr::<T>();
+    let all = raw::valid_repr::<T>();
     match unknown {
         Unknown::Drop => Ok(raw::new(repr & all)),
         Unknown::Refuse if is_whole && repr.is_subset_of(&all) => Ok(raw::new(repr)),

@@ -7,7 +7,7 @@ ghost use Rattle.enumset_repr.specs.Words.{word as word_of, with_word};
 use enumset_repr::EnumSetTypeRepr;
 use enumset_repr::repr::word_or_zero;
 
-/// What the words are that were read so far.
+/// The words that were read so far.
 #[derive(Drop)]
 pub(super) struct WordsRead<R: EnumSetTypeRepr> {
     /// Their bits below the width.

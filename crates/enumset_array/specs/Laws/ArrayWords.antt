@@ -3,14 +3,23 @@
 --     used_is, used_fit      the words in use
 --     contains_set_of      64 w + b is a member exactly if b is a bit of word w
 --     set_is      the set, by the bits of each word
---     word_is, inverse      the words of the set are the words
+--     word_is, inverse      the words of the set are the words of the `ArrayRepr`
 --     within      each member is below 64 times the number of words in use
 --     repr_of_none, set_of_none      the words of the empty set are all 0
 --     none_iff      the set is empty exactly if the test of all words says that each is 0
 --     equal      lists of words are equal exactly if their sets are
 --     width_words      there are as many words as the width needs
 use Rattle.std.proofs.Common.{eqb-true, zero, suc, [], ◌∷◌, refl, ◌≡◌, ◌<◌, ◌≤◌, ℕ, ◌+◌, ◌-◌, ◌*◌, ◌/◌, ◌^◌, true, List, length, drop, sym, ap, ◌∙◌, subst, arith, ◌↔◌, lit<, ◌==◌, IsTrue, nat_eq, slice_index, replicate, get_or-take, get_or-drop, length-take}
-use Rattle.enumset_repr.specs.Laws.Common.{and_parts, and_from, list_all, pointwise, same_text, nat_list_eq_equiv, get_or_past, length-replicate, drop-replicate, BitSet, contains, empty, below, is_subset, bits, word, words, same_set, contains_empty, bits_of_within, contains_bits_of, by_word, contains_zero, word_bits_of, words_bits_of, word_empty}
+use Rattle.std.proofs.lemmas.Bool.{and_parts, and_from}
+use Rattle.std.proofs.lemmas.Cmp.{nat_list_eq_equiv}
+use Rattle.std.proofs.lemmas.List.{get_or_past, length-replicate, drop-replicate}
+use Rattle.std.specs.Cmp.Lexicographic.{pointwise, same_text}
+use Rattle.std.specs.List.{list_all}
+use Rattle.enumset_repr.specs.BitSet.{BitSet, contains, empty, below, is_subset}
+use Rattle.enumset_repr.specs.Laws.Members.{same_set, contains_empty}
+use Rattle.enumset_repr.specs.Laws.WordLists.{bits_of_within, contains_bits_of, by_word, contains_zero, word_bits_of, words_bits_of, word_empty}
+use Rattle.enumset_repr.specs.Number.{bits}
+use Rattle.enumset_repr.specs.Words.{word, words}
 use Rattle.enumset_array.specs.ArrayWords.{in_use, words_in_use, set_of, is_empty_past, IsArrayRepr}
 
 -- ---- lists of zeros

@@ -1,8 +1,10 @@
 -- The steps of an iterator that counts its asks.
---     counted      steps that count their asks bound them, and a clone that is the same has the same asks and span
---     listed      its steps are those of the list of the items left
+--     counted      steps that count their asks bound them, and an equal clone has the same asks and span
+--     listed      its steps are steps of the list of the items left
 use Rattle.std.proofs.Common.{◌≡◌, refl, ap, arith}
-use Rattle.enumset_repr.specs.Laws.Common.{YieldsFirst, YieldsLast, item_count, IterView, IsCounted, IsListed}
+use Rattle.std.specs.Iterator.{YieldsFirst, YieldsLast, item_count}
+use Rattle.enumset_repr.specs.Asks.{IterView, IsCounted}
+use Rattle.enumset_repr.specs.Representations.{IsListed}
 use Rattle.enumset_array.specs.OneStep.{CountsAsks}
 
 pub counted : IsCounted (λ (i : IterView). i.asks) (λ i. i.span)

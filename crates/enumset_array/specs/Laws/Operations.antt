@@ -1,7 +1,13 @@
--- The operations on words that are operations on sets.
+-- The operations on words that do to their bits what operations on sets do.
 --     on_and, on_or, on_xor, on_and_not      `&`, `|`, `^` and `& !`
 use Rattle.std.proofs.Common.{not, ◌&&◌, ◌||◌, bit_and, bit_or, refl, w64, bit_xor}
-use Rattle.enumset_repr.specs.Laws.Common.{bit_not, and_lt, or_lt, xor_lt, ones_sub-lt, intersection, union, difference, symmetric_difference, contains_intersection, contains_union, contains_difference, contains_symmetric_difference, bits_and, bits_or, bits_xor, bits_and_not}
+use Rattle.std.proofs.Math.Pow.{ones_sub-lt}
+use Rattle.std.proofs.lemmas.Nat.{or_lt, xor_lt}
+use Rattle.std.specs.Int.{bit_not}
+use Rattle.std.specs.Int.Bits.{and_lt}
+use Rattle.enumset_repr.specs.BitSet.{intersection, union, difference, symmetric_difference}
+use Rattle.enumset_repr.specs.Laws.Members.{contains_intersection, contains_union, contains_difference, contains_symmetric_difference}
+use Rattle.enumset_repr.specs.Laws.Numbers.{bits_and, bits_or, bits_xor, bits_and_not}
 use Rattle.enumset_array.specs.Operations.{IsOnBits}
 
 pub on_and : IsOnBits bit_and intersection

@@ -1,14 +1,20 @@
--- The order of the words of an `ArrayRepr` is that of the sets that they represent.
+-- The words of two `ArrayRepr` compare as the sets that they represent.
 --     highest_first_total, highest_first_partial, highest_first_ties      the order is total, and only equal lists
 --         compare as equal
---     highest_first_cons      of two lists the first words decide only if the words after them are equal
---     compare_is      the order of the words of an `ArrayRepr` is that of their sets
+--     highest_first_cons      the first words of two lists decide only if the words after them are equal
+--     compare_is      the words of two `ArrayRepr` compare as their sets
 use Rattle.std.proofs.Common.{◌≡◌, ◌<◌, ℕ, suc, ◌+◌, ◌*◌, ◌^◌, true, List, [], ◌∷◌, ◌++◌, length, Some, refl, sym, ap, ◌∙◌, arith, nat_eq, reverse, Ordering, Less, Equal, Greater, nat_cmp}
-use Rattle.enumset_repr.specs.Laws.Common.{ordering_then, eq_by_cmp, IsTotalOrder, IsPartialOrder, nat_cmp_total, unsigned_ties, on_total, po, both_ways, slice_cmp, pointwise, lists_total, lists_ties, same_text, nat_tests, nat_list_eq_equiv, length-reverse, reverse-append, reverse-reverse, compare}
+use Rattle.std.proofs.lemmas.Bool.Decides.{nat_tests}
+use Rattle.std.proofs.lemmas.Cmp.{nat_list_eq_equiv}
+use Rattle.std.proofs.lemmas.List.{length-reverse, reverse-append, reverse-reverse}
+use Rattle.std.specs.Cmp.{IsTotalOrder, IsPartialOrder, nat_cmp_total, unsigned_ties, on_total, po, both_ways}
+use Rattle.std.specs.Cmp.Lexicographic.{slice_cmp, pointwise, lists_total, lists_ties, same_text}
+use Rattle.std.specs.Ordering.{ordering_then, eq_by_cmp}
 use Rattle.enumset_repr.specs.Laws.Order.{compare_number}
+use Rattle.enumset_repr.specs.Order.{compare}
 use Rattle.enumset_array.specs.ArrayWords.{set_of, IsArrayRepr}
-use Rattle.enumset_array.specs.Order.{highest_first}
 use Rattle.enumset_array.specs.Laws.Values.{value, AllFit, number_is}
+use Rattle.enumset_array.specs.Order.{highest_first}
 
 -- ---- lists of words compare as their numbers do
 

@@ -1,9 +1,20 @@
 -- A list of words as one number, the lowest word first.
 --     value, AllFit      the number;  each word has 64 bits
---     number_is      the number of the words of an `ArrayRepr` is that of their set
+--     number_is      the words of an `ArrayRepr` and their set have the same number
 --     len_bits_of      the members of the set are counted word by word
 use Rattle.std.proofs.Common.{◌≡◌, ◌<◌, ℕ, suc, ◌+◌, ◌-◌, ◌*◌, ◌^◌, List, [], ◌∷◌, sym, ap, ◌∙◌, arith, refl, slice_index, sum_by}
-use Rattle.enumset_repr.specs.Laws.Common.{count_ones, nat_tests, sum_by-cons, ones_cat, bit_at_cat_low, bit_at_cat_high, contains, len, bits, number, bits_of, upward_shift, same_set, contains_union, bits_zero, contains_bits, number_bits, len_bits, contains_bits_of, contains_bits_above, contains_upward_shift}
+use Rattle.std.proofs.lemmas.Bool.Decides.{nat_tests}
+use Rattle.std.proofs.lemmas.List.Sums.{sum_by-cons}
+use Rattle.std.proofs.lemmas.Nat.{ones_cat}
+use Rattle.std.proofs.lemmas.Nat.Bits.{bit_at_cat_low, bit_at_cat_high}
+use Rattle.std.specs.Int.RustNames.{count_ones}
+use Rattle.enumset_repr.specs.BitSet.{contains, len}
+use Rattle.enumset_repr.specs.Laws.Members.{same_set, contains_union}
+use Rattle.enumset_repr.specs.Laws.Numbers.{bits_zero, contains_bits, number_bits, len_bits}
+use Rattle.enumset_repr.specs.Laws.WordLists.{contains_bits_of, contains_bits_above}
+use Rattle.enumset_repr.specs.Laws.Words.{contains_upward_shift}
+use Rattle.enumset_repr.specs.Number.{bits, number}
+use Rattle.enumset_repr.specs.Words.{bits_of, upward_shift}
 use Rattle.enumset_array.specs.ArrayWords.{set_of, IsArrayRepr}
 use Rattle.enumset_array.specs.Laws.ArrayWords.{set_is}
 

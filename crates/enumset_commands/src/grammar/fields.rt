@@ -2,7 +2,7 @@
 ghost use Rattle.std.specs.Prelude.{◌≡◌};
 ghost use Rattle.enumset_commands.specs.Fields.{value};
 
-/// The number that a token of decimal digits writes, if it is a `u128`. No field is larger.
+/// The `u128` that a token of decimal digits writes. No field is larger.
 #[tactic(auto, using(crate::proofs::Fields::field_steps))]
 pub(super) fn read_value(token: &[u8]) -> Option<u128>
     ensures { result ≡ value token.now }

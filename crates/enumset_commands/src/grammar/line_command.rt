@@ -8,7 +8,7 @@ use std::alloc::{AllocError, Global};
 
 /// A command that the tokens of a line may write.
 pub trait LineCommand: Sized + Drop {
-    // The command that tokens write, the first of which is its name.
+    // The command that tokens write. The first token is its name.
     ghost command_of: { List (List ℕ) → Option Self };
 
     /// Returns the command with this name whose fields are the remaining tokens, or `None` if they write no command.

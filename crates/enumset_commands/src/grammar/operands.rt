@@ -1,4 +1,4 @@
-//! The operands of a command: the fields after its name, each of which has to be there, and no other.
+//! The operands of a command: exactly the fields after its name.
 ghost use Rattle.std.specs.Prelude.{◌≡◌};
 ghost use Rattle.enumset_commands.specs.Fields.{one, two, three, register, bit, width, value, register_and_words};
 ghost use Rattle.enumset_commands.specs.Texts.{IsReadAs};
@@ -8,14 +8,14 @@ use super::words::read_words;
 use crate::word_list::WordList;
 use std::alloc::{AllocError, Global};
 
-/// Fields are read one by one, and only as far as the name and each field allow.
+/// Fields are read one by one, up to the first that is not what the name wants.
 ///
-/// These readers are inlined into the tables of names, and so are those of each field. A call returns several numbers
-/// in memory, so a table would clear room for the numbers of all its names before it looks one up.
+/// These readers, and the readers of each field, are inlined into the tables of names. A call returns several numbers in
+/// memory, so a table would clear room for the numbers of all its names before it looks one up.
 impl<'a> Tokens<'a> {
     /// A register.
     #[inline(always)]
-    pub(crate) fn one(&self) -> Option<u8>
+    pub(crate) fn register(&self) -> Option<u8>
         ensures { result ≡ one register self.now }
     {
         let mut fields = self.same();
@@ -25,7 +25,7 @@ impl<'a> Tokens<'a> {
 
     /// Two registers, or a register and a count, which are numbers of 8 bits.
     #[inline(always)]
-    pub(crate) fn two(&self) -> Option<(u8, u8)>
+    pub(crate) fn two_registers(&self) -> Option<(u8, u8)>
         ensures { result ≡ two register register self.now }
     {
         let mut fields = self.same();
@@ -36,7 +36,7 @@ impl<'a> Tokens<'a> {
 
     /// Three registers.
     #[inline(always)]
-    pub(crate) fn three(&self) -> Option<(u8, u8, u8)>
+    pub(crate) fn three_registers(&self) -> Option<(u8, u8, u8)>
         ensures { result ≡ three register register register self.now }
     {
         let mut fields = self.same();
@@ -48,7 +48,7 @@ impl<'a> Tokens<'a> {
 
     /// A register, and a bit or a width, which are numbers of 32 bits.
     #[inline(always)]
-    pub(crate) fn with_u32(&self) -> Option<(u8, u32)>
+    pub(crate) fn register_and_u32(&self) -> Option<(u8, u32)>
         ensures { result ≡ two register bit self.now }
     {
         let mut fields = self.same();
@@ -59,7 +59,7 @@ impl<'a> Tokens<'a> {
 
     /// A register, a width and a value.
     #[inline(always)]
-    pub(crate) fn with_value(&self) -> Option<(u8, u32, u128)>
+    pub(crate) fn register_width_value(&self) -> Option<(u8, u32, u128)>
         ensures { result ≡ three register width value self.now }
     {
         let mut fields = self.same();
@@ -70,9 +70,9 @@ impl<'a> Tokens<'a> {
     }
 }
 
-/// A register, and any number of words. The only error is out of memory; where some field is not what it has to be,
-/// there is `None`, even if memory runs out.
-pub(crate) fn with_words(
+/// A register, and any number of words. The only error is out of memory. If some field is not as it should be, the
+/// result is `None`, even if memory runs out.
+pub(crate) fn register_and_words(
     alloc: Global,
     mut fields: Tokens,
 ) -> Option<Result<(u8, WordList), AllocError>>

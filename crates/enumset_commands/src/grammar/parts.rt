@@ -5,7 +5,7 @@ ghost use Rattle.std.specs.Simd.Lanes.{chunk};
 
 use std::simd::prelude::*;
 
-/// What comes before the first such byte of a text, and what comes after it, or `None` if the text has no such byte.
+/// The text before the first separator, and the text after it, or `None` if there is no separator.
 #[tactic(auto, using(crate::proofs::Parts::part_steps))]
 pub(super) fn split_once(text: &[u8], separator: u8) -> Option<(&[u8], &[u8])>
     ensures { MatchOption result
@@ -17,10 +17,10 @@ pub(super) fn split_once(text: &[u8], separator: u8) -> Option<(&[u8], &[u8])>
     Some((&text[..end], &text[end + 1..]))
 }
 
-/// The index of the first such byte.
+/// The index of the first wanted byte.
 ///
-/// Sixteen bytes are compared at once. A line is seldom longer, and one comparison costs little more than that of a
-/// byte. The first byte is compared alone before, for empty lines.
+/// Sixteen bytes are compared at once: a line is seldom longer, and this costs little more than comparing one byte. The
+/// first byte is compared alone before, for empty lines.
 fn index_of(text: &[u8], wanted: u8) -> Option<usize>
     ensures { result ≡ position (λ b. b == wanted) text.now }
 {
@@ -44,7 +44,7 @@ fn index_of(text: &[u8], wanted: u8) -> Option<usize>
     None
 }
 
-/// How many of the sixteen bytes from a place on come before the first such byte.
+/// How many of the sixteen bytes from an index on come before the first wanted byte.
 fn count_before(text: &[u8], begin: usize, wanted: u8) -> usize
     requires { begin + 16 ≤ length text.now }
     ensures { result ≡ prefix_len (λ b. not (b == wanted)) (chunk begin 16 text.now) }

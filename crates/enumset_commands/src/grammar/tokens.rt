@@ -38,7 +38,7 @@ impl<'a> Tokens<'a> {
         Tokens { rest: self.rest }
     }
 
-    /// Whether there are no more tokens. Spaces before the next token are taken away.
+    /// Whether there are no more tokens. Skips the spaces before the next token.
     #[tactic(auto, using(crate::proofs::Tokens::space_steps))]
     pub(super) fn is_empty(&mut self) -> bool
         ensures same { self.new ≡ self.old }
@@ -49,8 +49,8 @@ impl<'a> Tokens<'a> {
         rest.is_empty()
     }
 
-    /// Takes out the next token, and returns the number that it writes, if it is a `u64`, or returns `None` if there is
-    /// no token or it writes none.
+    /// Removes the next token, and returns the `u64` that it writes. Returns `None` if there is no token, or if it
+    /// does not write a `u64`.
     #[inline(always)]
     pub(super) fn next_u64(&mut self) -> Option<u64>
         ensures { Takes word self.old result self.new }
@@ -61,7 +61,7 @@ impl<'a> Tokens<'a> {
         Some(number)
     }
 
-    /// The same of a number that is a `u8`: a register or a count.
+    /// The same for a `u8`: a register or a count.
     #[inline(always)]
     #[tactic(auto, using(crate::proofs::Fields::narrow_fields))]
     pub(super) fn next_u8(&mut self) -> Option<u8>
@@ -70,7 +70,7 @@ impl<'a> Tokens<'a> {
         u8::try_from(self.next_u64()?).ok()
     }
 
-    /// The same of a number that is a `u32`: a bit or a width.
+    /// The same for a `u32`: a bit or a width.
     #[inline(always)]
     #[tactic(auto, using(crate::proofs::Fields::narrow_fields))]
     pub(super) fn next_u32(&mut self) -> Option<u32>
@@ -79,7 +79,7 @@ impl<'a> Tokens<'a> {
         u32::try_from(self.next_u64()?).ok()
     }
 
-    /// The same of a number that is a `u128`: a value. It is read by arithmetic on 128 bits.
+    /// The same for a `u128`: a value. Only a value is read with arithmetic on 128 bits, which is slower.
     pub(super) fn next_u128(&mut self) -> Option<u128>
         ensures { Takes value self.old result self.new }
     {
@@ -101,8 +101,8 @@ fn without_spaces(text: &[u8]) -> &[u8]
     rest
 }
 
-/// The number that the first token of a text writes, if it is a `u64`, and where the text goes on after it. The text
-/// does not begin with a space. Each byte is looked at once.
+/// The `u64` that the first token of a text writes, and the index of what follows this token. The text does not begin
+/// with a space. Each byte is read once.
 #[inline(always)]
 #[tactic(auto, using(crate::proofs::Tokens::number_steps))]
 fn first_word(text: &[u8]) -> Option<(u64, usize)>
@@ -129,7 +129,7 @@ fn first_word(text: &[u8]) -> Option<(u64, usize)>
     Some((number, text.len()))
 }
 
-/// The number that a digit after those of a number makes, if it is a `u64`.
+/// A number with one more digit, if it is still a `u64`.
 #[inline(always)]
 fn with_digit(number: u64, digit: u8) -> Option<u64>
     requires { 48 ≤ digit }

@@ -2,9 +2,11 @@
 --     lawful_number, lawful_words      the test at an enum, from the test at one of as many variants without fields
 --     variants_of      how many variants such an enum has
 use Rattle.std.proofs.Common.{◌≡◌, ◌==◌, ℕ, suc, zero, ◌^◌, Bool, true, false, List, [], length, replicate, sum_by, refl, ap, sym, ◌∙◌, subst}
-use Rattle.enumset_repr.specs.Laws.Common.{is_distinct, lists_words, one_past_all, once_known, or_else, IsLawful, IsLawfulNumber, IsLawfulWords, BitCountShouldBe}
-use denote.Enum.Declared.{Declared, rowss}
 use denote.Enum.Bare.{Bare}
+use denote.Enum.Declared.{Declared, rowss}
+use Rattle.enumset_repr.specs.Lawful.{one_past_all, once_known, or_else, IsLawful, IsLawfulNumber, IsLawfulWords, BitCountShouldBe}
+use Rattle.enumset_repr.specs.Number.{is_distinct}
+use Rattle.enumset_repr.specs.Words.{lists_words}
 use Rattle.enumset_derive.specs.Plans.{without_fields}
 
 pub variants_of : (n : ℕ) → length (rowss (replicate n [])) ≡ n

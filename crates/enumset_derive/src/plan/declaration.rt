@@ -4,47 +4,76 @@ ghost use Rattle.std.specs.Prelude.{◌≡◌};
 ghost use Rattle.enumset_derive.specs.Numbers.{next_number, width};
 
 use crate::fault::Place;
+use crate::tokens::Token;
 
-/// An enum that is to be an element type.
+/// An enum that is to be an element type, as it is read.
 #[derive(Drop)]
-pub struct EnumDeclaration<'a> {
-    /// The comments and the attributes before its first derive, and those after that, each as it is written, on a line of
-    /// its own. The derives and the options are not among them.
-    pub attributes: [String; 2],
-    /// What is derived beside `EnumSetType`, in its order, each as it is written.
-    pub derives: Vec<String>,
-    pub visibility: Visibility<'a>,
-    pub name: &'a str,
+pub struct EnumDeclaration<'a, 'b> {
+    /// The comments and the attributes before its first derive. The derives and the options are not among them.
+    pub attributes: Vec<Line<'a, 'b>>,
+    /// Those after its first derive.
+    pub later_attributes: Vec<Line<'a, 'b>>,
+    /// What is derived beside `EnumSetType`, in its order.
+    pub derives: Vec<Derive<'a>>,
+    /// Whether the enum is there for tests alone.
+    pub is_for_tests: bool,
+    /// As it is written, as `pub(crate)`, or nothing.
+    pub visibility: &'b [Token<'a>],
+    pub name: Token<'a>,
     /// In the order of the declaration.
-    pub variants: Vec<Variant<'a>>,
-    /// The comments after the last variant, a line each.
-    pub last_comments: String,
+    pub variants: Vec<Variant<'a, 'b>>,
+    /// The comments after the last variant.
+    pub last_comments: Vec<Line<'a, 'b>>,
     pub options: Options<'a>,
+    /// The names of the variants in JSON, in their order, if one may not be the variant's own.
+    pub json_names: Vec<String>,
 }
 
-/// The visibility of an enum, as it is written.
+impl EnumDeclaration<'_, '_> {
+    /// Whether the enum derives something of this name.
+    pub fn derives(&self, name: &str) -> bool {
+        self.derives.iter().any(|derive| derive.last() == name)
+    }
+}
+
+/// What an enum derives.
+#[derive(Drop)]
+pub struct Derive<'a> {
+    pub path: String,
+    /// The crate and the name that the module has to import for it.
+    pub import: Option<(&'a str, &'a str)>,
+}
+
+impl Derive<'_> {
+    /// The last name of the path.
+    pub fn last(&self) -> &str {
+        let path = self.path.as_str();
+        path.rsplit("::").next().unwrap_or(path)
+    }
+}
+
+/// A comment or an attribute that is kept, on lines of its own.
 #[derive(Clone, Copy)]
-pub enum Visibility<'a> {
-    /// None is written.
-    Private,
-    /// `pub`.
-    Public,
-    /// `pub` and what stands in brackets after it, as `(crate)`.
-    Restricted(&'a str),
+pub struct Line<'a, 'b> {
+    /// Whether an empty line is before it.
+    pub is_apart: bool,
+    pub tokens: &'b [Token<'a>],
 }
 
 /// A variant without fields.
 #[derive(Drop)]
-pub struct Variant<'a> {
+pub struct Variant<'a, 'b> {
     /// Where the name is.
     pub place: Place,
-    /// The comments and the attributes before it, a line each.
-    pub attributes: String,
+    /// The comments and the attributes before it.
+    pub attributes: Vec<Line<'a, 'b>>,
+    /// Whether an empty line is before its name.
+    pub is_apart: bool,
     pub name: &'a str,
     /// The discriminant, if it is given.
     pub discriminant: Option<Discriminant<'a>>,
-    /// The comments among its tokens, and after it on its line, each after a space.
-    pub comments: String,
+    /// The comments among its tokens, and after it on its line.
+    pub comments: Vec<&'a str>,
 }
 
 /// A discriminant that is given.
@@ -54,7 +83,7 @@ pub struct Discriminant<'a> {
     pub place: Place,
     /// Whether a minus sign stands before the literal.
     pub has_minus: bool,
-    /// The literal as it is written, as `0x1F`, without the type after it; nothing of an expression.
+    /// The literal as it is written, as `0x1F`, without the type after it; nothing of `1 << n` and of a byte.
     pub literal: Option<&'a str>,
     pub number: Number,
 }
@@ -103,11 +132,16 @@ pub struct Options<'a> {
     pub leaves_out_supertraits: bool,
     /// Whether `Display` by the variants' names is written: `display`.
     pub has_display: bool,
-    /// The name of the crate `enumset` in the code that is written: `crate_name`, if it is given.
-    pub crate_name: Option<&'a str>,
+    /// The name of the crate `enumset` in the code that is written: `crate_name`, if it is given, and where it is.
+    pub crate_name: Option<(&'a str, Place)>,
 }
 
-impl Options<'_> {
+impl<'a> Options<'a> {
+    /// The name by which the module cites the crate `enumset`.
+    pub fn facade(&self) -> &'a str {
+        self.crate_name.map_or("enumset", |(name, _)| name)
+    }
+
     /// Whether sets are written in JSON by the names of their elements.
     pub fn are_named(&self) -> bool {
         matches!(self.serialized, Some(Serialized::List | Serialized::Map))

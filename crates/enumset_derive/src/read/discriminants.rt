@@ -1,111 +1,83 @@
 //! Discriminants.
 
-use super::expressions::evaluate;
-use super::values::NumberType;
-use super::*;
+ghost use Rattle.std.specs.Prelude.{◌≡◌, ◌^◌, pos, neg_ℤ, IfOk};
+ghost use Rattle.enumset_derive.specs.Literals.{value_of};
 
-pub(super) const NOT_A_NUMBER: &str = "write the number itself";
+use super::literals::{NOT_A_NUMBER, number_of, without_type};
+use crate::fault::Fault;
+use crate::plan::{Discriminant, Number};
+use crate::tokens::Token;
 
-const TYPES: [&str; 12] = [
-    "u8", "u16", "u32", "u64", "u128", "usize", "i8", "i16", "i32", "i64", "i128", "isize",
-];
+const NOT_A_MASK: &str = "a mask is a literal: write the number itself, or `1 << n`";
 
-impl<'a, 'b> Cursor<'a, 'b> {
-    /// Reads `=` and a discriminant, of this type by default, if they are there, up to the `,` or `}` after them.
-    pub fn read_discriminant(
-        &mut self,
-        alloc: Global,
-        default: NumberType,
-    ) -> Outcome<Option<Discriminant<'a>>> {
-        if !self.token.is_mark("=") {
-            return Ok(None);
+/// The discriminant that tokens are, with the punctuation after them. Masks may be `1 << n` too.
+pub(super) fn read_discriminant<'a>(
+    tokens: &[Token<'a>],
+    end: &Token<'a>,
+    has_masks: bool,
+) -> Result<Discriminant<'a>, Fault> {
+    let begin = tokens.first().unwrap_or(end);
+    let (has_minus, literal, number) = match tokens {
+        [literal] if literal.is_number() => {
+            let written = without_type(literal.text);
+            (false, Some(written), number_of(written))
         }
-        let equal = *self;
-        self.advance_to_token()?;
-        let begin = self.token;
-        for _ in 0..self.left() {
-            if self.token.is_mark(",}") && self.token.depth <= 1 {
-                break;
-            }
-            self.advance_to_token()?;
+        [minus, literal] if minus.is("-") && literal.is_number() => {
+            let written = without_type(literal.text);
+            (true, Some(written), number_of(written).and_then(negative))
         }
-        let [tokens @ .., _] = self.tokens_since(&equal) else {
-            return Err(begin.fault(NOT_A_NUMBER));
-        };
-        let (has_minus, literal, number) = match tokens {
-            [minus, literal] if minus.is("-") && is_literal(literal) => {
-                let (literal, number) = read_literal(begin, literal, true)?;
-                (true, Some(literal), number)
-            }
-            [literal] if is_literal(literal) => {
-                let (literal, number) = read_literal(begin, literal, false)?;
-                (false, Some(literal), number)
-            }
-            tokens => (false, None, evaluate(alloc, begin, tokens, default)?),
-        };
-        Ok(Some(Discriminant {
-            place: begin.place,
-            has_minus,
-            literal,
-            number,
-        }))
-    }
-}
-
-/// Whether a token begins as a number does.
-fn is_literal(token: &Token) -> bool {
-    matches!(token.kind, Kind::Letters) && token.text.starts_with(|c: char| c.is_ascii_digit())
-}
-
-/// A literal without the type after it, and its number, or that of a minus sign before it. A fault is where both begin.
-fn read_literal<'a>(
-    begin: &Token,
-    literal: &Token<'a>,
-    is_negative: bool,
-) -> Outcome<(&'a str, Number)> {
-    let (written, _) = without_type(literal.text);
-    let number = number_of(written, is_negative).map_err(|text| begin.fault(text))?;
-    Ok((written, number))
-}
-
-/// A literal without the type after it, and the name of that type, if it has one.
-pub(super) fn without_type(literal: &str) -> (&str, Option<&str>) {
-    for name in TYPES {
-        if let Some(written) = literal.strip_suffix(name) {
-            return (written.trim_end_matches('_'), Some(name));
+        [byte] if !byte.is_ident() => (false, None, byte_of(byte.text)),
+        [one, less, other, places] if has_masks && less.is("<") && other.is("<") => {
+            (false, None, shifted(one.text, places.text))
         }
-    }
-    (literal.trim_end_matches('_'), None)
+        _ if has_masks => (false, None, Err(NOT_A_MASK)),
+        _ => (false, None, Err(NOT_A_NUMBER)),
+    };
+    Ok(Discriminant {
+        place: begin.place,
+        has_minus,
+        literal,
+        number: number.map_err(|text| begin.fault(text))?,
+    })
 }
 
-/// The number that a literal without a type is, or that a minus sign before it makes of it. Past 128 bits it is a power of
-/// two up to 2^(2^32 - 1): after leading zeros a digit with one bit, and then zeros.
-pub(super) fn number_of(written: &str, is_negative: bool) -> Result<Number, &'static str> {
-    let mut prefixes = [("0x", 16), ("0o", 8), ("0b", 2)].iter();
-    let digits_of = |(prefix, radix): &(&str, u32)| Some((*radix, written.strip_prefix(prefix)?));
-    let (radix, digits) = prefixes.find_map(digits_of).unwrap_or((10, written));
-    if digits.is_empty() || !written.starts_with(|first: char| first.is_ascii_digit()) {
-        return Err(NOT_A_NUMBER);
+/// The negative of a number.
+fn negative(number: Number) -> Result<Number, &'static str>
+    ensures { IfOk result (λ negative. value_of negative ≡ neg_ℤ (value_of number)) }
+{
+    match number {
+        Number::Small(0) => Ok(Number::Small(0)),
+        Number::Small(number) => Ok(Number::Negative(number)),
+        _ => Err("a negative literal is at least -(2^128 - 1)"),
     }
-    let step = radix.trailing_zeros();
-    let mut value = Some(0u128);
-    let mut exponent = None;
-    for character in digits.chars().filter(|character| *character != '_') {
-        let digit = character.to_digit(16).filter(|digit| *digit < radix);
-        let digit = digit.ok_or(NOT_A_NUMBER)?;
-        exponent = match (value, digit) {
-            (Some(0), 1 | 2 | 4 | 8) => Some(digit.trailing_zeros()),
-            (_, 0) if radix != 10 => exponent.and_then(|exponent: u32| exponent.checked_add(step)),
-            _ => None,
-        };
-        let shifted = value.and_then(|value| value.checked_mul(u128::from(radix)));
-        value = shifted.and_then(|shifted| shifted.checked_add(u128::from(digit)));
+}
+
+/// The number of a byte, as `b'a'`.
+fn byte_of(text: &str) -> Result<Number, &'static str> {
+    match text.as_bytes() {
+        [b'b', b'\'', byte, b'\''] => Ok(Number::Small(u128::from(*byte))),
+        _ => Err(NOT_A_NUMBER),
     }
-    match (value, exponent) {
-        (Some(0), _) => Ok(Number::Small(0)),
-        (Some(number), _) if is_negative => Ok(Number::Negative(number)),
-        (Some(number), _) => Ok(Number::Small(number)),
-        (None, Some(exponent)) if !is_negative => Ok(Number::PowerOfTwo(exponent)),
-        _ => Err("a literal past 2^128 - 1 must be a power of two, and not decimal"),
+}
+
+/// The number of `1 << n`.
+fn shifted(one: &str, places: &str) -> Result<Number, &'static str> {
+    let one = number_of(without_type(one))?;
+    match (one, number_of(without_type(places))?) {
+        (Number::Small(1), Number::Small(places)) => {
+            let places = u32::try_from(places);
+            Ok(power_of_two(places.map_err(|_| "a mask is at most 1 << 4294967295")?))
+        }
+        _ => Err(NOT_A_NUMBER),
+    }
+}
+
+/// Two to a power.
+fn power_of_two(exponent: u32) -> Number
+    ensures { value_of result ≡ pos (2 ^ exponent) }
+{
+    match exponent {
+        exponent if exponent < 128 => Number::Small(1 << exponent),
+        exponent => Number::PowerOfTwo(exponent),
     }
 }

@@ -1,343 +1,267 @@
-//! Enums that are to be element types.
+//! An enum that is to be an element type.
 
-use super::values::NumberType;
-use super::*;
+use super::Reader;
+use super::derives::Path;
+use super::json_names::{Given, OWN_STYLE, json_names};
+use super::lines::{push_comments, read_lines};
+use super::options::read_option;
+use super::variants::{read_variants, test_name};
+use crate::fault::{Fault, Found, Outcome, Place, Reason};
+use crate::items::{Attribute, Item};
+use crate::plan::{EnumDeclaration, Options};
+use crate::report::Note;
+use crate::tokens::Token;
+use std::alloc::Global;
+use std::collections::BTreeMap;
+
+const NO_ENUM_NAME: &str =
+    "`TheVariants` names what clauses import of an enum: choose another name";
 
 const NO_VARIANTS: &str = "`rt ci` refuses what this enum without variants has: nobody can call it";
 
-const DROPPED: &str =
-    "left out: the discriminants of this enum, as this one is past -2^63 to 2^63 - 1; \
-    `as` gives the places of the variants";
-
-const OTHER_ORDER: &str =
-    "the derived order is that of the places, as one discriminant is past -2^63 to 2^63 - 1: \
-    move this variant, or write `PartialOrd` and `Ord` by hand";
-
-const SERDE_ALONE: &str = "`cfg_attr` is not read here: write `#[serde(..)]` itself";
+const OWN_JSON: &str =
+    "a set in JSON is of the variants' names here: remove this, and give other names by \
+    `rename`, or write sets as numbers";
 
 const DENY_ALONE: &str = "`serialize_deny_unknown` changes nothing without `serialize_repr`";
-
-const OTHER_CRATE: &str = "the enums of one source cite one crate: give each the same `crate_name`";
 
 const OTHER_ITEMS: [&str; 10] = [
     "struct", "union", "fn", "const", "static", "trait", "type", "mod", "impl", "use",
 ];
 
-/// The attribute of what is there for tests alone. In one piece it would have the toolchain look for tests here.
-const FOR_TESTS: &str = concat!("#", "[cfg(test)]\n");
-
 /// An enum, and what is known of it while it is read.
 #[derive(Drop)]
 pub(super) struct EnumState<'a, 'b> {
-    pub declaration: EnumDeclaration<'a>,
-    /// The names of its options, in their order.
-    pub given: Vec<&'b Token<'a>>,
-    /// Its attributes that `serde` is in.
-    pub serde: Vec<SerdePart<'a, 'b>>,
-    /// The type of its discriminants.
-    discriminant_type: NumberType,
+    pub declaration: EnumDeclaration<'a, 'b>,
+    /// What it derives, by its last name, and where.
+    derived: BTreeMap<&'a str, Place>,
+    /// The names of its options.
+    options: Vec<Token<'a>>,
+    /// The style of names in JSON.
+    pub style: Option<Given<'a>>,
+    /// Whether an empty line is among the attributes that were left out last.
+    pub is_apart: bool,
+    /// The name in JSON that is given to the variant that comes next.
+    pub json_name: Option<Given<'a>>,
+    /// The names in JSON that are given to the variants so far.
+    pub json_names: Vec<Option<Given<'a>>>,
 }
 
-/// An attribute that `serde` is in.
-#[derive(Clone, Copy)]
-pub(super) struct SerdePart<'a, 'b> {
-    pub part: Part<'a, 'b>,
-    /// The place of the variant that it stands before, counted from 0, unless it is the enum's.
-    pub variant: Option<usize>,
-    is_kept: bool,
+/// The enum that an item is, with these attributes, or nothing if faults of it are reported.
+pub(super) fn read_enum<'a, 'b>(
+    reader: &mut Reader<'a, 'b>,
+    item: &Item<'a, 'b>,
+    attributes: &[Attribute<'a, 'b>],
+) -> Outcome<Option<EnumDeclaration<'a, 'b>>> {
+    let alloc = reader.alloc;
+    let fault_count = reader.report.faults.len();
+    let Some(first) = item.first() else {
+        return Ok(None);
+    };
+    // A fault of the attributes is reported even if this is one.
+    let head = read_head(item);
+    let name = match head {
+        Ok((name, _, _)) => name,
+        Err(_) => first,
+    };
+    let mut state = EnumState {
+        declaration: EnumDeclaration {
+            attributes: Vec::new(alloc),
+            later_attributes: Vec::new(alloc),
+            derives: Vec::new(alloc),
+            is_for_tests: attributes.iter().any(|attribute| attribute.is("cfg")),
+            visibility: item.visibility(),
+            name: *name,
+            variants: Vec::new(alloc),
+            last_comments: Vec::new(alloc),
+            options: Options::default(),
+            json_names: Vec::new(alloc),
+        },
+        derived: BTreeMap::new(alloc),
+        options: Vec::new(alloc),
+        style: None,
+        is_apart: false,
+        json_name: None,
+        json_names: Vec::new(alloc),
+    };
+    read_attributes(reader, &mut state, attributes)?;
+    let (_, head, body) = head?;
+    push_comments(&mut state.declaration.later_attributes, head)?;
+    read_variants(reader, &mut state, body)?;
+    if state.declaration.variants.is_empty() {
+        reader.report.note(Note::Text(name.place, NO_VARIANTS))?;
+    }
+    if reader.report.faults.len() > fault_count {
+        return Ok(None);
+    }
+    name_in_json(alloc, &mut state)?;
+    Ok(Some(state.declaration))
 }
 
-impl<'a, 'b> Reader<'a, 'b> {
-    /// Reads an enum, whose comments and attributes are these, and plans it.
-    pub(super) fn read_element(&mut self, parts: &[Part<'a, 'b>]) -> Outcome {
-        let alloc = self.alloc;
-        let own_type = parts.iter().find_map(|part| part.number_type());
-        let mut state = EnumState {
-            declaration: EnumDeclaration {
-                attributes: [String::new(alloc), String::new(alloc)],
-                derives: Vec::new(alloc),
-                visibility: Visibility::Private,
-                name: "",
-                variants: Vec::new(alloc),
-                last_comments: String::new(alloc),
-                options: Options::default(),
-            },
-            given: Vec::new(alloc),
-            serde: Vec::new(alloc),
-            discriminant_type: own_type.unwrap_or(NumberType::OF_ENUMS),
+/// Gives the variants their names in JSON, if one may not be the variant's own.
+fn name_in_json(alloc: Global, state: &mut EnumState) -> Outcome {
+    let mut are_given = state.style.is_some();
+    for given in &state.json_names {
+        are_given |= given.is_some();
+    }
+    if are_given {
+        let style = match state.style {
+            Some((style, _)) => style,
+            None => OWN_STYLE,
         };
-        let name = self.read_enum(&mut state, parts)?;
-        let declaration = &state.declaration;
-        let plan = plan_enum(alloc, declaration)?;
-        // The first discriminant that no enum of Rattle has.
-        let past = plan.variants.iter().find(|named| match named.number {
-            Number::Small(number) => number >= 1 << 63,
-            Number::Negative(number) => number > 1 << 63,
-            Number::PowerOfTwo(_) => true,
-        });
-        if let Some(named) = past {
-            test_order(declaration, &plan)?;
-            self.note(named.place, DROPPED)?;
-        }
-        self.test_crate_name(&state, name)?;
-        let aliases = &self.aliases;
-        let other_json = parts.iter().find_map(|part| part.other_json(aliases));
-        if let (Some(other), true) = (other_json, declaration.options.are_named()) {
-            return Err(other.fault(OWN_JSON));
-        }
-        let json_names = state.json_names(alloc)?;
-        for SerdePart { part, is_kept, .. } in &state.serde {
-            if !is_kept && !declaration.options.are_named() {
-                self.leave_out(part.begin.place, part.text)?;
-            } else if !is_kept {
-                for comment in part.comments {
-                    self.leave_out_comment(comment.place, comment.text)?;
-                }
-            }
-        }
-        self.source.has_enums = true;
-        let is_test = parts.iter().any(|part| part.name.is("cfg"));
-        let element = Element {
-            has_discriminants: past.is_none(),
-            declaration: state.declaration,
-            plan,
-            json_names,
-            guard: is_test.then_some(FOR_TESTS),
-        };
-        Ok(
-            self.source
-                .push(alloc, Form::Element(Box::new(alloc, element)?))?,
-        )
-    }
-
-    /// Takes comments and attributes of the enum, or of the variant at a place from 0. Gives those kept, a line each.
-    fn take(
-        &mut self,
-        state: &mut EnumState<'a, 'b>,
-        variant: Option<usize>,
-        parts: &[Part<'a, 'b>],
-    ) -> Outcome<String> {
-        let mut kept = String::new(self.alloc);
-        let (start, bearer) = match variant {
-            None => ("", Bearer::Enum),
-            Some(_) => ("    ", Bearer::Variant),
-        };
-        for part in parts {
-            if variant.is_some_and(|before| before > 0 || !kept.is_empty()) {
-                write_empty_line(&mut kept, part.begin)?;
-            }
-            let is_kept = match part.name.text {
-                "derive" if variant.is_none() => {
-                    state.declaration.derives.extend(self.kept_of(part)?.0)?;
-                    write_comments(&mut kept, part.comments)?;
-                    continue;
-                }
-                "enumset" if variant.is_none() => {
-                    state.read_options(self.alloc, part)?;
-                    write_comments(&mut kept, part.comments)?;
-                    continue;
-                }
-                "serde" => derives(&state.declaration, "Serialize")
-                    || derives(&state.declaration, "Deserialize"),
-                "default" if variant.is_some() => derives(&state.declaration, "Default"),
-                "error" => derives(&state.declaration, "Error"),
-                _ => part.has_meaning(bearer, &self.aliases)?,
-            };
-            if is_kept {
-                write!(kept, "{start}{}\n", part.text)?;
-            }
-            if part.name.is("serde") || (part.name.is("cfg_attr") && part.calls("serde")) {
-                state.serde.push(SerdePart {
-                    part: *part,
-                    variant,
-                    is_kept,
-                })?;
-            } else if !is_kept {
-                self.leave_out(part.begin.place, part.text)?;
-            }
-        }
-        Ok(kept)
-    }
-
-    /// Reads an enum, whose comments and attributes are these, from its visibility up to the `}` at its end.
-    /// Gives its name.
-    fn read_enum(
-        &mut self,
-        state: &mut EnumState<'a, 'b>,
-        parts: &[Part<'a, 'b>],
-    ) -> Outcome<&'b Token<'a>> {
-        let first = parts.iter().position(|part| part.name.is("derive"));
-        let (before, after) = parts.split_at(first.unwrap_or(0));
-        let attributes = self.take(state, None, before)?;
-        let mut later_attributes = self.take(state, None, after)?;
-        let begin = self.cursor;
-        state.declaration.visibility = self.cursor.read_visibility()?;
-        let name = self.cursor.read_enum_name()?;
-        write_comments(&mut later_attributes, self.cursor.comments_since(&begin))?;
-        state.declaration.attributes = [attributes, later_attributes];
-        state.declaration.name = name.text;
-        self.declare(name)?;
-        for _ in 0..self.cursor.left() {
-            state.test_serde()?;
-            let parts = self.cursor.read_parts(self.alloc)?;
-            let variant = Some(state.declaration.variants.len());
-            let mut kept = self.take(state, variant, parts.as_slice())?;
-            let has_attribute = parts.iter().any(|part| !part.begin.is_comment());
-            if self.cursor.token.is_mark("}") && !has_attribute {
-                state.declaration.last_comments = kept;
-                break;
-            }
-            if !state.declaration.variants.is_empty() || !kept.is_empty() {
-                write_empty_line(&mut kept, self.cursor.token)?;
-            }
-            let mut variant = self.read_variant(state.discriminant_type)?;
-            variant.attributes = kept;
-            state.declaration.variants.push(variant)?;
-        }
-        if state.declaration.variants.is_empty() {
-            self.note(name.place, NO_VARIANTS)?;
-        }
-        Ok(name)
-    }
-
-    /// Says where an option changes nothing. It is a fault if the enum cites another crate than those before it.
-    fn test_crate_name(&mut self, state: &EnumState<'a, 'b>, name: &'b Token<'a>) -> Outcome {
-        let options = &state.declaration.options;
-        let place = state.place_of("serialize_deny_unknown");
-        if options.denies_unknown && options.serialized.is_none() {
-            self.note(place.unwrap_or(name.place), DENY_ALONE)?;
-        }
-        let cited = options.crate_name.unwrap_or("enumset");
-        let place = state.place_of("crate_name");
-        if self.source.has_enums && cited != self.source.facade {
-            let place = place.unwrap_or(name.place);
-            return Err(Reason::Text(OTHER_CRATE).at(place).into());
-        }
-        self.source.facade = cited;
-        Ok(())
-    }
-
-    /// Says something of a place on standard error.
-    fn note(&mut self, place: Place, text: &str) -> Outcome {
-        let note = String::from_str(self.alloc, text)?;
-        Ok(self.source.notes.push((place, note))?)
-    }
-
-    /// Reads a variant without its attributes, up to what stands after the `,` and the comments on its line.
-    fn read_variant(&mut self, discriminant_type: NumberType) -> Outcome<Variant<'a>> {
-        let begin = self.cursor;
-        let name = begin.token;
-        name.want(name.is_name(), "wanted: a name of a variant, or `}`")?;
-        name.want(!KEYWORDS.contains(&name.text), KEYWORD)?;
-        self.cursor.advance_to_token()?;
-        Ok(Variant {
-            place: name.place,
-            name: name.text,
-            discriminant: self
-                .cursor
-                .read_discriminant(self.alloc, discriminant_type)?,
-            comments: self.cursor.end_variant(self.alloc, &begin)?,
-            attributes: String::new(self.alloc),
-        })
-    }
-}
-
-impl<'a, 'b> EnumState<'a, 'b> {
-    /// Where the enum is given this option, if it is.
-    fn place_of(&self, option: &str) -> Option<Place> {
-        let given = self.given.iter().find(|given| given.is(option))?;
-        Some(given.place)
-    }
-
-    /// A fault if names in JSON stand under `cfg_attr`.
-    fn test_serde(&self) -> Outcome {
-        for SerdePart { part, .. } in &self.serde {
-            let is_named = self.declaration.options.are_named();
-            part.name
-                .want(!is_named || !part.name.is("cfg_attr"), SERDE_ALONE)?;
-        }
-        Ok(())
-    }
-}
-
-impl<'a, 'b> Cursor<'a, 'b> {
-    /// Reads the keyword and the name of an enum, and the `{` after them.
-    fn read_enum_name(&mut self) -> Outcome<&'b Token<'a>> {
-        let keyword = self.token;
-        keyword.want(!matches!(keyword.kind, Kind::End), "wanted: an item")?;
-        keyword.want(
-            !OTHER_ITEMS.contains(&keyword.text),
-            "`EnumSetType` is for enums alone",
-        )?;
-        keyword.want(keyword.is("enum"), "wanted: `enum`")?;
-        self.advance_to_token()?;
-        let name = self.token;
-        name.want(name.is_name(), "wanted: a name of an enum")?;
-        name.want(!name.is("TheVariants"), NO_ENUM_NAME)?;
-        self.advance_to_token()?;
-        let next = self.token;
-        let has_parameters = next.is_mark("<") || next.is("where");
-        next.want(!has_parameters, "the enum must have no parameters")?;
-        next.want(next.is_mark("{"), "wanted: `{`")?;
-        self.advance()?;
-        Ok(name)
-    }
-
-    /// Reads what ends a variant, and the comments on its line after a `,`. Gives the comments since it began.
-    fn end_variant(&mut self, alloc: Global, begin: &Cursor<'a, 'b>) -> Outcome<String> {
-        let end = self.token;
-        end.want(!end.is_mark("({"), "a variant must have no fields")?;
-        end.want(end.is_mark(",}"), "wanted: `,` or `}`")?;
-        if end.is_mark(",") {
-            self.advance()?;
-        }
-        for _ in 0..self.left() {
-            let is_comment = matches!(self.token.kind, Kind::Comment);
-            if !is_comment || self.token.begins_line() {
-                break;
-            }
-            self.advance()?;
-        }
-        let comments = self.comments_since(begin).iter();
-        let comments = comments.map(|comment| format!(in alloc; " {}", comment.text));
-        Ok(comments.try_collect(alloc)?)
-    }
-}
-
-/// Writes an empty line if the source has one before a token, unless one was written last.
-fn write_empty_line(out: &mut String, token: &Token) -> Result<(), AllocError> {
-    let is_there = out.as_str() == "\n" || out.as_str().ends_with("\n\n");
-    if token.space == Space::EmptyLine && !is_there {
-        out.push('\n')?;
+        let variants = &state.declaration.variants;
+        state.declaration.json_names = json_names(alloc, style, &state.json_names, variants)?;
     }
     Ok(())
 }
 
-/// A fault if the order that an enum derives is not that of the places of its variants.
-fn test_order(declaration: &EnumDeclaration, plan: &Plan) -> Outcome {
-    let mut pairs = plan.variants.array_windows::<2>();
-    let down = pairs.find(|[one, next]| !is_below(one.number, next.number));
-    match down {
-        Some([_, next]) if derives(declaration, "PartialOrd") || derives(declaration, "Ord") => {
-            Err(Reason::Text(OTHER_ORDER).at(next.place).into())
+/// The name of an enum, what stands before its `{`, and what comes after that.
+fn read_head<'a, 'b>(
+    item: &Item<'a, 'b>,
+) -> Result<(&'b Token<'a>, &'b [Token<'a>], &'b [Token<'a>]), Fault> {
+    let (keyword, rest) = next_word(item, item.words(), "an enum")?;
+    if OTHER_ITEMS.contains(&keyword.text) {
+        return Err(keyword.fault("`EnumSetType` is for enums alone"));
+    }
+    keyword.expect(keyword.is("enum"), "`enum`")?;
+    let (name, rest) = next_word(item, rest, "a name of an enum")?;
+    test_name(name, "a name of an enum")?;
+    if name.is("TheVariants") {
+        return Err(name.fault(NO_ENUM_NAME));
+    }
+    let (open, body) = next_word(item, rest, "`{`")?;
+    if open.is("<") || open.is("where") {
+        return Err(open.fault("the enum must have no parameters"));
+    }
+    open.expect(open.is("{"), "`{`")?;
+    let length = item.tokens.len().saturating_sub(body.len());
+    Ok((name, item.tokens.get(..length).unwrap_or(&[]), body))
+}
+
+/// The first of the tokens of an item that is no comment, where this is expected, and what comes after it.
+fn next_word<'a, 'b>(
+    item: &Item<'a, 'b>,
+    tokens: &'b [Token<'a>],
+    expected: &'static str,
+) -> Result<(&'b Token<'a>, &'b [Token<'a>]), Fault> {
+    let mut rest = tokens;
+    for token in tokens {
+        rest = rest.get(1..).unwrap_or(&[]);
+        if !token.is_comment() {
+            return Ok((token, rest));
         }
-        _ => Ok(()),
+    }
+    let place = item.tokens.last().map_or(Place::BEGIN, |last| last.place);
+    Err(Reason::Expected(expected, Found::End).at(place))
+}
+
+/// Reads the attributes of an enum: the derives and the options first, since they say which others are kept.
+fn read_attributes<'a, 'b>(
+    reader: &mut Reader<'a, 'b>,
+    state: &mut EnumState<'a, 'b>,
+    attributes: &[Attribute<'a, 'b>],
+) -> Outcome {
+    for attribute in attributes {
+        if !attribute.is("derive") && !attribute.is("enumset") {
+            continue;
+        }
+        match attribute.arguments(reader.alloc) {
+            Ok(arguments) => read_arguments(reader, state, attribute.is("derive"), &arguments)?,
+            Err(error) => reader.report.take(error)?,
+        }
+    }
+    test_json(reader, state, attributes)?;
+    let first = attributes
+        .iter()
+        .position(|attribute| attribute.is("derive"));
+    let (earlier, later) = attributes.split_at(first.unwrap_or(0));
+    state.declaration.attributes = read_lines(reader, state, earlier, false)?;
+    state.declaration.later_attributes = read_lines(reader, state, later, false)?;
+    Ok(())
+}
+
+/// Reads the arguments of a derive, or of options.
+fn read_arguments<'a, 'b>(
+    reader: &mut Reader<'a, 'b>,
+    state: &mut EnumState<'a, 'b>,
+    is_derive: bool,
+    arguments: &[&[Token<'a>]],
+) -> Outcome {
+    for argument in arguments {
+        let read = match is_derive {
+            true => read_derived(reader, state, argument),
+            false => state.read_option(argument),
+        };
+        if let Err(error) = read {
+            reader.report.take(error)?;
+        }
+    }
+    Ok(())
+}
+
+/// Reads a path that an enum derives. One that Rattle does not know is left out.
+fn read_derived<'a, 'b>(
+    reader: &mut Reader<'a, 'b>,
+    state: &mut EnumState<'a, 'b>,
+    argument: &[Token<'a>],
+) -> Outcome {
+    let Some(path) = Path::of(reader.alloc, argument)? else {
+        return Ok(());
+    };
+    let last = path.last;
+    let is_own = reader.imports.is_element_type(&last);
+    let known = path.known(reader.alloc, &reader.imports)?;
+    if !is_own && known.is_none() {
+        return reader
+            .report
+            .note(Note::Derive(path.first.place, path.text));
+    }
+    if let Some(first) = state.derived.get(last.text) {
+        return Err(Reason::GivenTwice("derive", *first).at(last.place).into());
+    }
+    state.derived.insert(last.text, last.place)?;
+    if !is_own {
+        state.declaration.derives.extend(known)?;
+    }
+    Ok(())
+}
+
+impl<'a> EnumState<'a, '_> {
+    /// Reads an option, with the punctuation after it.
+    fn read_option(&mut self, argument: &[Token<'a>]) -> Outcome {
+        read_option(&mut self.declaration.options, &self.options, argument)?;
+        Ok(self.options.extend(argument.first().copied())?)
     }
 }
 
-/// Whether a number is below another.
-fn is_below(one: Number, other: Number) -> bool {
-    match (one, other) {
-        (Number::Negative(one), Number::Negative(other)) => other < one,
-        (Number::Small(one), Number::Small(other)) => one < other,
-        (Number::PowerOfTwo(one), Number::PowerOfTwo(other)) => one < other,
-        (Number::Negative(_), _) | (Number::Small(_), Number::PowerOfTwo(_)) => true,
-        (_, _) => false,
+/// The faults of attributes that would change sets in JSON, and a word on an option that does not.
+fn test_json<'a, 'b>(
+    reader: &mut Reader<'a, 'b>,
+    state: &EnumState<'a, 'b>,
+    attributes: &[Attribute<'a, 'b>],
+) -> Outcome {
+    let options = &state.declaration.options;
+    if options.denies_unknown && options.serialized.is_none() {
+        let mut given = state.options.iter();
+        let option = given.find(|option| option.is("serialize_deny_unknown"));
+        let place = option.unwrap_or(&state.declaration.name).place;
+        reader.report.note(Note::Text(place, DENY_ALONE))?;
     }
+    for attribute in attributes.iter().filter(|_| options.are_named()) {
+        let is_conditional = attribute.is("cfg_attr");
+        for word in attribute.words() {
+            let name = reader.imports.original(word.text);
+            if is_other_json(name) && (is_conditional || attribute.is("derive")) {
+                reader.report.faults.push(word.fault(OWN_JSON))?;
+                break;
+            }
+        }
+    }
+    Ok(())
 }
 
-/// Whether an enum derives something of this name.
-fn derives(declaration: &EnumDeclaration, name: &str) -> bool {
-    let mut derives = declaration.derives.iter();
-    derives.any(|path| names_last(path.as_str(), name))
+/// Whether this is the name of a derive such as `Serialize_repr`.
+fn is_other_json(name: &str) -> bool {
+    let begins = name.starts_with("Serialize") || name.starts_with("Deserialize");
+    begins && !matches!(name, "Serialize" | "Deserialize")
 }

@@ -1,7 +1,13 @@
-//! What stands in `#[enumset(..)]`.
+//! The options of an enum, as `#[enumset(..)]` gives them.
 
-use super::enums::EnumState;
-use super::*;
+ghost use Rattle.std.specs.Prelude.{◌≡◌, IfSome};
+ghost use Rattle.enumset_derive.specs.Sources.{map_name, representation_name, serialized_name};
+
+use crate::fault::{Fault, Reason};
+use crate::plan::{IntegerType, Map, Options, Representation, Serialized};
+use crate::tokens::Token;
+
+const WRONG_MAP: &str = "`map` is \"lsb\", \"msb\", \"mask\" or \"compact\"";
 
 const WRONG_REPRESENTATION: &str =
     "`repr` is \"u8\", \"u16\", \"u32\", \"u64\", \"u128\" or \"array\"; over another \
@@ -12,6 +18,8 @@ const WRONG_FORM: &str =
 
 const WRONG_CRATE: &str = "`crate_name` is a name, as \"enumset\" or \"crate\"";
 
+const OLD_LIST: &str = "`serialize_as_list` is written `serialize_repr = \"list\"`";
+
 /// The words with which no path begins.
 const NO_ROOTS: [&str; 53] = [
     "_", "Self", "abstract", "as", "async", "await", "become", "box", "break", "const", "continue",
@@ -21,64 +29,40 @@ const NO_ROOTS: [&str; 53] = [
     "typeof", "unsafe", "unsized", "use", "virtual", "where", "while", "yield",
 ];
 
-const OLD_LIST: &str = "`serialize_as_list` is written `serialize_repr = \"list\"`";
-
-impl<'a, 'b> EnumState<'a, 'b> {
-    /// Reads the options in an attribute.
-    pub(super) fn read_options(&mut self, alloc: Global, part: &Part<'a, 'b>) -> Outcome {
-        for argument in part.arguments(alloc)? {
-            let [name, rest @ ..] = argument? else {
-                continue;
-            };
-            let is_name = matches!(name.kind, Kind::Letters);
-            name.want(is_name, "wanted: a name of an option, or `)`")?;
-            if let Some(first) = self.given.iter().find(|given| given.is(name.text)) {
-                let twice = Reason::GivenTwice("option", first.place);
-                return Err(twice.at(name.place).into());
-            }
-            self.given.push(name)?;
-            read_option(&mut self.declaration.options, name, rest)?;
-            let has_value = matches!(rest, [equal, ..] if equal.is_mark("="));
-            if let Some([more, _, ..]) = rest.get(if has_value { 2 } else { 0 }..) {
-                return Err(more.fault("wanted: `,` or `)`"));
-            }
-        }
-        Ok(())
+/// Reads an option, with the punctuation after it. Those that were given before are known.
+pub(super) fn read_option<'a>(
+    options: &mut Options<'a>,
+    given: &[Token<'a>],
+    argument: &[Token<'a>],
+) -> Result<(), Fault> {
+    let [name, rest @ ..] = argument else {
+        return Ok(());
+    };
+    name.expect(name.is_ident(), "a name of an option, or `)`")?;
+    if let Some(first) = given.iter().find(|first| first.is(name.text)) {
+        return Err(Reason::GivenTwice("option", first.place).at(name.place));
     }
-}
-
-/// Reads an option, which is a name and what comes after it.
-fn read_option<'a>(options: &mut Options<'a>, name: &Token<'a>, rest: &[Token<'a>]) -> Outcome {
     match name.text {
         "map" => {
             let (value, text) = value_of(name, rest)?;
-            let map = match text {
-                "lsb" => Map::Lsb,
-                "msb" => Map::Msb,
-                "mask" => Map::Mask,
-                "compact" => Map::Compact,
-                _ => return Err(value.fault("`map` is \"lsb\", \"msb\", \"mask\" or \"compact\"")),
-            };
+            let map = map_of(text).ok_or(value.fault(WRONG_MAP))?;
             options.map = Some((map, value.place));
         }
         "repr" => {
             let (value, text) = value_of(name, rest)?;
-            let fault = value.fault(WRONG_REPRESENTATION);
-            options.representation = Some(representation_of(text).ok_or(fault)?);
+            let representation = representation_of(text);
+            options.representation = Some(representation.ok_or(value.fault(WRONG_REPRESENTATION))?);
         }
         "serialize_repr" => {
             let (value, text) = value_of(name, rest)?;
-            let bits = representation_of(text).map(Serialized::Bits);
-            options.serialized = Some(match text {
-                "list" => Serialized::List,
-                "map" => Serialized::Map,
-                _ => bits.ok_or(value.fault(WRONG_FORM))?,
-            });
+            options.serialized = Some(serialized_of(text).ok_or(value.fault(WRONG_FORM))?);
         }
         "crate_name" => {
             let (value, text) = value_of(name, rest)?;
-            value.want(is_crate_name(text), WRONG_CRATE)?;
-            options.crate_name = Some(text);
+            if !is_crate_name(text) {
+                return Err(value.fault(WRONG_CRATE));
+            }
+            options.crate_name = Some((text, value.place));
         }
         "serialize_deny_unknown" => options.denies_unknown = boolean_of(rest)?,
         "no_ops" => options.leaves_out_operators = boolean_of(rest)?,
@@ -87,7 +71,80 @@ fn read_option<'a>(options: &mut Options<'a>, name: &Token<'a>, rest: &[Token<'a
         "serialize_as_list" => return Err(name.fault(OLD_LIST)),
         _ => return Err(name.fault("there is no such option")),
     }
-    Ok(())
+    let after = match rest {
+        [equal, _, after @ ..] if equal.is("=") => after,
+        after => after,
+    };
+    match after {
+        [more, ..] => more.expect(more.is_punct(",)]}"), "`,` or `)`"),
+        [] => Ok(()),
+    }
+}
+
+/// The value after `=` in what comes after a name, and the text in its quotes.
+pub(super) fn value_of<'a>(
+    name: &Token<'a>,
+    rest: &[Token<'a>],
+) -> Result<(Token<'a>, &'a str), Fault> {
+    let (value, text) = match rest {
+        [equal, value, ..] if equal.is("=") => (value, value.unquoted()),
+        _ => (rest.first().unwrap_or(name), None),
+    };
+    match text {
+        Some(text) => Ok((*value, text)),
+        None => Err(value.unexpected("`=` and a text in quotes")),
+    }
+}
+
+/// The value after `=` in what comes after a name, which is true or false. Without a value it is true.
+fn boolean_of(rest: &[Token]) -> Result<bool, Fault> {
+    match rest {
+        [equal, value, ..] if equal.is("=") => match value.unquoted().unwrap_or(value.text) {
+            "true" => Ok(true),
+            "false" => Ok(false),
+            _ => Err(value.unexpected("`true` or `false`")),
+        },
+        _ => Ok(true),
+    }
+}
+
+/// The map of this name.
+fn map_of(name: &str) -> Option<Map>
+    ensures { IfSome result (λ read. map_name read ≡ name.now) }
+{
+    match name {
+        "lsb" => Some(Map::Lsb),
+        "msb" => Some(Map::Msb),
+        "mask" => Some(Map::Mask),
+        "compact" => Some(Map::Compact),
+        _ => None,
+    }
+}
+
+/// The representation of this name.
+fn representation_of(name: &str) -> Option<Representation>
+    ensures { IfSome result (λ read. representation_name read ≡ name.now) }
+{
+    match name {
+        "u8" => Some(Representation::Integer(IntegerType::U8)),
+        "u16" => Some(Representation::Integer(IntegerType::U16)),
+        "u32" => Some(Representation::Integer(IntegerType::U32)),
+        "u64" => Some(Representation::Integer(IntegerType::U64)),
+        "u128" => Some(Representation::Integer(IntegerType::U128)),
+        "array" => Some(Representation::Words),
+        _ => None,
+    }
+}
+
+/// The form of sets in JSON of this name.
+fn serialized_of(name: &str) -> Option<Serialized>
+    ensures { IfSome result (λ read. serialized_name read ≡ name.now) }
+{
+    match name {
+        "list" => Some(Serialized::List),
+        "map" => Some(Serialized::Map),
+        _ => representation_of(name).map(Serialized::Bits),
+    }
 }
 
 /// Whether a text is a name, as that of a crate: letters, digits and `_`, no digit first, and no keyword but `crate` and
@@ -97,42 +154,4 @@ fn is_crate_name(text: &str) -> bool {
     let is_digit = |letter: char| letter.is_ascii_digit();
     let is_plain = text.chars().all(is_letter) && !text.starts_with(is_digit);
     !text.is_empty() && is_plain && !NO_ROOTS.contains(&text)
-}
-
-/// The value after `=` in what comes after a name, and the text in its quotes.
-pub(super) fn value_of<'a, 'b>(
-    name: &'b Token<'a>,
-    rest: &'b [Token<'a>],
-) -> Outcome<(&'b Token<'a>, &'a str)> {
-    let (value, text) = match rest {
-        [equal, value, ..] if equal.is_mark("=") => (value, value.unquoted()),
-        _ => (rest.first().unwrap_or(name), None),
-    };
-    let text = text.ok_or(value.fault("wanted: `=` and a text in quotes"))?;
-    Ok((value, text))
-}
-
-/// The value after `=` in what comes after a name, which is true or false. Without a value it is true.
-fn boolean_of(rest: &[Token]) -> Outcome<bool> {
-    match rest {
-        [equal, value, ..] if equal.is_mark("=") => match value.unquoted().unwrap_or(value.text) {
-            "true" => Ok(true),
-            "false" => Ok(false),
-            _ => Err(value.fault("wanted: `true` or `false`")),
-        },
-        _ => Ok(true),
-    }
-}
-
-/// The representation that a name stands for.
-fn representation_of(name: &str) -> Option<Representation> {
-    Some(Representation::Integer(match name {
-        "u8" => IntegerType::U8,
-        "u16" => IntegerType::U16,
-        "u32" => IntegerType::U32,
-        "u64" => IntegerType::U64,
-        "u128" => IntegerType::U128,
-        "array" => return Some(Representation::Words),
-        _ => return None,
-    }))
 }

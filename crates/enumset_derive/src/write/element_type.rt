@@ -1,13 +1,12 @@
-//! An enum, and what makes it an element type.
+//! What makes an enum an element type.
 
-use super::*;
-
-/// Why an enum has no discriminants.
-const DROPPED: &str =
-    "// Its discriminants are left out: one of them is past those that Rattle takes, -2^63 to 2^63 - 1.\n";
-
-/// What an element type needs.
-const SUPERTRAITS: [&str; 4] = ["Clone", "Copy", "PartialEq", "Eq"];
+use super::declaration::write_enum;
+use super::json::write_json;
+use super::layout::{list_of, list_of_names, write_call, write_head};
+use super::names::{write_display, write_names};
+use super::operators::write_operators;
+use super::{Subject, Text, Written, library_of};
+use crate::plan::Store;
 
 /// What keeps a set, as a module writes it.
 #[derive(Drop)]
@@ -23,144 +22,34 @@ struct StoreText {
 pub(super) fn write_element_type(out: &mut String, subject: &Subject) -> Written {
     let options = &subject.element.declaration.options;
     write_enum(out, subject.alloc, subject.element)?;
-    out.push_str(subject.comments)?;
     write_impl(out, subject)?;
-    if is_narrow(&subject.element.plan) {
+    if subject.element.is_narrow() {
         write_head(out, subject, "", "EnumSetTypeWithRepr")?;
         out.push_str("    ghost use Rattle.std.proofs.Common.{rules};\n\n")?;
         out.push_str("    ghost narrow = { Prim.search rules };\n}")?;
     }
     if options.are_named() {
-        names::write_names(out, subject)?;
+        write_names(out, subject)?;
     }
     if options.has_display {
-        names::write_display(out, subject)?;
+        write_display(out, subject)?;
     }
     if !options.leaves_out_operators {
-        operators::write_operators(out, subject)?;
+        write_operators(out, subject)?;
     }
     match options.serialized {
-        Some(serialized) => json::write_json(out, subject, serialized),
+        Some(serialized) => write_json(out, subject, serialized),
         None => Ok(()),
     }
 }
 
-/// Writes the enum.
-fn write_enum(out: &mut String, alloc: Global, element: &Element) -> Written {
-    let declaration = &element.declaration;
-    let (name, last_comments) = (declaration.name, &declaration.last_comments);
-    let [attributes, later_attributes] = &declaration.attributes;
-    out.push_str(attributes.as_str())?;
-    if !element.has_discriminants {
-        out.push_str(DROPPED)?;
-    }
-    write_derives(out, alloc, declaration)?;
-    out.push_str(later_attributes.as_str())?;
-    let is_empty = declaration.variants.is_empty() && last_comments.is_empty();
-    let line = if is_empty { "" } else { "\n" };
-    write_visibility(out, declaration.visibility)?;
-    write!(out, "enum {name} {{{line}")?;
-    for variant in &declaration.variants {
-        write_variant(out, variant, element.has_discriminants)?;
-    }
-    write!(out, "{last_comments}}}")
-}
-
-/// Writes a visibility, with a space after it, or nothing if none is written.
-fn write_visibility(out: &mut String, visibility: Visibility) -> Written {
-    match visibility {
-        Visibility::Private => Ok(()),
-        Visibility::Public => out.push_str("pub "),
-        Visibility::Restricted(restriction) => write!(out, "pub{restriction} "),
-    }
-}
-
-/// Writes a variant, with its discriminant if the enum has them.
-fn write_variant(out: &mut String, variant: &Variant, has_discriminant: bool) -> Written {
-    write!(out, "{}    {}", variant.attributes, variant.name)?;
-    let given = variant.discriminant.filter(|_| has_discriminant);
-    match given {
-        Some(given) => write_discriminant(out, &given)?,
-        None => {}
-    }
-    write!(out, ",{}\n", variant.comments)
-}
-
-/// Writes a discriminant: its literal, or the number that an expression is.
-fn write_discriminant(out: &mut String, given: &Discriminant) -> Written {
-    match (given.literal, given.number) {
-        (Some(literal), _) if given.has_minus => write!(out, " = -{literal}"),
-        (Some(literal), _) => write!(out, " = {literal}"),
-        (None, Number::Small(number)) => write!(out, " = {number}"),
-        (None, Number::Negative(number)) => write!(out, " = -{number}"),
-        // No expression is past 128 bits.
-        (None, Number::PowerOfTwo(_)) => Ok(()),
-    }
-}
-
-/// Writes the derives: those that an element type needs, and those of the source.
-fn write_derives(out: &mut String, alloc: Global, declaration: &EnumDeclaration) -> Written {
-    let is_full = !declaration.options.leaves_out_supertraits;
-    let mut derives = String::new(alloc);
-    for name in SUPERTRAITS {
-        if is_full {
-            write!(derives, "{name}, ")?;
-        }
-    }
-    for path in &declaration.derives {
-        let path = path.as_str();
-        let is_needed = SUPERTRAITS.iter().any(|name| names_last(path, name));
-        if !(is_full && is_needed) {
-            write!(derives, "{path}, ")?;
-        }
-    }
-    match derives.as_str().trim_end_matches(", ") {
-        "" => Ok(()),
-        derives => write!(out, "#[derive({derives})]\n"),
-    }
-}
-
-/// Whether what keeps a set has at most 128 bits.
-pub(super) fn is_narrow(plan: &Plan) -> bool {
-    !matches!(&plan.store, Store::Words(words) if words.len() > 2)
-}
-
-/// Whether a bit becomes its variant by a load from a table: there are more than sixteen, and they are not the places.
-pub(super) fn is_in_table(plan: &Plan) -> bool {
-    plan.variants.len() > 16 && !are_places(plan)
-}
-
-/// Whether each bit is its variant's place.
-fn are_places(plan: &Plan) -> bool {
-    let mut variants = plan.variants.iter().enumerate();
-    variants.all(|(place, named)| named.bit as usize == place)
-}
-
-/// Whether each bit is its variant's number, as `as` gives it.
-fn are_cast(element: &Element) -> bool {
-    let is_cast = |named: &NamedVariant| named.number == Number::Small(u128::from(named.bit));
-    match element.has_discriminants {
-        true => element.plan.variants.iter().all(is_cast),
-        false => are_places(&element.plan),
-    }
-}
-
-/// Whether each bit is its variant's place and number.
-pub(super) fn is_in_place(element: &Element) -> bool {
-    are_cast(element) && are_places(&element.plan)
-}
-
 /// Writes the implementation of an element type.
 fn write_impl(out: &mut String, subject: &Subject) -> Written {
-    let (name, crate_name, module) = (
-        subject.name,
-        subject.request.crate_name,
-        &subject.request.module,
-    );
+    let (name, crate_name, module) = (subject.name, subject.crate_name, subject.module);
     let library = library_of(subject.facade);
     let is_wide = matches!(subject.element.plan.store, Store::Words(_));
     let law = if is_wide { "words" } else { "integer" };
-    let in_place = is_in_place(subject.element);
+    let in_place = subject.element.is_in_place();
     let made = if in_place { "in_place" } else { "with_bits" };
     let (more, before, after) = match in_place {
         true => (", lawful_in_place", "lawful_in_place the_type (", ")"),
@@ -241,7 +130,7 @@ fn write_into_u32(out: &mut String, subject: &Subject) -> Written {
     if variants.is_empty() {
         return out.push_str("        match self {}\n");
     }
-    if are_cast(subject.element) {
+    if subject.element.are_cast() {
         return out.push_str("        self as u32\n");
     }
     out.push_str("        match self {\n")?;
@@ -262,7 +151,7 @@ fn write_from_u32(out: &mut String, subject: &Subject) -> Written {
     let (variants, plan) = (&subject.element.declaration.variants, &subject.element.plan);
     let count = variants.len();
     let variants = variants.iter().zip(plan.variants.iter());
-    if is_in_table(plan) && facade != "enumset_sets" {
+    if subject.element.is_in_table() && facade != "enumset_sets" {
         let mut items = vec![in alloc; format!(in alloc; "val, {name}:")?]?;
         for (variant, named) in variants {
             items.push(format!(in alloc; "{} {}", named.bit, variant.name)?)?;
@@ -277,7 +166,7 @@ fn write_from_u32(out: &mut String, subject: &Subject) -> Written {
             named.bit, variant.name
         )?;
     }
-    if is_in_table(plan) {
+    if subject.element.is_in_table() {
         return write_table_end(out, subject);
     }
     if count <= 32 {

@@ -1,6 +1,9 @@
 //! The calls that write the sets of an element type in JSON and read them.
 
-use super::*;
+use super::layout::guard_of;
+use super::{Subject, Written};
+use crate::plan::{IntegerType, Options, Plan, Representation, Serialized, Store};
+use std::alloc::Global;
 
 const OF_NUMBERS: &str =
     "    ghost use Rattle.std.specs.Prelude.{◌≡◌, ◌↔◌, IsOk, IfOk, IfErr, IsTrue};
@@ -147,7 +150,7 @@ fn model_of(subject: &Subject, name: &str, width: Option<u32>) -> Written<JsonMo
 
 /// Writes the calls. They name `Result` by its path, since the module may have another.
 pub(super) fn write_json(out: &mut String, subject: &Subject, serialized: Serialized) -> Written {
-    let (own, guard) = (subject.name, subject.element.guard.unwrap_or(""));
+    let (own, guard) = (subject.name, guard_of(subject));
     let width = width_of(serialized, &subject.element.plan);
     let JsonForm {
         name,

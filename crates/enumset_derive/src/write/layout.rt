@@ -1,6 +1,11 @@
 //! The layout of what `rt fmt` leaves as it is: lists in clauses, and what a macro is given. The rest is written plainly.
 
-use super::*;
+use super::{Subject, Text, Written};
+use std::alloc::Global;
+use std::fmt::Display;
+
+/// The attribute of what is there for tests alone. In one piece it would have the toolchain look for tests here.
+const FOR_TESTS: &str = concat!("#", "[cfg(test)]\n");
 
 /// Items with spaces between them, in lines. So many bytes are left on the first line, and on each other after this text.
 fn filled(alloc: Global, items: &[String], first: usize, start: &str, other: usize) -> Text {
@@ -56,6 +61,14 @@ pub(super) fn write_call(out: &mut String, alloc: Global, name: &str, items: &[S
 
 /// Writes the head of an implementation of a trait, after an empty line and the comment or attribute of its own.
 pub(super) fn write_head(out: &mut String, subject: &Subject, above: &str, form: &str) -> Written {
-    let (name, guard) = (subject.name, subject.element.guard.unwrap_or(""));
+    let (name, guard) = (subject.name, guard_of(subject));
     write!(out, "\n\n{above}{guard}impl {form} for {name} {{\n")
+}
+
+/// The attribute of each implementation, if the enum is there for tests alone.
+pub(super) fn guard_of(subject: &Subject) -> &'static str {
+    match subject.element.declaration.is_for_tests {
+        true => FOR_TESTS,
+        false => "",
+    }
 }

@@ -1,6 +1,7 @@
 //! The names of variants: in JSON, and by `Display`.
 
-use super::*;
+use super::layout::{list_of, list_of_names, write_call, write_head};
+use super::{Subject, Written};
 
 /// Writes the names of the variants in JSON.
 pub(super) fn write_names(out: &mut String, subject: &Subject) -> Written {
@@ -9,15 +10,15 @@ pub(super) fn write_names(out: &mut String, subject: &Subject) -> Written {
     let mut names = Vec::new(alloc);
     for (index, variant) in element.declaration.variants.iter().enumerate() {
         let own = variant.name;
-        let given = element.json_names.get(index);
-        names.push(given.map_or(own, |(_, json)| json.as_str()))?;
+        let given = element.declaration.json_names.get(index);
+        names.push(given.map_or(own, |json| json.as_str()))?;
         items.push(match given {
-            Some((_, json)) => format!(in alloc; "{own} \"{json}\"")?,
+            Some(json) => format!(in alloc; "{own} \"{json}\"")?,
             None => String::from_str(alloc, own)?,
         })?;
     }
     let names = list_of(alloc, 80, &names, "codes \"", "\"")?;
-    let unfolded = if is_in_place(element) {
+    let unfolded = if element.is_in_place() {
         "place"
     } else {
         "listed_bit"
@@ -36,11 +37,7 @@ pub(super) fn write_names(out: &mut String, subject: &Subject) -> Written {
 
 /// Writes the `Display` by the names of the variants.
 pub(super) fn write_display(out: &mut String, subject: &Subject) -> Written {
-    let (name, crate_name, module) = (
-        subject.name,
-        subject.request.crate_name,
-        &subject.request.module,
-    );
+    let (name, crate_name, module) = (subject.name, subject.crate_name, subject.module);
     let variants = &subject.element.declaration.variants;
     let list = list_of_names(subject, 90, "codes \"", "\"")?;
     let doc = "/// The name of the variant.\n";

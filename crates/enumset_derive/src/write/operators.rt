@@ -1,6 +1,7 @@
 //! The operators on elements.
 
-use super::*;
+use super::layout::write_head;
+use super::{Subject, Written, library_of};
 
 /// An operator with two operands.
 #[derive(Clone, Copy)]

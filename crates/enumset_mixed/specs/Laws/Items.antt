@@ -1,11 +1,12 @@
--- The bits of the items that a mixed set's iterator gives.
---     none_left      no bit is left where no item is
---     gave_first, gave_last      the first bit of a list, or the last, from the first item or the last
+-- The bits of the items that a mixed set's iterator yields.
+--     none_left      no bit is left if no item is
+--     gave_first, gave_last      the first bit of a list, from the first item;  the last, from the last item
 use Rattle.std.proofs.Common.{◌≡◌, ℕ, Bool, List, [], ◌∷◌, ◌++◌, map, refl, sym, ap, ◌∙◌}
-use Rattle.enumset_repr.specs.Laws.Common.{map-append, BitSet}
+use Rattle.std.proofs.lemmas.List.{map-append}
+use Rattle.enumset_repr.specs.BitSet.{BitSet}
 use Rattle.enumset_mixed.specs.Mixed.{with_validity}
 
--- the bits of a list, without what is said of each
+-- the bits of a list, without whether each is valid
 bits-with_validity : (valid : BitSet) (bs : List ℕ) → map (λ p. p.0) (with_validity valid bs) ≡ bs
 bits-with_validity valid [] = refl
 bits-with_validity valid (b ∷ bs) = ap (λ cs. b ∷ cs) (bits-with_validity valid bs)

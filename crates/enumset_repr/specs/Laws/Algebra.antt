@@ -8,9 +8,9 @@
 -- The ruleset `algebra` has those that a tactic can apply by itself. A crate above cites it by
 -- `#[tactic(auto, using(enumset_repr::specs::Laws::Algebra::algebra))]`.
 use Rattle.std.proofs.Common.{◌≡◌, ℕ, true, false, cond, List, [], ◌∷◌, refl, sym, ◌∙◌, arith}
-use Rattle.enumset_repr.specs.Laws.Base.{BitSet, contains, ascending, empty, insert, only, remove, from_list, insert_each, union, intersection, difference, symmetric_difference, is_subset, is_disjoint}
+use Rattle.enumset_repr.specs.BitSet.{BitSet, contains, ascending, empty, insert, only, remove, from_list, insert_each, union, intersection, difference, symmetric_difference, is_subset, is_disjoint}
 use Rattle.enumset_repr.specs.Laws.Members.{members, subsets, same_set, contains_ascending, contains_from_list, contains_insert_each, is_disjoint_iff}
-use Rattle.enumset_repr.specs.Laws.Decided.{decided, union_only, difference_only}
+use Rattle.enumset_repr.specs.Laws.MemberRules.{decided, union_only, difference_only}
 
 -- ---- union
 
@@ -70,14 +70,14 @@ difference_empty s = grind (arith, decided)
 pub empty_difference : (s : BitSet) → difference empty s ≡ empty
 empty_difference s = grind (arith, decided)
 
--- De Morgan: what is outside a union is outside both parts, and what is outside an intersection is outside one of them
+-- De Morgan: a number outside a union is outside both sets, and one outside an intersection is outside at least one
 pub difference_union : (v s t : BitSet) → difference v (union s t) ≡ intersection (difference v s) (difference v t)
 difference_union v s t = grind (arith, decided)
 
 pub difference_intersection : (v s t : BitSet) → difference v (intersection s t) ≡ union (difference v s) (difference v t)
 difference_intersection v s t = grind (arith, decided)
 
--- adding the members of t and removing them again leaves what was not in t before
+-- adding the members of t and removing them again leaves the members that are not in t
 pub union_difference : (s t : BitSet) → difference (union s t) t ≡ difference s t
 union_difference s t = grind (arith, decided)
 
@@ -142,7 +142,7 @@ insert_union s t b = grind (arith, decided)
 pub union_insert : (s t : BitSet) (b : ℕ) → union s (insert t b) ≡ insert (union s t) b
 union_insert s t b = grind (arith, decided)
 
--- the number is a member afterwards exactly if it was none before
+-- the number is a member afterwards exactly if it was not one before
 pub toggled : (s : BitSet) (b : ℕ) → symmetric_difference s (only b) ≡ cond (contains s b) (remove s b) (insert s b)
 toggled s b = grind (arith, decided)
 
@@ -232,7 +232,7 @@ pub ruleset on_subsets = (is_disjoint_empty, is_disjoint_difference, union_left,
 
 -- ---- where a search meets a difference or an intersection
 
--- the first part is always true: it shows the search where to take the law
+-- the first part is always true: it shows the search where to use the law
 pub difference_tells : (s t : BitSet) → (difference s t ≡ difference s t) × (difference s t ≡ empty → is_subset s t ≡ true)
 difference_tells s t = (refl, difference_none s t)
 
@@ -263,6 +263,6 @@ insert_each_none s = refl
 
 pub ruleset on_lists = (from_list_ascending, insert_each_ascending, insert_each_union, insert_each_insert, insert_each_none)
 
--- What a proof about code over sets needs: the laws of `contains`, of subsets, and those of this file that do more than
--- reorder or regroup.
+-- What a proof about code over sets needs: the laws of `contains`, of subsets, and the laws of this file except those that
+-- only reorder or regroup.
 pub ruleset algebra = (members, subsets, on_unions, on_intersections, on_differences, on_symmetric_differences, on_one_number, on_complements, on_subsets, on_lists)

@@ -4,7 +4,11 @@
 --     ascending_..      `ascending` of a set with a least or a greatest member
 --     len_..      `len` of each set
 use Rattle.std.proofs.Common.{◌≡◌, ◌<◌, ◌≤◌, ℕ, suc, ◌+◌, ◌-◌, true, false, cond, ◌||◌, List, [], ◌∷◌, ◌++◌, refl, sym, ap, subst, ◌∙◌, length, arith, T, map, ◌↔◌, ◌==◌, nat_cmp, eqb-true}
-use Rattle.enumset_repr.specs.Laws.Base.{length-map, nat_cmp_total, or_right, nat_tests, is_in, BitSet, contains, ascending, len, is_empty, empty, insert, remove, is_subset, below}
+use Rattle.std.proofs.lemmas.Bool.{or_right}
+use Rattle.std.proofs.lemmas.Bool.Decides.{nat_tests}
+use Rattle.std.proofs.lemmas.List.{length-map}
+use Rattle.std.specs.Cmp.{nat_cmp_total}
+use Rattle.enumset_repr.specs.BitSet.{is_in, BitSet, contains, ascending, len, is_empty, empty, insert, remove, is_subset, below}
 use Rattle.std.specs.FinMap as fin
 use Rattle.std.specs.FinMap.{is_sorted}
 use Rattle.enumset_repr.specs.Laws.Members.{members, same_set, contains_empty, contains_ascending, member_below}
@@ -110,7 +114,7 @@ pub empty_of_len : (s : BitSet) → len s ≡ 0 → s ≡ empty
 unfolding len empty
 empty_of_len s e = fin.empty_of_len s e
 
--- a set whose list is empty has no member
+-- a set whose list is empty is the empty set
 pub empty_of_ascending : (s : BitSet) → ascending s ≡ [] → s ≡ empty
 empty_of_ascending s e = same_set s empty (λ q. contains_ascending s q ∙ ap (is_in q) e ∙ sym (contains_empty q))
 
@@ -125,7 +129,7 @@ pub len_below : (s : BitSet) (n : ℕ) → is_subset s (below n) ≡ true → le
 len_below s n sub =
     omega (arith, len_ascending s, length-ascends 0 n (ascending s) (ascending_ascends s) (omega arith) (λ q one. member_below s n q sub (contains_ascending s q ∙ one)))
 
--- a set has no member exactly if it is the empty set
+-- `is_empty` is true exactly for the empty set
 pub is_empty_iff : (s : BitSet) → (is_empty s ≡ true) ↔ (s ≡ empty)
 unfolding is_empty
 is_empty_iff s = (

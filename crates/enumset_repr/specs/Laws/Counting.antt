@@ -2,25 +2,27 @@
 --     ascending_intersection, ascending_difference      the members of s that are in t, and that are not, ascending
 --     is_empty_difference, is_empty_intersection      tests of subsets and of disjoint sets
 --     len_parts      the members of s outside t and those inside t are all of s
---     len_union_more, len_union_same      a union has the members of the one set, and those of the other outside it;
---         it has as many as the one exactly if the other is a subset
---     len_union      a union and an intersection have together as many members as the two sets
---     len_intersection, len_difference, len_subset      a part has no more members
---     len_proper      a part that is not the whole has fewer
---     len_apart      the members of s that are in two sets that share none
---     len_inserted, len_removed      one more, and one less
---     len_zero_iff      a set has no member exactly if it is the empty set
---     kept_count, left_count      the numbers of the list of s that are in t, and that are not, kept in a list
---     len_kept, len_left      the same, counted
+--     len_union_more, len_union_same      a union has the members of one set and those of the other outside it;  it has
+--         as many members as the one exactly if the other is a subset
+--     len_union      a union and an intersection together have as many members as the two sets together
+--     len_intersection, len_difference, len_subset      a subset has at most as many members
+--     len_proper      a proper subset has fewer members
+--     len_apart      how many members of s are in the union of two disjoint sets
+--     len_inserted, len_removed      one more;  one less
+--     len_zero_iff      a set has 0 members exactly if it is the empty set
+--     kept_count, left_count      how long the list is of the numbers of s that are in t, and that are not
+--     len_kept, len_left      the same as the number of members of a set
 --     len_kept_both, len_kept_either, len_kept_but, len_left_both      the same by two other sets
 --     length_ascending      the list of the members is as long as the set
 -- The ruleset `counting` has those that a tactic can apply by itself.
 use Rattle.std.proofs.Common.{◌≡◌, ◌≤◌, ◌<◌, ◌+◌, ◌-◌, ℕ, suc, zero, Bool, true, false, cond, not, ◌&&◌, ◌||◌, List, [], ◌∷◌, length, filter, count_by, refl, sym, ap, subst, ◌∙◌, arith, ◌↔◌, ◌==◌}
-use Rattle.enumset_repr.specs.Laws.Base.{nat_tests, same_from_decides, length-filter, BitSet, is_in, contains, ascending, len, is_empty, empty, insert, remove, union, intersection, difference, is_subset, is_disjoint, is_same}
+use Rattle.std.proofs.lemmas.Bool.Decides.{nat_tests, same_from_decides}
+use Rattle.std.proofs.lemmas.List.Sums.{length-filter}
+use Rattle.enumset_repr.specs.BitSet.{BitSet, is_in, contains, ascending, len, is_empty, empty, insert, remove, union, intersection, difference, is_subset, is_disjoint, is_same}
 use Rattle.std.proofs.lemmas.List.Filters.{length-filter_both}
 use Rattle.enumset_repr.specs.Laws.Members.{contains_empty, contains_union, contains_ascending, contains_intersection, contains_difference, is_subset_iff, is_disjoint_iff}
 use Rattle.enumset_repr.specs.Laws.Algebra.{intersection_comm, intersection_assoc, intersection_within, intersection_over_union, union_difference, union_within}
-use Rattle.enumset_repr.specs.Laws.Decided.{decided}
+use Rattle.enumset_repr.specs.Laws.MemberRules.{decided}
 use Rattle.enumset_repr.specs.Laws.Ascending.{AscendsFrom, ascends_lower, ascending_ascends, ascending_is, len_ascending, len_below, len_empty, len_insert, len_remove, empty_of_len, is_empty_iff}
 
 module _ (p : ℕ → Bool) where
@@ -114,7 +116,7 @@ len_some s b one = some (len s) refl where
 pub len_removed : (s : BitSet) (b : ℕ) → contains s b ≡ true → len (remove s b) + 1 ≡ len s
 len_removed s b one = omega (arith, len_some s b one, len_remove s b ∙ ap (λ t. cond t (len s - 1) (len s)) one)
 
--- as many members of s are in t as numbers of its list
+-- as many members of s are in t as numbers in the list of s
 pub kept_count : (s t : BitSet) → length (filter (contains t) (ascending s)) ≡ len (intersection s t)
 kept_count s t = ap length (sym (ascending_intersection s t)) ∙ sym (len_ascending (intersection s t))
 

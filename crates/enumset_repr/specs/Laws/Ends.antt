@@ -1,19 +1,62 @@
--- The least and the greatest member.
+-- The least and the greatest member, and steps from an end of a list.
+--     last_push, without_last_push      the last item of a list after a push, and the list without it
+--     cases_last      a list is empty, or has a last item
+--     none_last      a list without a last item is empty
+--     gives_last      a step from the end yields `last` of a list and leaves `without_last`
 --     least_is, greatest_is      a member with none before it is the least;  one with none past it is the greatest
 --     least_empty, greatest_empty      the empty set has neither
---     greatest_facts      the greatest is a member, and none is past it
+--     least_facts, greatest_facts      the least is a member, and none is less;  the greatest is one, and none is past
+--         it
 --     least_below, greatest_below      both are below a bound of all members
 --     ascending_least, ascending_greatest      the least comes first in the list, and the greatest last
 --     trailing_least, leading_greatest      what `trailing_zeros` and `leading_zeros` count, at each number of bits
---     least_fits      the least member of a number is below the width that it fits
+--     least_fits      the least member of a number is below a width that the number fits
 --     clear_least, least_positive      `n & (n - 1)`;  a number with a least member is not 0
---     at_the_ends      the ends of a set, for a tactic's `using`
-use Rattle.std.proofs.Common.{◌≡◌, ◌<◌, ◌≤◌, ℕ, suc, zero, ◌+◌, ◌-◌, ◌^◌, true, false, List, [], ◌∷◌, ◌++◌, Some, None, refl, sym, ap, subst, ◌∙◌, arith, true≢false, length, length-append, inl, inr, ◌==◌, MatchOption, IfSome, IsSome, is_some, bit_and, slice_get, eq-eqb}
-use Rattle.enumset_repr.specs.Laws.Base.{count_trailing_zeros, count_leading_zeros, trailing_of_zero, leading_of_zero, last_or, or_left, false_from_ne_true, nat_tests, is_in, BitSet, contains, ascending, empty, remove, is_subset, below, last, least, greatest, bits}
-use Rattle.enumset_repr.specs.Laws.Steps.{last_push, cases_last, none_last}
+-- The ruleset `lasts` has the last item after a push, `at_the_ends` the ends of a set.
+use Rattle.std.proofs.Common.{◌≡◌, ℕ, ◌-◌, List, [], ◌∷◌, ◌++◌, length, take, length-append, refl, sym, ap, ◌∙◌, ◌⊎◌, inl, inr, arith, Option, Some, None, MatchOption, ◌<◌, ◌≤◌, suc, zero, ◌+◌, ◌^◌, true, false, subst, true≢false, ◌==◌, IfSome, IsSome, is_some, bit_and, slice_get, eq-eqb}
+use Rattle.std.proofs.Math.Seq.{take-append_seam}
+use Rattle.std.specs.List.{last_or}
+use Rattle.enumset_repr.specs.Ends.{last, without_last, least, greatest}
+use Rattle.std.proofs.lemmas.Bool.{or_left, false_from_ne_true}
+use Rattle.std.proofs.lemmas.Bool.Decides.{nat_tests}
+use Rattle.std.specs.Int.Count.{count_trailing_zeros, count_leading_zeros, trailing_of_zero, leading_of_zero}
+use Rattle.enumset_repr.specs.BitSet.{is_in, BitSet, contains, ascending, empty, remove, is_subset, below}
+use Rattle.enumset_repr.specs.Number.{bits}
 use Rattle.enumset_repr.specs.Laws.Members.{contains_ascending, member_below}
 use Rattle.enumset_repr.specs.Laws.Ascending.{len_ascending, AscendsFrom, ascending_ascends, ascending_empty, is_in_below, is_in_push, before_last, ascending_first, ascending_last}
 use Rattle.enumset_repr.specs.Laws.Numbers.{lt_pow, bits_zero, bits_within, bits_clear_least, least_bits, greatest_bits}
+
+last_or-push : (o : Option ℕ) (xs : List ℕ) (x : ℕ) → last_or o (xs ++ x ∷ []) ≡ Some x
+last_or-push o [] x = refl
+last_or-push o (y ∷ ys) x = last_or-push (Some y) ys x
+
+pub last_push : (xs : List ℕ) (x : ℕ) → last (xs ++ x ∷ []) ≡ Some x
+last_push xs x = last_or-push None xs x
+
+one_less : (xs : List ℕ) (x : ℕ) → length (xs ++ x ∷ []) - 1 ≡ length xs
+one_less xs x = omega (arith, length-append xs (x ∷ []))
+
+pub without_last_push : (xs : List ℕ) (x : ℕ) → without_last (xs ++ x ∷ []) ≡ xs
+without_last_push xs x = ap (λ n. take n (xs ++ x ∷ [])) (one_less xs x) ∙ take-append_seam xs (x ∷ [])
+
+pub cases_last : (xs : List ℕ) → (xs ≡ []) ⊎ ((ys : List ℕ) × (y : ℕ) × (xs ≡ ys ++ y ∷ []))
+cases_last [] = inl refl
+cases_last (x ∷ xs) = elim (cases_last xs) [
+  | inl none ↦ inr ([], x, ap (λ l. x ∷ l) none)
+  | inr some ↦ inr (x ∷ some.0, some.1, ap (λ l. x ∷ l) some.2)
+]
+
+pub none_last : (xs : List ℕ) → last xs ≡ None → xs ≡ []
+none_last xs none = elim (cases_last xs) [
+  | inl empty ↦ empty
+  | inr some ↦ let found : None ≡ Some some.1 = sym none ∙ ap last some.2 ∙ last_push some.0 some.1 in absurd (cc)
+]
+
+pub gives_last : (xs : List ℕ) (r : Option ℕ) (ys : List ℕ) → MatchOption r ((xs ≡ []) × (ys ≡ [])) (λ x. xs ≡ ys ++ x ∷ []) → (r ≡ last xs) × (ys ≡ without_last xs)
+gives_last xs None ys step = (sym (ap last step.0), step.1 ∙ sym (ap without_last step.0))
+gives_last xs (Some x) ys step = (sym (ap last step ∙ last_push ys x), sym (ap without_last step ∙ without_last_push ys x))
+
+pub ruleset lasts = (last_push, without_last_push)
 
 -- ---- the least
 
@@ -25,7 +68,7 @@ pub least_empty : least empty ≡ None
 unfolding least
 least_empty = ap (λ xs. slice_get xs 0) ascending_empty
 
--- the form of a list that has a first item
+-- a list that has a first item begins with it
 first_item : (xs : List ℕ) (m : ℕ) → slice_get xs 0 ≡ Some m → (ys : List ℕ) × (xs ≡ m ∷ ys)
 first_item [] m first = absurd (cc)
 first_item (x ∷ xs) m first = let same : x ≡ m = cc in (xs, ap (λ y. y ∷ xs) same)
@@ -123,7 +166,7 @@ leading_greatest w (suc n) fits =
     let facts = greatest_bits w (suc n) (omega arith) fits in
     rw (greatest_is _ _ facts.1 facts.2) (omega (arith, facts.0))
 
--- `n & (n - 1)` is without the least member
+-- `n & (n - 1)` removes the least member
 pub clear_least : (n : ℕ) → IfSome (least (bits n)) (λ m. bits (bit_and n (n - 1)) ≡ remove (bits n) m)
 clear_least zero = rw (bits_zero, least_empty) tt
 clear_least (suc n) =

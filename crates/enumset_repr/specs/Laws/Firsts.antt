@@ -1,19 +1,20 @@
 -- The first and the last member of a set, as an iterator yields them, and the list of a set that is written out.
---     first_member, first_least, first_rest      the first of the members in their order is a member, and the least;
---         those after it are the set without it
---     last_member, last_greatest, last_rest      the last is a member, and the greatest;  those before it are the set
---         without it
+--     first_member, first_least, first_rest      the first number of a set's list is a member, and the least;  the
+--         others are the list of the set without it
+--     last_member, last_greatest, last_rest      the last number is a member, and the greatest;  the others are the
+--         list of the set without it
 --     first_is_least, last_is_greatest      they are `least` and `greatest`
---     ascending_empty_iff      a set has no first member exactly if it is empty
+--     ascending_empty_iff      a set's list is empty exactly if the set is
 --     insert_sorted, ascending_insert      the list of a set with a number inserted
 -- The rulesets `firsts` and `written_out` have those that a tactic can apply by itself.
 use Rattle.std.proofs.Common.{◌≡◌, ◌≤◌, ℕ, suc, Bool, true, false, cond, ◌||◌, List, [], ◌∷◌, ◌++◌, Some, refl, sym, ap, subst, ◌∙◌, arith, ◌↔◌, ◌==◌, nat_lt}
-use Rattle.enumset_repr.specs.Laws.Base.{nat_tests, BitSet, is_in, contains, ascending, empty, insert, remove, from_list, first, last, without_first, without_last, least, greatest}
+use Rattle.std.proofs.lemmas.Bool.Decides.{nat_tests}
+use Rattle.enumset_repr.specs.BitSet.{BitSet, is_in, contains, ascending, empty, insert, remove, from_list}
+use Rattle.enumset_repr.specs.Ends.{first, last, without_first, without_last, least, greatest}
 use Rattle.enumset_repr.specs.Laws.Members.{contains_ascending, contains_insert}
-use Rattle.enumset_repr.specs.Laws.Decided.{union_only}
+use Rattle.enumset_repr.specs.Laws.MemberRules.{union_only}
 use Rattle.enumset_repr.specs.Laws.Ascending.{AscendsFrom, ascending_ascends, ascending_is, ascending_empty, empty_of_ascending, is_in_from}
-use Rattle.enumset_repr.specs.Laws.Ends.{ascending_least, ascending_greatest, least_facts, greatest_facts}
-use Rattle.enumset_repr.specs.Laws.Steps.{last_push, without_last_push}
+use Rattle.enumset_repr.specs.Laws.Ends.{ascending_least, ascending_greatest, least_facts, greatest_facts, last_push, without_last_push}
 
 pub ascending_empty_iff : (s : BitSet) → (ascending s ≡ []) ↔ (s ≡ empty)
 ascending_empty_iff s = (empty_of_ascending s, λ e. ap ascending e ∙ ascending_empty)
@@ -54,7 +55,7 @@ pub ruleset firsts = (ascending_empty_iff, first_is_least, first_member, first_l
 
 -- ---- the list of a set that is written out
 
--- an ascending list with one number more
+-- an ascending list with one number inserted
 abbrev pub insert_sorted : ℕ → List ℕ → List ℕ
 insert_sorted b [] = b ∷ []
 insert_sorted b (x ∷ xs) = cond (nat_lt b x) (b ∷ x ∷ xs) (cond (b == x) (x ∷ xs) (x ∷ insert_sorted b xs))

@@ -1,14 +1,30 @@
--- An integer as a representation, at every number of bits.
+-- An integer as a representation, at every number of bits, and numbers with bits masked out.
 --     by_number      a number represents the set of its bits, if these are below a width
 --     integer_operators      `&`, `|`, `^` and `!` of an integer type
 --     word_.., with_word_..      a word, and a number with a word replaced, at a width of up to 64 bits and at 128
---     on_integers      what the calls of an integer need, and those of a representation in its lowest bits, for a
---         tactic's `using`
--- In premises, `m ≡ 2 ^ low_zeros 128 m` says that m is a power of two. It computes at a written-out number.
-use Rattle.std.proofs.Common.{◌≡◌, ◌<◌, ◌≤◌, ℕ, suc, ◌+◌, ◌*◌, ◌/◌, ◌%◌, ◌^◌, ◌-◌, sym, ap, ◌∙◌, arith, true, not, refl, ◌==◌, IsTrue, nat_cmp, bit_and, bit_or, bit_xor, eqb-true, eq-eqb}
-use Rattle.enumset_repr.specs.Laws.Common.{bit_not, Width, w128, nat_tests, low_zeros, and_mask, and_le_l, contains, only, difference, is_subset, below, IsRepresentation, AreSetOperators, number, bits, word, with_word, union_only, difference_only, intersection_right, symmetric_difference_within, subsets, contains_below, number_bits, number_within, bits_full, bits_within, bits_and, bits_or, bits_xor, bits_not, bits_and_not, bits_one_shifted, bits_test, bits_zero, on_numbers, trailing_least, least_fits, leading_greatest, clear_least, least_positive, word_bits, bits_put_low, bits_put_word}
+--     masked_tells      `a & !b == 0` as a test of a subset
+--     or_and_not      bits set and cleared at once
+-- In premises, `m ≡ 2 ^ low_zeros 128 m` says that m is a power of two. It computes for a literal number.
+-- The ruleset `on_integers` has what the calls of an integer need, and those of a representation in the low bits of an
+-- integer. The ruleset `masks` has what a proof about the bits of a byte needs.
+use Rattle.std.proofs.Common.{◌≡◌, ◌<◌, ◌≤◌, ℕ, suc, ◌+◌, ◌*◌, ◌/◌, ◌%◌, ◌^◌, ◌-◌, sym, ap, ◌∙◌, arith, true, not, refl, ◌==◌, IsTrue, nat_cmp, bit_and, bit_or, bit_xor, eqb-true, eq-eqb, subst, ◌↔◌}
+use Rattle.std.proofs.lemmas.Bool.Decides.{nat_tests}
+use Rattle.std.proofs.lemmas.Grind.{low_zeros}
+use Rattle.std.proofs.lemmas.Nat.{and_mask, and_le_l}
+use Rattle.std.specs.Int.{bit_not, Width, w128}
+use Rattle.enumset_repr.specs.BitSet.{contains, only, difference, is_subset, below, union, is_empty}
+use Rattle.enumset_repr.specs.Laws.Algebra.{intersection_right, symmetric_difference_within, intersection_within}
+use Rattle.enumset_repr.specs.Laws.Ends.{trailing_least, least_fits, leading_greatest, clear_least, least_positive}
+use Rattle.enumset_repr.specs.Laws.MemberRules.{union_only, difference_only}
+use Rattle.enumset_repr.specs.Laws.Members.{subsets, contains_below, union_is_subset, is_disjoint_iff}
+use Rattle.enumset_repr.specs.Laws.Numbers.{number_bits, number_within, bits_full, bits_within, bits_and, bits_or, bits_xor, bits_not, bits_and_not, bits_one_shifted, bits_test, bits_zero, on_numbers, bits_number, bits_is_empty}
+use Rattle.enumset_repr.specs.Laws.Words.{word_bits, bits_put_low, bits_put_word}
+use Rattle.enumset_repr.specs.Number.{number, bits}
+use Rattle.enumset_repr.specs.Representations.{IsRepresentation, AreSetOperators}
+use Rattle.enumset_repr.specs.Words.{word, with_word}
 use mir.Val.{bits as width_bits}
 use Rattle.enumset_repr.specs.Laws.Order.{compare_bits}
+use Rattle.enumset_repr.specs.Laws.Counting.{is_empty_difference, is_empty_intersection}
 
 pub by_number : (width : ℕ) → IsRepresentation bits number (λ n. IsTrue (is_subset (bits n) (below width))) 0 width ((width + 63) / 64) (λ a b. a == b) nat_cmp
 by_number width = record {
@@ -40,7 +56,7 @@ integer_operators w = record {
 
 -- ---- words
 
--- `n` at a width of at most 64 bits: its one word
+-- `n` at a width of at most 64 bits is its only word
 pub word_whole : (n i : ℕ) → n < 2 ^ 64 → i < 1 → word (bits n) i ≡ n
 word_whole n i fits first =
     let place : i ≡ 0 = omega (arith, first) in
@@ -73,7 +89,7 @@ pub ruleset words_narrow = (word_whole, with_word_narrow, with_word_whole)
 
 pub ruleset words_wide = (word_shifted, with_word_wide)
 
--- ---- what the calls of an integer need. A tactic reads no width off a numeral: it computes `low_zeros` of it.
+-- ---- what the calls of an integer need. A tactic cannot read a width off a literal: it computes `low_zeros` of it.
 
 -- `1 << k`
 pub bits_one : (k m : ℕ) → m ≡ 2 ^ low_zeros 128 m → k < low_zeros 128 m → bits (1 * 2 ^ k % m) ≡ only k
@@ -93,8 +109,26 @@ and_not a b m e p q =
 pub and_below : (a b m : ℕ) → a < m → bit_and a b < m
 and_below a b m fits = omega (arith, fits, and_le_l a b)
 
--- a number of ones, as 0x7f
+-- a number of ones, like 0x7f
 pub bits_ones : (m : ℕ) → suc m ≡ 2 ^ low_zeros 128 (suc m) → bits m ≡ below (low_zeros 128 (suc m))
 bits_ones m e = let ones : m ≡ 2 ^ low_zeros 128 (suc m) - 1 = omega (arith, e) in ap bits ones ∙ bits_full (low_zeros 128 (suc m))
 
 pub ruleset on_integers = (on_numbers, subsets, contains_below, nat_tests, union_only, difference_only, intersection_right, symmetric_difference_within, bits_within, bits_one, bits_ones, tests_bit, and_not, and_below, least_positive, clear_least, trailing_least, least_fits, leading_greatest, words_narrow, words_wide)
+
+-- ---- bits masked out
+
+-- the first part is always true: it shows the search where to use the law
+pub masked_tells : (a b m : ℕ) → suc m ≡ 2 ^ low_zeros 128 (suc m) → a ≤ m → b ≤ m → (bit_and a (m - b) ≡ bit_and a (m - b)) × ((bit_and a (m - b) ≡ 0) ↔ (is_subset (bits a) (bits b) ≡ true))
+masked_tells a b m e p q =
+    let same : (bit_and a (m - b) == 0) ≡ is_subset (bits a) (bits b) = bits_is_empty _ ∙ ap is_empty (and_not a b m e p q) ∙ is_empty_difference (bits a) (bits b) in
+    (refl, (λ none. grind (arith, nat_tests), λ within. grind (arith, nat_tests)))
+
+-- `(a | b) & !c`
+pub or_and_not : (a b c m : ℕ) → suc m ≡ 2 ^ low_zeros 128 (suc m) → a ≤ m → b ≤ m → c ≤ m → bits (bit_and (bit_or a b) (m - c)) ≡ difference (union (bits a) (bits b)) (bits c)
+or_and_not a b c m e p q r =
+    let w = low_zeros 128 (suc m) in
+    let both = union_is_subset _ _ _ (bits_within a w (omega (arith, e, p))) (bits_within b w (omega (arith, e, q))) in
+    let fits : bit_or a b < 2 ^ w = subst (λ n. n < 2 ^ w) (ap number (sym (bits_or a b)) ∙ number_bits _) (number_within _ w both) in
+    and_not _ c m e (omega (arith, e, fits)) r ∙ ap (λ s. difference s (bits c)) (bits_or a b)
+
+pub ruleset masks = (masked_tells, and_not, or_and_not, bits_and, bits_or, bits_xor, bits_number, number_bits, bits_within, bits_is_empty, is_empty_intersection, is_disjoint_iff, intersection_within)

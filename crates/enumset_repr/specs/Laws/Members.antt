@@ -1,15 +1,20 @@
 -- Laws of sets by membership: what `contains` returns for each set in `BitSet`.
 --     contains_..      what `contains` returns for such a set;  the ruleset `members` has them all
 --     same_set, is_same_iff      sets with the same members are equal
---     same_in, same_both      what is made of such a set, or of two, is the same
+--     same_in, same_both      values made from such sets in the same way are equal
 --     is_subset_.., contains_is_subset, is_subset_iff      a subset, by its members;  by an empty difference
 --     is_disjoint_.., contains_is_disjoint, is_disjoint_iff      disjoint sets, by their members;  by an empty
 --         intersection
 --     .._is_subset      operations on subsets of one set give subsets of it;  the ruleset `subsets` has them all
 --     member_below, contains_past      members of sets of numbers below a bound
 --     list_all_any, list_all_each      a test that passes each number of a list
+--     is_same-IsEquivalence, is_same-IsPartialEquivalence      `is_same` is an equivalence
 use Rattle.std.proofs.Common.{◌≡◌, ◌<◌, ◌≤◌, ℕ, suc, zero, Bool, true, false, cond, not, ◌&&◌, ◌||◌, List, [], ◌∷◌, Option, Some, None, refl, sym, ap, subst, true≢false, ◌∙◌, arith, ◌==◌, nat_lt, is_some, ◌↔◌, nat_cmp, ltb-true, eq-eqb, Equal}
-use Rattle.enumset_repr.specs.Laws.Base.{list_any, list_all, nat_cmp_total, unsigned_tied, and_parts, and_from, or_left, or_right, not-true, false_from_ne_true, nat_tests, same_from_decides, BitSet, contains, ascending, empty, insert, remove, retain, from_list, insert_each, union, intersection, difference, symmetric_difference, is_subset, is_disjoint, is_same, below, low}
+use Rattle.std.proofs.lemmas.Bool.{and_parts, and_from, or_left, or_right, not-true, false_from_ne_true}
+use Rattle.std.proofs.lemmas.Bool.Decides.{nat_tests, same_from_decides}
+use Rattle.std.specs.Cmp.{nat_cmp_total, unsigned_tied, IsEquivalence, IsPartialEquivalence, partial_equiv_from_equiv}
+use Rattle.std.specs.List.{list_any, list_all}
+use Rattle.enumset_repr.specs.BitSet.{BitSet, contains, ascending, empty, insert, remove, retain, from_list, insert_each, union, intersection, difference, symmetric_difference, is_subset, is_disjoint, is_same, below, low}
 use Rattle.std.specs.FinMap as map
 
 marked : Bool → Option (Unit {0})
@@ -89,7 +94,7 @@ pub same_set : (s t : BitSet) → ((q : ℕ) → contains s q ≡ contains t q) 
 unfolding contains
 same_set s t is = map.same_map nat_cmp_total map.nat_cmp-IsAntisymmetric s t (λ q. mark_of _ ∙ ap marked (is q) ∙ sym (mark_of _))
 
--- what is made of such sets is the same, as `Some` of a set, or a pair, in which a search looks for no equation of sets
+-- values made from such sets are equal, like `Some` of a set or a pair, inside which a search does not look for equal sets
 pub same_in : {A : Type 0} (f : BitSet → A) (s t : BitSet) → ((q : ℕ) → contains s q ≡ contains t q) → f s ≡ f t
 same_in f s t is = ap f (same_set s t is)
 
@@ -131,7 +136,7 @@ is_disjoint_iff s t = (
   λ none. contains_is_disjoint s t (λ q in_s. let here = ap (λ u. contains u q) none in grind (arith, members)),
 )
 
--- s is a subset of t exactly if nothing of s is outside t
+-- s is a subset of t exactly if no member of s is outside t
 pub is_subset_iff : (s t : BitSet) → (is_subset s t ≡ true) ↔ (difference s t ≡ empty)
 is_subset_iff s t = (
   λ sub. same_set _ _ (λ q. let each = is_subset_contains s t sub q in grind (arith, members)),
@@ -178,5 +183,17 @@ member_below s n b sub in_s = ltb-true b n (sym (contains_below n b) ∙ is_subs
 pub contains_past : (s : BitSet) (n b : ℕ) → is_subset s (below n) ≡ true → n ≤ b → contains s b ≡ false
 contains_past s n b sub past = false_from_ne_true (contains s b) (λ in_s. omega (arith, past, member_below s n b sub in_s))
 
--- What stays within the valid bits: `#[tactic(auto, using(enumset_repr::specs::Laws::Members::subsets))]`.
+-- Operations on subsets of the valid bits give such subsets: `#[tactic(auto, using(enumset_repr::specs::Laws::Members::subsets))]`.
 pub ruleset subsets = (is_subset_itself, empty_is_subset, insert_is_subset, remove_is_subset, union_is_subset, intersection_is_subset, difference_is_subset, symmetric_difference_is_subset)
+
+-- ---- `is_same` is an equivalence
+
+pub is_same-IsEquivalence : IsEquivalence is_same
+is_same-IsEquivalence = record {
+  refl = λ s. (is_same_iff s s).1 refl;
+  symm = λ s t. same_from_decides _ _ (is_same_iff s t) (λ h. sym ((is_same_iff t s).0 h), λ e. (is_same_iff t s).1 (sym e));
+  congr = λ s t u same. (λ i. is_same ((is_same_iff s t).0 same i) u);
+}
+
+pub is_same-IsPartialEquivalence : IsPartialEquivalence is_same
+is_same-IsPartialEquivalence = partial_equiv_from_equiv is_same-IsEquivalence

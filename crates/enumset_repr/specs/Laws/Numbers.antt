@@ -6,11 +6,19 @@
 --     bits_full      a number of n ones
 --     on_numbers      the laws that name no width, for a tactic's `using`
 use Rattle.std.proofs.Common.{◌≡◌, ◌<◌, ◌≤◌, ℕ, suc, zero, ◌+◌, ◌-◌, ◌*◌, ◌/◌, ◌%◌, ◌^◌, true, false, not, List, [], ◌∷◌, refl, sym, ap, ◌∙◌, length, arith, inl, inr, pow-suc, pow-add, one-mul, zero-mul, subst, ◌==◌, sum_by, bit_and, bit_or, bit_xor, eqb-true, eq-eqb, pow_pos, shr-shr}
-use Rattle.enumset_repr.specs.Laws.Base.{dvd-add, dvd-mul_left, div-mul_cancel, dvd_trans, dvd-zero, bit_at, count_ones, count_trailing_zeros, count_leading_zeros, under, leading_top, cases_lt, nat_tests, same_from_decides, sum_by-cons, le-div, div_below, pow_below, one_shl, shr_split, mod_below, and_pow, bit_at_and, bit_at_or, bit_at_xor, bit_at-pow_same, bit_at-pow_other, bit_at-zero, bit_at_above, bit_at-lt, bit_at_cat_low, bit_at_cat_high, bit_at-suc, bit_at_lowest, bit_at_ones, bit_at_ones_above, same_from_bits, is_in, BitSet, contains, ascending, len, is_empty, empty, insert, only, remove, union, intersection, difference, symmetric_difference, is_subset, below, low, number, bits}
-use Rattle.std.specs.Int.{◌∣◌}
-use Rattle.std.specs.Int.Count.{ones_cat}
+use Rattle.std.proofs.Math.Nat.{dvd-add, dvd-mul_left, div-mul_cancel, dvd_trans, dvd-zero}
+use Rattle.std.proofs.lemmas.Bool.{cases_lt}
+use Rattle.std.proofs.lemmas.Bool.Decides.{nat_tests, same_from_decides}
+use Rattle.std.proofs.lemmas.List.Sums.{sum_by-cons}
+use Rattle.std.proofs.lemmas.Nat.{le-div, div_below, pow_below, one_shl, shr_split, mod_below}
+use Rattle.std.proofs.lemmas.Nat.Bits.{and_pow, bit_at_and, bit_at_or, bit_at_xor, bit_at-pow_same, bit_at-pow_other, bit_at-zero, bit_at_above, bit_at-lt, bit_at_cat_low, bit_at_cat_high, bit_at-suc, bit_at_lowest, bit_at_ones, bit_at_ones_above, same_from_bits}
+use Rattle.std.specs.Int.{bit_at, ◌∣◌}
+use Rattle.std.specs.Int.Count.{count_trailing_zeros, count_leading_zeros, under, leading_top, ones_cat}
+use Rattle.std.specs.Int.RustNames.{count_ones}
+use Rattle.enumset_repr.specs.BitSet.{is_in, BitSet, contains, ascending, len, is_empty, empty, insert, only, remove, union, intersection, difference, symmetric_difference, is_subset, below, low}
+use Rattle.enumset_repr.specs.Number.{number, bits}
 use Rattle.enumset_repr.specs.Laws.Members.{same_set, contains_empty, contains_ascending, contains_retain, contains_remove, contains_insert, contains_union, contains_intersection, contains_difference, contains_symmetric_difference, contains_below, contains_low, is_subset_contains, contains_is_subset}
-use Rattle.enumset_repr.specs.Laws.Decided.{union_only, difference_only}
+use Rattle.enumset_repr.specs.Laws.MemberRules.{union_only, difference_only}
 use Rattle.enumset_repr.specs.Laws.Algebra.{intersection_difference}
 use Rattle.enumset_repr.specs.Laws.Ascending.{AscendsFrom, ascending_ascends, ascending_empty, is_in_below, len_ascending, is_empty_iff}
 
@@ -58,7 +66,7 @@ worth-multiple k (x ∷ xs) ascends =
     let later = dvd_trans (2 ^ k) (pow-divides k (suc x) (omega (arith, ascends.0))) (worth-multiple (suc x) xs ascends.1) in
     subst (λ n. 2 ^ k ∣ n) (sym (worth-cons x xs)) (dvd-add (2 ^ k) later (pow-divides k x ascends.0))
 
--- the worth of an ascending list is 2 ^ x for its first number x, and a multiple of 2 ^ (x + 1) for the others
+-- the worth of an ascending list is 2 ^ x, for its first number x, plus a multiple of 2 ^ (x + 1)
 worth-parts : (k x : ℕ) (xs : List ℕ) → AscendsFrom k (x ∷ xs) → (a : ℕ) × (worth xs ≡ a * 2 ^ suc x + 0) × (worth (x ∷ xs) ≡ a * 2 ^ suc x + 2 ^ x)
 worth-parts k x xs ascends =
     let whole = sym (div-mul_cancel (2 ^ suc x) (worth-multiple (suc x) xs ascends.1)) in
@@ -82,7 +90,7 @@ worth-bit k (x ∷ xs) ascends q =
           ∙ ap (λ n. bit_at n q == 1) (sym parts.1) ∙ worth-bit (suc x) xs ascends.1 q ∙ grind (arith, nat_tests, over)
     ]
 
--- as many bits of a list's worth are set as the list has numbers
+-- a list's worth has as many bits set as the list has numbers
 worth-ones : (k : ℕ) (xs : List ℕ) → AscendsFrom k xs → count_ones (worth xs) ≡ length xs
 unfolding worth count_ones
 worth-ones k [] ascends = refl
@@ -171,7 +179,7 @@ bits_set w n k within = bits_or n _ ∙ ap (union (bits n)) (bits_one_shifted w 
 pub bits_clear : (w n k : ℕ) → n < 2 ^ w → k < w → bits (bit_and n (complement w (1 * 2 ^ k % 2 ^ w))) ≡ remove (bits n) k
 bits_clear w n k fits within = bits_and_not w n _ fits (mod_below _ (2 ^ w) (pow_pos w)) ∙ ap (difference (bits n)) (bits_one_shifted w k within) ∙ difference_only _ k
 
--- `n.trailing_zeros()` is the place of the lowest 1; n - 1 has not that bit, and those above it stay
+-- `n.trailing_zeros()` is the place of the lowest 1; n - 1 lacks that bit and has the same bits above it
 IsLowest : ℕ → ℕ → ℕ → Type 0
 IsLowest w n t = (t < w) × (bit_at n t ≡ 1) × ((i : ℕ) → i < t → bit_at n i ≡ 0) × (bit_at (n - 1) t ≡ 0) × ((i : ℕ) → t < i → bit_at (n - 1) i ≡ bit_at n i)
 
@@ -255,7 +263,7 @@ number_within s w sub =
     ∙ same_set _ _ (λ q. let each = is_subset_contains s (below w) sub q in grind (arith, contains_low s w q, contains_below w q))) in
     omega (arith, cut, mod_below (number s) (2 ^ w) (pow_pos w))
 
--- n / 2 ^ k has the bits of n from k on, each less k
+-- n / 2 ^ k has the bits of n from k on, each reduced by k
 pub contains_bits_shifted : (n k b : ℕ) → contains (bits (n / 2 ^ k)) b ≡ contains (bits n) (k + b)
 contains_bits_shifted n k b = contains_bits (n / 2 ^ k) b ∙ ap (λ m. m % 2 == 1) (shr-shr n k b) ∙ sym (contains_bits n (k + b))
 

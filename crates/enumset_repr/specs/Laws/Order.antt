@@ -1,12 +1,30 @@
--- The order of two sets.
+-- The order of two sets, and the greater and the lesser of them.
 --     compare_ranks      the lesser set has the lesser number, and sets that compare as equal are equal
 --     compare_total, compare_same, compare_itself      the order is total, and only equal sets compare as equal
---     compare_number, compare_bits      the order is that of the sets' numbers
+--     compare_number, compare_bits      sets compare as their numbers do
 --     compare_subset      a proper subset is less
 --     compare_turned      for two subsets of one set, their complements in that set compare the other way round
 --     same_compare, compare_partial      what else `PartialOrd` and `Ord` require
-use Rattle.std.proofs.Common.{◌≡◌, ◌≢◌, ◌<◌, ℕ, suc, ◌+◌, ◌*◌, ◌/◌, ◌%◌, ◌^◌, true, false, cond, not, Option, Some, None, refl, sym, ap, subst, ◌∙◌, arith, true≢false, suc-mul, ◌↔◌, Ordering, Less, Equal, Greater, is_eq, nat_cmp, pow_pos, shr-shr}
-use Rattle.enumset_repr.specs.Laws.Common.{MatchOrdering, IsTotalOrder, IsPartialOrder, strict, one_rank, ranks, below_irrefl, below_chain, partial_order_from_agreeing_total, Equal-is, tied_itself, one_answer, nat_tests, shr_split, mod_below, bit_at-lt, BitSet, contains, symmetric_difference, difference, is_subset, is_same, greatest, number, bits, deciding_number, by_holder, compare, members, same_set, contains_symmetric_difference, contains_difference, is_subset_contains, is_same_iff, greatest_facts, ascending_no_greatest, empty_of_ascending, contains_bits, contains_bits_shifted, bits_number, number_bits, same_number}
+--     max_superset, superset_max      the maximum of a set and a subset of it is the set
+--     min_subset, subset_min      the minimum is the subset
+--     number_max, number_min      the number of the greater set, and of the lesser
+-- The ruleset `orders` has the laws of `compare`. The ruleset `ordering` has the maximum and the minimum, that a proper
+-- subset is less, and that a set compares as equal only with itself.
+use Rattle.std.proofs.Common.{◌≡◌, ◌≢◌, ◌<◌, ℕ, suc, ◌+◌, ◌*◌, ◌/◌, ◌%◌, ◌^◌, true, false, cond, not, Option, Some, None, refl, sym, ap, subst, ◌∙◌, arith, true≢false, suc-mul, ◌↔◌, Ordering, Less, Equal, Greater, is_eq, nat_cmp, pow_pos, shr-shr, ◌⊎◌, inl, inr, Bool, min, max}
+use Rattle.std.proofs.lemmas.Bool.Decides.{nat_tests}
+use Rattle.std.proofs.lemmas.Nat.{shr_split, mod_below}
+use Rattle.std.proofs.lemmas.Nat.Bits.{bit_at-lt}
+use Rattle.std.specs.Bool.{one_answer}
+use Rattle.std.specs.Cmp.{IsTotalOrder, IsPartialOrder, strict, one_rank, ranks, below_irrefl, below_chain, partial_order_from_agreeing_total, Equal-is, tied_itself}
+use Rattle.std.specs.Ordering.{MatchOrdering, ord_max, ord_min}
+use Rattle.enumset_repr.specs.BitSet.{BitSet, contains, symmetric_difference, difference, is_subset, is_same}
+use Rattle.enumset_repr.specs.Ends.{greatest}
+use Rattle.enumset_repr.specs.Laws.Ascending.{empty_of_ascending}
+use Rattle.enumset_repr.specs.Laws.Ends.{greatest_facts, ascending_no_greatest}
+use Rattle.enumset_repr.specs.Laws.Members.{members, same_set, contains_symmetric_difference, contains_difference, is_subset_contains, is_same_iff}
+use Rattle.enumset_repr.specs.Laws.Numbers.{contains_bits, contains_bits_shifted, bits_number, number_bits, same_number}
+use Rattle.enumset_repr.specs.Number.{number, bits}
+use Rattle.enumset_repr.specs.Order.{deciding_number, by_holder, compare}
 
 -- ---- by the bits of a number
 
@@ -115,3 +133,32 @@ pub compare_partial : IsPartialOrder is_same (λ s t. Some (compare s t))
 compare_partial = partial_order_from_agreeing_total compare compare_total (λ s t. refl) same_compare
 
 pub ruleset orders = (compare_total, compare_same, compare_subset, compare_turned, compare_number)
+
+-- ---- the greater and the lesser of two sets
+
+module _ (s t : BitSet) (within : is_subset s t ≡ true) where
+  less_or_same : (number s < number t) ⊎ (s ≡ t)
+  less_or_same = by (is_same s t) refl where
+    by : (b : Bool) → is_same s t ≡ b → (number s < number t) ⊎ (s ≡ t)
+    by true same = inr ((is_same_iff s t).0 same)
+    by false other = inl (subst (λ o. MatchOrdering o (number s < number t) (s ≡ t) (number t < number s)) (compare_subset s t within (λ e. true≢false (sym ((is_same_iff s t).1 e) ∙ other))) (compare_ranks s t))
+
+  pub max_superset : ord_max compare s t ≡ t
+  max_superset = let either = less_or_same in let order = compare_number t s in grind (arith, nat_tests)
+
+  pub min_subset : ord_min compare s t ≡ s
+  min_subset = let either = less_or_same in let order = compare_number t s in grind (arith, nat_tests)
+
+  pub superset_max : ord_max compare t s ≡ t
+  superset_max = let either = less_or_same in let order = compare_number s t in grind (arith, nat_tests)
+
+  pub subset_min : ord_min compare t s ≡ s
+  subset_min = let either = less_or_same in let order = compare_number s t in grind (arith, nat_tests)
+
+pub number_max : (s t : BitSet) → number (ord_max compare s t) ≡ max (number s) (number t)
+number_max s t = let order = compare_number t s in let back = compare_number s t in grind (arith, nat_tests)
+
+pub number_min : (s t : BitSet) → number (ord_min compare s t) ≡ min (number s) (number t)
+number_min s t = let order = compare_number t s in let back = compare_number s t in grind (arith, nat_tests)
+
+pub ruleset ordering = (max_superset, superset_max, min_subset, subset_min, compare_subset, compare_itself, compare_same)

@@ -1,9 +1,12 @@
--- The laws of a representation whose parts say themselves what they are.
---     by_sets      operators whose results are those of the sets
---     by_list      an iterator whose steps are those of the list of the items left
+-- The laws of a representation whose contracts state the operators by sets and the iterators by lists.
+--     by_sets      operators whose results are stated as sets
+--     by_list      an iterator whose steps are stated by the list of the items left
 --     no_asks      an iterator that counts no asks
 use Rattle.std.proofs.Common.{◌≡◌, refl, ap, List, ℕ, arith, Option}
-use Rattle.enumset_repr.specs.Laws.Common.{YieldsFirst, YieldsLast, item_count, IsCounted, BitSet, union, intersection, symmetric_difference, difference, below, AreSetOperators, IsListed}
+use Rattle.std.specs.Iterator.{YieldsFirst, YieldsLast, item_count}
+use Rattle.enumset_repr.specs.Asks.{IsCounted}
+use Rattle.enumset_repr.specs.BitSet.{BitSet, union, intersection, symmetric_difference, difference, below}
+use Rattle.enumset_repr.specs.Representations.{AreSetOperators, IsListed}
 
 pub by_sets : {S : Type 0} {members : S → BitSet} {IsValue : S → Type 0} {width : ℕ}
     → AreSetOperators members IsValue width (λ _ _. Unit {0}) (λ _ _. Unit {0}) (λ _ _. Unit {0}) (λ _. Unit {0})

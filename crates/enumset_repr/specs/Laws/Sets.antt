@@ -1,17 +1,17 @@
--- Laws of sets beside the algebra.
---     difference_insert, difference_remove      a number of t, inserted or removed, changes nothing of s outside t
---     intersection_insert, intersection_remove      a number that is not in t changes nothing of s inside t
---     difference_insert_all, difference_remove_all      so do the members of a subset of t change nothing outside t
+-- Laws of one set inside and outside another, besides those of `Algebra`.
+--     difference_insert, difference_remove      inserting or removing a number of t does not change s outside t
+--     intersection_insert, intersection_remove      inserting or removing a number outside t does not change s inside t
+--     difference_insert_all, difference_remove_all      nor does inserting or removing a subset of t change s outside t
 --     difference_parts, symmetric_parts      the parts of s outside t and inside t;  a symmetric difference
---     difference_shared      s without what it shares with t
+--     difference_shared      s without the members that it shares with t
 --     difference_over_..      one operation over another
---     is_subset_union      a union is a part exactly if both are
+--     is_subset_union      a union is a subset exactly if both sets are
 --     len_symmetric_difference      how many members are in exactly one of two sets
 --     len_regrouped      how many members are in all of three sets, grouped the other way
 --     complement_..      the difference of a set v and a set with members outside v
 use Rattle.std.proofs.Common.{◌≡◌, ◌+◌, ◌*◌, ℕ, true, false, ◌&&◌, ap, arith}
-use Rattle.enumset_repr.specs.Laws.Base.{BitSet, contains, len, empty, insert, remove, union, intersection, difference, symmetric_difference, is_subset}
-use Rattle.enumset_repr.specs.Laws.Decided.{decided}
+use Rattle.enumset_repr.specs.BitSet.{BitSet, contains, len, empty, insert, remove, union, intersection, difference, symmetric_difference, is_subset}
+use Rattle.enumset_repr.specs.Laws.MemberRules.{decided}
 use Rattle.enumset_repr.specs.Laws.Algebra.{intersection_assoc}
 use Rattle.enumset_repr.specs.Laws.Counting.{len_parts, len_union}
 
@@ -79,6 +79,6 @@ difference_insert_all s t u within = grind (arith, decided)
 pub difference_remove_all : (s t u : BitSet) → is_subset u t ≡ true → difference (difference s u) t ≡ difference s t
 difference_remove_all s t u within = grind (arith, decided)
 
--- What a proof about the parts of sets inside and outside one set needs, beside `algebra`:
+-- What a proof about the parts of sets inside and outside one set needs, besides `algebra`:
 -- `#[tactic(auto, using(enumset_repr::specs::Laws::Sets::in_parts))]`.
 pub ruleset in_parts = (difference_insert, difference_remove, intersection_insert, intersection_remove, difference_parts, difference_shared, symmetric_parts, difference_over_union, difference_over_intersection, complement_of_complement, complement_outside)

@@ -1,26 +1,39 @@
 -- Lists of words of 64 bits: the set of a list, and the words of a set.
 --     contains_bits_of      64 w + b is a member exactly if b is a bit of the word at place w
 --     by_word      a fact about a number, by its word and its bit in the word
---     contains_zero      the word 0 has no bit
---     word_bits_of, words_bits_of      the words of the set of a list are the list's
+--     contains_zero      the word 0 has no bits
+--     word_bits_of, words_bits_of      the words of the set of a list are the words of the list
 --     word_empty      each word of the empty set is 0
 --     bits_of_zeros      the set of a list of zeros is empty
---     words_none, words_more, length_words, slice_index_words      the list of the words of a set, one word more at a
---         time
+--     words_none, words_more, length_words, slice_index_words      the list of the words of a set, one word after
+--         another
 --     bits_of_words      the set of the first words of a set: the members below their end
---     word_past, within_words      a set is below a width exactly if it has no word past it
+--     word_past, within_words      a set is below a width exactly if each word past the width is 0
 --     put_next      a set cut at a word, with the next word put in
 --     bits_of_within      the bits of a list of words are below 64 times its length
 --     number_word      the number of the members below 64, by the one word
 --     bits_of_halves, number_words      a number of 128 bits, and its two words
 --     low_same_words      a set is below a width if a cut there leaves each word as it is
-use Rattle.std.proofs.Common.{◌≡◌, ◌<◌, ◌≤◌, ◌⊎◌, inl, inr, ℕ, suc, zero, ◌+◌, ◌-◌, ◌*◌, ◌/◌, ◌%◌, ◌^◌, true, false, ◌&&◌, List, [], ◌∷◌, ◌++◌, length, refl, sym, ap, ◌∙◌, subst, arith, mod-lt, nat_lt, nat_le, slice_index, sum_by, filter}
-use Rattle.enumset_repr.specs.Laws.Base.{div-add-mod, cases_lt, nat_tests, same_number_lists, get_or_past, get_or-map-range_with_len, length-map-range_with_len, map-range_with_len_more, BitSet, contains, empty, below, is_subset, low, bits, number, word, words, bits_of, is_in_word, with_word, upward_shift}
+-- For a loop that fills a representation with the words of a list, the lowest first:
+--     none_put      before the first word the set is empty
+--     all_put      after the last word of the list or of the representation, all bits below the width are in
+--     word_past_repr      each word past the last word of a representation is 0
+--     all_kept      a cut that leaves each word as it is leaves out no bit
+use Rattle.std.proofs.Common.{◌≡◌, ◌<◌, ◌≤◌, ◌⊎◌, inl, inr, ℕ, suc, zero, ◌+◌, ◌-◌, ◌*◌, ◌/◌, ◌%◌, ◌^◌, true, false, ◌&&◌, List, [], ◌∷◌, ◌++◌, length, refl, sym, ap, ◌∙◌, subst, arith, mod-lt, nat_lt, nat_le, slice_index, sum_by, filter, min}
+use Rattle.std.proofs.Math.Nat.{div-add-mod}
+use Rattle.std.proofs.lemmas.Bool.{cases_lt}
+use Rattle.std.proofs.lemmas.Bool.Decides.{nat_tests}
+use Rattle.std.proofs.lemmas.Grind.{same_number_lists}
+use Rattle.std.proofs.lemmas.List.{get_or_past}
+use Rattle.std.proofs.lemmas.List.FromFn.{get_or-map-range_with_len, length-map-range_with_len, map-range_with_len_more}
+use Rattle.enumset_repr.specs.BitSet.{BitSet, contains, empty, below, is_subset, low}
+use Rattle.enumset_repr.specs.Number.{bits, number}
+use Rattle.enumset_repr.specs.Words.{word, words, bits_of, is_in_word, with_word, upward_shift}
 use Rattle.enumset_repr.specs.Laws.Ascending.{ascending_empty}
-use Rattle.enumset_repr.specs.Laws.Members.{same_set, contains_empty, contains_union, contains_below, contains_low, contains_is_subset, contains_past}
+use Rattle.enumset_repr.specs.Laws.Members.{same_set, contains_empty, contains_union, contains_below, contains_low, contains_is_subset, contains_past, members}
 use Rattle.enumset_repr.specs.Laws.Numbers.{same_number, number_bits, bits_zero, bits_within, number_within}
 use Rattle.enumset_repr.specs.Laws.Words.{contains_upward_shift, contains_bits_word, contains_with_word, word_bits}
-use Rattle.enumset_repr.specs.Laws.Low.{within_from_low, low_within}
+use Rattle.enumset_repr.specs.Laws.Widths.{within_from_low, low_within, low_narrow, is_subset_wider}
 
 -- ---- bits past a number, and sets shifted upward
 
@@ -60,7 +73,7 @@ same_word x y small each = same_number y x (λ b. let above = contains_bits_abov
 pub word_bits_of : (ws : List ℕ) (w : ℕ) → ((i : ℕ) → slice_index ws i < 2 ^ 64) → word (bits_of ws) w ≡ slice_index ws w
 word_bits_of ws w fit = same_word (slice_index ws w) (word (bits_of ws) w) (fit w) (λ b. let here = contains_bits_of ws w b fit in contains_bits_word (bits_of ws) w b ∙ grind (arith, nat_tests))
 
--- the first list may lack zeros at the end of the second
+-- the first list may lack zeros that the second ends in
 pub words_bits_of : (us ws : List ℕ) → ((i : ℕ) → slice_index us i < 2 ^ 64) → ((i : ℕ) → slice_index us i ≡ slice_index ws i) → words (bits_of us) (length ws) ≡ ws
 unfolding words
 words_bits_of us ws fit same = same_number_lists _ ws (length-map-range_with_len (word (bits_of us)) 0 (length ws)) (λ k under.
@@ -169,3 +182,24 @@ number_words s ws is =
     let parts = joined_halves (word s 0) (word s 1) (word_small s 0) (word_small s 1) in
     (λ i. slice_index (is i) 1 * 2 ^ 64 + slice_index (is i) 0) ∙ sym (number_bits (word s 1 * 2 ^ 64 + word s 0))
     ∙ ap number (sym (bits_of_halves (word s 1 * 2 ^ 64 + word s 0) parts.0) ∙ (λ i. bits_of (parts.1 i ∷ parts.2 i ∷ [])) ∙ bits_of_words s 2)
+
+-- ---- the loop that fills a representation with the words of a list
+
+-- before the first word the set is empty
+pub none_put : (s : BitSet) (width : ℕ) → low (low s (64 * 0)) width ≡ empty
+none_put s width = same_set _ _ (λ q. grind (arith, members, nat_tests))
+
+-- each word past the last word of a representation is 0
+pub word_past_repr : (s : BitSet) (width n w : ℕ) → is_subset s (below width) ≡ true → n ≡ (width + 63) / 64 → n ≤ w → word s w ≡ 0
+word_past_repr s width n w within count past = word_past s width w within (omega (arith, count, past))
+
+-- after the last word of the list or of the representation, all bits below the width are in
+pub all_put : (ws : List ℕ) (width n i : ℕ) → ((k : ℕ) → slice_index ws k < 2 ^ 64) → n ≡ (width + 63) / 64 → min (length ws) n ≤ i → low (low (bits_of ws) (64 * i)) width ≡ low (bits_of ws) width
+all_put ws width n i fit count done = elim (cases_lt i (length ws)) [
+  | inl under ↦ low_narrow (bits_of ws) (64 * i) width (omega (arith, count, done, under))
+  | inr past ↦ ap (λ s. low s width) (low_within (bits_of ws) (64 * i) (is_subset_wider (bits_of ws) (64 * length ws) (64 * i) (omega (arith, past)) (bits_of_within ws fit)))
+]
+
+-- a cut that leaves each word of a list as it is leaves out no bit
+pub all_kept : (ws : List ℕ) (width : ℕ) → ((k : ℕ) → slice_index ws k < 2 ^ 64) → ((w : ℕ) → w < length ws → word (low (bits_of ws) width) w ≡ slice_index ws w) → is_subset (bits_of ws) (below width) ≡ true
+all_kept ws width fit kept = low_same_words (bits_of ws) width (length ws) (bits_of_within ws fit) (λ w under. kept w under ∙ sym (word_bits_of ws w fit))

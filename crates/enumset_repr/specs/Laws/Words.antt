@@ -5,7 +5,14 @@
 --     bits_shifted_up      the set of `n << k`
 --     bits_put_low, bits_put_word      the set of a number after one of its words was replaced
 use Rattle.std.proofs.Common.{◌≡◌, ◌<◌, ◌≤◌, ℕ, suc, ◌+◌, ◌-◌, ◌*◌, ◌/◌, ◌%◌, ◌^◌, Bool, true, false, not, ◌&&◌, ◌||◌, List, [], ◌∷◌, refl, sym, ap, ◌∙◌, arith, map, cond, nat_lt, nat_le, sum_by, filter, bit_and, bit_or, pow_pos}
-use Rattle.enumset_repr.specs.Laws.Base.{bit_at, nat_tests, sum_by-cons, mod_below, bit_at_cat_low, bit_at_cat_high, bit_at-zero, is_in, BitSet, contains, ascending, from_list, union, is_subset, below, low, number, bits, is_in_word, word, upward_shift, with_word}
+use Rattle.std.proofs.lemmas.Bool.Decides.{nat_tests}
+use Rattle.std.proofs.lemmas.List.Sums.{sum_by-cons}
+use Rattle.std.proofs.lemmas.Nat.{mod_below}
+use Rattle.std.proofs.lemmas.Nat.Bits.{bit_at_cat_low, bit_at_cat_high, bit_at-zero}
+use Rattle.std.specs.Int.{bit_at}
+use Rattle.enumset_repr.specs.BitSet.{is_in, BitSet, contains, ascending, from_list, union, is_subset, below, low}
+use Rattle.enumset_repr.specs.Number.{number, bits}
+use Rattle.enumset_repr.specs.Words.{is_in_word, word, upward_shift, with_word}
 use Rattle.enumset_repr.specs.Laws.Members.{same_set, contains_ascending, contains_retain, contains_from_list, contains_union, contains_difference, contains_low, contains_below, member_below}
 use Rattle.enumset_repr.specs.Laws.Ascending.{AscendsFrom, ascends_lower, ascending_ascends, ascending_is}
 use Rattle.enumset_repr.specs.Laws.Numbers.{contains_bits, bits_number, same_number, bits_full, bits_within, bits_low, bits_or, bits_and_not, contains_bits_shifted}
@@ -68,7 +75,7 @@ word_bits n w = same_number _ _ (λ q.
 
 -- ---- one word replaced
 
--- `n << k` at a width: the bits of n shifted upward, without those that pass the width
+-- `n << k` at a width: the bits of n shifted upward, without those past the width
 pub bits_shifted_up : (width n k : ℕ) → bits (n * 2 ^ k % 2 ^ width) ≡ low (upward_shift (bits n) k) width
 bits_shifted_up width n k = bits_low (n * 2 ^ k) width ∙ ap (λ s. low s width) (same_set _ _ (λ q.
     let under = bit_at_cat_low n k 0 q in

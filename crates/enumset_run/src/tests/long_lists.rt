@@ -1,5 +1,5 @@
-//! Long lists. A call that takes memory may answer that there is none, so no clause refuses a body that gives up past
-//! some length.
+//! Long lists. A call that takes memory may always report that there is none, so no clause refuses a body that gives up
+//! past some length.
 
 use enumset_commands::{Command, MixedCommand, Reply};
 use enumset_machine::{run, run_mixed};

@@ -1,10 +1,10 @@
-//! Input and output at a pace, over bytes that are made up.
+//! Readers and writers of bytes in memory, a few bytes a call, with interruptions.
 
 ghost use Rattle.std.specs.Prelude.{◌≤◌, IfOk};
 
 use std::io::{self, ErrorKind, Read, Write};
 
-/// How calls go: so many are interrupted before each that is not, and that one is of at most `most` bytes.
+/// How reads or writes go: each succeeds for at most `most` bytes, after this many interrupted calls.
 #[derive(Clone, Copy)]
 pub(super) struct Pace {
     most: usize,
@@ -21,7 +21,7 @@ impl Pace {
         }
     }
 
-    /// How many of these bytes the next call is of.
+    /// How many of these bytes the next call reads or writes.
     fn next(&mut self, count: usize) -> io::Result<usize>
         ensures { IfOk result (λ next. next ≤ count) }
     {
@@ -34,7 +34,7 @@ impl Pace {
     }
 }
 
-/// Bytes that are read at a pace.
+/// Bytes that are read at this pace.
 #[derive(Drop)]
 pub(super) struct Source<'a> {
     pub(super) bytes: &'a [u8],
@@ -48,7 +48,7 @@ impl Read for Source<'_> {
     }
 }
 
-/// What is written at a pace, into room for so many bytes. A write into a full one takes no byte.
+/// Bytes that are written at this pace, at most `room` of them. A write to a full sink writes none.
 #[derive(Drop)]
 pub(super) struct Sink {
     pub(super) bytes: Vec<u8>,

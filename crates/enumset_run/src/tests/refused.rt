@@ -1,8 +1,8 @@
-//! Runs where memory may be refused, and faults that are answered all the same.
+//! Runs where memory may be refused, and faults that are reported all the same.
 //!
-//! Where its call is refused, a test sees that nothing changed and that the same call with memory gives the whole
-//! answer, and ends with the refusal. `scripts/refused-memory` refuses each allocation in turn, and says how each test
-//! has to end.
+//! If its call is refused, a test checks that nothing changed and that the same call with memory returns the whole answer,
+//! and then ends with the refusal. `scripts/gate/refused-memory` refuses each allocation in turn, and knows how each test
+//! must end.
 
 use enumset_commands::{Command, MixedCommand, Reply, TextFault};
 use enumset_machine::worked::Worked;
@@ -22,7 +22,7 @@ fn ends_in_words(replies: &[Reply], wanted: &[u64]) -> bool {
     }
 }
 
-/// What a call returns once there is memory, and the fault that came before it.
+/// What a call returns once there is memory, and the error that it returned first.
 fn returned<V, E: Debug, F: FnMut() -> Result<V, E>>(
     rt: &impl Abort,
     mut call: F,
@@ -85,7 +85,7 @@ fn mixed_texts(rt: HostRuntime) -> Result<(), Fail> {
     expect_replies(&rt, rt.alloc(), Worked::MixedMarks)
 }
 
-// The input's own fault is answered, and no refusal in its place. The long input takes the first allocation.
+// The fault of the input is reported, and not the refusal. The long input takes the first allocation.
 #[test]
 fn faults_of_the_input(rt: HostRuntime) -> Result<(), Fail> {
     let too_long = vec![in rt.alloc(); b'\n'; 1_048_577]?;

@@ -1,18 +1,26 @@
--- What becomes of a set that is cut at a width, and of one that is taken through words.
+-- What a cut at a width leaves of a set, and a set taken through words.
 --     number_uncut      the number of a set below a width, after a cut there
---     low_held      a set of valid bits below the width is not changed by a cut that it fits
---     low_part_within      a subset of v is still one after a cut
---     bits_masked      the bits that a number shares with that of a set, after a cut at the number's width
+--     low_held      a set of valid bits below the width does not change by a cut that it fits
+--     low_part_within      a subset of v is a subset of v after a cut
+--     bits_masked      the bits that a number shares with the number of a set, after a cut at the number's width
 --     words_within      the words of a set up to its last member represent that set
---     words_of_repr      so do as many words as its representation has
--- The ruleset `conversions` has the first two, and what a cut at a width leaves of valid bits.
+--     words_of_repr      as many words as its representation has represent it too
+-- The ruleset `conversions` has the first three, and what a cut at a width leaves of valid bits.
 use Rattle.std.proofs.Common.{◌≡◌, ◌<◌, ℕ, ◌+◌, ◌*◌, ◌/◌, ◌^◌, true, bit_and, ap, ◌∙◌, arith, inl, inr}
-use Rattle.enumset_repr.specs.Laws.Common.{cases_lt, BitSet, intersection, is_subset, below, low, bits, number, same_set, is_subset_contains, members, bits_and, bits_number, bits_within, is_subset_trans, words, bits_of, low_part, low_within, low_inside, low_intersection, is_subset_wider, bits_of_words}
+use Rattle.std.proofs.lemmas.Bool.{cases_lt}
+use Rattle.enumset_repr.specs.BitSet.{BitSet, intersection, is_subset, below, low}
+use Rattle.enumset_repr.specs.Laws.Algebra.{is_subset_trans}
+use Rattle.enumset_repr.specs.Laws.Members.{same_set, is_subset_contains, members}
+use Rattle.enumset_repr.specs.Laws.Numbers.{bits_and, bits_number, bits_within}
+use Rattle.enumset_repr.specs.Laws.Widths.{low_part, low_within, low_inside, low_intersection, is_subset_wider}
+use Rattle.enumset_repr.specs.Laws.WordLists.{bits_of_words}
+use Rattle.enumset_repr.specs.Number.{bits, number}
+use Rattle.enumset_repr.specs.Words.{words, bits_of}
 
 pub number_uncut : (s : BitSet) (n : ℕ) → is_subset s (below n) ≡ true → number (low s n) ≡ number s
 number_uncut s n within = ap number (low_within s n within)
 
--- a subset of v, where v is below a width, is not changed by a cut there, nor by a narrower one that it is below
+-- where v is below a width, a cut there does not change a subset of v, nor does a narrower cut that the subset fits
 pub low_held : (s v : BitSet) (width n : ℕ) → is_subset s v ≡ true → is_subset v (below width) ≡ true → (n < width → is_subset s (below n) ≡ true) → low s n ≡ s
 low_held s v width n part bound fits = elim (cases_lt n width) [
   | inl narrow ↦ low_within s n (fits narrow)

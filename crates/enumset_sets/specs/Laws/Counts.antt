@@ -1,15 +1,18 @@
--- What the valid bits say of counts.
+-- What the valid bits say about counts.
 --     len_valid      how many valid bits there are
---     len_within      a set of valid bits has no more members than there are
---     fewer_left, fewer_left_than      fewer valid bits are left once a set gets a member that it lacks, or members of a set
---         that has such a one
--- The ruleset `valid_counts` has the first two and stands beside `counts`; `fewer` has the others, for the measure of a loop
--- that goes on until nothing changes.
+--     len_within      a set of valid bits has at most as many members
+--     fewer_left, fewer_left_than      fewer valid bits are left after a set gets a member that it lacks, or the
+--         members of a set that has such a member
+-- The ruleset `valid_counts` has the first two, for use with `counts`; `fewer` has the others, for the measure of a
+-- loop that goes on until nothing changes.
 use Rattle.std.proofs.Common.{◌≡◌, ◌<◌, ◌≤◌, ℕ, Bool, true, false, true≢false, length, arith, refl, sym, ap, ◌∙◌}
-use Rattle.enumset_repr.specs.Laws.Common.{BitSet, contains, insert, remove, union, difference, is_subset, len, is_distinct, members, is_subset_contains, contains_is_subset, is_same_iff, false_from_ne_true}
+use Rattle.std.proofs.lemmas.Bool.{false_from_ne_true}
+use Rattle.enumset_repr.specs.BitSet.{BitSet, contains, insert, remove, union, difference, is_subset, len}
+use Rattle.enumset_repr.specs.Laws.CountRules.{counted}
 use Rattle.enumset_repr.specs.Laws.Counting.{len_subset, len_proper, len_removed}
-use Rattle.enumset_repr.specs.Laws.Decided.{decided}
-use Rattle.enumset_repr.specs.Laws.DecidedCounts.{counted}
+use Rattle.enumset_repr.specs.Laws.MemberRules.{decided}
+use Rattle.enumset_repr.specs.Laws.Members.{members, is_subset_contains, contains_is_subset, is_same_iff}
+use Rattle.enumset_repr.specs.Number.{is_distinct}
 use Rattle.enumset_sets.specs.Elements.{Elements, valid_bits}
 use Rattle.enumset_sets.specs.Laws.Elements.{len-from_list}
 

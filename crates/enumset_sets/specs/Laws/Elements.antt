@@ -1,22 +1,32 @@
 -- The laws of an enum without fields as an element type, from one test of its bits and its constants (`Lawful` of
 -- `enumset_repr`).
 --     lawful_in, lawful_in_integer, lawful_in_words      the laws, over any representation, an integer or words
---     lawful_in_place      the laws where each bit is its variant's place, from those of the same bits as a list
+--     lawful_in_place      the laws where each bit is its variant's place, from the laws of the same bits as a list
 --     is_valid_bit      a bit is valid exactly if the list has it
 --     place_is, listed_bit_is      what the bit of a variant is
---     place_is_valid, listed_bit_is_valid      that it is valid
---     passed      what a test says that passes
+--     place_is_valid, listed_bit_is_valid      it is valid
+--     passed      what is known if a test passes
 --     derived_eq      what a derived `==` of such an enum returns
--- The ruleset `bits_of_variants` says of each variant what its bit is, and that it is valid. It proves the functions of an
--- element type. The makers of an element type's elements come from here too.
+-- The ruleset `bits_of_variants` says what the bit of each variant is, and that it is valid. It proves the functions of
+-- an element type.
 use Rattle.std.proofs.Common.{◌≡◌, ◌<◌, ◌≤◌, ℕ, suc, zero, slice_index, ◌^◌, Bool, true, false, eqb, List, Some, sym, ap, ◌∙◌, length, get_or, sum_by, arith, inl, inr, ◌==◌, max, Option, None, eqb-true, eq-eqb, [], ◌∷◌, refl}
-use Rattle.std.proofs.lemmas.List.FromFn.{length-range_with_len}
-use Rattle.enumset_repr.specs.Laws.Common.{nat_tests, cases_lt, and_parts, and_from, or_left, or_right, get_or-range_with_len, BitSet, is_in, contains, insert, from_list, ascending, len, is_subset, bits, is_distinct, greatest, contains_empty, contains_insert, contains_from_list, contains_ascending, list_all_each, is_subset_contains, len_empty, len_insert, empty_of_ascending, greatest_is, greatest_empty, greatest_facts, ascending_no_greatest, bits_of, lists_words, bits_listed, words_listed, one_past_all, or_else, once_known, IsLawful, IsLawfulNumber, IsLawfulWords}
-use denote.Struct.Field.{Field}
+use Rattle.std.proofs.lemmas.Bool.{cases_lt, and_parts, and_from, or_left, or_right}
+use Rattle.std.proofs.lemmas.Bool.Decides.{nat_tests}
+use Rattle.std.proofs.lemmas.List.FromFn.{length-range_with_len, get_or-range_with_len}
+use denote.Enum.Bare.{Bare, tag_one, sameb, same_true, true_same}
 use denote.Enum.Declared.{Declared, rowss, tag_of}
 use denote.Enum.Enum.{tag_below}
-use denote.Enum.Bare.{Bare, tag_one, sameb, same_true, true_same}
-use Rattle.enumset_repr.specs.Laws.Places.{read_in}
+use denote.Struct.Field.{Field}
+use Rattle.enumset_repr.specs.BitSet.{BitSet, is_in, contains, insert, from_list, ascending, len, is_subset}
+use Rattle.enumset_repr.specs.Ends.{greatest}
+use Rattle.enumset_repr.specs.Lawful.{one_past_all, or_else, once_known, IsLawful, IsLawfulNumber, IsLawfulWords}
+use Rattle.enumset_repr.specs.Laws.Ascending.{len_empty, len_insert, empty_of_ascending}
+use Rattle.enumset_repr.specs.Laws.BitLists.{bits_listed, words_listed}
+use Rattle.enumset_repr.specs.Laws.Ends.{greatest_is, greatest_empty, greatest_facts, ascending_no_greatest}
+use Rattle.enumset_repr.specs.Laws.Iteration.{read_in}
+use Rattle.enumset_repr.specs.Laws.Members.{contains_empty, contains_insert, contains_from_list, contains_ascending, list_all_each, is_subset_contains}
+use Rattle.enumset_repr.specs.Number.{bits, is_distinct}
+use Rattle.enumset_repr.specs.Words.{bits_of, lists_words}
 pub use Rattle.enumset_sets.specs.Elements.{with_bits, in_order, in_place}
 use Rattle.enumset_sets.specs.Elements.{Elements, valid_bits, listed_bit, place, one_past, one_past_greatest, IsElementType, AreBitsOf}
 
@@ -39,7 +49,7 @@ len-from_list (b ∷ bs) apart = grind (arith, nat_tests, contains_from_list bs 
 one_past-insert : (s : BitSet) (b : ℕ) → one_past_greatest (insert s b) ≡ max (suc b) (one_past_greatest s)
 one_past-insert s b = at (greatest s) refl
   where
-    -- where m is in the set with b, and nothing past m is
+    -- where m is in the set with b, and no number past m is
     is_last : (m : ℕ) → contains (insert s b) m ≡ true → ((q : ℕ) → m < q → contains s q ≡ false) → b ≤ m → one_past_greatest (insert s b) ≡ suc m
     is_last m one none from = ap one_past (greatest_is (insert s b) m one (λ q over. let gone = none q over in contains_insert s b q ∙ grind (arith, nat_tests)))
 
@@ -74,7 +84,7 @@ module _ (D : Declared) (bare : Bare D.parts) (bs : List ℕ) (variants : length
 
 -- ---- a derived `==`
 
--- the derived `==` of an enum without fields compares the variants; for an enum of one variant it compares nothing
+-- the derived `==` of an enum without fields compares the variants, and is true for an enum of one variant
 abbrev pub of_one : List (List Field) → Bool → Bool
 of_one (Fs ∷ []) same = true
 of_one Fss same = same
@@ -137,13 +147,13 @@ pub lawful_in : {bs : List ℕ} {all : BitSet} {width count : ℕ} (D : Declared
 lawful_in {bs} {all} {width} {count} D valid test =
     laws D bs true all width count valid (IsLawful-passes D bs true ⊥ width count (λ h. h) test)
 
--- The same over an integer, of which ALL_BITS is the value.
+-- The same over an integer, whose value is ALL_BITS.
 pub lawful_in_integer : {bs : List ℕ} {width count : ℕ} (D : Declared) (n : ℕ) → IsLawfulNumber D bs n width count → IsElementType (with_bits D bs) (derived_eq D) (bits n) width count
 lawful_in_integer {bs} {width} {count} D n test =
     let p = IsLawful-passes D bs (sum_by (λ b. 2 ^ b) bs == n) _ width count (λ h. elim h [ ]) test in
     laws D bs _ (bits n) width count (bits_listed bs n (and_from _ _ p.distinct p.is_valid)) p
 
--- The same over words, of which ALL_BITS is made.
+-- The same over words, which make up ALL_BITS.
 pub lawful_in_words : {bs : List ℕ} {width count : ℕ} (D : Declared) (ns : List ℕ) → IsLawfulWords D bs ns width count → IsElementType (with_bits D bs) (derived_eq D) (bits_of ns) width count
 lawful_in_words {bs} {width} {count} D ns test =
     let p = IsLawful-passes D bs (lists_words bs ns) _ width count (λ h. elim h [ ]) test in
@@ -155,7 +165,7 @@ in_place-bit : (D : Declared) (v : D.D) → (in_place D).bit v ≡ (in_order D).
 unfolding place listed_bit
 in_place-bit D v = omega (arith, get_or-range_with_len 0 (length (rowss D.parts)) (tag_of D v) 0 (tag_below (rowss D.parts) (D.to v)))
 
--- The laws of an enum whose bits are its variants' places, from those of the same bits as a list.
+-- The laws of an enum whose bits are its variants' places, from the laws of the same bits as a list.
 pub lawful_in_place : (D : Declared) {eq : D.D → D.D → Bool} {all : BitSet} {width count : ℕ} → IsElementType (in_order D) eq all width count → IsElementType (in_place D) eq all width count
 unfolding valid_bits
 lawful_in_place D {eq} {all} l =
@@ -176,7 +186,7 @@ pub is_valid_bit : {T : Type 0} (elements : Elements T) (q : ℕ) → contains (
 unfolding valid_bits
 is_valid_bit elements q = contains_from_list elements.bit_list q
 
--- the bit of a variant that is named computes by these equations; that of a variable stays one word
+-- these equations compute the bit of a variant that is named, and leave the bit of a variable as it is
 pub place_is : (D : Declared) (v : D.D) → place D v ≡ tag_of D v
 unfolding place
 place_is D v = refl
@@ -185,7 +195,7 @@ pub listed_bit_is : (D : Declared) (bs : List ℕ) (v : D.D) → listed_bit D bs
 unfolding listed_bit
 listed_bit_is D bs v = refl
 
--- A bit is valid. The equation before says where a search takes this: a call that asks whether it is.
+-- A bit is valid. The first part shows the search where to use this: at a call that asks whether the bit is valid.
 pub place_is_valid : (D : Declared) (v : D.D) → (contains (valid_bits (in_place D)) (place D v) ≡ contains (valid_bits (in_place D)) (place D v)) × (contains (valid_bits (in_place D)) (place D v) ≡ true)
 place_is_valid D v = (
   refl,

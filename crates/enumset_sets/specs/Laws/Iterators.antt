@@ -1,10 +1,12 @@
 -- Iterators whose steps bound their asks.
---     steps_by      such steps from the front, where each bit is shown in another form
+--     steps_by      such steps from the front, where each bit is seen in another form
 --     of_bits      an iterator yields the items whose bits are left
---     of_shown      the same, where each bit is shown in another form
+--     of_shown      the same, where each bit is seen in another form
 use Rattle.std.proofs.Common.{◌≡◌, ℕ, List, Option, ap, subst, length}
-use Rattle.enumset_repr.specs.Laws.Common.{YieldsFirstBy, YieldsList-from_shown, IterView, BoundsAsks}
 use Rattle.std.proofs.lemmas.Iterator.{YieldsList}
+use Rattle.std.proofs.lemmas.Iterator.Consumers.{YieldsList-from_shown}
+use Rattle.std.specs.Iterator.{YieldsFirstBy}
+use Rattle.enumset_repr.specs.Asks.{IterView, BoundsAsks}
 
 abbrev pub steps_by : {A B : Type 0} → (A → B) → (List ℕ → List B) → IterView → Option A → IterView → Type 0
 steps_by view shown i r j = YieldsFirstBy view (λ (k : IterView). shown k.items) i r j × BoundsAsks i.asks i.span r j.asks j.span

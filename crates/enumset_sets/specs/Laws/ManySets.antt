@@ -1,19 +1,23 @@
--- Folds of a list: only which items it has matters, neither their order nor repeats.
+-- Folds of a list of sets: only which items the list has matters, neither their order nor repeats.
 --     contains_intersection_all, contains_union_all      which bits are in all the sets of a list;  in any of them
---     contains_fold_intersection, contains_fold_union      the same where std's `fold` goes over the list
---     .._once      the same, wherever the fold and the number are in sight:  `Decided` of `enumset_repr` says how
---     intersection_all_more      one set more at the end of the list
---     union_all_none, union_all_step      a set with all sets of a list, one after the other
+--     contains_fold_intersection, contains_fold_union      the same for std's `fold` over the list
+--     .._once      the same, wherever the fold and the number are in sight:  `MemberRules` of `enumset_repr` says how
+--     intersection_all_more      one more set at the end of the list
+--     union_all_none, union_all_step      a set with all sets of a list, one after another
 --     any_same      a test of the items
 --     from_list_same, union_all_same, intersection_all_same      lists with the same items make the same set
---     .._is_subset, .._is_disjoint      a union of many is a part of a set, or apart from it, exactly if each is
--- The ruleset `folds` has what `contains` returns, one set more, and one set after the other;  `folds_once` has the same
--- beside `decided`.
+--     .._is_subset, .._is_disjoint      a union of many is a subset of a set, or disjoint from it, exactly if each is
+-- The ruleset `folds` has what `contains` returns, one more set, and one set after another;  `folds_once` has the same,
+-- for use with `decided`.
 use Rattle.std.proofs.Common.{◌≡◌, ℕ, Bool, true, not, ◌&&◌, ◌||◌, List, [], ◌∷◌, ◌++◌, map, fold, refl, sym, ap, ◌∙◌, arith, Contains, ◌↔◌, ◌==◌}
-use Rattle.enumset_repr.specs.Laws.Common.{list_all, list_any, Any-from_list_any, list_any_at, same_from_decides, BitSet, is_in, contains, union, intersection, is_subset, is_disjoint, from_list, members, same_set, contains_from_list, contains_empty, contains_union, union_empty, union_assoc}
-use Rattle.enumset_repr.specs.Laws.Members.{empty_is_subset}
-use Rattle.enumset_repr.specs.Laws.Decided.{at, decided}
-use Rattle.enumset_repr.specs.Laws.Loops.{all_not_any}
+use Rattle.std.proofs.lemmas.Bool.Decides.{same_from_decides}
+use Rattle.std.proofs.lemmas.List.Folds.{Any-from_list_any, list_any_at}
+use Rattle.std.specs.List.{list_all, list_any}
+use Rattle.enumset_repr.specs.BitSet.{BitSet, is_in, contains, union, intersection, is_subset, is_disjoint, from_list}
+use Rattle.enumset_repr.specs.Laws.Algebra.{union_empty, union_assoc}
+use Rattle.enumset_repr.specs.Laws.Iteration.{all_not_any}
+use Rattle.enumset_repr.specs.Laws.MemberRules.{at, decided}
+use Rattle.enumset_repr.specs.Laws.Members.{members, same_set, contains_from_list, contains_empty, contains_union, empty_is_subset}
 use Rattle.enumset_repr.specs.Laws.Sets.{is_subset_union}
 use Rattle.enumset_sets.specs.Folds.{union_all, intersection_all}
 
@@ -55,7 +59,7 @@ module _ {A : Type 0} (p : A → Bool) where
       let there = has found.1 (found.0, found.2, found.3) in
       list_any_at p ys there.0 found.1 there.1 (ap p there.2 ∙ found.4)
 
-  -- lists with the same items have the same test
+  -- a test of the items gives the same for lists with the same items
   pub any_same : (xs ys : List A) → ((x : A) → Contains xs x ↔ Contains ys x) → list_any p xs ≡ list_any p ys
   any_same xs ys same = same_from_decides _ _ (any_moves xs ys (λ x. (same x).0), any_moves ys xs (λ x. (same x).1)) (λ h. h, λ h. h)
 
@@ -76,7 +80,7 @@ intersection_all_same s ts us same = same_set _ _ (λ q.
     ∙ ap (λ b. contains s q && b) (all_not_any (λ t. contains t q) ts ∙ ap not (any_same (λ t. not (contains t q)) ts us same) ∙ sym (all_not_any (λ t. contains t q) us))
     ∙ sym (contains_intersection_all s us q))
 
--- ---- beside `decided`
+-- ---- for use with `decided`
 
 pub union_all_once : (ss : List BitSet) (q : ℕ) (w : Bool) → (union_all ss ≡ union_all ss) × (at q w ≡ at q w) × (contains (union_all ss) q ≡ list_any (λ s. contains s q) ss)
 union_all_once ss q w = (refl, refl, contains_union_all ss q)
@@ -87,7 +91,7 @@ fold_union_once s ts q w = (refl, refl, contains_fold_union s ts q)
 pub fold_intersection_once : (s : BitSet) (ts : List BitSet) (q : ℕ) (w : Bool) → (fold intersection s ts ≡ fold intersection s ts) × (at q w ≡ at q w) × (contains (fold intersection s ts) q ≡ (contains s q && list_all (λ t. contains t q) ts))
 fold_intersection_once s ts q w = (refl, refl, contains_fold_intersection s ts q)
 
--- a union of many is a part of a set exactly if each is
+-- a union of many is a subset of a set exactly if each is
 pub fold_is_subset : (s : BitSet) (ts : List BitSet) (u : BitSet) → is_subset (fold union s ts) u ≡ (is_subset s u && list_all (λ t. is_subset t u) ts)
 fold_is_subset s [] u = grind arith
 fold_is_subset s (t ∷ ts) u = fold_is_subset (union s t) ts u ∙ grind (arith, is_subset_union s t u)
@@ -100,7 +104,7 @@ union_all_is_subset (s ∷ ss) u = is_subset_union s (union_all ss) u ∙ ap (λ
 disjoint_union : (s t u : BitSet) → is_disjoint (union s t) u ≡ (is_disjoint s u && is_disjoint t u)
 disjoint_union s t u = grind (arith, decided)
 
--- a union of many is apart from a set exactly if each is
+-- a union of many is disjoint from a set exactly if each is
 pub fold_is_disjoint : (s : BitSet) (ts : List BitSet) (u : BitSet) → is_disjoint (fold union s ts) u ≡ (is_disjoint s u && list_all (λ t. is_disjoint t u) ts)
 fold_is_disjoint s [] u = grind arith
 fold_is_disjoint s (t ∷ ts) u = fold_is_disjoint (union s t) ts u ∙ grind (arith, disjoint_union s t u)

@@ -2,14 +2,20 @@
 --     writes_one_more      a separator and a member are written after the others
 --     writes_at      what was written for values is the text of their bits
 --     Tells      the first text is not known, or it is the second
---     text_at-tells      the text of a bit is that of its value, if the value is listed
---     is_text      whether a text is known and is this one
+--     text_at-tells      the text of a bit is the text of its value, if the value is listed
+--     is_text      whether a text is known and is the given text
 --     text_of_known      the text of a set if the text of each valid bit is known
 use Rattle.std.proofs.Common.{◌≡◌, ℕ, Bool, true, false, List, [], ◌∷◌, ◌++◌, length, map, Option, Some, None, Ok, refl, sym, ap, subst, ◌∙◌, ◌⊎◌, inl, inr, codes, arith, ◌==◌, option_and_then, append-nil, append_assoc, bytes_eq}
-use Rattle.std.specs.List.{flat_map, join_by}
-use Rattle.enumset_repr.specs.Laws.Common.{nat_tests, option_append, DisplaysOnOk, map-append, length-map, BitSet, ascending, is_subset, is_subset_contains, contains_ascending, list_all, list_all_any, list_all_each, and_parts, bytes_eq-Decides}
-use Rattle.std.specs.declared.fmt.Formatter.{Formatter}
 use Rattle.std.proofs.Output.{displays_on_IsOk_append, then_text_assoc}
+use Rattle.std.proofs.lemmas.Bool.{and_parts}
+use Rattle.std.proofs.lemmas.Bool.Decides.{nat_tests}
+use Rattle.std.proofs.lemmas.List.{map-append, length-map}
+use Rattle.std.proofs.lemmas.Slice.Eq.{bytes_eq-Decides}
+use Rattle.std.specs.Fmt.{option_append, DisplaysOnOk}
+use Rattle.std.specs.List.{flat_map, join_by, list_all}
+use Rattle.std.specs.declared.fmt.Formatter.{Formatter}
+use Rattle.enumset_repr.specs.BitSet.{BitSet, ascending, is_subset}
+use Rattle.enumset_repr.specs.Laws.Members.{is_subset_contains, contains_ascending, list_all_any, list_all_each}
 use Rattle.enumset_sets.specs.Elements.{Elements, valid_bits}
 use Rattle.enumset_sets.specs.Laws.Elements.{is_valid_bit}
 use Rattle.enumset_sets.specs.Texts.{value_of, text_at, separator, joined_text}
@@ -41,7 +47,7 @@ module _ {T : Type 0} (text : T → Option (List ℕ)) where
   joined_text-push vs v = ap joined_text (map-append text vs (v ∷ [])) ∙ joined_text-more (map text vs) (text v) ∙ ap (λ n. with_last (map text vs) (n == 0) (text v)) (length-map vs text)
 
   module _ {W : Type 0} (took : W → List ℕ → W → Type 0) where
-    -- if the texts of some values were written, and then a separator and a value's text, the texts of all were
+    -- after the texts of some values, a separator and the text of one more, the texts of all are written
     pub writes_one_more : (vs : List T) (v : T) (is_first : Bool) (f g h k : Formatter W) → is_first ≡ (length vs == 0) → DisplaysOnOk took f (Ok tt) (joined_text (map text vs)) g → DisplaysOnOk took g (Ok tt) (Some (separator is_first)) h → DisplaysOnOk took h (Ok tt) (text v) k → DisplaysOnOk took f (Ok tt) (joined_text (map text (vs ++ v ∷ []))) k
     unfolding with_last
     writes_one_more vs v is_first f g h k first before between value =
@@ -83,7 +89,7 @@ module _ {T : Type 0} (bit : T → ℕ) where
   value_of-bit [] b w found = absurd (cc)
   value_of-bit (v ∷ vs) b w found = let later = value_of-bit vs b w in grind (arith, nat_tests)
 
-  -- the text of the bit of a value is that of the value, since no other value has the bit
+  -- the text of a value's bit is the text of the value, since no other value has the bit
   pub text_at-tells : ((v w : T) → bit v ≡ bit w → v ≡ w) → (values : List T) (text : T → Option (List ℕ)) (v : T) → Tells (text_at bit values text (bit v)) (text v)
   text_at-tells one values text v = elim (value_of bit values (bit v)) as (λ o. value_of bit values (bit v) ≡ o → Tells (option_and_then text o) (text v)) [
     | None ↦ λ none. inl refl
@@ -112,8 +118,8 @@ module _ (at : ℕ → Option (List ℕ)) (text : ℕ → List ℕ) where
       (λ i. option_append (is_text-same (at b) (text b) parts.0 i) (option_append (Some bar) (joined_text-known (c ∷ bs) parts.1 i)))
       ∙ ap (λ t. Some (text b ++ t)) (sym (append_assoc bar (text c) rest))
 
--- The text of a set: the texts of its members, joined by ` | `. The premise computes over one enum. The equation
--- `ascending s ≡ ascending s` shows a search which set it is about.
+-- The text of a set: the texts of its members, joined by ` | `. The premise computes for a given enum. The equation
+-- `ascending s ≡ ascending s` shows the search which set it is about.
 pub text_of_known : {T : Type 0} (elements : Elements T) (values : List T) (output : T → Option (List ℕ)) (text : ℕ → List ℕ) → list_all (λ b. is_text (text_at elements.bit values output b) (text b)) elements.bit_list ≡ true → (s : BitSet) → (ascending s ≡ ascending s) × (is_subset s (valid_bits elements) ≡ true → joined_text (map (text_at elements.bit values output) (ascending s)) ≡ Some (join_by text (codes " | ") (ascending s)))
 text_of_known elements values output text known s =
     let at = text_at elements.bit values output in

@@ -8,7 +8,7 @@ ghost use Rattle.enumset_sets.specs.Elements.{valid_bits};
 use crate::element::EnumSetType;
 use crate::enum_set::EnumSet;
 use crate::numbers::learn_fits;
-use crate::validated::{exact, validated_low};
+use crate::raw::{exact, validated_low};
 use enumset_repr::EnumSetTypeRepr;
 
 #[tactic(auto, using(crate::specs::Laws::Conversions::conversions))]

@@ -7,7 +7,7 @@ ghost use Rattle.enumset_sets.specs.Elements.{valid_bits};
 
 use crate::element::EnumSetType;
 use crate::enum_set::EnumSet;
-use crate::validated::{exact, truncated, validated_low};
+use crate::raw::{exact, truncated, validated_low};
 use enumset_repr::{from_u64_array, to_u64_array, try_from_u64_array, try_to_u64_array};
 
 #[tactic(auto, using(crate::specs::Laws::Conversions::conversions))]

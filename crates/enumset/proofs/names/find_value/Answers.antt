@@ -1,8 +1,9 @@
 use Rattle.std.proofs.Common.{◌≡◌, Some, option_map, arith, sym, ap, ◌∙◌}
-use Rattle.enumset.proofs.Common.{common_steps, names_of, bit_named}
+use Rattle.std.proofs.lemmas.Grind.{common_steps}
 use Rattle.enumset.proofs.NameLaws.{IsNaming-passes}
 use Rattle.enumset.proofs.NamesFound.{cut, found_later, found_earlier}
 use Rattle.enumset.proofs.names.find_value.Goals as goal
+use Rattle.enumset.specs.Names.{names_of, bit_named}
 
 pub returns-in-Some : goal.returns-in-Some
 returns-in-Some g c =

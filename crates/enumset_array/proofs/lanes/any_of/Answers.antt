@@ -1,6 +1,7 @@
 use Rattle.std.proofs.Common.{◌≡◌, ◌+◌, ◌*◌, ◌/◌, [], length, arith}
-use Rattle.enumset_repr.specs.Laws.Common.{length_push, zip2}
+use Rattle.std.proofs.lemmas.List.{length_push}
 use Rattle.std.proofs.lemmas.Slice.Zip.{zip_turn, zip_end}
+use Rattle.std.specs.Simd.Lanes.{zip2}
 use Rattle.enumset_array.proofs.WordLanes.{lanes_ended, next_chunk, next_word, ended_words}
 use Rattle.enumset_array.proofs.lanes.any_of.Goals as goal
 
@@ -13,7 +14,7 @@ pub loop-word-init : goal.loop-word-init
 loop-word-init g c =
     let ended = zip_end c.as_chunks.result.0.now c.as_chunks-2.result.0.now c.loop-chunk.yielded c.into_iter-chunk-iterator.result c.loop-chunk.chunk-iterator c.next.new.self c.next.result (cc) (cc) c.loop-chunk.yielded_by c.in-None.is c.next.ensures.steps in
     let done : 4 * length c.loop-chunk.yielded ≡ length c.args.words.now / 4 * 4 + 0 = omega (arith, ended, c.as_chunks.ensures.front_len, c.as_chunks-2.ensures.front_len, c.requires) in
-    lanes_ended (zip2 g.O.WordOperation.of_two c.args.words.now c.args.others.now) c.loop-chunk.lanes _ _ c.loop-chunk.invariant done
+    lanes_ended (zip2 g.O.SetOperation.of_words c.args.words.now c.args.others.now) c.loop-chunk.lanes _ _ c.loop-chunk.invariant done
 
 pub loop-word-preserved : goal.loop-word-preserved
 loop-word-preserved g c =

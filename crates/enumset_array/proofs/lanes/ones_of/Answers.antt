@@ -1,5 +1,5 @@
 use Rattle.std.proofs.Common.{◌≡◌, ◌+◌, ◌*◌, ◌/◌, [], ◌∙◌, length, get_or, refl, sym, ap, arith, rules, slice_index, get_or-drop}
-use Rattle.enumset_repr.specs.Laws.Common.{count_ones}
+use Rattle.std.specs.Int.RustNames.{count_ones}
 use Rattle.enumset_array.proofs.RowWords.{bits_in, one_more, four_ones, four_more}
 use Rattle.enumset_array.proofs.WordLanes.{chunk_here}
 use Rattle.enumset_array.proofs.lanes.ones_of.Goals as goal

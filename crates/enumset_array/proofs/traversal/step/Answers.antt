@@ -1,8 +1,8 @@
 use Rattle.std.proofs.Common.{sym, ap, ◌∙◌}
-use Rattle.enumset_repr.specs.Laws.Steps.{gives_last}
-use Rattle.enumset_array.specs.Walks.{answer}
-use Rattle.enumset_array.specs.Items.{items_of}
+use Rattle.enumset_repr.specs.Laws.Ends.{gives_last}
 use Rattle.enumset_array.proofs.traversal.step.Goals as goal
+use Rattle.enumset_array.specs.Items.{items_of}
+use Rattle.enumset_array.specs.Walks.{answer}
 
 pub returns-in-Back-clause-item : goal.returns-in-Back-clause-item
 returns-in-Back-clause-item g c =

@@ -1,9 +1,12 @@
 use Rattle.std.proofs.Common.{ℕ, List, ◌≡◌, ◌+◌, ◌≤◌, Contains, length, is_some, if◌then◌else◌, None, take, refl, sym, ap, ◌∙◌, subst, arith}
-use Rattle.enumset_repr.specs.Laws.Common.{get_or_past, common_steps, difference, from_list, bits_of}
-use Rattle.enumset_array.specs.Cursors.{Covers}
-use Rattle.enumset_array.specs.Walks.{answers, without_answers, items_among}
+use Rattle.std.proofs.lemmas.Grind.{common_steps}
+use Rattle.std.proofs.lemmas.List.{get_or_past}
+use Rattle.enumset_repr.specs.BitSet.{difference, from_list}
+use Rattle.enumset_repr.specs.Words.{bits_of}
 use Rattle.enumset_array.proofs.Walks.{length-items_among, length-items_among-push, length-answers, difference-none, difference-step, none-push, answers_next, rest_next}
 use Rattle.enumset_array.proofs.traversal.walk.Goals as goal
+use Rattle.enumset_array.specs.Cursors.{Covers}
+use Rattle.enumset_array.specs.Walks.{answers, without_answers, items_among}
 
 covers_all : (ws : List ℕ) → Covers ws (record { front = 0; back = length ws })
 covers_all ws = record { within = omega arith; before = λ i h. absurd (omega (arith, h)); past = λ i h. get_or_past ws i 0 h }

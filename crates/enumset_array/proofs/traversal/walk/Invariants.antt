@@ -1,10 +1,11 @@
 use Rattle.std.proofs.Common.{◌≡◌, ◌+◌, ◌≤◌, Contains, length, None, take, vec_len, vec_capacity}
-use Rattle.enumset_repr.specs.Laws.Common.{ascending, difference, from_list, bits_of}
+use Rattle.enumset_repr.specs.BitSet.{ascending, difference, from_list}
+use Rattle.enumset_repr.specs.Words.{bits_of}
+use Rattle.enumset_array.proofs.traversal.walk.Given as goal
 use Rattle.enumset_array.specs.Cursors.{span, Covers}
 use Rattle.enumset_array.specs.Walks.{answers, without_answers, items_among}
-use Rattle.enumset_array.proofs.traversal.walk.Given as goal
 
--- what the function ensures, for the ends taken so far; each word between the cursors counts as one ask to come
+-- what the function ensures, for the ends taken so far, where each word between the cursors counts as one ask to come
 abbrev pub invariant-loop-end : goal.invariant-loop-end
 invariant-loop-end g l = record {
   items : l.answers.items ≡ answers (ascending (bits_of (g.R.Row.words l.initial.row))) (take l.end-index l.ends);

@@ -1,5 +1,8 @@
 use Rattle.std.proofs.Common.{rules, arith, ◌∷◌, [], ◌++◌, ◌-◌, ◌<◌, ◌^◌, sym, ap, ◌∙◌, w64}
-use Rattle.enumset_repr.specs.Laws.Common.{leading_zeros, ascending, greatest_bits, bits_clear, ascending_last}
+use Rattle.std.specs.Int.{leading_zeros}
+use Rattle.enumset_repr.specs.BitSet.{ascending}
+use Rattle.enumset_repr.specs.Laws.Ascending.{ascending_last}
+use Rattle.enumset_repr.specs.Laws.Numbers.{greatest_bits, bits_clear}
 use Rattle.enumset_array.proofs.words.take_greatest.Goals as goal
 
 pub returns-clause-bit : goal.returns-clause-bit

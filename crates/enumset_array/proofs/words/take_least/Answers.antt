@@ -1,5 +1,8 @@
 use Rattle.std.proofs.Common.{rules, ◌∷◌, ◌<◌, ◌^◌, sym, ap, ◌∙◌, w64}
-use Rattle.enumset_repr.specs.Laws.Common.{trailing_zeros, ascending, least_bits, bits_clear_least, ascending_first}
+use Rattle.std.specs.Int.{trailing_zeros}
+use Rattle.enumset_repr.specs.BitSet.{ascending}
+use Rattle.enumset_repr.specs.Laws.Ascending.{ascending_first}
+use Rattle.enumset_repr.specs.Laws.Numbers.{least_bits, bits_clear_least}
 use Rattle.enumset_array.proofs.words.take_least.Goals as goal
 
 pub returns-clause-bit : goal.returns-clause-bit

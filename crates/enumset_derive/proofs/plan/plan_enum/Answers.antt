@@ -1,9 +1,12 @@
 use Rattle.std.proofs.Common.{rules, ◌≡◌, ◌==◌, ◌^◌, ◌∙◌, true, length, sum_by}
-use Rattle.enumset_repr.specs.Laws.Common.{and_parts, length-map, lists_words, one_past_all}
-use Rattle.enumset_derive.specs.Variants.{bits_of}
+use Rattle.std.proofs.lemmas.Bool.{and_parts}
+use Rattle.std.proofs.lemmas.List.{length-map}
+use Rattle.enumset_repr.specs.Lawful.{one_past_all}
+use Rattle.enumset_repr.specs.Words.{lists_words}
 use Rattle.enumset_derive.proofs.Tests.{lawful_of}
 use Rattle.enumset_derive.proofs.plan.plan_enum.Goals as goal
 use Rattle.enumset_derive.proofs.plan.plan_enum.Goals.{in-Integer, in-Words+in_ok-map_err-in-Words}
+use Rattle.enumset_derive.specs.Variants.{bits_of}
 
 pub returns-clause-lawful : goal.returns-clause-lawful
 returns-clause-lawful c =

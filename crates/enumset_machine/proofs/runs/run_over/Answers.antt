@@ -12,4 +12,4 @@ replies_by-next outcome s t reply done commands i command within here h =
 pub loop-command-preserved : goal.loop-command-preserved
 loop-command-preserved g c =
     let within : c.loop-command.command-index < length c.args.commands.now = omega arith in
-    rw c.in_ok-push.ensures.items (replies_by-next (outcome_by g.S.RunSet.rules g.S.Run.plan) _ _ _ _ _ _ _ within c.command-item.is c.in_ok-step.ensures.step ∙ c.loop-command.invariant)
+    rw c.in_ok-push.ensures.items (replies_by-next (outcome_by g.S.RunSet.rules g.S.Commands.plan) _ _ _ _ _ _ _ within c.command-item.is c.in_ok-reply_to.ensures.step ∙ c.loop-command.invariant)

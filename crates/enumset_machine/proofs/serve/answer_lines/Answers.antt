@@ -1,15 +1,15 @@
 use Rattle.std.proofs.Common.{rules, ◌≡◌, ◌+◌, ◌∷◌, ◌++◌, Some, ap, sym, ◌∙◌, codes, string_bytes}
-use Rattle.enumset_repr.specs.Laws.Common.{result_err}
+use Rattle.std.specs.Result.{result_err}
 use Rattle.enumset_commands.specs.Lines.{before, commands_from}
 use Rattle.enumset_commands.specs.Texts.{text_of}
-use Rattle.enumset_machine.specs.Plans.{outcome_by}
 use Rattle.enumset_machine.proofs.Answered.{answer_after, answer_after-before, result_err-before}
 use Rattle.enumset_machine.proofs.serve.answer_lines.Goals as goal
+use Rattle.enumset_machine.specs.Plans.{outcome_by}
 
 pub loop-line-preserved-then-has_room : goal.loop-line-preserved-then-has_room
 loop-line-preserved-then-has_room g c =
     let command_of = g.S.Command.LineCommand.command_of in
-    let outcome = outcome_by g.S.RunSet.rules g.S.Run.plan in
+    let outcome = outcome_by g.S.RunSet.rules g.S.Commands.plan in
     let n = c.loop-line.number + 1 in
     let command = c.in-Ok.command in
     let rest = commands_from command_of (n + 1) c.next.new.self in

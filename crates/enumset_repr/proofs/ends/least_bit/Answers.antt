@@ -1,5 +1,7 @@
 use Rattle.std.proofs.Common.{ap, ◌∙◌, arith}
-use Rattle.enumset_repr.specs.Laws.Common.{nat_tests, least, members, same_set}
+use Rattle.std.proofs.lemmas.Bool.Decides.{nat_tests}
+use Rattle.enumset_repr.specs.Ends.{least}
+use Rattle.enumset_repr.specs.Laws.Members.{members, same_set}
 use Rattle.enumset_repr.proofs.ends.least_bit.Goals as goal
 
 pub returns : goal.returns

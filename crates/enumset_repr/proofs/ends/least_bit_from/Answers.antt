@@ -1,5 +1,11 @@
 use Rattle.std.proofs.Common.{◌≡◌, ◌≢◌, ◌<◌, ℕ, ◌+◌, ◌*◌, ◌/◌, ◌%◌, ◌^◌, Some, sym, ap, ◌∙◌, arith}
-use Rattle.enumset_repr.specs.Laws.Common.{count_trailing_zeros, div-le_self, BitSet, below, difference, least, word, least_below, difference_is_subset}
+use Rattle.std.proofs.Math.Nat.{div-le_self}
+use Rattle.std.specs.Int.Count.{count_trailing_zeros}
+use Rattle.enumset_repr.specs.BitSet.{BitSet, below, difference}
+use Rattle.enumset_repr.specs.Ends.{least}
+use Rattle.enumset_repr.specs.Laws.Ends.{least_below}
+use Rattle.enumset_repr.specs.Laws.Members.{difference_is_subset}
+use Rattle.enumset_repr.specs.Words.{word}
 use Rattle.enumset_repr.proofs.EndWords.{least_at, least_past}
 use Rattle.enumset_repr.proofs.ends.least_bit_from.Goals as goal
 
@@ -14,8 +20,8 @@ past_word s from w is none =
 
 pub overflow_add-result : goal.overflow_add-result
 overflow_add-result g c =
-    let low = least_below _ g.R.EnumSetTypeRepr.WIDTH _ (difference_is_subset _ _ (below c.args.from) (g.met.R.EnumSetTypeRepr.represents.within _ c.learn_is_value.ensures)) (sym (found _ _ _ c.word_or_zero.ensures c.word_or_zero.type_inv c.if-word-ne0.true)) in
-    omega (arith, low)
+    let low = least_below _ g.R.EnumSetTypeRepr.WIDTH _ (difference_is_subset _ _ (below c.args.from) c.learn_members.ensures.within) (sym (found _ _ _ c.word_or_zero.ensures c.word_or_zero.type_inv c.if-word-ne0.true)) in
+    omega (arith, low, c.learn_members.ensures.width)
 
 pub returns-then-word-ne0 : goal.returns-then-word-ne0
 returns-then-word-ne0 g c = found _ _ _ c.word_or_zero.ensures c.word_or_zero.type_inv c.if-word-ne0.true

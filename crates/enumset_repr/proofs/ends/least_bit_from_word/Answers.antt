@@ -7,4 +7,4 @@ returns-then-word-ne0 g c =
     least_at _ _ _ c.loop-i.i 0 _ (omega arith) (omega arith) (λ q start end. no_member _ _ c.loop-i.i c.loop-i.invariant q start (omega (arith, end))) (omega (arith, c.word-word.ensures)) c.if-word-ne0.true c.word-word.type_inv
 
 pub returns : goal.returns
-returns g c = least_nowhere _ _ _ (g.met.R.EnumSetTypeRepr.represents.within _ c.learn_is_value.ensures) g.met.R.EnumSetTypeRepr.represents.word_count _ c.loop-i.i c.loop-i.invariant (omega (arith, c.loop-i-test.false))
+returns g c = least_nowhere _ _ _ c.learn_members.ensures.within g.met.R.EnumSetTypeRepr.represents.word_count _ c.loop-i.i c.loop-i.invariant (omega (arith, c.loop-i-test.false))

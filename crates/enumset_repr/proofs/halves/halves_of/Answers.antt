@@ -1,5 +1,7 @@
 use Rattle.std.proofs.Common.{◌/◌, ◌^◌, [], ◌∷◌, ap, ◌∙◌}
-use Rattle.enumset_repr.specs.Laws.Common.{and_mask, bits_of, bits_of_halves}
+use Rattle.std.proofs.lemmas.Nat.{and_mask}
+use Rattle.enumset_repr.specs.Laws.WordLists.{bits_of_halves}
+use Rattle.enumset_repr.specs.Words.{bits_of}
 use Rattle.enumset_repr.proofs.halves.halves_of.Goals as goal
 
 pub returns : goal.returns

@@ -1,5 +1,8 @@
 use Rattle.std.proofs.Common.{sym, ◌∙◌, arith, true≢false}
-use Rattle.enumset_repr.specs.Laws.Common.{false_from_ne_true, both_ways, BitSet, word_past, within_words, word_past_repr}
+use Rattle.std.proofs.lemmas.Bool.{false_from_ne_true}
+use Rattle.std.specs.Cmp.{both_ways}
+use Rattle.enumset_repr.specs.BitSet.{BitSet}
+use Rattle.enumset_repr.specs.Laws.WordLists.{word_past, within_words, word_past_repr}
 use Rattle.enumset_repr.proofs.repr.has_no_word_from.Goals as goal
 
 pub returns-then-len-from : goal.returns-then-len-from

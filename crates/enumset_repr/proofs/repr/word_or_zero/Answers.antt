@@ -1,5 +1,5 @@
 use Rattle.std.proofs.Common.{sym, arith}
-use Rattle.enumset_repr.specs.Laws.Filled.{word_past_repr}
+use Rattle.enumset_repr.specs.Laws.WordLists.{word_past_repr}
 use Rattle.enumset_repr.proofs.repr.word_or_zero.Goals as goal
 
 pub returns-else-i-PREFERRED_ARRAY_LEN : goal.returns-else-i-PREFERRED_ARRAY_LEN

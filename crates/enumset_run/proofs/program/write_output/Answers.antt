@@ -1,6 +1,7 @@
 use Rattle.std.proofs.Common.{◌≡◌, ◌-◌, ◌≤◌, length, take, drop, arith, length-drop}
-use Rattle.enumset_repr.specs.Laws.Common.{take-add, take_rest}
 use Rattle.std.proofs.KnownBytes.{Appends-trans, Appends-kept}
+use Rattle.std.proofs.Math.Seq.{take-add}
+use Rattle.std.proofs.lemmas.List.{take_rest}
 use Rattle.enumset_run.proofs.program.write_output.Goals as goal
 use Rattle.enumset_run.proofs.program.write_output.Goals.{in-Ok-2, in-Err}
 

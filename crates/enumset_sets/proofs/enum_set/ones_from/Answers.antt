@@ -1,5 +1,10 @@
 use Rattle.std.proofs.Common.{◌≡◌, ◌<◌, ◌≤◌, ℕ, ◌-◌, ◌*◌, ◌%◌, ◌^◌, ap, ◌∙◌, arith}
-use Rattle.enumset_repr.specs.Laws.Common.{nat_tests, contains, below, difference, bits, members, same_set, contains_low, contains_below, bits_zero, bits_full, bits_shifted_up, contains_upward_shift}
+use Rattle.std.proofs.lemmas.Bool.Decides.{nat_tests}
+use Rattle.enumset_repr.specs.BitSet.{contains, below, difference}
+use Rattle.enumset_repr.specs.Laws.Members.{members, same_set, contains_low, contains_below}
+use Rattle.enumset_repr.specs.Laws.Numbers.{bits_zero, bits_full}
+use Rattle.enumset_repr.specs.Laws.Words.{bits_shifted_up, contains_upward_shift}
+use Rattle.enumset_repr.specs.Number.{bits}
 use Rattle.enumset_sets.proofs.enum_set.ones_from.Goals as goal
 
 shifted : (k : ℕ) → k < 64 → bits (18446744073709551615 * 2 ^ k % 2 ^ 64) ≡ difference (below 64) (below k)

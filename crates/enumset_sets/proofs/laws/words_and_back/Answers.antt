@@ -3,4 +3,4 @@ use Rattle.enumset_sets.proofs.laws.words_and_back.Goals as goal
 
 pub returns : goal.returns
 returns g c =
-    record { back = words_within _ _; valid = rw (← c.set.view_is) c.set.invariant.valid_only }
+    record { back = words_within _ _; valid = c.learn_members.ensures.valid }

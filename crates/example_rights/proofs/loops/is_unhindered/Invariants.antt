@@ -3,6 +3,6 @@ use Rattle.std.specs.List.{list_any}
 use Rattle.enumset.specs.Sets.{contains, ascending}
 use Rattle.example_rights.proofs.loops.is_unhindered.Given as goal
 
--- one of those to come is denied exactly if one of all is
+-- one of the remaining ones is denied exactly if one of all is
 abbrev pub invariant-loop-right : goal.invariant-loop-right
 invariant-loop-right g l = list_any (contains l.denied) l.right-iterator.items ≡ list_any (contains l.denied) (ascending l.granted)

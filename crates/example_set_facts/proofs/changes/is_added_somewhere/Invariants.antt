@@ -4,6 +4,6 @@ use Rattle.enumset.specs.Sets.{contains}
 use Rattle.example_set_facts.specs.Bits.{feature}
 use Rattle.example_set_facts.proofs.changes.is_added_somewhere.Given as goal
 
--- no change so far adds the feature: whether one of those to come does
+-- no change so far adds the feature, so the remaining changes decide
 abbrev pub invariant-loop-change : goal.invariant-loop-change
 invariant-loop-change l = list_any (λ change. contains change.added (feature l.wanted)) (drop l.change-index l.changes) ≡ list_any (λ change. contains change.added (feature l.wanted)) l.changes

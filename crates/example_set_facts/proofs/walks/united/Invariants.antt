@@ -2,6 +2,6 @@ use Rattle.std.proofs.Common.{◌≡◌, drop, fold}
 use Rattle.enumset.specs.Sets.{empty, union}
 use Rattle.example_set_facts.proofs.walks.united.Given as goal
 
--- the sets so far united, and then those to come
+-- the union so far, and then the remaining sets
 abbrev pub invariant-loop-members : goal.invariant-loop-members
 invariant-loop-members g l = fold union l.all (drop l.members-index l.sets) ≡ fold union empty l.sets

@@ -6,7 +6,7 @@ use Rattle.example_weekdays.specs.Schedules.{schedules_from, schedules_in}
 use Rattle.example_weekdays.proofs.ScheduleLaws.{after}
 use Rattle.example_weekdays.proofs.reader.read_schedules.Given as goal
 
--- the schedules so far, before those of the lines to come, are all
+-- the schedules so far, and then the schedules of the remaining lines, are all
 abbrev pub invariant-loop-place : goal.invariant-loop-place
 invariant-loop-place l =
     after l.schedules.items (schedules_from (enumerate_count l.place-iterator + 1) (lines (lines_rest (enumerate_source l.place-iterator)))) ≡ schedules_in l.text

@@ -1,6 +1,6 @@
 use Rattle.std.proofs.Common.{refl, arith}
 use Rattle.enumset_repr.specs.Laws.Members.{members, same_set, member_below}
-use Rattle.enumset_sets.specs.Elements.{valid_bits}
+use Rattle.enumset.specs.Sets.{valid_bits}
 use Rattle.example_weekdays.specs.Week.{bit}
 use Rattle.example_weekdays.proofs.WeekLaws.{bit_small, wait_next, wait_small, wait_tells}
 use Rattle.example_weekdays.proofs.schedule.nearest_day.Goals as goal

@@ -1,5 +1,6 @@
 use Rattle.std.proofs.Common.{◌∙◌, ap, sym}
-use Rattle.enumset.proofs.Common.{insert, from_list_none, from_list_more}
+use Rattle.enumset_repr.specs.BitSet.{insert}
+use Rattle.enumset_sets.specs.Laws.Folds.{from_list_none, from_list_more}
 use Rattle.enumset.proofs.folds.into_sets.sum_element_refs.Goals as goal
 
 pub loop-element-init : goal.loop-element-init

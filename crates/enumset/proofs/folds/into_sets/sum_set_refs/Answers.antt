@@ -1,5 +1,6 @@
 use Rattle.std.proofs.Common.{◌∙◌, ap, sym}
-use Rattle.enumset.proofs.Common.{union, union_all_none, union_all_mapped}
+use Rattle.enumset_repr.specs.BitSet.{union}
+use Rattle.enumset_sets.specs.Laws.Folds.{union_all_none, union_all_mapped}
 use Rattle.enumset.proofs.folds.into_sets.sum_set_refs.Goals as goal
 
 pub loop-set-init : goal.loop-set-init

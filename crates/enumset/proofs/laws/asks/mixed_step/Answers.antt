@@ -1,4 +1,6 @@
-use Rattle.enumset.proofs.Common.{Front, Back, valid_bits, bit_with_validity}
+use Rattle.enumset_array.specs.declared.traversal.End.TheVariants.{Front, Back}
+use Rattle.enumset_sets.specs.Elements.{valid_bits}
+use Rattle.enumset_mixed.specs.Mixed.{bit_with_validity}
 use Rattle.enumset.proofs.AskedSteps.{mixed_first_by, mixed_last_by, stepped}
 use Rattle.enumset.proofs.laws.asks.mixed_step.Goals as goal
 

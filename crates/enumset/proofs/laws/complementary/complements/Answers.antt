@@ -1,4 +1,5 @@
-use Rattle.enumset.proofs.Common.{complement_twice, complement_of_complement, complement_within}
+use Rattle.enumset_repr.specs.Laws.Algebra.{complement_twice}
+use Rattle.enumset_repr.specs.Laws.Sets.{complement_of_complement, complement_within}
 use Rattle.enumset.proofs.laws.complementary.complements.Goals as goal
 
 pub returns : goal.returns

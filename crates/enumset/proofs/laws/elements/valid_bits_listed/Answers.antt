@@ -1,6 +1,7 @@
 use Rattle.std.proofs.Common.{sym, ap, ◌∙◌}
+use Rattle.enumset_repr.specs.BitSet.{len}
+use Rattle.enumset_sets.specs.Elements.{one_past_greatest}
 use Rattle.enumset_sets.specs.Laws.Elements.{is_valid_bit}
-use Rattle.enumset.proofs.Common.{len, one_past_greatest}
 use Rattle.enumset.proofs.laws.elements.valid_bits_listed.Goals as goal
 
 pub returns : goal.returns

@@ -1,6 +1,7 @@
-use Rattle.enumset.proofs.Common.{ascending_ascends, ascending}
-use Rattle.enumset.specs.Laws.BothEnds.{both_ends, both_ends_whole, ended_answer, none_twice}
+use Rattle.enumset_repr.specs.BitSet.{ascending}
+use Rattle.enumset_repr.specs.Laws.Ascending.{ascending_ascends}
 use Rattle.enumset.proofs.laws.ends.both_ends.Goals as goal
+use Rattle.enumset.specs.Laws.BothEnds.{both_ends, both_ends_whole, ended_answer, none_twice}
 
 pub returns : goal.returns
 returns c = record {

@@ -1,4 +1,5 @@
-use Rattle.enumset.proofs.Common.{valid_bits, difference_insert, difference_remove, difference_insert_all, difference_remove_all, complement_outside}
+use Rattle.enumset_repr.specs.Laws.Sets.{difference_insert, difference_remove, difference_insert_all, difference_remove_all, complement_outside}
+use Rattle.enumset_sets.specs.Elements.{valid_bits}
 use Rattle.enumset.proofs.laws.mixed_sets.unknown_kept.Goals as goal
 
 pub returns : goal.returns

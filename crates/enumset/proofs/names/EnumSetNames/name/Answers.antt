@@ -1,8 +1,10 @@
 use Rattle.std.proofs.Common.{map, sym, ap, ◌∙◌, eq-eqb, ne_eqb}
-use Rattle.enumset.proofs.Common.{cond-true, cond-false, drop_all, names_of, name_of}
+use Rattle.std.proofs.lemmas.Bool.{cond-true, cond-false}
+use Rattle.std.proofs.lemmas.List.{drop_all}
 use Rattle.enumset.proofs.NameLists.{left_at, name_first}
 use Rattle.enumset.proofs.NamePlaces.{name_there}
 use Rattle.enumset.proofs.names.EnumSetNames.name.Goals as goal
+use Rattle.enumset.specs.Names.{names_of, name_of}
 
 pub returns : goal.returns
 returns g c =

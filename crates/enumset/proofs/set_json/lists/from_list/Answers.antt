@@ -1,8 +1,15 @@
 use Rattle.std.proofs.Common.{◌≡◌, ◌+◌, true, None, Some, Err, is_none, option_map, unwrap_or, [], map, drop, refl, sym, ap, ◌∙◌, arith, rules}
-use Rattle.enumset.proofs.Common.{common_steps, drop_all, view, items_view, as_str, names_of, bit_named, values_of, set_of_values, NotAText}
+use Rattle.std.proofs.lemmas.Grind.{common_steps}
+use Rattle.std.proofs.lemmas.List.{drop_all}
+use Rattle.serde_json.specs.Find.{as_str}
+use Rattle.serde_json.specs.View.{view, items_view}
 use Rattle.enumset.proofs.NameLists.{left_at}
 use Rattle.enumset.proofs.NamesRead.{list_on, list_read, read_fault, read_next, read_end}
 use Rattle.enumset.proofs.set_json.lists.from_list.Goals as goal
+use Rattle.enumset.specs.Json.{values_of}
+use Rattle.enumset.specs.JsonNames.{set_of_values}
+use Rattle.enumset.specs.Names.{names_of, bit_named}
+use Rattle.enumset.specs.declared.set_json.fault.JsonFault.TheVariants.{NotAText}
 
 pub loop-place-init : goal.loop-place-init
 loop-place-init g c =

@@ -1,9 +1,11 @@
 use Rattle.std.proofs.Common.{◌≡◌, None, map, drop}
-use Rattle.enumset.proofs.Common.{empty, view, names_of}
+use Rattle.serde_json.specs.View.{view}
+use Rattle.enumset_repr.specs.BitSet.{empty}
 use Rattle.enumset.proofs.NamesRead.{list_on}
 use Rattle.enumset.proofs.set_json.lists.from_list.Given as goal
+use Rattle.enumset.specs.Names.{names_of}
 
--- what is left is read as it is after what was read
+-- reading what is left, after what was read, gives the result
 abbrev pub invariant-loop-place : goal.invariant-loop-place
 invariant-loop-place g l =
     list_on (names_of g.T.EnumSetType.elements g.T.EnumSetNames.names) l.unknown l.place l.names.set l.names.first_unknown (map view (drop l.place l.item-items))

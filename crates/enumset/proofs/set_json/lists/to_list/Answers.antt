@@ -1,6 +1,9 @@
 use Rattle.std.proofs.Common.{arith, ◌++◌, map, append-nil, sym, ap, ◌∙◌}
-use Rattle.enumset.proofs.Common.{common_steps, array, string, view, items_of, names_of, name_of}
+use Rattle.std.proofs.lemmas.Grind.{common_steps}
+use Rattle.serde_json.specs.Data.{array, string}
+use Rattle.serde_json.specs.View.{view, items_of}
 use Rattle.enumset.proofs.set_json.lists.to_list.Goals as goal
+use Rattle.enumset.specs.Names.{names_of, name_of}
 
 pub loop-element-init : goal.loop-element-init
 loop-element-init g c = ap (λ vs. map view vs ++ map (λ b. string (name_of (names_of g.T.EnumSetType.elements g.T.EnumSetNames.names) b)) c.into_iter-element-iterator.result.items) c.in_ok-list.ensures.items

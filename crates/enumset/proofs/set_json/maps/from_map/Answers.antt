@@ -1,7 +1,13 @@
 use Rattle.std.proofs.Common.{◌≡◌, ◌+◌, false, None, Some, Err, is_none, unwrap_or, string_bytes, length, map, sym, ap, ◌∙◌, arith, rules}
-use Rattle.enumset.proofs.Common.{common_steps, empty, view, members_view, as_bool, names_of, bit_named, members_in, set_of_members, NotABoolean}
+use Rattle.std.proofs.lemmas.Grind.{common_steps}
+use Rattle.serde_json.specs.Find.{as_bool}
+use Rattle.serde_json.specs.View.{view, members_view}
+use Rattle.enumset_repr.specs.BitSet.{empty}
 use Rattle.enumset.proofs.NamesRead.{seen, map_on, map_read, read_fault, read_next, read_end}
 use Rattle.enumset.proofs.set_json.maps.from_map.Goals as goal
+use Rattle.enumset.specs.JsonNames.{members_in, set_of_members}
+use Rattle.enumset.specs.Names.{names_of, bit_named}
+use Rattle.enumset.specs.declared.set_json.fault.JsonFault.TheVariants.{NotABoolean}
 
 pub loop-place-init : goal.loop-place-init
 loop-place-init g c = (omega (arith, c.iter-name-items.ensures.fits, ap length c.iter-name-items.ensures.rest), λ j. map_on (names_of g.T.EnumSetType.elements g.T.EnumSetNames.names) c.args.unknown 0 (c.new-names.ensures.set j) (c.new-names.ensures.first j) (map seen c.iter-name-items.result))

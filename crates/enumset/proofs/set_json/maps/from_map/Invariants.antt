@@ -1,9 +1,10 @@
 use Rattle.std.proofs.Common.{◌≡◌, ◌+◌, ◌<◌, ◌^◌, None, map}
-use Rattle.enumset.proofs.Common.{empty, names_of}
+use Rattle.enumset_repr.specs.BitSet.{empty}
 use Rattle.enumset.proofs.NamesRead.{map_on, seen}
 use Rattle.enumset.proofs.set_json.maps.from_map.Given as goal
+use Rattle.enumset.specs.Names.{names_of}
 
--- what is left is read as it is after what was read
+-- reading what is left, after what was read, gives the result
 abbrev pub invariant-loop-place : goal.invariant-loop-place
 invariant-loop-place g l =
     (l.place + (goal.iterator-loop-place g).remaining l.name-iterator < 2 ^ 64)

@@ -1,6 +1,10 @@
 use Rattle.std.proofs.Common.{arith, sym, ap, ◌∙◌}
-use Rattle.enumset.proofs.Common.{common_steps, object, no_members, members_view, names_of, with_bits_true}
+use Rattle.std.proofs.lemmas.Grind.{common_steps}
+use Rattle.serde_json.specs.Data.{object, no_members}
+use Rattle.serde_json.specs.View.{members_view}
 use Rattle.enumset.proofs.set_json.maps.to_map.Goals as goal
+use Rattle.enumset.specs.JsonNames.{with_bits_true}
+use Rattle.enumset.specs.Names.{names_of}
 
 pub loop-element-init : goal.loop-element-init
 loop-element-init g c = ap (λ es. with_bits_true (names_of g.T.EnumSetType.elements g.T.EnumSetNames.names) (members_view es) c.into_iter-element-iterator.result.items) c.new-members.ensures.empty

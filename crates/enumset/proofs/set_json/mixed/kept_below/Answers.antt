@@ -1,5 +1,6 @@
 use Rattle.std.proofs.Common.{◌≡◌, true, Ok, sym, ap, ◌∙◌}
-use Rattle.enumset.proofs.Common.{is_subset, below, low_within}
+use Rattle.enumset_repr.specs.BitSet.{is_subset, below}
+use Rattle.enumset_repr.specs.Laws.Widths.{low_within}
 use Rattle.enumset.proofs.set_json.mixed.kept_below.Goals.{in_default-via-in-Refuse+else-not-is_whole, in_default-via-in_default}
 use Rattle.enumset.proofs.set_json.mixed.kept_below.Goals as goal
 

@@ -1,6 +1,7 @@
 use Rattle.std.proofs.Common.{sym, ap, ◌∙◌}
-use Rattle.enumset.proofs.Common.{and_then, bits_of, kept_below}
+use Rattle.enumset_repr.specs.Words.{bits_of}
 use Rattle.enumset.proofs.set_json.mixed.mixed_from_words.Goals as goal
+use Rattle.enumset.specs.Json.{and_then, kept_below}
 
 pub returns : goal.returns
 returns g c =

@@ -1,5 +1,6 @@
 use Rattle.std.proofs.Common.{ap, ◌∙◌}
-use Rattle.enumset.proofs.Common.{number, low_within, is_subset_wider}
+use Rattle.enumset_repr.specs.Laws.Widths.{low_within, is_subset_wider}
+use Rattle.enumset_repr.specs.Number.{number}
 use Rattle.enumset.proofs.set_json.mixed.mixed_number_of.Goals as goal
 
 pub returns : goal.returns

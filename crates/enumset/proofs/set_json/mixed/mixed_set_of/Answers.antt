@@ -1,5 +1,6 @@
 use Rattle.std.proofs.Common.{◌≡◌, ◌^◌, Ok, nat_lt, true, ap, subst, sym, ◌∙◌, ltb-true}
-use Rattle.enumset.proofs.Common.{low_within, bits_within}
+use Rattle.enumset_repr.specs.Laws.Numbers.{bits_within}
+use Rattle.enumset_repr.specs.Laws.Widths.{low_within}
 use Rattle.enumset.proofs.set_json.mixed.mixed_set_of.Goals as goal
 
 pub returns : goal.returns

@@ -1,8 +1,9 @@
 use Rattle.std.proofs.Common.{option_map, sym, ap, ◌∙◌}
-use Rattle.enumset.proofs.Common.{and_then, bits_of, kept_below, mixed_set_of_words, words_value}
+use Rattle.enumset_repr.specs.Words.{bits_of}
 use Rattle.enumset.proofs.JsonLaws.{words_back}
 use Rattle.enumset.proofs.PlainLists.{is_read}
 use Rattle.enumset.proofs.set_json.mixed_texts.mixed_from_words_text.Goals as goal
+use Rattle.enumset.specs.Json.{and_then, kept_below, mixed_set_of_words, words_value}
 
 pub returns-in-Some : goal.returns-in-Some
 returns-in-Some g c =

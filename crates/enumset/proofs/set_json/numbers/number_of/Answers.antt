@@ -1,6 +1,8 @@
 use Rattle.std.proofs.Common.{◌<◌, ◌^◌, refl, sym, subst, ◌∙◌, true≢false, ltb-true, lt-ltb}
-use Rattle.enumset.proofs.Common.{fits_number, is_subset_wider, number_within, width_of}
+use Rattle.enumset_repr.specs.Laws.Numbers.{number_within}
+use Rattle.enumset_repr.specs.Laws.Widths.{fits_number, is_subset_wider}
 use Rattle.enumset.proofs.set_json.numbers.number_of.Goals as goal
+use Rattle.enumset.specs.Json.{width_of}
 
 pub returns-in-Some-clause-fits : goal.returns-in-Some-clause-fits
 returns-in-Some-clause-fits g c =

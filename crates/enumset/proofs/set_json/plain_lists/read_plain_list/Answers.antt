@@ -1,8 +1,10 @@
 use Rattle.std.proofs.Common.{Ok, None, sym, subst}
-use Rattle.enumset.proofs.Common.{empty, set_of_list, decided, names_of}
-use Rattle.enumset.proofs.PlainWords.{kept_if}
+use Rattle.enumset_repr.specs.BitSet.{empty}
 use Rattle.enumset.proofs.PlainLists.{GoesOn, is_read, none_named, goes_on_from, goes_on, ends, no_unknown}
+use Rattle.enumset.proofs.PlainWords.{kept_if}
 use Rattle.enumset.proofs.set_json.plain_lists.read_plain_list.Goals as goal
+use Rattle.enumset.specs.JsonNames.{set_of_list, decided}
+use Rattle.enumset.specs.Names.{names_of}
 
 pub returns-in-Some : goal.returns-in-Some
 returns-in-Some g c =

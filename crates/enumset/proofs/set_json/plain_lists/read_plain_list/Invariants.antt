@@ -2,6 +2,6 @@ use Rattle.enumset.specs.Names.{names_of}
 use Rattle.enumset.proofs.PlainLists.{GoesOn}
 use Rattle.enumset.proofs.set_json.plain_lists.read_plain_list.Given as goal
 
--- what is left goes on the list
+-- the text that is left goes on with the list
 abbrev pub invariant-loop-place : goal.invariant-loop-place
 invariant-loop-place g l = GoesOn (names_of g.T.EnumSetType.elements g.T.EnumSetNames.names) l.unknown l.text l.left l.place l.names.set l.names.first_unknown

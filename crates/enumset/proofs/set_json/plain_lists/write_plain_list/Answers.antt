@@ -1,7 +1,7 @@
 use Rattle.std.proofs.Common.{rules, [], ◌∷◌, ◌++◌, string_bytes, map, ap, subst, sym, ◌∙◌}
-use Rattle.enumset.proofs.Common.{names_of, name_of}
 use Rattle.enumset.proofs.JsonLists.{Writes, begins, next_name, ended, list_written}
 use Rattle.enumset.proofs.set_json.plain_lists.write_plain_list.Goals as goal
+use Rattle.enumset.specs.Names.{names_of, name_of}
 
 pub loop-element-init : goal.loop-element-init
 loop-element-init g c = begins _ c.in_ok-text.ensures.bytes

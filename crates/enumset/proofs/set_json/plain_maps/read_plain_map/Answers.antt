@@ -1,8 +1,13 @@
 use Rattle.std.proofs.Common.{rules, arith, ◌≡◌, cond, Ok, sym, subst, ◌∙◌}
-use Rattle.enumset.proofs.Common.{not-true, common_steps, empty, insert, set_of_map, IsReadOf, names_of}
-use Rattle.enumset.proofs.PlainWords.{kept_if}
+use Rattle.std.proofs.lemmas.Bool.{not-true}
+use Rattle.std.proofs.lemmas.Grind.{common_steps}
+use Rattle.enumset_repr.specs.BitSet.{empty, insert}
 use Rattle.enumset.proofs.MapsRead.{Scanned, scan_begins, scan_next, scan_ends, scan_none}
+use Rattle.enumset.proofs.PlainWords.{kept_if}
 use Rattle.enumset.proofs.set_json.plain_maps.read_plain_map.Goals as goal
+use Rattle.enumset.specs.JsonNames.{set_of_map}
+use Rattle.enumset.specs.JsonReads.{IsReadOf}
+use Rattle.enumset.specs.Names.{names_of}
 
 pub returns-in-Some : goal.returns-in-Some
 returns-in-Some g c =

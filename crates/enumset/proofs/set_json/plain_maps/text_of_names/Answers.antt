@@ -1,6 +1,6 @@
 use Rattle.std.proofs.Common.{ℕ, List, Bor, rules, ap, map, get_or, ◌++◌, [], ◌∙◌}
 use Rattle.std.proofs.Math.ListN.{drop_of_length-le}
-use Rattle.enumset.proofs.Common.{drop_more}
+use Rattle.std.proofs.lemmas.List.{drop_more}
 use Rattle.enumset.proofs.JsonLists.{begins, next_name, ended}
 use Rattle.enumset.proofs.MapsWritten.{map_written}
 use Rattle.enumset.proofs.set_json.plain_maps.text_of_names.Goals as goal

@@ -1,9 +1,10 @@
 use Rattle.std.proofs.Common.{◌++◌, append-nil, map, sym, subst, ap, ◌∙◌}
 use Rattle.enumset_sets.specs.Elements.{valid_bits}
-use Rattle.enumset.proofs.Common.{AreMembers, name_of, names_of}
 use Rattle.enumset.proofs.NameLaws.{IsNaming-passes}
 use Rattle.enumset.proofs.NamesSorted.{name_more, sorted_members}
 use Rattle.enumset.proofs.set_json.plain_maps.write_plain_map.Goals as goal
+use Rattle.enumset.specs.JsonPlain.{AreMembers}
+use Rattle.enumset.specs.Names.{name_of, names_of}
 
 pub loop-element-init : goal.loop-element-init
 loop-element-init g c =

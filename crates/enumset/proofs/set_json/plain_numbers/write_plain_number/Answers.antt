@@ -1,5 +1,6 @@
 use Rattle.std.proofs.Common.{◌++◌, [], decimal, ap, subst, sym, ◌∙◌, append-nil, arith, IsAscii}
-use Rattle.enumset.proofs.Common.{IsAscii-decimal, read}
+use Rattle.std.proofs.lemmas.Fmt.{IsAscii-decimal}
+use Rattle.serde_json.specs.Read.{read}
 use Rattle.enumset.proofs.JsonNumbers.{number_alone}
 use Rattle.enumset.proofs.set_json.plain_numbers.write_plain_number.Goals as goal
 

@@ -1,5 +1,6 @@
 use Rattle.std.proofs.Common.{◌≡◌, ◌++◌, ◌∷◌, [], nat_lt, decimal, ap, sym, ◌∙◌, append-nil, append_assoc, arith, lt-ltb, le-ltb}
-use Rattle.enumset.proofs.Common.{comma_if, read}
+use Rattle.serde_json.specs.Read.{read}
+use Rattle.serde_json.specs.Written.{comma_if}
 use Rattle.enumset.proofs.WordsWritten.{none_written, one_written, all_written, words_reads}
 use Rattle.enumset.proofs.set_json.plain_words.write_plain_words.Goals.{then-i-gt0+in_ok-push-2, else-i-gt0}
 use Rattle.enumset.proofs.set_json.plain_words.write_plain_words.Goals as goal

@@ -1,7 +1,7 @@
 use Rattle.std.proofs.Common.{◌-◌, length, take, drop, subst, arith, eqb-true, take_all}
-use Rattle.enumset.proofs.Common.{IsPlain, IsPlainByte}
 use Rattle.enumset.proofs.JsonScans.{run_on}
 use Rattle.enumset.proofs.set_json.scan.are_ends_plain.Goals as goal
+use Rattle.enumset.specs.JsonPlain.{IsPlain, IsPlainByte}
 
 pub returns-then-plain_before : goal.returns-then-plain_before
 returns-then-plain_before g c = λ whole.

@@ -1,10 +1,12 @@
 use Rattle.std.proofs.Common.{◌≡◌, ◌≤◌, ◌+◌, ℕ, zero, suc, Bool, true, false, not, cond, eqb, ltb, ◌||◌, List, [], ◌∷◌, length, map, take, drop, refl, sym, ap, subst, ◌∙◌, arith, w8, ◌%◌, ◌^◌, replicate, take-take}
-use Rattle.std.proofs.lemmas.Simd.{zip2_splat, zip2_of_maps}
-use Rattle.enumset.proofs.Common.{or_parts, prefix_len, length-chunk, bitmask_splat, first_set_mask_l, IsPlain}
+use Rattle.std.proofs.lemmas.Bool.{or_parts}
+use Rattle.std.proofs.lemmas.Simd.{zip2_splat, zip2_of_maps, length-chunk, bitmask_splat, first_set_mask_l}
+use Rattle.std.specs.List.{prefix_len}
 use lib.Bits.{bit_or}
 use lib.Count.{count_trailing_zeros}
 use lib.Lanes.{chunk, mask_l, top, zip2}
 use Rattle.enumset.proofs.set_json.scan.plain_before.Goals as goal
+use Rattle.enumset.specs.JsonPlain.{IsPlain}
 
 abbrev is_special : ℕ → Bool
 is_special x = (eqb x 34 || eqb x 92) || ltb x 32
@@ -28,7 +30,7 @@ plain_run (x ∷ v) (suc r) le =
     let (quote, slash) = or_parts _ _ text in
     ((quote, slash, control), plain_run v r rest)
 
--- the mask of the bytes that a test finds, which each stand for 255
+-- the mask of the bytes that a test finds, which are 255 each
 abbrev found : (ℕ → ℕ → Bool) → List ℕ → ℕ → ℕ → List ℕ
 found t v n y = zip2 (λ a b. cond (t a b) 255 0) v (replicate n y)
 
@@ -38,7 +40,7 @@ mask v n long few =
     ∙ (λ j. map (λ x. bit_or (either (eqb x 34) (eqb x 92) j) (cond (ltb x 32) 255 0)) v) ∙ (λ j. map (λ x. either (eqb x 34 || eqb x 92) (ltb x 32) j) v) ∙ sym (zip2_splat (λ a b. cond (is_special a) 255 0) v n 0 long) in
     ap (λ l. mask_l (map (top 7) l) % 2 ^ 64) lanes ∙ bitmask_splat w8 (λ a b. is_special a) v n 0 long few
 
--- no more bytes than stand before the lowest bit
+-- at most as many bytes as there are before the lowest bit
 before : (v : List ℕ) (n m r : ℕ) → length v ≡ n → n ≤ 64 → m ≡ mask_l (map is_special v) → r ≤ n → r ≤ count_trailing_zeros 64 m → r ≤ prefix_len (λ x. not (is_special x)) v
 before v n m r long few is all low = grind (arith, first_set_mask_l is_special v n long few, is, all, low)
 

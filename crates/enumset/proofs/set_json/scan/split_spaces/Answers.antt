@@ -1,8 +1,8 @@
 use Rattle.std.proofs.Common.{◌≡◌, true, slice_index_or, arith}
-use Rattle.enumset.proofs.Common.{common_steps}
-use Rattle.enumset.specs.JsonPlain.{is_space}
+use Rattle.std.proofs.lemmas.Grind.{common_steps}
 use Rattle.enumset.proofs.JsonScans.{one_more}
 use Rattle.enumset.proofs.set_json.scan.split_spaces.Goals as goal
+use Rattle.enumset.specs.JsonPlain.{is_space}
 
 pub loop-i-preserved : goal.loop-i-preserved
 loop-i-preserved c =

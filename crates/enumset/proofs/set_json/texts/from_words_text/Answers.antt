@@ -1,8 +1,10 @@
 use Rattle.std.proofs.Common.{option_map, sym, ap, ◌∙◌}
-use Rattle.enumset.proofs.Common.{bits_of, valid_bits, accepted, and_then, set_of_words, words_value}
+use Rattle.enumset_repr.specs.Words.{bits_of}
+use Rattle.enumset_sets.specs.Elements.{valid_bits}
 use Rattle.enumset.proofs.JsonLaws.{words_back}
 use Rattle.enumset.proofs.PlainLists.{is_read}
 use Rattle.enumset.proofs.set_json.texts.from_words_text.Goals as goal
+use Rattle.enumset.specs.Json.{accepted, and_then, set_of_words, words_value}
 
 pub returns-in-Some : goal.returns-in-Some
 returns-in-Some g c =

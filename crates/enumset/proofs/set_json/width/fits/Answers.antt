@@ -1,5 +1,7 @@
 use Rattle.std.proofs.Common.{◌^◌, sym, ◌∙◌, arith, le-leb, lt-ltb, eqb-true, eq-eqb, ltb-true, pow_pos}
-use Rattle.enumset.proofs.Common.{div-eq_of_lt, div-lt_iff_lt-mul, pow_mono, same_from_decides}
+use Rattle.std.proofs.Math.Nat.{div-eq_of_lt, div-lt_iff_lt-mul}
+use Rattle.std.proofs.Math.Pow.{pow_mono}
+use Rattle.std.proofs.lemmas.Bool.Decides.{same_from_decides}
 use Rattle.enumset.proofs.set_json.width.fits.Goals as goal
 
 pub returns-then-width-ge-BITS : goal.returns-then-width-ge-BITS

@@ -1,6 +1,9 @@
 use Rattle.std.proofs.Common.{◌≡◌, true, false, Ok, refl, sym, ap, ◌∙◌}
-use Rattle.enumset.proofs.Common.{is_subset, intersection, false_from_ne_true, intersection_right, is_subset_trans, low_intersection, low_within, valid_bits}
-use Rattle.std.proofs.lemmas.Bool.{both_ways}
+use Rattle.std.proofs.lemmas.Bool.{false_from_ne_true, both_ways}
+use Rattle.enumset_repr.specs.BitSet.{is_subset, intersection}
+use Rattle.enumset_repr.specs.Laws.Algebra.{intersection_right, is_subset_trans}
+use Rattle.enumset_repr.specs.Laws.Widths.{low_intersection, low_within}
+use Rattle.enumset_sets.specs.Elements.{valid_bits}
 use Rattle.enumset.proofs.set_json.words.accepted.Goals.{then-is_whole+else-is_subset_of, else-is_whole}
 use Rattle.enumset.proofs.set_json.words.accepted.Goals as goal
 

@@ -1,6 +1,8 @@
 use Rattle.std.proofs.Common.{sym, ap, ◌∙◌}
-use Rattle.enumset.proofs.Common.{accepted, and_then, bits_of, valid_bits}
+use Rattle.enumset_repr.specs.Words.{bits_of}
+use Rattle.enumset_sets.specs.Elements.{valid_bits}
 use Rattle.enumset.proofs.set_json.words.from_words.Goals as goal
+use Rattle.enumset.specs.Json.{accepted, and_then}
 
 pub returns : goal.returns
 returns g c =

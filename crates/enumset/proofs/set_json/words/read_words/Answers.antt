@@ -1,7 +1,11 @@
 use Rattle.std.proofs.Common.{◌≡◌, ◌+◌, None, Some, Err, option_map, map, refl, sym, ap, ◌∙◌, arith, rules, is_none, if◌then◌else◌}
-use Rattle.enumset.proofs.Common.{position_from, drop_all, view, items_view, is_no_word, held_words, words_in, NotAWord}
+use Rattle.std.proofs.lemmas.List.{drop_all}
+use Rattle.std.specs.List.{position_from}
+use Rattle.serde_json.specs.View.{view, items_view}
 use Rattle.enumset.proofs.JsonWords.{other_from, other_at, word_here, words_read, length-held_words, begun, taken, all_read}
 use Rattle.enumset.proofs.set_json.words.read_words.Goals as goal
+use Rattle.enumset.specs.Json.{is_no_word, held_words, words_in}
+use Rattle.enumset.specs.declared.set_json.fault.JsonFault.TheVariants.{NotAWord}
 
 pub loop-place-init : goal.loop-place-init
 loop-place-init g c =

@@ -1,9 +1,10 @@
 use Rattle.std.proofs.Common.{◌≡◌, map}
-use Rattle.enumset.proofs.Common.{view, held_words}
+use Rattle.serde_json.specs.View.{view}
 use Rattle.enumset.proofs.JsonWords.{AreRead, other_from}
 use Rattle.enumset.proofs.set_json.words.read_words.Given as goal
+use Rattle.enumset.specs.Json.{held_words}
 
--- the elements before this one are words, and read
+-- the elements before this one are words, and have been read
 abbrev pub invariant-loop-place : goal.invariant-loop-place
 invariant-loop-place g l =
     (other_from l.item-items l.place ≡ other_from l.item-items 0)

@@ -1,6 +1,11 @@
 use Rattle.std.proofs.Common.{◌≡◌, ◌++◌, [], ◌∷◌, map, sym, ap, ◌∙◌, arith}
-use Rattle.enumset.proofs.Common.{map-append, word, words, words_none, words_more, array, view, items_of, number_value}
+use Rattle.std.proofs.lemmas.List.{map-append}
+use Rattle.serde_json.specs.Data.{array}
+use Rattle.serde_json.specs.View.{view, items_of}
+use Rattle.enumset_repr.specs.Laws.WordLists.{words_none, words_more}
+use Rattle.enumset_repr.specs.Words.{word, words}
 use Rattle.enumset.proofs.set_json.words.write_words.Goals as goal
+use Rattle.enumset.specs.Json.{number_value}
 
 pub loop-i-init : goal.loop-i-init
 loop-i-init g c = ap (map view) c.in_ok-all.ensures.items ∙ sym (ap (map number_value) (words_none (g.R.EnumSetTypeRepr.members c.args.repr.now)))

@@ -1,6 +1,8 @@
 use Rattle.std.proofs.Common.{◌≡◌, map}
-use Rattle.enumset.proofs.Common.{words, view, number_value}
+use Rattle.serde_json.specs.View.{view}
+use Rattle.enumset_repr.specs.Words.{words}
 use Rattle.enumset.proofs.set_json.words.write_words.Given as goal
+use Rattle.enumset.specs.Json.{number_value}
 
 -- the words before this one are written
 abbrev pub invariant-loop-i : goal.invariant-loop-i

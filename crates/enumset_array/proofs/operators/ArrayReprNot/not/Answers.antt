@@ -6,4 +6,4 @@ use Rattle.enumset_array.proofs.operators.ArrayReprNot.not.Goals as goal
 pub returns : goal.returns
 returns g c =
     let first : IsArrayRepr g.row.N c.self.inside.0 = record { long = search rules; fit = search rules; past = c.self.invariant } in
-    rw (← c.self.view_is, c.combine.ensures) (inverted_set _ _ first)
+    rw (← c.self.view_is, c.invert.ensures) (inverted_set _ _ first)

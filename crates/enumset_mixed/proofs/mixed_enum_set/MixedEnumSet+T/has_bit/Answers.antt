@@ -1,5 +1,5 @@
 use Rattle.std.proofs.Common.{sym, ◌∙◌, arith, le-ltb}
-use Rattle.enumset_repr.specs.Laws.Common.{contains_past}
+use Rattle.enumset_repr.specs.Laws.Members.{contains_past}
 use Rattle.enumset_mixed.proofs.mixed_enum_set.MixedEnumSet+T.has_bit.Goals as goal
 
 pub returns-else-value-WIDTH-clause-has : goal.returns-else-value-WIDTH-clause-has

@@ -1,5 +1,7 @@
 use Rattle.std.proofs.Common.{ap, not, ◌∙◌}
-use Rattle.enumset_repr.specs.Laws.Common.{same_from_decides, is_subset_iff, is_empty_iff}
+use Rattle.std.proofs.lemmas.Bool.Decides.{same_from_decides}
+use Rattle.enumset_repr.specs.Laws.Ascending.{is_empty_iff}
+use Rattle.enumset_repr.specs.Laws.Members.{is_subset_iff}
 use Rattle.enumset_mixed.proofs.mixed_enum_set.MixedEnumSet+T.has_unknown_bits.Goals as goal
 
 pub returns-clause-unknown : goal.returns-clause-unknown

@@ -1,14 +1,16 @@
 use Rattle.std.proofs.Common.{ℕ, List, Option, refl, ap, inr, ◌∙◌, arith}
-use Rattle.enumset_repr.specs.Laws.Common.{length_push, nat_tests, YieldsList-end}
-use Rattle.enumset_sets.specs.Laws.Iterators.{of_shown}
+use Rattle.std.proofs.lemmas.Bool.Decides.{nat_tests}
+use Rattle.std.proofs.lemmas.Iterator.Consumers.{YieldsList-end}
+use Rattle.std.proofs.lemmas.List.{length_push}
 use Rattle.enumset_sets.specs.Elements.{valid_bits}
-use Rattle.enumset_sets.specs.Texts.{text_at}
+use Rattle.enumset_sets.specs.Laws.Iterators.{of_shown}
 use Rattle.enumset_sets.specs.Laws.Texts.{Tells, writes_one_more, writes_at, text_at-tells}
-use Rattle.enumset_mixed.specs.declared.mixed_value.MixedValue.{MixedValue}
-use Rattle.enumset_mixed.specs.declared.mixed_value.MixedValue.TheVariants.{Valid, Invalid}
+use Rattle.enumset_sets.specs.Texts.{text_at}
+use Rattle.enumset_mixed.proofs.text.MixedEnumSetDisplay.fmt.Goals as goal
 use Rattle.enumset_mixed.specs.Mixed.{bit_with_validity, with_validity}
 use Rattle.enumset_mixed.specs.Texts.{item_text, text_with_validity}
-use Rattle.enumset_mixed.proofs.text.MixedEnumSetDisplay.fmt.Goals as goal
+use Rattle.enumset_mixed.specs.declared.mixed_value.MixedValue.{MixedValue}
+use Rattle.enumset_mixed.specs.declared.mixed_value.MixedValue.TheVariants.{Valid, Invalid}
 
 item_text-tells : {T R I : Type 0} (bit : T → ℕ) (at : ℕ → Option (List ℕ)) (text : T → Option (List ℕ)) → ((v : T) → Tells (at (bit v)) (text v)) → (item : MixedValue T R I) → Tells (text_with_validity at (bit_with_validity bit item)) (item_text text item)
 item_text-tells bit at text tells (Valid v) = tells v

@@ -1,5 +1,6 @@
 use Rattle.std.proofs.Common.{sym, ◌∙◌, arith, ap}
-use Rattle.enumset_repr.specs.Laws.Common.{bits_of, with_word, word_bits_of, put_next, all_put, none_put}
+use Rattle.enumset_repr.specs.Laws.WordLists.{word_bits_of, put_next, all_put, none_put}
+use Rattle.enumset_repr.specs.Words.{bits_of, with_word}
 use Rattle.enumset_repr.proofs.repr.EnumSetTypeRepr.from_u64_slice.Goals as goal
 
 pub loop-i-init : goal.loop-i-init

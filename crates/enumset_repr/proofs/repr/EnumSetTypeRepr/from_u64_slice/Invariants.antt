@@ -1,5 +1,6 @@
 use Rattle.std.proofs.Common.{◌≡◌, ◌*◌}
-use Rattle.enumset_repr.specs.Laws.Common.{low, bits_of}
+use Rattle.enumset_repr.specs.BitSet.{low}
+use Rattle.enumset_repr.specs.Words.{bits_of}
 use Rattle.enumset_repr.proofs.repr.EnumSetTypeRepr.from_u64_slice.Given as goal
 
 -- each word before this place was put in

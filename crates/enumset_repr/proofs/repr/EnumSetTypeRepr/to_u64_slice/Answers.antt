@@ -1,5 +1,8 @@
 use Rattle.std.proofs.Common.{◌≡◌, ◌<◌, ℕ, ◌+◌, List, [], ◌∷◌, ◌++◌, length, take, set, sym, ◌∙◌, arith}
-use Rattle.enumset_repr.specs.Laws.Common.{words_none, words_more, word_past_repr, take_more_set, BitSet, word, words}
+use Rattle.std.proofs.lemmas.List.{take_more_set}
+use Rattle.enumset_repr.specs.BitSet.{BitSet}
+use Rattle.enumset_repr.specs.Laws.WordLists.{words_none, words_more, word_past_repr}
+use Rattle.enumset_repr.specs.Words.{word, words}
 use Rattle.enumset_repr.proofs.repr.EnumSetTypeRepr.to_u64_slice.Goals as goal
 
 -- the place at i gets its word

@@ -1,5 +1,7 @@
 use Rattle.std.proofs.Common.{refl, sym, ap, ◌∙◌, arith, true≢false}
-use Rattle.enumset_repr.specs.Laws.Common.{word, low_within, word_bits_of, all_kept}
+use Rattle.enumset_repr.specs.Laws.Widths.{low_within}
+use Rattle.enumset_repr.specs.Laws.WordLists.{word_bits_of, all_kept}
+use Rattle.enumset_repr.specs.Words.{word}
 use Rattle.enumset_repr.proofs.repr.EnumSetTypeRepr.try_from_u64_slice.Goals as goal
 
 pub returns-then-word_or_zero-v-clause-fits : goal.returns-then-word_or_zero-v-clause-fits

@@ -1,5 +1,7 @@
 use Rattle.std.proofs.Common.{refl, ap, ◌∙◌}
-use Rattle.enumset_repr.specs.Laws.Common.{number, low_within, number_words}
+use Rattle.enumset_repr.specs.Laws.Widths.{low_within}
+use Rattle.enumset_repr.specs.Laws.WordLists.{number_words}
+use Rattle.enumset_repr.specs.Number.{number}
 use Rattle.enumset_repr.proofs.repr.EnumSetTypeRepr.try_to_u128.Goals as goal
 
 pub returns-clause-value : goal.returns-clause-value

@@ -6,4 +6,4 @@ returns-clause-valid g c =
     rw (c.enum_into_u32.ensures, ← g.met.T.EnumSetType.lawful.valid) (g.met.T.EnumSetType.lawful.bit_is_valid c.args.t)
 
 pub returns-clause-within : goal.returns-clause-within
-returns-clause-within g c = member_below _ _ _ c.valid_repr-all.ensures.within (returns-clause-valid g c)
+returns-clause-within g c = member_below _ _ _ c.learn_valid_bits.ensures.within (returns-clause-valid g c)

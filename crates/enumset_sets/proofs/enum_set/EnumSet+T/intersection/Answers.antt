@@ -1,5 +1,6 @@
 use Rattle.std.proofs.Common.{◌∙◌}
-use Rattle.enumset_repr.specs.Laws.Common.{intersection, intersection_is_subset}
+use Rattle.enumset_repr.specs.BitSet.{intersection}
+use Rattle.enumset_repr.specs.Laws.Members.{intersection_is_subset}
 use Rattle.enumset_sets.proofs.enum_set.EnumSet+T.intersection.Goals as goal
 
 pub of_repr-requires : goal.of_repr-requires

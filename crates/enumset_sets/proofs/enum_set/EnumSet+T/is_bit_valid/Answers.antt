@@ -1,7 +1,7 @@
 use Rattle.std.proofs.Common.{sym, ◌∙◌, arith, le-ltb}
-use Rattle.enumset_repr.specs.Laws.Common.{contains_past}
-use Rattle.enumset_sets.specs.Laws.Elements.{is_valid_bit}
+use Rattle.enumset_repr.specs.Laws.Members.{contains_past}
 use Rattle.enumset_sets.proofs.enum_set.EnumSet+T.is_bit_valid.Goals as goal
+use Rattle.enumset_sets.specs.Laws.Elements.{is_valid_bit}
 
 pub returns-else-bit-WIDTH-clause-valid : goal.returns-else-bit-WIDTH-clause-valid
 returns-else-bit-WIDTH-clause-valid g c =

@@ -1,6 +1,7 @@
 use Rattle.std.proofs.Common.{ap, length, arith, sym}
-use Rattle.enumset_repr.specs.Laws.Common.{is_subset_trans, len_ascending, len_below}
 use Rattle.std.proofs.iter.runs.Sources.{from_front}
+use Rattle.enumset_repr.specs.Laws.Algebra.{is_subset_trans}
+use Rattle.enumset_repr.specs.Laws.Ascending.{len_ascending, len_below}
 use Rattle.enumset_sets.proofs.enum_set.EnumSet+T.iter.Goals as goal
 
 pub returns-clause-runs : goal.returns-clause-runs
@@ -8,5 +9,5 @@ returns-clause-runs g c = from_front _ g.T.EnumSetType.elements.bit (λ i. i.ite
 
 pub returns-clause-fits : goal.returns-clause-fits
 returns-clause-fits g c =
-    let count = len_below _ _ (is_subset_trans _ _ _ c.self.invariant.valid_only c.valid_repr-all.ensures.within) in
-    omega (arith, ap length c.over.ensures.items, sym (len_ascending (g.T.Repr.EnumSetTypeRepr.members c.self.inside.repr)), count, c.WIDTH-width.ensures, c.WIDTH-width.type_inv)
+    let count = len_below _ _ (is_subset_trans _ _ _ c.self.invariant.valid_only c.learn_members.ensures.within) in
+    omega (arith, ap length c.over.ensures.items, sym (len_ascending (g.T.Repr.EnumSetTypeRepr.members c.self.inside.repr)), count, c.learn_members.ensures.width)

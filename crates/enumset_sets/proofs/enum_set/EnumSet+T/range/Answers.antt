@@ -1,5 +1,13 @@
 use Rattle.std.proofs.Common.{◌≡◌, ◌<◌, ◌≤◌, ℕ, ◌+◌, ◌-◌, ◌*◌, ◌/◌, ◌^◌, ◌&&◌, Bool, true, ap, ◌∙◌, arith, nat_le, nat_lt, w64, bit_and}
-use Rattle.enumset_repr.specs.Laws.Common.{bit_not, nat_tests, and_le_l, BitSet, contains, empty, retain, difference, is_subset, below, bits, word, with_word, members, same_set, member_below, contains_is_subset, bits_and, bits_and_not, contains_bits_word, contains_with_word}
+use Rattle.std.proofs.lemmas.Bool.Decides.{nat_tests}
+use Rattle.std.proofs.lemmas.Nat.{and_le_l}
+use Rattle.std.specs.Int.{bit_not}
+use Rattle.enumset_repr.specs.BitSet.{BitSet, contains, empty, retain, difference, is_subset, below}
+use Rattle.enumset_repr.specs.Laws.Members.{members, same_set, member_below, contains_is_subset}
+use Rattle.enumset_repr.specs.Laws.Numbers.{bits_and, bits_and_not}
+use Rattle.enumset_repr.specs.Laws.Words.{contains_bits_word, contains_with_word}
+use Rattle.enumset_repr.specs.Number.{bits}
+use Rattle.enumset_repr.specs.Words.{word, with_word}
 use Rattle.enumset_sets.proofs.enum_set.EnumSet+T.range.Goals as goal
 
 module _ (s : BitSet) (first last : ℕ) where

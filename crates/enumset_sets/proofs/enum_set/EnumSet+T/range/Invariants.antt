@@ -1,5 +1,5 @@
 use Rattle.std.proofs.Common.{◌≡◌, ◌*◌, ◌&&◌, nat_le, nat_lt}
-use Rattle.enumset_repr.specs.Laws.Common.{retain}
+use Rattle.enumset_repr.specs.BitSet.{retain}
 use Rattle.enumset_sets.proofs.enum_set.EnumSet+T.range.Given as goal
 
 -- the members in the words so far

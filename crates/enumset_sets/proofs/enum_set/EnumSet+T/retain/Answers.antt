@@ -1,4 +1,4 @@
-use Rattle.enumset_sets.proofs.Retained.{left, kept_by_test, kept_unchanged}
+use Rattle.enumset_sets.proofs.Retain.{left, kept_by_test, kept_unchanged}
 use Rattle.enumset_sets.proofs.enum_set.EnumSet+T.retain.Goals as goal
 
 pub returns-clause-left : goal.returns-clause-left

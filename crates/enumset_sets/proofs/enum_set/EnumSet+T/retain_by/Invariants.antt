@@ -1,6 +1,6 @@
 use Rattle.std.specs.List.{FoldsTo}
-use Rattle.enumset_sets.specs.Retained.{Keeps}
 use Rattle.enumset_sets.proofs.enum_set.EnumSet+T.retain_by.Given as goal
+use Rattle.enumset_sets.specs.Retain.{Keeps}
 
 -- the calls so far
 abbrev pub invariant-loop-element : goal.invariant-loop-element

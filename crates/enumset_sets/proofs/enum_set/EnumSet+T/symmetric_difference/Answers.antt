@@ -1,5 +1,6 @@
 use Rattle.std.proofs.Common.{◌∙◌}
-use Rattle.enumset_repr.specs.Laws.Common.{symmetric_difference, symmetric_difference_is_subset}
+use Rattle.enumset_repr.specs.BitSet.{symmetric_difference}
+use Rattle.enumset_repr.specs.Laws.Members.{symmetric_difference_is_subset}
 use Rattle.enumset_sets.proofs.enum_set.EnumSet+T.symmetric_difference.Goals as goal
 
 pub of_repr-requires : goal.of_repr-requires

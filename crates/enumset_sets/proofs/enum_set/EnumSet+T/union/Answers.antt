@@ -1,5 +1,6 @@
 use Rattle.std.proofs.Common.{◌∙◌}
-use Rattle.enumset_repr.specs.Laws.Common.{union, union_is_subset}
+use Rattle.enumset_repr.specs.BitSet.{union}
+use Rattle.enumset_repr.specs.Laws.Members.{union_is_subset}
 use Rattle.enumset_sets.proofs.enum_set.EnumSet+T.union.Goals as goal
 
 pub of_repr-requires : goal.of_repr-requires

@@ -1,8 +1,10 @@
 use Rattle.std.proofs.Common.{ap, ◌∙◌, arith}
-use Rattle.enumset_repr.specs.Laws.Common.{length_push, nat_tests, YieldsList-end}
+use Rattle.std.proofs.lemmas.Bool.Decides.{nat_tests}
+use Rattle.std.proofs.lemmas.Iterator.Consumers.{YieldsList-end}
+use Rattle.std.proofs.lemmas.List.{length_push}
+use Rattle.enumset_sets.proofs.text.EnumSetDisplay.fmt.Goals as goal
 use Rattle.enumset_sets.specs.Laws.Iterators.{of_bits}
 use Rattle.enumset_sets.specs.Laws.Texts.{writes_one_more, writes_at, text_at-tells}
-use Rattle.enumset_sets.proofs.text.EnumSetDisplay.fmt.Goals as goal
 
 pub loop-element-preserved : goal.loop-element-preserved
 loop-element-preserved g c =

@@ -5,7 +5,7 @@ use Rattle.example_permissions.specs.Reading.{right_names}
 use Rattle.example_permissions.specs.Texts.{joined}
 use Rattle.example_permissions.proofs.decision.DecisionDisplay.fmt.Given as goal
 
--- what was written, before the names of the rights to come, is the whole text
+-- what was written, and then the names of the remaining rights, is the whole text
 abbrev pub invariant-loop-right : goal.invariant-loop-right
 invariant-loop-right g l =
     (text : List ℕ)

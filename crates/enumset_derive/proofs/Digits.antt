@@ -1,0 +1,16 @@
+-- The numbers of digits, one more at a time.
+use Rattle.std.proofs.Common.{◌≡◌, ◌<◌, ◌+◌, ◌*◌, ◌^◌, ℕ, List, [], ◌∷◌, ◌++◌, length, take, get_or, refl, ap, sym, ◌∙◌}
+use Rattle.std.proofs.lemmas.List.{take_more}
+use Rattle.std.proofs.lemmas.Nat.{pow-add}
+use Rattle.enumset_derive.specs.Literals.{with_digit, digits_after, number_in}
+
+appended : (r n : ℕ) (bytes : List ℕ) (byte : ℕ) → digits_after r n (bytes ++ byte ∷ []) ≡ with_digit r (digits_after r n bytes) byte
+appended r n [] byte = refl
+appended r n (b ∷ bytes) byte = appended r (with_digit r n b) bytes byte
+
+pub one_more : (r : ℕ) (bytes : List ℕ) (i d : ℕ) → i < length bytes → number_in r (take (i + 1) bytes) ≡ with_digit r (number_in r (take i bytes)) (get_or bytes i d)
+one_more r bytes i d within = ap (digits_after r 0) (take_more bytes i d within) ∙ appended r 0 (take i bytes) (get_or bytes i d)
+
+-- a power of two with one digit more, which is zero
+pub shifted_power : (n r e k : ℕ) → n ≡ 2 ^ e → r ≡ 2 ^ k → n * r ≡ 2 ^ (e + k)
+shifted_power n r e k at base = rw (at, base) (sym (pow-add 2 e k))

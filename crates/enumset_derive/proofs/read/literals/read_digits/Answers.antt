@@ -1,0 +1,9 @@
+use Rattle.std.proofs.Common.{rules, sym, subst}
+use Rattle.enumset_derive.specs.Literals.{radix, IsReadOf}
+use Rattle.enumset_derive.proofs.Digits.{one_more}
+use Rattle.enumset_derive.proofs.read.literals.read_digits.Goals as goal
+
+pub loop-i-preserved : goal.loop-i-preserved
+loop-i-preserved c = record {
+  read = subst (λ n. IsReadOf n c.in_ok-read.read) (sym (one_more (radix c.args.base) c.args.digits.now c.loop-i.i 0 (search rules))) (c.in_ok-read.ensures _ c.loop-i.invariant.read);
+}

@@ -1,1 +1,0 @@
-#[derive(EnumSetType) x] enum A {}

@@ -1,2 +1,0 @@
-struct ArrayRepr;
-#[derive(EnumSetType)] enum E { A = 200 }

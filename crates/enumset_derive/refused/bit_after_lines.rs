@@ -1,4 +1,0 @@
-#[derive(EnumSetType)]
-enum E { A = 1,
-
-    B = 1 }

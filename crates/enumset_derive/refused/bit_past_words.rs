@@ -1,1 +1,0 @@
-#[derive(EnumSetType)] enum E { A = 65536 }

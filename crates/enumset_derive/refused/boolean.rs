@@ -1,5 +1,0 @@
-#[derive(EnumSetType)]
-#[enumset(no_ops = "yes")]
-pub enum E {
-    A,
-}

@@ -1,5 +1,0 @@
-#[derive(EnumSetType)]
-#[cfg_attr(feature = "small", enumset[repr = "u8"])]
-enum Color {
-    Red,
-}

@@ -1,1 +1,0 @@
-#[enumset(repr = b"u8")] #[derive(EnumSetType)] enum E { A }

@@ -1,4 +1,0 @@
-#[derive(EnumSetType)]
-enum Byte {
-    First = 300 as u8 as isize,
-}

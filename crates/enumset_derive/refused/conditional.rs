@@ -1,4 +1,0 @@
-#[cfg_attr(feature = "sets", derive(EnumSetType))]
-pub enum E {
-    A,
-}

@@ -1,5 +1,0 @@
-#[derive(EnumSetType)]
-#[enumset(crate_name = "ensures")]
-enum Color {
-    Red,
-}

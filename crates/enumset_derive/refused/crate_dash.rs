@@ -1,5 +1,0 @@
-#[derive(EnumSetType)]
-#[enumset(crate_name = "my-enumset")]
-enum Color {
-    Red,
-}

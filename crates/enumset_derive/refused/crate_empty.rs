@@ -1,5 +1,0 @@
-#[derive(EnumSetType)]
-#[enumset(crate_name = "")]
-enum Color {
-    Red,
-}

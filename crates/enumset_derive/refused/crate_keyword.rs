@@ -1,5 +1,0 @@
-#[derive(EnumSetType)]
-#[enumset(crate_name = "fn")]
-enum Color {
-    Red,
-}

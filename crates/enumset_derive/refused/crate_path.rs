@@ -1,5 +1,0 @@
-#[derive(EnumSetType)]
-#[enumset(crate_name = "sets::enumset")]
-enum Color {
-    Red,
-}

@@ -1,5 +1,0 @@
-#[derive(EnumSetType)]
-#[enumset(no_ops, crate_name = "_")]
-enum Color {
-    Red,
-}

@@ -1,5 +1,0 @@
-#[derive(EnumSetType, Debug)]
-#[derive(Debug)]
-enum Color {
-    Red,
-}

@@ -1,7 +1,0 @@
-use enumset::EnumSetType;
-
-#[derive(EnumSetType)]
-enum Step {
-    reading,
-    deriving,
-}

@@ -1,4 +1,0 @@
-#[derive(EnumSetType)]
-enum Half {
-    First = 1 + 8 / 2,
-}

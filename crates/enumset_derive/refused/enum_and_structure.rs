@@ -1,6 +1,0 @@
-pub struct Color(u8);
-
-#[derive(EnumSetType)]
-enum Color {
-    Red,
-}

@@ -1,6 +1,0 @@
-pub use enumset::*;
-
-#[derive(EnumSetType)]
-pub enum E {
-    A,
-}

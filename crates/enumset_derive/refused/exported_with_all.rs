@@ -1,1 +1,0 @@
-pub use enumset::{EnumSet, *};

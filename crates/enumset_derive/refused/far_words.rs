@@ -1,5 +1,0 @@
-#[derive(EnumSetType)]
-#[enumset(repr = "array")]
-pub enum E {
-    A = 0xFFFFFFBF,
-}

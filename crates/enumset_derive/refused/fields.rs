@@ -1,4 +1,0 @@
-#[derive(EnumSetType)]
-pub enum E {
-    A(u8),
-}

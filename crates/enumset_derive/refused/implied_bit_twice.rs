@@ -1,5 +1,0 @@
-#[derive(EnumSetType)] enum E {
-    V2 = 1,
-    V3 = 0,
-    V4,
-}

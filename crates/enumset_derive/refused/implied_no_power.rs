@@ -1,3 +1,0 @@
-#[enumset(map = "mask")] #[derive(EnumSetType)] enum E {
-    V2,
-}

@@ -1,5 +1,0 @@
-#[derive(EnumSetType)]
-enum Color {
-    #![allow(dead_code)]
-    Red,
-}

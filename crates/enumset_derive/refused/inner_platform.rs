@@ -1,9 +1,0 @@
-#[derive(EnumSetType)]
-enum System {
-    Windows,
-}
-
-mod here {
-    #![allow(dead_code)]
-    #![cfg(windows)]
-}

@@ -1,1 +1,0 @@
-mod m { struct S; #[derive(EnumSetType)] enum Q { A } }

@@ -1,5 +1,0 @@
-#!/usr/bin/env run-cargo-script
-#[derive(EnumSetType)]
-enum Color {
-    Red,
-}

@@ -1,9 +1,0 @@
-use enumset::EnumSetType;
-
-#[cfg(feature = "std")]
-use std::io;
-
-#[derive(EnumSetType)]
-pub enum E {
-    A,
-}

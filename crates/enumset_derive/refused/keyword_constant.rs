@@ -1,6 +1,0 @@
-#[derive(EnumSetType)]
-enum Color {
-    Red,
-}
-
-pub const requires: u8 = 1;

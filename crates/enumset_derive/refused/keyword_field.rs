@@ -1,4 +1,0 @@
-struct Spirit {
-    name: u8,
-    pub ghost: bool,
-}

@@ -1,8 +1,0 @@
-#[derive(EnumSetType)]
-enum Color {
-    Red,
-}
-
-fn ghost() -> Color {
-    Color::Red
-}

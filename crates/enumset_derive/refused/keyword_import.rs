@@ -1,1 +1,0 @@
-use crate::{orders::requires as needs, rights};

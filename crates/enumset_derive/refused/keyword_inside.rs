@@ -1,5 +1,0 @@
-mod orders {
-    pub struct ensures {
-        pub length: usize,
-    }
-}

@@ -1,9 +1,0 @@
-struct Order {
-    length: usize,
-}
-
-impl Order {
-    fn requires(&self) -> usize {
-        self.length
-    }
-}

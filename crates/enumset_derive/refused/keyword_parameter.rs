@@ -1,3 +1,0 @@
-fn twice(ghost: u8) -> u8 {
-    ghost * 2
-}

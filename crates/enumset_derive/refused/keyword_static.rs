@@ -1,1 +1,0 @@
-static ghost: u8 = 1;

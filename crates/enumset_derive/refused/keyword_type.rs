@@ -1,1 +1,0 @@
-pub type ensures = u8;

@@ -1,5 +1,0 @@
-#[derive(EnumSetType)]
-enum Clause {
-    Given,
-    ensures,
-}

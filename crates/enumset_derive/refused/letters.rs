@@ -1,4 +1,0 @@
-#[derive(EnumSetType)]
-pub enum Größe {
-    Klein,
-}

@@ -1,1 +1,0 @@
-#[enumset(repr = "list")] #[derive(EnumSetType)] enum E {}

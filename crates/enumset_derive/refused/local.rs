@@ -1,6 +1,0 @@
-fn f() {
-    #[derive(enumset::EnumSetType)]
-    enum Local {
-        A,
-    }
-}

@@ -1,1 +1,0 @@
-#[enumset(map = "mask")] #[derive(EnumSetType)] enum E { A = 0x18000000000000000000000000000000000 }

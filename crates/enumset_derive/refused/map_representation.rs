@@ -1,1 +1,0 @@
-#[enumset(repr = "map")] #[derive(EnumSetType)] enum E {}

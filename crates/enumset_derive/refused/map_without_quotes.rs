@@ -1,1 +1,0 @@
-#[enumset(map = lsb)] #[derive(EnumSetType)] enum E {}

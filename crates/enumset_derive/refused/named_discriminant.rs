@@ -1,6 +1,0 @@
-const BASE: isize = 4;
-
-#[derive(EnumSetType)]
-enum Channel {
-    First = BASE + 1,
-}

@@ -1,4 +1,0 @@
-#[derive(EnumSetType)]
-enum Color {
-    Red, 
-}

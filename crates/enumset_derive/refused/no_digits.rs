@@ -1,1 +1,0 @@
-#[derive(EnumSetType)] enum A { B = 0x }

@@ -1,5 +1,0 @@
-#[derive(EnumSetType)]
-#[enumset(map = "msb")]
-pub enum E {
-    A,
-}

@@ -1,1 +1,0 @@
-#[enumset(map)] #[derive(EnumSetType)] enum A {}

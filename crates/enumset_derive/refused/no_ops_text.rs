@@ -1,1 +1,0 @@
-#[enumset(no_ops = "x")] #[derive(EnumSetType)] enum A {}

@@ -1,1 +1,0 @@
-#[enumset] #[derive(EnumSetType)] enum A {}

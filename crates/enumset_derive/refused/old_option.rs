@@ -1,2 +1,0 @@
-#[enumset(serialize_as_list)]
-#[derive(EnumSetType)] enum E {}

@@ -1,4 +1,0 @@
-#[derive(EnumSetType)]
-crate enum Color {
-    Red,
-}

@@ -1,3 +1,0 @@
-use log as _;
-use enumset::{self, EnumSet};
-use std:fmt;

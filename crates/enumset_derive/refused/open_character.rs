@@ -1,1 +1,0 @@
-/* é */ const A: char = '

@@ -1,4 +1,0 @@
-#[derive(EnumSetType)]
-#[enumset(no_ops,
-
-    no_ops)] enum E { A }

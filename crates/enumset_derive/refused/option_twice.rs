@@ -1,2 +1,0 @@
-#[enumset(no_ops,
-no_ops)] #[derive(EnumSetType)] enum A {}

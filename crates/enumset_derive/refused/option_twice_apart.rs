@@ -1,2 +1,0 @@
-#[enumset(no_ops)]
-#[enumset(no_ops)] #[derive(EnumSetType)] enum A {}

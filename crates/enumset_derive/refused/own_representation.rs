@@ -1,2 +1,0 @@
-#[enumset(repr = "Low7")]
-#[derive(EnumSetType)] enum E {}

@@ -1,7 +1,0 @@
-#[cfg(test)]
-mod tests {
-    #[derive(EnumSetType)]
-    enum Color {
-        Red,
-    }
-}

@@ -1,3 +1,0 @@
-#[derive(EnumSetType)] enum E {
-    V2 = 4294967232,
-}

@@ -1,4 +1,0 @@
-#[cfg_attr(feature = "sets", derive(Debug, ::enumset::EnumSetType))]
-pub enum Color {
-    Red,
-}

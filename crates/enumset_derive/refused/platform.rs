@@ -1,5 +1,0 @@
-#[cfg(unix)]
-#[derive(EnumSetType)]
-pub enum Signal {
-    Hangup,
-}

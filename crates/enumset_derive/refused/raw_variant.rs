@@ -1,5 +1,0 @@
-#[derive(EnumSetType)]
-pub enum Keyword {
-    If,
-    r#Else,
-}

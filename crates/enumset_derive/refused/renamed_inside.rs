@@ -1,8 +1,0 @@
-use enumset::EnumSetType as Element;
-
-mod colors {
-    #[derive(super::Element)]
-    pub enum Color {
-        Red,
-    }
-}

@@ -1,7 +1,0 @@
-#[derive(EnumSetType, Serialize)]
-#[serde(rename_all = "lowercase")]
-#[enumset(serialize_repr = "list")]
-pub enum E {
-    AB,
-    Ab,
-}

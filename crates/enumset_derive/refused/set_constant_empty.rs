@@ -1,9 +1,0 @@
-use enumset::{EnumSet, EnumSetType};
-
-#[derive(EnumSetType)]
-enum Color {
-    Red,
-    Blue,
-}
-
-const NONE: EnumSet<Color> = EnumSet::EMPTY;

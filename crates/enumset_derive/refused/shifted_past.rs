@@ -1,4 +1,0 @@
-#[derive(EnumSetType)]
-enum Flag {
-    Last = 1 << 63,
-}

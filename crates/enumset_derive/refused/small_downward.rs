@@ -1,3 +1,0 @@
-#[enumset(map = "msb", repr = "u32")]
-#[derive(EnumSetType)]
-enum E { A = 40 }

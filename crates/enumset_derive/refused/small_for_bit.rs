@@ -1,3 +1,0 @@
-#[enumset(repr = "u8")]
-#[derive(EnumSetType)]
-enum E { A = 9 }

@@ -1,3 +1,0 @@
-#[enumset(serialize_repr = "u64")]
-#[derive(EnumSetType)]
-enum E { A = 70 }

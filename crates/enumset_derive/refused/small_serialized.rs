@@ -1,4 +1,0 @@
-#[enumset(serialize_repr = "u8")] #[derive(EnumSetType)] enum E {
-    V2 = 7,
-    V3 = 8,
-}

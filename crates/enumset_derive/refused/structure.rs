@@ -1,4 +1,0 @@
-#[derive(EnumSetType, Debug)]
-pub struct Flags {
-    bits: u8,
-}

@@ -1,2 +1,0 @@
-#[derive(Clone, Copy, core::clone::Clone)]
-struct Pair(u8, u8);

@@ -1,2 +1,0 @@
-#[derive(+)]
-struct S;

@@ -1,6 +1,0 @@
-use enumset::EnumSetType;
-
-#[derive(EnumSetType)]
-pub enum EnumSet {
-    A,
-}

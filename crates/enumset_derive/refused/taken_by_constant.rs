@@ -1,2 +1,0 @@
-const EnumSet: u8 = 1;
-#[derive(EnumSetType)] enum E { A }

@@ -1,2 +1,0 @@
-enum EnumSet {}
-#[derive(EnumSetType)] enum E { A }

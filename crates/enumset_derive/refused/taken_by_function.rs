@@ -1,2 +1,0 @@
-fn EnumSet() {}
-#[derive(EnumSetType)] enum E { A }

@@ -1,2 +1,0 @@
-use std::EnumSet;
-#[derive(EnumSetType)] enum E { A }

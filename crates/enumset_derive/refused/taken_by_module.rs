@@ -1,2 +1,0 @@
-mod EnumSet {}
-#[derive(EnumSetType)] enum E { A }

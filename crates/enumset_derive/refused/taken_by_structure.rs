@@ -1,2 +1,0 @@
-struct EnumSet {}
-#[derive(EnumSetType)] enum E { A }

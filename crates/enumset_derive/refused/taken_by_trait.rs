@@ -1,2 +1,0 @@
-trait EnumSet {}
-#[derive(EnumSetType)] enum E { A }

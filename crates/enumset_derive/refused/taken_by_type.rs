@@ -1,2 +1,0 @@
-type EnumSet = u8;
-#[derive(EnumSetType)] enum E { A }

@@ -1,2 +1,0 @@
-union EnumSet { byte: u8 }
-#[derive(EnumSetType)] enum E { A }

@@ -1,9 +1,0 @@
-#[derive(EnumSetType)]
-enum Color {
-    Red,
-}
-
-#[derive(EnumSetType)]
-enum Color {
-    Blue,
-}

@@ -1,4 +1,0 @@
-#[derive(EnumSetType)]
-enum Channel {
-    Last = u8::MAX as isize,
-}

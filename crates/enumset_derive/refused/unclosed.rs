@@ -1,3 +1,0 @@
-#[derive(EnumSetType)]
-pub enum E {
-    A,

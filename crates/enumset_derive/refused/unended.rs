@@ -1,6 +1,0 @@
-use std::fmt
-
-#[derive(EnumSetType)]
-pub enum E {
-    A,
-}

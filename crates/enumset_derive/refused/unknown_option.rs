@@ -1,5 +1,0 @@
-#[derive(EnumSetType)]
-#[enumset(serialise_repr = "u8")]
-pub enum E {
-    A,
-}

@@ -1,5 +1,0 @@
-#[derive(EnumSetType)]
-pub enum Note {
-    A,
-    Ä,
-}

@@ -1,6 +1,0 @@
-#[derive(EnumSetType)]
-pub enum Signal {
-    Interrupt,
-    #[cfg(unix)]
-    Hangup,
-}

@@ -1,5 +1,0 @@
-#[derive(EnumSetType)] enum E {
-    V2,
-    V3,
-    V2,
-}

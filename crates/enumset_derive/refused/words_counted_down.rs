@@ -1,1 +1,0 @@
-#[enumset(map = "msb", repr = "array")] #[derive(EnumSetType)] enum E { A }

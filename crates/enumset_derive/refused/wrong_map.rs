@@ -1,1 +1,0 @@
-#[enumset(map = "x")] #[derive(EnumSetType)] enum A {}

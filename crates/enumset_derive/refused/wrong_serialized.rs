@@ -1,1 +1,0 @@
-#[enumset(serialize_repr = "u7")] #[derive(EnumSetType)] enum E {}

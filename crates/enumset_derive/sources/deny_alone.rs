@@ -1,5 +1,0 @@
-#[derive(EnumSetType)]
-#[enumset(serialize_deny_unknown)]
-pub enum E {
-    A,
-}

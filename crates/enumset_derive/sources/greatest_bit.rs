@@ -1,5 +1,0 @@
-#[derive(EnumSetType)]
-#[enumset(no_ops)]
-enum E {
-    A = 65535,
-}

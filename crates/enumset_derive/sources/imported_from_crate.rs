@@ -1,6 +1,0 @@
-use crate::{EnumSet, EnumSetType, EnumSetTypeWithRepr};
-
-#[derive(EnumSetType)]
-enum E {
-    A,
-}

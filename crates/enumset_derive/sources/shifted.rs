@@ -1,5 +1,0 @@
-#[derive(EnumSetType)]
-#[enumset(map = "mask")]
-pub enum E {
-    A = 1 << 0,
-}

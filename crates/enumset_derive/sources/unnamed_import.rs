@@ -1,2 +1,0 @@
-use log as _;
-use enumset::{self, EnumSet};

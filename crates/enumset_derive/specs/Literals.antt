@@ -1,0 +1,49 @@
+-- The numbers of literals.
+--     radix      that of a base
+--     with_digit      a number with one byte more, which is a digit or `_`
+--     digits_after, number_in      further digits after a number;  the number that digits are
+--     number_written      the number of a literal without a type, whose base is that of its prefix
+--     value_of      the number that a discriminant is
+--     IsReadOf      what is known of a number is right
+use Rattle.std.specs.Prelude.{◌≡◌, ℕ, ◌+◌, ◌*◌, ◌^◌, ◌==◌, ◌&&◌, ℤ, pos, neg_ℤ, List, [], ◌∷◌, IfSome, if◌then◌else◌}
+use Rattle.std.specs.Char.{digit_value}
+use Rattle.enumset_derive.specs.declared.plan.declaration.Number.{Number}
+use Rattle.enumset_derive.specs.declared.plan.declaration.Number.TheVariants.{Small, PowerOfTwo, Negative}
+use Rattle.enumset_derive.specs.declared.read.literals.Base.{Base}
+use Rattle.enumset_derive.specs.declared.read.literals.Base.TheVariants.{Binary, Octal, Decimal, Hexadecimal}
+use Rattle.enumset_derive.specs.declared.read.literals.Digits.{Digits}
+
+abbrev pub radix : Base → ℕ
+radix Binary = 2
+radix Octal = 8
+radix Decimal = 10
+radix Hexadecimal = 16
+
+-- 95 is `_`
+abbrev pub with_digit : ℕ → ℕ → ℕ → ℕ
+with_digit r n byte = if byte == 95 then n else n * r + digit_value byte
+
+abbrev pub digits_after : ℕ → ℕ → List ℕ → ℕ
+digits_after r n [] = n
+digits_after r n (byte ∷ bytes) = digits_after r (with_digit r n byte) bytes
+
+abbrev pub number_in : ℕ → List ℕ → ℕ
+number_in r bytes = digits_after r 0 bytes
+
+-- 48 is `0`, 120 is `x`, 111 is `o` and 98 is `b`
+abbrev pub number_written : List ℕ → ℕ
+number_written [] = 0
+number_written (a ∷ []) = number_in 10 (a ∷ [])
+number_written (a ∷ b ∷ bytes) =
+    if (a == 48) && (b == 120) then number_in 16 bytes
+    else if (a == 48) && (b == 111) then number_in 8 bytes
+    else if (a == 48) && (b == 98) then number_in 2 bytes
+    else number_in 10 (a ∷ b ∷ bytes)
+
+abbrev pub value_of : Number → ℤ
+value_of (Small n) = pos n
+value_of (PowerOfTwo e) = pos (2 ^ e)
+value_of (Negative n) = neg_ℤ (pos n)
+
+abbrev pub IsReadOf : ℕ → Digits → Type 0
+IsReadOf n read = IfSome read.number (λ m. m ≡ n) × IfSome read.exponent (λ e. n ≡ 2 ^ e)

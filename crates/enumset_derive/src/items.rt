@@ -1,0 +1,232 @@
+//! The items of a source, by brackets and semicolons alone, and the attributes before them.
+
+use crate::fault::Outcome;
+use crate::tokens::{Kind, Token};
+use std::alloc::{AllocError, Global};
+
+/// What comes after `const` where this is no constant.
+const QUALIFIED: [&str; 5] = ["fn", "trait", "unsafe", "async", "extern"];
+
+/// An item.
+#[derive(Clone, Copy)]
+pub struct Item<'a, 'b> {
+    /// Its attributes and doc comments, and the comments among them.
+    pub attributes: &'b [Token<'a>],
+    /// From its visibility or keyword on, up to its `;` or `}`.
+    pub tokens: &'b [Token<'a>],
+}
+
+impl<'a, 'b> Item<'a, 'b> {
+    /// Where it begins, if it is not empty.
+    pub fn first(&self) -> Option<&'b Token<'a>> {
+        self.attributes.first().or(self.tokens.first())
+    }
+
+    /// The visibility that it begins with, as `pub` or `pub(crate)`, or nothing.
+    pub fn visibility(&self) -> &'b [Token<'a>] {
+        self.tokens
+            .get(..visibility_length(self.tokens))
+            .unwrap_or(&[])
+    }
+
+    /// What comes after its visibility, from its keyword on.
+    pub fn words(&self) -> &'b [Token<'a>] {
+        skip(self.tokens, visibility_length(self.tokens))
+    }
+
+    /// Whether this is its keyword.
+    pub fn is(&self, keyword: &str) -> bool {
+        self.words().first().is_some_and(|first| first.is(keyword))
+    }
+}
+
+/// The items of a source, one after another.
+#[derive(Clone, Copy)]
+pub struct Items<'a, 'b> {
+    rest: &'b [Token<'a>],
+}
+
+impl<'a, 'b> Items<'a, 'b> {
+    pub fn of(tokens: &'b [Token<'a>]) -> Items<'a, 'b> {
+        Items { rest: tokens }
+    }
+
+    /// Goes on to the next item, if there is one. Comments between items are left out.
+    pub fn next(&mut self) -> Option<Item<'a, 'b>> {
+        let is_code = |token: &Token| !matches!(token.kind, Kind::Comment);
+        let begin = self.rest.iter().position(is_code)?;
+        let tokens = skip(self.rest, begin);
+        if tokens
+            .first()
+            .is_some_and(|first| matches!(first.kind, Kind::End))
+        {
+            return None;
+        }
+        let inner = inner_length(tokens);
+        let head = if inner > 0 { 0 } else { head_length(tokens) };
+        let attributes = tokens.get(..head).unwrap_or(&[]);
+        let body = skip(tokens, head);
+        let count = if inner > 0 { inner } else { item_length(body) };
+        self.rest = skip(body, count);
+        let tokens = body.get(..count).unwrap_or(body);
+        Some(Item { attributes, tokens })
+    }
+}
+
+/// The tokens after so many.
+fn skip<'a, 'b>(tokens: &'b [Token<'a>], count: usize) -> &'b [Token<'a>] {
+    let (_, rest) = tokens.split_at(count.min(tokens.len()));
+    rest
+}
+
+/// How many tokens there are up to the end of a bracket, if so many are before what comes after its beginning.
+fn bracket_length(before: usize, open: &Token, rest: &[Token]) -> usize {
+    let inside = rest.iter().take_while(|token| token.depth >= open.depth);
+    inside.count().saturating_add(before).saturating_add(1)
+}
+
+/// How many tokens the visibility has that tokens begin with.
+fn visibility_length(tokens: &[Token]) -> usize {
+    match tokens {
+        [public, open, rest @ ..] if public.is("pub") && open.is("(") => {
+            bracket_length(2, open, rest)
+        }
+        [public, ..] if public.is("pub") => 1,
+        _ => 0,
+    }
+}
+
+/// How many tokens the attribute or the comment has that tokens begin with.
+fn attribute_length(tokens: &[Token]) -> usize {
+    match tokens {
+        [comment, ..] if matches!(comment.kind, Kind::Comment | Kind::OuterDoc) => 1,
+        [hash, open, rest @ ..] if hash.is("#") && open.is("[") => bracket_length(2, open, rest),
+        _ => 0,
+    }
+}
+
+/// How many tokens the attribute or the comment has that tokens begin with, if it is of what it stands in.
+fn inner_length(tokens: &[Token]) -> usize {
+    match tokens {
+        [comment, ..] if matches!(comment.kind, Kind::InnerDoc) => 1,
+        [hash, not, open, rest @ ..] if hash.is("#") && not.is("!") && open.is("[") => {
+            bracket_length(3, open, rest)
+        }
+        _ => 0,
+    }
+}
+
+/// How many tokens the attributes and comments have that tokens begin with.
+fn head_length(tokens: &[Token]) -> usize {
+    let mut length = 0usize;
+    for _ in 0..tokens.len() {
+        match attribute_length(skip(tokens, length)) {
+            0 => break,
+            more => length = length.saturating_add(more),
+        }
+    }
+    length
+}
+
+/// How many tokens an item has, with the `;` or `}` that ends it.
+fn item_length(tokens: &[Token]) -> usize {
+    let ends = match skip(tokens, visibility_length(tokens)) {
+        [keyword, next, ..] if keyword.is("const") && QUALIFIED.contains(&next.text) => ";}",
+        // The value or the type of these may have a `}` before the `;`.
+        [keyword, ..] if matches!(keyword.text, "const" | "static" | "type" | "use") => ";",
+        _ => ";}",
+    };
+    let is_in = |token: &&Token| {
+        !matches!(token.kind, Kind::End) && !(token.depth == 0 && token.is_punct(ends))
+    };
+    let inside = tokens.iter().take_while(is_in).count();
+    match skip(tokens, inside).first() {
+        Some(last) if !matches!(last.kind, Kind::End) => inside.saturating_add(1),
+        _ => inside.max(1),
+    }
+}
+
+/// An attribute, or a comment beside attributes.
+#[derive(Drop)]
+pub struct Attribute<'a, 'b> {
+    /// As it is written.
+    pub tokens: &'b [Token<'a>],
+    /// Without comments: the name, what comes after it, and the `]` at the end; nothing of a comment.
+    words: Vec<Token<'a>>,
+}
+
+impl<'a, 'b> Attribute<'a, 'b> {
+    /// The attributes and comments that tokens begin with, and what comes after them.
+    pub fn before(
+        alloc: Global,
+        tokens: &'b [Token<'a>],
+    ) -> Result<(Vec<Attribute<'a, 'b>>, &'b [Token<'a>]), AllocError> {
+        let mut attributes = Vec::new(alloc);
+        let mut rest = tokens;
+        for _ in 0..tokens.len() {
+            let length = attribute_length(rest);
+            if length == 0 {
+                break;
+            }
+            let tokens = rest.get(..length).unwrap_or(rest);
+            let is_word = |token: &&Token| !token.is_comment();
+            let words = tokens
+                .iter()
+                .filter(is_word)
+                .skip(2)
+                .copied()
+                .collect(alloc)?;
+            attributes.push(Attribute { tokens, words })?;
+            rest = skip(rest, length);
+        }
+        Ok((attributes, rest))
+    }
+
+    /// Whether it is an attribute of this name.
+    pub fn is(&self, name: &str) -> bool {
+        self.words.first().is_some_and(|first| first.is(name))
+    }
+
+    pub fn is_comment(&self) -> bool {
+        self.words.is_empty()
+    }
+
+    /// The name, what comes after it, and the `]` at the end; nothing of a comment.
+    pub fn words(&self) -> &[Token<'a>] {
+        self.words.as_slice()
+    }
+
+    /// Whether these tokens come after its name, and no others.
+    pub fn is_written(&self, tokens: &[&str]) -> bool {
+        let own = self.words.iter().skip(1).map(|word| word.text);
+        own.eq(tokens.iter().copied())
+    }
+
+    /// Whether this name stands in it before a bracket.
+    pub fn calls(&self, name: &str) -> bool {
+        let mut pairs = self.words.array_windows::<2>();
+        pairs.any(|[word, next]| word.is(name) && next.is_punct("([{"))
+    }
+
+    /// Its arguments, each with the punctuation at its end. It is a fault if it does not end after them.
+    pub fn arguments(&self, alloc: Global) -> Outcome<Vec<&[Token<'a>]>> {
+        let [_, open, rest @ ..] = self.words.as_slice() else {
+            return Ok(Vec::new(alloc));
+        };
+        if open.is("]") {
+            return Ok(Vec::new(alloc));
+        }
+        open.expect(open.is_punct("([{"), "`(`")?;
+        let length = bracket_length(0, open, rest);
+        if let Some(next) = rest.get(length) {
+            next.expect(next.is("]"), "`]`")?;
+        }
+        let is_comma = |word: &Token| word.is(",") && word.depth == open.depth;
+        let arguments = rest.get(..length).unwrap_or(rest).split_inclusive(is_comma);
+        let is_there = |argument: &&[Token]| match argument {
+            [end] => !end.is_punct(")]}"),
+            _ => true,
+        };
+        Ok(arguments.filter(is_there).collect(alloc)?)
+    }
+}

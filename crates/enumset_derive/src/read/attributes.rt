@@ -1,0 +1,35 @@
+//! Which attributes of an enum and its variants have a meaning in Rattle.
+
+use crate::fault::Fault;
+use crate::items::Attribute;
+use crate::tokens::Kind;
+
+const CONFIGURATION: &str =
+    "`cfg(test)` is the only configuration here: remove the attribute, or the enum too";
+
+const ON_VARIANT: &str =
+    "a variant has no configuration here: remove the attribute, or the variant too";
+
+const OPTIONS_ALONE: &str = "`cfg_attr` is not read here: write `#[enumset(..)]` itself";
+
+/// Whether an attribute is kept that is neither a derive, nor options, nor read by a derive. A comment is.
+pub(super) fn has_meaning(attribute: &Attribute, is_variant: bool) -> Result<bool, Fault> {
+    let [name, ..] = attribute.words() else {
+        return Ok(true);
+    };
+    Ok(match name.text {
+        "doc" => match attribute.words() {
+            [_, equal, text, _] if equal.is("=") => matches!(text.kind, Kind::Literal),
+            _ => attribute.is_written(&["(", "hidden", ")", "]"]),
+        },
+        "cfg" if is_variant => return Err(name.fault(ON_VARIANT)),
+        "cfg" if !attribute.is_written(&["(", "test", ")", "]"]) => {
+            return Err(name.fault(CONFIGURATION));
+        }
+        "cfg_attr" if attribute.calls("enumset") => return Err(name.fault(OPTIONS_ALONE)),
+        "cfg" | "deprecated" | "non_exhaustive" => true,
+        "allow" | "warn" | "deny" | "forbid" | "expect" | "clippy" | "tactic" => true,
+        "must_use" | "rattlefmt" | "cycle" | "derive_where" => !is_variant,
+        _ => false,
+    })
+}

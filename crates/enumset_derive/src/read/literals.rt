@@ -1,0 +1,153 @@
+//! The numbers of literals.
+
+ghost use Rattle.std.specs.Prelude.{◌≡◌, ◌*◌, ◌+◌, ◌^◌, ℕ, pos, IfOk, IfSome};
+ghost use Rattle.enumset_derive.specs.Literals.{radix, with_digit, number_in, number_written, value_of, IsReadOf};
+
+use crate::plan::Number;
+
+pub(super) const NOT_A_NUMBER: &str = "a discriminant is a literal: write the number itself";
+
+const TOO_LARGE: &str = "a literal past 2^128 - 1 must be a power of two, and not decimal";
+
+const TYPES: [&str; 12] = [
+    "u8", "u16", "u32", "u64", "u128", "usize", "i8", "i16", "i32", "i64", "i128", "isize",
+];
+
+/// The number of the digits of a literal that were read.
+#[derive(Clone, Copy)]
+struct Digits {
+    /// The number, if it is not past 128 bits.
+    number: Option<u128>,
+    /// The power of two that it is, if it is known to be one.
+    exponent: Option<u32>,
+}
+
+impl Digits {
+    const NONE: Digits = Digits {
+        number: Some(0),
+        exponent: None,
+    };
+
+    /// The number with one digit more, in this base.
+    fn next(self, base: Base, digit: u32) -> Digits
+        ensures { (n : ℕ) → IsReadOf n self → IsReadOf (n * radix base + digit) result }
+    {
+        Digits {
+            number: self.next_number(base, digit),
+            exponent: self.next_exponent(base, digit),
+        }
+    }
+
+    /// The number with one digit more, if it is not past 128 bits.
+    fn next_number(self, base: Base, digit: u32) -> Option<u128>
+        ensures { (n : ℕ) → IsReadOf n self → IfSome result (λ number. number ≡ n * radix base + digit) }
+    {
+        let shifted = self.number?.checked_mul(u128::from(base.radix()))?;
+        shifted.checked_add(u128::from(digit))
+    }
+
+    /// The power of two that the number is with one digit more.
+    #[tactic(auto, using(crate::proofs::Digits::shifted_power))]
+    fn next_exponent(self, base: Base, digit: u32) -> Option<u32>
+        ensures { (n : ℕ) → IsReadOf n self → IfSome result (λ exponent. n * radix base + digit ≡ 2 ^ exponent) }
+    {
+        match (self.number, digit) {
+            (Some(0), 1) => Some(0),
+            (Some(0), 2) => Some(1),
+            (Some(0), 4) => Some(2),
+            (Some(0), 8) => Some(3),
+            (_, 0) => self.exponent?.checked_add(base.bits()?),
+            _ => None,
+        }
+    }
+}
+
+/// The base of the digits of a literal.
+#[derive(Clone, Copy)]
+enum Base {
+    Binary,
+    Octal,
+    Decimal,
+    Hexadecimal,
+}
+
+impl Base {
+    fn radix(self) -> u32
+        ensures { result ≡ radix self }
+    {
+        match self {
+            Base::Binary => 2,
+            Base::Octal => 8,
+            Base::Decimal => 10,
+            Base::Hexadecimal => 16,
+        }
+    }
+
+    /// How many bits a digit is, if it is bits.
+    fn bits(self) -> Option<u32>
+        ensures { IfSome result (λ bits. radix self ≡ 2 ^ bits) }
+    {
+        match self {
+            Base::Binary => Some(1),
+            Base::Octal => Some(3),
+            Base::Decimal => None,
+            Base::Hexadecimal => Some(4),
+        }
+    }
+}
+
+/// A literal without the type after it.
+pub(super) fn without_type(literal: &str) -> &str {
+    let typed = TYPES.iter().find_map(|name| literal.strip_suffix(name));
+    typed.unwrap_or(literal).trim_end_matches('_')
+}
+
+/// The number that a literal without a type is. Past 128 bits it is a power of two up to 2^(2^32 - 1).
+pub(super) fn number_of(written: &str) -> Result<Number, &'static str>
+    ensures { IfOk result (λ number. value_of number ≡ pos (number_written written.now)) }
+{
+    match written.as_bytes() {
+        [zero, x, digits @ ..] if *zero == b'0' && *x == b'x' => number_in(
+            Base::Hexadecimal,
+            digits,
+        ),
+        [zero, o, digits @ ..] if *zero == b'0' && *o == b'o' => number_in(Base::Octal, digits),
+        [zero, b, digits @ ..] if *zero == b'0' && *b == b'b' => number_in(Base::Binary, digits),
+        digits => number_in(Base::Decimal, digits),
+    }
+}
+
+/// The number that digits are in this base.
+fn number_in(base: Base, digits: &[u8]) -> Result<Number, &'static str>
+    ensures { IfOk result (λ number. value_of number ≡ pos (number_in (radix base) digits.now)) }
+{
+    let read = read_digits(base, digits)?;
+    match (read.number, read.exponent) {
+        _ if digits.is_empty() => Err(NOT_A_NUMBER),
+        (Some(number), _) => Ok(Number::Small(number)),
+        (None, Some(exponent)) => Ok(Number::PowerOfTwo(exponent)),
+        (None, None) => Err(TOO_LARGE),
+    }
+}
+
+/// What is known of the number that digits are in this base.
+fn read_digits(base: Base, digits: &[u8]) -> Result<Digits, &'static str>
+    ensures { IfOk result (IsReadOf (number_in (radix base) digits.now)) }
+{
+    let mut read = Digits::NONE;
+    for i in 0..digits.len() {
+        read = with_byte(read, base, digits[i])?;
+    }
+    Ok(read)
+}
+
+/// What is known of a number with one byte more, which is a digit or `_`.
+fn with_byte(read: Digits, base: Base, byte: u8) -> Result<Digits, &'static str>
+    ensures { (n : ℕ) → IsReadOf n read → IfOk result (IsReadOf (with_digit (radix base) n byte)) }
+{
+    if byte == b'_' {
+        return Ok(read);
+    }
+    let digit = char::from(byte).to_digit(base.radix());
+    Ok(read.next(base, digit.ok_or(NOT_A_NUMBER)?))
+}

@@ -1,0 +1,55 @@
+use enumset::{EnumSetType, EnumSetTypeWithRepr};
+
+/// Kinds of nodes in a tree.
+#[derive(Clone, Copy, PartialEq, Eq, Debug)]
+#[must_use]
+pub enum Node {
+    Module,
+    Function,
+    #[deprecated(note = "write a function")]
+    Lambda,
+    Call,
+}
+
+impl EnumSetType for Node {
+    ghost use Rattle.enumset.specs.Sets.{in_place, lawful_in_integer, lawful_in_place};
+    ghost use Rattle.types_derived.specs.contracts.nodes.Node.{the_type};
+
+    type Repr = u8;
+
+    ghost elements = { in_place the_type };
+
+    ghost ALL_BITS = { 15 };
+
+    const ALL_BITS: u8 = 15;
+
+    ghost BIT_WIDTH = { 4 };
+
+    const BIT_WIDTH: u32 = 4;
+
+    ghost VARIANT_COUNT = { 4 };
+
+    const VARIANT_COUNT: u32 = 4;
+
+    fn enum_into_u32(self) -> u32 {
+        self as u32
+    }
+
+    fn enum_from_u32(val: u32) -> Self {
+        match val {
+            0 => Self::Module,
+            1 => Self::Function,
+            2 => Self::Lambda,
+            3 => Self::Call,
+            _ => unreachable!(),
+        }
+    }
+
+    ghost lawful = { lawful_in_place the_type (lawful_in_integer the_type _ tt) };
+}
+
+impl EnumSetTypeWithRepr for Node {
+    ghost use Rattle.std.proofs.Common.{rules};
+
+    ghost narrow = { Prim.search rules };
+}

@@ -1,0 +1,94 @@
+//! An enum whose bits count from the highest.
+
+use enumset::{EnumSet, EnumSetType, EnumSetTypeWithRepr, set_json};
+
+/// Priorities, on bits 15, 14 and 13, so that a set's number is the larger the higher its highest priority.
+#[derive(Clone, Copy, PartialEq, Eq, Debug)]
+pub enum Priority {
+    Urgent,
+    Normal,
+    Low,
+}
+
+impl EnumSetType for Priority {
+    ghost use Rattle.std.specs.Prelude.{◌∷◌, []};
+    ghost use Rattle.enumset.specs.Sets.{with_bits, lawful_in_integer};
+    ghost use Rattle.types_for_tests.specs.contracts.priority.Priority.{the_type};
+
+    type Repr = u16;
+
+    ghost elements = { with_bits the_type (15 ∷ 14 ∷ 13 ∷ []) };
+
+    ghost ALL_BITS = { 57344 };
+
+    const ALL_BITS: u16 = 57344;
+
+    ghost BIT_WIDTH = { 16 };
+
+    const BIT_WIDTH: u32 = 16;
+
+    ghost VARIANT_COUNT = { 3 };
+
+    const VARIANT_COUNT: u32 = 3;
+
+    fn enum_into_u32(self) -> u32 {
+        match self {
+            Self::Urgent => 15,
+            Self::Normal => 14,
+            Self::Low => 13,
+        }
+    }
+
+    fn enum_from_u32(val: u32) -> Self {
+        match val {
+            15 => Self::Urgent,
+            14 => Self::Normal,
+            13 => Self::Low,
+            _ => unreachable!(),
+        }
+    }
+
+    ghost lawful = { lawful_in_integer the_type _ tt };
+}
+
+impl EnumSetTypeWithRepr for Priority {
+    ghost use Rattle.std.proofs.Common.{rules};
+
+    ghost narrow = { Prim.search rules };
+}
+
+impl Priority {
+    ghost use Rattle.std.specs.Prelude.{◌≡◌, ◌↔◌, IsOk, IfOk, IfErr, IsTrue};
+    ghost use Rattle.enumset.specs.Sets.{is_subset, below, number, valid_bits};
+    ghost use Rattle.serde_json.specs.View.{view};
+    ghost use Rattle.enumset.specs.Json.{number_value, set_of_number};
+    ghost use Rattle.enumset.specs.declared.set_json.fault.JsonFault.TheVariants.{TooWide};
+    ghost use Rattle.enumset.specs.declared.set_json.unknown.Unknown.TheVariants as unknown;
+
+    /// The set's number, which JSON takes as a `u16`.
+    ///
+    /// The only fault is [`set_json::JsonFault::TooWide`], of a member that is past its bits. It takes no memory.
+    pub fn to_json(
+        alloc: std::alloc::Global,
+        set: &EnumSet<Self>,
+    ) -> std::result::Result<serde_json::Value, set_json::JsonFault>
+        ensures fits { IsOk result ↔ IsTrue (is_subset set.now (below 16)) }
+        ensures value { IfOk result (λ value. view value ≡ number_value (number set.now)) }
+        ensures fault { IfErr result (λ fault. fault ≡ TooWide) }
+    {
+        set_json::to_number(alloc, set, set_json::JsonWidth::U16)
+    }
+
+    /// The set that `to_json` writes so. Bits that no variant has are left out.
+    ///
+    /// The faults are those of [`set_json::from_number`], in their order. It takes no memory.
+    pub fn from_json(
+        value: &serde_json::Value,
+    ) -> std::result::Result<EnumSet<Self>, set_json::JsonFault>
+        ensures { result ≡ set_of_number
+            (valid_bits ⟦<Priority as EnumSetType>⟧.elements) 16
+            unknown.Drop (view value.now) }
+    {
+        set_json::from_number(value, set_json::JsonWidth::U16, set_json::Unknown::Drop)
+    }
+}
