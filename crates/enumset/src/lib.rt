@@ -4,6 +4,60 @@
 //! [`MixedEnumSet`](set::MixedEnumSet) from `enumset_mixed`, and the representations from `enumset_repr` and
 //! `enumset_array`. New here are the macros, the names of elements ([`EnumSetNames`]), the modules [`folds`] and
 //! [`set_json`], and most of the [`laws`].
+//!
+//! # Element types
+//!
+//! An element type is an enum with an impl of [`EnumSetType`]. The program `enumset_derive` writes this impl from an enum
+//! that has the attribute `#[derive(EnumSetType)]` in its source.
+//!
+//! ```rust
+//! pub enum Letters {
+//!     A,
+//!     B,
+//!     C,
+//!     D,
+//!     E,
+//!     F,
+//!     G,
+//! }
+//! ```
+//!
+//! # Sets
+//!
+//! The operator `|` makes a set of elements:
+//!
+//! ```rust
+//! let set = Letters::A | Letters::C | Letters::G;
+//! assert!(rt; set.len() == 3);
+//! ```
+//!
+//! Sets have the operators of integers. `-` is the difference, and `!` has the variants that are not in the set:
+//!
+//! ```rust
+//! let (ab, bc) = (Letters::A | Letters::B, Letters::B | Letters::C);
+//! assert!(rt; ab & bc == enum_set!(Letters::B));
+//! assert!(rt; ab - bc == enum_set!(Letters::A));
+//! assert!(rt; ab ^ bc == Letters::A | Letters::C);
+//! assert!(rt; !(ab | bc) == Letters::D | Letters::E | Letters::F | Letters::G);
+//! ```
+//!
+//! The macro [`enum_set!`] makes a set of any number of elements, also of none and of one. A set is not a constant, so
+//! a function takes the place of a constant:
+//!
+//! ```rust
+//! fn outer() -> EnumSet<Letters> {
+//!     enum_set!(Letters::A | Letters::G)
+//! }
+//! ```
+//!
+//! Calls that change a set have the names that they have in the sets of std:
+//!
+//! ```rust
+//! let mut set = EnumSet::new();
+//! set.insert(Letters::A);
+//! set.insert_all(Letters::E | Letters::G);
+//! assert!(rt; set.contains(Letters::A) && !set.contains(Letters::B));
+//! ```
 #![tactic(auto)]
 
 mod element_macros;

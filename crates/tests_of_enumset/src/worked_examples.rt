@@ -4,4 +4,5 @@
 
 mod folds;
 mod json;
+mod library;
 mod macros;
