@@ -21,7 +21,7 @@ none_zipped : (op : ℕ → ℕ → ℕ) (a : List ℕ) → zip2 op a [] ≡ []
 none_zipped op [] = refl
 none_zipped op (x ∷ a) = refl
 
-take-zip2 : (op : ℕ → ℕ → ℕ) (n : ℕ) (a b : List ℕ) → take n (zip2 op a b) ≡ zip2 op (take n a) (take n b)
+pub take-zip2 : (op : ℕ → ℕ → ℕ) (n : ℕ) (a b : List ℕ) → take n (zip2 op a b) ≡ zip2 op (take n a) (take n b)
 take-zip2 op zero a b = refl
 take-zip2 op (suc n) [] b = refl
 take-zip2 op (suc n) (x ∷ a) [] = refl
@@ -74,6 +74,12 @@ pub turned_lanes : (a b : List ℕ) → zip2 bit_and a (map (bit_not w64) b) ≡
 turned_lanes [] b = refl
 turned_lanes (x ∷ a) [] = refl
 turned_lanes (x ∷ a) (y ∷ b) = ap (λ l. bit_and x (bit_not w64 y) ∷ l) (turned_lanes a b)
+
+-- `a ^` the result of an operation, on lanes
+pub changed_lanes : (op : ℕ → ℕ → ℕ) (a b : List ℕ) → zip2 bit_xor a (zip2 op a b) ≡ zip2 (λ x y. bit_xor x (op x y)) a b
+changed_lanes op [] b = refl
+changed_lanes op (x ∷ a) [] = refl
+changed_lanes op (x ∷ a) (y ∷ b) = ap (λ l. bit_xor x (op x y) ∷ l) (changed_lanes op a b)
 
 -- ---- a list as chunks
 

@@ -7,7 +7,7 @@ ghost use Rattle.enumset_repr.specs.BitSet as set;
 ghost use Rattle.enumset_repr.specs.BitSet.{BitSet};
 ghost use Rattle.enumset_array.specs.ArrayWords.{set_of, IsArrayRepr};
 ghost use Rattle.enumset_array.specs.Operations.{IsOnBits};
-ghost use Rattle.enumset_array.specs.Laws.Operations.{on_and, on_or, on_xor, on_and_not};
+ghost use Rattle.enumset_array.specs.Laws.Operations.{on_and, on_or, on_xor, on_and_not, on_change};
 
 use crate::array_repr::ArrayRepr;
 use crate::lanes;
@@ -44,6 +44,9 @@ pub(crate) struct Xor;
 
 /// `a & !b`.
 pub(crate) struct AndNot;
+
+/// The bits of `a` that another operation changes.
+pub(crate) struct Change<O>(O);
 
 impl SetOperation for And {
     ghost of_words = { bit_and };
@@ -107,6 +110,23 @@ impl SetOperation for AndNot {
     }
 
     ghost on_bits = { on_and_not };
+}
+
+impl<O: SetOperation> SetOperation for Change<O> {
+    ghost of_words = { λ a b. bit_xor a (O.of_words a b) };
+
+    ghost of_sets = { λ s t. set.symmetric_difference s (O.of_sets s t) };
+
+    fn on_words(a: u64, b: u64) -> u64 {
+        a ^ O::on_words(a, b)
+    }
+
+    #[tactic(auto, using(crate::proofs::WordLanes::changed_lanes))]
+    fn on_lanes(a: u64x4, b: u64x4) -> u64x4 {
+        a ^ O::on_lanes(a, b)
+    }
+
+    ghost on_bits = { on_change O.of_words O.of_sets O.on_bits };
 }
 
 /// Replaces a value by the result for it and another.

@@ -1,7 +1,7 @@
 use Rattle.std.proofs.Common.{◌≡◌, ◌*◌, take, ◌==◌}
 use Rattle.enumset_array.proofs.WordLanes.{PartMade, none_in}
 use Rattle.enumset_array.proofs.ChangedWords.{changes}
-use Rattle.enumset_array.proofs.lanes.apply_changes.Given as goal
+use Rattle.enumset_array.proofs.lanes.apply_and_compare.Given as goal
 
 -- the words so far are replaced, the others are not, and the lanes are 0 exactly if no word has changed
 abbrev pub invariant-loop-k : goal.invariant-loop-k
