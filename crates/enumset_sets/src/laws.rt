@@ -11,7 +11,6 @@ ghost use Rattle.enumset_sets.specs.Elements.{valid_bits};
 
 use crate::element::EnumSetType;
 use crate::enum_set::EnumSet;
-use enumset_repr::EnumSetTypeRepr;
 
 /// Each member of a set is a valid bit, and so one of the list of the element type and below the width of the
 /// representation. So a set has fewer than 2³² members.
