@@ -11,8 +11,8 @@
 --     names_in, true_names      the names of members;  of the members whose value is `true`
 --     set_of_values, set_of_list      the set that a list of values is read as, or the fault;  the set that an array is
 --         read as, or the fault
---     set_of_members, set_of_map      the set that a list of members is read as, or the fault;  the set that an object is
---         read as, or the fault
+--     set_of_members, set_of_map      the set that a list of members is read as, or the fault;  the set that an object
+--         is read as, or the fault
 --     list_value, map_value      the values that a set is written as
 --     with_bits_true      members, with `true` at the names of further bits
 --     in_map      the members of a set in the order in which a map has their names

@@ -33,8 +33,8 @@ pub(crate) fn apply<O: SetOperation>(words: &mut [u64], others: &[u64])
 /// Replaces each word by the result for it and the other word in its place, and returns whether a word changed. The
 /// lists must have the same length.
 ///
-/// From sixteen words on the first is compared alone. If it changes, no other word is compared, which saves nearly a third
-/// of the time over 64 words.
+/// If there are at least sixteen words, the first is compared first, by itself. If it changes, no other word is
+/// compared, which saves nearly a third of the time over 64 words.
 pub(crate) fn apply_changes<O: SetOperation>(words: &mut [u64], others: &[u64]) -> bool
     requires { length words.old ≡ length others.now }
     ensures words { words.new ≡ zip2 O.of_words words.old others.now }
@@ -133,7 +133,7 @@ fn any_of<O: SetOperation>(words: &[u64], others: &[u64]) -> u64
     any
 }
 
-/// The number of bits set in the words, of which there must be fewer than [`WORD_LIMIT`].
+/// Returns the number of bits set in the words. There must be fewer than [`WORD_LIMIT`] words.
 pub(crate) fn ones_of(words: &[u64]) -> u32
     requires { length words.now < WORD_LIMIT }
     ensures { result ≡ sum_by (λ w. len (bits w)) words.now }

@@ -395,21 +395,21 @@ impl<T: EnumSetTypeWithRepr> MixedEnumSet<T> {
 
 /// Calls that Rust's `enumset` does not have.
 impl<T: EnumSetTypeWithRepr> MixedEnumSet<T> {
-    /// As [`is_disjoint`](MixedEnumSet::is_disjoint), without a copy of its argument.
+    /// Like [`is_disjoint`](MixedEnumSet::is_disjoint), without copying its argument.
     pub fn is_disjoint_from(&self, other: &MixedEnumSet<T>) -> bool
         ensures { result ≡ set.is_disjoint self.now other.now }
     {
         self.repr.is_disjoint_from(&other.repr)
     }
 
-    /// As [`is_superset`](MixedEnumSet::is_superset), without a copy of its argument.
+    /// Like [`is_superset`](MixedEnumSet::is_superset), without copying its argument.
     pub fn is_superset_of(&self, other: &MixedEnumSet<T>) -> bool
         ensures { result ≡ set.is_subset other.now self.now }
     {
         other.repr.is_subset_of(&self.repr)
     }
 
-    /// As [`is_subset`](MixedEnumSet::is_subset), without a copy of its argument.
+    /// Like [`is_subset`](MixedEnumSet::is_subset), without copying its argument.
     pub fn is_subset_of(&self, other: &MixedEnumSet<T>) -> bool
         ensures { result ≡ set.is_subset self.now other.now }
     {

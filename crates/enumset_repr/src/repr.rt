@@ -570,8 +570,8 @@ fn has_no_word_from<R: EnumSetTypeRepr>(repr: &R, from: usize) -> bool
     are_zero(repr, from + 16 * blocks, len)
 }
 
-/// Whether each word from one place up to another is 0. The second place must be no less than the first, and at most
-/// the number of words.
+/// Returns whether each word from place `from` up to, but not including, place `to` is 0. `from` must be at most `to`,
+/// and `to` at most the number of words.
 pub(crate) fn are_zero<R: EnumSetTypeRepr>(repr: &R, from: usize, to: usize) -> bool
     requires ordered { from ≤ to }
     requires within { to ≤ R.PREFERRED_ARRAY_LEN }

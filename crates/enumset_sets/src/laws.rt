@@ -1,4 +1,4 @@
-//! Laws of members, and of round trips: what one call makes of a set, another call reads as the same set.
+//! Laws of members, and of round trips: what one call writes for a set, another call reads back as the same set.
 //!
 //! Each law is a function that does nothing at run time, over every element type. Code that needs a law calls it with
 //! its set, and the proof of that code then knows what the function ensures. Rust's `enumset` has no laws.

@@ -147,8 +147,8 @@ pub fn checked<T: EnumSetNames>(
     permitted(&features, forbidden)
 }
 
-/// The place of the first name in a text that is of no feature, or `None` if the text lists a set. Any other fault is
-/// returned.
+/// Returns the place of the first name in a text that no feature has, or `None` if the text lists a set. Any other
+/// fault is returned as an error.
 pub fn unknown_name<T: EnumSetNames>(alloc: Global, text: &str) -> Result<Option<usize>, JsonFault>
     ensures place { IfOk result (λ found. IfSome found (λ place.
         value_read (set_of_list (names_of T.elements T.names) unknown.Refuse) text.now

@@ -12,8 +12,8 @@
 --     len_zero_iff      a set has 0 members exactly if it is the empty set
 --     kept_count, left_count      the length of the list of the members of s that are in t, and that are not
 --     len_kept, len_left      the number of members of s that are in t, and that are not, as a count over the list of s
---     len_kept_both, len_kept_either, len_kept_but, len_left_both      the number of members of s that are in both of two
---         sets, in either, in the first but not the second, in neither, as a count over the list of s
+--     len_kept_both, len_kept_either, len_kept_but, len_left_both      the number of members of s that are in both of
+--         two sets, in either, in the first but not the second, in neither, as a count over the list of s
 --     length_ascending      the list of the members is as long as the set
 -- The ruleset `counting` has those that a tactic can apply by itself.
 use Rattle.std.proofs.Common.{◌≡◌, ◌≤◌, ◌<◌, ◌+◌, ◌-◌, ℕ, suc, zero, Bool, true, false, cond, not, ◌&&◌, ◌||◌, List, [], ◌∷◌, length, filter, count_by, refl, sym, ap, subst, ◌∙◌, arith, ◌↔◌, ◌==◌}

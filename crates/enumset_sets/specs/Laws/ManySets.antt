@@ -1,8 +1,8 @@
 -- Folds of a list of sets: only which items the list has matters, neither their order nor repeats.
 --     contains_intersection_all, contains_union_all      which bits are in all the sets of a list;  in any of them
 --     contains_fold_intersection, contains_fold_union      which bits std's `fold` over a list of sets leaves
---     .._once      which bits a fold has, wherever the fold and the number are in sight:  `MemberRules` of `enumset_repr`
---         says how
+--     .._once      which bits a fold has, wherever the fold and the number are in sight:  `MemberRules` of
+--         `enumset_repr` says how
 --     intersection_all_more      an intersection with one more set at the end of the list
 --     union_all_none, union_all_step      the union of a set with all sets of a list, one after another
 --     any_same      whether a test passes for any item, for lists with the same items
