@@ -23,7 +23,7 @@ use std::alloc::Global;
 /// Why the features of a text are refused.
 #[derive(Drop)]
 pub enum Refusal<T: EnumSetType> {
-    /// The text lists no set.
+    /// The text does not list a set.
     Unread(JsonFault),
     /// These are required, and the text does not list them.
     Missing(EnumSet<T>),
