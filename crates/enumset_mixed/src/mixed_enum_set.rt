@@ -100,7 +100,7 @@ impl<T: EnumSetTypeWithRepr> Default for MixedEnumSet<T> {
 }
 
 /// `MixedEnumSet(`, the `{:?}` texts of the members, ascending by bit and joined by ` | `, and `)`. The text of an
-/// unknown bit is its number in brackets, such as `[3]`. No contract speaks of `{:?}`; tests do.
+/// unknown bit is its number in brackets, such as `[3]`. No contract is about `{:?}`; tests are.
 impl<T: EnumSetTypeWithRepr + fmt::Debug> fmt::Debug for MixedEnumSet<T> {
     fn fmt<W: fmt::Write>(&self, f: &mut fmt::Formatter<W>) -> fmt::Result {
         f.write_str("MixedEnumSet(")?;
@@ -119,7 +119,7 @@ impl<T: EnumSetTypeWithRepr> MixedEnumSet<T> {
     pub(crate) fn of_repr(repr: T::Repr) -> MixedEnumSet<T>
         ensures { result ≡ T.Repr.members repr }
     {
-        // The invariant of the type speaks of values only.
+        // The invariant of the type is about values only.
         repr.learn_is_value();
         MixedEnumSet {
             repr,

@@ -134,8 +134,8 @@ impl<T: EnumSetType> Default for EnumSet<T> {
     }
 }
 
-/// `EnumSet(`, the `{:?}` texts of the elements, ascending by bit and joined by ` | `, and `)`. No contract speaks of
-/// `{:?}`; tests do.
+/// `EnumSet(`, the `{:?}` texts of the elements, ascending by bit and joined by ` | `, and `)`. No contract is about
+/// `{:?}`; tests are.
 impl<T: EnumSetType + fmt::Debug> fmt::Debug for EnumSet<T> {
     fn fmt<W: fmt::Write>(&self, f: &mut fmt::Formatter<W>) -> fmt::Result {
         f.write_str("EnumSet(")?;
@@ -156,7 +156,7 @@ impl<T: EnumSetType> EnumSet<T> {
         requires { IsTrue (set.is_subset (T.Repr.members repr) (valid_bits T.elements)) }
         ensures { result ≡ T.Repr.members repr }
     {
-        // The invariant of the type speaks of values only.
+        // The invariant of the type is about values only.
         repr.learn_is_value();
         EnumSet {
             repr,
