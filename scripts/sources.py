@@ -26,7 +26,7 @@ class Item:
     is_public: bool
     doc: str
     attributes: list
-    # The text without sentences, attributes and body, as it stands in the file.
+    # The text without sentences, attributes and body, as it is in the file.
     head: str
     # The whole text, with its body.
     text: str

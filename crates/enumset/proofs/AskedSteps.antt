@@ -22,7 +22,7 @@ last_by bit xs None ys step = (ap (λ zs. is_some (last zs)) (sym step.0), step.
 last_by bit xs (Some x) ys step =
     (sym (ap (λ zs. is_some (last zs)) step ∙ ap is_some (last_push ys (bit x))), sym (ap without_last step ∙ without_last_push ys (bit x)))
 
--- the same for the items of a mixed set
+-- what a step from the front says, for the items of a mixed set
 pub mixed_first_by : {A : Type 0} (item : A → ℕ × Bool) (valid : BitSet) (xs : List ℕ) (r : Option A) (ys : List ℕ) → MatchOption r ((with_validity valid xs ≡ []) × (with_validity valid ys ≡ [])) (λ x. with_validity valid xs ≡ item x ∷ with_validity valid ys) → (is_some r ≡ is_some (first xs)) × (ys ≡ without_first xs)
 mixed_first_by item valid xs None ys step = first_by (λ x. (item x).0) xs None ys (none_left valid xs step.0, none_left valid ys step.1)
 mixed_first_by item valid xs (Some x) ys step = first_by (λ y. (item y).0) xs (Some x) ys (gave_first valid xs ys (item x) step)

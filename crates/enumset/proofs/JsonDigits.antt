@@ -56,7 +56,7 @@ no_digits (c ∷ e) none = ap (λ b. cond b (1 + prefix_len is_ascii_digit e) 0)
 abbrev IsRun : List ℕ → List ℕ → Type 0
 IsRun xs e = (n : ℕ) × (1 + prefix_len is_ascii_digit xs ≡ suc n) × (drop n xs ≡ e)
 
--- these digits, after the byte before them
+-- the digits before e, after the byte x before them
 abbrev whole : ℕ → List ℕ → List ℕ → List ℕ
 whole x xs e = take (suc (length xs) - length e) (x ∷ xs)
 

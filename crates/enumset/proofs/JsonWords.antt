@@ -103,7 +103,7 @@ module _ (ws : List ℕ) (place width : ℕ) (s : BitSet) (is_whole : Bool) (bef
         );
   }
 
-  -- the same with one more word, which is put in if the representation has it
+  -- one more word is read, and put in if the representation has it
   pub taken : (n x : ℕ) (r : BitSet) (kept : Bool) → n ≡ (width + 63) / 64 → x ≡ slice_index ws place → x < 2 ^ 64
       → r ≡ (if nat_lt place n then with_word s width place x else s) → kept ≡ (is_whole && (word r place == x)) → AreRead ws (place + 1) width r kept
   taken n x r kept count is fits made whole = subst (AreRead ws (place + 1) width r) (sym whole) (one_read x r is fits (at (nat_lt place n) refl))

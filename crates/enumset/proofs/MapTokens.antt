@@ -15,7 +15,7 @@ abbrev listed : List (List ℕ × Bool) → Members
 listed [] = no_members
 listed (m ∷ ms) = member m.0 (boolean m.1) (listed ms)
 
--- these members put into an object one after another
+-- an object with names and booleans put into it one after another
 abbrev pub put_all : List (List ℕ × Bool) → Members → Members
 put_all [] found = found
 put_all (m ∷ ms) found = put_all ms (put m.0 (boolean m.1) found)

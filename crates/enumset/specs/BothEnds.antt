@@ -1,5 +1,5 @@
 -- Steps from both ends of a list, as in `Walks` of `enumset_array`: what each end yielded.
---     from_front, from_back      the items that the steps from the front yielded, in turn;  those from the back
+--     from_front, from_back      the items that the steps from the front yielded, in turn;  from the back
 use Rattle.std.specs.Prelude.{ℕ, List, [], ◌∷◌, ◌++◌}
 use Rattle.std.specs.Option.{option_to_list}
 use Rattle.enumset_repr.specs.Ends.{first, last, without_first, without_last}

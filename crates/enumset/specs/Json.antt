@@ -8,7 +8,8 @@
 --     held_word, held_words      the word that an element holds, if it holds one;  the words of all elements, with 0
 --         for an element that holds none
 --     is_no_word      the test that finds a fault: whether an element does not hold a word
---     words_among, words_in      the words that the values of a list hold, or the fault;  the same for an array
+--     words_among, words_in      the words that the values of a list hold, or the fault;  the words that the elements
+--         of an array hold, or the fault
 --     accepted      the set of valid bits that a reader keeps of a set, or the fault
 --     kept_below      the set of bits below a width that a reader keeps of a set, or the fault
 --     set_of_number, mixed_set_of_number, set_of_words, mixed_set_of_words      the set that a value is read as, or the

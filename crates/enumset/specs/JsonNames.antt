@@ -9,8 +9,10 @@
 --     named_set      the set of the names that are known, where unknown names are dropped, or the first of them is the
 --         fault
 --     names_in, true_names      the names of members;  of the members whose value is `true`
---     set_of_values, set_of_list      the set that a list of values is read as, or the fault;  the same for an array
---     set_of_members, set_of_map      the set that a list of members is read as, or the fault;  the same for an object
+--     set_of_values, set_of_list      the set that a list of values is read as, or the fault;  the set that an array is
+--         read as, or the fault
+--     set_of_members, set_of_map      the set that a list of members is read as, or the fault;  the set that an object
+--         is read as, or the fault
 --     list_value, map_value      the values that a set is written as
 --     with_bits_true      members, with `true` at the names of further bits
 --     in_map      the members of a set in the order in which a map has their names

@@ -1,8 +1,9 @@
 -- What JSON texts are read as.
 --     value_read      the result of a reader of values for the value that a text is, if it is one
---     IsResult      whether a result is that;  for a text that is not a value, whether it is the fault `NotJson` at
---         some line
---     IsReadOf      the same, or memory was refused
+--     IsResult      a result is the expected one;  if none is expected, since the text is not a value, it is the fault
+--         `NotJson` at some line
+--     IsReadOf      a result is that of a reader for the value that a text is, or the fault `NotJson` at some line if
+--         the text is not a value;  or memory was refused
 use Rattle.std.specs.Prelude.{◌≡◌, ◌⊎◌, ℕ, List, Option, Some, None, option_map, Result, Err}
 use Rattle.enumset_repr.specs.BitSet.{BitSet}
 use Rattle.serde_json.specs.Data.{Data}

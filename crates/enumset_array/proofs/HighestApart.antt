@@ -34,7 +34,7 @@ decided a b i long under apart same = absurd (omega (arith, long, under))
 
 -- ---- lists that are equal from a place on
 
--- the same from n words lower
+-- lists that are equal from a place on, and in the n words below it, are equal from n words lower
 pub block_lower : (a b : List ℕ) (i n end : ℕ) → end ≡ i + n → length a ≡ length b → end ≤ length a → none_in (zip2 bit_xor (chunk i n a) (chunk i n b)) ≡ true
     → drop end a ≡ drop end b → drop i a ≡ drop i b
 block_lower a b i n end next long under none same =

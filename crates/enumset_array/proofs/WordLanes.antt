@@ -47,7 +47,7 @@ module _ (op : ℕ → ℕ → ℕ) (a b : List ℕ) where
   all_made ws i e past part =
       part ∙ (λ m. take_all i all (omega (arith, past, length-zip2 op a b e)) m ++ drop_all i a past m) ∙ append-nil all
 
-  -- the same for n more words
+  -- the combined words after n more of them are replaced
   pub lanes_made : (ws : List ℕ) (i n j : ℕ) → length a ≡ length b → j ≡ i + n → j ≤ length a → PartMade i ws → PartMade j (put_chunk i ws (zip2 op (chunk i n ws) (chunk i n b)))
   lanes_made ws i n j e next within part =
       let long = length-take-le i all (omega (arith, next, within, length-zip2 op a b e)) in
@@ -59,7 +59,7 @@ module _ (op : ℕ → ℕ → ℕ) (a b : List ℕ) where
       ∙ (λ m. made m ++ (chunk i n all ++ drop (four m) (kept m))) ∙ sym (append_assoc (take i all) (chunk i n all) (drop n (drop i a)))
       ∙ (λ m. sym (take-add i n all) m ++ drop-drop n i a m) ∙ ap (λ k. take k all ++ drop k a) (sym next)
 
-  -- the same for one more word
+  -- the combined words after one more of them is replaced
   pub one_made : (ws : List ℕ) (i : ℕ) → length a ≡ length b → i < length a → PartMade i ws → PartMade (i + 1) (set ws i (op (slice_index ws i) (slice_index b i)))
   one_made ws i e low part =
       let long : length ws ≡ length a = omega (arith, ap length part, length-append (take i all) (drop i a), length-drop i a, length-take-le i all (omega (arith, low, length-zip2 op a b e))) in
@@ -122,14 +122,14 @@ zip_none a b e = absurd (omega (arith, e))
 pub more_none : (ws : List ℕ) (i n j : ℕ) → j ≡ i + n → none_in (take j ws) ≡ (none_in (take i ws) && none_in (chunk i n ws))
 more_none ws i n j next = ap (λ k. none_in (take k ws)) next ∙ ap none_in (take-add i n ws) ∙ list_all-append (λ w. w == 0) (take i ws) (chunk i n ws)
 
--- the same for four more words, as lanes
+-- the test of the first i words and of four more, which are joined to lanes
 pub joined_none : (ws lanes more : List ℕ) (i j : ℕ) → more ≡ chunk i 4 ws → j ≡ i + 4 → j ≤ length ws → length lanes ≡ 4 → none_in lanes ≡ none_in (take i ws)
     → none_in (zip2 bit_or lanes more) ≡ none_in (take j ws)
 joined_none ws lanes more i j is next long four before =
     ap (λ m. none_in (zip2 bit_or lanes m)) is
     ∙ zip_none lanes (chunk i 4 ws) (four ∙ sym (length-chunk i 4 ws (omega (arith, next, long)))) ∙ ap (λ t. t && none_in (chunk i 4 ws)) before ∙ sym (more_none ws i 4 j next)
 
--- the same for one more word
+-- the test of the first i words and of one more
 pub one_none : (ws : List ℕ) (any w i j : ℕ) → w ≡ slice_index ws i → j ≡ i + 1 → i < length ws → (any == 0) ≡ none_in (take i ws) → (bit_or any w == 0) ≡ none_in (take j ws)
 one_none ws any w i j is next low before =
     ap (λ v. bit_or any v == 0) is
@@ -175,7 +175,7 @@ module _ (op : ℕ → ℕ → ℕ) (a b : List ℕ) (i n any : ℕ) (here : (an
   with_block : none_in (take (i + n) (zip2 op a b)) ≡ (none_in (take i (zip2 op a b)) && (any == 0))
   with_block = more_none (zip2 op a b) i n (i + n) refl ∙ ap (λ t. none_in (take i (zip2 op a b)) && t) (ap none_in (chunk-zip2 op i n a b) ∙ sym here)
 
-  -- the same for one more block
+  -- if the results before a block and those of the block are 0, all up to its end are
   pub next_block : (j : ℕ) → j ≡ i + n → none_in (take i (zip2 op a b)) ≡ true → any ≡ 0 → none_in (take j (zip2 op a b)) ≡ true
   next_block j next before none = ap (λ k. none_in (take k (zip2 op a b))) next ∙ with_block ∙ grind (arith, nat_tests, before)
 

@@ -1,7 +1,7 @@
 -- Two cursors over a list of words. The words between them may still have bits.
 --     Reach      the words from the one at `front` up to the one before `back`
---     span      the number of these words
---     Covers      `back` is at most the number of words, and each word outside is 0
+--     span      the number of words between the cursors
+--     Covers      `back` is at most the number of words, and each word not between the cursors is 0
 use Rattle.std.specs.Prelude.{◌≡◌, ℕ, ◌-◌, ◌<◌, ◌≤◌, List, length, slice_index}
 
 pub record Reach : Type 0 where

@@ -4,7 +4,7 @@
 --     CountsAsks      the sum of asks and span grows by one if the step yields a bit, and stays otherwise; the span
 --         does not grow; if the step yields None, the cursors have met; if they had met before, it yields None and
 --         makes no ask
---     MovesFront, MovesBack      only that cursor may move, towards the other and not past it
+--     MovesFront, MovesBack      only the front cursor, or the back one, may move, towards the other and not past it
 use Rattle.std.specs.Prelude.{◌≡◌, ℕ, ◌+◌, ◌≤◌, List, length, Option, None, IfNone, MatchOption, is_some, if◌then◌else◌}
 use Rattle.enumset_repr.specs.BitSet.{remove}
 use Rattle.enumset_array.specs.Cursors.{Reach}

@@ -1,6 +1,6 @@
 -- Steps from either end of a list.
 --     answer      what a step from an end yields: the first item of the list or its last, or None if the list is empty
---     without_answer      the list without that item
+--     without_answer      the list without the item that a step from an end yields
 --     answers, without_answers      what steps from the ends in a list yield, one after another;  the list that they
 --         leave
 --     items_among      the answers that are not None

@@ -132,11 +132,11 @@ pub(crate) fn yields_none<O: SetOperation>(words: &[u64], others: &[u64]) -> boo
     any_of::<O>(&words[i..], &others[i..]) == 0
 }
 
-/// A place from which on the lists are equal. They must have the same length.
+/// Returns a place such that the lists are equal from there to their ends. They must have the same length.
 ///
-/// The words are compared from the top, sixteen at a time, up to the first sixteen that differ: the place is the end of
-/// these. If no sixteen differ, it is the number of words below them. From sixteen words on the last word is compared
-/// alone first, and if it differs, the place is the end of the lists.
+/// The words are compared from the top, sixteen at a time, until sixteen differ: the place is the end of those sixteen.
+/// If all of them are equal, the place is the number of words left below them. If there are at least sixteen words, the
+/// last one is compared first, by itself: if it differs, the place is the end of the lists.
 pub(crate) fn equal_from(words: &[u64], others: &[u64]) -> usize
     requires { length words.now ≡ length others.now }
     ensures within { result ≤ length words.now }
@@ -173,7 +173,7 @@ fn any_of<O: SetOperation>(words: &[u64], others: &[u64]) -> u64
     any
 }
 
-/// The number of bits set in the words, of which there must be fewer than [`WORD_LIMIT`].
+/// Returns the number of bits set in the words. There must be fewer than [`WORD_LIMIT`] words.
 pub(crate) fn ones_of(words: &[u64]) -> u32
     requires { length words.now < WORD_LIMIT }
     ensures { result ≡ sum_by (λ w. len (bits w)) words.now }

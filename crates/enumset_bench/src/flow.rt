@@ -7,7 +7,7 @@ use crate::symbols::Symbol;
 use enumset::{EnumSet, EnumSetType};
 use std::alloc::{AllocError, Global};
 
-/// How many nodes a graph has whose facts are four words, or 1024 words.
+/// How many nodes a graph has, if its facts are four words, or 1024 words.
 const NODES: usize = 600;
 
 const FAR_NODES: usize = 24;
@@ -15,7 +15,7 @@ const FAR_NODES: usize = 24;
 /// More passes than a graph needs.
 pub(crate) const PASSES: usize = 1000;
 
-/// A node: the facts that it makes and ends, and from where facts come.
+/// A node: the facts that it makes and ends, the facts known at it, and the nodes from which facts come.
 pub(crate) struct Node<T: EnumSetType> {
     pub(crate) made: EnumSet<T>,
     pub(crate) ended: EnumSet<T>,

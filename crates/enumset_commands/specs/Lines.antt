@@ -2,10 +2,11 @@
 --     tokens_of      the tokens of a line, which spaces separate
 --     without_words      the command without words that fields write after a name
 --     command_of      the command that the tokens of a line write
---     mixed_command_of      the command of mixed sets that they write
+--     mixed_command_of      the command of mixed sets that the tokens of a line write
 --     before      a command, and then the commands of the later lines; or the fault of a line that is not a command
 --     line_then, commands_from      the commands of a line and of those after it;  the commands of lines
---     commands_of_text      the commands of an input, or the fault of its first line that is not a command, by what the tokens of a line write
+--     commands_of_text      the commands of an input, or the fault of its first line that is not a command, by what the
+--         tokens of a line write
 use Rattle.std.specs.Prelude.{◌==◌, ℕ, ◌+◌, not, List, [], ◌∷◌, length, filter, Option, Some, None, option_map, Result, Ok, Err}
 use Rattle.std.specs.List.{slice_split}
 use Rattle.std.specs.Option.{option_or}
@@ -22,7 +23,7 @@ use Rattle.enumset_commands.specs.Verbs.{assignments, queries, changes, word_ver
 abbrev pub tokens_of : List ℕ → List (List ℕ)
 tokens_of line = filter (λ token. not (length token == 0)) (slice_split (λ b. b == byte " ") line)
 
--- one that takes no words
+-- a command that takes no words
 abbrev pub without_words : List ℕ → List (List ℕ) → Option Command
 without_words name fields =
     option_or (written assignments name fields) (option_or (written queries name fields) (written changes name fields))
@@ -32,7 +33,7 @@ abbrev pub command_of : List (List ℕ) → Option Command
 command_of [] = None
 command_of (name ∷ fields) = option_or (without_words name fields) (written word_verbs name fields)
 
--- one of mixed sets alone, or one of every run
+-- a command of mixed sets alone, or a command of every run
 abbrev pub mixed_command_of : List (List ℕ) → Option MixedCommand
 mixed_command_of [] = None
 mixed_command_of (name ∷ fields) = option_or (written own_verbs name fields) (option_map Common (command_of (name ∷ fields)))

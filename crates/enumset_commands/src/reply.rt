@@ -32,7 +32,7 @@ pub enum Reply {
 pub enum Refusal {
     /// It names a set register past 3, or an iterator register past 1.
     NoRegister,
-    /// It names a bit that is not valid; `InsertBit`, one that is not below the width of the representation.
+    /// It names a bit that is not valid, or, for `InsertBit`, a bit that is not below the width of the representation.
     NotABit,
     /// It names a width other than 8, 16, 32, 64 and 128, or a value that does not fit the width.
     NotAWidth,

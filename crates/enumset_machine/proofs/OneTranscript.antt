@@ -60,7 +60,7 @@ is_within-wider : (m n : ℕ) (c : MixedCommand) → m ≤ n → is_within m c �
 is_within-wider m n (FullComplement to a) le within = within
 is_within-wider m n c le within = is_subset_wider (mixed_plan c).input m n le within
 
--- a step with the same outcome goes on with the same state
+-- each command has the same outcome at both widths, so the next one starts from the same state
 replies_same : (valid : BitSet) (one other m : ℕ) (s : State) (commands : List MixedCommand) → m ≤ one → m ≤ other → list_all (is_within m) commands ≡ true → replies_by (mixed_outcome valid one) s commands ≡ replies_by (mixed_outcome valid other) s commands
 replies_same valid one other m s [] a b within = refl
 replies_same valid one other m s (c ∷ cs) a b within =

@@ -4,10 +4,12 @@
 --     width_rules      the rules of a run whose sets have bits below a width
 --     is_width      whether a number is the width of an integer that sets are converted to and from
 --     Plan      what a command names, replies and leaves
---     query, change, assignment, assignment_where, assignment_if_allowed, assignment_cut, iterator_plan      plans, by what the command does
---     with_bit, with_allowed_bit, with_any_bit, with_width, with_value      the same plan, naming also a valid bit, a bit that a set may have, any bit, a width, or a value and its width
+--     query, change, assignment, assignment_where, assignment_if_allowed, assignment_cut, iterator_plan      plans, by
+--         what the command does
+--     with_bit, with_allowed_bit, with_any_bit, with_width, with_value      a plan that also names a valid bit,
+--         a bit that a set may have, any bit, a width, or a value and its width
 --     reply_if_below      a reply, if each member of a set is below a number
---     step_reply      the reply to a step of an iterator, by the bit that it gives
+--     step_reply      the reply to a step of an iterator, by the bit that it yields
 --     takes_memory      whether a reply takes memory: it has words
 --     refusal      why a command is refused, if it is
 --     Outcome      a reply, and the state after it
@@ -22,7 +24,7 @@ use Rattle.enumset_commands.specs.declared.reply.Reply.TheVariants.{Done, Words,
 use Rattle.enumset_commands.specs.declared.reply.Refusal.{Refusal}
 use Rattle.enumset_commands.specs.declared.reply.Refusal.TheVariants.{NoRegister, NotABit, NotAWidth}
 
--- the valid bits, the bits that a set may have, and the reply to a step that gives a bit
+-- the valid bits, the bits that a set may have, and the reply to a step that yields a bit
 pub record Rules : Type 0 where
   pub valid : BitSet
   pub allowed : BitSet
@@ -67,12 +69,12 @@ abbrev pub assignment_where : (Rules → BitSet → Bool) → ℕ → List ℕ �
 assignment_where test to sets new =
     record (query (to ∷ sets) (λ rules s. if test rules (new s) then Done else Absent)) { after = λ rules s. if test rules (new s) then put_set s to (new s) else s }
 
--- these bits in a register, if a set may have each of them, else nothing changes
+-- a register gets the given bits if a set may have each of them; else nothing changes
 abbrev pub assignment_if_allowed : ℕ → BitSet → Plan
 assignment_if_allowed r new =
     record (assignment_where (λ rules s. is_subset s rules.allowed) r [] (λ s. new)) { input = new }
 
--- the bits among these that a set may have, in a register
+-- a register gets those of the given bits that a set may have
 abbrev pub assignment_cut : ℕ → BitSet → Plan
 assignment_cut r new = record (assignment r [] (λ rules s. intersection new rules.allowed)) { input = new }
 
@@ -81,7 +83,8 @@ abbrev pub iterator_plan : ℕ → List ℕ → (Rules → State → Reply) → 
 iterator_plan i sets reply after =
     record (query sets reply) { registers = is_iterator_register i && list_all is_set_register sets; after = after }
 
--- the same plan, naming also a valid bit, a bit that a set may have, any bit, a width, or a value that must fit a width
+-- ---- plans that also name a valid bit, a bit that a set may have, any bit, a width, or a value that must fit a width
+
 abbrev pub with_bit : ℕ → Plan → Plan
 with_bit bit plan = record plan { bits = λ rules. contains rules.valid bit; input = only bit }
 
@@ -125,7 +128,7 @@ outcome_unless None rules s plan = record { reply = plan.reply rules s; state = 
 abbrev pub outcome_by : {C : Type 0} → Rules → (C → Plan) → State → C → Outcome
 outcome_by rules plan s c = outcome_unless (refusal rules (plan c)) rules s (plan c)
 
--- each command in turn, from a state
+-- the replies to commands that are carried out in order, from a state
 abbrev pub replies_by : {C : Type 0} → (State → C → Outcome) → State → List C → List Reply
 replies_by outcome s [] = []
 replies_by outcome s (c ∷ cs) = (outcome s c).reply ∷ replies_by outcome (outcome s c).state cs

@@ -2,8 +2,10 @@
 --     plan      the plan of each command: what it names, what it replies and what it leaves
 --     outcome      the reply to a command, refused or not, and the state after it
 --     replies      the replies to a list of commands, from the start
---     mixed_plan, mixed_outcome, mixed_replies      the same for commands of mixed sets; a command of every run has the same plan
---     is_within      whether the bits of a command, also those in its number or its words, are below a width, and it is not a full complement
+--     mixed_plan, mixed_outcome, mixed_replies      the plan, the outcome and the replies for commands of mixed sets;
+--         a command of every run has the same plan
+--     is_within      whether the bits of a command, also those in its number or its words, are below a width, and it is
+--         not a full complement
 use Rattle.std.specs.Prelude.{ℕ, ◌*◌, Bool, false, not, List, [], ◌∷◌, length}
 use Rattle.enumset_repr.specs.BitSet as set
 use Rattle.enumset_repr.specs.BitSet.{BitSet}

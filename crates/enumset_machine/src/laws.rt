@@ -6,9 +6,9 @@ ghost use Rattle.enumset_repr.specs.BitSet.{BitSet};
 ghost use Rattle.enumset_machine.specs.Runs.{mixed_replies, is_within};
 ghost use Rattle.enumset_commands.specs.declared.mixed_command.MixedCommand.{MixedCommand};
 
-/// Two types with the same valid bits, in representations of any widths, give the same replies to commands of mixed
-/// sets, if none is `full_complement` and each bit that a command names, or has in a number or in words, is below the
-/// smaller width.
+/// Commands of mixed sets have the same replies over two types with the same valid bits, in representations of any
+/// widths, if no command is `full_complement` and each bit that a command names, or has in a number or in words, is
+/// below the smaller width.
 #[tactic(auto, using(crate::proofs::OneTranscript::one_transcript))]
 pub fn mixed_transcript()
     ensures { (valid : BitSet) (one other : ℕ) (commands : List MixedCommand)

@@ -34,7 +34,7 @@ pub trait RunSet: Copy {
     fn is_bit_valid(bit: u32) -> bool
         ensures { result ≡ set.contains rules.valid bit };
 
-    /// Returns the reply to a step that gives a bit.
+    /// Returns the reply to a step that yields a bit.
     fn bit_reply(bit: u32) -> Reply
         ensures { result ≡ rules.bit_reply bit };
 

@@ -14,8 +14,8 @@ use enumset_repr::EnumSetTypeRepr;
 use enumset_sets::{EnumSet, EnumSetType, EnumSetTypeWithRepr};
 use std::alloc::{AllocError, Global};
 
-/// Carries out commands in order on a new machine, with one reply for each: the one that finite sets of bit numbers
-/// give. The only error is out of memory.
+/// Carries out commands in order on a new machine, and returns one reply for each: the reply over finite sets of bit
+/// numbers. The only error is out of memory.
 #[tactic(auto, unfolding(crate::specs::Runs::outcome))]
 pub fn run<T: EnumSetType>(alloc: Global, commands: &[Command]) -> Result<Vec<Reply>, AllocError>
     ensures { IfOk result (λ out. out.items ≡ replies (valid_bits T.elements) commands.now) }
@@ -23,8 +23,8 @@ pub fn run<T: EnumSetType>(alloc: Global, commands: &[Command]) -> Result<Vec<Re
     run_over::<EnumSet<T>>(alloc, commands)
 }
 
-/// Carries out commands of mixed sets in order on a new machine, with one reply for each: the one that finite sets of
-/// bit numbers below the width of the representation give. The only error is out of memory.
+/// Carries out commands of mixed sets in order on a new machine, and returns one reply for each: the reply over finite
+/// sets of bit numbers below the width of the representation. The only error is out of memory.
 #[tactic(auto, unfolding(crate::specs::Runs::mixed_outcome))]
 pub fn run_mixed<T: EnumSetTypeWithRepr>(
     alloc: Global,

@@ -73,8 +73,9 @@ where
     answer_lines::<S>(alloc, input)
 }
 
-/// The same for an input of any length. Each command is read, carried out and answered before the next. If memory runs
-/// out, the remaining lines are still read, so an input with a line that is not a command is reported as such.
+/// The text of the replies to the commands of an input of any length. Each command is read, carried out and answered
+/// before the next. If memory runs out, the remaining lines are still read, so an input that has a line which is not a
+/// command is reported as such.
 #[tactic(auto, using(crate::proofs::Answered::line_steps))]
 fn answer_lines<S: Commands>(alloc: Global, input: &[u8]) -> Result<Vec<u8>, TextFault>
 where

@@ -13,7 +13,7 @@ pub record IsKept {R : Type 0} (members : R → BitSet) (of_members : BitSet →
   pub is_value : IsValue repr
   pub inverse : of_members (members repr) ≡ repr
 
--- the first set of these two is the set of the valid bits
+-- the first of the two sets is the set of valid bits
 abbrev pub valid_members : BitSet → BitSet → BitSet
 valid_members valid s = intersection s valid
 

@@ -32,7 +32,7 @@ impl<T: EnumSetTypeWithRepr> MixedEnumSet<T> {
     }
 
     /// Returns the same set as a set of elements. No member may be an unknown bit:
-    /// [`try_as_enumset`](MixedEnumSet::try_as_enumset) is the test. Rust's call panics instead.
+    /// [`try_as_enumset`](MixedEnumSet::try_as_enumset) tests this. Rust's call panics instead.
     pub fn as_enumset(&self) -> EnumSet<T>
         requires valid { IsTrue (set.is_subset self.now (valid_bits T.elements)) }
         ensures { result ≡ self.now }

@@ -100,7 +100,7 @@ impl<T: EnumSetTypeWithRepr> Default for MixedEnumSet<T> {
 }
 
 /// `MixedEnumSet(`, the `{:?}` texts of the members, ascending by bit and joined by ` | `, and `)`. The text of an
-/// unknown bit is its number in brackets, such as `[3]`. No contract speaks of `{:?}`; tests do.
+/// unknown bit is its number in brackets, such as `[3]`. No contract is about `{:?}`; tests are.
 impl<T: EnumSetTypeWithRepr + fmt::Debug> fmt::Debug for MixedEnumSet<T> {
     fn fmt<W: fmt::Write>(&self, f: &mut fmt::Formatter<W>) -> fmt::Result {
         f.write_str("MixedEnumSet(")?;
@@ -119,7 +119,7 @@ impl<T: EnumSetTypeWithRepr> MixedEnumSet<T> {
     pub(crate) fn of_repr(repr: T::Repr) -> MixedEnumSet<T>
         ensures { result ≡ T.Repr.members repr }
     {
-        // The invariant of the type speaks of values only.
+        // The invariant of the type is about values only.
         repr.learn_is_value();
         MixedEnumSet {
             repr,
@@ -395,21 +395,21 @@ impl<T: EnumSetTypeWithRepr> MixedEnumSet<T> {
 
 /// Calls that Rust's `enumset` does not have.
 impl<T: EnumSetTypeWithRepr> MixedEnumSet<T> {
-    /// As [`is_disjoint`](MixedEnumSet::is_disjoint), without a copy of its argument.
+    /// Like [`is_disjoint`](MixedEnumSet::is_disjoint), without copying its argument.
     pub fn is_disjoint_from(&self, other: &MixedEnumSet<T>) -> bool
         ensures { result ≡ set.is_disjoint self.now other.now }
     {
         self.repr.is_disjoint_from(&other.repr)
     }
 
-    /// As [`is_superset`](MixedEnumSet::is_superset), without a copy of its argument.
+    /// Like [`is_superset`](MixedEnumSet::is_superset), without copying its argument.
     pub fn is_superset_of(&self, other: &MixedEnumSet<T>) -> bool
         ensures { result ≡ set.is_subset other.now self.now }
     {
         other.repr.is_subset_of(&self.repr)
     }
 
-    /// As [`is_subset`](MixedEnumSet::is_subset), without a copy of its argument.
+    /// Like [`is_subset`](MixedEnumSet::is_subset), without copying its argument.
     pub fn is_subset_of(&self, other: &MixedEnumSet<T>) -> bool
         ensures { result ≡ set.is_subset self.now other.now }
     {

@@ -20,8 +20,8 @@ pub enum MixedValue<T: EnumSetType> {
     Invalid(u32),
 }
 
-/// The `{:?}` text of the element, or the number of the bit in brackets, such as `[3]`. No contract speaks of `{:?}`;
-/// tests do.
+/// The `{:?}` text of the element, or the number of the bit in brackets, such as `[3]`. No contract is about `{:?}`;
+/// tests are.
 impl<T: EnumSetType + fmt::Debug> fmt::Debug for MixedValue<T> {
     fn fmt<W: fmt::Write>(&self, f: &mut fmt::Formatter<W>) -> fmt::Result {
         match self {

@@ -1,6 +1,6 @@
 -- The ends of a list, and of a set.
 --     first, last      the first and the last item of a list, if there is one
---     without_first, without_last      the list without that item
+--     without_first, without_last      a list without its first item;  without its last
 --     least, greatest      the least and the greatest member of a set, if there is one
 use Rattle.std.specs.Prelude.{ℕ, ◌-◌, List, Option, None, length, drop, take}
 use Rattle.std.specs.List.{slice_get, last_or}

@@ -29,7 +29,7 @@ pub data AllBitsShouldBe (number : ℕ) : Type 0 where
 
 pub data AllBitsShouldBeWords (words : List ℕ) : Type 0 where
 
--- the fault if the test fails, else what comes next
+-- the given fault if a test fails, else what comes next
 abbrev pub or_else : Bool → Type 0 → Type 0 → Type 0
 or_else true fault next = next
 or_else false fault next = fault
@@ -50,7 +50,7 @@ IsLawful D bs valid fault width count =
     (or_else (one_past_all bs == width) (BitWidthShouldBe (one_past_all bs))
     (or_else (length bs == count) (VariantCountShouldBe (length bs)) (Bare D.parts)))))))
 
--- the same over an integer: ALL_BITS is the number of the bits
+-- the test `IsLawful` over an integer: ALL_BITS must be the number of the bits
 abbrev pub IsLawfulNumber : (D : Declared) → List ℕ → ℕ → ℕ → ℕ → Type 0
 IsLawfulNumber D bs n width count =
     IsLawful D bs (sum_by (λ b. 2 ^ b) bs == n) (AllBitsShouldBe (sum_by (λ b. 2 ^ b) bs)) width count
@@ -60,6 +60,6 @@ abbrev pub words_naming : List ℕ → List ℕ → List ℕ
 words_naming bs [] = []
 words_naming bs (n ∷ ns) = sum_by (λ b. 2 ^ b) (in_first_word bs) ∷ words_naming (in_later_words bs) ns
 
--- the same over words: the words of ALL_BITS have the bits of the list and no others
+-- the test `IsLawful` over words: the words of ALL_BITS must have the bits of the list and no others
 abbrev pub IsLawfulWords : (D : Declared) → List ℕ → List ℕ → ℕ → ℕ → Type 0
 IsLawfulWords D bs ns width count = IsLawful D bs (lists_words bs ns) (AllBitsShouldBeWords (words_naming bs ns)) width count

@@ -1,7 +1,8 @@
 -- The order of two sets, by their members alone.
 --     deciding_number      the greatest number that is in exactly one of two sets, if there is one
---     by_holder      greater if a set has that number, less if it does not, equal if there is none
---     compare      the set that has that number is the greater;  if there is none, the sets are equal
+--     by_holder      greater if a set has the deciding number, less if it does not, equal if there is none
+--     compare      the set that has the greatest number that is in exactly one of the two is the greater;  if there is
+--         no such number, the sets are equal
 use Rattle.std.specs.Prelude.{ℕ, if◌then◌else◌, Option, Some, None}
 use Rattle.std.specs.declared.cmp.Ordering.{Ordering}
 use Rattle.std.specs.declared.cmp.Ordering.TheVariants.{Less, Equal, Greater}

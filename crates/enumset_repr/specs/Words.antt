@@ -6,7 +6,7 @@
 --         the number would add
 --     words      the first n words of a set, the lowest first
 --     bits_of      the set that a list of words represents: 64 w + b for each place w and each bit b of the word there
---     in_first_word, in_later_words      the numbers of a list below 64;  those from 64 on, each reduced by 64
+--     in_first_word, in_later_words      the numbers of a list below 64;  the numbers from 64 on, each reduced by 64
 --     lists_words      whether a list names each member of the set that words represent once, and no other number
 use Rattle.std.specs.Prelude.{ℕ, ◌+◌, ◌-◌, ◌*◌, ◌^◌, Bool, true, false, if◌then◌else◌, not, ◌&&◌, nat_lt, nat_le, List, [], ◌∷◌, map, filter, sum_by}
 use Rattle.std.specs.List.{range_with_len}

@@ -28,7 +28,7 @@ impl Model for Asks {
 
 impl Asks {
     /// Returns a count of `n` asks, where the proof of the caller picks the number. The other calls make their counts
-    /// by this one. It is for proofs: at run time a count has no bytes.
+    /// with this one. It is for proofs: at run time a count has no bytes.
     pub fn counted() -> Asks
         ghost n: { ℕ }
         ensures { result ≡ n }

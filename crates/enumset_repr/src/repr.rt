@@ -214,7 +214,7 @@ pub trait EnumSetTypeRepr: Copy
         ensures asks { asks result ≡ 0 }
         ensures span { span result ≤ PREFERRED_ARRAY_LEN };
 
-    /// Returns the number of items that an iterator has left. Code over any representation calls it in place of
+    /// Returns the number of items that an iterator has left. Code over any representation calls it instead of
     /// `size_hint`.
     fn items_left(iter: &Self::Iter) -> usize
         ensures { result ≡ length (rest iter.now) }
@@ -222,7 +222,7 @@ pub trait EnumSetTypeRepr: Copy
         iter.len()
     }
 
-    /// Returns an iterator with the same items left. Code over any representation calls it in place of `clone`.
+    /// Returns an iterator with the same items left. Code over any representation calls it instead of `clone`.
     fn same_iter(iter: &Self::Iter) -> Self::Iter
         ensures rest { rest result ≡ rest iter.now }
         ensures asks { asks result ≡ asks iter.now }
@@ -251,7 +251,7 @@ pub trait EnumSetTypeRepr: Copy
     final fn to_u64_slice(&self, out: &mut [u64])
         ensures { out.new ≡ words (members self.now) (length out.old) }
     {
-        // That no member is past the last word is a law of values.
+        // The proof needs this: a value of the type has no member past its last word.
         self.learn_is_value();
         let used = out.len().min(Self::PREFERRED_ARRAY_LEN);
         for i in 0..used {
@@ -535,7 +535,7 @@ pub trait EnumSetTypeRepr: Copy
 pub fn word_or_zero<R: EnumSetTypeRepr>(repr: &R, i: usize) -> u64
     ensures { result ≡ word_of (R.members repr.now) i }
 {
-    // That no member is past the last word is a law of values.
+    // The proof needs this: a value of the type has no member past its last word.
     repr.learn_is_value();
     if i < R::PREFERRED_ARRAY_LEN {
         repr.word(i)
@@ -546,12 +546,12 @@ pub fn word_or_zero<R: EnumSetTypeRepr>(repr: &R, i: usize) -> u64
 
 /// Whether every member is below 64 times `from`: whether each word from that place on is 0.
 ///
-/// The words are read sixteen at a time, up to the first sixteen that have one which is not 0. If there are sixteen or
-/// more, the first is read alone before.
+/// The words are read sixteen at a time, up to the first sixteen that are not all 0. If there are at least sixteen, the
+/// first word is tested by itself before that.
 fn has_no_word_from<R: EnumSetTypeRepr>(repr: &R, from: usize) -> bool
     ensures { result ≡ set.is_subset (R.members repr.now) (set.below (64 * from)) }
 {
-    // That no member is past the last word is a law of values.
+    // The proof needs this: a value of the type has no member past its last word.
     repr.learn_is_value();
     let len = R::PREFERRED_ARRAY_LEN;
     if len <= from {
@@ -570,8 +570,8 @@ fn has_no_word_from<R: EnumSetTypeRepr>(repr: &R, from: usize) -> bool
     are_zero(repr, from + 16 * blocks, len)
 }
 
-/// Whether each word from one place up to another is 0. The second place must be no less than the first, and at most
-/// the number of words.
+/// Returns whether each word from place `from` up to, but not including, place `to` is 0. `from` must be at most `to`,
+/// and `to` at most the number of words.
 pub(crate) fn are_zero<R: EnumSetTypeRepr>(repr: &R, from: usize, to: usize) -> bool
     requires ordered { from ≤ to }
     requires within { to ≤ R.PREFERRED_ARRAY_LEN }

@@ -1,8 +1,8 @@
 -- The argument of the program, and its faults: their texts, their exit statuses, and when they may be reported.
 --     program_fault_text, status_of      the text and the exit status of a fault of the program
 --     type_of_arguments      the type that the arguments name, from what was found of the first and of the second
---     IsFaultOver      whether the program may report a fault, over an input with this answer
---     AppendsFrontOf      the contents of a writer grow by a front part of a text
+--     IsFaultOver      whether the program may report a fault, for an input with this answer
+--     AppendsFrontOf      the contents of a writer grow by the first bytes of a text
 use Rattle.std.specs.Prelude.{◌≢◌, ℕ, List, [], take, codes, Option, Result, Ok, Err, ok_or, IsOkAnd, ⊤}
 use Rattle.std.specs.Io.KnownBytes.{Appends}
 use Rattle.std.specs.declared.env.FillError.{FillError}

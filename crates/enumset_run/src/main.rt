@@ -1,7 +1,7 @@
 //! Runs lists of commands over sets of an enum's variants.
 //!
 //! `enumset_run TYPE` reads lines of commands from standard input, runs them over the type of that name,
-//! and prints one reply a line.
+//! and prints one reply per line.
 #![tactic(auto)]
 
 mod ending;

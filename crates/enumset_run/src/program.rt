@@ -87,7 +87,7 @@ pub(crate) fn answer_input<R: Read + Drop, W: Write>(
         (Appends (W.contents writer.old) (W.contents writer.new)))) }
     ensures fault { IfErr result (λ fault. IfSome (R.remaining reader) (λ input.
         IsFaultOver (answer_over worked input) fault)) }
-    // If writing fails, a front part of the answer was written; with any other fault nothing was.
+    // If writing fails, some first bytes of the answer were written; with any other fault nothing was.
     ensures begun { result ≡ Err ProgramFault.Writing → IfSome (R.remaining reader) (λ input.
         IsOkAnd (answer_over worked input)
         (AppendsFrontOf (W.contents writer.old) (W.contents writer.new))) }

@@ -2,7 +2,7 @@
 --     Elements      the bit of each value, and the list of the variants' bits
 --     valid_bits      the set of the variants' bits
 --     listed_bit, place      the bit of a variant of an enum without fields: the one at the variant's place in a list;
---         that place itself
+--         the variant's place itself
 --     with_bits, in_place      the elements of an enum with these bits
 --     in_order      the same elements as `in_place`, with the list 0, 1, 2 and so on
 --     one_past      one past a number, or 0 if there is none
@@ -28,7 +28,7 @@ pub record Elements (T : Type 0) : Type 0 where
 unfoldable pub valid_bits : {T : Type 0} → Elements T → BitSet
 valid_bits elements = from_list elements.bit_list
 
--- the first variant of the declaration has the first bit of the list, and so on
+-- the bit at the variant's place in the list: the first variant of the declaration has the first bit, and so on
 unfoldable pub listed_bit : (D : Declared) → List ℕ → D.D → ℕ
 listed_bit D bs v = slice_index bs (tag_of D v)
 
@@ -39,7 +39,7 @@ with_bits D bs = record { bit = λ v. listed_bit D bs v; bit_list = bs }
 abbrev pub in_order : (D : Declared) → Elements D.D
 in_order D = with_bits D (range_with_len 0 (length (rowss D.parts)))
 
--- the same bits, each stated as its variant's place, so that a proof about `self as u32` needs no list
+-- the bit of a variant that is its place in the declaration, so that a proof about `self as u32` needs no list
 unfoldable pub place : (D : Declared) → D.D → ℕ
 place D v = tag_of D v
 

@@ -1,11 +1,12 @@
 -- What `retain` leaves of a set, by the calls of its closure.
 --     Keeps      one call: the element stays exactly if the call returned true
---     RetainsTo      the calls for the elements of a set, one for each, ascending by bit, changed the closure from the
---         first of these values to the second, and left this set
---     Retains      the same, whatever value the closure has in the end
+--     RetainsTo      the calls of a closure for the elements of a set, one for each, ascending by bit, changed the
+--         closure from one value to another, and left a second set
+--     Retains      the calls of a closure for the elements of a set, one for each, ascending by bit, left a second set,
+--         whatever value the closure has in the end
 --     IsTest      each call, whatever the closure has captured, returns the result of a test of the element's bit
---     IsConstantTest      each call of this closure returns such a result, and does not change what the closure
---         captured
+--     IsConstantTest      each call of a closure returns the result of a test of the element's bit, and does not change
+--         what the closure captured
 use Rattle.std.specs.Fn.{Mut, Called}
 use Rattle.std.specs.List.{FoldsTo}
 use Rattle.std.specs.Prelude.{◌≡◌, ℕ, Bool, if◌then◌else◌, List, map}

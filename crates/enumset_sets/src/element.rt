@@ -40,8 +40,8 @@ pub trait EnumSetType: Copy + Eq {
     fn enum_into_u32(self) -> u32
         ensures { result ≡ elements.bit self };
 
-    /// Returns the value that has a bit. The bit must be valid: [`EnumSet::is_bit_valid`](crate::EnumSet::is_bit_valid)
-    /// is the test.
+    /// Returns the value that has a bit. The bit must be valid. [`EnumSet::is_bit_valid`](crate::EnumSet::is_bit_valid)
+    /// tests this.
     fn enum_from_u32(val: u32) -> Self
         requires { IsTrue (is_in val elements.bit_list) }
         ensures { elements.bit result ≡ val };

@@ -42,12 +42,12 @@ use std::marker::{Model, PhantomData};
 /// | `from_X_truncated` | the set of its valid bits | |
 /// | `from_X_unchecked` | as `from_X` | the same |
 ///
-/// The `try_` form is the test for what the other form requires: code that has matched its `Some` may call the other.
+/// The `try_` form tests what the other form requires: code that has matched its `Some` may call the other.
 ///
 /// # Words
 ///
 /// Word w of a set, a number of 64 bits, has the members from 64w to 64w + 63; the lowest word comes first. Arrays and
-/// slices may have any length. Words past the last of the representation are 0.
+/// slices may have any length. Words past the last word of the representation are 0.
 ///
 /// | Array | Slice | It returns or writes | It requires |
 /// | --- | --- | --- | --- |
@@ -134,8 +134,8 @@ impl<T: EnumSetType> Default for EnumSet<T> {
     }
 }
 
-/// `EnumSet(`, the `{:?}` texts of the elements, ascending by bit and joined by ` | `, and `)`. No contract speaks of
-/// `{:?}`; tests do.
+/// `EnumSet(`, the `{:?}` texts of the elements, ascending by bit and joined by ` | `, and `)`. No contract is about
+/// `{:?}`; tests are.
 impl<T: EnumSetType + fmt::Debug> fmt::Debug for EnumSet<T> {
     fn fmt<W: fmt::Write>(&self, f: &mut fmt::Formatter<W>) -> fmt::Result {
         f.write_str("EnumSet(")?;
@@ -156,7 +156,7 @@ impl<T: EnumSetType> EnumSet<T> {
         requires { IsTrue (set.is_subset (T.Repr.members repr) (valid_bits T.elements)) }
         ensures { result ≡ T.Repr.members repr }
     {
-        // The invariant of the type speaks of values only.
+        // The invariant of the type is about values only.
         repr.learn_is_value();
         EnumSet {
             repr,
@@ -428,21 +428,21 @@ impl<T: EnumSetType> EnumSet<T> {
         Self::of_repr(range)
     }
 
-    /// As [`is_disjoint`](EnumSet::is_disjoint), without a copy of its argument.
+    /// Like [`is_disjoint`](EnumSet::is_disjoint), without copying its argument.
     pub fn is_disjoint_from(&self, other: &EnumSet<T>) -> bool
         ensures { result ≡ set.is_disjoint self.now other.now }
     {
         self.repr.is_disjoint_from(&other.repr)
     }
 
-    /// As [`is_superset`](EnumSet::is_superset), without a copy of its argument.
+    /// Like [`is_superset`](EnumSet::is_superset), without copying its argument.
     pub fn is_superset_of(&self, other: &EnumSet<T>) -> bool
         ensures { result ≡ set.is_subset other.now self.now }
     {
         other.repr.is_subset_of(&self.repr)
     }
 
-    /// As [`is_subset`](EnumSet::is_subset), without a copy of its argument.
+    /// Like [`is_subset`](EnumSet::is_subset), without copying its argument.
     pub fn is_subset_of(&self, other: &EnumSet<T>) -> bool
         ensures { result ≡ set.is_subset self.now other.now }
     {

@@ -1,4 +1,4 @@
-//! Laws of members, and of round trips: what one call makes of a set, another call reads as the same set.
+//! Laws of members, and of round trips: what one call writes for a set, another call reads back as the same set.
 //!
 //! Each law is a function that does nothing at run time, over every element type. Code that needs a law calls it with
 //! its set, and the proof of that code then knows what the function ensures. Rust's `enumset` has no laws.
@@ -11,7 +11,6 @@ ghost use Rattle.enumset_sets.specs.Elements.{valid_bits};
 
 use crate::element::EnumSetType;
 use crate::enum_set::EnumSet;
-use enumset_repr::EnumSetTypeRepr;
 
 /// Each member of a set is a valid bit, and so one of the list of the element type and below the width of the
 /// representation. So a set has fewer than 2³² members.

@@ -17,8 +17,8 @@ pub fn get<T: EnumSetType>(set: EnumSet<T>) -> T::Repr
     set.repr
 }
 
-/// Returns the set that a value represents. Every bit of it must be valid: a variant has it.
-/// `repr.is_subset_of(&get(EnumSet::<T>::all()))` is the test. Rust's call takes any value.
+/// Returns the set that a value represents. Every bit of the value must be valid: it must be the bit of a variant.
+/// `repr.is_subset_of(&get(EnumSet::<T>::all()))` tests this. Rust's call takes any value.
 pub fn new<T: EnumSetType>(repr: T::Repr) -> EnumSet<T>
     requires valid { IsTrue (is_subset (T.Repr.members repr) (valid_bits T.elements)) }
     ensures { result ≡ T.Repr.members repr }

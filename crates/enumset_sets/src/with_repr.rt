@@ -25,8 +25,8 @@ impl<T: EnumSetTypeWithRepr> EnumSet<T> {
         self.repr
     }
 
-    /// Returns the set that a value represents. Every bit of it must be valid: a variant has it.
-    /// [`try_from_repr`](EnumSet::try_from_repr) is the test. Rust's call panics instead.
+    /// Returns the set that a value represents. Every bit of the value must be valid: it must be the bit of a variant.
+    /// [`try_from_repr`](EnumSet::try_from_repr) tests this. Rust's call panics instead.
     pub fn from_repr(repr: T::Repr) -> EnumSet<T>
         requires valid { IsTrue (set.is_subset (T.Repr.members repr) (valid_bits T.elements)) }
         ensures { result ≡ T.Repr.members repr }

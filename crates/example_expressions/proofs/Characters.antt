@@ -1,7 +1,7 @@
 -- The characters of a line, read one after another.
 --     more_read, fault_read      one more character, which adds to the tokens, or is a fault
 --     all_read      after the last character the tokens are the tokens of the line
--- The turn of a loop over characters with their places gives the premise about `enumerate_from`.
+-- Each iteration of a loop over characters with their places has the premise about `enumerate_from`.
 use Rattle.std.proofs.Common.{◌≡◌, ℕ, zero, suc, ◌+◌, ◌<◌, Bool, List, [], ◌∷◌, length, get_or, drop, Ok, Err, sym, ap, ◌∙◌, arith}
 use Rattle.std.specs.Char.{is_ascii_digit}
 use Rattle.std.specs.List.{enumerate_from}

@@ -1,7 +1,7 @@
 -- The worklist of the parts with which a part can begin.
 --     IsTaken      the kinds and the parts that come first in a part's rules are there, or pending
 --     IsWorklist      each part that is not left is taken, and no kind is there but those that can come first
---     at_first, step, at_end      it holds at first;  after each part;  and says all in the end
+--     at_first, step, at_end      the worklist is right at first;  after each part;  at its end it has all kinds
 --     sum_begins      the kinds with which a sum can begin
 use Rattle.std.proofs.Common.{◌≡◌, ℕ, Bool, true, false, not, ◌||◌, map, refl, sym, ◌∙◌, true≢false, arith, ◌↔◌, IsTrue, inl, inr}
 use Rattle.std.proofs.lemmas.Bool.{or_cases, or_left, or_right}

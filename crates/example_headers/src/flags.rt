@@ -1,4 +1,4 @@
-//! What this version makes of a frame's flags.
+//! What this version does with a frame's flags.
 
 ghost use Rattle.std.specs.Prelude.{◌≡◌, ◌↔◌, true};
 ghost use Rattle.enumset.specs.Sets as set;
@@ -10,7 +10,8 @@ use crate::newer_flag::NewerFlag;
 use enumset::set::MixedEnumSet;
 use enumset::{EnumSet, EnumSetType, laws};
 
-/// What this version decides of the flags that it knows. It gives the receipt, and marks the frame as relayed.
+/// What this version does with the flags that it knows. It clears the request for a receipt, and marks the frame as
+/// relayed.
 pub fn decide(flags: EnumSet<Flag>) -> EnumSet<Flag>
     ensures { result ≡ set.insert (set.remove flags (bit Flag.WantsReceipt)) (bit Flag.Relayed) }
 {
@@ -37,7 +38,7 @@ pub fn is_understood(byte: u8) -> bool
     byte & !EnumSet::<Flag>::all().as_u8() == 0
 }
 
-/// The flags with others in place of those that this version knows. The reserved bits stay.
+/// The flags, with those that this version knows replaced by others. The reserved bits stay.
 pub fn replace_known(flags: MixedEnumSet<Flag>, decided: EnumSet<Flag>) -> MixedEnumSet<Flag>
     ensures known { known result ≡ decided }
     ensures reserved { reserved result ≡ reserved flags }

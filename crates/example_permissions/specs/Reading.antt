@@ -12,7 +12,7 @@
 --     policy_in, policy_read      the contents of a JSON value;  of a JSON text, if it is one
 --     rights_in, request_in      the rights of words, with those so far;  the user and the rights of a request, if it has words
 --     IsFaultOf      the fault says what is wrong, or memory ran out
---     IsFaultOfText      the same, or the text is not JSON
+--     IsFaultOfText      the fault says what is wrong, or memory ran out, or the text is not JSON
 use Rattle.std.specs.Prelude.{◌≡◌, ℕ, ◌==◌, not, List, [], ◌∷◌, length, filter, codes, Option, Some, None, option_map, option_and_then, ok_or, Result, Ok, Err, string_bytes}
 use Rattle.std.specs.Char.{is_ascii_whitespace}
 use Rattle.std.specs.List.{slice_split}

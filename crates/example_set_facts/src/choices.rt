@@ -15,7 +15,7 @@ pub fn is_quorum(present: &EnumSet<Seat>, members: &EnumSet<Seat>, quorum: usize
     (*present & *members).len() >= quorum
 }
 
-/// Whether more members are for it than against it. Nobody votes twice.
+/// Whether more members vote yes than no. Nobody votes twice.
 pub fn is_carried(members: &EnumSet<Seat>, yes: &EnumSet<Seat>, no: &EnumSet<Seat>) -> bool
     requires { set.is_disjoint yes.now no.now ≡ true }
     ensures { result ≡ true ↔ (set.len (set.intersection members.now no.now) + 1

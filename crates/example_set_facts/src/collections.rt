@@ -31,7 +31,7 @@ pub fn are_within<T: EnumSetType>(sets: &[EnumSet<T>], whole: &EnumSet<T>) -> bo
     sets.iter().all(|members| members.is_subset_of(whole))
 }
 
-/// Adds a set at the end. Memory is refused only if there is no room left, and then nothing changes.
+/// Adds a set at the end. Memory can be refused only if there is no room left, and then nothing changes.
 pub fn add<T: EnumSetType>(sets: &mut Vec<EnumSet<T>>, new: EnumSet<T>) -> Result<(), AllocError>
     ensures added { OnOk result (sets.new.items ≡ sets.old.items ++ (new ∷ [])) }
     ensures unchanged { OnErr result (sets.new.items ≡ sets.old.items) }

@@ -23,7 +23,7 @@ use std::alloc::Global;
 /// Why the features of a text are refused.
 #[derive(Drop)]
 pub enum Refusal<T: EnumSetType> {
-    /// The text lists no set.
+    /// The text does not list a set.
     Unread(JsonFault),
     /// These are required, and the text does not list them.
     Missing(EnumSet<T>),
@@ -147,8 +147,8 @@ pub fn checked<T: EnumSetNames>(
     permitted(&features, forbidden)
 }
 
-/// The place of the first name in a text that is of no feature, or `None` if the text lists a set. Any other fault is
-/// returned.
+/// Returns the place of the first name in a text that no feature has, or `None` if the text lists a set. Any other
+/// fault is returned as an error.
 pub fn unknown_name<T: EnumSetNames>(alloc: Global, text: &str) -> Result<Option<usize>, JsonFault>
     ensures place { IfOk result (λ found. IfSome found (λ place.
         value_read (set_of_list (names_of T.elements T.names) unknown.Refuse) text.now

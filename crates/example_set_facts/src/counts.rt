@@ -49,7 +49,7 @@ pub fn counted_insert<T: EnumSetType>(members: &mut EnumSet<T>, new: T) -> usize
     }
 }
 
-/// Adds an element if the quota allows one more, and returns whether it does. The quota is met as before.
+/// Adds an element if the quota allows one more, and returns whether it does. The set stays within the quota.
 pub fn insert_within<T: EnumSetType>(members: &mut EnumSet<T>, new: T, quota: usize) -> bool
     requires { set.len members.old ≤ quota }
     ensures room { result ≡ nat_lt (set.len members.old) quota }

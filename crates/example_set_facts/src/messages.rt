@@ -17,7 +17,7 @@ pub fn known(byte: u8) -> EnumSet<Flag>
     EnumSet::from_u8_truncated(byte)
 }
 
-/// The byte with a flag set. Known flags alone are kept.
+/// The byte with a flag set. Only known flags are kept.
 pub fn marked(byte: u8, new: Flag) -> u8
     ensures { bits result ≡ set.insert (set.intersection (bits byte)
         (valid_bits ⟦<Flag as EnumSetType>⟧.elements)) (flag new) }

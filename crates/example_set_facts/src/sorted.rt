@@ -33,8 +33,8 @@ pub fn merged<T: EnumSetType>(
     Ok(all)
 }
 
-/// A place at which a list of sets has the wanted one. In a sorted list a binary search finds it, if the list has it.
-/// Else it gives the place between the lesser sets and the greater ones.
+/// Returns a place at which a list of sets has the wanted one. In a sorted list, a binary search finds one if there is
+/// one; otherwise the error is the place between the lesser sets and the greater ones.
 pub fn place_of<T: EnumSetType>(sets: &[EnumSet<T>], wanted: &EnumSet<T>) -> Result<usize, usize>
     ensures within { IsSearchInRange result (length sets.now) }
     ensures found { IfOk result (λ k. slice_index_or sets.now k set.empty ≡ wanted.now) }

@@ -1,4 +1,4 @@
-//! Names for the values of `NamedWide`, which are front parts of one another.
+//! Names for the values of `NamedWide`: the shorter ones are prefixes of the longer ones.
 
 use crate::wide::NamedWide;
 use enumset::{EnumSetNames, names_of};

@@ -1,7 +1,8 @@
 -- Laws of steps from both ends of a list.
 --     both_ends      the items from the front, those left, and those from the back reversed are together the list
 --     ended, ended_answer      after a step that yielded None, nothing is left;  a step from either end yields None
---     both_ends_whole      then the items from the front and those from the back reversed are together the list
+--     both_ends_whole      after a step that yielded None, the items from the front and those from the back reversed
+--         are together the list
 --     none_twice      no item of an ascending list comes twice
 use Rattle.std.proofs.Common.{◌≡◌, ◌<◌, ℕ, suc, true, not, List, [], ◌∷◌, ◌++◌, None, reverse, refl, sym, ap, ◌∙◌, arith, inl, inr, subst, get_or, append_assoc, append-nil, Contains, true≢false}
 use Rattle.std.proofs.lemmas.Bool.{and_from, false_from_ne_true}

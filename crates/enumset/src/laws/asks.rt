@@ -1,6 +1,6 @@
 //! Laws of asks, which are the counted reads of a word that an iterator makes.
 //!
-//! Unlike the other laws, these calls take the steps that they speak of.
+//! Unlike the other laws, these calls take the steps that they are about.
 
 ghost use Rattle.std.specs.Prelude.{◌≡◌, ◌+◌, ◌≤◌, length};
 ghost use Rattle.enumset_repr.specs.Asks.{BoundsAsks};

@@ -6,7 +6,6 @@ ghost use Rattle.enumset_repr.specs.BitSet.{is_in, contains, from_list, below, l
 ghost use Rattle.enumset_repr.specs.Number.{bits, is_distinct};
 ghost use Rattle.enumset_sets.specs.Elements.{valid_bits, one_past_greatest};
 
-use enumset_repr::EnumSetTypeRepr;
 use enumset_sets::EnumSetType;
 use enumset_sets::raw::valid_repr;
 

@@ -62,7 +62,7 @@ fn put_twelve(row: &mut [u8], at: usize, number: u64) -> usize
     next + 8
 }
 
-/// The same for at most four digits.
+/// Writes a number of at most four digits to a row, from the index `at` on, and returns where it ends.
 #[inline(always)]
 fn put_short(row: &mut [u8], at: usize, number: u64) -> usize
     requires small { number < 10000 }

@@ -38,7 +38,8 @@ pub(super) fn split_number(bytes: &[u8]) -> Option<(u64, &[u8])>
     if number == 0 {
         return Some((0, rest));
     }
-    // Two digits a turn, with one test, are faster than one. Nineteen digits always fit: only a twentieth can overflow.
+    // Reading two digits per iteration, with one test, is faster than one by one. Nineteen digits always fit: only a
+    // twentieth can overflow.
     let count = rest.len().min(18);
     let mut at = 0;
     while at + 2 <= count {

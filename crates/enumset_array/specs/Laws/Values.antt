@@ -1,7 +1,7 @@
 -- A list of words as one number, the lowest word first.
---     value, AllFit      the number;  each word has 64 bits
+--     value, AllFit      a list of words as one number;  each word has 64 bits
 --     number_is      the words of an `ArrayRepr` and their set have the same number
---     len_bits_of      the members of the set are counted word by word
+--     len_bits_of      the number of members of the set of a list of words is the sum over its words
 use Rattle.std.proofs.Common.{◌≡◌, ◌<◌, ℕ, suc, ◌+◌, ◌-◌, ◌*◌, ◌^◌, List, [], ◌∷◌, sym, ap, ◌∙◌, arith, refl, slice_index, sum_by}
 use Rattle.std.proofs.lemmas.Bool.Decides.{nat_tests}
 use Rattle.std.proofs.lemmas.List.Sums.{sum_by-cons}

@@ -61,7 +61,7 @@ impl<'a> Tokens<'a> {
         Some(number)
     }
 
-    /// The same for a `u8`: a register or a count.
+    /// Removes the next token, and returns the `u8` that it writes, a register or a count, like `next_u64`.
     #[inline(always)]
     #[tactic(auto, using(crate::proofs::Fields::narrow_fields))]
     pub(super) fn next_u8(&mut self) -> Option<u8>
@@ -70,7 +70,7 @@ impl<'a> Tokens<'a> {
         u8::try_from(self.next_u64()?).ok()
     }
 
-    /// The same for a `u32`: a bit or a width.
+    /// Removes the next token, and returns the `u32` that it writes, a bit or a width, like `next_u64`.
     #[inline(always)]
     #[tactic(auto, using(crate::proofs::Fields::narrow_fields))]
     pub(super) fn next_u32(&mut self) -> Option<u32>
@@ -79,7 +79,8 @@ impl<'a> Tokens<'a> {
         u32::try_from(self.next_u64()?).ok()
     }
 
-    /// The same for a `u128`: a value. Only a value is read with arithmetic on 128 bits, which is slower.
+    /// Removes the next token, and returns the `u128` that it writes, a value, like `next_u64`. Only values are read
+    /// with arithmetic on 128 bits, which is slower.
     pub(super) fn next_u128(&mut self) -> Option<u128>
         ensures { Takes value self.old result self.new }
     {

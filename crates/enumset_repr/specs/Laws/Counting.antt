@@ -8,11 +8,12 @@
 --     len_intersection, len_difference, len_subset      a subset has at most as many members
 --     len_proper      a proper subset has fewer members
 --     len_apart      how many members of s are in the union of two disjoint sets
---     len_inserted, len_removed      one more;  one less
+--     len_inserted, len_removed      inserting a number adds one member;  removing a member leaves one less
 --     len_zero_iff      a set has 0 members exactly if it is the empty set
---     kept_count, left_count      how long the list is of the numbers of s that are in t, and that are not
---     len_kept, len_left      the same as the number of members of a set
---     len_kept_both, len_kept_either, len_kept_but, len_left_both      the same by two other sets
+--     kept_count, left_count      the length of the list of the members of s that are in t, and that are not
+--     len_kept, len_left      the number of members of s that are in t, and that are not, as a count over the list of s
+--     len_kept_both, len_kept_either, len_kept_but, len_left_both      the number of members of s that are in both of
+--         two sets, in either, in the first but not the second, in neither, as a count over the list of s
 --     length_ascending      the list of the members is as long as the set
 -- The ruleset `counting` has those that a tactic can apply by itself.
 use Rattle.std.proofs.Common.{◌≡◌, ◌≤◌, ◌<◌, ◌+◌, ◌-◌, ℕ, suc, zero, Bool, true, false, cond, not, ◌&&◌, ◌||◌, List, [], ◌∷◌, length, filter, count_by, refl, sym, ap, subst, ◌∙◌, arith, ◌↔◌, ◌==◌}
@@ -116,7 +117,7 @@ len_some s b one = some (len s) refl where
 pub len_removed : (s : BitSet) (b : ℕ) → contains s b ≡ true → len (remove s b) + 1 ≡ len s
 len_removed s b one = omega (arith, len_some s b one, len_remove s b ∙ ap (λ t. cond t (len s - 1) (len s)) one)
 
--- as many members of s are in t as numbers in the list of s
+-- the number of members of s that are in t is the length of the list of these members
 pub kept_count : (s t : BitSet) → length (filter (contains t) (ascending s)) ≡ len (intersection s t)
 kept_count s t = ap length (sym (ascending_intersection s t)) ∙ sym (len_ascending (intersection s t))
 

@@ -4,7 +4,7 @@
 --         passes
 --     least_tells, greatest_tells      `least` is a member, and none is less;  `greatest` is one, and none is greater;
 --         if there is neither, the set is empty
---     least_at, greatest_at      the same for a number that is looked for in this set or another
+--     least_at, greatest_at      what `least` and `greatest` say of a number that is looked up in this set or another
 --     .._in      what is found is a member;  if nothing is found, there is none
 --     .._has      no member in sight is less, or greater
 --     ascending_..      the list of the members
@@ -68,7 +68,7 @@ greatest_at s t q = (refl, refl, by (greatest s) (greatest_tells s).1) where
 
 pub ruleset found = (found_tells, least_tells, greatest_tells, least_at, greatest_at, members, difference_tells, intersection_tells)
 
--- ---- the same for a number in sight, and lists of members
+-- ---- the least and the greatest member against a number in sight, and lists of members
 
 pub least_has : (s : BitSet) (q : ℕ) (w : Bool) → (least s ≡ least s) × (at q w ≡ at q w) × MatchOption (least s) (contains s q ≡ false) (λ m. contains s q ≡ true → m ≤ q)
 least_has s q w = (refl, refl, by (least s) (least_tells s).1) where

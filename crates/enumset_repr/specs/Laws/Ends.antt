@@ -7,7 +7,7 @@
 --     least_empty, greatest_empty      the empty set has neither
 --     least_facts, greatest_facts      the least is a member, and none is less;  the greatest is one, and none is past
 --         it
---     least_below, greatest_below      both are below a bound of all members
+--     least_below, greatest_below      the least and the greatest member are below a bound of all members
 --     ascending_least, ascending_greatest      the least comes first in the list, and the greatest last
 --     trailing_least, leading_greatest      what `trailing_zeros` and `leading_zeros` count, at each number of bits
 --     least_fits      the least member of a number is below a width that the number fits

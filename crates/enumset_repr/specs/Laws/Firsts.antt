@@ -3,7 +3,7 @@
 --         others are the list of the set without it
 --     last_member, last_greatest, last_rest      the last number is a member, and the greatest;  the others are the
 --         list of the set without it
---     first_is_least, last_is_greatest      they are `least` and `greatest`
+--     first_is_least, last_is_greatest      the first number of a set's list is `least`;  the last is `greatest`
 --     ascending_empty_iff      a set's list is empty exactly if the set is
 --     insert_sorted, ascending_insert      the list of a set with a number inserted
 -- The rulesets `firsts` and `written_out` have those that a tactic can apply by itself.

@@ -5,7 +5,8 @@
 --     is_subset_.., contains_is_subset, is_subset_iff      a subset, by its members;  by an empty difference
 --     is_disjoint_.., contains_is_disjoint, is_disjoint_iff      disjoint sets, by their members;  by an empty
 --         intersection
---     .._is_subset      operations on subsets of one set give subsets of it;  the ruleset `subsets` has them all
+--     .._is_subset      the result of an operation on subsets of a set is a subset of it;  the ruleset `subsets` has
+--         them all
 --     member_below, contains_past      members of sets of numbers below a bound
 --     list_all_any, list_all_each      a test that passes each number of a list
 --     is_same-IsEquivalence, is_same-IsPartialEquivalence      `is_same` is an equivalence
@@ -183,7 +184,8 @@ member_below s n b sub in_s = ltb-true b n (sym (contains_below n b) ∙ is_subs
 pub contains_past : (s : BitSet) (n b : ℕ) → is_subset s (below n) ≡ true → n ≤ b → contains s b ≡ false
 contains_past s n b sub past = false_from_ne_true (contains s b) (λ in_s. omega (arith, past, member_below s n b sub in_s))
 
--- Operations on subsets of the valid bits give such subsets: `#[tactic(auto, using(enumset_repr::specs::Laws::Members::subsets))]`.
+-- The result of an operation on subsets of the valid bits is a subset of them:
+-- `#[tactic(auto, using(enumset_repr::specs::Laws::Members::subsets))]`.
 pub ruleset subsets = (is_subset_itself, empty_is_subset, insert_is_subset, remove_is_subset, union_is_subset, intersection_is_subset, difference_is_subset, symmetric_difference_is_subset)
 
 -- ---- `is_same` is an equivalence

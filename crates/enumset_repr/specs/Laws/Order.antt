@@ -6,7 +6,7 @@
 --     compare_turned      for two subsets of one set, their complements in that set compare the other way round
 --     same_compare, compare_partial      what else `PartialOrd` and `Ord` require
 --     max_superset, superset_max      the maximum of a set and a subset of it is the set
---     min_subset, subset_min      the minimum is the subset
+--     min_subset, subset_min      the minimum of a set and a subset of it is the subset
 --     number_max, number_min      the number of the greater set, and of the lesser
 -- The ruleset `orders` has the laws of `compare`. The ruleset `ordering` has the maximum and the minimum, that a proper
 -- subset is less, and that a set compares as equal only with itself.

@@ -1,7 +1,7 @@
 -- Laws of one set inside and outside another, besides those of `Algebra`.
 --     difference_insert, difference_remove      inserting or removing a number of t does not change s outside t
 --     intersection_insert, intersection_remove      inserting or removing a number outside t does not change s inside t
---     difference_insert_all, difference_remove_all      nor does inserting or removing a subset of t change s outside t
+--     difference_insert_all, difference_remove_all      inserting or removing a subset of t does not change s outside t
 --     difference_parts, symmetric_parts      the parts of s outside t and inside t;  a symmetric difference
 --     difference_shared      s without the members that it shares with t
 --     difference_over_..      one operation over another

@@ -1,6 +1,6 @@
 -- Laws of `low`, which cuts a set at a width, and of sets and numbers that fit a width. A set is below a width if each
 -- of its members is.
---     low_is_subset, low_part      a cut set is below the width;  it is a subset of the set
+--     low_is_subset, low_part      a cut set is below the width;  a cut set is a subset of the set before the cut
 --     low_within, low_inside      a cut changes neither a set below the width nor a subset of such a set
 --     within_from_low      a set that a cut does not change is below the width
 --     low_narrow      two cuts, the second at a width that is not greater, are the same as the second
@@ -9,7 +9,7 @@
 --     is_subset_wider      a set below a width is below each greater width
 --     number_low, number_cut      the number of a cut set, as a remainder
 --     fits_number      a set is below a width if its number fits;  the converse is `number_within`
---     cut_to, fits_in      the same for a tactic, at each width
+--     cut_to, fits_in      a number cut by a mask of ones, and whether a set fits a width, for a tactic
 -- The ruleset `cuts` has what a proof about sets and their numbers needs, `cuts_to` what calls to and from integers
 -- need. A crate above cites one by `#[tactic(auto, using(enumset_repr::specs::Laws::Widths::cuts))]`.
 use Rattle.std.proofs.Common.{◌≡◌, ◌<◌, ◌≤◌, ℕ, suc, ◌-◌, ◌%◌, ◌^◌, true, sym, ap, subst, ◌∙◌, arith, lt-ltb, ltb-true, nat_lt, bit_and}

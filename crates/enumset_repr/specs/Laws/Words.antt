@@ -1,5 +1,5 @@
 -- Words of 64 bits: laws of `word`, `upward_shift` and `with_word`, at every width and place.
---     contains_upward_shift, contains_with_word      their members
+--     contains_upward_shift, contains_with_word      the members of `upward_shift` and of `with_word`
 --     contains_bits_word      the bits of a word of a set
 --     word_bits      a word of a number's set
 --     bits_shifted_up      the set of `n << k`

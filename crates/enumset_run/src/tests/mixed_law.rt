@@ -28,7 +28,7 @@ fn replies_over_both<T: EnumSetTypeWithRepr, U: EnumSetTypeWithRepr>(
     Ok((one, other))
 }
 
-/// The same for two types with the same valid bits, kept in two words and in an integer, both of 128 bits.
+/// The replies over two types with the same valid bits, kept in two words and in an integer, both of 128 bits.
 #[tactic(auto, unfolding(enumset_sets::specs::Elements::valid_bits))]
 fn replies_over_pairs(
     alloc: Global,

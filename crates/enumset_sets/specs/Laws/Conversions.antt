@@ -4,7 +4,7 @@
 --     low_part_within      a subset of v is a subset of v after a cut
 --     bits_masked      the bits that a number shares with the number of a set, after a cut at the number's width
 --     words_within      the words of a set up to its last member represent that set
---     words_of_repr      as many words as its representation has represent it too
+--     words_of_repr      the first words of a set of valid bits, as many as its representation has, represent that set
 -- The ruleset `conversions` has the first three, and what a cut at a width leaves of valid bits.
 use Rattle.std.proofs.Common.{◌≡◌, ◌<◌, ℕ, ◌+◌, ◌*◌, ◌/◌, ◌^◌, true, bit_and, ap, ◌∙◌, arith, inl, inr}
 use Rattle.std.proofs.lemmas.Bool.{cases_lt}

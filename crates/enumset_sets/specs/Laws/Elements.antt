@@ -4,7 +4,7 @@
 --     lawful_in_place      the laws where each bit is its variant's place, from the laws of the same bits as a list
 --     is_valid_bit      a bit is valid exactly if the list has it
 --     place_is, listed_bit_is      what the bit of a variant is
---     place_is_valid, listed_bit_is_valid      it is valid
+--     place_is_valid, listed_bit_is_valid      the bit of a variant is valid
 --     passed      what is known if a test passes
 --     derived_eq      what a derived `==` of such an enum returns
 -- The ruleset `bits_of_variants` says what the bit of each variant is, and that it is valid. It proves the functions of
@@ -147,13 +147,13 @@ pub lawful_in : {bs : List ℕ} {all : BitSet} {width count : ℕ} (D : Declared
 lawful_in {bs} {all} {width} {count} D valid test =
     laws D bs true all width count valid (IsLawful-passes D bs true ⊥ width count (λ h. h) test)
 
--- The same over an integer, whose value is ALL_BITS.
+-- The laws of an enum without fields, over an integer, whose value is ALL_BITS.
 pub lawful_in_integer : {bs : List ℕ} {width count : ℕ} (D : Declared) (n : ℕ) → IsLawfulNumber D bs n width count → IsElementType (with_bits D bs) (derived_eq D) (bits n) width count
 lawful_in_integer {bs} {width} {count} D n test =
     let p = IsLawful-passes D bs (sum_by (λ b. 2 ^ b) bs == n) _ width count (λ h. elim h [ ]) test in
     laws D bs _ (bits n) width count (bits_listed bs n (and_from _ _ p.distinct p.is_valid)) p
 
--- The same over words, which make up ALL_BITS.
+-- The laws of an enum without fields, over words, which make up ALL_BITS.
 pub lawful_in_words : {bs : List ℕ} {width count : ℕ} (D : Declared) (ns : List ℕ) → IsLawfulWords D bs ns width count → IsElementType (with_bits D bs) (derived_eq D) (bits_of ns) width count
 lawful_in_words {bs} {width} {count} D ns test =
     let p = IsLawful-passes D bs (lists_words bs ns) _ width count (λ h. elim h [ ]) test in

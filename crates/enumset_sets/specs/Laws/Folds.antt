@@ -21,7 +21,7 @@ from_list_more f [] x = refl
 from_list_more f (y ∷ ys) x =
     ap (λ s. insert s (f y)) (from_list_more f ys x) ∙ insert_comm (from_list (map f ys)) (f x) (f y)
 
--- the same for the first items of a list and one more
+-- the set of the first i + 1 items of a list is the set of the first i with one more inserted
 pub from_list_taken : {A : Type 0} (f : A → ℕ) (xs : List A) (i : ℕ) (x : A) → i < length xs → x ≡ get_or xs i x → from_list (map f (take (i + 1) xs)) ≡ insert (from_list (map f (take i xs))) (f x)
 from_list_taken f xs i x within is =
     ap (λ ys. from_list (map f ys)) (take_more xs i x within)
@@ -37,7 +37,7 @@ unfolding union_all
 union_all_more [] s = union_empty s ∙ sym (empty_union s)
 union_all_more (t ∷ ts) s = ap (union t) (union_all_more ts s) ∙ sym (union_assoc t (union_all ts) s)
 
--- the same for sets that are made from a list's items
+-- the union of the sets that a function makes of a list's items, with one more item at the end
 pub union_all_mapped : {A : Type 0} (f : A → BitSet) (xs : List A) (x : A) → union_all (map f (xs ++ x ∷ [])) ≡ union (f x) (union_all (map f xs))
 unfolding union_all
 union_all_mapped f [] x = refl

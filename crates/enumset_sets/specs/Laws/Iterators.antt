@@ -1,7 +1,7 @@
 -- Iterators whose steps bound their asks.
---     steps_by      such steps from the front, where each bit is seen in another form
+--     steps_by      steps from the front that bound their asks, where each bit is seen in another form
 --     of_bits      an iterator yields the items whose bits are left
---     of_shown      the same, where each bit is seen in another form
+--     of_shown      an iterator yields the items left, where each bit is seen in another form
 use Rattle.std.proofs.Common.{◌≡◌, ℕ, List, Option, ap, subst, length}
 use Rattle.std.proofs.lemmas.Iterator.{YieldsList}
 use Rattle.std.proofs.lemmas.Iterator.Consumers.{YieldsList-from_shown}

@@ -1,10 +1,11 @@
 -- Folds of a list of sets: only which items the list has matters, neither their order nor repeats.
 --     contains_intersection_all, contains_union_all      which bits are in all the sets of a list;  in any of them
---     contains_fold_intersection, contains_fold_union      the same for std's `fold` over the list
---     .._once      the same, wherever the fold and the number are in sight:  `MemberRules` of `enumset_repr` says how
---     intersection_all_more      one more set at the end of the list
---     union_all_none, union_all_step      a set with all sets of a list, one after another
---     any_same      a test of the items
+--     contains_fold_intersection, contains_fold_union      which bits std's `fold` over a list of sets leaves
+--     .._once      which bits a fold has, wherever the fold and the number are in sight:  `MemberRules` of
+--         `enumset_repr` says how
+--     intersection_all_more      an intersection with one more set at the end of the list
+--     union_all_none, union_all_step      the union of a set with all sets of a list, one after another
+--     any_same      whether a test passes for any item, for lists with the same items
 --     from_list_same, union_all_same, intersection_all_same      lists with the same items make the same set
 --     .._is_subset, .._is_disjoint      a union of many is a subset of a set, or disjoint from it, exactly if each is
 -- The ruleset `folds` has what `contains` returns, one more set, and one set after another;  `folds_once` has the same,
@@ -59,7 +60,7 @@ module _ {A : Type 0} (p : A → Bool) where
       let there = has found.1 (found.0, found.2, found.3) in
       list_any_at p ys there.0 found.1 there.1 (ap p there.2 ∙ found.4)
 
-  -- a test of the items gives the same for lists with the same items
+  -- a test passes for some item of one list exactly if it does for some item of a list with the same items
   pub any_same : (xs ys : List A) → ((x : A) → Contains xs x ↔ Contains ys x) → list_any p xs ≡ list_any p ys
   any_same xs ys same = same_from_decides _ _ (any_moves xs ys (λ x. (same x).0), any_moves ys xs (λ x. (same x).1)) (λ h. h, λ h. h)
 

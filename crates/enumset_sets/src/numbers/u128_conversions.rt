@@ -13,8 +13,8 @@ use enumset_repr::EnumSetTypeRepr;
 
 #[tactic(auto, using(crate::specs::Laws::Conversions::conversions))]
 impl<T: EnumSetType> EnumSet<T> {
-    /// Returns the number whose bits are the members. Every member must be below 128, which is so where the
-    /// representation has no more bits: [`try_as_u128`](EnumSet::try_as_u128) is the test. Rust's call panics instead.
+    /// Returns the number whose bits are the members. Every member must be below 128, which always holds if the
+    /// representation has no more bits. [`try_as_u128`](EnumSet::try_as_u128) tests this. Rust's call panics instead.
     pub fn as_u128(&self) -> u128
         requires fits { u128.BITS < T.Repr.WIDTH
             → IsTrue (set.is_subset self.now (set.below u128.BITS)) }
@@ -39,8 +39,8 @@ impl<T: EnumSetType> EnumSet<T> {
         self.repr.to_u128()
     }
 
-    /// Returns the set with the bits of a number. Every bit must be valid: a variant has it.
-    /// [`try_from_u128`](EnumSet::try_from_u128) is the test. Rust's call panics instead.
+    /// Returns the set with the bits of a number. Every bit must be valid: it must be the bit of a variant.
+    /// [`try_from_u128`](EnumSet::try_from_u128) tests this. Rust's call panics instead.
     pub fn from_u128(value: u128) -> EnumSet<T>
         requires valid { IsTrue (set.is_subset (bits value) (valid_bits T.elements)) }
         ensures { result ≡ bits value }

@@ -12,8 +12,8 @@ use enumset_repr::EnumSetTypeRepr;
 
 #[tactic(auto, using(crate::specs::Laws::Conversions::conversions))]
 impl<T: EnumSetType> EnumSet<T> {
-    /// Returns the number whose bits are the members. Every member must be below 64, which is so where the
-    /// representation has no more bits: [`try_as_u64`](EnumSet::try_as_u64) is the test. Rust's call panics instead.
+    /// Returns the number whose bits are the members. Every member must be below 64, which always holds if the
+    /// representation has no more bits. [`try_as_u64`](EnumSet::try_as_u64) tests this. Rust's call panics instead.
     pub fn as_u64(&self) -> u64
         requires fits { u64.BITS < T.Repr.WIDTH
             → IsTrue (set.is_subset self.now (set.below u64.BITS)) }
@@ -38,8 +38,8 @@ impl<T: EnumSetType> EnumSet<T> {
         self.repr.to_u64()
     }
 
-    /// Returns the set with the bits of a number. Every bit must be valid: a variant has it.
-    /// [`try_from_u64`](EnumSet::try_from_u64) is the test. Rust's call panics instead.
+    /// Returns the set with the bits of a number. Every bit must be valid: it must be the bit of a variant.
+    /// [`try_from_u64`](EnumSet::try_from_u64) tests this. Rust's call panics instead.
     pub fn from_u64(value: u64) -> EnumSet<T>
         requires valid { IsTrue (set.is_subset (bits value) (valid_bits T.elements)) }
         ensures { result ≡ bits value }

@@ -12,9 +12,8 @@ use enumset_repr::EnumSetTypeRepr;
 
 #[tactic(auto, using(crate::specs::Laws::Conversions::conversions))]
 impl<T: EnumSetType> EnumSet<T> {
-    /// Returns the number whose bits are the members. Every member must be below 64, which is so where the
-    /// representation has no more bits: [`try_as_usize`](EnumSet::try_as_usize) is the test. Rust's call panics
-    /// instead.
+    /// Returns the number whose bits are the members. Every member must be below 64, which always holds if the
+    /// representation has no more bits. [`try_as_usize`](EnumSet::try_as_usize) tests this. Rust's call panics instead.
     pub fn as_usize(&self) -> usize
         requires fits { usize.BITS < T.Repr.WIDTH
             → IsTrue (set.is_subset self.now (set.below usize.BITS)) }
@@ -39,8 +38,8 @@ impl<T: EnumSetType> EnumSet<T> {
         self.repr.to_usize()
     }
 
-    /// Returns the set with the bits of a number. Every bit must be valid: a variant has it.
-    /// [`try_from_usize`](EnumSet::try_from_usize) is the test. Rust's call panics instead.
+    /// Returns the set with the bits of a number. Every bit must be valid: it must be the bit of a variant.
+    /// [`try_from_usize`](EnumSet::try_from_usize) tests this. Rust's call panics instead.
     pub fn from_usize(value: usize) -> EnumSet<T>
         requires valid { IsTrue (set.is_subset (bits value) (valid_bits T.elements)) }
         ensures { result ≡ bits value }

@@ -12,9 +12,9 @@ use enumset_repr::{from_u64_array, to_u64_array, try_from_u64_array, try_to_u64_
 
 #[tactic(auto, using(crate::specs::Laws::Conversions::conversions))]
 impl<T: EnumSetType> EnumSet<T> {
-    /// Returns the words of the set, of 64 bits each, the lowest first. Words past the last of the representation are
-    /// 0. Every member must be below `64 * O`, which is so where the representation has no more bits:
-    /// [`try_as_array`](EnumSet::try_as_array) is the test. Rust's call panics instead.
+    /// Returns the words of the set, of 64 bits each, the lowest first. Words past the last word of the representation
+    /// are 0. Every member must be below `64 * O`, which always holds if the representation has no more bits.
+    /// [`try_as_array`](EnumSet::try_as_array) tests this. Rust's call panics instead.
     pub fn as_array<const O: usize>(&self) -> [u64; O]
         requires fits { 64 * O < T.Repr.WIDTH → IsTrue (set.is_subset self.now (set.below (64 * O))) }
         ensures { result ≡ words self.now O }
@@ -23,7 +23,7 @@ impl<T: EnumSetType> EnumSet<T> {
     }
 
     /// Returns the words of the set, of 64 bits each, the lowest first, if every member is below `64 * O`, else `None`.
-    /// Words past the last of the representation are 0.
+    /// Words past the last word of the representation are 0.
     pub fn try_as_array<const O: usize>(&self) -> Option<[u64; O]>
         ensures fits { IsSome result ↔ IsTrue (set.is_subset self.now (set.below (64 * O))) }
         ensures value { IfSome result (λ ws. ws ≡ words self.now O) }
@@ -32,15 +32,15 @@ impl<T: EnumSetType> EnumSet<T> {
     }
 
     /// Returns the words of the set, of 64 bits each, the lowest first, without the members at or past `64 * O`. Words
-    /// past the last of the representation are 0.
+    /// past the last word of the representation are 0.
     pub fn as_array_truncated<const O: usize>(&self) -> [u64; O]
         ensures { result ≡ words self.now O }
     {
         to_u64_array(&self.repr)
     }
 
-    /// Returns the set with the bits of words of 64 bits, the lowest first. Every bit must be valid: a variant has it.
-    /// [`try_from_array`](EnumSet::try_from_array) is the test. Rust's call panics instead.
+    /// Returns the set with the bits of words of 64 bits, the lowest first. Every bit must be valid: it must be the bit
+    /// of a variant. [`try_from_array`](EnumSet::try_from_array) tests this. Rust's call panics instead.
     pub fn from_array<const O: usize>(array: [u64; O]) -> EnumSet<T>
         requires valid { IsTrue (set.is_subset (bits_of array) (valid_bits T.elements)) }
         ensures { result ≡ bits_of array.entry }

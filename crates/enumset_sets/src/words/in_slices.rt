@@ -12,9 +12,9 @@ use enumset_repr::EnumSetTypeRepr;
 
 #[tactic(auto, using(crate::specs::Laws::Conversions::conversions))]
 impl<T: EnumSetType> EnumSet<T> {
-    /// Writes the words of the set to a slice, of 64 bits each, the lowest first. Words past the last of the
-    /// representation are 0. Every member must be below 64 times the length of the slice, which is so where the
-    /// representation has no more bits: [`try_copy_into_slice`](EnumSet::try_copy_into_slice) is the test. Rust's call
+    /// Writes the words of the set to a slice, of 64 bits each, the lowest first. Words past the last word of the
+    /// representation are 0. Every member must be below 64 times the length of the slice, which always holds if the
+    /// representation has no more bits. [`try_copy_into_slice`](EnumSet::try_copy_into_slice) tests this. Rust's call
     /// panics instead.
     pub fn copy_into_slice(&self, slice: &mut [u64])
         requires fits { 64 * length slice.old < T.Repr.WIDTH
@@ -25,7 +25,7 @@ impl<T: EnumSetType> EnumSet<T> {
     }
 
     /// Writes the words of the set to a slice, of 64 bits each, the lowest first, if every member is below 64 times the
-    /// length of the slice. Otherwise returns `None` and leaves the slice unchanged. Words past the last of the
+    /// length of the slice. Otherwise returns `None` and leaves the slice unchanged. Words past the last word of the
     /// representation are 0.
     pub fn try_copy_into_slice(&self, slice: &mut [u64]) -> Option<()>
         ensures fits { IsSome result
@@ -37,15 +37,15 @@ impl<T: EnumSetType> EnumSet<T> {
     }
 
     /// Writes the words of the set to a slice, of 64 bits each, the lowest first, without the members at or past 64
-    /// times the length of the slice. Words past the last of the representation are 0.
+    /// times the length of the slice. Words past the last word of the representation are 0.
     pub fn copy_into_slice_truncated(&self, slice: &mut [u64])
         ensures { slice.new ≡ words self.now (length slice.old) }
     {
         self.repr.to_u64_slice(slice);
     }
 
-    /// Returns the set with the bits of words of 64 bits, the lowest first. Every bit must be valid: a variant has it.
-    /// [`try_from_slice`](EnumSet::try_from_slice) is the test. Rust's call panics instead.
+    /// Returns the set with the bits of words of 64 bits, the lowest first. Every bit must be valid: it must be the bit
+    /// of a variant. [`try_from_slice`](EnumSet::try_from_slice) tests this. Rust's call panics instead.
     pub fn from_slice(slice: &[u64]) -> EnumSet<T>
         requires valid { IsTrue (set.is_subset (bits_of slice.now) (valid_bits T.elements)) }
         ensures { result ≡ bits_of slice.now }

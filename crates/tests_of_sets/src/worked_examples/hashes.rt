@@ -40,7 +40,7 @@ fn sums<T: EnumSetType>(element: T) -> [u64; 2] {
     [sum_of(&set), sum_of(&raw::get(set))]
 }
 
-/// The same for the mixed set of a number.
+/// The sum for the mixed set of a number, and for its representation.
 fn mixed_sums(number: u8) -> [u64; 2] {
     let set = MixedEnumSet::<Marks>::from_repr(number);
     [sum_of(&set), sum_of(&set.as_repr())]

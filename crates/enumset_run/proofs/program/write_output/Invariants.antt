@@ -2,7 +2,7 @@ use Rattle.std.proofs.Common.{◌<◌, length, take}
 use Rattle.std.specs.Io.KnownBytes.{Appends}
 use Rattle.enumset_run.proofs.program.write_output.Given as goal
 
--- a front part of the output has been written, and not all of it
+-- the first bytes of the output have been written, but not all of it
 abbrev pub invariant-loop : goal.invariant-loop
 invariant-loop g l = record {
   written : Appends (g.W.Write.contents l.fn.writer) (g.W.Write.contents l.writer) (take l.count l.output);

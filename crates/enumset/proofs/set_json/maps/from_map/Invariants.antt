@@ -4,7 +4,7 @@ use Rattle.enumset.proofs.NamesRead.{map_on, seen}
 use Rattle.enumset.proofs.set_json.maps.from_map.Given as goal
 use Rattle.enumset.specs.Names.{names_of}
 
--- reading what is left, after what was read, gives the result
+-- reading the remaining members, from what was read so far, has the same result as reading the whole map
 abbrev pub invariant-loop-place : goal.invariant-loop-place
 invariant-loop-place g l =
     (l.place + (goal.iterator-loop-place g).remaining l.name-iterator < 2 ^ 64)
