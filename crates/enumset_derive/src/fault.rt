@@ -102,7 +102,10 @@ impl fmt::Display for Reason {
         match self {
             Reason::Text(text) => write!(f, "{text}"),
             Reason::Expected(what, found) => write!(f, "expected {what}, found {found}"),
-            Reason::GivenTwice(what, first) => write!(f, "this {what} was already given at {first}"),
+            Reason::GivenTwice(what, first) => write!(
+                f,
+                "this {what} was already given at {first}"
+            ),
             Reason::IntegerMissing => write!(f, "`map = \"msb\"` needs `repr` to be an integer"),
             Reason::TooManyVariants => write!(f, "an enum may have at most 256 variants"),
             Reason::NameTwice(first) => write!(f, "this name was already given at {first}"),

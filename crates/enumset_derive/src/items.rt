@@ -79,7 +79,8 @@ fn skip<'a, 'b>(tokens: &'b [Token<'a>], count: usize) -> &'b [Token<'a>] {
     rest
 }
 
-/// The number of tokens up to the end of a bracket. `rest` follows its beginning `open`, and `before` tokens precede it.
+/// The number of tokens up to the end of a bracket. `rest` follows its beginning `open`, and `before` tokens precede
+/// it.
 fn bracket_length(before: usize, open: &Token, rest: &[Token]) -> usize {
     let inside = rest.iter().take_while(|token| token.depth >= open.depth);
     inside.count().saturating_add(before).saturating_add(1)

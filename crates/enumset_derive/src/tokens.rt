@@ -198,8 +198,8 @@ fn is_space(character: char) -> bool {
     )
 }
 
-/// Opens or closes a bracket, if the token is one, and returns the depth of the token. `open` has the place of each open
-/// bracket and the character that closes it. It is a fault if a bracket does not match, or is open at the end.
+/// Opens or closes a bracket, if the token is one, and returns the depth of the token. `open` has the place of each
+/// open bracket and the character that closes it. It is a fault if a bracket does not match, or is open at the end.
 fn take_bracket(open: &mut Vec<(char, Place)>, token: &Token) -> Outcome<u32> {
     let unclosed = |begin: Place| Reason::Text("this bracket is not closed").at(begin);
     let place = token.place;

@@ -17,7 +17,8 @@ use imports::imports_of;
 use std::alloc::{AllocError, Global};
 
 /// The line that a module begins with.
-const HEAD: &str = "// Written by enumset_derive from the enum's source: change the source, and write this module again.\n";
+const HEAD: &str =
+    "// Written by enumset_derive from the enum's source: change the source, and write this module again.\n";
 
 /// What is written, or an error if memory runs out.
 type Written<T = ()> = Result<T, AllocError>;

@@ -88,8 +88,8 @@ pub struct Discriminant<'a> {
     pub number: Number,
 }
 
-/// The number of a discriminant. Each number has one form: zero is `Small(0)`. A number above 2^128 - 1 names a bit only as
-/// its mask, so only powers of two are represented.
+/// The number of a discriminant. Each number has one form: zero is `Small(0)`. A number above 2^128 - 1 names a bit
+/// only as its mask, so only powers of two are represented.
 #[derive(Clone, Copy, PartialEq, Eq)]
 pub enum Number {
     /// A number from 0 to 2^128 - 1.

@@ -48,8 +48,8 @@ pub fn name_variants(
     Ok(named)
 }
 
-/// The variant with its bit, or its first fault. `earlier` and `named` are the variants before it, without and with their
-/// bits. `implied` is its implied number.
+/// The variant with its bit, or its first fault. `earlier` and `named` are the variants before it, without and with
+/// their bits. `implied` is its implied number.
 fn name_variant(
     options: &Options,
     earlier: &[Variant],
@@ -120,8 +120,8 @@ fn taken_by(named: &[NamedVariant], bit: u32, number: Number) -> Option<NamedVar
     named.find(|other| bit == other.bit || number == other.number)
 }
 
-/// The bit of the variant with this discriminant at a place, counted from 0, or the reason why it has none. `width` is the
-/// number of bits that a set is stored in.
+/// The bit of the variant with this discriminant at a place, counted from 0, or the reason why it has none. `width` is
+/// the number of bits that a set is stored in.
 fn bit_of(map: Map, width: u32, place: u32, number: Number) -> Result<u32, Reason>
     ensures { result ≡ bit_of map width place number }
 {

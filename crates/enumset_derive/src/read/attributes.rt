@@ -7,8 +7,7 @@ use crate::tokens::Kind;
 const CONFIGURATION: &str =
     "the only `cfg` that an enum may have is `cfg(test)`: remove the attribute or the enum";
 
-const ON_VARIANT: &str =
-    "a variant must not have a `cfg`: remove the attribute or the variant";
+const ON_VARIANT: &str = "a variant must not have a `cfg`: remove the attribute or the variant";
 
 const OPTIONS_ALONE: &str = "`cfg_attr` is not supported: write `#[enumset(..)]` without it";
 

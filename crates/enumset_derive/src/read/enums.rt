@@ -17,7 +17,8 @@ use std::collections::BTreeMap;
 const NO_ENUM_NAME: &str =
     "contracts import the variants of an enum under the name `TheVariants`: choose another name";
 
-const NO_VARIANTS: &str = "`rt ci` rejects the functions of this enum, since it has no variants and they cannot be called";
+const NO_VARIANTS: &str =
+    "`rt ci` rejects the functions of this enum, since it has no variants and they cannot be called";
 
 const OWN_JSON: &str =
     "this set in JSON consists of the variants' names: remove this derive and use `rename` for \
@@ -138,8 +139,8 @@ fn read_head<'a, 'b>(
     Ok((name, item.tokens.get(..length).unwrap_or(&[]), body))
 }
 
-/// The first token of an item that is not a comment, and the tokens after it. It is a fault if there is none, where this
-/// is expected.
+/// The first token of an item that is not a comment, and the tokens after it. It is a fault if there is none, where
+/// this is expected.
 fn next_word<'a, 'b>(
     item: &Item<'a, 'b>,
     tokens: &'b [Token<'a>],

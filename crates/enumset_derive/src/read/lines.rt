@@ -56,8 +56,8 @@ pub(super) fn push_comments<'a, 'b>(
     Ok(())
 }
 
-/// Whether an attribute other than derives and options is kept, of the enum or of the next variant. If it is not, this is
-/// noted, except for the names in JSON, which are read.
+/// Whether an attribute other than derives and options is kept, of the enum or of the next variant. If it is not, this
+/// is noted, except for the names in JSON, which are read.
 fn is_kept<'a, 'b>(
     reader: &mut Reader<'a, 'b>,
     state: &mut EnumState<'a, 'b>,

@@ -29,7 +29,8 @@ const NO_ROOTS: [&str; 53] = [
     "typeof", "unsafe", "unsized", "use", "virtual", "where", "while", "yield",
 ];
 
-/// Reads an option from an argument, which has the punctuation after it. `given` are the names of the options before it.
+/// Reads an option from an argument, which has the punctuation after it. `given` are the names of the options before
+/// it.
 pub(super) fn read_option<'a>(
     options: &mut Options<'a>,
     given: &[Token<'a>],
@@ -147,8 +148,8 @@ fn serialized_of(name: &str) -> Option<Serialized>
     }
 }
 
-/// Whether a text can be the name of a crate in a path: an ASCII identifier that is not a keyword, or `crate`, `self` or
-/// `super`.
+/// Whether a text can be the name of a crate in a path: an ASCII identifier that is not a keyword, or `crate`, `self`
+/// or `super`.
 fn is_crate_name(text: &str) -> bool {
     let is_letter = |letter: char| letter.is_ascii_alphanumeric() || letter == '_';
     let is_digit = |letter: char| letter.is_ascii_digit();

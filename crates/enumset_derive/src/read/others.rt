@@ -6,8 +6,8 @@ use crate::items::Item;
 use crate::report::{Note, Report};
 use crate::tokens::Token;
 
-/// Notes that an item is left out, and the element types inside it. Imports are not noted, as they are read, nor are empty
-/// items.
+/// Notes that an item is left out, and the element types inside it. Imports are not noted, as they are read, nor are
+/// empty items.
 pub(super) fn leave_out<'a, 'b>(
     imports: &Imports<'a>,
     report: &mut Report<'a, 'b>,

@@ -62,8 +62,8 @@ pub(super) fn read_variants<'a, 'b>(
     Ok(())
 }
 
-/// The number of tokens in the variant at the beginning, with the comments after it on its line. For the last variant it
-/// includes the `}`.
+/// The number of tokens in the variant at the beginning, with the comments after it on its line. For the last variant
+/// it includes the `}`.
 fn variant_length(tokens: &[Token]) -> usize {
     let is_end = |token: &Token| token.depth <= 1 && token.is(",");
     let Some(comma) = tokens.iter().position(is_end) else {

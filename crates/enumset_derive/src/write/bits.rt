@@ -7,7 +7,8 @@ use crate::element::Element;
 use std::alloc::Global;
 
 /// The line that the file begins with.
-const HEAD: &str = "-- Written by enumset_derive from the enum's source: change the source, and write this file again.\n";
+const HEAD: &str =
+    "-- Written by enumset_derive from the enum's source: change the source, and write this file again.\n";
 
 /// The names in the file for one element type.
 #[derive(Drop)]

@@ -144,8 +144,8 @@ fn write_into_u32(out: &mut String, subject: &Subject) -> Written {
     out.push_str("        }\n")
 }
 
-/// Writes the body of the function that converts a bit to its variant: a match over the bits, or a call of the macro that
-/// makes a table. `enumset_sets` does not have this macro, so a module over that crate has the match in full.
+/// Writes the body of the function that converts a bit to its variant: a match over the bits, or a call of the macro
+/// that makes a table. `enumset_sets` does not have this macro, so a module over that crate has the match in full.
 fn write_from_u32(out: &mut String, subject: &Subject) -> Written {
     let (alloc, facade, name) = (subject.alloc, subject.facade, subject.name);
     let (variants, plan) = (&subject.element.declaration.variants, &subject.element.plan);
@@ -183,8 +183,9 @@ fn write_from_u32(out: &mut String, subject: &Subject) -> Written {
     )
 }
 
-/// Writes the last arm of a match that should compile to a table, as `variant_of!` does. The arm is never reached, which a
-/// proof learns for 64 bits at a time. It returns a variant, so that the match can compile to a load from a table.
+/// Writes the last arm of a match that should compile to a table, as `variant_of!` does. The arm is never reached,
+/// which a proof learns for 64 bits at a time. It returns a variant, so that the match can compile to a load from a
+/// table.
 fn write_table_end(out: &mut String, subject: &Subject) -> Written {
     let variants = &subject.element.declaration.variants;
     let count = variants.len();

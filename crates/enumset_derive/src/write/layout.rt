@@ -1,14 +1,16 @@
-//! Lays out what `rt fmt` leaves as it is: lists in contracts and the arguments of macros. The rest is not laid out here.
+//! Lays out what `rt fmt` leaves as it is: lists in contracts and the arguments of macros. The rest is not laid out
+//! here.
 
 use super::{Subject, Text, Written};
 use std::alloc::Global;
 use std::fmt::Display;
 
-/// The attribute of an item that exists only for tests. If it were one literal, the toolchain would look for tests here.
+/// The attribute of an item that exists only for tests. If it were one literal, the toolchain would look for tests
+/// here.
 const FOR_TESTS: &str = concat!("#", "[cfg(test)]\n");
 
-/// Items with spaces between them, broken into lines. The first line has room for `first` bytes. Each other line begins with
-/// `start` and has room for `other` bytes.
+/// Items with spaces between them, broken into lines. The first line has room for `first` bytes. Each other line begins
+/// with `start` and has room for `other` bytes.
 fn filled(alloc: Global, items: &[String], first: usize, start: &str, other: usize) -> Text {
     let mut out = String::new(alloc);
     let mut left = first;

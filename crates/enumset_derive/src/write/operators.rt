@@ -93,10 +93,7 @@ fn write_operator(
     let (alloc, name, library) = (subject.alloc, subject.name, library_of(subject.facade));
     let operation = operator.operation;
     let doc = operation.replace(alloc, "_", " ")?;
-    let doc = format!(in alloc;
-        "/// The {doc} of `{{self}}` and {}.\n",
-        operand.name
-    )?;
+    let doc = format!(in alloc; "/// The {doc} of `{{self}}` and {}.\n", operand.name)?;
     let form = format!(in alloc; "std::ops::{}{}", operator.trait_name, operand.parameter)?;
     write_head(out, subject, doc.as_str(), form.as_str())?;
     write!(
