@@ -3,7 +3,7 @@
 --     without_fields      an enum of n variants without fields
 --     IsLawfulStore, IsLawfulPlan      bits in a store, or a plan, pass the test that proves the laws of an element type
 --     kind_of      what a set is stored in: as `repr` asks, or else the smallest integer with n bits, or words
---     IsStore, IsStoredAsAsked      a store is of this kind, for n bits;  the store of a plan is of the kind that `repr` asks for
+--     IsStore, IsStoredAsAsked      a store is of this kind, for n bits;  a plan's store is as `repr` asks
 use Rattle.std.specs.Prelude.{◌≡◌, ℕ, ◌≤◌, nat_le, List, [], length, replicate, Option, Some, None, Ok, if◌then◌else◌}
 use Rattle.std.specs.Int.{div_ceil}
 use denote.Enum.Enum.{Sum}
@@ -35,8 +35,8 @@ without_fields n = record {
   to_one = λ v w same. same;
 }
 
--- for an enum of n variants without fields, the test with which `lawful_in_integer` and `lawful_in_words` prove the laws of
--- an element type
+-- for an enum of n variants without fields, the test with which `lawful_in_integer` and `lawful_in_words` prove the laws
+-- of an element type
 abbrev pub IsLawfulStore : ℕ → List ℕ → Store → ℕ → Type 0
 IsLawfulStore n bs (store.Integer t all) width = IsLawfulNumber (without_fields n) bs all width n
 IsLawfulStore n bs (store.Words all) width = IsLawfulWords (without_fields n) bs all.items width n

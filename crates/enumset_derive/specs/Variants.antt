@@ -1,11 +1,11 @@
 -- The variants of an enum, each with its bit, or the first fault.
 --     fault_at      a reason as a fault at a place
---     has_taken, taken_at      whether a variant has a bit or a discriminant;  the fault of a later variant with the same
+--     has_taken, taken_at      whether a variant has a bit or a discriminant;  the fault of a later variant with it
 --     bit_among      the bit of a discriminant after other variants, or why it has none
---     has_name, number_place      whether two variants have the same name;  the place of a variant's discriminant, or else of
---         the variant
+--     has_name, number_place      whether two variants have the same name;  the place of a variant's discriminant, or
+--         else of the variant
 --     named_variant      the variant with its bit, or its first fault
---     named_from, named_variants      variants after others, or all variants of an enum, each with its bit, or the first fault
+--     named_from, named_variants      variants after others, or all of an enum, each with its bit, or the first fault
 --     map_test      the fault of a map that needs an integer but does not have one
 --     bits_of      the bits of variants
 --     IsErrorOf      the error for a result: its fault, or out of memory
