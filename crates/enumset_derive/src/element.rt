@@ -116,7 +116,7 @@ fn test_names(alloc: Global, elements: &[Element], report: &mut Report) -> Outco
     Ok(())
 }
 
-/// Reports enums whose `crate_name` differs from that of the first enum.
+/// Reports enums whose `crate_name` differs from the first enum's.
 fn test_crate_names(elements: &[Element], report: &mut Report) -> Outcome {
     let mut facades = elements
         .iter()

@@ -81,7 +81,7 @@ pub enum Reason {
     GivenTwice(&'static str, Place),
     /// `map = "msb"` counts from the most significant bit of an integer, but `repr` is not an integer.
     IntegerMissing,
-    /// The place is that of variant 257.
+    /// The fault is at the 257th variant.
     TooManyVariants,
     NameTwice(Place),
     NotAMask,

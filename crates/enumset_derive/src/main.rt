@@ -129,7 +129,7 @@ fn request_of(alloc: Global, arguments: &[String]) -> Outcome<Request<'_>> {
     Ok(request)
 }
 
-/// Whether a text is a valid name: 1 to 256 lowercase letters, digits and `_`, of which the first is not a digit.
+/// Whether a text is a valid name: 1 to 256 lowercase letters, digits and `_`, not beginning with a digit.
 fn is_name(name: &str) -> bool {
     let is_digit = |letter: char| letter.is_ascii_digit();
     let is_plain = |letter| matches!(letter, 'a'..='z' | '0'..='9' | '_');
