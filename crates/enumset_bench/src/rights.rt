@@ -1,3 +1,5 @@
+// Written by enumset_derive from the enum's source: change the source, and write this module again.
+
 //! The element types of the job that decides requests.
 
 use enumset::{EnumSet, EnumSetNames, EnumSetType, EnumSetTypeWithRepr, names_of, set_json};
@@ -176,9 +178,9 @@ impl Right {
         set_json::to_list(alloc, set)
     }
 
-    /// The set that `to_json` writes so. Names that no variant has are left out.
+    /// The set that `to_json` writes as this value. Names that no variant has are left out.
     ///
-    /// The faults are those of [`set_json::from_list`], in their order. It takes no memory.
+    /// The faults are those of [`set_json::from_list`], in the same order. It does not allocate.
     pub fn from_json(
         value: &serde_json::Value,
     ) -> std::result::Result<EnumSet<Self>, set_json::JsonFault>

@@ -1,3 +1,5 @@
+// Written by enumset_derive from the enum's source: change the source, and write this module again.
+
 //! The element type of settings, whose names are long and begin alike.
 
 use enumset::{EnumSet, EnumSetNames, EnumSetType, EnumSetTypeWithRepr, names_of, set_json};
@@ -454,7 +456,7 @@ impl Setting {
     ghost use Rattle.enumset.specs.declared.set_json.fault.JsonFault.TheVariants.{OutOfMemory};
     ghost use Rattle.enumset.specs.declared.set_json.unknown.Unknown.TheVariants as unknown;
 
-    /// The object with the name of each of the set's members and `true`. The only fault is
+    /// The object that maps the name of each of the set's members to `true`. The only fault is
     /// [`set_json::JsonFault::OutOfMemory`].
     pub fn to_json(
         alloc: std::alloc::Global,
@@ -467,9 +469,9 @@ impl Setting {
         set_json::to_map(alloc, set)
     }
 
-    /// The set that `to_json` writes so. Names that no variant has are left out.
+    /// The set that `to_json` writes as this value. Names that no variant has are left out.
     ///
-    /// The faults are those of [`set_json::from_map`], in their order. It takes no memory.
+    /// The faults are those of [`set_json::from_map`], in the same order. It does not allocate.
     pub fn from_json(
         value: &serde_json::Value,
     ) -> std::result::Result<EnumSet<Self>, set_json::JsonFault>

@@ -1,4 +1,4 @@
--- Variants with their bits, one more at a time.
+-- Variants with their bits, one variant at a time.
 use Rattle.std.proofs.Common.{◌≡◌, ◌==◌, ◌<◌, ◌≤◌, ℕ, Bool, true, false, not, cond, ◌||◌, List, [], ◌∷◌, ◌++◌, Option, Some, None, ◌+◌, suc, length, get_or, drop, drop-cons, add-one, refl, ap, sym, ◌∙◌, arith, find}
 use Rattle.std.proofs.lemmas.Bool.{and_parts, or_parts, not-true}
 use Rattle.std.proofs.lemmas.Bool.Decides.{nat_tests}
@@ -22,7 +22,7 @@ not_taken b n (m ∷ ms) none = untaken (b == m.bit) (same_number n m.number) (n
   untaken false true rest h = absurd (cc)
   untaken false false rest h = rest h
 
--- ---- one variant more
+-- ---- one more variant
 
 pub named_from-drop : (o : Options) (earlier : List Variant) (named : List NamedVariant) (implied : Option Number) (vs : List Variant) (i : ℕ) (v : Variant) → i < length vs → v ≡ get_or vs i v → named_from o earlier named implied (drop i vs) ≡ and_then (named_variant o earlier named implied v) (λ n. named_from o (earlier ++ v ∷ []) (named ++ n ∷ []) (next_number n.number) (drop (i + 1) vs))
 named_from-drop o earlier named implied vs i v within is =

@@ -1,4 +1,4 @@
--- Tokens, one more at a time.
+-- Tokens, one token at a time.
 use Rattle.std.proofs.Common.{◌≡◌, ℕ, List, [], ◌∷◌, ◌++◌, length, refl, ap, sym, ◌∙◌, append_assoc, arith}
 use Rattle.enumset_derive.specs.Sources.{written}
 use Rattle.enumset_derive.specs.declared.tokens.Token.{Token}
@@ -7,7 +7,7 @@ pub none_left : (bytes : List ℕ) → length bytes ≡ 0 → bytes ≡ []
 none_left [] none = refl
 none_left (b ∷ bytes) none = absurd (omega (arith, none))
 
--- a token more, and what comes after it
+-- one more token, and the text after it
 pub written_append : (ts : List Token) (t : Token) (rest : List ℕ) → written (ts ++ t ∷ []) ++ rest ≡ written ts ++ (t.space.now ++ (t.text.now ++ rest))
 written_append [] t rest = append_assoc (t.space.now ++ t.text.now) [] rest ∙ append_assoc t.space.now t.text.now rest
 written_append (u ∷ ts) t rest =

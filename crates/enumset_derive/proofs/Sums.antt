@@ -10,7 +10,7 @@ use Rattle.enumset_repr.specs.Words.{in_first_word, in_later_words, lists_words}
 use Rattle.enumset_derive.specs.Variants.{bits_of}
 use Rattle.enumset_derive.specs.declared.plan.NamedVariant.{NamedVariant}
 
--- a number of listed bits, with one bit more put in
+-- a number with listed bits, with one more bit set
 pub lists_bits-cons : (w : ℕ) (bs : List ℕ) (b n : ℕ) → b < w → is_in b bs ≡ false → lists_bits bs n ≡ true → lists_bits (b ∷ bs) (bit_or n (1 * 2 ^ b % 2 ^ w)) ≡ true
 unfolding from_list
 lists_bits-cons w bs b n small new lists =
@@ -34,7 +34,7 @@ lists_words-none zero [] none = refl
 lists_words-none (suc n) [] none = lists_words-none n [] none
 lists_words-none n (m ∷ ms) none = absurd (omega (arith, none))
 
--- bit r of word k, where x is, is put in
+-- bit r of word k, which is x, is set
 pub lists_words-cons : (ns bs : List ℕ) (k r b x : ℕ) → b ≡ 64 * k + r → r < 64 → k < length ns → is_in b bs ≡ false → lists_words bs ns ≡ true → x ≡ get_or ns k x → lists_words (b ∷ bs) (set ns k (bit_or x (1 * 2 ^ r % 2 ^ 64))) ≡ true
 lists_words-cons [] bs k r b x at small within new lists read = absurd (omega (arith, within))
 lists_words-cons (n ∷ ns) bs zero r b x at small within new lists read =

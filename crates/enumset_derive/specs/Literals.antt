@@ -1,10 +1,10 @@
 -- The numbers of literals.
---     radix      that of a base
+--     radix      the radix of a base
 --     with_digit      a number with one byte more, which is a digit or `_`
---     digits_after, number_in      further digits after a number;  the number that digits are
---     number_written      the number of a literal without a type, whose base is that of its prefix
---     value_of      the number that a discriminant is
---     IsReadOf      what is known of a number is right
+--     digits_after, number_in      a number with further digits;  the number of digits in a base
+--     number_written      the number of a literal without a type suffix, in the base of its prefix
+--     value_of      the value of a discriminant
+--     IsReadOf      what `Digits` records agrees with a number
 use Rattle.std.specs.Prelude.{◌≡◌, ℕ, ◌+◌, ◌*◌, ◌^◌, ◌==◌, ◌&&◌, ℤ, pos, neg_ℤ, List, [], ◌∷◌, IfSome, if◌then◌else◌}
 use Rattle.std.specs.Char.{digit_value}
 use Rattle.enumset_derive.specs.declared.plan.declaration.Number.{Number}

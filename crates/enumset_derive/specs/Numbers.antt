@@ -1,13 +1,13 @@
 -- Which bit a discriminant names.
---     bit_end, module_end      one past the greatest bit that a set may have;  that a module takes
---     variant_limit      how many variants an enum may have
---     width      how many bits an integer type has
---     next_number, same_number      one more than a number, if that is kept;  whether two numbers are the same
---     and_then      what comes next, if there is no fault so far
---     small_bit, bit_of_mask      the bit that a number is, or whose power of two it is;  or why it is none
---     bit_of      the bit of the variant at a place, counted from 0, that has a discriminant, under a map, where a set is
---         kept in so many bits; or why it has none
---     bit_limit, json_limit      one past the greatest bit of what keeps a set;  of what a set is in JSON
+--     bit_end, module_end      one past the greatest bit in a set;  in a written module
+--     variant_limit      the greatest number of variants in an enum
+--     width      the number of bits of an integer type
+--     next_number, same_number      one more than a number, if `Number` has it;  whether two numbers are the same
+--     and_then      the next step, unless there is a fault
+--     small_bit, bit_of_mask      the bit with this number;  the bit with this mask;  or why there is none
+--     bit_of      the bit of a variant, from the map, the width of the store, its place, counted from 0, and its
+--         discriminant; or why it has none
+--     bit_limit, json_limit      one past the greatest bit in a representation;  in a form of JSON
 use Rattle.std.specs.Prelude.{ℕ, ◌+◌, ◌-◌, ◌^◌, ◌==◌, Bool, false, nat_lt, nat_le, Option, Some, None, Result, Ok, Err, if◌then◌else◌}
 use Rattle.std.specs.Int.{is_power_of_two, trailing_zeros, w128}
 use Rattle.enumset_derive.specs.declared.plan.declaration.IntegerType.{IntegerType}
@@ -23,11 +23,11 @@ use Rattle.enumset_derive.specs.declared.plan.declaration.Serialized.TheVariants
 use Rattle.enumset_derive.specs.declared.fault.Reason.{Reason}
 use Rattle.enumset_derive.specs.declared.fault.Reason.TheVariants.{PastGreatest, PastRepresentation, NotAMask}
 
--- as in Rust's crate
+-- as in Rust's crate `enumset`
 abbrev pub bit_end : ℕ
 bit_end = 4294967232
 
--- a module's constants are as long as the words
+-- the constants of a module list all words of a set
 abbrev pub module_end : ℕ
 module_end = 65536
 
@@ -56,7 +56,7 @@ abbrev pub and_then : {A B E : Type 0} → Result A E → (A → Result B E) →
 and_then (Ok x) next = next x
 and_then (Err fault) next = Err fault
 
--- a number below `bit_end` names itself
+-- a number below `bit_end` is its own bit
 abbrev pub small_bit : Number → Result ℕ Reason
 small_bit (Small n) = if nat_lt n bit_end then Ok n else Err PastGreatest
 small_bit n = Err PastGreatest

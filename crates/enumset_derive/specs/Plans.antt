@@ -1,9 +1,9 @@
--- What is true of a plan.
+-- What a plan satisfies.
 --     IsPlanned      the plan has the enum's variants, with their bits and their discriminants
---     without_fields      an enum of so many variants without fields
+--     without_fields      an enum of n variants without fields
 --     IsLawfulStore, IsLawfulPlan      bits in a store, or a plan, pass the test that proves the laws of an element type
---     kind_of      what keeps a set: as asked for, else the smallest integer with this many bits, else words
---     IsStore, IsStoredAsAsked      a store is of this kind, for so many bits;  a set is kept so
+--     kind_of      what a set is stored in: as `repr` asks, or else the smallest integer with n bits, or words
+--     IsStore, IsStoredAsAsked      a store is of this kind, for n bits;  a plan's store is as `repr` asks
 use Rattle.std.specs.Prelude.{◌≡◌, ℕ, ◌≤◌, nat_le, List, [], length, replicate, Option, Some, None, Ok, if◌then◌else◌}
 use Rattle.std.specs.Int.{div_ceil}
 use denote.Enum.Enum.{Sum}
@@ -35,8 +35,8 @@ without_fields n = record {
   to_one = λ v w same. same;
 }
 
--- at an enum of n variants without fields, the test by which `lawful_in_integer` and `lawful_in_words` prove the laws of
--- an element type
+-- for an enum of n variants without fields, the test with which `lawful_in_integer` and `lawful_in_words` prove the laws
+-- of an element type
 abbrev pub IsLawfulStore : ℕ → List ℕ → Store → ℕ → Type 0
 IsLawfulStore n bs (store.Integer t all) width = IsLawfulNumber (without_fields n) bs all width n
 IsLawfulStore n bs (store.Words all) width = IsLawfulWords (without_fields n) bs all.items width n
@@ -54,7 +54,7 @@ kind_of None n =
     else if nat_le n 128 then Integer U128
     else Words
 
--- so many words as n bits need
+-- as many words as n bits need
 abbrev pub IsStore : Representation → ℕ → Store → Type 0
 IsStore (Integer t) n (store.Integer u all) = (u ≡ t) × (n ≤ width t)
 IsStore Words n (store.Words all) = length all.items ≡ div_ceil n 64

@@ -1,7 +1,7 @@
--- What a source has written.
---     written      tokens, with the spaces before them
---     map_name, representation_name, serialized_name      what an option has for a map;  for what keeps a set;  for a form
---         in JSON
+-- The text of a source.
+--     written      the text of tokens, with the spaces before them
+--     map_name, representation_name, serialized_name      the value of the option for a map;  for a representation;  for
+--         a form of JSON
 use Rattle.std.specs.Prelude.{ℕ, List, [], ◌∷◌, ◌++◌, codes}
 use Rattle.enumset_derive.specs.declared.tokens.Token.{Token}
 use Rattle.enumset_derive.specs.declared.plan.declaration.IntegerType.TheVariants.{U8, U16, U32, U64, U128}

@@ -1,13 +1,14 @@
 -- The variants of an enum, each with its bit, or the first fault.
 --     fault_at      a reason as a fault at a place
---     has_taken, taken_at      whether a variant has a bit or a discriminant;  the reason that it is for a later one
+--     has_taken, taken_at      whether a variant has a bit or a discriminant;  the fault of a later variant with it
 --     bit_among      the bit of a discriminant after other variants, or why it has none
---     has_name, number_place      whether two variants have one name;  where a variant's discriminant is given, or else the variant
+--     has_name, number_place      whether two variants have the same name;  the place of a variant's discriminant, or
+--         else of the variant
 --     named_variant      the variant with its bit, or its first fault
---     named_from, named_variants      further variants, or those of an enum, each with its bit, or the first fault
---     map_test      the fault of a map that needs an integer, and has none
+--     named_from, named_variants      variants after others, or all of an enum, each with its bit, or the first fault
+--     map_test      the fault of a map that needs an integer but does not have one
 --     bits_of      the bits of variants
---     IsErrorOf      why a result is not there: its fault, or out of memory
+--     IsErrorOf      the error for a result: its fault, or out of memory
 use Rattle.std.specs.Prelude.{◌≡◌, ℕ, ◌==◌, Bool, ◌||◌, nat_le, nat_eq, List, [], ◌∷◌, ◌++◌, length, map, Option, Some, Result, Ok, Err, if◌then◌else◌}
 use Rattle.std.specs.List.{find}
 use Rattle.std.specs.Option.{ok_or, option_or, option_map, option_map_or}
@@ -34,9 +35,9 @@ use Rattle.enumset_derive.specs.declared.fault.Reason.TheVariants.{IntegerMissin
 abbrev pub fault_at : Place → Reason → Fault
 fault_at place reason = record { place = place; reason = reason }
 
--- ---- one variant, after those before it, which have their bits
+-- ---- one variant, after earlier variants with their bits
 
--- the first of the variants with this bit or this discriminant took it
+-- the first variant with this bit or this discriminant has taken it
 abbrev pub has_taken : ℕ → Number → NamedVariant → Bool
 has_taken b n m = (b == m.bit) || same_number n m.number
 
@@ -75,7 +76,7 @@ named_from o earlier named implied (v ∷ vs) =
     and_then (named_variant o earlier named implied v) (λ n.
     named_from o (earlier ++ v ∷ []) (named ++ n ∷ []) (next_number n.number) vs)
 
--- the most significant bit is that of an integer, which has to be asked for
+-- `msb` needs `repr` to be an integer
 abbrev pub map_test : Option (Map × Place) → Option Representation → Result (Unit {0}) Fault
 map_test (Some m) (Some (representation.Integer t)) = Ok tt
 map_test (Some (Msb, place)) r = Err (fault_at place IntegerMissing)

@@ -8,27 +8,27 @@ use std::alloc::Global;
 use std::collections::{BTreeMap, BTreeSet};
 
 const DROPPED: &str =
-    "left out: the discriminants of this enum, as this one is past -2^63 to 2^63 - 1; \
-    `as` gives the places of the variants";
+    "left out: the discriminants of this enum, since this one is outside -2^63 to 2^63 - 1; \
+    `as` returns a variant's place";
 
 const OTHER_ORDER: &str =
-    "the derived order is that of the places, as one discriminant is past -2^63 to 2^63 - 1: \
+    "the derived order is the order of the places, since a discriminant is outside -2^63 to 2^63 - 1: \
     move this variant, or write `PartialOrd` and `Ord` by hand";
 
-const OTHER_CRATE: &str = "the enums of one source cite one crate: give each the same `crate_name`";
+const OTHER_CRATE: &str = "all enums of a source must have the same `crate_name`";
 
-const TAKEN: &str = "the module needs this name for what it imports of `enumset`: choose another";
+const TAKEN: &str = "the module imports this name from `enumset`: choose another name";
 
 /// An enum that is to be an element type, with its plan.
 #[derive(Drop)]
 pub struct Element<'a, 'b> {
     pub declaration: EnumDeclaration<'a, 'b>,
     pub plan: Plan,
-    /// Whether it has the discriminants that are given.
+    /// Whether the written enum keeps its discriminants.
     pub has_discriminants: bool,
 }
 
-/// The element types that enums are to be. What is wrong with them is reported.
+/// Plans the enums as element types. Their faults are reported.
 pub fn elements_of<'a, 'b>(
     alloc: Global,
     enums: Vec<EnumDeclaration<'a, 'b>>,
@@ -46,7 +46,7 @@ pub fn elements_of<'a, 'b>(
     Ok(elements)
 }
 
-/// The element type of an enum and its plan. Rattle takes discriminants from -2^63 to 2^63 - 1.
+/// The element type of an enum and its plan. Rattle allows discriminants from -2^63 to 2^63 - 1.
 fn element_of<'a, 'b>(
     declaration: EnumDeclaration<'a, 'b>,
     plan: Plan,
@@ -76,7 +76,7 @@ fn element_of<'a, 'b>(
     })
 }
 
-/// Whether a number is below another.
+/// Whether a number is less than another.
 fn is_below(one: Number, other: Number) -> bool {
     match (one, other) {
         (Number::Negative(one), Number::Negative(other)) => other < one,
@@ -87,7 +87,7 @@ fn is_below(one: Number, other: Number) -> bool {
     }
 }
 
-/// The faults of names that differ in case alone, or that the module itself imports.
+/// Reports names that differ only in case, and names that the module itself imports.
 fn test_names(alloc: Global, elements: &[Element], report: &mut Report) -> Outcome {
     let mut names: BTreeMap<String, &Token> = BTreeMap::new(alloc);
     let mut needed: BTreeSet<&str> = BTreeSet::new(alloc);
@@ -116,7 +116,7 @@ fn test_names(alloc: Global, elements: &[Element], report: &mut Report) -> Outco
     Ok(())
 }
 
-/// The faults of enums that cite another crate than the first.
+/// Reports enums whose `crate_name` differs from the first enum's.
 fn test_crate_names(elements: &[Element], report: &mut Report) -> Outcome {
     let mut facades = elements
         .iter()
@@ -134,7 +134,7 @@ fn test_crate_names(elements: &[Element], report: &mut Report) -> Outcome {
 }
 
 impl Element<'_, '_> {
-    /// What the module of the element type may need of `enumset`, in order, and whether it does.
+    /// The imports from `enumset` that a module may need, in order, each with whether this element type needs it.
     pub fn imports(&self) -> [(bool, &'static str); 8] {
         let options = &self.declaration.options;
         let is_named = options.are_named();
@@ -153,23 +153,24 @@ impl Element<'_, '_> {
         ]
     }
 
-    /// Whether what keeps a set has at most 128 bits.
+    /// Whether a set is stored in at most 128 bits.
     pub fn is_narrow(&self) -> bool {
         !matches!(&self.plan.store, Store::Words(words) if words.len() > 2)
     }
 
-    /// Whether a bit becomes its variant by a load from a table: there are more than sixteen, and they are not the places.
+    /// Whether a table has the variant of each bit: if there are more than sixteen, and their bits are not their
+    /// places.
     pub fn is_in_table(&self) -> bool {
         self.plan.variants.len() > 16 && !self.are_places()
     }
 
-    /// Whether each bit is its variant's place.
+    /// Whether the bit of each variant is its place.
     fn are_places(&self) -> bool {
         let mut variants = self.plan.variants.iter().enumerate();
         variants.all(|(place, named)| named.bit as usize == place)
     }
 
-    /// Whether each bit is its variant's number, as `as` gives it.
+    /// Whether the bit of each variant is the number that `as` returns.
     pub fn are_cast(&self) -> bool {
         let is_cast = |named: &NamedVariant| named.number == Number::Small(u128::from(named.bit));
         match self.has_discriminants {
@@ -178,7 +179,7 @@ impl Element<'_, '_> {
         }
     }
 
-    /// Whether each bit is its variant's place and number.
+    /// Whether the bit of each variant is both its place and the number that `as` returns.
     pub fn is_in_place(&self) -> bool {
         self.are_cast() && self.are_places()
     }

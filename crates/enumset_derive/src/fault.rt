@@ -7,17 +7,17 @@ use std::alloc::{AllocError, AllocFailed};
 use std::error::Error;
 use std::fmt;
 
-/// Why the program wrote no module, or not all of it. Its text is what standard error says.
+/// Why the program did not write the whole module. Its text is printed to standard error.
 #[derive(Debug, Drop)]
 pub enum DeriveError {
     /// The source has a fault.
     Fault(Fault),
     OutOfMemory(AllocError),
-    /// The arguments are wrong, as this says.
+    /// The arguments are wrong, for this reason.
     Arguments(&'static str),
     /// Standard input or standard output failed.
     Stream(&'static str),
-    /// The file of this name could not be written.
+    /// The file with this name could not be written, for this reason.
     File(String, &'static str),
 }
 
@@ -52,7 +52,7 @@ impl<T: Drop> From<AllocFailed<T>> for DeriveError {
     }
 }
 
-/// What comes of a part of the program, if it does not fail.
+/// The result of a step of the program.
 pub type Outcome<T = ()> = Result<T, DeriveError>;
 
 /// A fault of a source text, and where it is.
@@ -73,19 +73,19 @@ impl Error for Fault {}
 /// What is wrong.
 #[derive(Clone, Copy, Debug)]
 pub enum Reason {
-    /// A fault of reading.
+    /// A fault found while reading.
     Text(&'static str),
-    /// What is expected, and what is there.
+    /// What is expected, and what was found.
     Expected(&'static str, Found),
-    /// What is given twice, as an option, and where it was given first.
+    /// What is given twice, such as an option, and where it was given first.
     GivenTwice(&'static str, Place),
-    /// `map = "msb"` counts from the end of an integer, and none is asked for.
+    /// `map = "msb"` counts from the most significant bit of an integer, but `repr` is not an integer.
     IntegerMissing,
-    /// The place is that of variant 257.
+    /// The fault is at the 257th variant.
     TooManyVariants,
     NameTwice(Place),
     NotAMask,
-    /// The bit is the discriminant, or the bit of which it is the mask.
+    /// The bit that the discriminant names is negative or too large.
     PastGreatest,
     ImpliedTooLarge,
     PastRepresentation { bit: u32, width: u32 },
@@ -93,7 +93,7 @@ pub enum Reason {
     PastWords(u32),
     BitTwice(Place),
     DiscriminantTwice(Place),
-    /// Where an enum is whose name is this in other letters.
+    /// Where an enum is whose name differs from this one only in case.
     OtherCase(Place),
 }
 
@@ -102,14 +102,17 @@ impl fmt::Display for Reason {
         match self {
             Reason::Text(text) => write!(f, "{text}"),
             Reason::Expected(what, found) => write!(f, "expected {what}, found {found}"),
-            Reason::GivenTwice(what, first) => write!(f, "this {what} was given at {first}"),
+            Reason::GivenTwice(what, first) => write!(
+                f,
+                "this {what} was already given at {first}"
+            ),
             Reason::IntegerMissing => write!(f, "`map = \"msb\"` needs `repr` to be an integer"),
             Reason::TooManyVariants => write!(f, "an enum may have at most 256 variants"),
-            Reason::NameTwice(first) => write!(f, "this name was given at {first}"),
+            Reason::NameTwice(first) => write!(f, "this name was already given at {first}"),
             Reason::NotAMask => {
                 write!(
                     f,
-                    "a mask must be a power of two; a set without members is `EnumSet::empty()`"
+                    "a mask must be a power of two; the empty set is `EnumSet::empty()`"
                 )
             }
             Reason::PastGreatest => write!(f, "a bit must be from 0 to 4294967231"),
@@ -123,24 +126,24 @@ impl fmt::Display for Reason {
             Reason::PastWords(bit) => {
                 write!(
                     f,
-                    "bit {bit} is past 1024 words; `map = \"compact\"` takes the places as bits"
+                    "bit {bit} does not fit in 1024 words; `map = \"compact\"` uses the places as bits"
                 )
             }
-            Reason::BitTwice(first) => write!(f, "this bit was taken at {first}"),
+            Reason::BitTwice(first) => write!(f, "this bit was already taken at {first}"),
             Reason::DiscriminantTwice(first) => {
-                write!(f, "this discriminant was taken at {first}")
+                write!(f, "this discriminant was already taken at {first}")
             }
             Reason::OtherCase(first) => {
                 write!(
                     f,
-                    "this name and that at {first} differ only in case: choose another"
+                    "this name and the one at {first} differ only in case: choose another name"
                 )
             }
         }
     }
 }
 
-/// What stands where something else is expected.
+/// What was found where something else is expected.
 #[derive(Clone, Copy, Debug)]
 pub enum Found {
     Identifier,
@@ -161,13 +164,13 @@ impl fmt::Display for Found {
             Found::Comment => write!(f, "a comment"),
             Found::Punctuation(character) if character.is_ascii() => write!(f, "`{character}`"),
             Found::Punctuation(character) => write!(f, "U+{:04X}", u32::from(*character)),
-            Found::End => write!(f, "the end"),
+            Found::End => write!(f, "the end of the source"),
         }
     }
 }
 
 impl Reason {
-    /// The fault for this reason, at a place.
+    /// The fault for this reason at a place.
     pub fn at(self, place: Place) -> Fault
         ensures { result ≡ fault_at place self }
     {
@@ -176,8 +179,8 @@ impl Reason {
     }
 }
 
-/// A place in a text: its line, and the character in that line, both counted from 1. A line feed ends a line.
-/// A character is a Unicode scalar value, so a tab is one.
+/// A place in a text: the line, and the column in that line, both counted from 1. A line feed ends a line. Each Unicode
+/// scalar value is one column, also a tab.
 #[derive(Clone, Copy, Debug)]
 pub struct Place {
     pub line: u32,
@@ -194,7 +197,7 @@ impl Place {
     /// The beginning of a text.
     pub const BEGIN: Place = Place { line: 1, column: 1 };
 
-    /// The place after a character that is there.
+    /// The place after this character, which is at `self`.
     pub fn after(self, character: char) -> Place {
         let (line, column) = match character {
             '\n' => (self.line.saturating_add(1), 1),

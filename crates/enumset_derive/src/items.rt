@@ -1,40 +1,40 @@
-//! The items of a source, by brackets and semicolons alone, and the attributes before them.
+//! The items of a source and the attributes before them. Items are found only by brackets and semicolons.
 
 use crate::fault::Outcome;
 use crate::tokens::{Kind, Token};
 use std::alloc::{AllocError, Global};
 
-/// What comes after `const` where this is no constant.
+/// The keywords that can follow `const` in an item that is not a constant.
 const QUALIFIED: [&str; 5] = ["fn", "trait", "unsafe", "async", "extern"];
 
 /// An item.
 #[derive(Clone, Copy)]
 pub struct Item<'a, 'b> {
-    /// Its attributes and doc comments, and the comments among them.
+    /// Its attributes and doc comments, and the other comments between them.
     pub attributes: &'b [Token<'a>],
-    /// From its visibility or keyword on, up to its `;` or `}`.
+    /// From its visibility or keyword to its `;` or `}`.
     pub tokens: &'b [Token<'a>],
 }
 
 impl<'a, 'b> Item<'a, 'b> {
-    /// Where it begins, if it is not empty.
+    /// Its first token, if it is not empty.
     pub fn first(&self) -> Option<&'b Token<'a>> {
         self.attributes.first().or(self.tokens.first())
     }
 
-    /// The visibility that it begins with, as `pub` or `pub(crate)`, or nothing.
+    /// Its visibility, such as `pub` or `pub(crate)`, or nothing.
     pub fn visibility(&self) -> &'b [Token<'a>] {
         self.tokens
             .get(..visibility_length(self.tokens))
             .unwrap_or(&[])
     }
 
-    /// What comes after its visibility, from its keyword on.
+    /// The tokens after its visibility, beginning with its keyword.
     pub fn words(&self) -> &'b [Token<'a>] {
         skip(self.tokens, visibility_length(self.tokens))
     }
 
-    /// Whether this is its keyword.
+    /// Whether it has this keyword.
     pub fn is(&self, keyword: &str) -> bool {
         self.words().first().is_some_and(|first| first.is(keyword))
     }
@@ -51,7 +51,7 @@ impl<'a, 'b> Items<'a, 'b> {
         Items { rest: tokens }
     }
 
-    /// Goes on to the next item, if there is one. Comments between items are left out.
+    /// The next item, if there is one. Comments between items are skipped.
     pub fn next(&mut self) -> Option<Item<'a, 'b>> {
         let is_code = |token: &Token| !matches!(token.kind, Kind::Comment);
         let begin = self.rest.iter().position(is_code)?;
@@ -73,19 +73,20 @@ impl<'a, 'b> Items<'a, 'b> {
     }
 }
 
-/// The tokens after so many.
+/// The tokens after the first `count`.
 fn skip<'a, 'b>(tokens: &'b [Token<'a>], count: usize) -> &'b [Token<'a>] {
     let (_, rest) = tokens.split_at(count.min(tokens.len()));
     rest
 }
 
-/// How many tokens there are up to the end of a bracket, if so many are before what comes after its beginning.
+/// The number of tokens up to the end of a bracket. `rest` follows its beginning `open`, and `before` tokens precede
+/// it.
 fn bracket_length(before: usize, open: &Token, rest: &[Token]) -> usize {
     let inside = rest.iter().take_while(|token| token.depth >= open.depth);
     inside.count().saturating_add(before).saturating_add(1)
 }
 
-/// How many tokens the visibility has that tokens begin with.
+/// The number of tokens in the visibility at the beginning.
 fn visibility_length(tokens: &[Token]) -> usize {
     match tokens {
         [public, open, rest @ ..] if public.is("pub") && open.is("(") => {
@@ -96,7 +97,7 @@ fn visibility_length(tokens: &[Token]) -> usize {
     }
 }
 
-/// How many tokens the attribute or the comment has that tokens begin with.
+/// The number of tokens in the attribute or comment at the beginning.
 fn attribute_length(tokens: &[Token]) -> usize {
     match tokens {
         [comment, ..] if matches!(comment.kind, Kind::Comment | Kind::OuterDoc) => 1,
@@ -105,7 +106,7 @@ fn attribute_length(tokens: &[Token]) -> usize {
     }
 }
 
-/// How many tokens the attribute or the comment has that tokens begin with, if it is of what it stands in.
+/// The number of tokens in the inner attribute or comment at the beginning.
 fn inner_length(tokens: &[Token]) -> usize {
     match tokens {
         [comment, ..] if matches!(comment.kind, Kind::InnerDoc) => 1,
@@ -116,7 +117,7 @@ fn inner_length(tokens: &[Token]) -> usize {
     }
 }
 
-/// How many tokens the attributes and comments have that tokens begin with.
+/// The number of tokens in the attributes and comments at the beginning.
 fn head_length(tokens: &[Token]) -> usize {
     let mut length = 0usize;
     for _ in 0..tokens.len() {
@@ -128,11 +129,11 @@ fn head_length(tokens: &[Token]) -> usize {
     length
 }
 
-/// How many tokens an item has, with the `;` or `}` that ends it.
+/// The number of tokens in an item, including the `;` or `}` that ends it.
 fn item_length(tokens: &[Token]) -> usize {
     let ends = match skip(tokens, visibility_length(tokens)) {
         [keyword, next, ..] if keyword.is("const") && QUALIFIED.contains(&next.text) => ";}",
-        // The value or the type of these may have a `}` before the `;`.
+        // The value or type of these may contain a `}` before the `;`.
         [keyword, ..] if matches!(keyword.text, "const" | "static" | "type" | "use") => ";",
         _ => ";}",
     };
@@ -146,17 +147,17 @@ fn item_length(tokens: &[Token]) -> usize {
     }
 }
 
-/// An attribute, or a comment beside attributes.
+/// An attribute, or a comment next to attributes.
 #[derive(Drop)]
 pub struct Attribute<'a, 'b> {
     /// As it is written.
     pub tokens: &'b [Token<'a>],
-    /// Without comments: the name, what comes after it, and the `]` at the end; nothing of a comment.
+    /// For an attribute, the name and the tokens up to the `]`, without comments. For a comment, nothing.
     words: Vec<Token<'a>>,
 }
 
 impl<'a, 'b> Attribute<'a, 'b> {
-    /// The attributes and comments that tokens begin with, and what comes after them.
+    /// The attributes and comments at the beginning, and the tokens after them.
     pub fn before(
         alloc: Global,
         tokens: &'b [Token<'a>],
@@ -182,7 +183,7 @@ impl<'a, 'b> Attribute<'a, 'b> {
         Ok((attributes, rest))
     }
 
-    /// Whether it is an attribute of this name.
+    /// Whether it is an attribute with this name.
     pub fn is(&self, name: &str) -> bool {
         self.words.first().is_some_and(|first| first.is(name))
     }
@@ -191,24 +192,24 @@ impl<'a, 'b> Attribute<'a, 'b> {
         self.words.is_empty()
     }
 
-    /// The name, what comes after it, and the `]` at the end; nothing of a comment.
+    /// For an attribute, the name and the tokens up to the `]`, without comments. For a comment, nothing.
     pub fn words(&self) -> &[Token<'a>] {
         self.words.as_slice()
     }
 
-    /// Whether these tokens come after its name, and no others.
+    /// Whether exactly these tokens follow its name.
     pub fn is_written(&self, tokens: &[&str]) -> bool {
         let own = self.words.iter().skip(1).map(|word| word.text);
         own.eq(tokens.iter().copied())
     }
 
-    /// Whether this name stands in it before a bracket.
+    /// Whether it contains this name before an open bracket.
     pub fn calls(&self, name: &str) -> bool {
         let mut pairs = self.words.array_windows::<2>();
         pairs.any(|[word, next]| word.is(name) && next.is_punct("([{"))
     }
 
-    /// Its arguments, each with the punctuation at its end. It is a fault if it does not end after them.
+    /// Its arguments, each with the punctuation after it. It is a fault if anything follows them.
     pub fn arguments(&self, alloc: Global) -> Outcome<Vec<&[Token<'a>]>> {
         let [_, open, rest @ ..] = self.words.as_slice() else {
             return Ok(Vec::new(alloc));

@@ -1,9 +1,9 @@
-//! Writes the module of Rattle for a source of enums.
+//! Writes the Rattle module that makes the enums of a Rust source element types.
 //!
 //! `enumset_derive CRATE MODULE` reads the source from standard input and prints the module of this name in this crate.
 //! The module `bar` in the module `foo` is named `foo::bar`.
-//! With `-o FILE` after them the module goes into that file, once the source had no fault.
-//! With `--bits FILE` that file gets the definitions of the words by which clauses speak of the variants' bits.
+//! With `-o FILE` the module is written to that file instead, unless the source has a fault.
+//! With `--bits FILE` the program also writes a file of definitions: the terms of contracts for the variants' bits.
 #![tactic(auto)]
 
 mod element;
@@ -27,26 +27,26 @@ use std::rt::Files;
 use tokens::tokens_of;
 use write::{bits_text, module_text};
 
-const NOT_A_NAME: DeriveError = DeriveError::Arguments("an argument is no name");
+const NOT_A_NAME: DeriveError = DeriveError::Arguments("an argument is not a valid name");
 
 const WRONG: DeriveError = DeriveError::Arguments(
-    "two arguments: the names of the crate and of the module; then -o FILE for a file in place of standard output, and \
-    --bits FILE for one that defines the word for a bit",
+    "usage: enumset_derive CRATE MODULE [-o FILE] [--bits FILE]; -o writes the module to FILE instead of standard \
+    output, and --bits writes the definition of a variant's bit in contracts to FILE",
 );
 
 /// What the program is to write, and where.
 #[derive(Drop)]
 pub struct Request<'a> {
     pub crate_name: &'a str,
-    /// The names of the modules down to it, with dots between them.
+    /// Its path, with a dot between two names.
     pub module: String,
-    /// The file that it goes into, if not standard output.
+    /// The file that the module is written to, if not standard output.
     pub file: Option<&'a str>,
-    /// The file that the words for bits go into, if they are asked for.
+    /// The file that the terms for bits are written to, if there is one.
     pub bits: Option<&'a str>,
 }
 
-/// What is written, if the source had no fault.
+/// What the program writes for a source without a fault.
 #[derive(Drop)]
 struct Output {
     module: String,
@@ -67,7 +67,8 @@ fn main(rt: HostRuntime) -> ExitCode {
     })
 }
 
-/// Tests the arguments, reads the source and writes the module. Gives whether the source had no fault.
+/// Reads the arguments and the source, and writes the module. Returns `false` if the source has faults, which are then
+/// on standard error.
 fn answer<R: Env + Files + Input + Print + Eprint + AllocGlobal>(rt: &R) -> Outcome<bool> {
     let arguments = env::args(rt).map_err(|error| fault_of(error, NOT_A_NAME))?;
     let arguments: Vec<String> = arguments.collect(rt.alloc())?;
@@ -88,7 +89,7 @@ fn answer<R: Env + Files + Input + Print + Eprint + AllocGlobal>(rt: &R) -> Outc
     Ok(true)
 }
 
-/// The fault that a failure of the system is: that memory ran out, or this one.
+/// The fault for an error of the system: out of memory, or else this one.
 fn fault_of(error: io::Error, other: DeriveError) -> DeriveError {
     match error.kind() {
         ErrorKind::OutOfMemory => DeriveError::OutOfMemory(AllocError),
@@ -128,14 +129,15 @@ fn request_of(alloc: Global, arguments: &[String]) -> Outcome<Request<'_>> {
     Ok(request)
 }
 
-/// Whether a text is a name: a small letter or `_`, and then small letters, digits and `_`; at most 256 of them.
+/// Whether a text is a valid name: 1 to 256 lowercase letters, digits and `_`, not beginning with a digit.
 fn is_name(name: &str) -> bool {
     let is_digit = |letter: char| letter.is_ascii_digit();
     let is_plain = |letter| matches!(letter, 'a'..='z' | '0'..='9' | '_');
     matches!(name.len(), 1..=256) && name.chars().all(is_plain) && !name.starts_with(is_digit)
 }
 
-/// What the input stands for, if it has no fault. Standard error says what is wrong, or what is left out.
+/// What is written for the source on standard input, or `None` if it has faults. The faults, or else the notes, are
+/// written to standard error.
 fn derive<R: Input + Eprint + AllocGlobal>(rt: &R, request: &Request) -> Outcome<Option<Output>> {
     let alloc = rt.alloc();
     let mut input = Vec::new(alloc);
@@ -168,12 +170,12 @@ fn derive<R: Input + Eprint + AllocGlobal>(rt: &R, request: &Request) -> Outcome
     }))
 }
 
-/// The text that bytes are, without a byte order mark, or the fault where they are no text.
+/// The bytes as UTF-8 without a byte order mark, or the fault at the first invalid byte.
 fn text_of(input: &[u8]) -> Outcome<&str> {
     let input = input.strip_prefix(b"\xEF\xBB\xBF").unwrap_or(input);
     let valid = input.utf8_chunks().next().map_or("", |chunk| chunk.valid());
     let end = valid.chars().fold(Place::BEGIN, Place::after);
-    let fault = Reason::Text("these bytes are no text in UTF-8").at(end);
+    let fault = Reason::Text("these bytes are not valid UTF-8").at(end);
     Ok(str::from_utf8(input).map_err(|_| fault)?)
 }
 

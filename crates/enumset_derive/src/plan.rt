@@ -1,4 +1,4 @@
-//! The plan of an element type: its bits, the width of its sets, and the set of all bits.
+//! The plan of an element type: the bits, the width of a set, and the set of all bits.
 
 ghost use Rattle.std.specs.Prelude.{◌≡◌, ◌≤◌, ◌*◌, Some, length, IsTrue, IfOk, IfErr};
 ghost use Rattle.enumset_repr.specs.Number.{is_distinct, lists_bits};
@@ -19,12 +19,12 @@ pub use declaration::{
 use std::alloc::{AllocError, Global};
 use variants::name_variants;
 
-/// What the implementation of an element type says of an enum.
+/// What the implementation of an element type states.
 #[derive(Drop)]
 pub struct Plan {
-    /// The variants with their bits, in the order of the declaration. `VARIANT_COUNT` is how many there are.
+    /// The variants with their bits, in the order of the declaration. Their number is `VARIANT_COUNT`.
     pub variants: Vec<NamedVariant>,
-    /// What keeps a set, with `ALL_BITS`.
+    /// What a set is stored in, with `ALL_BITS`.
     pub store: Store,
     /// `BIT_WIDTH`: one past the greatest bit, or 0 if there is none.
     pub bit_width: u32,
@@ -36,21 +36,21 @@ pub struct NamedVariant {
     pub bit: u32,
     /// The discriminant, given or implied.
     pub number: Number,
-    /// Where the discriminant is, or the name if the discriminant is implied.
+    /// Where the discriminant is, or the name of the variant if the discriminant is implied.
     pub place: Place,
 }
 
-/// What keeps a set, with the value of `ALL_BITS`.
+/// What a set is stored in, with the value of `ALL_BITS`.
 #[derive(Drop)]
 pub enum Store {
-    /// An integer of this type, and the number of all bits.
+    /// An integer of this type, and the integer with all bits.
     Integer(IntegerType, u128),
-    /// The words of all bits, the lowest first, in as many words as a set has.
+    /// Words of 64 bits: those with all bits, the lowest first.
     Words(Vec<u64>),
 }
 
-/// The plan of an element type, or the first fault of its declaration. The fault of `map = "msb"` without an integer
-/// comes first. Then the variants are looked at one after another.
+/// The plan of an element type, or the first fault of its declaration. A `map = "msb"` without an integer is the first
+/// fault. Then the variants are checked one after another.
 pub fn plan_enum(alloc: Global, declaration: &EnumDeclaration) -> Result<Plan, DeriveError>
     ensures bits { IfOk result (IsPlanned declaration.now) }
     ensures lawful { IfOk result (IsLawfulPlan (length declaration.now.variants.items)) }
@@ -89,7 +89,7 @@ fn width_of(named: &[NamedVariant]) -> u32
     }
 }
 
-/// What keeps a set: as asked for, else the smallest integer with this many bits, else words.
+/// What a set is stored in: what `repr` asks for, or else the smallest integer with at least this many bits, or words.
 fn kind_of(asked: Option<Representation>, width: u32) -> Representation
     requires { width ≤ bit_limit asked }
     ensures kind { result ≡ kind_of asked width }
@@ -106,7 +106,7 @@ fn kind_of(asked: Option<Representation>, width: u32) -> Representation
     }
 }
 
-/// The number of the variants' bits.
+/// The integer with the variants' bits.
 fn number_of(named: &[NamedVariant]) -> u128
     requires distinct { IsTrue (is_distinct (bits_of named.now)) }
     requires below { one_past_all (bits_of named.now) ≤ 128 }
@@ -118,7 +118,7 @@ fn number_of(named: &[NamedVariant]) -> u128
     }
 }
 
-/// As many words, with the variants' bits.
+/// The words with the variants' bits. Their number is `count`.
 fn words_of(alloc: Global, named: &[NamedVariant], count: u32) -> Result<Vec<u64>, AllocError>
     requires distinct { IsTrue (is_distinct (bits_of named.now)) }
     requires below { one_past_all (bits_of named.now) ≤ 64 * count }

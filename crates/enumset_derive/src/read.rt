@@ -1,4 +1,4 @@
-//! The enums of a source that are to be element types, as they are read.
+//! Reads the enums of a source that are to become element types.
 
 mod attributes;
 mod derives;
@@ -23,16 +23,16 @@ use imports::Imports;
 use others::leave_out;
 use std::alloc::Global;
 
-/// What of a source goes into its module, and what is said of it.
+/// The parts of a source that are written to its module, and the report on it.
 #[derive(Drop)]
 pub struct Source<'a, 'b> {
-    /// The doc comments of the module, which the source begins with.
+    /// The doc comments `//!` at the beginning of the source.
     pub docs: Vec<&'a str>,
     pub enums: Vec<EnumDeclaration<'a, 'b>>,
     pub report: Report<'a, 'b>,
 }
 
-/// What is known while a source is read.
+/// The state while a source is read.
 #[derive(Drop)]
 struct Reader<'a, 'b> {
     alloc: Global,
@@ -40,7 +40,7 @@ struct Reader<'a, 'b> {
     report: Report<'a, 'b>,
 }
 
-/// What of a source goes into its module. What is wrong with an enum, and what is left out, is reported.
+/// Reads the parts of a source that are written to its module. Faults, and what is left out, are reported.
 pub fn read_source<'a, 'b>(alloc: Global, tokens: &'b [Token<'a>]) -> Outcome<Source<'a, 'b>> {
     let mut reader = Reader {
         alloc,
@@ -74,7 +74,7 @@ pub fn read_source<'a, 'b>(alloc: Global, tokens: &'b [Token<'a>]) -> Outcome<So
     })
 }
 
-/// Reads an item if it is to be an element type, and else leaves it out.
+/// Reads an item if it derives `EnumSetType`, and otherwise leaves it out.
 fn read_item<'a, 'b>(
     reader: &mut Reader<'a, 'b>,
     item: &Item<'a, 'b>,
@@ -89,7 +89,7 @@ fn read_item<'a, 'b>(
     Ok(None)
 }
 
-/// Whether the derive of element types is named among tokens.
+/// Whether `EnumSetType` is named among the tokens.
 fn has_name(imports: &Imports, tokens: &[Token]) -> bool {
     tokens.iter().any(|word| imports.is_element_type(&*word))
 }

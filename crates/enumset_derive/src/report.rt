@@ -1,4 +1,4 @@
-//! What is said of a source on standard error.
+//! The report on a source, which is printed to standard error.
 
 use crate::fault::{DeriveError, Fault, Outcome, Place};
 use crate::items::Item;
@@ -6,7 +6,7 @@ use crate::tokens::{Token, Written};
 use std::alloc::Global;
 use std::fmt;
 
-/// What is said of a source on standard error: the faults, or if there is none the notes.
+/// The report on a source. Standard error shows the faults, or if there are none, the notes.
 #[derive(Drop)]
 pub struct Report<'a, 'b> {
     pub faults: Vec<Fault>,
@@ -21,7 +21,7 @@ impl<'a, 'b> Report<'a, 'b> {
         }
     }
 
-    /// Takes in a fault, so that more of them are found. If memory ran out, nothing more is.
+    /// Records a fault, so that reading goes on and finds others. Any other error is returned.
     pub fn take(&mut self, error: DeriveError) -> Outcome {
         match error {
             DeriveError::Fault(fault) => Ok(self.faults.push(fault)?),
@@ -29,12 +29,12 @@ impl<'a, 'b> Report<'a, 'b> {
         }
     }
 
-    /// Says what is left out, or changes nothing.
+    /// Records a note.
     pub fn note(&mut self, note: Note<'a, 'b>) -> Outcome {
         Ok(self.notes.push(note)?)
     }
 
-    /// Puts the faults and the notes into the order of their places.
+    /// Sorts the faults and the notes by their places.
     pub fn sort(&mut self) -> Outcome {
         let order = |place: Place| (place.line, place.column);
         self.faults.sort_by_key(|fault| order(fault.place))?;
@@ -42,12 +42,12 @@ impl<'a, 'b> Report<'a, 'b> {
     }
 }
 
-/// What is said of a place in a source that is no fault.
+/// A remark on a place in a source that is not a fault.
 #[derive(Drop)]
 pub enum Note<'a, 'b> {
     /// An item that is left out.
     Item(&'b Token<'a>, Item<'a, 'b>),
-    /// The name of an element type in such an item, and what the item is.
+    /// The name of an element type inside such an item, and what the item is.
     Inside(&'b Token<'a>, &'static str),
     /// An attribute that is left out.
     Attribute(Place, &'b [Token<'a>]),
@@ -57,7 +57,7 @@ pub enum Note<'a, 'b> {
 }
 
 impl Note<'_, '_> {
-    /// The place of which it speaks.
+    /// The place that it is about.
     fn place(&self) -> Place {
         match self {
             Note::Item(token, _) | Note::Inside(token, _) => token.place,
@@ -82,7 +82,7 @@ impl fmt::Display for Note<'_, '_> {
                 let (line, name) = (name.place.line, name.text);
                 write!(
                     f,
-                    "line {line}: the element type {name} stands inside {what}: give it alone"
+                    "line {line}: the element type {name} is inside {what}: move it to the top level"
                 )
             }
             Note::Attribute(place, tokens) => {
@@ -103,7 +103,7 @@ impl fmt::Display for Note<'_, '_> {
     }
 }
 
-/// The first words of an item, up to what it is or has.
+/// The first tokens of an item, up to its body or value.
 #[derive(Clone, Copy)]
 struct FirstWords<'a, 'b>(&'b [Token<'a>]);
 

@@ -1,4 +1,4 @@
-//! The tokens of a source, with the brackets that each is in.
+//! The tokens of a source, each with the depth of its brackets.
 
 ghost use Rattle.std.specs.Prelude.{◌≡◌, ◌++◌, IfOk};
 ghost use Rattle.enumset_derive.specs.Sources.{written};
@@ -13,15 +13,15 @@ use std::fmt;
 /// What a token is.
 #[derive(Clone, Copy)]
 pub enum Kind {
-    /// A comment that documents nothing.
+    /// A comment that is not a doc comment.
     Comment,
-    /// A comment that documents what follows it, as `/// ..`.
+    /// A comment that documents what follows it, such as `/// ..`.
     OuterDoc,
-    /// A comment that documents what it stands in, as `//! ..`.
+    /// A comment that documents what it is in, such as `//! ..`.
     InnerDoc,
     /// An identifier or a keyword.
     Ident,
-    /// A number, a text, a character or a byte.
+    /// A number, a string, a character or a byte.
     Literal,
     Lifetime,
     /// Any other character, or `::`.
@@ -34,13 +34,13 @@ pub enum Kind {
 #[derive(Clone, Copy)]
 pub struct Token<'a> {
     pub kind: Kind,
-    /// The spaces and the ends of lines before it.
+    /// The white space before it.
     pub space: &'a str,
-    /// As it is written.
+    /// Its text in the source.
     pub text: &'a str,
     /// Where it begins.
     pub place: Place,
-    /// In how many brackets it is, itself among them if it begins one.
+    /// The number of brackets that it is in, including itself if it is an open bracket.
     pub depth: u32,
 }
 
@@ -49,7 +49,7 @@ impl<'a> Token<'a> {
         matches!(self.kind, Kind::Comment | Kind::OuterDoc | Kind::InnerDoc)
     }
 
-    /// Whether the token is the first on its line, but for the first of a source.
+    /// Whether a line feed is between this token and the one before.
     pub fn begins_line(&self) -> bool {
         self.space.contains('\n')
     }
@@ -59,12 +59,12 @@ impl<'a> Token<'a> {
         self.space.matches('\n').nth(1).is_some()
     }
 
-    /// Whether the token is written so.
+    /// Whether the token has this text.
     pub fn is(&self, text: &str) -> bool {
         self.text == text
     }
 
-    /// Whether the token is one of these characters, where `:` is for `::`.
+    /// Whether the token is one of these punctuation characters. `:` also means `::`.
     pub fn is_punct(&self, characters: &str) -> bool {
         let is_one = |character| characters.contains(character);
         matches!(self.kind, Kind::Punct) && self.text.starts_with(is_one)
@@ -75,25 +75,25 @@ impl<'a> Token<'a> {
         matches!(self.kind, Kind::Ident)
     }
 
-    /// Whether the token is the literal of a number.
+    /// Whether the token is a numeric literal.
     pub fn is_number(&self) -> bool {
         let is_digit = |character: char| character.is_ascii_digit();
         matches!(self.kind, Kind::Literal) && self.text.starts_with(is_digit)
     }
 
-    /// The text in quotes that the token is, without them, unless it is of bytes.
+    /// The text between the quotes, if the token is a string literal.
     pub fn unquoted(&self) -> Option<&'a str> {
         let text = self.text.strip_prefix('r').unwrap_or(self.text);
         let text = text.trim_start_matches('#').trim_end_matches('#');
         text.strip_prefix('"')?.strip_suffix('"')
     }
 
-    /// The fault that is here.
+    /// The fault with this text at the token.
     pub fn fault(&self, text: &'static str) -> Fault {
         Reason::Text(text).at(self.place)
     }
 
-    /// The fault that this is here, and not what is expected.
+    /// The fault that the token is not what is expected.
     pub fn unexpected(&self, expected: &'static str) -> Fault {
         let found = match self.kind {
             Kind::Comment | Kind::OuterDoc | Kind::InnerDoc => Found::Comment,
@@ -110,7 +110,7 @@ impl<'a> Token<'a> {
         Reason::Expected(expected, found).at(self.place)
     }
 
-    /// The fault that this is here, unless what is expected is.
+    /// The fault that the token is not what is expected, unless `is_here` says that it is.
     pub fn expect(&self, is_here: bool, expected: &'static str) -> Result<(), Fault> {
         match is_here {
             true => Ok(()),
@@ -119,7 +119,7 @@ impl<'a> Token<'a> {
     }
 }
 
-/// Tokens as they are written, without the space before the first.
+/// Tokens as they are in the source, without the space before the first.
 #[derive(Clone, Copy)]
 pub struct Written<'a, 'b>(pub &'b [Token<'a>]);
 
@@ -135,9 +135,9 @@ impl fmt::Display for Written<'_, '_> {
     }
 }
 
-const TOO_LONG: &str = "a source has at most 4294967295 bytes";
+const TOO_LONG: &str = "a source may have at most 4294967294 bytes";
 
-/// The tokens of a source, and its end. Nothing of it is lost.
+/// The tokens of a source, with its end as the last. Together they are the whole source.
 #[tactic(auto, using(crate::proofs::Sources::written_append))]
 pub fn tokens_of(alloc: Global, source: &str) -> Outcome<Vec<Token<'_>>>
     ensures { IfOk result (λ tokens. written tokens.items ≡ source.now) }
@@ -146,7 +146,7 @@ pub fn tokens_of(alloc: Global, source: &str) -> Outcome<Vec<Token<'_>>>
     if source.len() >= u32::MAX as usize {
         return Err(too_long.into());
     }
-    // No more are there, as each has a byte at least: so the memory does not double as they come.
+    // Each token has at least one byte, so this capacity is enough, and the vector does not grow.
     let mut tokens = Vec::with_capacity(alloc, source.len() + 1)?;
     let mut open = Vec::new(alloc);
     let mut end = Place::BEGIN;
@@ -164,7 +164,7 @@ pub fn tokens_of(alloc: Global, source: &str) -> Outcome<Vec<Token<'_>>>
     Err(too_long.into())
 }
 
-/// The first token of a text that begins at a place, and the text after it.
+/// The first token of a text, and the text after it. The text begins at this place.
 fn first_token(text: &str, begin: Place) -> Result<(Token<'_>, &str), Fault>
     ensures { IfOk result (λ first. first.0.space.now ++ (first.0.text.now ++ first.1.now) ≡ text.now) }
 {
@@ -183,14 +183,14 @@ fn first_token(text: &str, begin: Place) -> Result<(Token<'_>, &str), Fault>
     Ok((token, after))
 }
 
-/// A text in two parts, of which the first has so many bytes, or all where no character ends there.
+/// Splits a text after `count` bytes. If that is not between two characters, the first part is the whole text.
 fn split(text: &str, count: usize) -> (&str, &str)
     ensures { result.0.now ++ result.1.now ≡ text.now }
 {
     text.split_at_checked(count).unwrap_or((text, ""))
 }
 
-/// Whether a character is a space, or ends a line or a page.
+/// Whether a character is white space in Rust.
 fn is_space(character: char) -> bool {
     matches!(
         character,
@@ -198,10 +198,10 @@ fn is_space(character: char) -> bool {
     )
 }
 
-/// Takes in a bracket, if a token is one, and gives in how many the token is. Of those that have begun it knows the character
-/// that is to end each, and where it is. It is a fault if the token ends another one or none, or the source in a bracket.
+/// Opens or closes a bracket, if the token is one, and returns the depth of the token. `open` has the place of each
+/// open bracket and the character that closes it. It is a fault if a bracket does not match, or is open at the end.
 fn take_bracket(open: &mut Vec<(char, Place)>, token: &Token) -> Outcome<u32> {
-    let unclosed = |begin: Place| Reason::Text("this bracket has no end").at(begin);
+    let unclosed = |begin: Place| Reason::Text("this bracket is not closed").at(begin);
     let place = token.place;
     match (token.kind, token.text) {
         (Kind::Punct, "(") => open.push((')', place))?,
@@ -212,7 +212,7 @@ fn take_bracket(open: &mut Vec<(char, Place)>, token: &Token) -> Outcome<u32> {
                 begin,
             ).into()),
             Some(_) => {}
-            None => return Err(token.fault("this bracket has no beginning").into()),
+            None => return Err(token.fault("this bracket was not opened").into()),
         },
         (Kind::End, _) => match open.first() {
             Some((_, begin)) => return Err(unclosed(*begin).into()),

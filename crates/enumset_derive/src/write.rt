@@ -1,4 +1,4 @@
-//! The text of a module.
+//! Writes the text of a module.
 
 mod bits;
 mod declaration;
@@ -16,24 +16,29 @@ use element_type::write_element_type;
 use imports::imports_of;
 use std::alloc::{AllocError, Global};
 
-/// What is written, unless memory ran out.
+/// The line that a module begins with.
+const HEAD: &str =
+    "// Written by enumset_derive from the enum's source: change the source, and write this module again.\n";
+
+/// What is written, or an error if memory runs out.
 type Written<T = ()> = Result<T, AllocError>;
 
 type Text = Written<String>;
 
-/// An element type that is written: what it is, and where.
+/// The element type that is being written, and its module.
 #[derive(Clone, Copy)]
 struct Subject<'r, 's, 'a, 'b> {
     alloc: Global,
     crate_name: &'r str,
-    /// The names of the modules down to its own, with dots between them.
+    /// The path of its module, with a dot between two names.
     module: &'r str,
     element: &'s Element<'a, 'b>,
+    /// The name by which the module cites the crate `enumset`.
     facade: &'a str,
     name: &'a str,
 }
 
-/// The name by which the module of these element types cites the crate `enumset`.
+/// The name by which the module with these element types cites the crate `enumset`.
 fn facade_of<'a>(elements: &[Element<'a, '_>]) -> &'a str {
     match elements {
         [first, ..] => first.declaration.options.facade(),
@@ -41,7 +46,7 @@ fn facade_of<'a>(elements: &[Element<'a, '_>]) -> &'a str {
     }
 }
 
-/// The crate whose definitions the clauses of a module cite.
+/// The crate whose definitions the contracts of a module cite.
 fn library_of(facade: &str) -> &'static str {
     match facade {
         "enumset_sets" => "enumset_sets",
@@ -51,7 +56,10 @@ fn library_of(facade: &str) -> &'static str {
 
 /// The text of the module with these doc comments and element types.
 pub fn module_text(alloc: Global, request: &Request, docs: &[&str], elements: &[Element]) -> Text {
-    let mut text = String::new(alloc);
+    let mut text = String::from_str(alloc, HEAD)?;
+    if !docs.is_empty() || !elements.is_empty() {
+        text.push('\n')?;
+    }
     for doc in docs {
         write!(text, "{doc}\n")?;
     }

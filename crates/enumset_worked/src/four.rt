@@ -1,3 +1,5 @@
+// Written by enumset_derive from the enum's source: change the source, and write this module again.
+
 //! The worked type `four`.
 
 use enumset_sets::{EnumSet, EnumSetType, EnumSetTypeWithRepr};
@@ -79,7 +81,7 @@ impl std::fmt::Display for Four {
     }
 }
 
-/// The intersection of the set of the one and that of the other.
+/// The intersection of `{self}` and `{rhs}`.
 impl std::ops::BitAnd for Four {
     ghost use Rattle.std.specs.Prelude.{◌≡◌};
     ghost use Rattle.enumset_sets.specs.Sets as set;
@@ -95,7 +97,7 @@ impl std::ops::BitAnd for Four {
     }
 }
 
-/// The intersection of the set of the one and the other.
+/// The intersection of `{self}` and `rhs`.
 impl std::ops::BitAnd<EnumSet<Four>> for Four {
     ghost use Rattle.std.specs.Prelude.{◌≡◌};
     ghost use Rattle.enumset_sets.specs.Sets as set;
@@ -110,7 +112,7 @@ impl std::ops::BitAnd<EnumSet<Four>> for Four {
     }
 }
 
-/// The union of the set of the one and that of the other.
+/// The union of `{self}` and `{rhs}`.
 impl std::ops::BitOr for Four {
     ghost use Rattle.std.specs.Prelude.{◌≡◌};
     ghost use Rattle.enumset_sets.specs.Sets as set;
@@ -126,7 +128,7 @@ impl std::ops::BitOr for Four {
     }
 }
 
-/// The union of the set of the one and the other.
+/// The union of `{self}` and `rhs`.
 impl std::ops::BitOr<EnumSet<Four>> for Four {
     ghost use Rattle.std.specs.Prelude.{◌≡◌};
     ghost use Rattle.enumset_sets.specs.Sets as set;
@@ -141,7 +143,7 @@ impl std::ops::BitOr<EnumSet<Four>> for Four {
     }
 }
 
-/// The symmetric difference of the set of the one and that of the other.
+/// The symmetric difference of `{self}` and `{rhs}`.
 impl std::ops::BitXor for Four {
     ghost use Rattle.std.specs.Prelude.{◌≡◌};
     ghost use Rattle.enumset_sets.specs.Sets as set;
@@ -157,7 +159,7 @@ impl std::ops::BitXor for Four {
     }
 }
 
-/// The symmetric difference of the set of the one and the other.
+/// The symmetric difference of `{self}` and `rhs`.
 impl std::ops::BitXor<EnumSet<Four>> for Four {
     ghost use Rattle.std.specs.Prelude.{◌≡◌};
     ghost use Rattle.enumset_sets.specs.Sets as set;
@@ -172,7 +174,7 @@ impl std::ops::BitXor<EnumSet<Four>> for Four {
     }
 }
 
-/// The difference of the set of the one and that of the other.
+/// The difference of `{self}` and `{rhs}`.
 impl std::ops::Sub for Four {
     ghost use Rattle.std.specs.Prelude.{◌≡◌};
     ghost use Rattle.enumset_sets.specs.Sets as set;
@@ -188,7 +190,7 @@ impl std::ops::Sub for Four {
     }
 }
 
-/// The difference of the set of the one and the other.
+/// The difference of `{self}` and `rhs`.
 impl std::ops::Sub<EnumSet<Four>> for Four {
     ghost use Rattle.std.specs.Prelude.{◌≡◌};
     ghost use Rattle.enumset_sets.specs.Sets as set;
@@ -203,7 +205,7 @@ impl std::ops::Sub<EnumSet<Four>> for Four {
     }
 }
 
-/// The set of all the others.
+/// The set of all other elements.
 impl std::ops::Not for Four {
     ghost use Rattle.std.specs.Prelude.{◌≡◌};
     ghost use Rattle.enumset_sets.specs.Sets as set;

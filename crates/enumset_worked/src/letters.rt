@@ -1,3 +1,5 @@
+// Written by enumset_derive from the enum's source: change the source, and write this module again.
+
 //! The worked type `letters`.
 
 use enumset_sets::{EnumSet, EnumSetType, EnumSetTypeWithRepr};
@@ -90,7 +92,7 @@ impl std::fmt::Display for Letters {
     }
 }
 
-/// The intersection of the set of the one and that of the other.
+/// The intersection of `{self}` and `{rhs}`.
 impl std::ops::BitAnd for Letters {
     ghost use Rattle.std.specs.Prelude.{◌≡◌};
     ghost use Rattle.enumset_sets.specs.Sets as set;
@@ -106,7 +108,7 @@ impl std::ops::BitAnd for Letters {
     }
 }
 
-/// The intersection of the set of the one and the other.
+/// The intersection of `{self}` and `rhs`.
 impl std::ops::BitAnd<EnumSet<Letters>> for Letters {
     ghost use Rattle.std.specs.Prelude.{◌≡◌};
     ghost use Rattle.enumset_sets.specs.Sets as set;
@@ -121,7 +123,7 @@ impl std::ops::BitAnd<EnumSet<Letters>> for Letters {
     }
 }
 
-/// The union of the set of the one and that of the other.
+/// The union of `{self}` and `{rhs}`.
 impl std::ops::BitOr for Letters {
     ghost use Rattle.std.specs.Prelude.{◌≡◌};
     ghost use Rattle.enumset_sets.specs.Sets as set;
@@ -137,7 +139,7 @@ impl std::ops::BitOr for Letters {
     }
 }
 
-/// The union of the set of the one and the other.
+/// The union of `{self}` and `rhs`.
 impl std::ops::BitOr<EnumSet<Letters>> for Letters {
     ghost use Rattle.std.specs.Prelude.{◌≡◌};
     ghost use Rattle.enumset_sets.specs.Sets as set;
@@ -152,7 +154,7 @@ impl std::ops::BitOr<EnumSet<Letters>> for Letters {
     }
 }
 
-/// The symmetric difference of the set of the one and that of the other.
+/// The symmetric difference of `{self}` and `{rhs}`.
 impl std::ops::BitXor for Letters {
     ghost use Rattle.std.specs.Prelude.{◌≡◌};
     ghost use Rattle.enumset_sets.specs.Sets as set;
@@ -168,7 +170,7 @@ impl std::ops::BitXor for Letters {
     }
 }
 
-/// The symmetric difference of the set of the one and the other.
+/// The symmetric difference of `{self}` and `rhs`.
 impl std::ops::BitXor<EnumSet<Letters>> for Letters {
     ghost use Rattle.std.specs.Prelude.{◌≡◌};
     ghost use Rattle.enumset_sets.specs.Sets as set;
@@ -183,7 +185,7 @@ impl std::ops::BitXor<EnumSet<Letters>> for Letters {
     }
 }
 
-/// The difference of the set of the one and that of the other.
+/// The difference of `{self}` and `{rhs}`.
 impl std::ops::Sub for Letters {
     ghost use Rattle.std.specs.Prelude.{◌≡◌};
     ghost use Rattle.enumset_sets.specs.Sets as set;
@@ -199,7 +201,7 @@ impl std::ops::Sub for Letters {
     }
 }
 
-/// The difference of the set of the one and the other.
+/// The difference of `{self}` and `rhs`.
 impl std::ops::Sub<EnumSet<Letters>> for Letters {
     ghost use Rattle.std.specs.Prelude.{◌≡◌};
     ghost use Rattle.enumset_sets.specs.Sets as set;
@@ -214,7 +216,7 @@ impl std::ops::Sub<EnumSet<Letters>> for Letters {
     }
 }
 
-/// The set of all the others.
+/// The set of all other elements.
 impl std::ops::Not for Letters {
     ghost use Rattle.std.specs.Prelude.{◌≡◌};
     ghost use Rattle.enumset_sets.specs.Sets as set;

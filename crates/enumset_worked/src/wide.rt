@@ -1,3 +1,5 @@
+// Written by enumset_derive from the enum's source: change the source, and write this module again.
+
 //! The worked type `wide`.
 
 use enumset_array::ArrayRepr;

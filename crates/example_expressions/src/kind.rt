@@ -1,3 +1,5 @@
+// Written by enumset_derive from the enum's source: change the source, and write this module again.
+
 //! The kinds of tokens.
 
 use enumset::{EnumSetType, EnumSetTypeWithRepr};

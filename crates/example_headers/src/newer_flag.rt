@@ -1,3 +1,5 @@
+// Written by enumset_derive from the enum's source: change the source, and write this module again.
+
 //! The flags of a frame that version 2 knows.
 
 use enumset::{EnumSetType, EnumSetTypeWithRepr};

@@ -1,3 +1,5 @@
+// Written by enumset_derive from the enum's source: change the source, and write this module again.
+
 use enumset::{EnumSet, EnumSetType, EnumSetTypeWithRepr};
 
 #[derive(Clone, Copy, PartialEq, Eq, Debug)]
@@ -67,7 +69,7 @@ impl EnumSetTypeWithRepr for Month {
     ghost narrow = { Prim.search rules };
 }
 
-/// The intersection of the set of the one and that of the other.
+/// The intersection of `{self}` and `{rhs}`.
 impl std::ops::BitAnd for Month {
     ghost use Rattle.std.specs.Prelude.{◌≡◌};
     ghost use Rattle.enumset.specs.Sets as set;
@@ -83,7 +85,7 @@ impl std::ops::BitAnd for Month {
     }
 }
 
-/// The intersection of the set of the one and the other.
+/// The intersection of `{self}` and `rhs`.
 impl std::ops::BitAnd<EnumSet<Month>> for Month {
     ghost use Rattle.std.specs.Prelude.{◌≡◌};
     ghost use Rattle.enumset.specs.Sets as set;
@@ -98,7 +100,7 @@ impl std::ops::BitAnd<EnumSet<Month>> for Month {
     }
 }
 
-/// The union of the set of the one and that of the other.
+/// The union of `{self}` and `{rhs}`.
 impl std::ops::BitOr for Month {
     ghost use Rattle.std.specs.Prelude.{◌≡◌};
     ghost use Rattle.enumset.specs.Sets as set;
@@ -114,7 +116,7 @@ impl std::ops::BitOr for Month {
     }
 }
 
-/// The union of the set of the one and the other.
+/// The union of `{self}` and `rhs`.
 impl std::ops::BitOr<EnumSet<Month>> for Month {
     ghost use Rattle.std.specs.Prelude.{◌≡◌};
     ghost use Rattle.enumset.specs.Sets as set;
@@ -129,7 +131,7 @@ impl std::ops::BitOr<EnumSet<Month>> for Month {
     }
 }
 
-/// The symmetric difference of the set of the one and that of the other.
+/// The symmetric difference of `{self}` and `{rhs}`.
 impl std::ops::BitXor for Month {
     ghost use Rattle.std.specs.Prelude.{◌≡◌};
     ghost use Rattle.enumset.specs.Sets as set;
@@ -145,7 +147,7 @@ impl std::ops::BitXor for Month {
     }
 }
 
-/// The symmetric difference of the set of the one and the other.
+/// The symmetric difference of `{self}` and `rhs`.
 impl std::ops::BitXor<EnumSet<Month>> for Month {
     ghost use Rattle.std.specs.Prelude.{◌≡◌};
     ghost use Rattle.enumset.specs.Sets as set;
@@ -160,7 +162,7 @@ impl std::ops::BitXor<EnumSet<Month>> for Month {
     }
 }
 
-/// The difference of the set of the one and that of the other.
+/// The difference of `{self}` and `{rhs}`.
 impl std::ops::Sub for Month {
     ghost use Rattle.std.specs.Prelude.{◌≡◌};
     ghost use Rattle.enumset.specs.Sets as set;
@@ -176,7 +178,7 @@ impl std::ops::Sub for Month {
     }
 }
 
-/// The difference of the set of the one and the other.
+/// The difference of `{self}` and `rhs`.
 impl std::ops::Sub<EnumSet<Month>> for Month {
     ghost use Rattle.std.specs.Prelude.{◌≡◌};
     ghost use Rattle.enumset.specs.Sets as set;
@@ -191,7 +193,7 @@ impl std::ops::Sub<EnumSet<Month>> for Month {
     }
 }
 
-/// The set of all the others.
+/// The set of all other elements.
 impl std::ops::Not for Month {
     ghost use Rattle.std.specs.Prelude.{◌≡◌};
     ghost use Rattle.enumset.specs.Sets as set;

@@ -1,3 +1,5 @@
+// Written by enumset_derive from the enum's source: change the source, and write this module again.
+
 //! What a user of documents may be.
 
 use enumset::{EnumSet, EnumSetNames, EnumSetType, EnumSetTypeWithRepr, names_of, set_json};
@@ -86,9 +88,9 @@ impl Role {
         set_json::to_list(alloc, set)
     }
 
-    /// The set that `to_json` writes so. A name that no variant has is a fault.
+    /// The set that `to_json` writes as this value. A name that no variant has is a fault.
     ///
-    /// The faults are those of [`set_json::from_list`], in their order. It takes no memory.
+    /// The faults are those of [`set_json::from_list`], in the same order. It does not allocate.
     pub fn from_json(
         value: &serde_json::Value,
     ) -> std::result::Result<EnumSet<Self>, set_json::JsonFault>

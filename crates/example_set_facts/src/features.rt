@@ -1,3 +1,5 @@
+// Written by enumset_derive from the enum's source: change the source, and write this module again.
+
 use enumset::{EnumSet, EnumSetType, EnumSetTypeWithRepr};
 
 /// A feature of a service, which may be enabled or not.
@@ -56,7 +58,7 @@ impl EnumSetTypeWithRepr for Feature {
     ghost narrow = { Prim.search rules };
 }
 
-/// The intersection of the set of the one and that of the other.
+/// The intersection of `{self}` and `{rhs}`.
 impl std::ops::BitAnd for Feature {
     ghost use Rattle.std.specs.Prelude.{◌≡◌};
     ghost use Rattle.enumset.specs.Sets as set;
@@ -72,7 +74,7 @@ impl std::ops::BitAnd for Feature {
     }
 }
 
-/// The intersection of the set of the one and the other.
+/// The intersection of `{self}` and `rhs`.
 impl std::ops::BitAnd<EnumSet<Feature>> for Feature {
     ghost use Rattle.std.specs.Prelude.{◌≡◌};
     ghost use Rattle.enumset.specs.Sets as set;
@@ -87,7 +89,7 @@ impl std::ops::BitAnd<EnumSet<Feature>> for Feature {
     }
 }
 
-/// The union of the set of the one and that of the other.
+/// The union of `{self}` and `{rhs}`.
 impl std::ops::BitOr for Feature {
     ghost use Rattle.std.specs.Prelude.{◌≡◌};
     ghost use Rattle.enumset.specs.Sets as set;
@@ -103,7 +105,7 @@ impl std::ops::BitOr for Feature {
     }
 }
 
-/// The union of the set of the one and the other.
+/// The union of `{self}` and `rhs`.
 impl std::ops::BitOr<EnumSet<Feature>> for Feature {
     ghost use Rattle.std.specs.Prelude.{◌≡◌};
     ghost use Rattle.enumset.specs.Sets as set;
@@ -118,7 +120,7 @@ impl std::ops::BitOr<EnumSet<Feature>> for Feature {
     }
 }
 
-/// The symmetric difference of the set of the one and that of the other.
+/// The symmetric difference of `{self}` and `{rhs}`.
 impl std::ops::BitXor for Feature {
     ghost use Rattle.std.specs.Prelude.{◌≡◌};
     ghost use Rattle.enumset.specs.Sets as set;
@@ -134,7 +136,7 @@ impl std::ops::BitXor for Feature {
     }
 }
 
-/// The symmetric difference of the set of the one and the other.
+/// The symmetric difference of `{self}` and `rhs`.
 impl std::ops::BitXor<EnumSet<Feature>> for Feature {
     ghost use Rattle.std.specs.Prelude.{◌≡◌};
     ghost use Rattle.enumset.specs.Sets as set;
@@ -149,7 +151,7 @@ impl std::ops::BitXor<EnumSet<Feature>> for Feature {
     }
 }
 
-/// The difference of the set of the one and that of the other.
+/// The difference of `{self}` and `{rhs}`.
 impl std::ops::Sub for Feature {
     ghost use Rattle.std.specs.Prelude.{◌≡◌};
     ghost use Rattle.enumset.specs.Sets as set;
@@ -165,7 +167,7 @@ impl std::ops::Sub for Feature {
     }
 }
 
-/// The difference of the set of the one and the other.
+/// The difference of `{self}` and `rhs`.
 impl std::ops::Sub<EnumSet<Feature>> for Feature {
     ghost use Rattle.std.specs.Prelude.{◌≡◌};
     ghost use Rattle.enumset.specs.Sets as set;
@@ -180,7 +182,7 @@ impl std::ops::Sub<EnumSet<Feature>> for Feature {
     }
 }
 
-/// The set of all the others.
+/// The set of all other elements.
 impl std::ops::Not for Feature {
     ghost use Rattle.std.specs.Prelude.{◌≡◌};
     ghost use Rattle.enumset.specs.Sets as set;

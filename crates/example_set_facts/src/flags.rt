@@ -1,3 +1,5 @@
+// Written by enumset_derive from the enum's source: change the source, and write this module again.
+
 use enumset::{EnumSetType, EnumSetTypeWithRepr};
 
 /// A flag of a message, on its bit of the first byte. Bits 3, 4 and 6 are reserved for later versions.

@@ -1,3 +1,5 @@
+// Written by enumset_derive from the enum's source: change the source, and write this module again.
+
 use enumset::{EnumSet, EnumSetType, EnumSetTypeWithRepr};
 
 /// A day of the week.
@@ -58,7 +60,7 @@ impl EnumSetTypeWithRepr for Weekday {
     ghost narrow = { Prim.search rules };
 }
 
-/// The intersection of the set of the one and that of the other.
+/// The intersection of `{self}` and `{rhs}`.
 impl std::ops::BitAnd for Weekday {
     ghost use Rattle.std.specs.Prelude.{◌≡◌};
     ghost use Rattle.enumset.specs.Sets as set;
@@ -74,7 +76,7 @@ impl std::ops::BitAnd for Weekday {
     }
 }
 
-/// The intersection of the set of the one and the other.
+/// The intersection of `{self}` and `rhs`.
 impl std::ops::BitAnd<EnumSet<Weekday>> for Weekday {
     ghost use Rattle.std.specs.Prelude.{◌≡◌};
     ghost use Rattle.enumset.specs.Sets as set;
@@ -89,7 +91,7 @@ impl std::ops::BitAnd<EnumSet<Weekday>> for Weekday {
     }
 }
 
-/// The union of the set of the one and that of the other.
+/// The union of `{self}` and `{rhs}`.
 impl std::ops::BitOr for Weekday {
     ghost use Rattle.std.specs.Prelude.{◌≡◌};
     ghost use Rattle.enumset.specs.Sets as set;
@@ -105,7 +107,7 @@ impl std::ops::BitOr for Weekday {
     }
 }
 
-/// The union of the set of the one and the other.
+/// The union of `{self}` and `rhs`.
 impl std::ops::BitOr<EnumSet<Weekday>> for Weekday {
     ghost use Rattle.std.specs.Prelude.{◌≡◌};
     ghost use Rattle.enumset.specs.Sets as set;
@@ -120,7 +122,7 @@ impl std::ops::BitOr<EnumSet<Weekday>> for Weekday {
     }
 }
 
-/// The symmetric difference of the set of the one and that of the other.
+/// The symmetric difference of `{self}` and `{rhs}`.
 impl std::ops::BitXor for Weekday {
     ghost use Rattle.std.specs.Prelude.{◌≡◌};
     ghost use Rattle.enumset.specs.Sets as set;
@@ -136,7 +138,7 @@ impl std::ops::BitXor for Weekday {
     }
 }
 
-/// The symmetric difference of the set of the one and the other.
+/// The symmetric difference of `{self}` and `rhs`.
 impl std::ops::BitXor<EnumSet<Weekday>> for Weekday {
     ghost use Rattle.std.specs.Prelude.{◌≡◌};
     ghost use Rattle.enumset.specs.Sets as set;
@@ -151,7 +153,7 @@ impl std::ops::BitXor<EnumSet<Weekday>> for Weekday {
     }
 }
 
-/// The difference of the set of the one and that of the other.
+/// The difference of `{self}` and `{rhs}`.
 impl std::ops::Sub for Weekday {
     ghost use Rattle.std.specs.Prelude.{◌≡◌};
     ghost use Rattle.enumset.specs.Sets as set;
@@ -167,7 +169,7 @@ impl std::ops::Sub for Weekday {
     }
 }
 
-/// The difference of the set of the one and the other.
+/// The difference of `{self}` and `rhs`.
 impl std::ops::Sub<EnumSet<Weekday>> for Weekday {
     ghost use Rattle.std.specs.Prelude.{◌≡◌};
     ghost use Rattle.enumset.specs.Sets as set;
@@ -182,7 +184,7 @@ impl std::ops::Sub<EnumSet<Weekday>> for Weekday {
     }
 }
 
-/// The set of all the others.
+/// The set of all other elements.
 impl std::ops::Not for Weekday {
     ghost use Rattle.std.specs.Prelude.{◌≡◌};
     ghost use Rattle.enumset.specs.Sets as set;

@@ -1,3 +1,5 @@
+// Written by enumset_derive from the enum's source: change the source, and write this module again.
+
 use enumset::{EnumSetType, EnumSetTypeWithRepr};
 
 /// What a user may do with a document.

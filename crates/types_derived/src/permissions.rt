@@ -1,3 +1,5 @@
+// Written by enumset_derive from the enum's source: change the source, and write this module again.
+
 //! What an account may do with a document.
 
 use enumset::{EnumSet, EnumSetNames, EnumSetType, EnumSetTypeWithRepr, names_of, set_json};
@@ -75,7 +77,7 @@ impl EnumSetNames for Permission {
     ghost named = { tt };
 }
 
-/// The intersection of the set of the one and that of the other.
+/// The intersection of `{self}` and `{rhs}`.
 impl std::ops::BitAnd for Permission {
     ghost use Rattle.std.specs.Prelude.{◌≡◌};
     ghost use Rattle.enumset.specs.Sets as set;
@@ -91,7 +93,7 @@ impl std::ops::BitAnd for Permission {
     }
 }
 
-/// The intersection of the set of the one and the other.
+/// The intersection of `{self}` and `rhs`.
 impl std::ops::BitAnd<EnumSet<Permission>> for Permission {
     ghost use Rattle.std.specs.Prelude.{◌≡◌};
     ghost use Rattle.enumset.specs.Sets as set;
@@ -106,7 +108,7 @@ impl std::ops::BitAnd<EnumSet<Permission>> for Permission {
     }
 }
 
-/// The union of the set of the one and that of the other.
+/// The union of `{self}` and `{rhs}`.
 impl std::ops::BitOr for Permission {
     ghost use Rattle.std.specs.Prelude.{◌≡◌};
     ghost use Rattle.enumset.specs.Sets as set;
@@ -122,7 +124,7 @@ impl std::ops::BitOr for Permission {
     }
 }
 
-/// The union of the set of the one and the other.
+/// The union of `{self}` and `rhs`.
 impl std::ops::BitOr<EnumSet<Permission>> for Permission {
     ghost use Rattle.std.specs.Prelude.{◌≡◌};
     ghost use Rattle.enumset.specs.Sets as set;
@@ -137,7 +139,7 @@ impl std::ops::BitOr<EnumSet<Permission>> for Permission {
     }
 }
 
-/// The symmetric difference of the set of the one and that of the other.
+/// The symmetric difference of `{self}` and `{rhs}`.
 impl std::ops::BitXor for Permission {
     ghost use Rattle.std.specs.Prelude.{◌≡◌};
     ghost use Rattle.enumset.specs.Sets as set;
@@ -153,7 +155,7 @@ impl std::ops::BitXor for Permission {
     }
 }
 
-/// The symmetric difference of the set of the one and the other.
+/// The symmetric difference of `{self}` and `rhs`.
 impl std::ops::BitXor<EnumSet<Permission>> for Permission {
     ghost use Rattle.std.specs.Prelude.{◌≡◌};
     ghost use Rattle.enumset.specs.Sets as set;
@@ -168,7 +170,7 @@ impl std::ops::BitXor<EnumSet<Permission>> for Permission {
     }
 }
 
-/// The difference of the set of the one and that of the other.
+/// The difference of `{self}` and `{rhs}`.
 impl std::ops::Sub for Permission {
     ghost use Rattle.std.specs.Prelude.{◌≡◌};
     ghost use Rattle.enumset.specs.Sets as set;
@@ -184,7 +186,7 @@ impl std::ops::Sub for Permission {
     }
 }
 
-/// The difference of the set of the one and the other.
+/// The difference of `{self}` and `rhs`.
 impl std::ops::Sub<EnumSet<Permission>> for Permission {
     ghost use Rattle.std.specs.Prelude.{◌≡◌};
     ghost use Rattle.enumset.specs.Sets as set;
@@ -199,7 +201,7 @@ impl std::ops::Sub<EnumSet<Permission>> for Permission {
     }
 }
 
-/// The set of all the others.
+/// The set of all other elements.
 impl std::ops::Not for Permission {
     ghost use Rattle.std.specs.Prelude.{◌≡◌};
     ghost use Rattle.enumset.specs.Sets as set;
@@ -237,9 +239,9 @@ impl Permission {
         set_json::to_list(alloc, set)
     }
 
-    /// The set that `to_json` writes so. Names that no variant has are left out.
+    /// The set that `to_json` writes as this value. Names that no variant has are left out.
     ///
-    /// The faults are those of [`set_json::from_list`], in their order. It takes no memory.
+    /// The faults are those of [`set_json::from_list`], in the same order. It does not allocate.
     pub fn from_json(
         value: &serde_json::Value,
     ) -> std::result::Result<EnumSet<Self>, set_json::JsonFault>

@@ -1,3 +1,5 @@
+// Written by enumset_derive from the enum's source: change the source, and write this module again.
+
 //! An enum of two variants, one in the first word and one in the last of more words than the other types have.
 
 use enumset::EnumSetType;

@@ -1,3 +1,5 @@
+// Written by enumset_derive from the enum's source: change the source, and write this module again.
+
 //! Enums whose sets are numbers, and words, in JSON.
 
 use enumset::internal::ArrayRepr;
@@ -61,9 +63,9 @@ impl Numbered {
     ghost use Rattle.enumset.specs.declared.set_json.fault.JsonFault.TheVariants.{TooWide};
     ghost use Rattle.enumset.specs.declared.set_json.unknown.Unknown.TheVariants as unknown;
 
-    /// The set's number, which JSON takes as a `u8`.
+    /// The set's number as a `u8`.
     ///
-    /// The only fault is [`set_json::JsonFault::TooWide`], of a member that is past its bits. It takes no memory.
+    /// The only fault is [`set_json::JsonFault::TooWide`], if a member is past its bits. It does not allocate.
     pub fn to_json(
         alloc: std::alloc::Global,
         set: &EnumSet<Self>,
@@ -75,9 +77,9 @@ impl Numbered {
         set_json::to_number(alloc, set, set_json::JsonWidth::U8)
     }
 
-    /// The set that `to_json` writes so. Bits that no variant has are left out.
+    /// The set that `to_json` writes as this value. Bits that no variant has are left out.
     ///
-    /// The faults are those of [`set_json::from_number`], in their order. It takes no memory.
+    /// The faults are those of [`set_json::from_number`], in the same order. It does not allocate.
     pub fn from_json(
         value: &serde_json::Value,
     ) -> std::result::Result<EnumSet<Self>, set_json::JsonFault>
@@ -152,9 +154,9 @@ impl InWords {
         set_json::to_words(alloc, set)
     }
 
-    /// The set that `to_json` writes so. A bit that no variant has is a fault.
+    /// The set that `to_json` writes as this value. A bit that no variant has is a fault.
     ///
-    /// The faults are those of [`set_json::from_words`], in their order. It takes no memory.
+    /// The faults are those of [`set_json::from_words`], in the same order. It does not allocate.
     pub fn from_json(
         value: &serde_json::Value,
     ) -> std::result::Result<EnumSet<Self>, set_json::JsonFault>
@@ -223,9 +225,9 @@ impl In32Bits {
     ghost use Rattle.enumset.specs.declared.set_json.fault.JsonFault.TheVariants.{TooWide};
     ghost use Rattle.enumset.specs.declared.set_json.unknown.Unknown.TheVariants as unknown;
 
-    /// The set's number, which JSON takes as a `u32`.
+    /// The set's number as a `u32`.
     ///
-    /// The only fault is [`set_json::JsonFault::TooWide`], of a member that is past its bits. It takes no memory.
+    /// The only fault is [`set_json::JsonFault::TooWide`], if a member is past its bits. It does not allocate.
     pub fn to_json(
         alloc: std::alloc::Global,
         set: &EnumSet<Self>,
@@ -237,9 +239,9 @@ impl In32Bits {
         set_json::to_number(alloc, set, set_json::JsonWidth::U32)
     }
 
-    /// The set that `to_json` writes so. Bits that no variant has are left out.
+    /// The set that `to_json` writes as this value. Bits that no variant has are left out.
     ///
-    /// The faults are those of [`set_json::from_number`], in their order. It takes no memory.
+    /// The faults are those of [`set_json::from_number`], in the same order. It does not allocate.
     pub fn from_json(
         value: &serde_json::Value,
     ) -> std::result::Result<EnumSet<Self>, set_json::JsonFault>

@@ -1,3 +1,5 @@
+// Written by enumset_derive from the enum's source: change the source, and write this module again.
+
 //! Element types whose values have names, and whose sets are lists of them, or maps from them.
 
 use enumset::internal::ArrayRepr;
@@ -96,9 +98,9 @@ impl NamedLetters {
         set_json::to_list(alloc, set)
     }
 
-    /// The set that `to_json` writes so. Names that no variant has are left out.
+    /// The set that `to_json` writes as this value. Names that no variant has are left out.
     ///
-    /// The faults are those of [`set_json::from_list`], in their order. It takes no memory.
+    /// The faults are those of [`set_json::from_list`], in the same order. It does not allocate.
     pub fn from_json(
         value: &serde_json::Value,
     ) -> std::result::Result<EnumSet<Self>, set_json::JsonFault>
@@ -195,7 +197,7 @@ impl LaterLetters {
     ghost use Rattle.enumset.specs.declared.set_json.fault.JsonFault.TheVariants.{OutOfMemory};
     ghost use Rattle.enumset.specs.declared.set_json.unknown.Unknown.TheVariants as unknown;
 
-    /// The object with the name of each of the set's members and `true`. The only fault is
+    /// The object that maps the name of each of the set's members to `true`. The only fault is
     /// [`set_json::JsonFault::OutOfMemory`].
     pub fn to_json(
         alloc: std::alloc::Global,
@@ -208,9 +210,9 @@ impl LaterLetters {
         set_json::to_map(alloc, set)
     }
 
-    /// The set that `to_json` writes so. A name that no variant has is a fault.
+    /// The set that `to_json` writes as this value. A name that no variant has is a fault.
     ///
-    /// The faults are those of [`set_json::from_map`], in their order. It takes no memory.
+    /// The faults are those of [`set_json::from_map`], in the same order. It does not allocate.
     pub fn from_json(
         value: &serde_json::Value,
     ) -> std::result::Result<EnumSet<Self>, set_json::JsonFault>
@@ -309,9 +311,9 @@ impl NamedSparse {
         set_json::to_list(alloc, set)
     }
 
-    /// The set that `to_json` writes so. Names that no variant has are left out.
+    /// The set that `to_json` writes as this value. Names that no variant has are left out.
     ///
-    /// The faults are those of [`set_json::from_list`], in their order. It takes no memory.
+    /// The faults are those of [`set_json::from_list`], in the same order. It does not allocate.
     pub fn from_json(
         value: &serde_json::Value,
     ) -> std::result::Result<EnumSet<Self>, set_json::JsonFault>

@@ -1,3 +1,5 @@
+// Written by enumset_derive from the enum's source: change the source, and write this module again.
+
 //! An enum whose bits count from the highest.
 
 use enumset::{EnumSet, EnumSetType, EnumSetTypeWithRepr, set_json};
@@ -65,9 +67,9 @@ impl Priority {
     ghost use Rattle.enumset.specs.declared.set_json.fault.JsonFault.TheVariants.{TooWide};
     ghost use Rattle.enumset.specs.declared.set_json.unknown.Unknown.TheVariants as unknown;
 
-    /// The set's number, which JSON takes as a `u16`.
+    /// The set's number as a `u16`.
     ///
-    /// The only fault is [`set_json::JsonFault::TooWide`], of a member that is past its bits. It takes no memory.
+    /// The only fault is [`set_json::JsonFault::TooWide`], if a member is past its bits. It does not allocate.
     pub fn to_json(
         alloc: std::alloc::Global,
         set: &EnumSet<Self>,
@@ -79,9 +81,9 @@ impl Priority {
         set_json::to_number(alloc, set, set_json::JsonWidth::U16)
     }
 
-    /// The set that `to_json` writes so. Bits that no variant has are left out.
+    /// The set that `to_json` writes as this value. Bits that no variant has are left out.
     ///
-    /// The faults are those of [`set_json::from_number`], in their order. It takes no memory.
+    /// The faults are those of [`set_json::from_number`], in the same order. It does not allocate.
     pub fn from_json(
         value: &serde_json::Value,
     ) -> std::result::Result<EnumSet<Self>, set_json::JsonFault>

@@ -1,3 +1,5 @@
+// Written by enumset_derive from the enum's source: change the source, and write this module again.
+
 //! An element type whose values get their names by hand, in the module `wide_names`.
 
 use enumset::EnumSetType;

@@ -1,6 +1,6 @@
 -- A lawful plan proves the laws of every enum without fields that has as many variants.
---     lawful_number, lawful_words      the test at an enum, from the test at one of as many variants without fields
---     variants_of      how many variants such an enum has
+--     lawful_number, lawful_words      the test of an enum, from the test of `without_fields` with as many variants
+--     variants_of      `without_fields n` has n variants
 use Rattle.std.proofs.Common.{◌≡◌, ◌==◌, ℕ, suc, zero, ◌^◌, Bool, true, false, List, [], length, replicate, sum_by, refl, ap, sym, ◌∙◌, subst}
 use denote.Enum.Bare.{Bare}
 use denote.Enum.Declared.{Declared, rowss}
@@ -13,7 +13,7 @@ pub variants_of : (n : ℕ) → length (rowss (replicate n [])) ≡ n
 variants_of zero = refl
 variants_of (suc n) = ap suc (variants_of n)
 
--- what was tested once a number is known, and back
+-- from a test under `once_known` to the test, and back
 was_known : (n : ℕ) (next : Type 0) → once_known n next → next
 was_known zero next h = h
 was_known (suc n) next h = h
@@ -22,12 +22,12 @@ pub known : (n : ℕ) (next : Type 0) → next → once_known n next
 known zero next h = h
 known (suc n) next h = h
 
--- one test, where its fault and what comes next are others
+-- one test, with another fault and another next test
 carried : (test : Bool) (fault fault' next next' : Type 0) → (fault → fault') → (next → next') → or_else test fault next → or_else test fault' next'
 carried true fault fault' next next' f g h = g h
 carried false fault fault' next next' f g h = f h
 
--- the test that counts the variants, at two enums of as many
+-- the test that counts the variants, for two enums with as many
 counted : (m n n' : ℕ) (next next' : Type 0) → n ≡ n' → (next → next') → or_else (m == n) (BitCountShouldBe n) next → or_else (m == n') (BitCountShouldBe n') next'
 counted m n n' next next' same g h =
     let P : ℕ → Type 0 = λ k. or_else (m == k) (BitCountShouldBe k) next' in

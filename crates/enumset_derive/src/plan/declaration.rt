@@ -1,4 +1,4 @@
-//! What the derive of an enum is asked for: its variants with their discriminants, and its options.
+//! The input of the derive: the variants of an enum with their discriminants, and its options.
 
 ghost use Rattle.std.specs.Prelude.{◌≡◌};
 ghost use Rattle.enumset_derive.specs.Numbers.{next_number, width};
@@ -6,18 +6,18 @@ ghost use Rattle.enumset_derive.specs.Numbers.{next_number, width};
 use crate::fault::Place;
 use crate::tokens::Token;
 
-/// An enum that is to be an element type, as it is read.
+/// An enum that is to become an element type, as it was read.
 #[derive(Drop)]
 pub struct EnumDeclaration<'a, 'b> {
-    /// The comments and the attributes before its first derive. The derives and the options are not among them.
+    /// The comments and the attributes before its first derive, except the derives and the options.
     pub attributes: Vec<Line<'a, 'b>>,
-    /// Those after its first derive.
+    /// The comments and the attributes after its first derive, except the derives and the options.
     pub later_attributes: Vec<Line<'a, 'b>>,
-    /// What is derived beside `EnumSetType`, in its order.
+    /// The other derives besides `EnumSetType`, in their order.
     pub derives: Vec<Derive<'a>>,
-    /// Whether the enum is there for tests alone.
+    /// Whether the enum exists only for tests.
     pub is_for_tests: bool,
-    /// As it is written, as `pub(crate)`, or nothing.
+    /// Its tokens, such as `pub(crate)`, or nothing.
     pub visibility: &'b [Token<'a>],
     pub name: Token<'a>,
     /// In the order of the declaration.
@@ -25,22 +25,22 @@ pub struct EnumDeclaration<'a, 'b> {
     /// The comments after the last variant.
     pub last_comments: Vec<Line<'a, 'b>>,
     pub options: Options<'a>,
-    /// The names of the variants in JSON, in their order, if one may not be the variant's own.
+    /// The names of the variants in JSON, in their order. Empty if each is the variant's own name.
     pub json_names: Vec<String>,
 }
 
 impl EnumDeclaration<'_, '_> {
-    /// Whether the enum derives something of this name.
+    /// Whether the enum has a derive with this name.
     pub fn derives(&self, name: &str) -> bool {
         self.derives.iter().any(|derive| derive.last() == name)
     }
 }
 
-/// What an enum derives.
+/// A derive of an enum.
 #[derive(Drop)]
 pub struct Derive<'a> {
     pub path: String,
-    /// The crate and the name that the module has to import for it.
+    /// The crate and the name that the module must import for it.
     pub import: Option<(&'a str, &'a str)>,
 }
 
@@ -52,7 +52,7 @@ impl Derive<'_> {
     }
 }
 
-/// A comment or an attribute that is kept, on lines of its own.
+/// A comment or an attribute that is kept and is written on its own line.
 #[derive(Clone, Copy)]
 pub struct Line<'a, 'b> {
     /// Whether an empty line is before it.
@@ -70,38 +70,38 @@ pub struct Variant<'a, 'b> {
     /// Whether an empty line is before its name.
     pub is_apart: bool,
     pub name: &'a str,
-    /// The discriminant, if it is given.
+    /// The explicit discriminant.
     pub discriminant: Option<Discriminant<'a>>,
-    /// The comments among its tokens, and after it on its line.
+    /// The comments between its tokens, and those after it on its line.
     pub comments: Vec<&'a str>,
 }
 
-/// A discriminant that is given.
+/// An explicit discriminant.
 #[derive(Clone, Copy)]
 pub struct Discriminant<'a> {
     /// Where it begins.
     pub place: Place,
-    /// Whether a minus sign stands before the literal.
+    /// Whether a minus sign is before the literal.
     pub has_minus: bool,
-    /// The literal as it is written, as `0x1F`, without the type after it; nothing of `1 << n` and of a byte.
+    /// The literal in the source, such as `0x1F`, without a type suffix. `None` for `1 << n` and for a byte.
     pub literal: Option<&'a str>,
     pub number: Number,
 }
 
-/// The number of a discriminant. Each number has one form: zero is `Small(0)`. A literal past 2^128 - 1 names a bit only
-/// if it is the mask of the bit, a power of two. So no other is kept.
+/// The number of a discriminant. Each number has one form: zero is `Small(0)`. A number above 2^128 - 1 names a bit
+/// only as its mask, so only powers of two are represented.
 #[derive(Clone, Copy, PartialEq, Eq)]
 pub enum Number {
     /// A number from 0 to 2^128 - 1.
     Small(u128),
-    /// Two to this power, which is 128 or more.
+    /// Two to this power, which is at least 128.
     PowerOfTwo(u32),
-    /// The negative of this number, which is 1 or more.
+    /// The negative of this number, which is at least 1.
     Negative(u128),
 }
 
 impl Number {
-    /// One more than the number, or `None` if that is past 2^128.
+    /// One more than the number, or `None` if that is above 2^128.
     pub fn next(self) -> Option<Number>
         ensures { result ≡ next_number self }
     {
@@ -115,24 +115,24 @@ impl Number {
     }
 }
 
-/// The options of an element type. By default none is given.
+/// The options of an element type. The default has none.
 #[derive(Clone, Copy, Default)]
 pub struct Options<'a> {
-    /// Which bit a discriminant names, by default `Lsb`: `map`, if it is given, and where its value is.
+    /// `map`: which bit a discriminant names, by default `Lsb`. With the place of its value.
     pub map: Option<(Map, Place)>,
-    /// What keeps a set: `repr`, if it is given.
+    /// `repr`: what a set is stored in.
     pub representation: Option<Representation>,
-    /// What a set is in JSON: `serialize_repr`, if it is given.
+    /// `serialize_repr`: what a set is in JSON.
     pub serialized: Option<Serialized>,
-    /// Whether a set in JSON with an unknown bit is refused: `serialize_deny_unknown`.
+    /// `serialize_deny_unknown`: whether a set in JSON with an unknown bit is rejected.
     pub denies_unknown: bool,
-    /// Whether the operators on elements are left out: `no_ops`.
+    /// `no_ops`: whether the operators on elements are left out.
     pub leaves_out_operators: bool,
-    /// Whether the author writes `Copy`, `Clone`, `PartialEq` and `Eq`: `no_super_impls`.
+    /// `no_super_impls`: whether the derives of `Clone`, `Copy`, `PartialEq` and `Eq` are left out.
     pub leaves_out_supertraits: bool,
-    /// Whether `Display` by the variants' names is written: `display`.
+    /// `display`: whether a `Display` that prints the variant's name is written.
     pub has_display: bool,
-    /// The name of the crate `enumset` in the code that is written: `crate_name`, if it is given, and where it is.
+    /// `crate_name`: the name of the crate `enumset` in the code of the module. With the place of its value.
     pub crate_name: Option<(&'a str, Place)>,
 }
 
@@ -142,7 +142,7 @@ impl<'a> Options<'a> {
         self.crate_name.map_or("enumset", |(name, _)| name)
     }
 
-    /// Whether sets are written in JSON by the names of their elements.
+    /// Whether sets in JSON consist of the names of their elements.
     pub fn are_named(&self) -> bool {
         matches!(self.serialized, Some(Serialized::List | Serialized::Map))
     }
@@ -151,17 +151,17 @@ impl<'a> Options<'a> {
 /// Which bit a discriminant names.
 #[derive(Clone, Copy)]
 pub enum Map {
-    /// Its own number, counted from the least significant bit.
+    /// The bit with its number, counted from the least significant bit.
     Lsb,
-    /// Its own number, counted from the most significant bit of the representation.
+    /// The bit with its number, counted from the most significant bit of the representation.
     Msb,
-    /// The bit of which it is the mask.
+    /// The bit whose mask it is.
     Mask,
     /// The variant's place in the declaration, whatever the discriminant.
     Compact,
 }
 
-/// What keeps a set.
+/// What a set is stored in.
 #[derive(Clone, Copy)]
 pub enum Representation {
     /// One integer.
@@ -173,11 +173,11 @@ pub enum Representation {
 /// What a set is in JSON.
 #[derive(Clone, Copy)]
 pub enum Serialized {
-    /// A number, or a list of words.
+    /// A number, or an array of words.
     Bits(Representation),
     /// A list of the elements' names: `list`.
     List,
-    /// A map from the elements' names to whether they are members: `map`.
+    /// An object that maps the elements' names to whether they are members: `map`.
     Map,
 }
 
@@ -192,7 +192,7 @@ pub enum IntegerType {
 }
 
 impl IntegerType {
-    /// How many bits the type has.
+    /// The number of bits of the type.
     pub fn width(self) -> u32
         ensures { result ≡ width self }
     {

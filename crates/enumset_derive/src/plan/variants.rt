@@ -14,13 +14,13 @@ use crate::fault::{DeriveError, Fault, Place, Reason};
 use crate::plan::{Map, NamedVariant, Number, Options, Representation, Serialized, Variant};
 use std::alloc::{AllocError, Global};
 
-/// How many variants an enum may have.
+/// The greatest number of variants that an enum may have.
 const VARIANT_LIMIT: usize = 256;
 
-/// One past the greatest bit that a variant may have, as in Rust's crate.
+/// One past the greatest bit that a variant may have, as in Rust's crate `enumset`.
 const BIT_LIMIT: u32 = 4294967232;
 
-/// One past the greatest bit that a module takes: its constants are as long as the words.
+/// One past the greatest bit in a written module, whose constants list all words of a set.
 const MODULE_LIMIT: u32 = 65536;
 
 /// The variants with their bits, or the first fault.
@@ -48,7 +48,8 @@ pub fn name_variants(
     Ok(named)
 }
 
-/// The variant with its bit, or its first fault. Those before it are given, with their bits, and its implied number.
+/// The variant with its bit, or its first fault. `earlier` and `named` are the variants before it, without and with
+/// their bits. `implied` is its implied number.
 fn name_variant(
     options: &Options,
     earlier: &[Variant],
@@ -75,7 +76,7 @@ fn name_variant(
     Ok(NamedVariant { bit, number, place })
 }
 
-/// Where the first variant is that has the name of this one.
+/// The place of the first variant with the same name as this one.
 fn place_of_name(variants: &[Variant], variant: &Variant) -> Option<Place>
     ensures { result ≡ option_map (λ w. w.place) (find (has_name variant.now) variants.now) }
 {
@@ -83,7 +84,7 @@ fn place_of_name(variants: &[Variant], variant: &Variant) -> Option<Place>
     Some(first.place)
 }
 
-/// The bit of one more variant with this discriminant, or what is wrong with it.
+/// The bit of the next variant, which has this discriminant, or the reason why it has none.
 #[tactic(auto, using(crate::proofs::Named::not_taken), unfolding(crate::specs::Variants::bit_among))]
 fn bit_among(options: &Options, named: &[NamedVariant], number: Number) -> Result<u32, Reason>
     requires { length named.now < variant_limit }
@@ -119,7 +120,8 @@ fn taken_by(named: &[NamedVariant], bit: u32, number: Number) -> Option<NamedVar
     named.find(|other| bit == other.bit || number == other.number)
 }
 
-/// The bit of the variant at a place from 0 with this discriminant, or why it has none. A set is kept in so many bits.
+/// The bit of the variant with this discriminant at a place, counted from 0, or the reason why it has none. `width` is
+/// the number of bits that a set is stored in.
 fn bit_of(map: Map, width: u32, place: u32, number: Number) -> Result<u32, Reason>
     ensures { result ≡ bit_of map width place number }
 {
@@ -137,7 +139,7 @@ fn bit_of(map: Map, width: u32, place: u32, number: Number) -> Result<u32, Reaso
     }
 }
 
-/// One past the greatest bit that what keeps a set may have.
+/// One past the greatest bit that a set in this representation may have.
 fn bit_limit(representation: Option<Representation>) -> u32
     ensures { result ≡ bit_limit representation }
 {
@@ -147,7 +149,7 @@ fn bit_limit(representation: Option<Representation>) -> u32
     }
 }
 
-/// One past the greatest bit that what a set is in JSON may have.
+/// One past the greatest bit that a set in this form of JSON may have.
 fn json_limit(serialized: Option<Serialized>) -> u32
     ensures { result ≡ json_limit serialized }
 {

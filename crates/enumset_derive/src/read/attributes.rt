@@ -1,18 +1,17 @@
-//! Which attributes of an enum and its variants have a meaning in Rattle.
+//! Tells which attributes of an enum and its variants have a meaning in Rattle.
 
 use crate::fault::Fault;
 use crate::items::Attribute;
 use crate::tokens::Kind;
 
 const CONFIGURATION: &str =
-    "`cfg(test)` is the only configuration here: remove the attribute, or the enum too";
+    "the only `cfg` that an enum may have is `cfg(test)`: remove the attribute or the enum";
 
-const ON_VARIANT: &str =
-    "a variant has no configuration here: remove the attribute, or the variant too";
+const ON_VARIANT: &str = "a variant must not have a `cfg`: remove the attribute or the variant";
 
-const OPTIONS_ALONE: &str = "`cfg_attr` is not read here: write `#[enumset(..)]` itself";
+const OPTIONS_ALONE: &str = "`cfg_attr` is not supported: write `#[enumset(..)]` without it";
 
-/// Whether an attribute is kept that is neither a derive, nor options, nor read by a derive. A comment is.
+/// Whether to keep a comment, or an attribute other than derives, options and attributes of derives. Comments are kept.
 pub(super) fn has_meaning(attribute: &Attribute, is_variant: bool) -> Result<bool, Fault> {
     let [name, ..] = attribute.words() else {
         return Ok(true);

@@ -1,4 +1,4 @@
-//! What an enum derives.
+//! Reads the derives of an enum.
 
 use super::imports::Imports;
 use crate::fault::{Fault, Outcome};
@@ -7,9 +7,9 @@ use crate::plan::Derive;
 use crate::tokens::Token;
 use std::alloc::Global;
 
-const DERIVE_ALONE: &str = "`cfg_attr` is not read here: write `#[derive(EnumSetType)]` itself";
+const DERIVE_ALONE: &str = "`cfg_attr` is not supported: write `#[derive(EnumSetType)]` without it";
 
-/// What std, `serde` and `thiserror` derive.
+/// The derives of std, `serde` and `thiserror`.
 const KNOWN: [&str; 13] = [
     "Clone",
     "Copy",
@@ -26,10 +26,10 @@ const KNOWN: [&str; 13] = [
     "Error",
 ];
 
-/// The modules of std that have these derives, as paths begin with them.
+/// The modules of std with these derives.
 const MODULES: [&str; 6] = ["fmt", "cmp", "hash", "clone", "marker", "default"];
 
-/// Whether attributes derive `EnumSetType`. It is a fault if one does so under a condition.
+/// Whether the attributes derive `EnumSetType`. It is a fault if one does so under a condition.
 pub(super) fn has_element_type(attributes: &[Attribute], imports: &Imports) -> Result<bool, Fault> {
     let mut has_any = false;
     for attribute in attributes {
@@ -46,17 +46,17 @@ pub(super) fn has_element_type(attributes: &[Attribute], imports: &Imports) -> R
     Ok(has_any)
 }
 
-/// The names of a path in a derive, from its first word and its last.
+/// A path in a derive.
 #[derive(Drop)]
 pub(super) struct Path<'a> {
     pub first: Token<'a>,
     pub last: Token<'a>,
-    /// With `::` between the names.
+    /// Its names, with `::` between them.
     pub text: String,
 }
 
 impl<'a> Path<'a> {
-    /// The path that an argument of a derive is, with the punctuation after it.
+    /// Reads a path from an argument of a derive, which has the punctuation after it.
     pub fn of(alloc: Global, argument: &[Token<'a>]) -> Outcome<Option<Path<'a>>> {
         let words = match argument {
             [root, words @ ..] if root.is("::") => words,
@@ -73,7 +73,7 @@ impl<'a> Path<'a> {
         for (index, word) in words.iter().enumerate() {
             match index % 2 {
                 0 => {
-                    word.expect(word.is_ident(), "a path, or `)`")?;
+                    word.expect(word.is_ident(), "a path or `)`")?;
                     path.last = *word;
                 }
                 _ if word.is_punct(",)]}") => break,
@@ -84,7 +84,7 @@ impl<'a> Path<'a> {
         Ok(Some(path))
     }
 
-    /// What is derived, if std, `serde`, `thiserror` or a macro of the crate itself derives it.
+    /// The derive, if std, `serde`, `thiserror` or the user's own crate has it.
     pub fn known(&self, alloc: Global, imports: &Imports<'a>) -> Outcome<Option<Derive<'a>>> {
         let import = imports.get(self.first.text);
         let Some((_, rest)) = self.text.as_str().split_once("::") else {
@@ -116,7 +116,7 @@ impl<'a> Path<'a> {
     }
 }
 
-/// The crate that derives what has this name.
+/// The crate that has the derive with this name.
 fn provider_of(name: &str) -> Option<&'static str> {
     match name {
         "Serialize" | "Deserialize" => Some("serde"),
@@ -126,7 +126,7 @@ fn provider_of(name: &str) -> Option<&'static str> {
     }
 }
 
-/// Whether a path of such a derive may begin so, or may have no import.
+/// Whether a path of a derive of this crate may begin with this name. It is empty for a derive that is not imported.
 fn has_root(provider: &str, root: &str) -> bool {
     match root {
         "" => true,

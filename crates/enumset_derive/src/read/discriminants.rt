@@ -1,4 +1,4 @@
-//! Discriminants.
+//! Reads discriminants.
 
 ghost use Rattle.std.specs.Prelude.{◌≡◌, ◌^◌, pos, neg_ℤ, IfOk};
 ghost use Rattle.enumset_derive.specs.Literals.{value_of};
@@ -8,9 +8,9 @@ use crate::fault::Fault;
 use crate::plan::{Discriminant, Number};
 use crate::tokens::Token;
 
-const NOT_A_MASK: &str = "a mask is a literal: write the number itself, or `1 << n`";
+const NOT_A_MASK: &str = "a mask must be a literal or `1 << n`: write the number itself";
 
-/// The discriminant that tokens are, with the punctuation after them. Masks may be `1 << n` too.
+/// Reads a discriminant from its tokens. `end` is the punctuation after them. A mask may also be `1 << n`.
 pub(super) fn read_discriminant<'a>(
     tokens: &[Token<'a>],
     end: &Token<'a>,
@@ -48,11 +48,11 @@ fn negative(number: Number) -> Result<Number, &'static str>
     match number {
         Number::Small(0) => Ok(Number::Small(0)),
         Number::Small(number) => Ok(Number::Negative(number)),
-        _ => Err("a negative literal is at least -(2^128 - 1)"),
+        _ => Err("a negative literal must be at least -(2^128 - 1)"),
     }
 }
 
-/// The number of a byte, as `b'a'`.
+/// The number of a byte, such as `b'a'`.
 fn byte_of(text: &str) -> Result<Number, &'static str> {
     match text.as_bytes() {
         [b'b', b'\'', byte, b'\''] => Ok(Number::Small(u128::from(*byte))),
@@ -66,7 +66,7 @@ fn shifted(one: &str, places: &str) -> Result<Number, &'static str> {
     match (one, number_of(without_type(places))?) {
         (Number::Small(1), Number::Small(places)) => {
             let places = u32::try_from(places);
-            Ok(power_of_two(places.map_err(|_| "a mask is at most 1 << 4294967295")?))
+            Ok(power_of_two(places.map_err(|_| "a mask must be at most 1 << 4294967295")?))
         }
         _ => Err(NOT_A_NUMBER),
     }

@@ -1,4 +1,4 @@
-//! An enum that is to be an element type.
+//! Reads an enum that is to become an element type.
 
 use super::Reader;
 use super::derives::Path;
@@ -15,39 +15,40 @@ use std::alloc::Global;
 use std::collections::BTreeMap;
 
 const NO_ENUM_NAME: &str =
-    "`TheVariants` names what clauses import of an enum: choose another name";
+    "contracts import the variants of an enum under the name `TheVariants`: choose another name";
 
-const NO_VARIANTS: &str = "`rt ci` refuses what this enum without variants has: nobody can call it";
+const NO_VARIANTS: &str =
+    "`rt ci` rejects the functions of this enum, since it has no variants and they cannot be called";
 
 const OWN_JSON: &str =
-    "a set in JSON is of the variants' names here: remove this, and give other names by \
-    `rename`, or write sets as numbers";
+    "this set in JSON consists of the variants' names: remove this derive and use `rename` for \
+    other names, or write the set as a number";
 
-const DENY_ALONE: &str = "`serialize_deny_unknown` changes nothing without `serialize_repr`";
+const DENY_ALONE: &str = "`serialize_deny_unknown` has no effect without `serialize_repr`";
 
 const OTHER_ITEMS: [&str; 10] = [
     "struct", "union", "fn", "const", "static", "trait", "type", "mod", "impl", "use",
 ];
 
-/// An enum, and what is known of it while it is read.
+/// An enum, and the state while it is read.
 #[derive(Drop)]
 pub(super) struct EnumState<'a, 'b> {
     pub declaration: EnumDeclaration<'a, 'b>,
-    /// What it derives, by its last name, and where.
+    /// The place of each derive, by the last name of its path.
     derived: BTreeMap<&'a str, Place>,
     /// The names of its options.
     options: Vec<Token<'a>>,
     /// The style of names in JSON.
     pub style: Option<Given<'a>>,
-    /// Whether an empty line is among the attributes that were left out last.
+    /// Whether an empty line is among the attributes that were left out just before the next token.
     pub is_apart: bool,
-    /// The name in JSON that is given to the variant that comes next.
+    /// The name in JSON that is given to the next variant.
     pub json_name: Option<Given<'a>>,
-    /// The names in JSON that are given to the variants so far.
+    /// The names in JSON that are given to the variants that were read.
     pub json_names: Vec<Option<Given<'a>>>,
 }
 
-/// The enum that an item is, with these attributes, or nothing if faults of it are reported.
+/// Reads an enum from an item with these attributes, or returns `None` if its faults are reported.
 pub(super) fn read_enum<'a, 'b>(
     reader: &mut Reader<'a, 'b>,
     item: &Item<'a, 'b>,
@@ -58,7 +59,7 @@ pub(super) fn read_enum<'a, 'b>(
     let Some(first) = item.first() else {
         return Ok(None);
     };
-    // A fault of the attributes is reported even if this is one.
+    // If the head has a fault, the faults of the attributes are still reported.
     let head = read_head(item);
     let name = match head {
         Ok((name, _, _)) => name,
@@ -98,7 +99,7 @@ pub(super) fn read_enum<'a, 'b>(
     Ok(Some(state.declaration))
 }
 
-/// Gives the variants their names in JSON, if one may not be the variant's own.
+/// Sets the names of the variants in JSON, if the enum or a variant has an attribute that changes them.
 fn name_in_json(alloc: Global, state: &mut EnumState) -> Outcome {
     let mut are_given = state.style.is_some();
     for given in &state.json_names {
@@ -115,30 +116,31 @@ fn name_in_json(alloc: Global, state: &mut EnumState) -> Outcome {
     Ok(())
 }
 
-/// The name of an enum, what stands before its `{`, and what comes after that.
+/// The name of an enum, the tokens up to its `{`, and the tokens after that.
 fn read_head<'a, 'b>(
     item: &Item<'a, 'b>,
 ) -> Result<(&'b Token<'a>, &'b [Token<'a>], &'b [Token<'a>]), Fault> {
     let (keyword, rest) = next_word(item, item.words(), "an enum")?;
     if OTHER_ITEMS.contains(&keyword.text) {
-        return Err(keyword.fault("`EnumSetType` is for enums alone"));
+        return Err(keyword.fault("only an enum can derive `EnumSetType`"));
     }
     keyword.expect(keyword.is("enum"), "`enum`")?;
-    let (name, rest) = next_word(item, rest, "a name of an enum")?;
-    test_name(name, "a name of an enum")?;
+    let (name, rest) = next_word(item, rest, "the name of the enum")?;
+    test_name(name, "the name of the enum")?;
     if name.is("TheVariants") {
         return Err(name.fault(NO_ENUM_NAME));
     }
     let (open, body) = next_word(item, rest, "`{`")?;
     if open.is("<") || open.is("where") {
-        return Err(open.fault("the enum must have no parameters"));
+        return Err(open.fault("the enum must not have generic parameters"));
     }
     open.expect(open.is("{"), "`{`")?;
     let length = item.tokens.len().saturating_sub(body.len());
     Ok((name, item.tokens.get(..length).unwrap_or(&[]), body))
 }
 
-/// The first of the tokens of an item that is no comment, where this is expected, and what comes after it.
+/// The first token of an item that is not a comment, and the tokens after it. It is a fault if there is none, where
+/// this is expected.
 fn next_word<'a, 'b>(
     item: &Item<'a, 'b>,
     tokens: &'b [Token<'a>],
@@ -155,7 +157,7 @@ fn next_word<'a, 'b>(
     Err(Reason::Expected(expected, Found::End).at(place))
 }
 
-/// Reads the attributes of an enum: the derives and the options first, since they say which others are kept.
+/// Reads the attributes of an enum: first the derives and the options, since the others to keep depend on them.
 fn read_attributes<'a, 'b>(
     reader: &mut Reader<'a, 'b>,
     state: &mut EnumState<'a, 'b>,
@@ -180,7 +182,7 @@ fn read_attributes<'a, 'b>(
     Ok(())
 }
 
-/// Reads the arguments of a derive, or of options.
+/// Reads the arguments of `derive` or of `enumset`.
 fn read_arguments<'a, 'b>(
     reader: &mut Reader<'a, 'b>,
     state: &mut EnumState<'a, 'b>,
@@ -199,7 +201,7 @@ fn read_arguments<'a, 'b>(
     Ok(())
 }
 
-/// Reads a path that an enum derives. One that Rattle does not know is left out.
+/// Reads one path of a derive. One that is not known is left out.
 fn read_derived<'a, 'b>(
     reader: &mut Reader<'a, 'b>,
     state: &mut EnumState<'a, 'b>,
@@ -227,14 +229,14 @@ fn read_derived<'a, 'b>(
 }
 
 impl<'a> EnumState<'a, '_> {
-    /// Reads an option, with the punctuation after it.
+    /// Reads an option from an argument, which has the punctuation after it.
     fn read_option(&mut self, argument: &[Token<'a>]) -> Outcome {
         read_option(&mut self.declaration.options, &self.options, argument)?;
         Ok(self.options.extend(argument.first().copied())?)
     }
 }
 
-/// The faults of attributes that would change sets in JSON, and a word on an option that does not.
+/// Reports derives that would change the elements in JSON, and notes an option that has no effect.
 fn test_json<'a, 'b>(
     reader: &mut Reader<'a, 'b>,
     state: &EnumState<'a, 'b>,
@@ -260,7 +262,7 @@ fn test_json<'a, 'b>(
     Ok(())
 }
 
-/// Whether this is the name of a derive such as `Serialize_repr`.
+/// Whether this is the name of another derive of `serde`'s traits, such as `Serialize_repr`.
 fn is_other_json(name: &str) -> bool {
     let begins = name.starts_with("Serialize") || name.starts_with("Deserialize");
     begins && !matches!(name, "Serialize" | "Deserialize")

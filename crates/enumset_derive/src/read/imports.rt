@@ -1,4 +1,4 @@
-//! Under which names a source has what it imports.
+//! The imports of a source, by their names in the source.
 
 use crate::fault::Outcome;
 use crate::items::Items;
@@ -6,13 +6,13 @@ use crate::tokens::Token;
 use std::alloc::Global;
 use std::collections::BTreeMap;
 
-/// What a source imports, by the names that it has there.
+/// The imports of a source, by their names in the source.
 #[derive(Drop)]
 pub(super) struct Imports<'a> {
     names: BTreeMap<&'a str, Import<'a>>,
 }
 
-/// What an import is of: the first and the last name of its path.
+/// An import: the first and the last name of its path.
 #[derive(Clone, Copy)]
 pub(super) struct Import<'a> {
     pub root: &'a str,
@@ -41,7 +41,7 @@ impl<'a> Imports<'a> {
         Ok(imports)
     }
 
-    /// Takes in the names that a path brings, or several in brackets.
+    /// Adds the names that a path imports, or several paths in braces.
     fn take(&mut self, path: &[Token<'a>]) -> Outcome {
         let is_list = path.first().is_some_and(|first| first.is("{"));
         let is_end = |word: &Token| is_list && word.is(",") && word.depth <= 1;
@@ -51,7 +51,7 @@ impl<'a> Imports<'a> {
         Ok(())
     }
 
-    /// Takes in the names that a path brings, which begins at one crate.
+    /// Adds the names that a path with one first name imports.
     fn take_tree(&mut self, tree: &[Token<'a>]) -> Outcome {
         let Some(root) = tree.iter().find(|word| word.is_ident()) else {
             return Ok(());
@@ -69,7 +69,7 @@ impl<'a> Imports<'a> {
         Ok(())
     }
 
-    /// Takes in a name for the last name of a path that begins at a crate.
+    /// Adds a name for the path with this first and this last name.
     fn insert(&mut self, root: &Token<'a>, original: &Token<'a>, name: &Token<'a>) -> Outcome {
         let import = Import {
             root: root.text,
@@ -79,17 +79,17 @@ impl<'a> Imports<'a> {
         Ok(())
     }
 
-    /// What is imported under a name.
+    /// The import with this name.
     pub fn get(&self, name: &str) -> Option<Import<'a>> {
         self.names.get(name).copied()
     }
 
-    /// The name of what a name is for.
+    /// The original name of what this name refers to.
     pub fn original(&self, name: &'a str) -> &'a str {
         self.get(name).map_or(name, |import| import.name)
     }
 
-    /// Whether a word is for the derive of element types.
+    /// Whether a token refers to `EnumSetType`.
     pub fn is_element_type(&self, word: &Token) -> bool {
         let import = self.get(word.text).filter(|_| word.is_ident());
         import.map_or(

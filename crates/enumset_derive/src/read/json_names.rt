@@ -1,4 +1,4 @@
-//! The names of variants in JSON, as attributes of `serde` give them.
+//! Reads the names of variants in JSON from attributes of `serde`.
 
 use super::options::value_of;
 use crate::fault::{Fault, Outcome, Place, Reason};
@@ -7,16 +7,16 @@ use crate::tokens::Token;
 use std::alloc::{AllocError, Global};
 use std::collections::BTreeMap;
 
-const OTHER: &str = "names in JSON follow `rename_all = \"..\"` on the enum and `rename = \"..\"` \
-    on a variant, and no other attribute of `serde`";
+const OTHER: &str = "only `rename_all = \"..\"` on the enum and `rename = \"..\"` on a variant \
+    can change names in JSON";
 
 const WRONG_STYLE: &str =
-    "`rename_all` is \"lowercase\", \"UPPERCASE\", \"PascalCase\", \"camelCase\", \
+    "`rename_all` must be \"lowercase\", \"UPPERCASE\", \"PascalCase\", \"camelCase\", \
     \"snake_case\", \"SCREAMING_SNAKE_CASE\", \"kebab-case\" or \"SCREAMING-KEBAB-CASE\"";
 
-const NOT_PLAIN: &str = "a name in JSON is of printable ASCII here, without `\"` and `\\`";
+const NOT_PLAIN: &str = "a name in JSON must be printable ASCII without `\"` and `\\`";
 
-/// The style of the variants' own names.
+/// The style in which names stay as they are.
 pub(super) const OWN_STYLE: &str = "PascalCase";
 
 const STYLES: [&str; 8] = [
@@ -30,10 +30,10 @@ const STYLES: [&str; 8] = [
     "SCREAMING-KEBAB-CASE",
 ];
 
-/// A text that an attribute gives, and where it is.
+/// The value of an attribute, and its place.
 pub(super) type Given<'a> = (&'a str, Place);
 
-/// The name of a variant, or the style of all names, that an argument of `serde` gives, if it does.
+/// The value of `rename` or `rename_all` in an argument of `serde`, or `None` if the argument does not change names.
 pub(super) fn given_name<'a>(
     argument: &[Token<'a>],
     is_variant: bool,
@@ -62,7 +62,7 @@ pub(super) fn given_name<'a>(
     }
 }
 
-/// The names of the variants in JSON, in their order: each as it is given, or in a style of `serde`.
+/// The names of the variants in JSON, in their order: the name given, or else the variant's own name in this style.
 pub(super) fn json_names(
     alloc: Global,
     style: &str,
@@ -85,7 +85,7 @@ pub(super) fn json_names(
     Ok(names)
 }
 
-/// The name of a variant, which is words that each begin with a capital, in a style of `serde`.
+/// The name of a variant in a style of `serde`. Each capital in the name begins a word.
 fn styled(alloc: Global, style: &str, name: &str) -> Result<String, AllocError> {
     let mut separators = style.matches(|letter| matches!(letter, '_' | '-'));
     let separator = separators.next().unwrap_or("");

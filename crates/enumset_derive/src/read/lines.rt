@@ -1,4 +1,4 @@
-//! What is kept of the comments and attributes before an enum or a variant.
+//! Reads the comments and attributes before an enum or a variant.
 
 use super::Reader;
 use super::attributes::has_meaning;
@@ -11,9 +11,9 @@ use crate::report::Note;
 use crate::tokens::Token;
 use std::alloc::{AllocError, Global};
 
-const SERDE_ALONE: &str = "`cfg_attr` is not read here: write `#[serde(..)]` itself";
+const SERDE_ALONE: &str = "`cfg_attr` is not supported: write `#[serde(..)]` without it";
 
-/// What is kept of comments and attributes: of the enum, or else of the variant that comes next.
+/// The comments and attributes that are kept, of the enum or of the next variant.
 pub(super) fn read_lines<'a, 'b>(
     reader: &mut Reader<'a, 'b>,
     state: &mut EnumState<'a, 'b>,
@@ -35,12 +35,12 @@ pub(super) fn read_lines<'a, 'b>(
             is_apart = false;
         }
     }
-    // What is left out at the end may have an empty line before it.
+    // If attributes are left out at the end, the empty line before them is kept.
     state.is_apart = is_apart;
     Ok(lines)
 }
 
-/// Adds the comments among tokens, each on a line of its own.
+/// Adds the comments among the tokens, each on its own line.
 pub(super) fn push_comments<'a, 'b>(
     lines: &mut Vec<Line<'a, 'b>>,
     tokens: &'b [Token<'a>],
@@ -56,8 +56,8 @@ pub(super) fn push_comments<'a, 'b>(
     Ok(())
 }
 
-/// Whether an attribute is kept that is neither a derive nor options, of the enum or else of the variant that comes next. If
-/// it is not, this is said, except of names in JSON, which are read.
+/// Whether an attribute other than derives and options is kept, of the enum or of the next variant. If it is not, this
+/// is noted, except for the names in JSON, which are read.
 fn is_kept<'a, 'b>(
     reader: &mut Reader<'a, 'b>,
     state: &mut EnumState<'a, 'b>,
@@ -100,7 +100,7 @@ fn is_kept<'a, 'b>(
     Ok(is_kept)
 }
 
-/// Reads the names in JSON in an attribute of `serde`, of the enum or else of the variant that comes next.
+/// Reads names in JSON from an attribute of `serde`, of the enum or of the next variant.
 fn read_json_names<'a>(
     alloc: Global,
     state: &mut EnumState<'a, '_>,

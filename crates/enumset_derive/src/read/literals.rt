@@ -1,24 +1,24 @@
-//! The numbers of literals.
+//! Reads the numbers of literals.
 
 ghost use Rattle.std.specs.Prelude.{◌≡◌, ◌*◌, ◌+◌, ◌^◌, ℕ, pos, IfOk, IfSome};
 ghost use Rattle.enumset_derive.specs.Literals.{radix, with_digit, number_in, number_written, value_of, IsReadOf};
 
 use crate::plan::Number;
 
-pub(super) const NOT_A_NUMBER: &str = "a discriminant is a literal: write the number itself";
+pub(super) const NOT_A_NUMBER: &str = "a discriminant must be a literal: write the number itself";
 
-const TOO_LARGE: &str = "a literal past 2^128 - 1 must be a power of two, and not decimal";
+const TOO_LARGE: &str = "a literal above 2^128 - 1 must be a power of two, and not decimal";
 
 const TYPES: [&str; 12] = [
     "u8", "u16", "u32", "u64", "u128", "usize", "i8", "i16", "i32", "i64", "i128", "isize",
 ];
 
-/// The number of the digits of a literal that were read.
+/// The number of the digits that were read so far.
 #[derive(Clone, Copy)]
 struct Digits {
-    /// The number, if it is not past 128 bits.
+    /// The number, if it fits in 128 bits.
     number: Option<u128>,
-    /// The power of two that it is, if it is known to be one.
+    /// Its exponent, if it is known to be a power of two.
     exponent: Option<u32>,
 }
 
@@ -28,7 +28,7 @@ impl Digits {
         exponent: None,
     };
 
-    /// The number with one digit more, in this base.
+    /// The number with one more digit, in this base.
     fn next(self, base: Base, digit: u32) -> Digits
         ensures { (n : ℕ) → IsReadOf n self → IsReadOf (n * radix base + digit) result }
     {
@@ -38,7 +38,7 @@ impl Digits {
         }
     }
 
-    /// The number with one digit more, if it is not past 128 bits.
+    /// The number with one more digit, if it fits in 128 bits.
     fn next_number(self, base: Base, digit: u32) -> Option<u128>
         ensures { (n : ℕ) → IsReadOf n self → IfSome result (λ number. number ≡ n * radix base + digit) }
     {
@@ -46,7 +46,7 @@ impl Digits {
         shifted.checked_add(u128::from(digit))
     }
 
-    /// The power of two that the number is with one digit more.
+    /// The exponent of the number with one more digit, if that is known to be a power of two.
     #[tactic(auto, using(crate::proofs::Digits::shifted_power))]
     fn next_exponent(self, base: Base, digit: u32) -> Option<u32>
         ensures { (n : ℕ) → IsReadOf n self → IfSome result (λ exponent. n * radix base + digit ≡ 2 ^ exponent) }
@@ -83,7 +83,7 @@ impl Base {
         }
     }
 
-    /// How many bits a digit is, if it is bits.
+    /// The number of bits in a digit, if the base is a power of two.
     fn bits(self) -> Option<u32>
         ensures { IfSome result (λ bits. radix self ≡ 2 ^ bits) }
     {
@@ -96,13 +96,14 @@ impl Base {
     }
 }
 
-/// A literal without the type after it.
+/// A literal without its type suffix.
 pub(super) fn without_type(literal: &str) -> &str {
     let typed = TYPES.iter().find_map(|name| literal.strip_suffix(name));
     typed.unwrap_or(literal).trim_end_matches('_')
 }
 
-/// The number that a literal without a type is. Past 128 bits it is a power of two up to 2^(2^32 - 1).
+/// The number of a literal without a type suffix. If it does not fit in 128 bits, it must be a power of two, at most
+/// 2^(2^32 - 1).
 pub(super) fn number_of(written: &str) -> Result<Number, &'static str>
     ensures { IfOk result (λ number. value_of number ≡ pos (number_written written.now)) }
 {
@@ -117,7 +118,7 @@ pub(super) fn number_of(written: &str) -> Result<Number, &'static str>
     }
 }
 
-/// The number that digits are in this base.
+/// The number of the digits in this base.
 fn number_in(base: Base, digits: &[u8]) -> Result<Number, &'static str>
     ensures { IfOk result (λ number. value_of number ≡ pos (number_in (radix base) digits.now)) }
 {
@@ -130,7 +131,7 @@ fn number_in(base: Base, digits: &[u8]) -> Result<Number, &'static str>
     }
 }
 
-/// What is known of the number that digits are in this base.
+/// Reads digits in this base.
 fn read_digits(base: Base, digits: &[u8]) -> Result<Digits, &'static str>
     ensures { IfOk result (IsReadOf (number_in (radix base) digits.now)) }
 {
@@ -141,7 +142,7 @@ fn read_digits(base: Base, digits: &[u8]) -> Result<Digits, &'static str>
     Ok(read)
 }
 
-/// What is known of a number with one byte more, which is a digit or `_`.
+/// The digits so far with one more byte, which is a digit or `_`.
 fn with_byte(read: Digits, base: Base, byte: u8) -> Result<Digits, &'static str>
     ensures { (n : ℕ) → IsReadOf n read → IfOk result (IsReadOf (with_digit (radix base) n byte)) }
 {

@@ -1,4 +1,4 @@
-//! The options of an enum, as `#[enumset(..)]` gives them.
+//! Reads the options of an enum from `#[enumset(..)]`.
 
 ghost use Rattle.std.specs.Prelude.{◌≡◌, IfSome};
 ghost use Rattle.enumset_derive.specs.Sources.{map_name, representation_name, serialized_name};
@@ -7,20 +7,20 @@ use crate::fault::{Fault, Reason};
 use crate::plan::{IntegerType, Map, Options, Representation, Serialized};
 use crate::tokens::Token;
 
-const WRONG_MAP: &str = "`map` is \"lsb\", \"msb\", \"mask\" or \"compact\"";
+const WRONG_MAP: &str = "`map` must be \"lsb\", \"msb\", \"mask\" or \"compact\"";
 
 const WRONG_REPRESENTATION: &str =
-    "`repr` is \"u8\", \"u16\", \"u32\", \"u64\", \"u128\" or \"array\"; over another \
-    representation write the element type by hand, as in docs/ELEMENT-TYPES.md";
+    "`repr` must be \"u8\", \"u16\", \"u32\", \"u64\", \"u128\" or \"array\"; for another \
+    representation, write the element type by hand, as in docs/ELEMENT-TYPES.md";
 
 const WRONG_FORM: &str =
-    "`serialize_repr` is \"u8\", \"u16\", \"u32\", \"u64\", \"u128\", \"array\", \"list\" or \"map\"";
+    "`serialize_repr` must be \"u8\", \"u16\", \"u32\", \"u64\", \"u128\", \"array\", \"list\" or \"map\"";
 
-const WRONG_CRATE: &str = "`crate_name` is a name, as \"enumset\" or \"crate\"";
+const WRONG_CRATE: &str = "`crate_name` must be an identifier such as \"enumset\", or \"crate\"";
 
-const OLD_LIST: &str = "`serialize_as_list` is written `serialize_repr = \"list\"`";
+const OLD_LIST: &str = "`serialize_as_list` is now `serialize_repr = \"list\"`";
 
-/// The words with which no path begins.
+/// The keywords that cannot begin a path.
 const NO_ROOTS: [&str; 53] = [
     "_", "Self", "abstract", "as", "async", "await", "become", "box", "break", "const", "continue",
     "do", "dyn", "else", "ensures", "enum", "extern", "false", "final", "fn", "for", "ghost",
@@ -29,7 +29,8 @@ const NO_ROOTS: [&str; 53] = [
     "typeof", "unsafe", "unsized", "use", "virtual", "where", "while", "yield",
 ];
 
-/// Reads an option, with the punctuation after it. Those that were given before are known.
+/// Reads an option from an argument, which has the punctuation after it. `given` are the names of the options before
+/// it.
 pub(super) fn read_option<'a>(
     options: &mut Options<'a>,
     given: &[Token<'a>],
@@ -38,7 +39,7 @@ pub(super) fn read_option<'a>(
     let [name, rest @ ..] = argument else {
         return Ok(());
     };
-    name.expect(name.is_ident(), "a name of an option, or `)`")?;
+    name.expect(name.is_ident(), "an option or `)`")?;
     if let Some(first) = given.iter().find(|first| first.is(name.text)) {
         return Err(Reason::GivenTwice("option", first.place).at(name.place));
     }
@@ -69,7 +70,7 @@ pub(super) fn read_option<'a>(
         "no_super_impls" => options.leaves_out_supertraits = boolean_of(rest)?,
         "display" => options.has_display = boolean_of(rest)?,
         "serialize_as_list" => return Err(name.fault(OLD_LIST)),
-        _ => return Err(name.fault("there is no such option")),
+        _ => return Err(name.fault("unknown option")),
     }
     let after = match rest {
         [equal, _, after @ ..] if equal.is("=") => after,
@@ -81,7 +82,7 @@ pub(super) fn read_option<'a>(
     }
 }
 
-/// The value after `=` in what comes after a name, and the text in its quotes.
+/// The value of an option or attribute with this name, and the text in its quotes. `rest` follows the name.
 pub(super) fn value_of<'a>(
     name: &Token<'a>,
     rest: &[Token<'a>],
@@ -92,11 +93,11 @@ pub(super) fn value_of<'a>(
     };
     match text {
         Some(text) => Ok((*value, text)),
-        None => Err(value.unexpected("`=` and a text in quotes")),
+        None => Err(value.unexpected("`=` and a string literal")),
     }
 }
 
-/// The value after `=` in what comes after a name, which is true or false. Without a value it is true.
+/// The boolean value in the tokens after the name of an option. Without a value it is true.
 fn boolean_of(rest: &[Token]) -> Result<bool, Fault> {
     match rest {
         [equal, value, ..] if equal.is("=") => match value.unquoted().unwrap_or(value.text) {
@@ -108,7 +109,7 @@ fn boolean_of(rest: &[Token]) -> Result<bool, Fault> {
     }
 }
 
-/// The map of this name.
+/// The map with this name.
 fn map_of(name: &str) -> Option<Map>
     ensures { IfSome result (λ read. map_name read ≡ name.now) }
 {
@@ -121,7 +122,7 @@ fn map_of(name: &str) -> Option<Map>
     }
 }
 
-/// The representation of this name.
+/// The representation with this name.
 fn representation_of(name: &str) -> Option<Representation>
     ensures { IfSome result (λ read. representation_name read ≡ name.now) }
 {
@@ -136,7 +137,7 @@ fn representation_of(name: &str) -> Option<Representation>
     }
 }
 
-/// The form of sets in JSON of this name.
+/// The form of sets in JSON with this name.
 fn serialized_of(name: &str) -> Option<Serialized>
     ensures { IfSome result (λ read. serialized_name read ≡ name.now) }
 {
@@ -147,8 +148,8 @@ fn serialized_of(name: &str) -> Option<Serialized>
     }
 }
 
-/// Whether a text is a name, as that of a crate: letters, digits and `_`, no digit first, and no keyword but `crate` and
-/// such.
+/// Whether a text can be the name of a crate in a path: an ASCII identifier that is not a keyword, or `crate`, `self`
+/// or `super`.
 fn is_crate_name(text: &str) -> bool {
     let is_letter = |letter: char| letter.is_ascii_alphanumeric() || letter == '_';
     let is_digit = |letter: char| letter.is_ascii_digit();

@@ -1,4 +1,4 @@
-//! Items that are left out, and the element types in them.
+//! Reports the items that are left out, and the element types inside them.
 
 use super::imports::Imports;
 use crate::fault::Outcome;
@@ -6,7 +6,8 @@ use crate::items::Item;
 use crate::report::{Note, Report};
 use crate::tokens::Token;
 
-/// Says that an item is left out, and which element types are in it. An import is read, and an empty item is nothing.
+/// Notes that an item is left out, and the element types inside it. Imports are not noted, as they are read, nor are
+/// empty items.
 pub(super) fn leave_out<'a, 'b>(
     imports: &Imports<'a>,
     report: &mut Report<'a, 'b>,
@@ -33,14 +34,14 @@ pub(super) fn leave_out<'a, 'b>(
     note_inside(imports, report, item.tokens, what)
 }
 
-/// Says which element types are in an item.
+/// Notes the element types inside an item.
 fn note_inside<'a, 'b>(
     imports: &Imports<'a>,
     report: &mut Report<'a, 'b>,
     tokens: &'b [Token<'a>],
     what: &'static str,
 ) -> Outcome {
-    // The depth of the brackets of a derive, and whether one was passed that names what makes an element type.
+    // The depth of the brackets of the current derive, and whether a derive since the last enum names `EnumSetType`.
     let (mut depth, mut is_derived) = (u32::MAX, false);
     for [token, next] in tokens.array_windows::<2>() {
         if token.is("derive") && next.is("(") {

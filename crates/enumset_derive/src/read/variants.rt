@@ -1,4 +1,4 @@
-//! The variants of an enum that is to be an element type, and which names may be given.
+//! Reads the variants of an enum, and tests names.
 
 use super::Reader;
 use super::discriminants::read_discriminant;
@@ -11,18 +11,18 @@ use crate::tokens::{Kind, Token};
 use std::alloc::Global;
 use std::mem;
 
-/// The words that are keywords in Rattle and names in Rust.
+/// The keywords of Rattle that are identifiers in Rust.
 const KEYWORDS: [&str; 4] = ["ghost", "requires", "ensures", "deriving"];
 
-const KEYWORD: &str = "this is a keyword here: choose another name";
+const KEYWORD: &str = "this is a keyword of Rattle: choose another name";
 
-const RAW: &str = "raw identifiers cannot be used here: choose a name that is no keyword";
+const RAW: &str = "raw identifiers are not supported: choose a name that is not a keyword";
 
-const NOT_ASCII: &str = "names are of ASCII here";
+const NOT_ASCII: &str = "names must be ASCII";
 
 const A_VARIANT: &str = "a variant";
 
-/// Reads the variants of an enum, which come after its `{`, up to the `}`.
+/// Reads the variants of an enum. `body` has the tokens after its `{`, up to the `}`.
 pub(super) fn read_variants<'a, 'b>(
     reader: &mut Reader<'a, 'b>,
     state: &mut EnumState<'a, 'b>,
@@ -30,7 +30,7 @@ pub(super) fn read_variants<'a, 'b>(
 ) -> Outcome {
     let mut rest = body;
     for _ in 0..body.len() {
-        // One more than an enum may have is a fault of its plan.
+        // Too many variants are a fault of the plan, for which one too many is enough.
         if state.declaration.variants.len() > 256 {
             break;
         }
@@ -62,7 +62,8 @@ pub(super) fn read_variants<'a, 'b>(
     Ok(())
 }
 
-/// How many tokens the variant has that tokens begin with, with the comments on its line, or all up to the `}` that follows.
+/// The number of tokens in the variant at the beginning, with the comments after it on its line. For the last variant
+/// it includes the `}`.
 fn variant_length(tokens: &[Token]) -> usize {
     let is_end = |token: &Token| token.depth <= 1 && token.is(",");
     let Some(comma) = tokens.iter().position(is_end) else {
@@ -77,7 +78,7 @@ fn variant_length(tokens: &[Token]) -> usize {
         .saturating_add(1)
 }
 
-/// Reads a variant, from its name on to the comments after the punctuation at its end.
+/// Reads a variant, from its name to the comments after its punctuation.
 fn read_variant<'a, 'b>(
     alloc: Global,
     options: &Options,
@@ -110,7 +111,7 @@ fn read_variant<'a, 'b>(
             Some(read_discriminant(value, end, has_masks)?)
         }
         [next, ..] if next.is_punct("({") => {
-            return Err(next.fault("a variant must have no fields").into());
+            return Err(next.fault("a variant must not have fields").into());
         }
         [next, ..] => return Err(next.unexpected("`,` or `}`").into()),
         [] => return Err(name.unexpected("`,` or `}`").into()),
@@ -126,7 +127,7 @@ fn read_variant<'a, 'b>(
     })
 }
 
-/// A fault unless a token is a name that may be given here, where this is expected.
+/// Tests that a token is a valid name in Rattle, where this is expected.
 pub(super) fn test_name(name: &Token, expected: &'static str) -> Result<(), Fault> {
     name.expect(name.is_ident(), expected)?;
     match name.text {

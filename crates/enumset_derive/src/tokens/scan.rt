@@ -1,13 +1,13 @@
-//! What the first token of a text is.
+//! Finds the first token of a text.
 
 use super::Kind;
 
-/// What a token is, and the text after it, or what is wrong with what begins there.
+/// The kind of a token and the text after it, or the fault.
 type Scanned<'a> = Result<(Kind, &'a str), &'static str>;
 
-const UNCLOSED: &str = "this quote has no end";
+const UNCLOSED: &str = "this quote is not closed";
 
-/// What the token is that a text begins with.
+/// The kind of the first token of a text, and the text after it.
 pub(super) fn scan(text: &str) -> Scanned<'_> {
     let mut characters = text.chars();
     let Some(first) = characters.next() else {
@@ -27,7 +27,7 @@ pub(super) fn scan(text: &str) -> Scanned<'_> {
     })
 }
 
-/// What the comment is that a text begins with.
+/// The kind of the comment at the beginning of a text.
 fn comment_kind(text: &str) -> Kind {
     match text.as_bytes() {
         [_, _, b'!', ..] => Kind::InnerDoc,
@@ -37,7 +37,7 @@ fn comment_kind(text: &str) -> Kind {
     }
 }
 
-/// What the block comment is that a text begins with. Block comments may stand in it.
+/// The block comment at the beginning of a text. Block comments nest.
 fn block_comment(text: &str) -> Scanned<'_> {
     let mut depth = 0usize;
     let mut last = ' ';
@@ -51,10 +51,10 @@ fn block_comment(text: &str) -> Scanned<'_> {
             return Ok((comment_kind(text), after(text, at)));
         }
     }
-    Err("this comment has no end")
+    Err("this comment is not closed")
 }
 
-/// What a token is that begins as a word: an identifier, or a literal in quotes.
+/// The token at the beginning of a text that begins with a word: an identifier, or a literal in quotes.
 fn word(text: &str) -> Scanned<'_> {
     let rest = text.trim_start_matches(is_word);
     let word = text.get(..text.len().saturating_sub(rest.len()));
@@ -66,7 +66,7 @@ fn word(text: &str) -> Scanned<'_> {
     }
 }
 
-/// What a token is of which this comes after a `"`.
+/// The string that continues after its `"`.
 fn after_quote(text: &str) -> Scanned<'_> {
     let mut is_escaped = false;
     for (at, character) in text.char_indices() {
@@ -78,7 +78,7 @@ fn after_quote(text: &str) -> Scanned<'_> {
     Err(UNCLOSED)
 }
 
-/// What a token is of which this comes after a `'`: a character or a lifetime.
+/// The character or lifetime that continues after its `'`.
 fn after_tick(text: &str) -> Scanned<'_> {
     let mut characters = text.chars();
     let first = characters.next().unwrap_or(' ');
@@ -93,7 +93,7 @@ fn after_tick(text: &str) -> Scanned<'_> {
     Ok((Kind::Literal, rest))
 }
 
-/// What a token is of which this comes after `r`, `br` or `cr`: a raw text, or a raw identifier.
+/// The raw string or raw identifier that continues after its `r`, `br` or `cr`.
 fn after_raw_prefix(text: &str) -> Scanned<'_> {
     let rest = text.trim_start_matches('#');
     let hashes = text.get(..text.len().saturating_sub(rest.len()));
@@ -111,7 +111,7 @@ fn after(text: &str, at: usize) -> &str {
     text.get(at.saturating_add(1)..).unwrap_or("")
 }
 
-/// Whether a character may stand in a word: a letter, a digit, `_`, or a character past ASCII but for spaces and quotes.
+/// Whether a character may be in a word: a letter, a digit, `_`, or a character outside ASCII except spaces and quotes.
 fn is_word(character: char) -> bool {
     let is_space = matches!(character, '\u{80}'..='\u{a0}' | '\u{2000}'..='\u{206f}' | '\u{feff}');
     character == '_' || character.is_ascii_alphanumeric() || !(character.is_ascii() || is_space)

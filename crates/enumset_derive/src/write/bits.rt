@@ -1,4 +1,4 @@
-//! The words by which clauses speak of the bits of variants.
+//! Writes the terms of contracts for the bits of variants.
 
 use super::layout::list_of;
 use super::{Text, Written, facade_of, library_of};
@@ -6,19 +6,23 @@ use crate::Request;
 use crate::element::Element;
 use std::alloc::Global;
 
-/// The names of the words for one element type.
+/// The line that the file begins with.
+const HEAD: &str =
+    "-- Written by enumset_derive from the enum's source: change the source, and write this file again.\n";
+
+/// The names in the file for one element type.
 #[derive(Drop)]
 struct BitWords {
-    /// The word for the bit of a variant: `bit`, or where more enums are `bit_of_` and the name of this one.
+    /// The term for the bit of a variant: `bit`, or if there are several enums, `bit_of_` and the name of this one.
     word: String,
-    /// What stands for the enum in the model of its elements, and what it is imported as.
+    /// The name of the enum in the model of its elements, and how it is imported.
     subject: String,
     import: String,
 }
 
-/// The file of `specs/` that defines a word for the bit of a variant of each enum.
+/// The text of a file in `specs/` that defines, for each enum, the term for the bit of a variant.
 pub fn bits_text(alloc: Global, request: &Request, elements: &[Element]) -> Text {
-    let mut text = String::new(alloc);
+    let mut text = String::from_str(alloc, HEAD)?;
     let are_listed = elements.iter().any(|element| !element.is_in_place());
     text.push_str("use Rattle.std.specs.Prelude.{ℕ")?;
     text.push_str(if are_listed { ", ◌∷◌, []}\n" } else { "}\n" })?;
@@ -49,7 +53,7 @@ pub fn bits_text(alloc: Global, request: &Request, elements: &[Element]) -> Text
     Ok(text)
 }
 
-/// The names of the words for one of so many enums.
+/// The names for the enum with this name, where `count` is the number of enums.
 fn words_of(alloc: Global, name: &str, count: usize) -> Written<BitWords> {
     if count == 1 {
         return Ok(BitWords {
@@ -66,7 +70,7 @@ fn words_of(alloc: Global, name: &str, count: usize) -> Written<BitWords> {
     })
 }
 
-/// Writes the word for the bit of a variant of one of so many enums.
+/// Writes the term for the bit of a variant of an enum, where `count` is the number of enums.
 fn write_bit(out: &mut String, alloc: Global, element: &Element, count: usize) -> Written {
     let name = element.declaration.name.text;
     let BitWords { word, subject, .. } = words_of(alloc, name, count)?;

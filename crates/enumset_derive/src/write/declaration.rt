@@ -1,4 +1,4 @@
-//! The enum of an element type.
+//! Writes the enum of an element type.
 
 use super::Written;
 use crate::element::Element;
@@ -6,11 +6,11 @@ use crate::plan::{Discriminant, EnumDeclaration, Line, Number, Variant};
 use crate::tokens;
 use std::alloc::Global;
 
-/// Why an enum has no discriminants.
+/// The comment on an enum that lost its discriminants.
 const DROPPED: &str =
-    "// Its discriminants are left out: one of them is past those that Rattle takes, -2^63 to 2^63 - 1.\n";
+    "// Its discriminants are left out, since one is outside the range of Rattle, -2^63 to 2^63 - 1.\n";
 
-/// What an element type needs.
+/// The traits that an element type needs.
 const SUPERTRAITS: [&str; 4] = ["Clone", "Copy", "PartialEq", "Eq"];
 
 /// Writes the enum.
@@ -36,7 +36,7 @@ pub(super) fn write_enum(out: &mut String, alloc: Global, element: &Element) -> 
     out.push('}')
 }
 
-/// Writes comments and attributes on lines of their own, after these spaces.
+/// Writes comments and attributes on their own lines, after this indentation.
 fn write_lines(out: &mut String, lines: &[Line], indent: &str) -> Written {
     for line in lines {
         write_empty_line(out, line.is_apart)?;
@@ -45,7 +45,7 @@ fn write_lines(out: &mut String, lines: &[Line], indent: &str) -> Written {
     Ok(())
 }
 
-/// Writes an empty line, if it is there, but for the first line of an enum.
+/// Writes an empty line, if the source has it, except as the first line of an enum.
 fn write_empty_line(out: &mut String, is_there: bool) -> Written {
     match is_there && !out.as_str().ends_with("{\n") {
         true => out.push('\n'),
@@ -68,13 +68,13 @@ fn write_variant(out: &mut String, variant: &Variant, has_discriminant: bool) ->
     out.push('\n')
 }
 
-/// Writes a discriminant: its literal, or the number that it is.
+/// Writes a discriminant: its literal, or else its number.
 fn write_discriminant(out: &mut String, given: &Discriminant) -> Written {
     match (given.literal, given.number) {
         (Some(literal), _) if given.has_minus => write!(out, " = -{literal}"),
         (Some(literal), _) => write!(out, " = {literal}"),
         (None, Number::Small(number)) => write!(out, " = {number}"),
-        // A byte is no such number, and a mask past 128 bits is left out.
+        // A byte is never so large, and a mask that does not fit in 128 bits is left out.
         (None, _) => Ok(()),
     }
 }

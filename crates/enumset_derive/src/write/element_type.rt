@@ -1,4 +1,4 @@
-//! What makes an enum an element type.
+//! Writes an enum and the implementations that make it an element type.
 
 use super::declaration::write_enum;
 use super::json::write_json;
@@ -8,17 +8,17 @@ use super::operators::write_operators;
 use super::{Subject, Text, Written, library_of};
 use crate::plan::Store;
 
-/// What keeps a set, as a module writes it.
+/// What a set is stored in, as text of a module.
 #[derive(Drop)]
 struct StoreText {
     type_name: String,
-    /// The set of all bits in a clause.
+    /// The set of all bits in a contract.
     model: String,
     /// The set of all bits in code.
     value: String,
 }
 
-/// Writes the enum, and what makes it an element type.
+/// Writes the enum, and the implementations that make it an element type.
 pub(super) fn write_element_type(out: &mut String, subject: &Subject) -> Written {
     let options = &subject.element.declaration.options;
     write_enum(out, subject.alloc, subject.element)?;
@@ -43,7 +43,7 @@ pub(super) fn write_element_type(out: &mut String, subject: &Subject) -> Written
     }
 }
 
-/// Writes the implementation of an element type.
+/// Writes the implementation of `EnumSetType`.
 fn write_impl(out: &mut String, subject: &Subject) -> Written {
     let (name, crate_name, module) = (subject.name, subject.crate_name, subject.module);
     let library = library_of(subject.facade);
@@ -79,7 +79,7 @@ fn write_impl(out: &mut String, subject: &Subject) -> Written {
     )
 }
 
-/// Writes what keeps a set, the model of the elements, and the constants.
+/// Writes the type that a set is stored in, the model of the elements, and the constants.
 fn write_constants(out: &mut String, subject: &Subject, in_place: bool) -> Written {
     let (width, count) = (
         subject.element.plan.bit_width,
@@ -107,7 +107,7 @@ fn write_constants(out: &mut String, subject: &Subject, in_place: bool) -> Writt
     )
 }
 
-/// Writes how the elements are modelled, after the `{`, and the model of the variants by which `Display` is given.
+/// Writes the model of the elements, after its `{`, and under `display` the list of the variants.
 fn write_elements(out: &mut String, subject: &Subject, in_place: bool) -> Written {
     if in_place {
         out.push_str("in_place the_type };\n\n")?;
@@ -124,7 +124,7 @@ fn write_elements(out: &mut String, subject: &Subject, in_place: bool) -> Writte
     Ok(())
 }
 
-/// Writes the body that converts a variant to its bit.
+/// Writes the body of the function that converts a variant to its bit.
 fn write_into_u32(out: &mut String, subject: &Subject) -> Written {
     let variants = &subject.element.declaration.variants;
     if variants.is_empty() {
@@ -144,8 +144,8 @@ fn write_into_u32(out: &mut String, subject: &Subject) -> Written {
     out.push_str("        }\n")
 }
 
-/// Writes the body that converts a bit to its variant: a match over the bits, or the call of the macro that makes a table.
-/// `enumset_sets` has no macro, so over it the match stands in full.
+/// Writes the body of the function that converts a bit to its variant: a match over the bits, or a call of the macro
+/// that makes a table. `enumset_sets` does not have this macro, so a module over that crate has the match in full.
 fn write_from_u32(out: &mut String, subject: &Subject) -> Written {
     let (alloc, facade, name) = (subject.alloc, subject.facade, subject.name);
     let (variants, plan) = (&subject.element.declaration.variants, &subject.element.plan);
@@ -172,7 +172,7 @@ fn write_from_u32(out: &mut String, subject: &Subject) -> Written {
     if count <= 32 {
         return out.push_str("            _ => unreachable!(),\n        }\n");
     }
-    // A proof takes in no more bits by itself.
+    // A proof by itself handles at most 32 bits.
     write!(
         out,
         "            _ => {{
@@ -183,8 +183,9 @@ fn write_from_u32(out: &mut String, subject: &Subject) -> Written {
     )
 }
 
-/// Writes the last arm of a match that is to make a table, as `variant_of!` does. The arm is never taken: a proof learns
-/// this for 64 bits at a time. It names a variant, so that the match can compile to a load from a table.
+/// Writes the last arm of a match that should compile to a table, as `variant_of!` does. The arm is never reached,
+/// which a proof learns for 64 bits at a time. It returns a variant, so that the match can compile to a load from a
+/// table.
 fn write_table_end(out: &mut String, subject: &Subject) -> Written {
     let variants = &subject.element.declaration.variants;
     let count = variants.len();
@@ -212,7 +213,7 @@ fn write_table_end(out: &mut String, subject: &Subject) -> Written {
     )
 }
 
-/// The bits of at most so many variants as an array in code has them, without those of the first.
+/// The bits of at most `count` variants after the first `skipped`, as the items of an array in code.
 fn bits_from(subject: &Subject, skipped: usize, count: usize) -> Text {
     let alloc = subject.alloc;
     let variants = subject.element.plan.variants.iter().skip(skipped);
@@ -223,7 +224,7 @@ fn bits_from(subject: &Subject, skipped: usize, count: usize) -> Text {
     String::from_str(alloc, bits.as_str().trim_end_matches(", "))
 }
 
-/// What keeps a set, as a module writes it.
+/// What a set is stored in, as text of a module.
 fn store_text(subject: &Subject) -> Written<StoreText> {
     let alloc = subject.alloc;
     let all = match &subject.element.plan.store {

@@ -1,11 +1,11 @@
-//! What a module imports.
+//! Writes the imports of a module.
 
 use super::{Text, facade_of};
 use crate::element::Element;
 use std::alloc::Global;
 use std::collections::BTreeSet;
 
-/// The lines of what a module imports: of `enumset`, and of the crates of its derives.
+/// The imports of a module, from `enumset` and from the crates of its derives.
 pub(super) fn imports_of(alloc: Global, elements: &[Element]) -> Text {
     let mut lines = String::new(alloc);
     let mut names: BTreeSet<&str> = BTreeSet::new(alloc);

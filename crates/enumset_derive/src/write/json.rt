@@ -1,4 +1,4 @@
-//! The calls that write the sets of an element type in JSON and read them.
+//! Writes `to_json` and `from_json` for the sets of an element type.
 
 use super::layout::guard_of;
 use super::{Subject, Written};
@@ -21,7 +21,7 @@ const WORDS: &str = "array of the set's words of 64 bits, the lowest first";
 
 const LIST: &str = "array of the names of the set's members, in ascending order of their bits";
 
-const MAP: &str = "object with the name of each of the set's members and `true`";
+const MAP: &str = "object that maps the name of each of the set's members to `true`";
 
 const NO_MEMORY: &str = ". The only fault is\n    /// [`set_json::JsonFault::OutOfMemory`].";
 
@@ -30,7 +30,7 @@ const TO_JSON: &str = "\n    pub fn to_json(
         set: &EnumSet<Self>,
     ) -> std::result::Result<serde_json::Value, set_json::JsonFault>";
 
-/// The width of the number that a set is in JSON, if it is one: at most 64, as no value in JSON has a number of 128 bits.
+/// The width of a set in JSON, if it is a number. It is at most 64, since JSON values do not have numbers of 128 bits.
 fn width_of(serialized: Serialized, plan: &Plan) -> Option<u32> {
     match serialized {
         Serialized::Bits(Representation::Integer(IntegerType::U128)) if plan.bit_width > 64 => None,
@@ -39,16 +39,16 @@ fn width_of(serialized: Serialized, plan: &Plan) -> Option<u32> {
     }
 }
 
-/// What a module says of the JSON of its sets.
+/// The form of sets in JSON, as text of a module.
 #[derive(Clone, Copy)]
 struct JsonForm {
-    /// By which the calls and definitions are named.
+    /// The part of the names of the functions and definitions.
     name: &'static str,
-    /// The lines of what the clauses cite.
+    /// The imports of the contracts.
     cited: &'static str,
-    /// After `Rattle.enumset.specs.`, the path of the definitions.
+    /// The path of the definitions after `Rattle.enumset.specs.`.
     definitions: &'static str,
-    /// What a set is, in the comment.
+    /// What a set is in JSON, for the doc comment.
     doc: &'static str,
     fault: &'static str,
 }
@@ -88,7 +88,7 @@ impl JsonForm {
     }
 }
 
-/// What is done with members that no variant has.
+/// What `from_json` does with members that no variant has.
 #[derive(Clone, Copy)]
 struct UnknownForm {
     variant: &'static str,
@@ -118,16 +118,16 @@ impl UnknownForm {
     }
 }
 
-/// What the clauses say of the value.
+/// The terms of the contracts for the value.
 #[derive(Drop)]
 struct JsonModel {
-    /// What the value has of a set, after a space.
+    /// The arguments of the value of a set, after white space.
     value: String,
-    /// The arguments by which `from_json` reads it.
+    /// The arguments with which `from_json` reads it.
     read_by: String,
 }
 
-/// What the clauses say of a value in a form of this name.
+/// The terms of the contracts for the form with this name.
 fn model_of(subject: &Subject, name: &str, width: Option<u32>) -> Written<JsonModel> {
     let (alloc, own) = (subject.alloc, subject.name);
     let count = match &subject.element.plan.store {
@@ -148,7 +148,7 @@ fn model_of(subject: &Subject, name: &str, width: Option<u32>) -> Written<JsonMo
     Ok(JsonModel { value, read_by })
 }
 
-/// Writes the calls. They name `Result` by its path, since the module may have another.
+/// Writes both functions. They name `Result` by its path, since the module may have a type with this name.
 pub(super) fn write_json(out: &mut String, subject: &Subject, serialized: Serialized) -> Written {
     let (own, guard) = (subject.name, guard_of(subject));
     let width = width_of(serialized, &subject.element.plan);
@@ -174,9 +174,9 @@ pub(super) fn write_json(out: &mut String, subject: &Subject, serialized: Serial
     match width {
         Some(width) => write!(
             out,
-            ", which JSON takes as a `u{width}`.
+            " as a `u{width}`.
     ///
-    /// The only fault is [`set_json::JsonFault::TooWide`], of a member that is past its bits. It takes no memory.{TO_JSON}
+    /// The only fault is [`set_json::JsonFault::TooWide`], if a member is past its bits. It does not allocate.{TO_JSON}
         ensures fits {{ IsOk result ↔ IsTrue (is_subset set.now (below {width})) }}"
         )?,
         None => write!(out, "{NO_MEMORY}{TO_JSON}")?,
@@ -193,9 +193,9 @@ pub(super) fn write_json(out: &mut String, subject: &Subject, serialized: Serial
     {{
         set_json::to_{name}(alloc, set{argument})
     }}\n
-    /// The set that `to_json` writes so. {unknown_doc}
+    /// The set that `to_json` writes as this value. {unknown_doc}
     ///
-    /// The faults are those of [`set_json::from_{name}`], in their order. It takes no memory.
+    /// The faults are those of [`set_json::from_{name}`], in the same order. It does not allocate.
     pub fn from_json(
         value: &serde_json::Value,
     ) -> std::result::Result<EnumSet<Self>, set_json::JsonFault>

@@ -1,13 +1,16 @@
-//! The layout of what `rt fmt` leaves as it is: lists in clauses, and what a macro is given. The rest is written plainly.
+//! Lays out what `rt fmt` leaves as it is: lists in contracts and the arguments of macros. The rest is not laid out
+//! here.
 
 use super::{Subject, Text, Written};
 use std::alloc::Global;
 use std::fmt::Display;
 
-/// The attribute of what is there for tests alone. In one piece it would have the toolchain look for tests here.
+/// The attribute of an item that exists only for tests. If it were one literal, the toolchain would look for tests
+/// here.
 const FOR_TESTS: &str = concat!("#", "[cfg(test)]\n");
 
-/// Items with spaces between them, in lines. So many bytes are left on the first line, and on each other after this text.
+/// Items with spaces between them, broken into lines. The first line has room for `first` bytes. Each other line begins
+/// with `start` and has room for `other` bytes.
 fn filled(alloc: Global, items: &[String], first: usize, start: &str, other: usize) -> Text {
     let mut out = String::new(alloc);
     let mut left = first;
@@ -26,7 +29,7 @@ fn filled(alloc: Global, items: &[String], first: usize, start: &str, other: usi
     Ok(out)
 }
 
-/// A list in a clause, of items each with these texts before and after it. So many bytes are left on its first line.
+/// A list in a contract, with these texts before and after each item. Its first line has room for `first` bytes.
 pub(super) fn list_of(
     alloc: Global,
     first: usize,
@@ -42,14 +45,14 @@ pub(super) fn list_of(
     filled(alloc, &parts, first, "\n        ", 92)
 }
 
-/// A list in a clause, of the names of the variants.
+/// The list of the names of the variants in a contract.
 pub(super) fn list_of_names(subject: &Subject, first: usize, before: &str, after: &str) -> Text {
     let variants = subject.element.declaration.variants.iter();
     let names: Vec<&str> = variants.map(|variant| variant.name).collect(subject.alloc)?;
     list_of(subject.alloc, first, &names, before, after)
 }
 
-/// Writes the body of a function that calls a macro with these items, on one line if it fits.
+/// Writes the body of a function that calls a macro with these items, on one line if they fit.
 pub(super) fn write_call(out: &mut String, alloc: Global, name: &str, items: &[String]) -> Written {
     let line = items.join(alloc, " ")?;
     if line.len() <= 90usize.saturating_sub(name.len()) {
@@ -59,13 +62,13 @@ pub(super) fn write_call(out: &mut String, alloc: Global, name: &str, items: &[S
     write!(out, "        {name}(\n            {lines}\n        )\n")
 }
 
-/// Writes the head of an implementation of a trait, after an empty line and the comment or attribute of its own.
+/// Writes the head of an implementation of a trait, after an empty line and its own comment or attribute.
 pub(super) fn write_head(out: &mut String, subject: &Subject, above: &str, form: &str) -> Written {
     let (name, guard) = (subject.name, guard_of(subject));
     write!(out, "\n\n{above}{guard}impl {form} for {name} {{\n")
 }
 
-/// The attribute of each implementation, if the enum is there for tests alone.
+/// The attribute of each implementation of an enum that exists only for tests.
 pub(super) fn guard_of(subject: &Subject) -> &'static str {
     match subject.element.declaration.is_for_tests {
         true => FOR_TESTS,

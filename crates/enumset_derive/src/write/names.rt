@@ -1,9 +1,9 @@
-//! The names of variants: in JSON, and by `Display`.
+//! Writes the names of variants, for JSON and for `Display`.
 
 use super::layout::{list_of, list_of_names, write_call, write_head};
 use super::{Subject, Written};
 
-/// Writes the names of the variants in JSON.
+/// Writes the implementation of `EnumSetNames`.
 pub(super) fn write_names(out: &mut String, subject: &Subject) -> Written {
     let (alloc, name, element) = (subject.alloc, subject.name, subject.element);
     let mut items = vec![in alloc; format!(in alloc; "{name}:")?]?;
@@ -35,7 +35,7 @@ pub(super) fn write_names(out: &mut String, subject: &Subject) -> Written {
     out.push_str("    }\n\n    ghost named = { tt };\n}")
 }
 
-/// Writes the `Display` by the names of the variants.
+/// Writes the implementation of `Display`.
 pub(super) fn write_display(out: &mut String, subject: &Subject) -> Written {
     let (name, crate_name, module) = (subject.name, subject.crate_name, subject.module);
     let variants = &subject.element.declaration.variants;

@@ -1,15 +1,15 @@
-//! The operators on elements.
+//! Writes the operators on elements.
 
 use super::layout::write_head;
 use super::{Subject, Written, library_of};
 
-/// An operator with two operands.
+/// A binary operator.
 #[derive(Clone, Copy)]
 struct Operator {
     trait_name: &'static str,
     function: &'static str,
     sign: &'static str,
-    /// Its name in the model.
+    /// The name of the operation on sets.
     operation: &'static str,
 }
 
@@ -40,12 +40,12 @@ const OPERATORS: [Operator; 4] = [
     },
 ];
 
-/// What stands for the second operand of an operator.
+/// The second operand of an operator, in each part of the code.
 #[derive(Clone, Copy)]
 struct Operand<'a> {
     /// In the comment.
     name: &'static str,
-    /// In the head of the implementation, in brackets after the trait.
+    /// In the head of the implementation, the argument of the trait.
     parameter: &'a str,
     /// As the type of the parameter.
     type_name: &'static str,
@@ -55,7 +55,7 @@ struct Operand<'a> {
     model: &'a str,
 }
 
-/// Writes the five operators. Those with two operands take an element or a set after the element.
+/// Writes the five operators. The right operand of a binary operator is an element or a set.
 pub(super) fn write_operators(out: &mut String, subject: &Subject) -> Written {
     let (alloc, name) = (subject.alloc, subject.name);
     let set = format!(in alloc; "<EnumSet<{name}>>")?;
@@ -63,14 +63,14 @@ pub(super) fn write_operators(out: &mut String, subject: &Subject) -> Written {
         "\n        (set.only (⟦<{name} as EnumSetType>⟧.elements.bit b))"
     )?;
     let element = Operand {
-        name: "that of the other",
+        name: "`{rhs}`",
         parameter: "",
         type_name: "Self",
         value: "EnumSet::only(rhs)",
         model: only.as_str(),
     };
     let set = Operand {
-        name: "the other",
+        name: "`rhs`",
         parameter: set.as_str(),
         type_name: "EnumSet<Self>",
         value: "rhs",
@@ -83,7 +83,7 @@ pub(super) fn write_operators(out: &mut String, subject: &Subject) -> Written {
     write_not(out, subject)
 }
 
-/// Writes an operator with two operands.
+/// Writes a binary operator.
 fn write_operator(
     out: &mut String,
     subject: &Subject,
@@ -93,10 +93,7 @@ fn write_operator(
     let (alloc, name, library) = (subject.alloc, subject.name, library_of(subject.facade));
     let operation = operator.operation;
     let doc = operation.replace(alloc, "_", " ")?;
-    let doc = format!(in alloc;
-        "/// The {doc} of the set of the one and {}.\n",
-        operand.name
-    )?;
+    let doc = format!(in alloc; "/// The {doc} of `{{self}}` and {}.\n", operand.name)?;
     let form = format!(in alloc; "std::ops::{}{}", operator.trait_name, operand.parameter)?;
     write_head(out, subject, doc.as_str(), form.as_str())?;
     write!(
@@ -125,7 +122,7 @@ fn write_not(out: &mut String, subject: &Subject) -> Written {
     write_head(
         out,
         subject,
-        "/// The set of all the others.\n",
+        "/// The set of all other elements.\n",
         "std::ops::Not",
     )?;
     write!(

@@ -4,7 +4,7 @@ use denote.Text.{Utf8}
 use Rattle.enumset_derive.specs.Sources.{written}
 use Rattle.enumset_derive.proofs.tokens.tokens_of.Given as goal
 
--- the tokens so far, and what is left, are the source
+-- the tokens so far and the rest of the text are the source
 abbrev pub invariant-loop : goal.invariant-loop
 invariant-loop l = record {
   whole : written l.tokens.items ++ l.rest ≡ l.source;

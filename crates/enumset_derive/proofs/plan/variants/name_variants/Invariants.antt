@@ -6,7 +6,7 @@ use Rattle.enumset_derive.specs.Numbers.{bit_limit}
 use Rattle.enumset_derive.specs.Variants.{named_from, bits_of}
 use Rattle.enumset_derive.specs.declared.plan.declaration.Number.TheVariants.{Small}
 
--- what is left goes on from the variants so far
+-- the remaining variants follow the variants so far
 abbrev pub invariant-loop-i : goal.invariant-loop-i
 invariant-loop-i l = record {
   same : named_from l.options (take l.i l.variants) l.named.items l.implied (drop l.i l.variants) ≡ named_from l.options [] [] (Some (Small 0)) l.variants;

@@ -2,7 +2,7 @@ use Rattle.std.proofs.Common.{take}
 use Rattle.enumset_derive.specs.Literals.{radix, number_in, IsReadOf}
 use Rattle.enumset_derive.proofs.read.literals.read_digits.Given as goal
 
--- what is known is right of the digits so far
+-- what is recorded agrees with the digits so far
 abbrev pub invariant-loop-i : goal.invariant-loop-i
 invariant-loop-i l = record {
   read : IsReadOf (number_in (radix l.base) (take l.i l.digits)) l.read;
