@@ -1,10 +1,19 @@
 -- Which words of a list differ from the results that replace them.
-use Rattle.std.proofs.Common.{◌≡◌, ◌<◌, ◌≤◌, ℕ, ◌+◌, List, length, take, drop, get_or, sym, ap, ◌∙◌, arith, ◌==◌, nat_eq, slice_index, refl, bit_or, bit_xor, take_all, drop_at, length-drop, length-take-le}
+use Rattle.std.proofs.Common.{◌≡◌, ◌<◌, ◌≤◌, ℕ, ◌+◌, List, [], ◌∷◌, true, length, take, drop, get_or, sym, ap, ◌∙◌, arith, ◌==◌, nat_eq, slice_index, refl, bit_or, bit_xor, take_all, drop_at, length-drop, length-take-le}
+use Rattle.std.proofs.lemmas.Bool.Decides.{nat_tests}
 use Rattle.std.proofs.lemmas.List.{drop_more}
 use Rattle.std.proofs.lemmas.Simd.{length-zip2, get_or-zip2}
 use Rattle.std.specs.Cmp.Lexicographic.{pointwise}
 use Rattle.std.specs.Simd.Lanes.{zip2, chunk}
-use Rattle.enumset_array.proofs.WordLanes.{PartMade, all_made, none_in, none_apart, chunk-zip2, joined_none, one_none}
+use Rattle.enumset_array.proofs.WordLanes.{PartMade, all_made, none_in, none_apart, chunk-zip2, joined_none, one_none, changed_lanes}
+
+same_words : (a b : List ℕ) → length a ≡ length b → pointwise nat_eq a b ≡ true → a ≡ b
+same_words [] [] e same = refl
+same_words (x ∷ a) (y ∷ b) e same =
+    let first : x ≡ y = grind (arith, nat_tests, same) in
+    let rest : pointwise nat_eq a b ≡ true = grind (arith, nat_tests, same) in
+    (λ i. first i ∷ same_words a b (omega (arith, e)) rest i)
+same_words a b e same = absurd (omega (arith, e))
 
 module _ (op : ℕ → ℕ → ℕ) (a b : List ℕ) where
   -- each word `^` the result for it, which is 0 only if they are equal
@@ -49,3 +58,10 @@ module _ (op : ℕ → ℕ → ℕ) (a b : List ℕ) where
     all_changed ws any i past part before =
         before ∙ ap none_in (take_all i changes (omega (arith, past, length-changes))) ∙ none_apart a (zip2 op a b) (sym (length-zip2 op a b e))
         ∙ ap (pointwise nat_eq a) (sym (all_made op a b ws i e past part))
+
+    -- the test that no word changes, and what follows from it
+    pub changes_none : none_in (zip2 (λ x y. bit_xor x (op x y)) a b) ≡ pointwise nat_eq a (zip2 op a b)
+    changes_none = ap none_in (sym (changed_lanes op a b)) ∙ none_apart a (zip2 op a b) (sym (length-zip2 op a b e))
+
+    pub none_changes : none_in (zip2 (λ x y. bit_xor x (op x y)) a b) ≡ true → a ≡ zip2 op a b
+    none_changes none = same_words a (zip2 op a b) (sym (length-zip2 op a b e)) (sym changes_none ∙ none)

@@ -2,7 +2,6 @@ pub mod WordLanes
 pub mod HighestApart
 pub mod Walks
 pub mod ChangedWords
-pub mod UnchangedWords
 pub mod Changes
 pub mod CombinedWords
 pub mod ReplacedWord

@@ -21,7 +21,7 @@ none_zipped : (op : ℕ → ℕ → ℕ) (a : List ℕ) → zip2 op a [] ≡ []
 none_zipped op [] = refl
 none_zipped op (x ∷ a) = refl
 
-pub take-zip2 : (op : ℕ → ℕ → ℕ) (n : ℕ) (a b : List ℕ) → take n (zip2 op a b) ≡ zip2 op (take n a) (take n b)
+take-zip2 : (op : ℕ → ℕ → ℕ) (n : ℕ) (a b : List ℕ) → take n (zip2 op a b) ≡ zip2 op (take n a) (take n b)
 take-zip2 op zero a b = refl
 take-zip2 op (suc n) [] b = refl
 take-zip2 op (suc n) (x ∷ a) [] = refl

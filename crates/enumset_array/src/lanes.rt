@@ -1,6 +1,6 @@
 //! Operations on lists of words, four words at a time.
 
-ghost use Rattle.std.specs.Prelude.{◌≡◌, ◌<◌, ◌≤◌, ◌==◌, drop, length, map, nat_eq, not, sum_by, take};
+ghost use Rattle.std.specs.Prelude.{◌≡◌, ◌<◌, ◌≤◌, ◌==◌, drop, length, map, nat_eq, not, sum_by};
 ghost use Rattle.std.specs.Cmp.Lexicographic.{pointwise};
 ghost use Rattle.std.specs.Int.{w64, bit_not};
 ghost use Rattle.std.specs.List.{list_all};
@@ -33,7 +33,8 @@ pub(crate) fn apply<O: SetOperation>(words: &mut [u64], others: &[u64])
 /// Replaces each word by the result for it and the other word in its place, and returns whether a word changed. The
 /// lists must have the same length.
 ///
-/// From sixteen words on nothing is written below the first words that change.
+/// From sixteen words on, the words are tested first, up to the first sixteen of which one changes: so nothing is
+/// written if none changes. For fewer words one loop is faster.
 pub(crate) fn apply_changes<O: SetOperation>(words: &mut [u64], others: &[u64]) -> bool
     requires { length words.old ≡ length others.now }
     ensures words { words.new ≡ zip2 O.of_words words.old others.now }
@@ -42,39 +43,11 @@ pub(crate) fn apply_changes<O: SetOperation>(words: &mut [u64], others: &[u64]) 
     if words.len() < 16 {
         return apply_and_compare::<O>(words, others);
     }
-    let from = unchanged_until::<O>(words, others);
-    if from == words.len() {
+    if yields_none::<Change<O>>(words, others) {
         return false;
     }
-    apply::<O>(&mut words[from..], &others[from..]);
+    apply::<O>(words, others);
     true
-}
-
-/// A place up to which the operation changes no word: the number of words exactly if it changes none. The lists must
-/// have the same length.
-///
-/// The first word is tested alone, and then sixteen words at a time, up to the first sixteen of which one changes.
-fn unchanged_until<O: SetOperation>(words: &[u64], others: &[u64]) -> usize
-    requires as_many { length words.now ≡ length others.now }
-    requires some { 0 < length words.now }
-    ensures within { result ≤ length words.now }
-    ensures same { take result (zip2 O.of_words words.now others.now) ≡ take result words.now }
-    ensures all { (result == length words.now) ≡ pointwise nat_eq words.now (zip2 O.of_words words.now others.now) }
-{
-    if Change::<O>::on_words(words[0], others[0]) != 0 {
-        return 0;
-    }
-    for k in 0..words.len() / 16 {
-        let i = 16 * k;
-        if any_of::<Change<O>>(&words[i..i + 16], &others[i..i + 16]) != 0 {
-            return i;
-        }
-    }
-    let i = words.len() / 16 * 16;
-    if any_of::<Change<O>>(&words[i..], &others[i..]) != 0 {
-        return i;
-    }
-    words.len()
 }
 
 /// Replaces each word by the result for it and the other word in its place, and returns whether a word changed. The
