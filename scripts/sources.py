@@ -26,7 +26,7 @@ class Item:
     is_public: bool
     doc: str
     attributes: list
-    # The text without sentences, attributes and body, as it stands in the file.
+    # The text without sentences, attributes and body, as it is in the file.
     head: str
     # The whole text, with its body.
     text: str
@@ -63,7 +63,7 @@ def balanced(text, start):
 
 
 def past(text, place, stops):
-    """The first place from here on where a stop stands outside of round and square brackets."""
+    """The first index from here on at which a stop is outside of round and square brackets."""
     while not re.match(stops, text[place:]):
         place = balanced(text, place) + 1 if text[place] in "([" else place + 1
     return place
