@@ -63,7 +63,7 @@ def balanced(text, start):
 
 
 def past(text, place, stops):
-    """The first place from here on where a stop stands outside of round and square brackets."""
+    """The first index from here on at which a stop is outside of round and square brackets."""
     while not re.match(stops, text[place:]):
         place = balanced(text, place) + 1 if text[place] in "([" else place + 1
     return place
