@@ -20,7 +20,7 @@ type Run = unsafe extern "C" fn(u32, bool, u64, usize, u64, u64, u64, u64) -> u6
 
 const FEW_ROUNDS: usize = 200;
 const MOST_ROUNDS: usize = 1 << 26;
-/// A loop is so many times longer than the making of its sets, unless it takes too long.
+/// A loop takes this many times as long as making its sets, unless that is too long.
 const SHARE: f64 = 8.0;
 const TOO_LONG: f64 = 200e6;
 
@@ -41,8 +41,8 @@ struct Cell {
 }
 
 impl Cell {
-    /// The nanoseconds of so many rounds, with the making of the sets, and the number that the loop returns. The
-    /// compiler knows none of the arguments.
+    /// The nanoseconds of this many rounds, with the time that making the sets takes, and the number that the loop
+    /// returns. The arguments are hidden from the compiler.
     fn time(&self, run: Run, rounds: usize) -> (f64, u64) {
         let [pool_and, pool_or, x_and, x_or] = black_box(self.masks);
         let (run, op, is_inlined) = black_box((run, self.op, self.is_inlined));
