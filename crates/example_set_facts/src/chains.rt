@@ -1,8 +1,9 @@
 //! Iterators and closures over sets.
 
-ghost use Rattle.std.specs.Prelude.{◌≡◌, ◌≤◌, ◌<◌, ◌∷◌, [], ℕ, not, true, IfSome, IfNone, count_by};
+ghost use Rattle.std.specs.Prelude.{◌≡◌, ◌≤◌, ◌<◌, ◌∷◌, [], ℕ, not, true, IfSome, IfNone, count_by, option_map};
 ghost use Rattle.std.specs.List.{list_all};
 ghost use Rattle.enumset.specs.Sets as set;
+ghost use Rattle.enumset.specs.Sets.{least};
 ghost use Rattle.example_set_facts.specs.Bits.{permission};
 
 use crate::permissions::Permission;
@@ -47,6 +48,13 @@ pub fn keep_present<T: EnumSetType>(members: &mut EnumSet<T>, other: &EnumSet<T>
     ensures { members.new ≡ set.intersection members.old other.now }
 {
     members.retain(|t| other.contains(t));
+}
+
+/// The first permission of a set, by a step of its iterator.
+pub fn first_granted(granted: EnumSet<Permission>) -> Option<Permission>
+    ensures { option_map permission result ≡ least granted }
+{
+    granted.iter().next()
 }
 
 /// The first element from a bit on.

@@ -1,6 +1,6 @@
 //! Changes between two versions of a configuration.
 
-ghost use Rattle.std.specs.Prelude.{◌≡◌, ◌↔◌, true, false, not, count_by, position, option_map};
+ghost use Rattle.std.specs.Prelude.{◌≡◌, ◌↔◌, true, false, not, fold, count_by, position, option_map};
 ghost use Rattle.std.specs.List.{list_all, list_any, find};
 ghost use Rattle.enumset.specs.Sets as set;
 ghost use Rattle.enumset.specs.Sets.{BitSet};
@@ -63,6 +63,15 @@ impl Change {
             added: self.removed,
             removed: self.added,
         }
+    }
+
+    /// Adds a feature, which the change then does not remove.
+    pub fn add(&mut self, new: Feature)
+        ensures added { self.new.added ≡ set.insert self.old.added (feature new) }
+        ensures removed { self.new.removed ≡ set.remove self.old.removed (feature new) }
+    {
+        self.added.insert(new);
+        self.removed.remove(new);
     }
 
     /// Whether a change leaves a version as it is.
@@ -136,6 +145,26 @@ pub fn is_added(changes: &[Change], wanted: Feature) -> bool
     ensures { result ≡ list_any (λ change. set.contains change.added (feature wanted)) changes.now }
 {
     changes.iter().any(|change| change.added.contains(wanted))
+}
+
+/// The features that many changes add, together.
+pub fn all_added(changes: &[Change]) -> EnumSet<Feature>
+    ensures { result ≡ fold (λ all change. set.union all change.added) set.empty changes.now }
+{
+    changes
+        .iter()
+        .fold(EnumSet::new(), |all, change| all | change.added)
+}
+
+/// The features that many changes add, united in a loop.
+pub fn added_in_turn(changes: &[Change]) -> EnumSet<Feature>
+    ensures { result ≡ fold (λ all change. set.union all change.added) set.empty changes.now }
+{
+    let mut all = EnumSet::new();
+    for change in changes {
+        all |= change.added;
+    }
+    all
 }
 
 /// Whether no change of many removes a feature.

@@ -1,8 +1,8 @@
 //! Bytes of messages, some bits of which are reserved for later versions.
 
-ghost use Rattle.std.specs.Prelude.{◌≡◌, ◌↔◌, true};
+ghost use Rattle.std.specs.Prelude.{◌≡◌, ◌↔◌, true, IsSome, IfSome};
 ghost use Rattle.enumset.specs.Sets as set;
-ghost use Rattle.enumset.specs.Sets.{bits, valid_bits};
+ghost use Rattle.enumset.specs.Sets.{bits, number, valid_bits};
 ghost use Rattle.example_set_facts.specs.Bits.{flag};
 
 use crate::flags::Flag;
@@ -25,6 +25,38 @@ pub fn marked(byte: u8, new: Flag) -> u8
     let mut flags = EnumSet::from_u8_truncated(byte);
     flags.insert(new);
     flags.as_u8()
+}
+
+/// The byte with flags cleared. Its other bits stay, also reserved ones.
+#[tactic(auto, using(enumset::specs::Sets::masks))]
+pub fn cleared(byte: u8, flags: EnumSet<Flag>) -> u8
+    ensures { bits result ≡ set.difference (bits byte) flags }
+{
+    byte & !flags.as_u8()
+}
+
+/// Whether a byte has none of the flags.
+#[tactic(auto, using(enumset::specs::Sets::masks))]
+pub fn has_none(byte: u8, flags: EnumSet<Flag>) -> bool
+    ensures { result ≡ set.is_disjoint (bits byte) flags }
+{
+    byte & flags.as_u8() == 0
+}
+
+/// The byte that flags are stored as.
+pub fn stored(flags: EnumSet<Flag>) -> u8
+    ensures { result ≡ number flags }
+{
+    flags.as_repr()
+}
+
+/// The flags of a stored byte, if it has no reserved bit.
+pub fn loaded(byte: u8) -> Option<EnumSet<Flag>>
+    ensures known { IsSome result
+        ↔ (set.is_subset (bits byte) (valid_bits ⟦<Flag as EnumSetType>⟧.elements) ≡ true) }
+    ensures same { IfSome result (λ flags. flags ≡ bits byte) }
+{
+    EnumSet::try_from_repr(byte)
 }
 
 /// What a peer reads of the flags that were sent: the same.

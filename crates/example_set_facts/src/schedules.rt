@@ -1,6 +1,6 @@
 //! Days on which somebody is free, and shifts that go round the end of a week.
 
-ghost use Rattle.std.specs.Prelude.{◌≡◌, ◌↔◌, ◌<◌, ◌≤◌, ◌+◌, ◌&&◌, ℕ, not, true, false, if◌then◌else◌, IfSome, IfNone, option_map};
+ghost use Rattle.std.specs.Prelude.{◌≡◌, ◌↔◌, ◌<◌, ◌≤◌, ◌+◌, ◌&&◌, ◌∷◌, [], ℕ, not, true, false, if◌then◌else◌, IfSome, IfNone, option_map};
 ghost use Rattle.enumset.specs.Sets as set;
 ghost use Rattle.enumset.specs.Sets.{least, valid_bits};
 ghost use Rattle.example_set_facts.specs.Bits.{day};
@@ -102,4 +102,18 @@ pub fn weekend() -> EnumSet<Weekday>
     ensures { result ≡ set.insert (set.only (day Weekday.Saturday)) (day Weekday.Sunday) }
 {
     enum_set!(Weekday::Saturday | Weekday::Sunday)
+}
+
+/// The days from Monday to Friday.
+pub fn working_week() -> EnumSet<Weekday>
+    ensures { result ≡ set.from_list (day Weekday.Monday ∷ day Weekday.Tuesday ∷ day Weekday.Wednesday
+        ∷ day Weekday.Thursday ∷ day Weekday.Friday ∷ []) }
+{
+    EnumSet::from([
+        Weekday::Monday,
+        Weekday::Tuesday,
+        Weekday::Wednesday,
+        Weekday::Thursday,
+        Weekday::Friday,
+    ])
 }
