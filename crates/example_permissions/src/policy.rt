@@ -60,7 +60,7 @@ impl User {
     }
 
     /// Denies the user a right, whatever the roles grant. Nothing new is allowed afterwards.
-    #[tactic(auto, using(enumset_repr::specs::Laws::Members::members))]
+    #[tactic(auto, using(enumset::specs::Sets::members))]
     pub fn deny(&mut self, right: Right)
         ensures denied { self.new
             ≡ record self.old { denied = set.insert self.old.denied (right_bit right) } }
