@@ -37,5 +37,5 @@ def new_crate(folder, name, line, elements):
     (folder / "crates.txt").write_text("\n".join([*lines, line]) + "\n", encoding="utf-8")
     sources = folder / "crates" / name / "src"
     sources.mkdir(parents=True, exist_ok=True)
-    run([TOP / "enumset_derive", name, "elements", "-o", sources / "elements.rt"], folder, elements)
+    run([TOP / "bin" / "enumset_derive", name, "elements", "-o", sources / "elements.rt"], folder, elements)
     return sources
