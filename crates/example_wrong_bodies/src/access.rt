@@ -29,3 +29,10 @@ pub fn first_refused(allowed: EnumSet<Permission>, asked: EnumSet<Permission>) -
 {
     (asked - allowed).first()
 }
+
+/// The permissions that are requested and not granted.
+pub fn missing(granted: EnumSet<Permission>, requested: EnumSet<Permission>) -> EnumSet<Permission>
+    ensures { result ≡ set.difference requested granted }
+{
+    requested - granted
+}
