@@ -7,10 +7,11 @@ use Rattle.std.proofs.lemmas.List.Folds.{list_any-append}
 use Rattle.enumset_repr.specs.BitSet.{is_in}
 use Rattle.enumset_repr.specs.Lawful.{one_past_all}
 use Rattle.enumset_repr.specs.Number.{is_distinct}
-use Rattle.enumset_derive.specs.Numbers.{next_number, same_number, and_then}
+use Rattle.enumset_tokens.specs.Numbers.{next_number}
+use Rattle.enumset_tokens.specs.declared.number.Number.{Number}
+use Rattle.enumset_derive.specs.Numbers.{same_number, and_then}
 use Rattle.enumset_derive.specs.Variants.{bits_of, has_taken, named_variant, named_from}
 use Rattle.enumset_derive.specs.declared.plan.NamedVariant.{NamedVariant}
-use Rattle.enumset_derive.specs.declared.plan.declaration.Number.{Number}
 use Rattle.enumset_derive.specs.declared.plan.declaration.Options.{Options}
 use Rattle.enumset_derive.specs.declared.plan.declaration.Variant.{Variant}
 

@@ -1,25 +1,23 @@
 -- Which bit a discriminant names.
 --     bit_end, module_end      one past the greatest bit in a set;  in a written module
 --     variant_limit      the greatest number of variants in an enum
---     width      the number of bits of an integer type
---     next_number, same_number      one more than a number, if `Number` has it;  whether two numbers are the same
+--     same_number      whether two numbers are the same
 --     and_then      the next step, unless there is a fault
 --     small_bit, bit_of_mask      the bit with this number;  the bit with this mask;  or why there is none
 --     bit_of      the bit of a variant, from the map, the width of the store, its place, counted from 0, and its
 --         discriminant; or why it has none
 --     bit_limit, json_limit      one past the greatest bit in a representation;  in a form of JSON
-use Rattle.std.specs.Prelude.{ℕ, ◌+◌, ◌-◌, ◌^◌, ◌==◌, Bool, false, nat_lt, nat_le, Option, Some, None, Result, Ok, Err, if◌then◌else◌}
+use Rattle.std.specs.Prelude.{ℕ, ◌-◌, ◌==◌, Bool, false, nat_lt, Option, Some, Result, Ok, Err, if◌then◌else◌}
 use Rattle.std.specs.Int.{is_power_of_two, trailing_zeros, w128}
-use Rattle.enumset_derive.specs.declared.plan.declaration.IntegerType.{IntegerType}
-use Rattle.enumset_derive.specs.declared.plan.declaration.IntegerType.TheVariants.{U8, U16, U32, U64, U128}
-use Rattle.enumset_derive.specs.declared.plan.declaration.Number.{Number}
-use Rattle.enumset_derive.specs.declared.plan.declaration.Number.TheVariants.{Small, PowerOfTwo, Negative}
-use Rattle.enumset_derive.specs.declared.plan.declaration.Map.{Map}
-use Rattle.enumset_derive.specs.declared.plan.declaration.Map.TheVariants.{Lsb, Msb, Mask, Compact}
-use Rattle.enumset_derive.specs.declared.plan.declaration.Representation.{Representation}
-use Rattle.enumset_derive.specs.declared.plan.declaration.Representation.TheVariants as representation
-use Rattle.enumset_derive.specs.declared.plan.declaration.Serialized.{Serialized}
-use Rattle.enumset_derive.specs.declared.plan.declaration.Serialized.TheVariants as serialized
+use Rattle.enumset_tokens.specs.Numbers.{width}
+use Rattle.enumset_tokens.specs.declared.number.Number.{Number}
+use Rattle.enumset_tokens.specs.declared.number.Number.TheVariants.{Small, PowerOfTwo, Negative}
+use Rattle.enumset_tokens.specs.declared.option_values.Map.{Map}
+use Rattle.enumset_tokens.specs.declared.option_values.Map.TheVariants.{Lsb, Msb, Mask, Compact}
+use Rattle.enumset_tokens.specs.declared.option_values.Representation.{Representation}
+use Rattle.enumset_tokens.specs.declared.option_values.Representation.TheVariants as representation
+use Rattle.enumset_tokens.specs.declared.option_values.Serialized.{Serialized}
+use Rattle.enumset_tokens.specs.declared.option_values.Serialized.TheVariants as serialized
 use Rattle.enumset_derive.specs.declared.fault.Reason.{Reason}
 use Rattle.enumset_derive.specs.declared.fault.Reason.TheVariants.{PastGreatest, PastRepresentation, NotAMask}
 
@@ -33,18 +31,6 @@ module_end = 65536
 
 abbrev pub variant_limit : ℕ
 variant_limit = 256
-
-abbrev pub width : IntegerType → ℕ
-width U8 = 8
-width U16 = 16
-width U32 = 32
-width U64 = 64
-width U128 = 128
-
-abbrev pub next_number : Number → Option Number
-next_number (Small n) = if nat_lt (n + 1) (2 ^ 128) then Some (Small (n + 1)) else Some (PowerOfTwo 128)
-next_number (PowerOfTwo e) = None
-next_number (Negative n) = if nat_le n 1 then Some (Small 0) else Some (Negative (n - 1))
 
 abbrev pub same_number : Number → Number → Bool
 same_number (Small m) (Small n) = m == n

@@ -9,12 +9,12 @@ use Rattle.std.specs.Int.{div_ceil}
 use denote.Enum.Enum.{Sum}
 use denote.Enum.Declared.{Declared, rowss}
 use Rattle.enumset_repr.specs.Lawful.{IsLawfulNumber, IsLawfulWords}
-use Rattle.enumset_derive.specs.Numbers.{width}
+use Rattle.enumset_tokens.specs.Numbers.{width}
+use Rattle.enumset_tokens.specs.declared.option_values.IntegerType.TheVariants.{U8, U16, U32, U64, U128}
+use Rattle.enumset_tokens.specs.declared.option_values.Representation.{Representation}
+use Rattle.enumset_tokens.specs.declared.option_values.Representation.TheVariants.{Integer, Words}
 use Rattle.enumset_derive.specs.Variants.{named_variants, bits_of}
 use Rattle.enumset_derive.specs.declared.plan.declaration.EnumDeclaration.{EnumDeclaration}
-use Rattle.enumset_derive.specs.declared.plan.declaration.IntegerType.TheVariants.{U8, U16, U32, U64, U128}
-use Rattle.enumset_derive.specs.declared.plan.declaration.Representation.{Representation}
-use Rattle.enumset_derive.specs.declared.plan.declaration.Representation.TheVariants.{Integer, Words}
 use Rattle.enumset_derive.specs.declared.plan.Plan.{Plan}
 use Rattle.enumset_derive.specs.declared.plan.Store.{Store}
 use Rattle.enumset_derive.specs.declared.plan.Store.TheVariants as store

@@ -14,17 +14,18 @@ use Rattle.std.specs.List.{find}
 use Rattle.std.specs.Option.{ok_or, option_or, option_map, option_map_or}
 use Rattle.std.specs.Result.{result_map_both}
 use Rattle.std.specs.Cmp.Lexicographic.{pointwise}
-use Rattle.enumset_derive.specs.Numbers.{module_end, variant_limit, next_number, same_number, and_then, bit_of, bit_limit, json_limit}
-use Rattle.enumset_derive.specs.declared.fault.Place.{Place}
-use Rattle.enumset_derive.specs.declared.plan.declaration.Number.{Number}
-use Rattle.enumset_derive.specs.declared.plan.declaration.Number.TheVariants.{Small}
+use Rattle.enumset_tokens.specs.Numbers.{next_number}
+use Rattle.enumset_tokens.specs.declared.place.Place.{Place}
+use Rattle.enumset_tokens.specs.declared.number.Number.{Number}
+use Rattle.enumset_tokens.specs.declared.number.Number.TheVariants.{Small}
+use Rattle.enumset_tokens.specs.declared.option_values.Map.{Map}
+use Rattle.enumset_tokens.specs.declared.option_values.Map.TheVariants.{Lsb, Msb}
+use Rattle.enumset_tokens.specs.declared.option_values.Representation.{Representation}
+use Rattle.enumset_tokens.specs.declared.option_values.Representation.TheVariants as representation
+use Rattle.enumset_derive.specs.Numbers.{module_end, variant_limit, same_number, and_then, bit_of, bit_limit, json_limit}
 use Rattle.enumset_derive.specs.declared.plan.declaration.Variant.{Variant}
 use Rattle.enumset_derive.specs.declared.plan.declaration.EnumDeclaration.{EnumDeclaration}
 use Rattle.enumset_derive.specs.declared.plan.declaration.Options.{Options}
-use Rattle.enumset_derive.specs.declared.plan.declaration.Map.{Map}
-use Rattle.enumset_derive.specs.declared.plan.declaration.Map.TheVariants.{Lsb, Msb}
-use Rattle.enumset_derive.specs.declared.plan.declaration.Representation.{Representation}
-use Rattle.enumset_derive.specs.declared.plan.declaration.Representation.TheVariants as representation
 use Rattle.enumset_derive.specs.declared.plan.NamedVariant.{NamedVariant}
 use Rattle.enumset_derive.specs.declared.fault.Fault.{Fault}
 use Rattle.enumset_derive.specs.declared.fault.DeriveError.{DeriveError}

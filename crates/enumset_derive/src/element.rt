@@ -1,9 +1,9 @@
 //! The element types of a source: its enums with their plans.
 
-use crate::fault::{Outcome, Reason};
-use crate::plan::{EnumDeclaration, NamedVariant, Number, Plan, Store, plan_enum};
+use crate::fault::{Outcome, Reason, TokenFaults};
+use crate::plan::{EnumDeclaration, NamedVariant, Plan, Store, plan_enum};
 use crate::report::{Note, Report};
-use crate::tokens::Token;
+use enumset_tokens::{Number, Token};
 use std::alloc::Global;
 use std::collections::{BTreeMap, BTreeSet};
 

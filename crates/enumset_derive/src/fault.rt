@@ -3,9 +3,13 @@
 ghost use Rattle.std.specs.Prelude.{◌≡◌};
 ghost use Rattle.enumset_derive.specs.Variants.{fault_at};
 
+mod token_faults;
+
+use enumset_tokens::{Place, TokenError};
 use std::alloc::{AllocError, AllocFailed};
 use std::error::Error;
 use std::fmt;
+pub use token_faults::TokenFaults;
 
 /// Why the program did not write the whole module. Its text is printed to standard error.
 #[derive(Debug, Drop)]
@@ -37,6 +41,15 @@ impl Error for DeriveError {}
 impl From<Fault> for DeriveError {
     fn from(fault: Fault) -> DeriveError {
         DeriveError::Fault(fault)
+    }
+}
+
+impl From<TokenError> for DeriveError {
+    fn from(error: TokenError) -> DeriveError {
+        match error {
+            TokenError::Fault(place, text) => DeriveError::Fault(Reason::Text(text).at(place)),
+            TokenError::OutOfMemory(error) => DeriveError::OutOfMemory(error),
+        }
     }
 }
 
@@ -176,33 +189,5 @@ impl Reason {
     {
         let reason = self;
         Fault { place, reason }
-    }
-}
-
-/// A place in a text: the line, and the column in that line, both counted from 1. A line feed ends a line. Each Unicode
-/// scalar value is one column, also a tab.
-#[derive(Clone, Copy, Debug)]
-pub struct Place {
-    pub line: u32,
-    pub column: u32,
-}
-
-impl fmt::Display for Place {
-    fn fmt<W: fmt::Write>(&self, f: &mut fmt::Formatter<W>) -> fmt::Result {
-        write!(f, "line {}, column {}", self.line, self.column)
-    }
-}
-
-impl Place {
-    /// The beginning of a text.
-    pub const BEGIN: Place = Place { line: 1, column: 1 };
-
-    /// The place after this character, which is at `self`.
-    pub fn after(self, character: char) -> Place {
-        let (line, column) = match character {
-            '\n' => (self.line.saturating_add(1), 1),
-            _ => (self.line, self.column.saturating_add(1)),
-        };
-        Place { line, column }
     }
 }

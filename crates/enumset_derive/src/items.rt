@@ -1,7 +1,7 @@
 //! The items of a source and the attributes before them. Items are found only by brackets and semicolons.
 
-use crate::fault::Outcome;
-use crate::tokens::{Kind, Token};
+use crate::fault::{Outcome, TokenFaults};
+use enumset_tokens::{Kind, Token};
 use std::alloc::{AllocError, Global};
 
 /// The keywords that can follow `const` in an item that is not a constant.

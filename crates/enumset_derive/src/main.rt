@@ -12,11 +12,11 @@ mod items;
 mod plan;
 mod read;
 mod report;
-mod tokens;
 mod write;
 
 use element::elements_of;
-use fault::{DeriveError, Outcome, Place, Reason};
+use enumset_tokens::{Place, tokens_of};
+use fault::{DeriveError, Outcome, Reason};
 use read::{Source, read_source};
 use std::alloc::{AllocError, Global};
 use std::env::{self, Env};
@@ -24,7 +24,6 @@ use std::fs;
 use std::io::{self, ErrorKind, Input, Print, Read, Write};
 use std::process::ExitCode;
 use std::rt::Files;
-use tokens::tokens_of;
 use write::{bits_text, module_text};
 
 const NOT_A_NAME: DeriveError = DeriveError::Arguments("an argument is not a valid name");

@@ -11,11 +11,9 @@ ghost use Rattle.enumset_derive.specs.Plans.{kind_of, IsPlanned, IsLawfulPlan, I
 mod declaration;
 mod variants;
 
-use crate::fault::{DeriveError, Place, Reason};
-pub use declaration::{
-    Derive, Discriminant, EnumDeclaration, IntegerType, Line, Map, Number, Options, Representation,
-    Serialized, Variant,
-};
+use crate::fault::{DeriveError, Reason};
+pub use declaration::{Derive, Discriminant, EnumDeclaration, Line, Options, Variant};
+use enumset_tokens::{IntegerType, Map, Number, Place, Representation};
 use std::alloc::{AllocError, Global};
 use variants::name_variants;
 

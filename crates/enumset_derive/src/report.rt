@@ -1,8 +1,8 @@
 //! The report on a source, which is printed to standard error.
 
-use crate::fault::{DeriveError, Fault, Outcome, Place};
+use crate::fault::{DeriveError, Fault, Outcome};
 use crate::items::Item;
-use crate::tokens::{Token, Written};
+use enumset_tokens::{Place, Token, Written};
 use std::alloc::Global;
 use std::fmt;
 

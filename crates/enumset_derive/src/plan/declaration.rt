@@ -1,10 +1,6 @@
 //! The input of the derive: the variants of an enum with their discriminants, and its options.
 
-ghost use Rattle.std.specs.Prelude.{◌≡◌};
-ghost use Rattle.enumset_derive.specs.Numbers.{next_number, width};
-
-use crate::fault::Place;
-use crate::tokens::Token;
+use enumset_tokens::{Map, Number, Place, Representation, Serialized, Token};
 
 /// An enum that is to become an element type, as it was read.
 #[derive(Drop)]
@@ -88,33 +84,6 @@ pub struct Discriminant<'a> {
     pub number: Number,
 }
 
-/// The number of a discriminant. Each number has one form: zero is `Small(0)`. A number above 2^128 - 1 names a bit
-/// only as its mask, so only powers of two are represented.
-#[derive(Clone, Copy, PartialEq, Eq)]
-pub enum Number {
-    /// A number from 0 to 2^128 - 1.
-    Small(u128),
-    /// Two to this power, which is at least 128.
-    PowerOfTwo(u32),
-    /// The negative of this number, which is at least 1.
-    Negative(u128),
-}
-
-impl Number {
-    /// One more than the number, or `None` if that is above 2^128.
-    pub fn next(self) -> Option<Number>
-        ensures { result ≡ next_number self }
-    {
-        match self {
-            Number::Small(u128::MAX) => Some(Number::PowerOfTwo(128)),
-            Number::Small(number) => Some(Number::Small(number + 1)),
-            Number::PowerOfTwo(_) => None,
-            Number::Negative(number) if number <= 1 => Some(Number::Small(0)),
-            Number::Negative(number) => Some(Number::Negative(number - 1)),
-        }
-    }
-}
-
 /// The options of an element type. The default has none.
 #[derive(Clone, Copy, Default)]
 pub struct Options<'a> {
@@ -145,57 +114,5 @@ impl<'a> Options<'a> {
     /// Whether sets in JSON consist of the names of their elements.
     pub fn are_named(&self) -> bool {
         matches!(self.serialized, Some(Serialized::List | Serialized::Map))
-    }
-}
-
-/// Which bit a discriminant names.
-#[derive(Clone, Copy)]
-pub enum Map {
-    /// The bit with its number, counted from the least significant bit.
-    Lsb,
-    /// The bit with its number, counted from the most significant bit of the representation.
-    Msb,
-    /// The bit whose mask it is.
-    Mask,
-    /// The variant's place in the declaration, whatever the discriminant.
-    Compact,
-}
-
-/// What a set is stored in.
-#[derive(Clone, Copy)]
-pub enum Representation {
-    /// One integer.
-    Integer(IntegerType),
-    /// Words of 64 bits: `array`.
-    Words,
-}
-
-/// What a set is in JSON.
-#[derive(Clone, Copy)]
-pub enum Serialized {
-    /// A number, or an array of words.
-    Bits(Representation),
-    /// A list of the elements' names: `list`.
-    List,
-    /// An object that maps the elements' names to whether they are members: `map`.
-    Map,
-}
-
-/// An unsigned integer type.
-#[derive(Clone, Copy)]
-pub enum IntegerType {
-    U8 = 8,
-    U16 = 16,
-    U32 = 32,
-    U64 = 64,
-    U128 = 128,
-}
-
-impl IntegerType {
-    /// The number of bits of the type.
-    pub fn width(self) -> u32
-        ensures { result ≡ width self }
-    {
-        self as u32
     }
 }

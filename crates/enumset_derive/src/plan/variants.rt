@@ -6,12 +6,13 @@ ghost use Rattle.std.specs.Option.{option_map};
 ghost use Rattle.enumset_repr.specs.BitSet.{is_in};
 ghost use Rattle.enumset_repr.specs.Number.{is_distinct};
 ghost use Rattle.enumset_repr.specs.Lawful.{one_past_all};
-ghost use Rattle.enumset_derive.specs.declared.plan.declaration.Number.TheVariants.{Small};
+ghost use Rattle.enumset_tokens.specs.declared.number.Number.TheVariants.{Small};
 ghost use Rattle.enumset_derive.specs.Numbers.{variant_limit, bit_of, bit_limit, json_limit};
 ghost use Rattle.enumset_derive.specs.Variants.{has_name, has_taken, bit_among, named_variant, named_from, bits_of, IsErrorOf};
 
-use crate::fault::{DeriveError, Fault, Place, Reason};
-use crate::plan::{Map, NamedVariant, Number, Options, Representation, Serialized, Variant};
+use crate::fault::{DeriveError, Fault, Reason};
+use crate::plan::{NamedVariant, Options, Variant};
+use enumset_tokens::{Map, Number, Place, Representation, Serialized};
 use std::alloc::{AllocError, Global};
 
 /// The greatest number of variants that an enum may have.

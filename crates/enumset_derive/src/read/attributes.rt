@@ -1,8 +1,8 @@
 //! Tells which attributes of an enum and its variants have a meaning in Rattle.
 
-use crate::fault::Fault;
+use crate::fault::{Fault, TokenFaults};
 use crate::items::Attribute;
-use crate::tokens::Kind;
+use enumset_tokens::Kind;
 
 const CONFIGURATION: &str =
     "the only `cfg` that an enum may have is `cfg(test)`: remove the attribute or the enum";

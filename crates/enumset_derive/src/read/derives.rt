@@ -1,10 +1,10 @@
 //! Reads the derives of an enum.
 
 use super::imports::Imports;
-use crate::fault::{Fault, Outcome};
+use crate::fault::{Fault, Outcome, TokenFaults};
 use crate::items::Attribute;
 use crate::plan::Derive;
-use crate::tokens::Token;
+use enumset_tokens::Token;
 use std::alloc::Global;
 
 const DERIVE_ALONE: &str = "`cfg_attr` is not supported: write `#[derive(EnumSetType)]` without it";

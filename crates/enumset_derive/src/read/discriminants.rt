@@ -1,12 +1,11 @@
 //! Reads discriminants.
 
 ghost use Rattle.std.specs.Prelude.{◌≡◌, ◌^◌, pos, neg_ℤ, IfOk};
-ghost use Rattle.enumset_derive.specs.Literals.{value_of};
+ghost use Rattle.enumset_tokens.specs.Literals.{value_of};
 
-use super::literals::{NOT_A_NUMBER, number_of, without_type};
-use crate::fault::Fault;
-use crate::plan::{Discriminant, Number};
-use crate::tokens::Token;
+use crate::fault::{Fault, TokenFaults};
+use crate::plan::Discriminant;
+use enumset_tokens::{NOT_A_NUMBER, Number, Token, number_of, without_type};
 
 const NOT_A_MASK: &str = "a mask must be a literal or `1 << n`: write the number itself";
 

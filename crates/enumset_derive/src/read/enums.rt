@@ -6,11 +6,11 @@ use super::json_names::{Given, OWN_STYLE, json_names};
 use super::lines::{push_comments, read_lines};
 use super::options::read_option;
 use super::variants::{read_variants, test_name};
-use crate::fault::{Fault, Found, Outcome, Place, Reason};
+use crate::fault::{Fault, Found, Outcome, Reason, TokenFaults};
 use crate::items::{Attribute, Item};
 use crate::plan::{EnumDeclaration, Options};
 use crate::report::Note;
-use crate::tokens::Token;
+use enumset_tokens::{Place, Token};
 use std::alloc::Global;
 use std::collections::BTreeMap;
 

@@ -2,7 +2,7 @@
 
 use crate::fault::Outcome;
 use crate::items::Items;
-use crate::tokens::Token;
+use enumset_tokens::Token;
 use std::alloc::Global;
 use std::collections::BTreeMap;
 

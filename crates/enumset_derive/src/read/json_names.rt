@@ -1,9 +1,9 @@
 //! Reads the names of variants in JSON from attributes of `serde`.
 
 use super::options::value_of;
-use crate::fault::{Fault, Outcome, Place, Reason};
+use crate::fault::{Fault, Outcome, Reason, TokenFaults};
 use crate::plan::Variant;
-use crate::tokens::Token;
+use enumset_tokens::{Place, Token};
 use std::alloc::{AllocError, Global};
 use std::collections::BTreeMap;
 

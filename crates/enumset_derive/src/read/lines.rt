@@ -4,11 +4,11 @@ use super::Reader;
 use super::attributes::has_meaning;
 use super::enums::EnumState;
 use super::json_names::given_name;
-use crate::fault::{Outcome, Place};
+use crate::fault::{Outcome, TokenFaults};
 use crate::items::Attribute;
 use crate::plan::Line;
 use crate::report::Note;
-use crate::tokens::Token;
+use enumset_tokens::{Place, Token};
 use std::alloc::{AllocError, Global};
 
 const SERDE_ALONE: &str = "`cfg_attr` is not supported: write `#[serde(..)]` without it";

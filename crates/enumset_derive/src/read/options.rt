@@ -1,11 +1,8 @@
 //! Reads the options of an enum from `#[enumset(..)]`.
 
-ghost use Rattle.std.specs.Prelude.{◌≡◌, IfSome};
-ghost use Rattle.enumset_derive.specs.Sources.{map_name, representation_name, serialized_name};
-
-use crate::fault::{Fault, Reason};
-use crate::plan::{IntegerType, Map, Options, Representation, Serialized};
-use crate::tokens::Token;
+use crate::fault::{Fault, Reason, TokenFaults};
+use crate::plan::Options;
+use enumset_tokens::{Token, map_of, representation_of, serialized_of};
 
 const WRONG_MAP: &str = "`map` must be \"lsb\", \"msb\", \"mask\" or \"compact\"";
 
@@ -106,45 +103,6 @@ fn boolean_of(rest: &[Token]) -> Result<bool, Fault> {
             _ => Err(value.unexpected("`true` or `false`")),
         },
         _ => Ok(true),
-    }
-}
-
-/// The map with this name.
-fn map_of(name: &str) -> Option<Map>
-    ensures { IfSome result (λ read. map_name read ≡ name.now) }
-{
-    match name {
-        "lsb" => Some(Map::Lsb),
-        "msb" => Some(Map::Msb),
-        "mask" => Some(Map::Mask),
-        "compact" => Some(Map::Compact),
-        _ => None,
-    }
-}
-
-/// The representation with this name.
-fn representation_of(name: &str) -> Option<Representation>
-    ensures { IfSome result (λ read. representation_name read ≡ name.now) }
-{
-    match name {
-        "u8" => Some(Representation::Integer(IntegerType::U8)),
-        "u16" => Some(Representation::Integer(IntegerType::U16)),
-        "u32" => Some(Representation::Integer(IntegerType::U32)),
-        "u64" => Some(Representation::Integer(IntegerType::U64)),
-        "u128" => Some(Representation::Integer(IntegerType::U128)),
-        "array" => Some(Representation::Words),
-        _ => None,
-    }
-}
-
-/// The form of sets in JSON with this name.
-fn serialized_of(name: &str) -> Option<Serialized>
-    ensures { IfSome result (λ read. serialized_name read ≡ name.now) }
-{
-    match name {
-        "list" => Some(Serialized::List),
-        "map" => Some(Serialized::Map),
-        _ => representation_of(name).map(Serialized::Bits),
     }
 }
 

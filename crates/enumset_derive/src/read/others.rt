@@ -4,7 +4,7 @@ use super::imports::Imports;
 use crate::fault::Outcome;
 use crate::items::Item;
 use crate::report::{Note, Report};
-use crate::tokens::Token;
+use enumset_tokens::Token;
 
 /// Notes that an item is left out, and the element types inside it. Imports are not noted, as they are read, nor are
 /// empty items.

@@ -4,10 +4,10 @@ use super::Reader;
 use super::discriminants::read_discriminant;
 use super::enums::EnumState;
 use super::lines::read_lines;
-use crate::fault::{Fault, Found, Outcome, Place, Reason};
+use crate::fault::{Fault, Found, Outcome, Reason, TokenFaults};
 use crate::items::Attribute;
-use crate::plan::{Map, Options, Variant};
-use crate::tokens::{Kind, Token};
+use crate::plan::{Options, Variant};
+use enumset_tokens::{Kind, Map, Place, Token};
 use std::alloc::Global;
 use std::mem;
 

@@ -2,8 +2,8 @@
 
 use super::Written;
 use crate::element::Element;
-use crate::plan::{Discriminant, EnumDeclaration, Line, Number, Variant};
-use crate::tokens;
+use crate::plan::{Discriminant, EnumDeclaration, Line, Variant};
+use enumset_tokens::{Number, tokens};
 use std::alloc::Global;
 
 /// The comment on an enum that lost its discriminants.

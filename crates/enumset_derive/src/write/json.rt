@@ -2,7 +2,8 @@
 
 use super::layout::guard_of;
 use super::{Subject, Written};
-use crate::plan::{IntegerType, Options, Plan, Representation, Serialized, Store};
+use crate::plan::{Options, Plan, Store};
+use enumset_tokens::{IntegerType, Representation, Serialized};
 use std::alloc::Global;
 
 const OF_NUMBERS: &str =

@@ -1,6 +1,7 @@
 use Rattle.std.proofs.Common.{rules, ◌≡◌, ◌+◌, ◌<◌, [], ◌∷◌, ◌++◌, length, take, Ok, sym, ◌∙◌, arith, get_or, length-append}
 use Rattle.std.proofs.lemmas.List.{take_more}
-use Rattle.enumset_derive.specs.Numbers.{next_number, bit_limit}
+use Rattle.enumset_tokens.specs.Numbers.{next_number}
+use Rattle.enumset_derive.specs.Numbers.{bit_limit}
 use Rattle.enumset_derive.specs.Variants.{named_variant}
 use Rattle.enumset_derive.proofs.Named.{named_from-drop, bits_of-append, below-append}
 use Rattle.enumset_derive.proofs.plan.variants.name_variants.Goals as goal

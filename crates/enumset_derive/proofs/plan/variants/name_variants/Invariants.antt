@@ -1,10 +1,10 @@
 use Rattle.std.proofs.Common.{◌≡◌, ◌≤◌, take, drop, length, Some, [], IsTrue}
 use Rattle.enumset_repr.specs.Lawful.{one_past_all}
 use Rattle.enumset_repr.specs.Number.{is_distinct}
+use Rattle.enumset_tokens.specs.declared.number.Number.TheVariants.{Small}
 use Rattle.enumset_derive.proofs.plan.variants.name_variants.Given as goal
 use Rattle.enumset_derive.specs.Numbers.{bit_limit}
 use Rattle.enumset_derive.specs.Variants.{named_from, bits_of}
-use Rattle.enumset_derive.specs.declared.plan.declaration.Number.TheVariants.{Small}
 
 -- the remaining variants follow the variants so far
 abbrev pub invariant-loop-i : goal.invariant-loop-i

@@ -1,8 +1,8 @@
 use Rattle.std.proofs.Common.{◌≡◌, ◌++◌}
 use denote.Shadow.{shadow}
 use denote.Text.{Utf8}
-use Rattle.enumset_derive.specs.Sources.{written}
-use Rattle.enumset_derive.proofs.tokens.tokens_of.Given as goal
+use Rattle.enumset_tokens.specs.Sources.{written}
+use Rattle.enumset_tokens.proofs.tokens.tokens_of.Given as goal
 
 -- the tokens so far and the rest of the text are the source
 abbrev pub invariant-loop : goal.invariant-loop

@@ -1,7 +1,7 @@
 use Rattle.std.proofs.Common.{rules, arith, ◌≡◌, ◌++◌, [], ap, sym, ◌∙◌, append-nil}
-use Rattle.enumset_derive.specs.Sources.{written}
-use Rattle.enumset_derive.proofs.Sources.{none_left, written_append}
-use Rattle.enumset_derive.proofs.tokens.tokens_of.Goals as goal
+use Rattle.enumset_tokens.specs.Sources.{written}
+use Rattle.enumset_tokens.proofs.Sources.{none_left, written_append}
+use Rattle.enumset_tokens.proofs.tokens.tokens_of.Goals as goal
 
 pub returns-then-is_empty : goal.returns-then-is_empty
 returns-then-is_empty c =

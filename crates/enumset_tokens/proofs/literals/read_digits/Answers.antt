@@ -1,7 +1,7 @@
 use Rattle.std.proofs.Common.{rules, sym, subst}
-use Rattle.enumset_derive.specs.Literals.{radix, IsReadOf}
-use Rattle.enumset_derive.proofs.Digits.{one_more}
-use Rattle.enumset_derive.proofs.read.literals.read_digits.Goals as goal
+use Rattle.enumset_tokens.specs.Literals.{radix, IsReadOf}
+use Rattle.enumset_tokens.proofs.Digits.{one_more}
+use Rattle.enumset_tokens.proofs.literals.read_digits.Goals as goal
 
 pub loop-i-preserved : goal.loop-i-preserved
 loop-i-preserved c = record {

@@ -1,7 +1,7 @@
 -- Tokens, one token at a time.
 use Rattle.std.proofs.Common.{◌≡◌, ℕ, List, [], ◌∷◌, ◌++◌, length, refl, ap, sym, ◌∙◌, append_assoc, arith}
-use Rattle.enumset_derive.specs.Sources.{written}
-use Rattle.enumset_derive.specs.declared.tokens.Token.{Token}
+use Rattle.enumset_tokens.specs.Sources.{written}
+use Rattle.enumset_tokens.specs.declared.tokens.Token.{Token}
 
 pub none_left : (bytes : List ℕ) → length bytes ≡ 0 → bytes ≡ []
 none_left [] none = refl

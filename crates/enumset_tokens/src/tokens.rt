@@ -1,11 +1,12 @@
 //! The tokens of a source, each with the depth of its brackets.
 
 ghost use Rattle.std.specs.Prelude.{◌≡◌, ◌++◌, IfOk};
-ghost use Rattle.enumset_derive.specs.Sources.{written};
+ghost use Rattle.enumset_tokens.specs.Sources.{written};
 
 mod scan;
 
-use crate::fault::{Fault, Found, Outcome, Place, Reason};
+use crate::place::Place;
+use crate::token_error::TokenError;
 use scan::scan;
 use std::alloc::Global;
 use std::fmt;
@@ -87,36 +88,6 @@ impl<'a> Token<'a> {
         let text = text.trim_start_matches('#').trim_end_matches('#');
         text.strip_prefix('"')?.strip_suffix('"')
     }
-
-    /// The fault with this text at the token.
-    pub fn fault(&self, text: &'static str) -> Fault {
-        Reason::Text(text).at(self.place)
-    }
-
-    /// The fault that the token is not what is expected.
-    pub fn unexpected(&self, expected: &'static str) -> Fault {
-        let found = match self.kind {
-            Kind::Comment | Kind::OuterDoc | Kind::InnerDoc => Found::Comment,
-            Kind::Ident => Found::Identifier,
-            Kind::Literal => Found::Literal,
-            Kind::Lifetime => Found::Lifetime,
-            Kind::Punct => self
-                .text
-                .chars()
-                .next()
-                .map_or(Found::End, Found::Punctuation),
-            Kind::End => Found::End,
-        };
-        Reason::Expected(expected, found).at(self.place)
-    }
-
-    /// The fault that the token is not what is expected, unless `is_here` says that it is.
-    pub fn expect(&self, is_here: bool, expected: &'static str) -> Result<(), Fault> {
-        match is_here {
-            true => Ok(()),
-            false => Err(self.unexpected(expected)),
-        }
-    }
 }
 
 /// Tokens as they are in the source, without the space before the first.
@@ -139,12 +110,12 @@ const TOO_LONG: &str = "a source may have at most 4294967294 bytes";
 
 /// The tokens of a source, with its end as the last. Together they are the whole source.
 #[tactic(auto, using(crate::proofs::Sources::written_append))]
-pub fn tokens_of(alloc: Global, source: &str) -> Outcome<Vec<Token<'_>>>
+pub fn tokens_of(alloc: Global, source: &str) -> Result<Vec<Token<'_>>, TokenError>
     ensures { IfOk result (λ tokens. written tokens.items ≡ source.now) }
 {
-    let too_long = Reason::Text(TOO_LONG).at(Place::BEGIN);
+    let too_long = TokenError::Fault(Place::BEGIN, TOO_LONG);
     if source.len() >= u32::MAX as usize {
-        return Err(too_long.into());
+        return Err(too_long);
     }
     // Each token has at least one byte, so this capacity is enough, and the vector does not grow.
     let mut tokens = Vec::with_capacity(alloc, source.len() + 1)?;
@@ -161,17 +132,17 @@ pub fn tokens_of(alloc: Global, source: &str) -> Outcome<Vec<Token<'_>>>
             return Ok(tokens);
         }
     }
-    Err(too_long.into())
+    Err(too_long)
 }
 
 /// The first token of a text, and the text after it. The text begins at this place.
-fn first_token(text: &str, begin: Place) -> Result<(Token<'_>, &str), Fault>
+fn first_token(text: &str, begin: Place) -> Result<(Token<'_>, &str), TokenError>
     ensures { IfOk result (λ first. first.0.space.now ++ (first.0.text.now ++ first.1.now) ≡ text.now) }
 {
     let onward = text.trim_start_matches(is_space);
     let (space, onward) = split(text, text.len().saturating_sub(onward.len()));
     let place = space.chars().fold(begin, Place::after);
-    let (kind, after) = scan(onward).map_err(|text| Reason::Text(text).at(place))?;
+    let (kind, after) = scan(onward).map_err(|text| TokenError::Fault(place, text))?;
     let (text, after) = split(onward, onward.len().saturating_sub(after.len()));
     let token = Token {
         kind,
@@ -200,22 +171,20 @@ fn is_space(character: char) -> bool {
 
 /// Opens or closes a bracket, if the token is one, and returns the depth of the token. `open` has the place of each
 /// open bracket and the character that closes it. It is a fault if a bracket does not match, or is open at the end.
-fn take_bracket(open: &mut Vec<(char, Place)>, token: &Token) -> Outcome<u32> {
-    let unclosed = |begin: Place| Reason::Text("this bracket is not closed").at(begin);
+fn take_bracket(open: &mut Vec<(char, Place)>, token: &Token) -> Result<u32, TokenError> {
+    let unclosed = |begin: Place| TokenError::Fault(begin, "this bracket is not closed");
     let place = token.place;
     match (token.kind, token.text) {
         (Kind::Punct, "(") => open.push((')', place))?,
         (Kind::Punct, "[") => open.push((']', place))?,
         (Kind::Punct, "{") => open.push(('}', place))?,
         (Kind::Punct, ")" | "]" | "}") => match open.pop() {
-            Some((end, begin)) if !token.text.starts_with(end) => return Err(unclosed(
-                begin,
-            ).into()),
+            Some((end, begin)) if !token.text.starts_with(end) => return Err(unclosed(begin)),
             Some(_) => {}
-            None => return Err(token.fault("this bracket was not opened").into()),
+            None => return Err(TokenError::Fault(place, "this bracket was not opened")),
         },
         (Kind::End, _) => match open.first() {
-            Some((_, begin)) => return Err(unclosed(*begin).into()),
+            Some((_, begin)) => return Err(unclosed(*begin)),
             None => {}
         },
         _ => {}

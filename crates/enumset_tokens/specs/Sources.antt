@@ -3,14 +3,14 @@
 --     map_name, representation_name, serialized_name      the value of the option for a map;  for a representation;  for
 --         a form of JSON
 use Rattle.std.specs.Prelude.{ℕ, List, [], ◌∷◌, ◌++◌, codes}
-use Rattle.enumset_derive.specs.declared.tokens.Token.{Token}
-use Rattle.enumset_derive.specs.declared.plan.declaration.IntegerType.TheVariants.{U8, U16, U32, U64, U128}
-use Rattle.enumset_derive.specs.declared.plan.declaration.Map.{Map}
-use Rattle.enumset_derive.specs.declared.plan.declaration.Map.TheVariants.{Lsb, Msb, Mask, Compact}
-use Rattle.enumset_derive.specs.declared.plan.declaration.Representation.{Representation}
-use Rattle.enumset_derive.specs.declared.plan.declaration.Representation.TheVariants.{Integer, Words}
-use Rattle.enumset_derive.specs.declared.plan.declaration.Serialized.{Serialized}
-use Rattle.enumset_derive.specs.declared.plan.declaration.Serialized.TheVariants as serialized
+use Rattle.enumset_tokens.specs.declared.tokens.Token.{Token}
+use Rattle.enumset_tokens.specs.declared.option_values.IntegerType.TheVariants.{U8, U16, U32, U64, U128}
+use Rattle.enumset_tokens.specs.declared.option_values.Map.{Map}
+use Rattle.enumset_tokens.specs.declared.option_values.Map.TheVariants.{Lsb, Msb, Mask, Compact}
+use Rattle.enumset_tokens.specs.declared.option_values.Representation.{Representation}
+use Rattle.enumset_tokens.specs.declared.option_values.Representation.TheVariants.{Integer, Words}
+use Rattle.enumset_tokens.specs.declared.option_values.Serialized.{Serialized}
+use Rattle.enumset_tokens.specs.declared.option_values.Serialized.TheVariants as serialized
 
 abbrev pub written : List Token → List ℕ
 written [] = []

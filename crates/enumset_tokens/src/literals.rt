@@ -1,11 +1,11 @@
 //! Reads the numbers of literals.
 
 ghost use Rattle.std.specs.Prelude.{◌≡◌, ◌*◌, ◌+◌, ◌^◌, ℕ, pos, IfOk, IfSome};
-ghost use Rattle.enumset_derive.specs.Literals.{radix, with_digit, number_in, number_written, value_of, IsReadOf};
+ghost use Rattle.enumset_tokens.specs.Literals.{radix, with_digit, number_in, number_written, value_of, IsReadOf};
 
-use crate::plan::Number;
+use crate::number::Number;
 
-pub(super) const NOT_A_NUMBER: &str = "a discriminant must be a literal: write the number itself";
+pub const NOT_A_NUMBER: &str = "a discriminant must be a literal: write the number itself";
 
 const TOO_LARGE: &str = "a literal above 2^128 - 1 must be a power of two, and not decimal";
 
@@ -97,14 +97,14 @@ impl Base {
 }
 
 /// A literal without its type suffix.
-pub(super) fn without_type(literal: &str) -> &str {
+pub fn without_type(literal: &str) -> &str {
     let typed = TYPES.iter().find_map(|name| literal.strip_suffix(name));
     typed.unwrap_or(literal).trim_end_matches('_')
 }
 
 /// The number of a literal without a type suffix. If it does not fit in 128 bits, it must be a power of two, at most
 /// 2^(2^32 - 1).
-pub(super) fn number_of(written: &str) -> Result<Number, &'static str>
+pub fn number_of(written: &str) -> Result<Number, &'static str>
     ensures { IfOk result (λ number. value_of number ≡ pos (number_written written.now)) }
 {
     match written.as_bytes() {

@@ -2,7 +2,7 @@
 use Rattle.std.proofs.Common.{◌≡◌, ◌<◌, ◌+◌, ◌*◌, ◌^◌, ℕ, List, [], ◌∷◌, ◌++◌, length, take, get_or, refl, ap, sym, ◌∙◌}
 use Rattle.std.proofs.lemmas.List.{take_more}
 use Rattle.std.proofs.lemmas.Nat.{pow-add}
-use Rattle.enumset_derive.specs.Literals.{with_digit, digits_after, number_in}
+use Rattle.enumset_tokens.specs.Literals.{with_digit, digits_after, number_in}
 
 appended : (r n : ℕ) (bytes : List ℕ) (byte : ℕ) → digits_after r n (bytes ++ byte ∷ []) ≡ with_digit r (digits_after r n bytes) byte
 appended r n [] byte = refl

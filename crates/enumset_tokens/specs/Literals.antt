@@ -7,11 +7,11 @@
 --     IsReadOf      what `Digits` records agrees with a number
 use Rattle.std.specs.Prelude.{◌≡◌, ℕ, ◌+◌, ◌*◌, ◌^◌, ◌==◌, ◌&&◌, ℤ, pos, neg_ℤ, List, [], ◌∷◌, IfSome, if◌then◌else◌}
 use Rattle.std.specs.Char.{digit_value}
-use Rattle.enumset_derive.specs.declared.plan.declaration.Number.{Number}
-use Rattle.enumset_derive.specs.declared.plan.declaration.Number.TheVariants.{Small, PowerOfTwo, Negative}
-use Rattle.enumset_derive.specs.declared.read.literals.Base.{Base}
-use Rattle.enumset_derive.specs.declared.read.literals.Base.TheVariants.{Binary, Octal, Decimal, Hexadecimal}
-use Rattle.enumset_derive.specs.declared.read.literals.Digits.{Digits}
+use Rattle.enumset_tokens.specs.declared.number.Number.{Number}
+use Rattle.enumset_tokens.specs.declared.number.Number.TheVariants.{Small, PowerOfTwo, Negative}
+use Rattle.enumset_tokens.specs.declared.literals.Base.{Base}
+use Rattle.enumset_tokens.specs.declared.literals.Base.TheVariants.{Binary, Octal, Decimal, Hexadecimal}
+use Rattle.enumset_tokens.specs.declared.literals.Digits.{Digits}
 
 abbrev pub radix : Base → ℕ
 radix Binary = 2

@@ -1,0 +1,24 @@
+//! Why a text has no tokens.
+
+use crate::place::Place;
+use std::alloc::{AllocError, AllocFailed};
+
+/// Why a text has no tokens.
+#[derive(Clone, Copy, Debug)]
+pub enum TokenError {
+    /// The text has a fault at this place, which the string states.
+    Fault(Place, &'static str),
+    OutOfMemory(AllocError),
+}
+
+impl From<AllocError> for TokenError {
+    fn from(error: AllocError) -> TokenError {
+        TokenError::OutOfMemory(error)
+    }
+}
+
+impl<T: Drop> From<AllocFailed<T>> for TokenError {
+    fn from(_failed: AllocFailed<T>) -> TokenError {
+        TokenError::OutOfMemory(AllocError)
+    }
+}
