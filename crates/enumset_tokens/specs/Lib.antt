@@ -1,3 +1,4 @@
-pub mod Numbers
-pub mod Sources
 pub mod Literals
+pub mod Numbers
+pub mod OptionValues
+pub mod Sources

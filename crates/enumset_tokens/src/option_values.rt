@@ -1,8 +1,9 @@
 //! The values of the options of an element type, by their names.
 
-ghost use Rattle.std.specs.Prelude.{◌≡◌, IfSome};
+ghost use Rattle.std.specs.Prelude.{◌≡◌, false, IfSome, IfNone};
 ghost use Rattle.enumset_tokens.specs.Numbers.{width};
-ghost use Rattle.enumset_tokens.specs.Sources.{map_name, representation_name, serialized_name};
+ghost use Rattle.enumset_tokens.specs.OptionValues.{map_name, representation_name, serialized_name, is_among};
+ghost use Rattle.enumset_tokens.specs.OptionValues.{map_names, representation_names, serialized_names};
 
 /// Which bit a discriminant names.
 #[derive(Clone, Copy)]
@@ -58,7 +59,8 @@ impl IntegerType {
 
 /// The map with this name.
 pub fn map_of(name: &str) -> Option<Map>
-    ensures { IfSome result (λ read. map_name read ≡ name.now) }
+    ensures read { IfSome result (λ read. map_name read ≡ name.now) }
+    ensures none { IfNone result (is_among name.now map_names ≡ false) }
 {
     match name {
         "lsb" => Some(Map::Lsb),
@@ -71,7 +73,8 @@ pub fn map_of(name: &str) -> Option<Map>
 
 /// The representation with this name.
 pub fn representation_of(name: &str) -> Option<Representation>
-    ensures { IfSome result (λ read. representation_name read ≡ name.now) }
+    ensures read { IfSome result (λ read. representation_name read ≡ name.now) }
+    ensures none { IfNone result (is_among name.now representation_names ≡ false) }
 {
     match name {
         "u8" => Some(Representation::Integer(IntegerType::U8)),
@@ -86,7 +89,8 @@ pub fn representation_of(name: &str) -> Option<Representation>
 
 /// The form of sets in JSON with this name.
 pub fn serialized_of(name: &str) -> Option<Serialized>
-    ensures { IfSome result (λ read. serialized_name read ≡ name.now) }
+    ensures read { IfSome result (λ read. serialized_name read ≡ name.now) }
+    ensures none { IfNone result (is_among name.now serialized_names ≡ false) }
 {
     match name {
         "list" => Some(Serialized::List),
