@@ -2,6 +2,7 @@ use enumset::EnumSetType;
 
 /// A feature of a service, which may be enabled or not.
 #[derive(EnumSetType, Debug)]
+#[enumset(serialize_repr = "list")]
 pub enum Feature {
     Accounts,
     Payments,

@@ -5,15 +5,16 @@ ghost use Rattle.std.specs.Prelude.{option_map, is_ok, string_bytes, decimal};
 ghost use Rattle.enumset.specs.Sets as set;
 ghost use Rattle.enumset.specs.Sets.{BitSet, number, valid_bits};
 ghost use Rattle.enumset.specs.Json.{set_of_number};
-ghost use Rattle.enumset.specs.JsonNames.{list_value, set_of_list};
+ghost use Rattle.enumset.specs.JsonNames.{list_value};
 ghost use Rattle.enumset.specs.JsonReads.{IsReadOf, value_read};
-ghost use Rattle.enumset.specs.Names.{names_of};
 ghost use Rattle.enumset.specs.declared.set_json.fault.JsonFault.{JsonFault};
 ghost use Rattle.enumset.specs.declared.set_json.fault.JsonFault.TheVariants as fault;
 ghost use Rattle.enumset.specs.declared.set_json.unknown.Unknown.TheVariants as unknown;
-ghost use Rattle.example_set_facts.specs.Reads.{IsFaultOfBoth};
+ghost use Rattle.example_set_facts.specs.Bits.{feature};
+ghost use Rattle.example_set_facts.specs.Features.{IsFaultOfBoth, feature_names, features_in, features_of};
 ghost use Rattle.serde_json.specs.Written.{compact_text};
 
+use crate::features::Feature;
 use enumset::set_json::{
     JsonFault, JsonWidth, Unknown, from_list_text, from_number_text, to_list_text, to_number_text,
 };
@@ -22,68 +23,63 @@ use std::alloc::Global;
 
 /// Why the features of a text are refused.
 #[derive(Drop)]
-pub enum Refusal<T: EnumSetType> {
+pub enum Refusal {
     /// The text does not list a set.
     Unread(JsonFault),
     /// These are required, and the text does not list them.
-    Missing(EnumSet<T>),
+    Missing(EnumSet<Feature>),
     /// The text lists these, and they are forbidden.
-    Forbidden(EnumSet<T>),
+    Forbidden(EnumSet<Feature>),
 }
 
-impl<T: EnumSetType> From<JsonFault> for Refusal<T> {
+impl From<JsonFault> for Refusal {
     ghost use Rattle.std.specs.Prelude.{◌≡◌};
     ghost use Rattle.example_set_facts.specs.declared.configs.Refusal.TheVariants.{Unread};
 
     ghost from_gives = { λ fault refusal. refusal ≡ Unread fault };
 
-    fn from(fault: JsonFault) -> Refusal<T> {
+    fn from(fault: JsonFault) -> Refusal {
         Refusal::Unread(fault)
     }
 }
 
 /// The features that a text lists. A name of none is a fault.
-pub fn listed<T: EnumSetNames>(alloc: Global, text: &str) -> Result<EnumSet<T>, JsonFault>
-    ensures { IsReadOf (set_of_list (names_of T.elements T.names) unknown.Refuse) text.now result }
+pub fn listed(alloc: Global, text: &str) -> Result<EnumSet<Feature>, JsonFault>
+    ensures { IsReadOf features_of text.now result }
 {
     from_list_text(alloc, text, Unknown::Refuse)
 }
 
 /// The features that a text lists, and the defaults.
-pub fn with_defaults<T: EnumSetNames>(
+pub fn with_defaults(
     alloc: Global,
     text: &str,
-    defaults: &EnumSet<T>,
-) -> Result<EnumSet<T>, JsonFault>
+    defaults: &EnumSet<Feature>,
+) -> Result<EnumSet<Feature>, JsonFault>
     ensures defaults { IfOk result (λ s. set.is_subset defaults.now s ≡ true) }
-    ensures listed { (s : BitSet)
-        → value_read (set_of_list (names_of T.elements T.names) unknown.Refuse) text.now ≡ Some (Ok s)
+    ensures listed { (s : BitSet) → features_in text.now ≡ Some (Ok s)
         → IfOk result (λ all. all ≡ set.union s defaults.now) }
-    ensures read { IfOk result (λ _.
-        option_map is_ok (value_read (set_of_list (names_of T.elements T.names) unknown.Refuse) text.now)
-        ≡ Some true) }
-    ensures fault { IfErr result (λ f.
-        IsReadOf (set_of_list (names_of T.elements T.names) unknown.Refuse) text.now (Err f)) }
+    ensures read { IfOk result (λ _. option_map is_ok (features_in text.now) ≡ Some true) }
+    ensures fault { IfErr result (λ f. IsReadOf features_of text.now (Err f)) }
 {
-    let listed = listed::<T>(alloc, text)?;
+    let listed = listed(alloc, text)?;
     Ok(listed.union(defaults.copied()))
 }
 
 /// The features that a text lists, or the fault of the reader as a refusal.
-pub fn read<T: EnumSetNames>(alloc: Global, text: &str) -> Result<EnumSet<T>, Refusal<T>>
-    ensures read { IfOk result (λ s.
-        value_read (set_of_list (names_of T.elements T.names) unknown.Refuse) text.now ≡ Some (Ok s)) }
+pub fn read(alloc: Global, text: &str) -> Result<EnumSet<Feature>, Refusal>
+    ensures read { IfOk result (λ s. features_in text.now ≡ Some (Ok s)) }
     ensures unread { IfErr result (λ r. (f : JsonFault) × (r ≡ Refusal.Unread f)
-        × IsReadOf (set_of_list (names_of T.elements T.names) unknown.Refuse) text.now (Err f)) }
+        × IsReadOf features_of text.now (Err f)) }
 {
     Ok(from_list_text(alloc, text, Unknown::Refuse)?)
 }
 
 /// Features if all that is required is among them.
-pub fn required<T: EnumSetType>(
-    features: &EnumSet<T>,
-    required: &EnumSet<T>,
-) -> Result<EnumSet<T>, Refusal<T>>
+pub fn required(
+    features: &EnumSet<Feature>,
+    required: &EnumSet<Feature>,
+) -> Result<EnumSet<Feature>, Refusal>
     ensures same { IfOk result (λ s. s ≡ features.now) }
     ensures has { IfOk result (λ s. set.is_subset required.now s ≡ true) }
     ensures missing { IfErr result (λ r. r ≡ Refusal.Missing (set.difference required.now features.now)) }
@@ -98,10 +94,10 @@ pub fn required<T: EnumSetType>(
 }
 
 /// Features if none of them is forbidden.
-pub fn permitted<T: EnumSetType>(
-    features: &EnumSet<T>,
-    forbidden: &EnumSet<T>,
-) -> Result<EnumSet<T>, Refusal<T>>
+pub fn permitted(
+    features: &EnumSet<Feature>,
+    forbidden: &EnumSet<Feature>,
+) -> Result<EnumSet<Feature>, Refusal>
     ensures same { IfOk result (λ s. s ≡ features.now) }
     ensures apart { IfOk result (λ s. set.is_disjoint s forbidden.now ≡ true) }
     ensures forbidden { IfErr result (λ r. r ≡ Refusal.Forbidden (set.intersection features.now forbidden.now)) }
@@ -117,27 +113,23 @@ pub fn permitted<T: EnumSetType>(
 
 /// The features that a text lists, if all that is required is among them, and nothing that is forbidden. Else the fault
 /// of the reader, or what is missing; or, if nothing is, what is forbidden.
-pub fn checked<T: EnumSetNames>(
+pub fn checked(
     alloc: Global,
     text: &str,
-    wanted: &EnumSet<T>,
-    forbidden: &EnumSet<T>,
-) -> Result<EnumSet<T>, Refusal<T>>
+    wanted: &EnumSet<Feature>,
+    forbidden: &EnumSet<Feature>,
+) -> Result<EnumSet<Feature>, Refusal>
     ensures has { IfOk result (λ s. set.is_subset wanted.now s ≡ true) }
     ensures apart { IfOk result (λ s. set.is_disjoint s forbidden.now ≡ true) }
-    ensures listed { IfOk result (λ s.
-        value_read (set_of_list (names_of T.elements T.names) unknown.Refuse) text.now ≡ Some (Ok s)) }
+    ensures listed { IfOk result (λ s. features_in text.now ≡ Some (Ok s)) }
     ensures unread { IfErr result (λ r. (f : JsonFault) → r ≡ Refusal.Unread f
-        → IsReadOf (set_of_list (names_of T.elements T.names) unknown.Refuse) text.now (Err f)) }
+        → IsReadOf features_of text.now (Err f)) }
     ensures read { IfErr result (λ r. (s : BitSet) → (r ≡ Refusal.Missing s) ⊎ (r ≡ Refusal.Forbidden s)
-        → option_map is_ok (value_read (set_of_list (names_of T.elements T.names) unknown.Refuse) text.now)
-        ≡ Some true) }
-    ensures missing { (s : BitSet)
-        → value_read (set_of_list (names_of T.elements T.names) unknown.Refuse) text.now ≡ Some (Ok s)
+        → option_map is_ok (features_in text.now) ≡ Some true) }
+    ensures missing { (s : BitSet) → features_in text.now ≡ Some (Ok s)
         → IfErr result (λ r. (missing : BitSet) → r ≡ Refusal.Missing missing
         → (missing ≡ set.difference wanted.now s) × (set.is_subset wanted.now s ≡ false)) }
-    ensures refused { (s : BitSet)
-        → value_read (set_of_list (names_of T.elements T.names) unknown.Refuse) text.now ≡ Some (Ok s)
+    ensures refused { (s : BitSet) → features_in text.now ≡ Some (Ok s)
         → IfErr result (λ r. (refused : BitSet) → r ≡ Refusal.Forbidden refused
         → (refused ≡ set.intersection s forbidden.now)
         × (set.is_subset wanted.now s ≡ true) × (set.is_disjoint s forbidden.now ≡ false)) }
@@ -149,18 +141,14 @@ pub fn checked<T: EnumSetNames>(
 
 /// Returns the place of the first name in a text that no feature has, or `None` if the text lists a set. Any other
 /// fault is returned as an error.
-pub fn unknown_name<T: EnumSetNames>(alloc: Global, text: &str) -> Result<Option<usize>, JsonFault>
-    ensures place { IfOk result (λ found. IfSome found (λ place.
-        value_read (set_of_list (names_of T.elements T.names) unknown.Refuse) text.now
+pub fn unknown_name(alloc: Global, text: &str) -> Result<Option<usize>, JsonFault>
+    ensures place { IfOk result (λ found. IfSome found (λ place. features_in text.now
         ≡ Some (Err (fault.UnknownName place)))) }
-    ensures none { IfOk result (λ found. IfNone found
-        (option_map is_ok (value_read (set_of_list (names_of T.elements T.names) unknown.Refuse) text.now)
-        ≡ Some true)) }
-    ensures fault { IfErr result (λ f.
-        IsReadOf (set_of_list (names_of T.elements T.names) unknown.Refuse) text.now (Err f)) }
+    ensures none { IfOk result (λ found. IfNone found (option_map is_ok (features_in text.now) ≡ Some true)) }
+    ensures fault { IfErr result (λ f. IsReadOf features_of text.now (Err f)) }
     ensures other { IfErr result (λ f. (place : ℕ) → f ≢ fault.UnknownName place) }
 {
-    match from_list_text::<T>(alloc, text, Unknown::Refuse) {
+    match from_list_text::<Feature>(alloc, text, Unknown::Refuse) {
         Ok(_) => Ok(None),
         Err(JsonFault::UnknownName(place)) => Ok(Some(place)),
         Err(fault) => Err(fault),
@@ -168,11 +156,9 @@ pub fn unknown_name<T: EnumSetNames>(alloc: Global, text: &str) -> Result<Option
 }
 
 /// The text that lists features. It is read as these.
-pub fn written<T: EnumSetNames>(alloc: Global, features: &EnumSet<T>) -> Result<String, JsonFault>
-    ensures text { IfOk result (λ text. string_bytes text
-        ≡ compact_text (list_value (names_of T.elements T.names) features.now)) }
-    ensures reads { IfOk result (λ text. value_read (set_of_list (names_of T.elements T.names) unknown.Refuse)
-        (string_bytes text) ≡ Some (Ok features.now)) }
+pub fn written(alloc: Global, features: &EnumSet<Feature>) -> Result<String, JsonFault>
+    ensures text { IfOk result (λ text. string_bytes text ≡ compact_text (list_value feature_names features.now)) }
+    ensures reads { IfOk result (λ text. features_in (string_bytes text) ≡ Some (Ok features.now)) }
     ensures fault { IfErr result (λ f. f ≡ fault.OutOfMemory) }
 {
     laws::json_list_and_back(features, Unknown::Refuse);
@@ -193,22 +179,15 @@ pub fn written_and_read<T: EnumSetNames>(
 }
 
 /// The text that lists the features of a text and one more.
-pub fn with_feature<T: EnumSetNames>(alloc: Global, text: &str, new: T) -> Result<String, JsonFault>
-    ensures reads { (s : BitSet)
-        → value_read (set_of_list (names_of T.elements T.names) unknown.Refuse) text.now ≡ Some (Ok s)
-        → IfOk result (λ text. value_read (set_of_list (names_of T.elements T.names) unknown.Refuse)
-        (string_bytes text) ≡ Some (Ok (set.insert s (T.elements.bit new)))) }
-    ensures text { (s : BitSet)
-        → value_read (set_of_list (names_of T.elements T.names) unknown.Refuse) text.now ≡ Some (Ok s)
-        → IfOk result (λ text. string_bytes text
-        ≡ compact_text (list_value (names_of T.elements T.names) (set.insert s (T.elements.bit new)))) }
-    ensures read { IfOk result (λ _.
-        option_map is_ok (value_read (set_of_list (names_of T.elements T.names) unknown.Refuse) text.now)
-        ≡ Some true) }
-    ensures fault { IfErr result (λ f.
-        IsReadOf (set_of_list (names_of T.elements T.names) unknown.Refuse) text.now (Err f)) }
+pub fn with_feature(alloc: Global, text: &str, new: Feature) -> Result<String, JsonFault>
+    ensures reads { (s : BitSet) → features_in text.now ≡ Some (Ok s) → IfOk result (λ text. features_in
+        (string_bytes text) ≡ Some (Ok (set.insert s (feature new)))) }
+    ensures text { (s : BitSet) → features_in text.now ≡ Some (Ok s) → IfOk result (λ text. string_bytes text
+        ≡ compact_text (list_value feature_names (set.insert s (feature new)))) }
+    ensures read { IfOk result (λ _. option_map is_ok (features_in text.now) ≡ Some true) }
+    ensures fault { IfErr result (λ f. IsReadOf features_of text.now (Err f)) }
 {
-    let mut features = listed::<T>(alloc, text)?;
+    let mut features = listed(alloc, text)?;
     features.insert(new);
     written(alloc, &features)
 }
@@ -241,31 +220,17 @@ pub fn has_reserved<T: EnumSetType>(alloc: Global, text: &str) -> Result<bool, J
 }
 
 /// The number of the features that both texts list, if it fits a byte.
-pub fn number_of_both<T: EnumSetNames>(
-    alloc: Global,
-    one: &str,
-    other: &str,
-) -> Result<String, JsonFault>
-    ensures number { (s t : BitSet)
-        → value_read (set_of_list (names_of T.elements T.names) unknown.Refuse) one.now ≡ Some (Ok s)
-        → value_read (set_of_list (names_of T.elements T.names) unknown.Refuse) other.now ≡ Some (Ok t)
+pub fn number_of_both(alloc: Global, one: &str, other: &str) -> Result<String, JsonFault>
+    ensures number { (s t : BitSet) → features_in one.now ≡ Some (Ok s) → features_in other.now ≡ Some (Ok t)
         → IfOk result (λ text. string_bytes text ≡ decimal (number (set.intersection s t))) }
-    ensures fits { (s t : BitSet)
-        → value_read (set_of_list (names_of T.elements T.names) unknown.Refuse) one.now ≡ Some (Ok s)
-        → value_read (set_of_list (names_of T.elements T.names) unknown.Refuse) other.now ≡ Some (Ok t)
+    ensures fits { (s t : BitSet) → features_in one.now ≡ Some (Ok s) → features_in other.now ≡ Some (Ok t)
         → IfOk result (λ _. set.is_subset (set.intersection s t) (set.below 8) ≡ true) }
-    ensures too_wide { (s t : BitSet)
-        → value_read (set_of_list (names_of T.elements T.names) unknown.Refuse) one.now ≡ Some (Ok s)
-        → value_read (set_of_list (names_of T.elements T.names) unknown.Refuse) other.now ≡ Some (Ok t)
+    ensures too_wide { (s t : BitSet) → features_in one.now ≡ Some (Ok s) → features_in other.now ≡ Some (Ok t)
         → IfErr result (λ f. f ≡ fault.TooWide → set.is_subset (set.intersection s t) (set.below 8) ≡ false) }
-    ensures read { IfOk result (λ _.
-        (option_map is_ok (value_read (set_of_list (names_of T.elements T.names) unknown.Refuse) one.now)
-        ≡ Some true)
-        × (option_map is_ok (value_read (set_of_list (names_of T.elements T.names) unknown.Refuse) other.now)
-        ≡ Some true)) }
-    ensures fault { IfErr result
-        (IsFaultOfBoth (set_of_list (names_of T.elements T.names) unknown.Refuse) one.now other.now) }
+    ensures read { IfOk result (λ _. (option_map is_ok (features_in one.now) ≡ Some true)
+        × (option_map is_ok (features_in other.now) ≡ Some true)) }
+    ensures fault { IfErr result (IsFaultOfBoth one.now other.now) }
 {
-    let both = listed::<T>(alloc, one)?.intersection(listed(alloc, other)?);
+    let both = listed(alloc, one)?.intersection(listed(alloc, other)?);
     to_number_text(alloc, &both, JsonWidth::U8)
 }

@@ -1,6 +1,6 @@
 // Written by enumset_derive from the enum's source: change the source, and write this module again.
 
-use enumset::{EnumSet, EnumSetType, EnumSetTypeWithRepr};
+use enumset::{EnumSet, EnumSetNames, EnumSetType, EnumSetTypeWithRepr, names_of, set_json};
 
 /// A feature of a service, which may be enabled or not.
 #[derive(Clone, Copy, PartialEq, Eq, Debug)]
@@ -56,6 +56,20 @@ impl EnumSetTypeWithRepr for Feature {
     ghost use Rattle.std.proofs.Common.{rules};
 
     ghost narrow = { Prim.search rules };
+}
+
+#[tactic(auto, unfolding(enumset::specs::Sets::place))]
+impl EnumSetNames for Feature {
+    ghost use Rattle.std.specs.Prelude.{codes, ◌∷◌, []};
+
+    ghost names = { codes "Accounts" ∷ codes "Payments" ∷ codes "Invoices" ∷
+        codes "Reports" ∷ codes "Exports" ∷ codes "Alerts" ∷ [] };
+
+    fn names() -> &'static [(Self, &'static str)] {
+        names_of!(Feature: Accounts Payments Invoices Reports Exports Alerts)
+    }
+
+    ghost named = { tt };
 }
 
 /// The intersection of `{self}` and `{rhs}`.
@@ -196,5 +210,40 @@ impl std::ops::Not for Feature {
 
     fn not(self) -> EnumSet<Self> {
         !EnumSet::only(self)
+    }
+}
+
+impl Feature {
+    ghost use Rattle.std.specs.Prelude.{◌≡◌, IfOk, IfErr};
+    ghost use Rattle.serde_json.specs.View.{view};
+    ghost use Rattle.enumset.specs.Names.{names_of};
+    ghost use Rattle.enumset.specs.JsonNames.{list_value, set_of_list};
+    ghost use Rattle.enumset.specs.declared.set_json.fault.JsonFault.TheVariants.{OutOfMemory};
+    ghost use Rattle.enumset.specs.declared.set_json.unknown.Unknown.TheVariants as unknown;
+
+    /// The array of the names of the set's members, in ascending order of their bits. The only fault is
+    /// [`set_json::JsonFault::OutOfMemory`].
+    pub fn to_json(
+        alloc: std::alloc::Global,
+        set: &EnumSet<Self>,
+    ) -> std::result::Result<serde_json::Value, set_json::JsonFault>
+        ensures value { IfOk result (λ value. view value ≡ list_value
+            (names_of ⟦<Feature as EnumSetType>⟧.elements ⟦<Feature as EnumSetNames>⟧.names) set.now) }
+        ensures fault { IfErr result (λ fault. fault ≡ OutOfMemory) }
+    {
+        set_json::to_list(alloc, set)
+    }
+
+    /// The set that `to_json` writes as this value. Names that no variant has are left out.
+    ///
+    /// The faults are those of [`set_json::from_list`], in the same order. It does not allocate.
+    pub fn from_json(
+        value: &serde_json::Value,
+    ) -> std::result::Result<EnumSet<Self>, set_json::JsonFault>
+        ensures { result ≡ set_of_list
+            (names_of ⟦<Feature as EnumSetType>⟧.elements ⟦<Feature as EnumSetNames>⟧.names)
+            unknown.Drop (view value.now) }
+    {
+        set_json::from_list(value, set_json::Unknown::Drop)
     }
 }
