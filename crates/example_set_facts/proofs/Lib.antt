@@ -1,3 +1,4 @@
 pub mod AllNeeds
 pub mod SortedSets
 pub mod StageTexts
+mod Worklists

@@ -20,6 +20,7 @@ pub mod enabling;
 pub mod features;
 pub mod flags;
 pub mod lists;
+pub mod meetings;
 pub mod messages;
 pub mod needs;
 pub mod parsing;

@@ -1,10 +1,10 @@
 //! What features need, and what is needed in turn, until nothing is added.
 
-ghost use Rattle.std.specs.Prelude.{◌≡◌, true};
+ghost use Rattle.std.specs.Prelude.{◌≡◌, ℕ, true};
 ghost use Rattle.enumset.specs.Sets as set;
 ghost use Rattle.enumset.specs.Sets.{BitSet};
 ghost use Rattle.example_set_facts.specs.Bits.{feature};
-ghost use Rattle.example_set_facts.specs.Needs.{needs, all_needs};
+ghost use Rattle.example_set_facts.specs.Needs.{needs, all_needs, users, IsClosed};
 
 use crate::features::Feature;
 use enumset::{EnumSet, enum_set};
@@ -19,7 +19,9 @@ pub fn needs_of(of: Feature) -> EnumSet<Feature>
         Feature::Invoices => enum_set!(Feature::Accounts | Feature::Payments),
         Feature::Reports => enum_set!(Feature::Invoices),
         Feature::Exports => enum_set!(Feature::Reports),
-        Feature::Alerts => enum_set!(Feature::Accounts),
+        Feature::Alerts => {
+            Feature::Accounts | Feature::Payments | Feature::Invoices | Feature::Reports
+        }
     }
 }
 
@@ -46,4 +48,46 @@ pub fn with_needs(from: EnumSet<Feature>) -> EnumSet<Feature>
     let mut reached = from;
     while reached.union_with(&needed(&reached)) {}
     reached
+}
+
+/// The same by a worklist: each feature is done once.
+pub fn needed_in_turn(from: EnumSet<Feature>) -> EnumSet<Feature>
+    ensures from { set.is_subset from result ≡ true }
+    ensures closed { IsClosed needs result }
+    ensures least { (s : BitSet) → set.is_subset from s ≡ true → IsClosed needs s → set.is_subset result s ≡ true }
+{
+    let mut done = EnumSet::new();
+    let mut pending = from;
+    while let Some(feature) = pending.pop_first() {
+        done.insert(feature);
+        pending |= needs_of(feature);
+        pending -= done;
+    }
+    done
+}
+
+/// The features that need a feature by themselves.
+#[tactic(auto, using(enumset::specs::Sets::set_laws), unfolding(enumset::specs::Sets::valid_bits, crate::specs::Needs::users))]
+pub fn users_of(of: Feature) -> EnumSet<Feature>
+    ensures { result ≡ users (feature of) }
+{
+    let mut all = EnumSet::all();
+    all.retain(|user| needs_of(user).contains(of));
+    all
+}
+
+/// Features with all that need one of them, and all that need these in turn.
+pub fn affected(from: EnumSet<Feature>) -> EnumSet<Feature>
+    ensures from { set.is_subset from result ≡ true }
+    ensures closed { IsClosed users result }
+    ensures least { (s : BitSet) → set.is_subset from s ≡ true → IsClosed users s → set.is_subset result s ≡ true }
+{
+    let mut done = EnumSet::new();
+    let mut pending = from;
+    while let Some(feature) = pending.pop_first() {
+        done.insert(feature);
+        pending |= users_of(feature);
+        pending -= done;
+    }
+    done
 }

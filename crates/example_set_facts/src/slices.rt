@@ -1,7 +1,7 @@
 //! Slices of elements.
 
-ghost use Rattle.std.specs.Prelude.{◌≡◌, map, fold, position, count_by};
-ghost use Rattle.std.specs.List.{list_any, list_all};
+ghost use Rattle.std.specs.Prelude.{◌≡◌, map, fold, not, position, count_by};
+ghost use Rattle.std.specs.List.{find, list_any, list_all};
 ghost use Rattle.enumset.specs.Sets as set;
 
 use enumset::{EnumSet, EnumSetType};
@@ -30,6 +30,13 @@ pub fn first_place<T: EnumSetType>(elements: &[T], members: &EnumSet<T>) -> Opti
     ensures { result ≡ position (λ t. set.contains members.now (T.elements.bit t)) elements.now }
 {
     elements.iter().position(|t| members.contains(*t))
+}
+
+/// The first element of a slice that a set lacks.
+pub fn first_absent<T: EnumSetType>(elements: &[T], members: &EnumSet<T>) -> Option<T>
+    ensures { result ≡ find (λ t. not (set.contains members.now (T.elements.bit t))) elements.now }
+{
+    elements.iter().copied().find(|t| !members.contains(*t))
 }
 
 /// How many elements of a slice a set has, each counted as often as it comes.

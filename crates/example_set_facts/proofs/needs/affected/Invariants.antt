@@ -1,0 +1,12 @@
+use Rattle.enumset.specs.Sets.{len, difference, in_place, valid_bits}
+use Rattle.example_set_facts.specs.Needs.{users}
+use Rattle.example_set_facts.specs.contracts.features.Feature.{the_type}
+use Rattle.example_set_facts.proofs.Worklists.{IsWorklist}
+use Rattle.example_set_facts.proofs.needs.affected.Given as goal
+
+abbrev pub invariant-loop-feature : goal.invariant-loop-feature
+invariant-loop-feature l = IsWorklist users l.fn.from l.done l.pending
+
+-- how many features are not done
+abbrev pub decreases-loop-feature : goal.decreases-loop-feature
+decreases-loop-feature l = len (difference (valid_bits (in_place the_type)) l.done)
