@@ -1,4 +1,4 @@
 pub mod AllNeeds
 pub mod SortedSets
 pub mod StageTexts
-mod Worklists
+pub mod Worklists

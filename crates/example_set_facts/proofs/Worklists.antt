@@ -1,13 +1,14 @@
--- How a worklist makes the least closed set, whatever each bit leads to.
---     IsWorklist      what is done and what is to do have all that is begun with and all that the done members lead to, and
---         nothing that some closed set with all that is begun with lacks
---     at_first, step, at_end      the worklist is right at first;  after a member is done;  at its end, what is done is closed
---     fewer_undone      after a member is done, fewer are not done
-use Rattle.std.proofs.Common.{◌≡◌, ◌<◌, ℕ, Bool, true, false, refl, sym, ap, ◌∙◌, arith, ◌==◌}
-use Rattle.enumset.specs.Sets.{BitSet, contains, empty, insert, remove, is_subset, is_disjoint, union, difference, len, decided, members, same_set}
-use Rattle.example_set_facts.specs.Needs.{IsClosed}
+-- How a worklist makes the least closed set, whatever bits each bit leads to.
+--     IsWorklist      the members done and pending, together, have all that the loop began with and all that the done ones
+--         lead to, and are in each closed set that has what the loop began with
+--     at_first, step, at_end      the worklist is right at first;  after one more member is done;  at its end, what is done
+--         is closed
+--     fewer_undone      after one more member is done, fewer are left
+use Rattle.std.proofs.Common.{◌≡◌, ◌<◌, ℕ, Bool, true, false, refl, arith, ◌==◌}
 use Rattle.std.proofs.lemmas.Bool.Decides.{nat_tests}
+use Rattle.enumset.specs.Sets.{BitSet, contains, empty, insert, remove, is_subset, is_disjoint, union, difference, len, decided, members, same_set}
 use Rattle.enumset_sets.specs.Laws.Counts.{fewer_left}
+use Rattle.example_set_facts.specs.Needs.{IsClosed}
 
 pub record IsWorklist (next : ℕ → BitSet) (from done pending : BitSet) : Type 0 where
   pub begun : is_subset from (union done pending) ≡ true
@@ -23,7 +24,7 @@ at_first next from = record {
   least = λ s begun closed. grind (arith, decided);
 }
 
--- one member is done, and what it leads to is pending, unless it is done
+-- a pending member is done now, and what it leads to is pending unless done
 moved : (done pending new : BitSet) (b : ℕ) → contains pending b ≡ true → union (insert done b) (difference (union (remove pending b) new) (insert done b)) ≡ union (union done pending) new
 moved done pending new b is = same_set _ _ (λ q. grind (arith, members, nat_tests))
 

@@ -1,6 +1,6 @@
 //! What features need, and what is needed in turn, until nothing is added.
 
-ghost use Rattle.std.specs.Prelude.{◌≡◌, ℕ, true};
+ghost use Rattle.std.specs.Prelude.{◌≡◌, true};
 ghost use Rattle.enumset.specs.Sets as set;
 ghost use Rattle.enumset.specs.Sets.{BitSet};
 ghost use Rattle.example_set_facts.specs.Bits.{feature};
