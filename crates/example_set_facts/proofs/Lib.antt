@@ -1,4 +1,5 @@
 pub mod AllNeeds
+pub mod Passes
 pub mod SortedSets
 pub mod StageTexts
 pub mod Worklists

@@ -25,7 +25,7 @@ at_first next from = record {
 }
 
 -- a pending member is done now, and what it leads to is pending unless done
-moved : (done pending new : BitSet) (b : ℕ) → contains pending b ≡ true → union (insert done b) (difference (union (remove pending b) new) (insert done b)) ≡ union (union done pending) new
+moved : (done pending new : BitSet) (b : ℕ) → contains pending b ≡ true → union (insert done b) (union (remove pending b) (difference new (insert done b))) ≡ union (union done pending) new
 moved done pending new b is = same_set _ _ (λ q. grind (arith, members, nat_tests))
 
 module _ (next : ℕ → BitSet) (from done pending : BitSet) (b : ℕ) (list : IsWorklist next from done pending) (is_next : contains pending b ≡ true) where
@@ -33,7 +33,7 @@ module _ (next : ℕ → BitSet) (from done pending : BitSet) (b : ℕ) (list : 
   now_done = insert done b
 
   abbrev pub now_pending : BitSet
-  now_pending = difference (union (remove pending b) (next b)) now_done
+  now_pending = union (remove pending b) (difference (next b) now_done)
 
   whole : union now_done now_pending ≡ union (union done pending) (next b)
   whole = moved done pending (next b) b is_next
@@ -46,7 +46,7 @@ module _ (next : ℕ → BitSet) (from done pending : BitSet) (b : ℕ) (list : 
   unfolding IsClosed
   step = record {
     begun = let before = list.begun in rw whole (grind (arith, decided));
-    apart = grind (arith, decided);
+    apart = let before = list.apart in grind (arith, decided);
     followed = λ q is. rw whole (follows q (q == b) refl is);
     least = λ s begun closed. let before = list.least s begun closed in let led = closed b (grind (arith, decided)) in rw whole (grind (arith, decided));
   }

@@ -1,6 +1,7 @@
 -- What features need.
 --     needs      what the feature of a bit needs by itself
 --     all_needs      what the features of a set need, each by itself
+--     against      the bits, of some, that lead to a bit
 --     users      the features that need the feature of a bit by themselves
 --     IsClosed      a set that has all that each of its bits leads to
 use Rattle.std.specs.Prelude.{◌≡◌, ℕ, true, [], ◌∷◌, map, slice_index_or}
@@ -24,8 +25,11 @@ needs q = slice_index_or
 unfoldable pub all_needs : BitSet → BitSet
 all_needs s = union_all (map needs (ascending s))
 
-unfoldable pub users : ℕ → BitSet
-users q = retain (valid_bits (in_place the_type)) (λ p. contains (needs p) q)
+unfoldable pub against : BitSet → (ℕ → BitSet) → ℕ → BitSet
+against all next q = retain all (λ p. contains (next p) q)
+
+abbrev pub users : ℕ → BitSet
+users = against (valid_bits (in_place the_type)) needs
 
 unfoldable pub IsClosed : (ℕ → BitSet) → BitSet → Type 0
 IsClosed next s = (q : ℕ) → contains s q ≡ true → is_subset (next q) s ≡ true

@@ -59,15 +59,15 @@ pub fn needed_in_turn(from: EnumSet<Feature>) -> EnumSet<Feature>
     let mut done = EnumSet::new();
     let mut pending = from;
     while let Some(feature) = pending.pop_first() {
-        done.insert(feature);
-        pending |= needs_of(feature);
-        pending -= done;
+        if done.insert(feature) {
+            pending |= needs_of(feature) - done;
+        }
     }
     done
 }
 
 /// The features that need a feature by themselves.
-#[tactic(auto, using(enumset::specs::Sets::set_laws), unfolding(enumset::specs::Sets::valid_bits, crate::specs::Needs::users))]
+#[tactic(auto, using(enumset::specs::Sets::set_laws), unfolding(enumset::specs::Sets::valid_bits, crate::specs::Needs::against))]
 pub fn users_of(of: Feature) -> EnumSet<Feature>
     ensures { result ≡ users (feature of) }
 {
@@ -76,18 +76,22 @@ pub fn users_of(of: Feature) -> EnumSet<Feature>
     all
 }
 
-/// Features with all that need one of them, and all that need these in turn.
+/// Features with all that need one of them, and all that need these in turn, found in passes over all features.
 pub fn affected(from: EnumSet<Feature>) -> EnumSet<Feature>
     ensures from { set.is_subset from result ≡ true }
     ensures closed { IsClosed users result }
     ensures least { (s : BitSet) → set.is_subset from s ≡ true → IsClosed users s → set.is_subset result s ≡ true }
 {
-    let mut done = EnumSet::new();
-    let mut pending = from;
-    while let Some(feature) = pending.pop_first() {
-        done.insert(feature);
-        pending |= users_of(feature);
-        pending -= done;
+    let mut reached = from;
+    loop {
+        let before = reached;
+        for feature in EnumSet::<Feature>::all() {
+            if !needs_of(feature).is_disjoint(reached) {
+                reached.insert(feature);
+            }
+        }
+        if reached == before {
+            return reached;
+        }
     }
-    done
 }
